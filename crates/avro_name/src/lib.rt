@@ -1,0 +1,2 @@
+//! Names of Avro types.
+#![tactic(auto)]

@@ -1,0 +1,18 @@
+//! The numbers of Avro's binary encoding: zig-zag, and then groups of seven bits.
+#![tactic(auto)]
+
+use thiserror::Error;
+
+/// Why no number stands at the front of some bytes.
+#[derive(Clone, Copy, Debug, PartialEq, Eq, Hash, Error)]
+pub enum VarError {
+    /// No byte is left where the number goes on.
+    #[error("Z1")]
+    EndOfInput,
+    /// A last byte `00` stands after other bytes, so that fewer would do.
+    #[error("Z2")]
+    NotShortest,
+    /// The number has more than 32 bits where it is an int, or more than 64 where it is a long.
+    #[error("Z3")]
+    OutOfRange,
+}
