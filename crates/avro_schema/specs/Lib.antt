@@ -1,0 +1,5 @@
+pub mod Value
+pub mod Node
+pub mod Fits
+pub mod Distinct
+pub mod WellFormed

@@ -1,0 +1,91 @@
+-- The nodes of a schema (Avro 1.11, "Schema Declaration"). A schema is the list of its nodes, the first of which is
+-- its root; an edge is a place in that list.
+use Rattle.std.specs.Prelude.{ℕ, Bool, true, false, List, [], ◌∷◌, Option, Some, None, slice_get, map, unwrap_or}
+use Rattle.avro_name.specs.Name.{Name}
+use Rattle.avro_schema.specs.Value.{Value}
+
+-- a field of a record
+pub record FieldNode : Type 0 where
+  pub name : List ℕ
+  pub aliases : List (List ℕ)
+  pub node : ℕ
+  pub default : Option Value
+
+pub data Node : Type 0 where
+  null : Node
+  boolean : Node
+  int : Node
+  long : Node
+  bytes : Node
+  string : Node
+  -- the items' node
+  array : ℕ → Node
+  -- the values' node
+  map_of : ℕ → Node
+  -- the branches' nodes
+  union : List ℕ → Node
+  -- name, aliases, fields
+  record_of : Name → List Name → List FieldNode → Node
+  -- name, aliases, symbols, the place of the default symbol
+  enum : Name → List Name → List (List ℕ) → Option ℕ → Node
+  -- name, aliases, number of bytes
+  fixed : Name → List Name → ℕ → Node
+
+-- the node at a place; no place of a well-formed schema is out of range
+abbrev pub node_at : List Node → ℕ → Node
+node_at nodes place = unwrap_or (slice_get nodes place) Node.null
+
+abbrev pub root_of : List Node → Node
+root_of nodes = node_at nodes 0
+
+-- the name of a record, an enum or a fixed
+abbrev pub node_name : Node → Option Name
+node_name (Node.record_of name aliases fields) = Some name
+node_name (Node.enum name aliases symbols default) = Some name
+node_name (Node.fixed name aliases count) = Some name
+node_name _ = None
+
+-- its aliases
+abbrev pub node_aliases : Node → List Name
+node_aliases (Node.record_of name aliases fields) = aliases
+node_aliases (Node.enum name aliases symbols default) = aliases
+node_aliases (Node.fixed name aliases count) = aliases
+node_aliases _ = []
+
+-- the items' node of an array, the values' node of a map, the branches of a union
+abbrev pub items_node : Node → Option ℕ
+items_node (Node.array place) = Some place
+items_node _ = None
+
+abbrev pub values_node : Node → Option ℕ
+values_node (Node.map_of place) = Some place
+values_node _ = None
+
+abbrev pub branches_of : Node → Option (List ℕ)
+branches_of (Node.union places) = Some places
+branches_of _ = None
+
+-- the fields of a record, the symbols of an enum and its default, the number of bytes of a fixed
+abbrev pub fields_of : Node → Option (List FieldNode)
+fields_of (Node.record_of name aliases fields) = Some fields
+fields_of _ = None
+
+abbrev pub symbols_of : Node → Option (List (List ℕ))
+symbols_of (Node.enum name aliases symbols default) = Some symbols
+symbols_of _ = None
+
+abbrev pub fixed_length : Node → Option ℕ
+fixed_length (Node.fixed name aliases count) = Some count
+fixed_length _ = None
+
+-- the nodes of some fields
+abbrev pub field_places : List FieldNode → List ℕ
+field_places fields = map (λ f. f.node) fields
+
+-- the edges of a node
+abbrev pub edges_of : Node → List ℕ
+edges_of (Node.array place) = place ∷ []
+edges_of (Node.map_of place) = place ∷ []
+edges_of (Node.union places) = places
+edges_of (Node.record_of name aliases fields) = field_places fields
+edges_of _ = []

@@ -1,0 +1,133 @@
+-- When a list of nodes is a schema (Avro 1.11, "Schema Declaration", "Names", "Aliases").
+use Rattle.std.specs.Prelude.{ℕ, zero, suc, ◌*◌, ◌^◌, Bool, true, false, not, ◌&&◌, ◌||◌, List, [], ◌∷◌, ◌++◌, Option, Some, None, length, map, nat_lt, nat_le, ◌==◌, bytes_eq, is_some, filter_map, flat_map}
+use Rattle.std.specs.List.{list_all, list_any}
+use Rattle.avro_name.specs.Name.{Name, is_full_name, is_simple_name, same_name}
+use Rattle.avro_schema.specs.Value.{Value, Values, Entries, no_values, value, no_entries, entry}
+use Rattle.avro_schema.specs.Node.{Node, FieldNode, node_at, node_name, node_aliases, edges_of}
+use Rattle.avro_schema.specs.Fits.{fits, is_some_and}
+use Rattle.avro_schema.specs.Distinct.{are_distinct}
+
+-- the limits of this profile: nodes, and the symbols of an enum and the bytes of a fixed
+abbrev pub max_nodes : ℕ
+max_nodes = 4096
+
+abbrev pub max_count : ℕ
+max_count = 1048576
+
+-- an edge stays in the list, and goes to a later node or to a record, an enum or a fixed
+abbrev pub is_edge : List Node → ℕ → ℕ → Bool
+is_edge nodes from to = nat_lt to (length nodes) && (nat_lt from to || is_some (node_name (node_at nodes to)))
+
+-- the kind of a union's branch: none twice, but for named types, which differ by their names
+pub data BranchKind : Type 0 where
+  unnamed : ℕ → BranchKind
+  named : Name → BranchKind
+
+-- a union may not hold a union directly, and so it has no kind
+abbrev pub branch_kind : Node → Option BranchKind
+branch_kind Node.null = Some (unnamed 0)
+branch_kind Node.boolean = Some (unnamed 1)
+branch_kind Node.int = Some (unnamed 2)
+branch_kind Node.long = Some (unnamed 3)
+branch_kind Node.bytes = Some (unnamed 4)
+branch_kind Node.string = Some (unnamed 5)
+branch_kind (Node.array place) = Some (unnamed 6)
+branch_kind (Node.map_of place) = Some (unnamed 7)
+branch_kind (Node.union places) = None
+branch_kind (Node.record_of name aliases fields) = Some (named name)
+branch_kind (Node.enum name aliases symbols default) = Some (named name)
+branch_kind (Node.fixed name aliases count) = Some (named name)
+
+abbrev pub same_kind : BranchKind → BranchKind → Bool
+same_kind (unnamed a) (unnamed b) = a == b
+same_kind (unnamed a) (named b) = false
+same_kind (named a) (unnamed b) = false
+same_kind (named a) (named b) = same_name a b
+
+-- a union has a branch, none of them a union, and no two of one kind
+abbrev pub is_union : List Node → List ℕ → Bool
+is_union nodes places =
+    nat_lt 0 (length places) && list_all (λ place. is_some (branch_kind (node_at nodes place))) places
+    && are_distinct same_kind (filter_map (λ place. branch_kind (node_at nodes place)) places)
+
+-- an enum has a symbol, and at most `max_count`, which are distinct names; its default is the place of one
+abbrev pub is_enum : List (List ℕ) → Option ℕ → Bool
+is_enum symbols default =
+    nat_lt 0 (length symbols) && nat_le (length symbols) max_count && list_all is_simple_name symbols
+    && are_distinct bytes_eq symbols && is_default symbols default
+  where
+    is_default : List (List ℕ) → Option ℕ → Bool
+    is_default all None = true
+    is_default all (Some place) = nat_lt place (length all)
+
+-- each union in the datum, at any depth, is its first branch
+abbrev mutual
+  pub takes_first_branches : Value → Bool
+  takes_first_branches Value.null = true
+  takes_first_branches (Value.boolean b) = true
+  takes_first_branches (Value.int i) = true
+  takes_first_branches (Value.long i) = true
+  takes_first_branches (Value.bytes b) = true
+  takes_first_branches (Value.string t) = true
+  takes_first_branches (Value.array vs) = values_take_first_branches vs
+  takes_first_branches (Value.map_of es) = entries_take_first_branches es
+  takes_first_branches (Value.union k v) = k == 0 && takes_first_branches v
+  takes_first_branches (Value.record_of vs) = values_take_first_branches vs
+  takes_first_branches (Value.enum k) = true
+  takes_first_branches (Value.fixed b) = true
+
+  pub values_take_first_branches : Values → Bool
+  values_take_first_branches no_values = true
+  values_take_first_branches (value v vs) = takes_first_branches v && values_take_first_branches vs
+
+  pub entries_take_first_branches : Entries → Bool
+  entries_take_first_branches no_entries = true
+  entries_take_first_branches (entry k v es) = takes_first_branches v && entries_take_first_branches es
+
+-- a default fits the node of its field
+abbrev pub has_good_default : List Node → FieldNode → Bool
+has_good_default nodes f = is_good f.default
+  where
+    is_good : Option Value → Bool
+    is_good None = true
+    is_good (Some v) = fits nodes (node_at nodes f.node) v && takes_first_branches v
+
+-- all the names of a field
+abbrev pub field_names : FieldNode → List (List ℕ)
+field_names f = f.name ∷ f.aliases
+
+-- names and aliases of fields are names, distinct over the record; each default fits
+abbrev pub are_fields : List Node → List FieldNode → Bool
+are_fields nodes fields =
+    list_all is_simple_name (flat_map field_names fields) && are_distinct bytes_eq (flat_map field_names fields)
+    && list_all (has_good_default nodes) fields
+
+-- what a node of each kind meets by itself
+abbrev pub meets_its_rules : List Node → Node → Bool
+meets_its_rules nodes (Node.union places) = is_union nodes places
+meets_its_rules nodes (Node.record_of name aliases fields) = are_fields nodes fields
+meets_its_rules nodes (Node.enum name aliases symbols default) = is_enum symbols default
+meets_its_rules nodes (Node.fixed name aliases count) = nat_le count max_count
+meets_its_rules nodes _ = true
+
+-- the name of a type and its aliases are fullnames
+abbrev pub has_good_names : Node → Bool
+has_good_names n = has_good_name (node_name n) && list_all is_full_name (node_aliases n)
+  where
+    has_good_name : Option Name → Bool
+    has_good_name None = true
+    has_good_name (Some name) = is_full_name name
+
+abbrev pub is_good_node : List Node → ℕ → Node → Bool
+is_good_node nodes place n = list_all (is_edge nodes place) (edges_of n) && has_good_names n && meets_its_rules nodes n
+
+-- each of the nodes from a place on
+abbrev pub are_good_nodes : List Node → ℕ → List Node → Bool
+are_good_nodes nodes place [] = true
+are_good_nodes nodes place (n ∷ ns) = is_good_node nodes place n && are_good_nodes nodes (suc place) ns
+
+-- 1 to `max_nodes` nodes, each good at its place, and no fullname is defined twice
+abbrev pub is_schema : List Node → Bool
+is_schema nodes =
+    nat_lt 0 (length nodes) && nat_le (length nodes) max_nodes && are_good_nodes nodes 0 nodes
+    && are_distinct same_name (filter_map node_name nodes)
