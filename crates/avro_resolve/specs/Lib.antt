@@ -1,0 +1,4 @@
+pub mod Match
+pub mod Source
+pub mod Fault
+pub mod Resolve
