@@ -1,0 +1,24 @@
+-- When every datum of a writer's schema is one of a reader's too.
+use Rattle.std.specs.Prelude.{◌≡◌, ℕ, ◌≤◌, true, List, Err}
+use Rattle.avro_schema.specs.Value.{Value, size}
+use Rattle.avro_schema.specs.Node.{Node, root_of}
+use Rattle.avro_schema.specs.Fits.{fits}
+use Rattle.avro_resolve.specs.Fault.{ResolutionFault}
+use Rattle.avro_resolve.specs.Resolve.{resolve_root}
+
+-- the datum is one of the writer's, and resolution gives it this fault
+pub record ErrsWith (writer reader : List Node) (v : Value) (fault : ResolutionFault) : Type 0 where
+  pub fitting : fits writer (root_of writer) v ≡ true
+  pub faulty : resolve_root writer reader v ≡ Err fault
+
+abbrev pub Errs : List Node → List Node → Value → Type 0
+Errs writer reader v = (fault : ResolutionFault) × ErrsWith writer reader v fault
+
+-- no datum errs, of any size
+abbrev pub AreCompatible : List Node → List Node → Type 0
+AreCompatible writer reader = (v : Value) (fault : ResolutionFault) → ErrsWith writer reader v fault → ⊥
+
+-- the datum errs, and none that errs has fewer nodes
+pub record IsLeastToErr (writer reader : List Node) (v : Value) : Type 0 where
+  pub errs : Errs writer reader v
+  pub least : (w : Value) (fault : ResolutionFault) → ErrsWith writer reader w fault → size v ≤ size w
