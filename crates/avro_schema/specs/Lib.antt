@@ -3,3 +3,6 @@ pub mod Node
 pub mod Fits
 pub mod Distinct
 pub mod WellFormed
+pub mod Seen
+pub mod SeenSchema
+pub mod Ranges

@@ -1,2 +1,16 @@
-//! Avro schemas and data.
+//! Avro schemas as graphs of nodes, and the data that they describe.
+//!
+//! A [`Schema`] is well formed: it is made by a [`Draft`], which tests its rules. Contracts see a
+//! schema as the list of its nodes, and a [`Datum`] as a tree with no capacity and no pointer in it.
 #![tactic(auto)]
+
+mod datum;
+mod draft;
+pub mod laws;
+mod limits;
+mod schema;
+
+pub use datum::{Datum, Memory, depth, fits, size};
+pub use draft::{Draft, DraftError};
+pub use limits::Limits;
+pub use schema::{Node, NodeId, Schema};

@@ -1,0 +1,11 @@
+-- Which numbers may be limits.
+use Rattle.std.specs.Prelude.{ℕ, ◌≤◌}
+use Rattle.avro_schema.specs.Fits.{LimitValues}
+
+pub record AreLimits (limits : LimitValues) : Type 0 where
+  pub some_depth : 1 ≤ limits.depth
+  pub most_depth : limits.depth ≤ 256
+  pub some_nodes : 1 ≤ limits.nodes
+  pub most_nodes : limits.nodes ≤ 16777216
+  pub some_blob : 1 ≤ limits.blob
+  pub most_blob : limits.blob ≤ 16777216
