@@ -1,9 +1,12 @@
 -- What spells a number, and that nothing else does.
-use Rattle.std.proofs.Common.{◌≡◌, ℕ, zero, suc, ◌+◌, ◌*◌, ◌/◌, ◌%◌, ◌-◌, ◌^◌, ◌<◌, ◌≤◌, ℤ, pos, negsuc, Bool, true, false, ◌&&◌, List, [], ◌∷◌, ◌++◌, length, ltb, leb, refl, sym, ap, ◌∙◌, subst, arith, rules, tests}
+use Rattle.std.proofs.Common.{◌≡◌, ℕ, zero, suc, ◌+◌, ◌*◌, ◌/◌, ◌%◌, ◌-◌, ◌^◌, ◌<◌, ◌≤◌, ℤ, pos, negsuc, Bool, true, false, ◌&&◌, List, [], ◌∷◌, ◌++◌, length, ltb, leb, refl, sym, ap, ◌∙◌, subst, add-one, arith, rules, tests}
 use Rattle.std.proofs.lemmas.Grind.{common_steps}
 use Rattle.std.proofs.lemmas.Bool.Decides.{nat_tests}
 use Rattle.std.specs.Prelude.{nat_lt, nat_le}
-use Rattle.avro_zigzag.specs.Number.{zigzag, are_groups, groups_value, AreLeastGroups, SpellsNumber, groups_within, number_bytes}
+use Rattle.std.specs.List.{All}
+use Rattle.std.proofs.lemmas.List.Elements.{All-nil, All-cons}
+use Rattle.std.proofs.Math.Nat.{pow-suc}
+use Rattle.avro_zigzag.specs.Number.{zigzag, are_groups, groups_value, AreLeastGroups, SpellsNumber, groups_within, number_bytes, is_int, is_long}
 
 -- a last group
 pub are_groups-last : (b : ℕ) → are_groups (b ∷ []) ≡ true → b < 128
@@ -101,3 +104,89 @@ pub one_spelling_lem : (v w : ℤ) (a b x y : List ℕ) → SpellsNumber v a →
 one_spelling_lem v w a b x y s t e =
     let same = groups-prefix a b x y s.groups t.groups e in
     (same, same_from_zigzag v w (sym s.value ∙ ap groups_value same ∙ t.value))
+
+-- groups of one length and one value are the same
+groups-same : (a b : List ℕ) → are_groups a ≡ true → are_groups b ≡ true → length a ≡ length b → groups_value a ≡ groups_value b → a ≡ b
+groups-same [] b p q l e = absurd (grind arith)
+groups-same (c ∷ a) [] p q l e = absurd (grind arith)
+groups-same (c ∷ []) (d ∷ []) p q l e = let same : c ≡ d = omega (arith, are_groups-last c p, are_groups-last d q) in cc
+groups-same (c ∷ []) (d ∷ k ∷ b) p q l e = absurd (omega arith)
+groups-same (c ∷ j ∷ a) (d ∷ []) p q l e = absurd (omega arith)
+groups-same (c ∷ j ∷ a) (d ∷ k ∷ b) p q l e =
+    let left = are_groups-more c j a p in
+    let right = are_groups-more d k b q in
+    let first : c ≡ d = omega (arith, left, right) in
+    let rest = groups-same (j ∷ a) (k ∷ b) left.2 right.2 (omega arith) (omega arith) in cc
+
+-- each number has one spelling, the computed one
+pub same_spelling : (v : ℤ) (a b : List ℕ) → SpellsNumber v a → SpellsNumber v b → a ≡ b
+same_spelling v a b s t =
+    groups-same a b s.groups t.groups (omega (arith, s.shortest b t.groups t.value, t.shortest a s.groups s.value)) (s.value ∙ sym t.value)
+
+pub number_bytes-from_spelling : (v : ℤ) (a : List ℕ) → SpellsNumber v a → a ≡ number_bytes v
+number_bytes-from_spelling v a s = same_spelling v a (number_bytes v) s (SpellsNumber-number_bytes v)
+
+-- ---- How long a spelling is
+
+pub spelling-some : (v : ℤ) (a : List ℕ) → SpellsNumber v a → 1 ≤ length a
+spelling-some v a s = are_groups-some a s.groups
+
+-- one power of 128 more
+pub power-more : (k : ℕ) → 128 ^ (k + 1) ≡ 128 * 128 ^ k
+power-more k = rw add-one (omega (arith, pow-suc 128 k))
+
+-- a number below a power of 128 takes at most that many groups
+within-length-step : (test : Bool) (n k : ℕ) (bytes : List ℕ) → nat_lt n 128 ≡ test → n < 128 ^ (k + 1)
+    → ((j : ℕ) → n / 128 < 128 ^ (j + 1) → length bytes ≤ j + 1)
+    → length (elim test as (λ b. List ℕ) [ true ↦ n ∷ [] | false ↦ (128 + n % 128) ∷ bytes ]) ≤ k + 1
+within-length-step true n k bytes e below h = omega arith
+within-length-step false n zero bytes e below h = absurd (grind (arith, nat_tests))
+within-length-step false n (suc j) bytes e below h =
+    let power : 128 ^ (suc j + 1) ≡ 128 * 128 ^ suc j = power-more (suc j) in
+    let again : 128 ^ (j + 1) ≡ 128 ^ suc j = ap (λ i. 128 ^ i) (add-one j) in
+    omega (arith, h j (omega arith))
+
+within-length : (more n k : ℕ) → n ≤ more → n < 128 ^ (k + 1) → length (groups_within more n) ≤ k + 1
+within-length zero n k h below = omega arith
+within-length (suc more) n k h below =
+    within-length-step (nat_lt n 128) n k (groups_within more (n / 128)) refl below (λ j. within-length more (n / 128) j (omega arith))
+
+pub least-length : (n k : ℕ) (bytes : List ℕ) → AreLeastGroups n bytes → 1 ≤ k → n < 128 ^ k → length bytes ≤ k
+least-length n zero bytes least some below = absurd (omega arith)
+least-length n (suc k) bytes least some below =
+    let computed = least-groups_within n n (omega arith) in
+    omega (arith, least.shortest (groups_within n n) computed.groups computed.value, within-length n n k (omega arith) (rw add-one below))
+
+pub is_long-zigzag : (v : ℤ) → is_long v ≡ true → zigzag v < 2 ^ 64
+is_long-zigzag (pos n) h = grind (arith, nat_tests)
+is_long-zigzag (negsuc n) h = grind (arith, nat_tests)
+
+pub is_long-from_zigzag : (v : ℤ) → zigzag v < 2 ^ 64 → is_long v ≡ true
+is_long-from_zigzag (pos n) h = grind (arith, nat_tests)
+is_long-from_zigzag (negsuc n) h = grind (arith, nat_tests)
+
+pub is_int-zigzag : (v : ℤ) → is_int v ≡ true → zigzag v < 2 ^ 32
+is_int-zigzag (pos n) h = grind (arith, nat_tests)
+is_int-zigzag (negsuc n) h = grind (arith, nat_tests)
+
+pub is_int-from_zigzag : (v : ℤ) → zigzag v < 2 ^ 32 → is_int v ≡ true
+is_int-from_zigzag (pos n) h = grind (arith, nat_tests)
+is_int-from_zigzag (negsuc n) h = grind (arith, nat_tests)
+
+pub spelling-long_length : (v : ℤ) (a : List ℕ) → is_long v ≡ true → SpellsNumber v a → length a ≤ 10
+spelling-long_length v a h s = let below = is_long-zigzag v h in least-length (zigzag v) 10 a s (omega arith) (omega arith)
+
+pub spelling-int_length : (v : ℤ) (a : List ℕ) → is_int v ≡ true → SpellsNumber v a → length a ≤ 5
+spelling-int_length v a h s = let below = is_int-zigzag v h in least-length (zigzag v) 5 a s (omega arith) (omega arith)
+
+-- ---- Bytes
+
+-- groups are bytes
+pub are_groups-bytes : (bytes : List ℕ) → are_groups bytes ≡ true → All (λ b. b < 256) bytes
+are_groups-bytes [] h = absurd (grind arith)
+are_groups-bytes (b ∷ []) h = let low = are_groups-last b h in All-cons (λ x. x < 256) b [] (omega arith) (All-nil (λ x. x < 256))
+are_groups-bytes (b ∷ c ∷ bytes) h =
+    let parts = are_groups-more b c bytes h in All-cons (λ x. x < 256) b (c ∷ bytes) parts.1 (are_groups-bytes (c ∷ bytes) parts.2)
+
+pub spelling-bytes : (v : ℤ) (a : List ℕ) → SpellsNumber v a → All (λ b. b < 256) a
+spelling-bytes v a s = are_groups-bytes a s.groups
