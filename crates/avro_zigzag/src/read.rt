@@ -20,9 +20,9 @@ fn from_zigzag(number: u64) -> i64
 fn read_groups(bytes: &[u8], most: usize, top: u8) -> Result<(u64, usize), VarError>
     requires some { 1 ≤ most }
     requires low { top < 128 }
-    requires fits { (top + 1) * 2 ^ (7 * (most - 1)) ≤ 2 ^ 64 }
+    requires fits { (top + 1) * 128 ^ (most - 1) ≤ 2 ^ 64 }
     ensures found { IfOk result (λ r. (1 ≤ r.1) × (r.1 ≤ length bytes.now) × AreLeastGroups r.0 (take r.1 bytes.now)) }
-    ensures below { IfOk result (λ r. r.0 < (top + 1) * 2 ^ (7 * (most - 1))) }
+    ensures below { IfOk result (λ r. r.0 < (top + 1) * 128 ^ (most - 1)) }
     ensures refused { IfErr result (λ e. NumberFails most top bytes.now e) }
 {
     let mut value = 0;
