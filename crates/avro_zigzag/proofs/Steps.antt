@@ -103,6 +103,15 @@ value-below i most top group value h below low last = by_cases (cases_lt (i + 1)
 pub shift-whole : (group i bound : ℕ) → group * 128 ^ i < bound → bound ≤ 2 ^ 64 → group * 2 ^ (7 * i) % 2 ^ 64 ≡ group * 128 ^ i
 shift-whole group i bound below fits = omega (arith, ap (λ p. group * p) (power-shift i))
 
+-- what the shift and the sum give
+pub group-added : (i most top byte group value : ℕ) → i < most → (top + 1) * 128 ^ (most - 1) ≤ 2 ^ 64 → value < 128 ^ i → byte ≡ group → group < 128
+    → (i + 1 ≡ most → group ≤ top)
+    → (value + byte * 2 ^ (7 * i) % 2 ^ 64 ≡ value + group * 128 ^ i) × (value + group * 128 ^ i < (top + 1) * 128 ^ (most - 1))
+group-added i most top byte group value h fits so_far same low last =
+    let below = value-below i most top group value h so_far low last in
+    let whole = shift-whole group i ((top + 1) * 128 ^ (most - 1)) (omega arith) fits in
+    (ap (λ b. value + b * 2 ^ (7 * i) % 2 ^ 64) same ∙ ap (λ x. value + x) whole, below)
+
 -- the value of the groups so far and one more
 value_pushed : (xs : List ℕ) (i b group : ℕ) → i < length xs → b % 128 ≡ group
     → groups_value (take i xs ++ b ∷ []) ≡ groups_value (take i xs) + group * 128 ^ i
