@@ -1,14 +1,11 @@
 -- What stands at the front of bytes: a number or one fault.
-use Rattle.std.proofs.Common.{◌≡◌, ℕ, zero, suc, ◌+◌, ◌*◌, ◌/◌, ◌%◌, ◌-◌, ◌^◌, ◌<◌, ◌≤◌, ℤ, pos, negsuc, Bool, true, false, ◌&&◌, List, [], ◌∷◌, ◌++◌, length, take, drop, ltb, leb, refl, sym, ap, ◌∙◌, subst, add-one, arith, rules, tests, length-append, append_assoc, append-nil, ◌⊎◌, inl, inr}
-use Rattle.std.proofs.lemmas.Grind.{common_steps}
+use Rattle.std.proofs.Common.{◌≡◌, ℕ, suc, ◌+◌, ◌*◌, ◌/◌, ◌%◌, ◌-◌, ◌^◌, ◌<◌, ◌≤◌, ℤ, true, List, [], ◌∷◌, ◌++◌, length, refl, sym, ap, ◌∙◌, subst, add-one, arith, length-append, append_assoc, append-nil, ◌⊎◌, inl, inr}
 use Rattle.std.proofs.lemmas.Bool.Decides.{nat_tests}
-use Rattle.std.specs.Prelude.{nat_lt, nat_le}
-use Rattle.std.specs.List.{All, list_all}
+use Rattle.std.specs.List.{All}
 use Rattle.std.proofs.lemmas.List.Elements.{All-head, All-tail}
 use Rattle.std.proofs.lemmas.Bool.{cases_lt}
 use Rattle.std.proofs.Math.Nat.{mul-le-mul_right}
 use Rattle.avro_zigzag.specs.declared.VarError.{VarError}
-use Rattle.avro_zigzag.specs.declared.VarError.TheVariants.{EndOfInput, NotShortest, OutOfRange}
 use Rattle.avro_zigzag.specs.Number.{zigzag, are_groups, groups_value, AreLeastGroups, SpellsNumber, is_int, is_long}
 use Rattle.avro_zigzag.specs.NumberFault.{go_on, NumberFails, ends, too_large, not_shortest, LongFails, IntFails}
 use Rattle.avro_zigzag.proofs.Spelling.{are_groups-last, are_groups-more, are_groups-some, least-last, least-more, least-length, power-more, is_long-zigzag, is_int-zigzag}

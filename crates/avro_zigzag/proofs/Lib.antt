@@ -1,3 +1,3 @@
 pub mod Faults
 pub mod Spelling
-pub mod Steps
+mod Steps

@@ -1,5 +1,5 @@
 -- The steps of the loops that write and read groups.
-use Rattle.std.proofs.Common.{◌≡◌, ℕ, zero, suc, ◌+◌, ◌*◌, ◌/◌, ◌%◌, ◌-◌, ◌^◌, ◌<◌, ◌≤◌, ℤ, pos, negsuc, Bool, true, List, [], ◌∷◌, ◌++◌, length, take, drop, get_or, set, refl, sym, ap, ◌∙◌, subst, add-one, arith, rules, append_assoc, length-take, drop-cons, ◌⊎◌, inl, inr, to_z, of_z, w32}
+use Rattle.std.proofs.Common.{◌≡◌, ℕ, zero, suc, ◌+◌, ◌*◌, ◌/◌, ◌%◌, ◌-◌, ◌^◌, ◌<◌, ◌≤◌, ℤ, pos, negsuc, true, List, [], ◌∷◌, ◌++◌, length, take, drop, get_or, set, refl, sym, ap, ◌∙◌, subst, arith, append_assoc, length-take, drop-cons, ◌⊎◌, inl, inr, to_z, of_z, w32, w64}
 use Rattle.std.specs.List.{All}
 use Rattle.std.proofs.lemmas.List.{take-append-drop, take_more, take_more_set}
 use Rattle.std.proofs.lemmas.List.Elements.{All-take}
@@ -7,11 +7,9 @@ use Rattle.std.proofs.lemmas.Bool.{cases_lt}
 use Rattle.std.proofs.lemmas.Nat.{pow-add}
 use Rattle.std.proofs.lemmas.Int.{to_z-of_z}
 use Rattle.std.proofs.Math.Nat.{mul-le-mul_right, pow-le-pow_right, pow-suc}
-use Rattle.std.specs.Int.RustNames.{FitsSigned}
-use Rattle.avro_zigzag.specs.declared.VarError.{VarError}
-use Rattle.avro_zigzag.specs.declared.VarError.TheVariants.{EndOfInput, NotShortest, OutOfRange}
+use Rattle.avro_zigzag.specs.declared.VarError.TheVariants.{NotShortest, OutOfRange}
 use Rattle.avro_zigzag.specs.Number.{zigzag, groups_value, AreLeastGroups, SpellsNumber}
-use Rattle.avro_zigzag.specs.NumberFault.{go_on, NumberFails, ends, too_large, not_shortest}
+use Rattle.avro_zigzag.specs.NumberFault.{go_on, NumberFails, too_large, not_shortest}
 use Rattle.avro_zigzag.proofs.Spelling.{least-last, least-more, one_spelling_lem, power-more}
 use Rattle.avro_zigzag.proofs.Faults.{go_on-push, groups_value-below, groups_value-push, least-from_front}
 
@@ -157,7 +155,11 @@ only_read v w n len bytes front rest e least within s f =
     let same = one_spelling_lem w v (take len bytes) front (drop len bytes) rest found s (take-append-drop len bytes ∙ f) in
     (same.1, omega (arith, ap length same.0, length-take len bytes))
 
--- a number of 32 bits
+-- a number of 64 bits, and one of 32
+pub wide : (z : ℤ) → zigzag z < 2 ^ 64 → to_z w64 (of_z w64 z) ≡ z
+wide (pos n) h = to_z-of_z w64 (pos n) (record { sfits = omega arith })
+wide (negsuc n) h = to_z-of_z w64 (negsuc n) (record { sfits = omega arith })
+
 pub narrow : (z : ℤ) → zigzag z < 2 ^ 32 → to_z w32 (of_z w32 z) ≡ z
 narrow (pos n) h = to_z-of_z w32 (pos n) (record { sfits = omega arith })
 narrow (negsuc n) h = to_z-of_z w32 (negsuc n) (record { sfits = omega arith })

@@ -1,4 +1,4 @@
-use Rattle.std.proofs.Common.{◌≡◌, ℤ, length, arith, rules, ◌∙◌, ap, subst, to_z, of_z, w64, length-set, take, set, ◌+◌}
+use Rattle.std.proofs.Common.{ℤ, arith, ◌∙◌, subst, to_z, of_z, w64, length-set, take, set, ◌+◌}
 use Rattle.std.proofs.lemmas.Int.{to_z-of_z}
 use Rattle.avro_zigzag.specs.Number.{zigzag, AreLeastGroups}
 use Rattle.avro_zigzag.proofs.Steps.{room, rest-within, written_more, written_all}
