@@ -1,2 +1,4 @@
 //! Avro schemas and data.
 #![tactic(auto)]
+
+pub mod laws;
