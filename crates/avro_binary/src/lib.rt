@@ -1,2 +1,4 @@
 //! The binary encoding of data.
 #![tactic(auto)]
+
+pub mod laws;
