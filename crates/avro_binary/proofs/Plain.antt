@@ -1,27 +1,16 @@
 -- The plain encoding is an encoding.
-use Rattle.std.proofs.Common.{◌≡◌, ℕ, zero, suc, ◌<◌, ◌^◌, pos, Bool, true, false, ◌&&◌, List, [], ◌∷◌, ◌++◌, Option, Some, None, length, refl, sym, ap, ◌∙◌, arith}
-use Rattle.std.specs.Prelude.{slice_get, option_and_then, bytes_eq}
-use Rattle.std.specs.List.{concat, list_all}
+use Rattle.std.proofs.Common.{◌≡◌, ℕ, zero, suc, pos, true, List, [], ◌∷◌, ◌++◌, length, refl, sym, ap, ◌∙◌, arith}
+use Rattle.std.specs.List.{concat}
 use Rattle.std.proofs.lemmas.Bool.{and_parts, false≢true}
-use Rattle.std.proofs.lemmas.Bool.Decides.{nat_tests}
 use Rattle.std.proofs.lemmas.List.{append-nil}
 use Rattle.avro_zigzag.specs.Number.{number_bytes}
 use Rattle.avro_zigzag.proofs.Spelling.{SpellsNumber-number_bytes}
-use Rattle.avro_schema.specs.Value.{Value, Values, Entries, no_values, value, no_entries, entry, values_count, entries_count, keys_of}
-use Rattle.avro_schema.specs.Node.{Node, node_at, items_node, values_node, branches_of, fields_of, field_places}
-use Rattle.avro_schema.specs.Fits.{fits, each_fits, entries_fit, fields_fit, is_count, is_text, is_some_and}
-use Rattle.avro_schema.specs.Distinct.{are_distinct}
+use Rattle.avro_schema.specs.Value.{Value, Values, Entries, no_values, value, no_entries, entry, values_count, entries_count}
+use Rattle.avro_schema.specs.Node.{Node, node_at, field_places}
+use Rattle.avro_schema.specs.Fits.{fits, each_fits, entries_fit, fields_fit, is_count}
+use Rattle.avro_schema.proofs.FitsParts.{is_count-below, ArrayFits-from_fits, MapFits-from_fits, UnionFits-from_fits, RecordFits-from_fits}
 use Rattle.avro_binary.specs.Blocks.{IsInBlocks, no_more, counted}
 use Rattle.avro_binary.specs.Encoding.{SpellsBytes, Spells, EachSpelled, EntriesSpelled, Encodes, plain_bytes, plain_blocks, plain, plain_values, plain_entries}
-
--- what passes a test of an option
-pub is_some_and-some : {A : Type 0} (test : A → Bool) (o : Option A) → is_some_and test o ≡ true → (x : A) × (test x ≡ true)
-is_some_and-some test None h = absurd (false≢true h)
-is_some_and-some test (Some x) h = (x, h)
-
--- a count is below 2^63
-pub is_count-below : (n : ℕ) → is_count n ≡ true → n < 2 ^ 63
-is_count-below n h = grind (arith, nat_tests)
 
 -- the plain encodings of values, one by one
 abbrev pub plain_items : Values → List (List ℕ)
@@ -68,26 +57,6 @@ IsInBlocks-plain_blocks (item ∷ items) (suc count) bytes counts joins h =
     (ap (λ front. front ++ bytes ++ 0 ∷ []) same ∙ ap (λ joined. number ++ joined ++ 0 ∷ []) (sym joins))
     (no_more (SpellsNumber-number_bytes (pos 0)))
 
--- what a map that fits says of its entries
-record MapFits (nodes : List Node) (n : Node) (es : Entries) : Type 0 where
-  pub place : ℕ
-  pub is_counted : is_count (entries_count es) ≡ true
-  pub fitting : entries_fit nodes (node_at nodes place) es ≡ true
-
-map-fits-parts : (nodes : List Node) (n : Node) (es : Entries) → fits nodes n (Value.map_of es) ≡ true → MapFits nodes n es
-map-fits-parts nodes n es h =
-    let test = λ (place : ℕ). entries_fit nodes (node_at nodes place) es in
-    let parts = and-four (is_count (entries_count es)) (list_all is_text (keys_of es)) (are_distinct bytes_eq (keys_of es)) (is_some_and test (values_node n)) h in
-    let place = is_some_and-some test (values_node n) parts.1 in
-    record { place = place.0; is_counted = parts.0; fitting = place.1 }
-  where
-    and-four : (a b c d : Bool) → (a && b && c && d) ≡ true → (a ≡ true) × (d ≡ true)
-    and-four true true true true h = (refl, refl)
-    and-four true true true false h = absurd (false≢true h)
-    and-four true true false d h = absurd (false≢true h)
-    and-four true false c d h = absurd (false≢true h)
-    and-four false b c d h = absurd (false≢true h)
-
 -- the plain encoding of a datum that fits spells it
 mutual
   pub Spells-plain : (nodes : List Node) (n : Node) (v : Value) → fits nodes n v ≡ true → Spells v (plain v)
@@ -98,24 +67,23 @@ mutual
   Spells-plain nodes n (Value.bytes b) h = SpellsBytes-plain_bytes b
   Spells-plain nodes n (Value.string t) h = SpellsBytes-plain_bytes t
   Spells-plain nodes n (Value.array vs) h =
-      let parts = and_parts (is_count (values_count vs)) (is_some_and (λ place. each_fits nodes (node_at nodes place) vs) (items_node n)) h in
-      let place = is_some_and-some (λ place. each_fits nodes (node_at nodes place) vs) (items_node n) parts.1 in (
+      let parts = ArrayFits-from_fits nodes n vs h in (
         plain_items vs,
-        EachSpelled-plain nodes (node_at nodes place.0) vs place.1,
-        IsInBlocks-plain_blocks (plain_items vs) (values_count vs) (plain_values vs) (length-plain_items vs) (concat-plain_items vs) parts.0,
+        EachSpelled-plain nodes (node_at nodes parts.place) vs parts.fitting,
+        IsInBlocks-plain_blocks (plain_items vs) (values_count vs) (plain_values vs) (length-plain_items vs) (concat-plain_items vs) parts.counted,
       )
   Spells-plain nodes n (Value.map_of es) h =
-      let parts = map-fits-parts nodes n es h in (
+      let parts = MapFits-from_fits nodes n es h in (
         plain_entry_items es,
         EntriesSpelled-plain nodes (node_at nodes parts.place) es parts.fitting,
-        IsInBlocks-plain_blocks (plain_entry_items es) (entries_count es) (plain_entries es) (length-plain_entry_items es) (concat-plain_entry_items es) parts.is_counted,
+        IsInBlocks-plain_blocks (plain_entry_items es) (entries_count es) (plain_entries es) (length-plain_entry_items es) (concat-plain_entry_items es) parts.counted,
       )
   Spells-plain nodes n (Value.union k v) h =
-      let place = is_some_and-some (λ place. fits nodes (node_at nodes place) v) (option_and_then (λ places. slice_get places k) (branches_of n)) h in
-      (number_bytes (pos k), plain v, SpellsNumber-number_bytes (pos k), Spells-plain nodes (node_at nodes place.0) v place.1, refl)
+      let parts = UnionFits-from_fits nodes n k v h in
+      (number_bytes (pos k), plain v, SpellsNumber-number_bytes (pos k), Spells-plain nodes (node_at nodes parts.place) v parts.fitting, refl)
   Spells-plain nodes n (Value.record_of vs) h =
-      let fields = is_some_and-some (λ fields. fields_fit nodes (field_places fields) vs) (fields_of n) h in
-      (plain_items vs, FieldsSpelled-plain nodes (field_places fields.0) vs fields.1, sym (concat-plain_items vs))
+      let parts = RecordFits-from_fits nodes n vs h in
+      (plain_items vs, FieldsSpelled-plain nodes (field_places parts.fields) vs parts.fitting, sym (concat-plain_items vs))
   Spells-plain nodes n (Value.enum k) h = SpellsNumber-number_bytes (pos k)
   Spells-plain nodes n (Value.fixed b) h = refl
 
