@@ -1,6 +1,13 @@
 //! The numbers of Avro's binary encoding: zig-zag, and then groups of seven bits.
 #![tactic(auto)]
 
+pub mod laws;
+pub mod read;
+pub mod write;
+
+pub use read::{read_int, read_long};
+pub use write::write_long;
+
 use thiserror::Error;
 
 /// Why no number stands at the front of some bytes.

@@ -1,0 +1,12 @@
+use Rattle.std.proofs.Common.{◌≡◌, ℕ, ◌*◌, ◌^◌, ◌<◌, ◌≤◌, List, ◌++◌, length, take}
+use Rattle.avro_zigzag.specs.Number.{zigzag, AreLeastGroups}
+use Rattle.avro_zigzag.proofs.write.write_long.Given as goal
+
+-- what spells the rest spells the number behind the bytes so far
+abbrev pub invariant-loop-rest : goal.invariant-loop-rest
+invariant-loop-rest l =
+    (l.len < 10) × (length l.bytes ≡ 10) × (l.rest * 128 ^ l.len ≤ zigzag l.value)
+    × ((tail : List ℕ) → AreLeastGroups l.rest tail → AreLeastGroups (zigzag l.value) (take l.len l.bytes ++ tail))
+
+abbrev pub decreases-loop-rest : goal.decreases-loop-rest
+decreases-loop-rest l = l.rest

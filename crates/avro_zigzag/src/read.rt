@@ -1,0 +1,90 @@
+//! Reading a number (Avro 1.11, "Binary Encoding").
+
+ghost use Rattle.std.specs.Prelude.{◌≡◌, ℕ, ◌+◌, ◌-◌, ◌*◌, ◌^◌, ◌<◌, ◌≤◌, ℤ, true, List, ◌++◌, length, take, IfOk};
+ghost use Rattle.std.specs.Result.{IfErr};
+ghost use Rattle.avro_zigzag.specs.declared.VarError.{VarError};
+ghost use Rattle.avro_zigzag.specs.Number.{zigzag, AreLeastGroups, SpellsNumber, is_int, is_long};
+ghost use Rattle.avro_zigzag.specs.NumberFault.{NumberFails, IntFails, LongFails};
+
+use crate::VarError;
+
+/// The number whose zig-zag number is `number`.
+fn from_zigzag(number: u64) -> i64
+    ensures { zigzag result ≡ number }
+{
+    let half = (number / 2) as i64;
+    if number % 2 == 0 { half } else { -half - 1 }
+}
+
+/// The number of groups at the front of `bytes`, of which there are at most `most` with a last one of at most `top`, and how many there are.
+fn read_groups(bytes: &[u8], most: usize, top: u8) -> Result<(u64, usize), VarError>
+    requires some { 1 ≤ most }
+    requires low { top < 128 }
+    requires fits { (top + 1) * 128 ^ (most - 1) ≤ 2 ^ 64 }
+    ensures found { IfOk result (λ r. (1 ≤ r.1) × (r.1 ≤ length bytes.now) × AreLeastGroups r.0 (take r.1 bytes.now)) }
+    ensures below { IfOk result (λ r. r.0 < (top + 1) * 128 ^ (most - 1)) }
+    ensures refused { IfErr result (λ e. NumberFails most top bytes.now e) }
+{
+    let mut value = 0;
+    for (index, byte) in bytes.iter().enumerate() {
+        let byte = *byte;
+        if byte < 128 {
+            if index + 1 == most && byte > top {
+                return Err(VarError::OutOfRange);
+            }
+            if byte == 0 && index > 0 {
+                return Err(VarError::NotShortest);
+            }
+            return Ok((value + (u64::from(byte) << (7 * index)), index + 1));
+        }
+        if index + 1 == most {
+            return Err(VarError::OutOfRange);
+        }
+        value += u64::from(byte - 128) << (7 * index);
+    }
+    Err(VarError::EndOfInput)
+}
+
+/// The long that the front of `bytes` spells, and in how many of them.
+///
+/// Avro 1.11, "Binary Encoding", "Primitive Types": zig-zag, and then groups of seven bits, the least first.
+///
+/// # Errors
+///
+/// The first of these that the bytes show, looked at in turn: `EndOfInput` where no byte is left, `OutOfRange` for a tenth byte above `01`,
+/// `NotShortest` for a last byte `00` after others.
+pub fn read_long(bytes: &[u8]) -> Result<(i64, usize), VarError>
+    ensures found { IfOk result (λ r. (r.1 ≤ length bytes.now) × SpellsNumber r.0 (take r.1 bytes.now)) }
+    ensures nonempty { IfOk result (λ r. 1 ≤ r.1) }
+    ensures in_range { IfOk result (λ r. is_long r.0 ≡ true) }
+    ensures only { (v : ℤ) (front rest : List ℕ) → is_long v ≡ true → SpellsNumber v front → bytes.now ≡ front ++ rest → result ≡ Ok (v, length front) }
+    ensures refused { IfErr result (λ e. LongFails bytes.now e) }
+    ensures fails { (e : VarError) → LongFails bytes.now e → result ≡ Err e }
+{
+    match read_groups(bytes, 10, 1) {
+        Ok((number, len)) => Ok((from_zigzag(number), len)),
+        Err(e) => Err(e),
+    }
+}
+
+/// The int that the front of `bytes` spells, and in how many of them.
+///
+/// Avro 1.11, "Binary Encoding", "Primitive Types": zig-zag, and then groups of seven bits, the least first.
+///
+/// # Errors
+///
+/// The first of these that the bytes show, looked at in turn: `EndOfInput` where no byte is left, `OutOfRange` for a fifth byte above `0f`,
+/// `NotShortest` for a last byte `00` after others.
+pub fn read_int(bytes: &[u8]) -> Result<(i32, usize), VarError>
+    ensures found { IfOk result (λ r. (r.1 ≤ length bytes.now) × SpellsNumber r.0 (take r.1 bytes.now)) }
+    ensures nonempty { IfOk result (λ r. 1 ≤ r.1) }
+    ensures in_range { IfOk result (λ r. is_int r.0 ≡ true) }
+    ensures only { (v : ℤ) (front rest : List ℕ) → is_int v ≡ true → SpellsNumber v front → bytes.now ≡ front ++ rest → result ≡ Ok (v, length front) }
+    ensures refused { IfErr result (λ e. IntFails bytes.now e) }
+    ensures fails { (e : VarError) → IntFails bytes.now e → result ≡ Err e }
+{
+    match read_groups(bytes, 5, 15) {
+        Ok((number, len)) => Ok((from_zigzag(number) as i32, len)),
+        Err(e) => Err(e),
+    }
+}
