@@ -1,4 +1,4 @@
--- When every datum of a writer's schema is one of a reader's too.
+-- When no datum of a writer's schema has a fault of resolution into a reader's, and which faulty datum is least.
 use Rattle.std.specs.Prelude.{◌≡◌, ℕ, ◌<◌, ◌≤◌, true, List, Err}
 use Rattle.avro_schema.specs.Value.{Value, size, depth}
 use Rattle.avro_schema.specs.Node.{Node, root_of}
