@@ -14,7 +14,7 @@ use Rattle.avro_schema.specs.Distinct.{are_distinct}
 use Rattle.avro_binary.specs.Encoding.{SpellsBytes, EachSpelled, EntriesSpelled}
 use Rattle.avro_binary.specs.Fault.{ReadFault, end_of_input, invalid_number, invalid_boolean, invalid_text, unknown_index, invalid_length, wrong_block_size, duplicate_key, limit_exceeded, behind}
 
--- a number that no byte is left for, or that isn't one
+-- what the fault of a number is: the input ends in it, or it is none
 abbrev pub number_fault : VarError → ReadFault
 number_fault EndOfInput = end_of_input 0
 number_fault NotShortest = invalid_number 0

@@ -1,7 +1,8 @@
 -- What is wrong with bytes that begin with no encoding within limits, and where.
 use Rattle.std.specs.Prelude.{ℕ, ◌+◌}
 
--- The place is that of a part in the bytes: of the number, the boolean or the content.
+-- The place is the offset of the part that fails: of the number, the boolean or the content; of the size of a block, and
+-- of the length of a key.
 pub data ReadFault : Type 0 where
   -- the input ends in the part
   end_of_input : (place : ℕ) → ReadFault

@@ -2,3 +2,5 @@ pub mod Blocks
 pub mod Encoding
 pub mod Fault
 pub mod Breaks
+pub mod Seen
+pub mod Reading

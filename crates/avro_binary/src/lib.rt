@@ -1,2 +1,13 @@
-//! The binary encoding of data.
+//! The binary encoding of data (Avro 1.11, "Binary Encoding").
+//!
+//! [`decode`] reads a datum from the front of bytes, whatever follows it. It accepts the valid
+//! encodings of data within limits and nothing else, and answers the first fault of other bytes with
+//! its place.
 #![tactic(auto)]
+
+mod error;
+pub mod laws;
+mod read;
+
+pub use error::ReadError;
+pub use read::decode;

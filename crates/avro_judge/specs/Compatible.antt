@@ -1,6 +1,6 @@
--- When every datum of a writer's schema is one of a reader's too.
-use Rattle.std.specs.Prelude.{◌≡◌, ℕ, ◌≤◌, true, List, Err}
-use Rattle.avro_schema.specs.Value.{Value, size}
+-- When no datum of a writer's schema has a fault of resolution into a reader's, and which faulty datum is least.
+use Rattle.std.specs.Prelude.{◌≡◌, ℕ, ◌<◌, ◌≤◌, true, List, Err}
+use Rattle.avro_schema.specs.Value.{Value, size, depth}
 use Rattle.avro_schema.specs.Node.{Node, root_of}
 use Rattle.avro_schema.specs.Fits.{fits}
 use Rattle.avro_resolve.specs.Fault.{ResolutionFault}
@@ -22,3 +22,13 @@ AreCompatible writer reader = (v : Value) (fault : ResolutionFault) → ErrsWith
 pub record IsLeastToErr (writer reader : List Node) (v : Value) : Type 0 where
   pub errs : Errs writer reader v
   pub least : (w : Value) (fault : ResolutionFault) → ErrsWith writer reader w fault → size v ≤ size w
+
+-- some datum errs, and each that does has more nodes than the limit
+pub record ErrsOnlyAbove (writer reader : List Node) (limit : ℕ) : Type 0 where
+  pub some : (v : Value) × Errs writer reader v
+  pub above : (v : Value) (fault : ResolutionFault) → ErrsWith writer reader v fault → limit < size v
+
+-- some datum errs, the least that do have no more nodes than the limit, and each of them is deeper than the other limit
+pub record ErrsLeastDeep (writer reader : List Node) (limit deepest : ℕ) : Type 0 where
+  pub some : (v : Value) × IsLeastToErr writer reader v × (size v ≤ limit)
+  pub deep : (v : Value) → IsLeastToErr writer reader v → deepest < depth v

@@ -1,2 +1,4 @@
 pub mod Compatible
 pub mod Closed
+pub mod JudgeRanges
+pub mod Answered

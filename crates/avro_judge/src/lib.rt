@@ -1,2 +1,16 @@
-//! Verdicts on pairs of schemas.
+//! Verdicts on pairs of schemas: whether a reader's schema reads everything that was written under a
+//! writer's schema.
+//!
+//! [`judge`] approves, refutes with a least datum that fails, or says why it is undecided. An
+//! [`Approved`] reads bytes with no fault of resolution.
 #![tactic(auto)]
+
+mod approval;
+mod judging;
+mod limits;
+mod verdict;
+
+pub use approval::Approved;
+pub use judging::judge;
+pub use limits::JudgeLimits;
+pub use verdict::{Cause, Refutation, Verdict};

@@ -2,3 +2,5 @@ pub mod Match
 pub mod Source
 pub mod Fault
 pub mod Resolve
+pub mod Seen
+pub mod Reading

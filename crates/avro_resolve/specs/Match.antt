@@ -9,7 +9,7 @@ use Rattle.avro_schema.specs.Node.{Node, FieldNode, node_at, node_name, node_ali
 abbrev pub are_alike : Name → Name → List Name → Bool
 are_alike writer reader aliases = bytes_eq writer.simple reader.simple || list_any (same_name writer) aliases
 
--- the two nodes match, by the rules of the standard
+-- the two nodes match
 pub data Matches (writer reader : List Node) : Node → Node → Type 0 where
   writer_union : {places : List ℕ} {r : Node} → Matches writer reader (Node.union places) r
   reader_union : {w : Node} {places : List ℕ} → Matches writer reader w (Node.union places)
@@ -31,7 +31,8 @@ pub data Matches (writer reader : List Node) : Node → Node → Type 0 where
   fixeds : {a b : Name} {a_aliases b_aliases : List Name} {n : ℕ} → are_alike a b b_aliases ≡ true
       → Matches writer reader (Node.fixed a a_aliases n) (Node.fixed b b_aliases n)
 
--- whether they do, where arrays and maps are looked into at most so deep: a schema has no more of them in a row than nodes
+-- whether they do, where arrays and maps are looked into at most so deep: a well-formed schema has fewer of them in a row
+-- than nodes
 abbrev pub match_within : ℕ → List Node → List Node → Node → Node → Bool
 match_within steps writer reader (Node.union places) r = true
 match_within steps writer reader w (Node.union places) = true

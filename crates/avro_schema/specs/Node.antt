@@ -31,7 +31,7 @@ pub data Node : Type 0 where
   -- name, aliases, number of bytes
   fixed : Name → List Name → ℕ → Node
 
--- the node at a place; no place of a well-formed schema is out of range
+-- the node at a place; no edge of a well-formed schema is out of range
 abbrev pub node_at : List Node → ℕ → Node
 node_at nodes place = unwrap_or (slice_get nodes place) Node.null
 

@@ -115,7 +115,7 @@ abbrev pub keys_of : Entries → List (List ℕ)
 keys_of no_entries = []
 keys_of (entry k v es) = k ∷ keys_of es
 
--- the first value is a part of the second, at any depth
+-- the first value is a proper part of the second, at any depth
 mutual
   pub data IsPart : Value → Value → Type 0 where
     of_array : {v : Value} {vs : Values} → IsAmongValues v vs → IsPart v (Value.array vs)

@@ -7,7 +7,7 @@ use Rattle.avro_schema.specs.Node.{Node, FieldNode, node_at, node_name, node_ali
 use Rattle.avro_schema.specs.Fits.{fits, is_some_and}
 use Rattle.avro_schema.specs.Distinct.{are_distinct}
 
--- the limits of this profile: nodes, and the symbols of an enum and the bytes of a fixed
+-- limits of this project: nodes of a schema, and symbols of an enum or bytes of a fixed
 abbrev pub max_nodes : ℕ
 max_nodes = 4096
 

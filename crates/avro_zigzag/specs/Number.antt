@@ -27,7 +27,7 @@ pub record AreLeastGroups (n : ℕ) (bytes : List ℕ) : Type 0 where
 abbrev pub SpellsNumber : ℤ → List ℕ → Type 0
 SpellsNumber v bytes = AreLeastGroups (zigzag v) bytes
 
--- the groups of n, for at least as many more groups as n has digits
+-- the groups of n, where `more` is at least the number of groups after the first; n itself is always enough
 abbrev pub groups_within : ℕ → ℕ → List ℕ
 groups_within zero n = n ∷ []
 groups_within (suc more) n = elim (nat_lt n 128) [

@@ -1,0 +1,29 @@
+-- What reading a datum from the front of bytes answers.
+use Rattle.std.specs.Prelude.{◌≡◌, ◌≢◌, ℕ, ◌≤◌, true, List, ◌++◌, length, take, Result, Ok, IfOk, IsOkAnd, Some}
+use Rattle.std.specs.Result.{IfErr}
+use Rattle.std.specs.Option.{IfSome}
+use Rattle.avro_schema.specs.Value.{Value}
+use Rattle.avro_schema.specs.Node.{Node}
+use Rattle.avro_schema.specs.Fits.{LimitValues, is_within}
+use Rattle.avro_schema.specs.Seen.{value_of}
+use Rattle.avro_schema.specs.declared.datum.Datum.{Datum}
+use Rattle.avro_binary.specs.Encoding.{Encodes}
+use Rattle.avro_binary.specs.Fault.{ReadFault, limit_exceeded}
+use Rattle.avro_binary.specs.Breaks.{Breaks}
+use Rattle.avro_binary.specs.Seen.{read_fault, UnlessOutOfMemory, Reports}
+use Rattle.avro_binary.specs.declared.error.ReadError.{ReadError}
+
+-- Bytes are read exactly: as the datum whose encoding within limits they begin with, and that encoding's length, or by
+-- their first fault.
+pub record ReadsExactly (nodes : List Node) (n : Node) (limits : LimitValues) (bytes : List ℕ) (result : Result (Datum × ℕ) ReadError) : Type 0 where
+  -- what is answered stands there
+  pub found : IfOk result (λ r. (r.1 ≤ length bytes) × Encodes nodes n (value_of r.0) (take r.1 bytes) × (is_within limits (value_of r.0) ≡ true))
+  -- what stands there is answered, whatever follows it
+  pub begins : (v : Value) (front rest : List ℕ) → Encodes nodes n v front → is_within limits v ≡ true → bytes ≡ front ++ rest
+      → UnlessOutOfMemory result (IsOkAnd result (λ r. (value_of r.0 ≡ v) × (r.1 ≡ length front)))
+  -- what is refused has the fault that is reported, and what has a fault is refused
+  pub refused : IfErr result (λ e. IfSome (read_fault e) (Breaks nodes limits n bytes))
+  pub breaks : (fault : ReadFault) → Breaks nodes limits n bytes fault → UnlessOutOfMemory result (Reports result fault)
+  -- a fault that is no limit leaves no front of the bytes that encodes any datum
+  pub no_front : IfErr result (λ e. IfSome (read_fault e) (λ fault.
+      fault ≢ limit_exceeded → (v : Value) (front rest : List ℕ) → Encodes nodes n v front → bytes ≡ front ++ rest → ⊥))

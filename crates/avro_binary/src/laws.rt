@@ -1,0 +1,12 @@
+//! Laws of encodings.
+
+ghost use Rattle.std.specs.Prelude.{◌≡◌, true, List};
+ghost use Rattle.avro_schema.specs.Value.{Value};
+ghost use Rattle.avro_schema.specs.Node.{Node};
+ghost use Rattle.avro_schema.specs.Fits.{fits};
+ghost use Rattle.avro_binary.specs.Encoding.{Encodes, plain};
+
+/// The plain encoding of a datum that fits is an encoding of it.
+pub fn plain_encodes()
+    ensures { (nodes : List Node) (n : Node) (v : Value) → fits nodes n v ≡ true → Encodes nodes n v (plain v) }
+{}

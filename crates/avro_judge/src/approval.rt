@@ -1,0 +1,84 @@
+use std::alloc::Global;
+use std::marker::Model;
+
+use avro_binary::ReadError;
+use avro_resolve::{ReadResolveError, read_resolved};
+use avro_schema::{Datum, Limits, Schema};
+
+/// Two schemas of which every datum of the first resolves into the second. Contracts see the two
+/// schemas.
+#[derive(Drop)]
+pub struct Approved<'a> {
+    writer: &'a Schema,
+    reader: &'a Schema,
+}
+
+impl<'a> Model for Approved<'a> {
+    ghost use Rattle.avro_schema.specs.declared.schema.Schema.{Schema};
+    ghost use Rattle.avro_schema.specs.SeenSchema.{schema_nodes};
+    ghost use Rattle.avro_judge.specs.Compatible.{AreCompatible};
+
+    ghost Value = { Schema × Schema };
+
+    ghost view = { λ a. (a.writer.now, a.reader.now) };
+
+    ghost invariant = { λ a. AreCompatible (schema_nodes a.writer.now) (schema_nodes a.reader.now) };
+}
+
+impl<'a> Approved<'a> {
+    ghost use Rattle.std.specs.Prelude.{◌≡◌, ℕ, true, List, ◌++◌, length, IfOk, IsOkAnd, Ok};
+    ghost use Rattle.std.specs.Result.{IfErr};
+    ghost use Rattle.std.specs.Option.{IfSome};
+    ghost use Rattle.avro_schema.specs.Fits.{is_within};
+    ghost use Rattle.avro_schema.specs.Node.{root_of};
+    ghost use Rattle.avro_schema.specs.Seen.{value_of};
+    ghost use Rattle.avro_schema.specs.SeenSchema.{schema_nodes};
+    ghost use Rattle.avro_schema.specs.Value.{Value};
+    ghost use Rattle.avro_binary.specs.Breaks.{Breaks};
+    ghost use Rattle.avro_binary.specs.Encoding.{Encodes};
+    ghost use Rattle.avro_binary.specs.Fault.{ReadFault};
+    ghost use Rattle.avro_binary.specs.Seen.{read_fault, UnlessOutOfMemory, Reports};
+    ghost use Rattle.avro_resolve.specs.Reading.{StandsFor};
+    ghost use Rattle.avro_resolve.specs.Resolve.{resolve_root};
+    ghost use Rattle.avro_judge.specs.Compatible.{AreCompatible};
+
+    /// The approval of two schemas that are compatible.
+    pub(crate) fn of(writer: &'a Schema, reader: &'a Schema) -> Approved<'a>
+        requires { AreCompatible (schema_nodes writer.now) (schema_nodes reader.now) }
+        ensures { result ≡ (writer.now, reader.now) }
+    {
+        Approved { writer, reader }
+    }
+
+    /// Reads a datum of the writer's from the front of bytes, and answers what it is for the reader,
+    /// with the length of its encoding.
+    ///
+    /// # Errors
+    ///
+    /// The first fault of the bytes; there is none of resolution.
+    pub fn read(
+        &self,
+        alloc: Global,
+        bytes: &[u8],
+        limits: &Limits,
+    ) -> Result<(Datum, usize), ReadError>
+        // Where the bytes begin with an encoding of a writer's datum within limits, whatever follows it, the answer is what
+        // resolution gives of the datum, and that encoding's length.
+        ensures begins { (v : Value) (front rest : List ℕ) → Encodes (schema_nodes self.now.0) (root_of (schema_nodes self.now.0)) v front
+            → is_within limits.now v ≡ true → bytes.now ≡ front ++ rest
+            → UnlessOutOfMemory result (IsOkAnd result (λ r.
+                (resolve_root (schema_nodes self.now.0) (schema_nodes self.now.1) v ≡ Ok (value_of r.0)) × (r.1 ≡ length front))) }
+        // There is no other answer.
+        ensures found { IfOk result (λ r. StandsFor (schema_nodes self.now.0) (schema_nodes self.now.1) limits.now bytes.now r.1 (Ok (value_of r.0))) }
+        // An error reports the first fault of the bytes, and each fault is reported.
+        ensures refused { IfErr result (λ e. IfSome (read_fault e) (Breaks (schema_nodes self.now.0) limits.now (root_of (schema_nodes self.now.0)) bytes.now)) }
+        ensures breaks { (fault : ReadFault) → Breaks (schema_nodes self.now.0) limits.now (root_of (schema_nodes self.now.0)) bytes.now fault
+            → UnlessOutOfMemory result (Reports result fault) }
+    {
+        match read_resolved(alloc, self.writer, self.reader, bytes, limits) {
+            Ok(answer) => Ok(answer),
+            Err(ReadResolveError::Read(e)) => Err(e),
+            Err(ReadResolveError::Resolve(_)) => unreachable!(),
+        }
+    }
+}

@@ -1,0 +1,83 @@
+ghost use Rattle.std.specs.Prelude.{◌≡◌, ◌↔◌, ◌<◌, ◌≤◌, ◌*◌, length, IfOk};
+ghost use Rattle.avro_schema.specs.Seen.{value_of};
+ghost use Rattle.avro_schema.specs.SeenSchema.{schema_nodes};
+ghost use Rattle.avro_schema.specs.Value.{Value, size, depth};
+ghost use Rattle.avro_resolve.specs.Fault.{ResolutionFault};
+ghost use Rattle.avro_resolve.specs.Seen.{fault_of};
+ghost use Rattle.avro_judge.specs.Answered.{IsApproved, IfApproved, IfRefuted, IsUndecided};
+ghost use Rattle.avro_judge.specs.Compatible.{AreCompatible, ErrsWith, ErrsOnlyAbove, ErrsLeastDeep};
+
+use std::alloc::Global;
+
+use avro_resolve::{ResolveError, matches, resolve};
+use avro_schema::{Datum, Memory, Node, Schema};
+
+use crate::approval::Approved;
+use crate::limits::JudgeLimits;
+use crate::verdict::{Cause, Refutation, Verdict};
+
+/// Whether every datum of the writer's schema resolves into the reader's, of any size.
+///
+/// Up to the pair limit the two schemas are approved exactly where they are compatible; else a least
+/// datum that fails is answered, within the size and the depth limit, or the limit that bars it.
+///
+/// # Errors
+///
+/// Memory ran out.
+pub fn judge<'a>(
+    alloc: Global,
+    writer: &'a Schema,
+    reader: &'a Schema,
+    limits: &JudgeLimits,
+) -> Result<Verdict<'a>, Memory>
+    // The pair limit is passed exactly where the product of the numbers of nodes is over it.
+    ensures pairs { IfOk result (λ v. IsUndecided v Cause.Pairs
+        ↔ (limits.now.pairs < length (schema_nodes writer.now) * length (schema_nodes reader.now))) }
+
+    // An approval is of these two schemas, and no datum of the writer's fails, of any size.
+    ensures of_these { IfOk result (λ v. IfApproved v (λ a. a ≡ (writer.now, reader.now))) }
+    ensures sound { IfOk result (λ v. IfApproved v (λ _. AreCompatible (schema_nodes writer.now) (schema_nodes reader.now))) }
+    ensures complete { IfOk result (λ v. length (schema_nodes writer.now) * length (schema_nodes reader.now) ≤ limits.now.pairs
+        → AreCompatible (schema_nodes writer.now) (schema_nodes reader.now) → IsApproved v) }
+
+    // The datum of a refutation is the writer's, and resolution gives it the stated fault.
+    ensures errs { IfOk result (λ v. IfRefuted v (λ r.
+        ErrsWith (schema_nodes writer.now) (schema_nodes reader.now) (value_of r.datum) (fault_of r.fault))) }
+    // No datum that fails has fewer nodes.
+    ensures least { IfOk result (λ v. IfRefuted v (λ r. (w : Value) (fault : ResolutionFault)
+        → ErrsWith (schema_nodes writer.now) (schema_nodes reader.now) w fault → size (value_of r.datum) ≤ size w)) }
+    ensures within { IfOk result (λ v. IfRefuted v (λ r.
+        (size (value_of r.datum) ≤ limits.now.size) × (depth (value_of r.datum) ≤ limits.now.limits.depth))) }
+
+    // The other two causes, up to the pair limit and not past it.
+    ensures size { IfOk result (λ v. IsUndecided v Cause.Size
+        ↔ ((length (schema_nodes writer.now) * length (schema_nodes reader.now) ≤ limits.now.pairs)
+            × ErrsOnlyAbove (schema_nodes writer.now) (schema_nodes reader.now) limits.now.size)) }
+    ensures depth { IfOk result (λ v. IsUndecided v Cause.Depth
+        ↔ ((length (schema_nodes writer.now) * length (schema_nodes reader.now) ≤ limits.now.pairs)
+            × ErrsLeastDeep (schema_nodes writer.now) (schema_nodes reader.now) limits.now.size limits.now.limits.depth)) }
+{
+    let pairs = writer.len() as u64 * reader.len() as u64;
+    if pairs > u64::from(limits.pairs()) {
+        return Ok(Verdict::Undecided(Cause::Pairs));
+    }
+    if matches(writer, writer.root(), reader, reader.root()) {
+        return Ok(Verdict::Approved(Approved::of(writer, reader)));
+    }
+    let datum = least_datum(*writer.node(writer.root()));
+    match resolve(alloc, writer, reader, &datum) {
+        Err(ResolveError::Fault(fault)) => Ok(Verdict::Refuted(Refutation { datum, fault })),
+        Err(ResolveError::Memory) => Err(Memory),
+        Ok(_) => unreachable!(),
+    }
+}
+
+/// A datum of the node with the fewest nodes.
+fn least_datum(node: Node) -> Datum {
+    match node {
+        Node::Null => Datum::Null,
+        Node::Boolean => Datum::Bool(false),
+        Node::Int => Datum::Int(0),
+        Node::Long => Datum::Long(0),
+    }
+}

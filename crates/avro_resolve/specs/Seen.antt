@@ -1,0 +1,55 @@
+-- How contracts see faults and errors of resolution.
+use Rattle.std.specs.Prelude.{◌≡◌, ℕ, List, Result, Ok, Err}
+use Rattle.avro_schema.specs.Value.{Value}
+use Rattle.avro_schema.specs.Seen.{value_of}
+use Rattle.avro_schema.specs.declared.datum.Datum.{Datum}
+use Rattle.avro_binary.specs.declared.error.ReadError.{ReadError}
+use Rattle.avro_binary.specs.declared.error.ReadError.TheVariants.{OutOfMemory}
+use Rattle.avro_resolve.specs.Fault.{FaultCause, no_match, no_branch, missing_field_at, no_symbol, not_utf8, ResolutionFault}
+use Rattle.avro_resolve.specs.Resolve.{Resolved}
+use Rattle.avro_resolve.specs.declared.error.Fault.{Fault}
+use Rattle.avro_resolve.specs.declared.error.FaultKind.{FaultKind}
+use Rattle.avro_resolve.specs.declared.error.ResolveError.{ResolveError}
+use Rattle.avro_resolve.specs.declared.error.ReadResolveError.{ReadResolveError}
+
+abbrev pub cause_of : FaultKind → FaultCause
+cause_of FaultKind.NoMatch = no_match
+cause_of FaultKind.NoBranch = no_branch
+cause_of (FaultKind.MissingField place) = missing_field_at place
+cause_of FaultKind.NoSymbol = no_symbol
+cause_of FaultKind.NotUtf8 = not_utf8
+
+abbrev pub fault_of : Fault → ResolutionFault
+fault_of f = record { cause = cause_of f.kind; path = f.path.items }
+
+-- the result is what resolution gives, unless memory ran out
+abbrev pub Answers : Result Datum ResolveError → Resolved → Type 0
+Answers (Ok d) resolved = resolved ≡ Ok (value_of d)
+Answers (Err (ResolveError.Fault f)) resolved = resolved ≡ Err (fault_of f)
+Answers (Err ResolveError.Memory) resolved = Unit {0}
+
+-- memory ran out, or else P holds
+abbrev pub UnlessOutOfMemory : {A : Type 0} → Result A ReadResolveError → Type 0 → Type 0
+UnlessOutOfMemory (Err (ReadResolveError.Read OutOfMemory)) P = Unit {0}
+UnlessOutOfMemory r P = P
+
+-- the result is what resolution gives of a datum whose encoding has this length
+abbrev pub AnswersAfter : Result (Datum × ℕ) ReadResolveError → Resolved → ℕ → Type 0
+AnswersAfter (Ok r) resolved len = (resolved ≡ Ok (value_of r.0)) × (r.1 ≡ len)
+AnswersAfter (Err (ReadResolveError.Resolve f)) resolved len = resolved ≡ Err (fault_of f)
+AnswersAfter (Err (ReadResolveError.Read e)) resolved len = ⊥
+
+-- P of the error of reading, where the result is one
+abbrev pub IfUnread : {A : Type 0} → Result A ReadResolveError → (ReadError → Type 0) → Type 0
+IfUnread (Err (ReadResolveError.Read e)) P = P e
+IfUnread r P = Unit {0}
+
+-- P of the fault of resolution, where the result is one
+abbrev pub IfUnresolved : {A : Type 0} → Result A ReadResolveError → (Fault → Type 0) → Type 0
+IfUnresolved (Err (ReadResolveError.Resolve f)) P = P f
+IfUnresolved r P = Unit {0}
+
+-- the result is an error of reading with P
+abbrev pub IsUnread : {A : Type 0} → Result A ReadResolveError → (ReadError → Type 0) → Type 0
+IsUnread (Err (ReadResolveError.Read e)) P = P e
+IsUnread r P = ⊥

@@ -1,0 +1,52 @@
+ghost use Rattle.std.specs.Prelude.{◌≡◌, true, IfOk};
+ghost use Rattle.avro_schema.specs.Fits.{fits};
+ghost use Rattle.avro_schema.specs.Node.{root_of};
+ghost use Rattle.avro_schema.specs.Seen.{value_of};
+ghost use Rattle.avro_schema.specs.SeenSchema.{schema_nodes};
+ghost use Rattle.avro_resolve.specs.Resolve.{resolve_root};
+ghost use Rattle.avro_resolve.specs.Seen.{Answers};
+
+use std::alloc::Global;
+
+use avro_schema::{Datum, Node, Schema};
+
+use crate::error::{Fault, FaultKind, ResolveError};
+use crate::matching::matches;
+
+/// What a datum of the writer's schema is for the reader's schema.
+///
+/// # Errors
+///
+/// The first fault, with its place in the datum.
+pub fn resolve(
+    alloc: Global,
+    writer: &Schema,
+    reader: &Schema,
+    datum: &Datum,
+) -> Result<Datum, ResolveError>
+    requires { fits (schema_nodes writer.now) (root_of (schema_nodes writer.now)) (value_of datum.now) ≡ true }
+    ensures answers { Answers result (resolve_root (schema_nodes writer.now) (schema_nodes reader.now) (value_of datum.now)) }
+    ensures fitting { IfOk result (λ u. fits (schema_nodes reader.now) (root_of (schema_nodes reader.now)) (value_of u) ≡ true) }
+{
+    if !matches(writer, writer.root(), reader, reader.root()) {
+        return Err(ResolveError::Fault(Fault {
+            kind: FaultKind::NoMatch,
+            path: Vec::new(alloc),
+        }));
+    }
+    Ok(match datum {
+        Datum::Null => Datum::Null,
+        Datum::Bool(value) => Datum::Bool(*value),
+        Datum::Int(value) => int_as(*reader.node(reader.root()), *value),
+        Datum::Long(value) => Datum::Long(*value),
+    })
+}
+
+/// An int, or the long of its value where the reader has a long.
+fn int_as(reader: Node, value: i32) -> Datum {
+    if reader == Node::Long {
+        Datum::Long(i64::from(value))
+    } else {
+        Datum::Int(value)
+    }
+}
