@@ -1,2 +1,4 @@
 //! Schema resolution.
 #![tactic(auto)]
+
+pub mod laws;

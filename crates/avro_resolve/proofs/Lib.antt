@@ -1,0 +1,3 @@
+pub mod Sources
+pub mod TextBytes
+pub mod MatchTest
