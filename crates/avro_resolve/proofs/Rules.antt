@@ -1,0 +1,25 @@
+-- What a schema's rules say of each of its nodes.
+use Rattle.std.proofs.Common.{◌≡◌, ℕ, zero, suc, Bool, true, ◌&&◌, List, [], ◌∷◌, length, refl, arith}
+use Rattle.std.specs.Prelude.{slice_get, unwrap_or, nat_lt, nat_le, filter_map}
+use Rattle.std.specs.List.{list_all}
+use Rattle.std.proofs.lemmas.Bool.{and_parts}
+use Rattle.avro_name.specs.Name.{same_name}
+use Rattle.avro_schema.specs.Node.{Node, node_at, node_name, edges_of}
+use Rattle.avro_schema.specs.Distinct.{are_distinct}
+use Rattle.avro_schema.specs.WellFormed.{is_schema, is_good_node, are_good_nodes, meets_its_rules, max_nodes, is_edge, has_good_names}
+
+-- each node of a list meets the rules of its kind
+abbrev pub MeetRules : List Node → Type 0
+MeetRules nodes = (place : ℕ) → meets_its_rules nodes (node_at nodes place) ≡ true
+
+rules-at : (nodes : List Node) (from : ℕ) (ns : List Node) (k : ℕ) → are_good_nodes nodes from ns ≡ true → meets_its_rules nodes (unwrap_or (slice_get ns k) Node.null) ≡ true
+rules-at nodes from [] k h = refl
+rules-at nodes from (n ∷ ns) zero h = grind arith
+rules-at nodes from (n ∷ ns) (suc k) h = rules-at nodes (suc from) ns k (and_parts (is_good_node nodes from n) (are_good_nodes nodes (suc from) ns) h).1
+
+good-all : (nodes : List Node) → is_schema nodes ≡ true → are_good_nodes nodes 0 nodes ≡ true
+good-all nodes h = grind arith
+
+-- so do those of a schema
+pub MeetRules-from_is_schema : (nodes : List Node) → is_schema nodes ≡ true → MeetRules nodes
+MeetRules-from_is_schema nodes h place = rules-at nodes 0 nodes place (good-all nodes h)
