@@ -5,3 +5,5 @@ pub mod Outcomes
 pub mod AtMatch
 pub mod Rules
 pub mod Branches
+pub mod RecordFields
+pub mod Resolved

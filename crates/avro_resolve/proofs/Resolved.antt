@@ -1,0 +1,1 @@
+-- What a datum resolves to fits the reader's node.
