@@ -1,19 +1,18 @@
 -- What a datum becomes at a matching node that is no union fits that node.
-use Rattle.std.proofs.Common.{◌≡◌, ℕ, ◌<◌, ℤ, pos, negsuc, ◌^◌, ◌-◌, Bool, true, false, cond, ◌&&◌, List, [], ◌∷◌, length, Option, Some, None, Result, Ok, Err, refl, ap, ◌∙◌, subst, arith}
-use Rattle.std.specs.Prelude.{IfOk, is_some, int_le, ◌==◌, nat_lt, bytes_eq, unwrap_or}
+use Rattle.std.proofs.Common.{◌≡◌, ℕ, ℤ, pos, negsuc, Bool, true, false, List, [], length, Option, Some, None, Ok, refl, arith}
+use Rattle.std.specs.Prelude.{IfOk, is_some, ◌==◌, nat_lt, bytes_eq, unwrap_or}
 use Rattle.std.specs.List.{list_all, position}
 use Rattle.std.specs.Str.{is_utf8}
-use Rattle.std.proofs.lemmas.Bool.{and_parts, and_from, both_ways, eqb-true, eq-eqb, lt-ltb}
+use Rattle.std.proofs.lemmas.Bool.{and_parts, and_from, both_ways, lt-ltb}
 use Rattle.std.proofs.lemmas.List.Quantifiers.{position-Some}
 use Rattle.avro_name.specs.Name.{Name}
-use Rattle.avro_schema.specs.Value.{Value, Values, Entries, values_count, entries_count, keys_of}
-use Rattle.avro_schema.specs.Node.{Node, FieldNode, node_at, items_node, values_node, fields_of, symbols_of, fixed_length, field_places}
-use Rattle.avro_schema.specs.Distinct.{are_distinct}
-use Rattle.avro_schema.specs.Fits.{is_int, is_long, is_count, are_bytes, is_text, is_some_and, fits, each_fits, entries_fit, fields_fit}
+use Rattle.avro_schema.specs.Value.{Value}
+use Rattle.avro_schema.specs.Node.{Node, FieldNode, items_node, values_node, fields_of, fixed_length}
+use Rattle.avro_schema.specs.Fits.{is_int, is_long, is_count, are_bytes, is_text, is_some_and, fits}
 use Rattle.avro_schema.specs.WellFormed.{branch_kind, meets_its_rules, is_enum}
-use Rattle.avro_resolve.specs.Match.{are_alike, Matches, writer_union, reader_union, nulls, booleans, ints, longs, int_to_long, bytes_alike, strings, string_to_bytes, bytes_to_string, arrays, maps, records, enums, fixeds}
+use Rattle.avro_resolve.specs.Match.{Matches, nulls, booleans, ints, longs, int_to_long, bytes_alike, strings, string_to_bytes, bytes_to_string, arrays, maps, records, fixeds}
 use Rattle.avro_resolve.specs.Fault.{fault_here, not_utf8}
-use Rattle.avro_resolve.specs.Resolve.{int_as, bytes_as, string_as, enum_as, enum_or_default, part_at, fields_at}
+use Rattle.avro_resolve.specs.Resolve.{int_as, bytes_as, string_as, enum_as, enum_or_default, fields_at}
 use Rattle.avro_resolve.proofs.TextBytes.{below-from_is_utf8}
 use Rattle.avro_resolve.proofs.Outcomes.{IfOk-cond}
 

@@ -1,16 +1,15 @@
 -- How a reader's union takes a value into its first branch that matches.
-use Rattle.std.proofs.Common.{◌≡◌, ℕ, zero, suc, ◌+◌, ◌<◌, Bool, true, false, cond, ◌&&◌, List, [], ◌∷◌, length, Option, Some, None, Result, Ok, Err, refl, arith}
-use Rattle.std.specs.Prelude.{IfOk, is_some, slice_get, unwrap_or, nat_lt, filter_map}
+use Rattle.std.proofs.Common.{◌≡◌, ℕ, zero, suc, ◌+◌, ◌<◌, Bool, true, false, cond, List, [], ◌∷◌, length, Option, Some, None, refl, arith}
+use Rattle.std.specs.Prelude.{IfOk, is_some, slice_get, unwrap_or}
 use Rattle.std.specs.List.{list_all}
-use Rattle.std.proofs.lemmas.Bool.{and_parts, both_ways, cond_both}
+use Rattle.std.proofs.lemmas.Bool.{and_parts}
 use Rattle.avro_schema.specs.Value.{Value}
 use Rattle.avro_schema.specs.Node.{Node, node_at}
 use Rattle.avro_schema.specs.Fits.{fits, is_some_and}
-use Rattle.avro_schema.specs.Distinct.{are_distinct}
-use Rattle.avro_schema.specs.WellFormed.{branch_kind, same_kind, is_union, meets_its_rules}
+use Rattle.avro_schema.specs.WellFormed.{branch_kind, is_union, meets_its_rules}
 use Rattle.avro_resolve.specs.Match.{Matches, is_match, first_match, first_match_from}
 use Rattle.avro_resolve.specs.Fault.{fault_here, no_match}
-use Rattle.avro_resolve.specs.Resolve.{Resolved, matched, branch_node, into_branch, through, result_map}
+use Rattle.avro_resolve.specs.Resolve.{Resolved, matched, branch_node, into_branch, through}
 use Rattle.avro_resolve.proofs.Outcomes.{IfOk-cond, IfOk-result_map}
 use Rattle.avro_resolve.proofs.MatchTest.{match_within-sound}
 use Rattle.avro_resolve.proofs.AtMatch.{FitsAt, IsPlain}
@@ -50,7 +49,7 @@ matched-fits : (writer reader : List Node) (w r : Node) (resolve : Node → Reso
     → (Matches writer reader w r → IfOk (resolve r) (FitsAt reader r)) → IfOk (matched writer reader w r resolve) (FitsAt reader r)
 matched-fits writer reader w r resolve h =
     IfOk-cond (FitsAt reader r) (is_match writer reader w r) (resolve r) (fault_here no_match)
-      (λ e. h (match_within-sound (length writer) writer reader w r e))
+    (λ e. h (match_within-sound (length writer) writer reader w r e))
 
 -- what resolution makes of a value at each node that is no union
 abbrev pub EachFits : List Node → List Node → Node → (Node → Resolved) → Type 0
@@ -65,8 +64,8 @@ branch-fits writer reader w places resolve rules is each (Some k) e =
     let low : k < length places = omega (arith, first_match-within 0 writer reader w places k e) in
     let q = branch_node reader places k in
     IfOk-result_map (FitsAt reader q) (FitsAt reader (Node.union places)) (Value.union k) (matched writer reader w q resolve)
-      (matched-fits writer reader w q resolve (λ m. each q m (plain-branch reader places k is low) (rules (unwrap_or (slice_get places k) 0))))
-      (λ v h. there (λ place. fits reader (node_at reader place) v) places k low h)
+    (matched-fits writer reader w q resolve (λ m. each q m (plain-branch reader places k is low) (rules (unwrap_or (slice_get places k) 0))))
+    (λ v h. there (λ place. fits reader (node_at reader place) v) places k low h)
 
 -- at any node
 pub through-fits : (writer reader : List Node) (w r : Node) (resolve : Node → Resolved) → MeetRules reader → meets_its_rules reader r ≡ true

@@ -1,9 +1,9 @@
 -- What the test of a match says.
-use Rattle.std.proofs.Common.{◌≡◌, ℕ, zero, suc, Bool, true, false, ◌&&◌, List, Option, Some, None, refl, subst}
+use Rattle.std.proofs.Common.{◌≡◌, ℕ, suc, true, false, ◌&&◌, List, refl, subst}
 use Rattle.std.specs.Prelude.{◌==◌}
 use Rattle.std.proofs.lemmas.Bool.{and_parts, both_ways, eqb-true}
 use Rattle.avro_name.specs.Name.{Name}
-use Rattle.avro_schema.specs.Node.{Node, FieldNode, node_at}
+use Rattle.avro_schema.specs.Node.{Node, node_at}
 use Rattle.avro_resolve.specs.Match.{are_alike, Matches, match_within, writer_union, reader_union, nulls, booleans, ints, longs, int_to_long, bytes_alike, strings, string_to_bytes, bytes_to_string, arrays, maps, records, enums, fixeds}
 
 fixed_pair : (writer reader : List Node) (a b : Name) (a_aliases b_aliases : List Name) (n m : ℕ) → (are_alike a b b_aliases && n == m) ≡ true

@@ -1,5 +1,5 @@
 -- What holds of a result's value, where there is one, through the steps of resolution.
-use Rattle.std.proofs.Common.{◌≡◌, ℕ, Bool, true, cond, Result, Ok, Err, refl}
+use Rattle.std.proofs.Common.{◌≡◌, ℕ, Bool, true, cond, Result, Ok, Err}
 use Rattle.std.specs.Prelude.{IfOk}
 use Rattle.std.proofs.lemmas.Bool.{cond_both}
 use Rattle.avro_resolve.specs.Fault.{ResolutionFault}

@@ -1,17 +1,17 @@
 -- Each field of a reader's record gets a value that fits it: that of its source, or its default.
-use Rattle.std.proofs.Common.{◌≡◌, ℕ, zero, suc, ◌+◌, ◌<◌, ◌≤◌, ◌⊎◌, inl, inr, Bool, true, false, cond, ◌&&◌, ◌||◌, List, [], ◌∷◌, ◌++◌, length, drop, get_or, Option, Some, None, Result, Ok, Err, refl, ap, sym, ◌∙◌, subst, ⊎_elim, arith}
-use Rattle.std.specs.Prelude.{IfOk, is_some, slice_get, unwrap_or, map, bytes_eq, ◌==◌}
+use Rattle.std.proofs.Common.{◌≡◌, ℕ, zero, suc, ◌<◌, ◌≤◌, Bool, true, false, cond, ◌&&◌, ◌||◌, List, [], ◌∷◌, length, drop, Option, Some, None, Result, refl, sym, subst, ⊎_elim, arith}
+use Rattle.std.specs.Prelude.{IfOk, is_some, slice_get, unwrap_or, bytes_eq, ◌==◌}
 use Rattle.std.specs.List.{list_all, flat_map}
-use Rattle.std.proofs.lemmas.Bool.{and_parts, and_from, both_ways, cond-true, cond-false, eq-eqb, ne_eqb, cases_eq, cases_Bool}
+use Rattle.std.proofs.lemmas.Bool.{and_parts, and_from, cond-true, cond-false, eq-eqb, ne_eqb, cases_eq}
 use Rattle.std.proofs.lemmas.Result.{IfOk-weaker}
-use Rattle.avro_schema.specs.Value.{Value, Values, no_values, value}
-use Rattle.avro_schema.specs.Node.{Node, FieldNode, node_at, field_places, fields_of}
+use Rattle.avro_schema.specs.Value.{Value}
+use Rattle.avro_schema.specs.Node.{Node, FieldNode, node_at, field_places}
 use Rattle.avro_schema.specs.Distinct.{are_distinct}
-use Rattle.avro_schema.specs.Fits.{fits, fields_fit, is_some_and}
+use Rattle.avro_schema.specs.Fits.{fits, fields_fit}
 use Rattle.avro_schema.specs.WellFormed.{field_names, has_good_default, are_fields, takes_first_branches}
 use Rattle.avro_resolve.specs.Source.{source_of, reader_field, missing_field, missing_field_from}
 use Rattle.avro_resolve.specs.Fault.{ResolutionFault}
-use Rattle.avro_resolve.specs.Resolve.{Resolved, Sourced, inside, both, with_sourced, sourced_at, field_value, field_values}
+use Rattle.avro_resolve.specs.Resolve.{Resolved, Sourced, inside, with_sourced, sourced_at, field_value, field_values}
 use Rattle.avro_resolve.proofs.Sources.{IsField, here, later, first_place-named, reader_field-source}
 use Rattle.avro_resolve.proofs.Outcomes.{IfOk-inside, IfOk-both}
 use Rattle.avro_resolve.proofs.AtMatch.{FitsAt}
@@ -26,9 +26,9 @@ sourced-none : (reader : List Node) (ws rs : List FieldNode) (place to : ℕ) (f
     → AreSourced reader ws rs (suc place) to found → AreSourced reader ws rs place to found
 sourced-none reader ws rs place to found none more k f low high is =
     ⊎_elim
-      (λ e. absurd (apart k e is))
-      (λ ne. more k f (omega arith) high is)
-      (cases_eq place k)
+    (λ e. absurd (apart k e is))
+    (λ ne. more k f (omega arith) high is)
+    (cases_eq place k)
   where
     apart : (j : ℕ) → place ≡ j → reader_field ws rs j ≡ Some f → ⊥
     apart j e some = let here-none : reader_field ws rs j ≡ None = subst (λ (i : ℕ). reader_field ws rs i ≡ None) e none in cc
@@ -38,16 +38,17 @@ sourced-some : (reader : List Node) (ws rs : List FieldNode) (place to : ℕ) (f
     → FitsAt reader (node_at reader g.node) v → AreSourced reader ws rs (suc place) to found → AreSourced reader ws rs place to ((place, v) ∷ found)
 sourced-some reader ws rs place to found g v some fit more k f low high is =
     ⊎_elim
-      (λ e. first e)
-      (λ ne. subst (λ (u : Value). FitsAt reader (node_at reader f.node) u) (sym (cond-false (place == k) v (sourced_at found k) (ne_eqb place k ne))) (more k f (omega arith) high is))
-      (cases_eq place k)
+    (λ e. first e)
+    (λ ne. subst (λ (u : Value). FitsAt reader (node_at reader f.node) u) (sym (cond-false (place == k) v (sourced_at found k) (ne_eqb place k ne))) (more k f (omega arith) high is))
+    (cases_eq place k)
   where
     same_field : place ≡ k → g ≡ f
     same_field e = let at-k : reader_field ws rs k ≡ Some g = subst (λ (i : ℕ). reader_field ws rs i ≡ Some g) e some in cc
+
     first : place ≡ k → FitsAt reader (node_at reader f.node) (cond (place == k) v (sourced_at found k))
     first e =
         subst (λ (u : Value). FitsAt reader (node_at reader f.node) u) (sym (cond-true (place == k) v (sourced_at found k) (eq-eqb place k e)))
-          (subst (λ (h : FieldNode). FitsAt reader (node_at reader h.node) v) (same_field e) fit)
+        (subst (λ (h : FieldNode). FitsAt reader (node_at reader h.node) v) (same_field e) fit)
 
 -- one step over the writer's fields
 pub with_sourced-fits : (reader : List Node) (ws rs : List FieldNode) (place to : ℕ) (found : Option FieldNode) (resolve : FieldNode → Resolved)
@@ -58,9 +59,9 @@ with_sourced-fits reader ws rs place to None resolve others e each more =
     IfOk-weaker others (AreSourced reader ws rs (suc place) to) (AreSourced reader ws rs place to) (λ found h. sourced-none reader ws rs place to found e h) more
 with_sourced-fits reader ws rs place to (Some g) resolve others e each more =
     IfOk-both (FitsAt reader (node_at reader g.node)) (AreSourced reader ws rs (suc place) to) (AreSourced reader ws rs place to)
-      (λ v found. (place, v) ∷ found) (inside place (resolve g)) others
-      (IfOk-inside (FitsAt reader (node_at reader g.node)) place (resolve g) (each g)) more
-      (λ v found fit rest. sourced-some reader ws rs place to found g v e fit rest)
+    (λ v found. (place, v) ∷ found) (inside place (resolve g)) others
+    (IfOk-inside (FitsAt reader (node_at reader g.node)) place (resolve g) (each g)) more
+    (λ v found fit rest. sourced-some reader ws rs place to found g v e fit rest)
 
 -- the first of what is left of some places, and what is left after it
 pub place_at : (places : List ℕ) (i p : ℕ) (ps : List ℕ) → drop i places ≡ p ∷ ps → (unwrap_or (slice_get places i) 0 ≡ p) × (drop (suc i) places ≡ ps)
@@ -112,8 +113,10 @@ value-fits reader ws rs found g none good all is = by_source (source_of ws g) re
   where
     distinct : are_distinct bytes_eq (flat_map field_names rs) ≡ true
     distinct = grind arith
+
     defaults : list_all (has_good_default reader) rs ≡ true
     defaults = grind arith
+
     by_source : (source : Option ℕ) → source_of ws g ≡ source → FitsAt reader (node_at reader g.node) (field_value ws found g)
     by_source None e =
         let there : (is_some (source_of ws g) || is_some g.default) ≡ true = present 0 ws rs g none is in
@@ -126,7 +129,7 @@ values-fit : (reader : List Node) (ws : List FieldNode) (found : Sourced) (gs : 
 values-fit reader ws found [] each = refl
 values-fit reader ws found (g ∷ gs) each =
     and_from (fits reader (node_at reader g.node) (field_value ws found g)) (fields_fit reader (field_places gs) (field_values ws found gs))
-      (each g here) (values-fit reader ws found gs (λ f is. each f (later is)))
+    (each g here) (values-fit reader ws found gs (λ f is. each f (later is)))
 
 -- the reader's fields fit, where the writer's places are sourced
 pub field_values-fit : (reader : List Node) (ws rs : List FieldNode) (found : Sourced) → missing_field ws rs ≡ None → are_fields reader rs ≡ true

@@ -1,12 +1,9 @@
 -- What a schema's rules say of each of its nodes.
-use Rattle.std.proofs.Common.{◌≡◌, ℕ, zero, suc, Bool, true, ◌&&◌, List, [], ◌∷◌, length, refl, arith}
-use Rattle.std.specs.Prelude.{slice_get, unwrap_or, nat_lt, nat_le, filter_map}
-use Rattle.std.specs.List.{list_all}
+use Rattle.std.proofs.Common.{◌≡◌, ℕ, zero, suc, true, List, [], ◌∷◌, refl, arith}
+use Rattle.std.specs.Prelude.{slice_get, unwrap_or}
 use Rattle.std.proofs.lemmas.Bool.{and_parts}
-use Rattle.avro_name.specs.Name.{same_name}
-use Rattle.avro_schema.specs.Node.{Node, node_at, node_name, edges_of}
-use Rattle.avro_schema.specs.Distinct.{are_distinct}
-use Rattle.avro_schema.specs.WellFormed.{is_schema, is_good_node, are_good_nodes, meets_its_rules, max_nodes, is_edge, has_good_names}
+use Rattle.avro_schema.specs.Node.{Node, node_at}
+use Rattle.avro_schema.specs.WellFormed.{is_schema, is_good_node, are_good_nodes, meets_its_rules}
 
 -- each node of a list meets the rules of its kind
 abbrev pub MeetRules : List Node → Type 0

@@ -1,7 +1,7 @@
 -- Which reader's field a writer's field is the source of: no two, since names and aliases are distinct.
-use Rattle.std.proofs.Common.{◌≡◌, ℕ, suc, ◌<◌, Bool, true, false, not, ◌&&◌, ◌||◌, cond, List, [], ◌∷◌, ◌++◌, Option, Some, None, length, get_or, refl, ap, ◌∙◌, subst, ⊎_elim}
-use Rattle.std.specs.Prelude.{bytes_eq, ◌==◌}
-use Rattle.std.specs.List.{list_any, list_all, flat_map, position}
+use Rattle.std.proofs.Common.{◌≡◌, ℕ, ◌<◌, true, false, not, List, [], ◌∷◌, ◌++◌, Option, Some, None, length, get_or, refl, ap, ◌∙◌, subst, ⊎_elim}
+use Rattle.std.specs.Prelude.{bytes_eq}
+use Rattle.std.specs.List.{list_any, flat_map}
 use Rattle.std.proofs.lemmas.Bool.{and_parts, or_cases, or_left, or_right, both_ways, not-true, eqb-true, eq-eqb, cond-true, cond-false, false_from_ne_true}
 use Rattle.std.proofs.lemmas.Slice.Eq.{bytes_eq-Decides}
 use Rattle.std.proofs.lemmas.List.Folds.{list_any-append}
@@ -51,16 +51,16 @@ are_distinct-apart n [] ys h a b = both_ways false refl a
 are_distinct-apart n (x ∷ xs) ys h a b =
     let parts = and_parts (not (list_any (bytes_eq x) (xs ++ ys))) (are_distinct bytes_eq (xs ++ ys)) h in
     ⊎_elim
-      (λ e. apart_here e parts.0)
-      (λ e. are_distinct-apart n xs ys parts.1 e b)
-      (or_cases (bytes_eq n x) (list_any (bytes_eq n) xs) a)
+    (λ e. apart_here e parts.0)
+    (λ e. are_distinct-apart n xs ys parts.1 e b)
+    (or_cases (bytes_eq n x) (list_any (bytes_eq n) xs) a)
   where
     apart_here : bytes_eq n x ≡ true → not (list_any (bytes_eq x) (xs ++ ys)) ≡ true → ⊥
     apart_here e none =
         let same : n ≡ x = (bytes_eq-Decides n x).0 e in
         let found : list_any (bytes_eq x) ys ≡ true = subst (λ (m : List ℕ). list_any (bytes_eq m) ys ≡ true) same b in
         both_ways (list_any (bytes_eq x) (xs ++ ys)) (not-true (list_any (bytes_eq x) (xs ++ ys)) none)
-          (list_any-append (bytes_eq x) xs ys ∙ or_right (list_any (bytes_eq x) xs) (list_any (bytes_eq x) ys) found)
+        (list_any-append (bytes_eq x) xs ys ∙ or_right (list_any (bytes_eq x) xs) (list_any (bytes_eq x) ys) found)
 
 -- a field's name is one of all names
 pub field_name-among : (n : List ℕ) (g : FieldNode) (fs : List FieldNode) → IsField g fs
@@ -96,7 +96,7 @@ two_readers ws fs k f g is distinct e same =
     let a = first_place-named ws f (field_names f) k (is_place-equal (source_of ws f) k same) in
     let b = first_place-named ws f (field_names g) k e in
     are_distinct-apart (get_or ws k f).name (field_names f) (flat_map field_names fs) distinct a.1
-      (field_name-among (get_or ws k f).name g fs is b.1)
+    (field_name-among (get_or ws k f).name g fs is b.1)
 
 -- the reader's field that a place is the source of is that of any field that has the source
 pub reader_field-source : (ws rs : List FieldNode) (k : ℕ) (g : FieldNode) → IsField g rs → are_distinct bytes_eq (flat_map field_names rs) ≡ true
@@ -104,4 +104,4 @@ pub reader_field-source : (ws rs : List FieldNode) (k : ℕ) (g : FieldNode) →
 reader_field-source ws rs k g (here {fs = fs}) distinct e = read_first ws fs k g e
 reader_field-source ws rs k g (later {g = f} {fs = fs} is) distinct e =
     read_later ws fs k f g (two_readers ws fs k f g is distinct e)
-      (reader_field-source ws fs k g is (are_distinct-back (field_names f) (flat_map field_names fs) distinct) e)
+    (reader_field-source ws fs k g is (are_distinct-back (field_names f) (flat_map field_names fs) distinct) e)

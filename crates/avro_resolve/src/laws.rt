@@ -11,5 +11,4 @@ ghost use Rattle.avro_resolve.specs.Resolve.{resolve_root};
 pub fn resolved_fits()
     ensures { (writer reader : List Node) (v u : Value) → is_schema writer ≡ true → is_schema reader ≡ true
         → fits writer (root_of writer) v ≡ true → resolve_root writer reader v ≡ Ok u → fits reader (root_of reader) u ≡ true }
-{
-}
+{}
