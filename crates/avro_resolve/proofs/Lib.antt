@@ -7,3 +7,4 @@ pub mod Rules
 pub mod Branches
 pub mod RecordFields
 pub mod Resolved
+pub mod EnoughSteps
