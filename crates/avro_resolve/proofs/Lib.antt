@@ -1,0 +1,10 @@
+pub mod Sources
+pub mod TextBytes
+pub mod MatchTest
+pub mod Outcomes
+pub mod AtMatch
+pub mod Rules
+pub mod Branches
+pub mod RecordFields
+pub mod Resolved
+pub mod EnoughSteps
