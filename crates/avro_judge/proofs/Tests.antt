@@ -1,8 +1,8 @@
 -- What a test of a list says of its elements.
-use Rattle.std.proofs.Common.{◌≡◌, ℕ, zero, suc, Bool, true, false, not, ◌&&◌, ◌||◌, List, [], ◌∷◌, Option, Some, None, drop, ◌⊎◌, inl, inr, refl, sym, ap, ◌∙◌, subst, arith}
+use Rattle.std.proofs.Common.{◌≡◌, ℕ, zero, suc, Bool, true, false, not, ◌&&◌, ◌||◌, List, [], ◌∷◌, Option, Some, None, length, ◌<◌, ◌⊎◌, inl, inr, refl, sym, ap, ◌∙◌, subst, arith}
 use Rattle.std.proofs.lemmas.Bool.{false≢true, true≢false, eqb-true}
 use Rattle.std.specs.Prelude.{◌==◌, slice_get, unwrap_or}
-use Rattle.std.specs.List.{list_all, list_any}
+use Rattle.std.specs.List.{list_all, list_any, prefix_len}
 use Rattle.avro_judge.specs.Closed.{Pair, is_among, same_pair, is_among_pairs}
 
 pub and_left : (a b : Bool) → (a && b) ≡ true → a ≡ true
@@ -62,3 +62,30 @@ pub all_at : {A : Type 0} (test : A → Bool) (xs : List A) (k : ℕ) (x : A) �
 all_at test [] k x all here = absurd (grind arith)
 all_at test (y ∷ ys) zero x all here = grind arith
 all_at test (y ∷ ys) (suc k) x all here = all_at test ys k x (and_right (test y) (list_all test ys) all) here
+
+-- what none passes, the one at a place does not pass
+pub none_at : {A : Type 0} (test : A → Bool) (xs : List A) (k : ℕ) (d : A) → list_any test xs ≡ false → k < length xs
+    → test (unwrap_or (slice_get xs k) d) ≡ false
+none_at test [] k d none within = absurd (omega arith)
+none_at test (x ∷ xs) zero d none within = or_left (test x) (list_any test xs) none
+none_at test (x ∷ xs) (suc k) d none within = none_at test xs k d (or_right (test x) (list_any test xs) none) (omega arith)
+
+-- where one passes, there is a first that does
+pub prefix_len_below : {A : Type 0} (test : A → Bool) (xs : List A) → list_any test xs ≡ true → prefix_len (λ x. not (test x)) xs < length xs
+prefix_len_below test [] some = absurd (false≢true some)
+prefix_len_below test (x ∷ xs) some = first (test x) refl (prefix_len_below test xs)
+  where
+    first : (b : Bool) → test x ≡ b → (list_any test xs ≡ true → prefix_len (λ y. not (test y)) xs < length xs)
+        → prefix_len (λ y. not (test y)) (x ∷ xs) < length (x ∷ xs)
+    first true e later = rw e (omega arith)
+    first false e later =
+        let h = later (or_not (test x) (list_any test xs) some (λ p. true≢false (sym p ∙ e))) in
+        rw e (omega arith)
+
+pub or_from_left : (a b : Bool) → a ≡ true → (a || b) ≡ true
+or_from_left true b h = refl
+or_from_left false b h = absurd (false≢true h)
+
+pub or_from_right : (a b : Bool) → b ≡ true → (a || b) ≡ true
+or_from_right true b h = refl
+or_from_right false b h = h
