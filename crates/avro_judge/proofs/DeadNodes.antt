@@ -1,9 +1,9 @@
 -- No datum fits a node of a dead set.
-use Rattle.std.proofs.Common.{◌≡◌, ℕ, zero, suc, Bool, true, false, not, ◌&&◌, ◌||◌, List, [], ◌∷◌, Option, Some, None, ◌⊎◌, inl, inr, refl, sym, ap, ◌∙◌, subst, arith}
-use Rattle.std.proofs.lemmas.Bool.{false≢true, true≢false, eqb-true}
-use Rattle.std.specs.Prelude.{is_some, is_none, length, slice_get, option_and_then, map, nat_lt}
-use Rattle.std.specs.List.{list_all, list_any}
-use Rattle.avro_schema.specs.Value.{Value, Values, no_values, value, values_count, entries_count, keys_of}
+use Rattle.std.proofs.Common.{◌≡◌, ℕ, Bool, true, ◌&&◌, List, [], ◌∷◌, Option, Some, None, inl, inr, refl}
+use Rattle.std.proofs.lemmas.Bool.{false≢true}
+use Rattle.std.specs.Prelude.{length, slice_get, option_and_then, nat_lt}
+use Rattle.std.specs.List.{list_any}
+use Rattle.avro_schema.specs.Value.{Value, Values, no_values, value, values_count}
 use Rattle.avro_schema.specs.Node.{Node, node_at, branches_of, items_node, values_node, fields_of, symbols_of, fixed_length, field_places}
 use Rattle.avro_schema.specs.Fits.{fits, each_fits, entries_fit, fields_fit, is_some_and, is_count, is_text, are_bytes, is_int, is_long, is_null_node, is_boolean_node, is_int_node, is_long_node, is_bytes_node, is_string_node}
 use Rattle.avro_judge.specs.Closed.{is_among, is_dead, is_dead_node}
@@ -14,45 +14,54 @@ pub dead_at : (writer : List Node) (dead : List ℕ) (p : ℕ) → is_dead write
     → is_dead_node dead (node_at writer p) ≡ true
 dead_at writer dead p all among =
     and_right (nat_lt p (length writer)) (is_dead_node dead (node_at writer p))
-        (all_among (λ place. nat_lt place (length writer) && is_dead_node dead (node_at writer place)) dead p all among)
+    (all_among (λ place. nat_lt place (length writer) && is_dead_node dead (node_at writer place)) dead p all among)
 
--- a node with a part that no union and no record has is not dead
+-- a null is not dead
 null_lives : (dead : List ℕ) (n : Node) → is_null_node n ≡ true → is_dead_node dead n ≡ true → ⊥
 null_lives dead Node.null h d = false≢true d
 null_lives dead _ h d = false≢true h
 
+-- a boolean is not dead
 boolean_lives : (dead : List ℕ) (n : Node) → is_boolean_node n ≡ true → is_dead_node dead n ≡ true → ⊥
 boolean_lives dead Node.boolean h d = false≢true d
 boolean_lives dead _ h d = false≢true h
 
+-- nor is an int
 int_lives : (dead : List ℕ) (n : Node) → is_int_node n ≡ true → is_dead_node dead n ≡ true → ⊥
 int_lives dead Node.int h d = false≢true d
 int_lives dead _ h d = false≢true h
 
+-- nor a long
 long_lives : (dead : List ℕ) (n : Node) → is_long_node n ≡ true → is_dead_node dead n ≡ true → ⊥
 long_lives dead Node.long h d = false≢true d
 long_lives dead _ h d = false≢true h
 
+-- nor bytes
 bytes_live : (dead : List ℕ) (n : Node) → is_bytes_node n ≡ true → is_dead_node dead n ≡ true → ⊥
 bytes_live dead Node.bytes h d = false≢true d
 bytes_live dead _ h d = false≢true h
 
+-- nor a string
 string_lives : (dead : List ℕ) (n : Node) → is_string_node n ≡ true → is_dead_node dead n ≡ true → ⊥
 string_lives dead Node.string h d = false≢true d
 string_lives dead _ h d = false≢true h
 
+-- nor an array
 array_lives : (dead : List ℕ) (test : ℕ → Bool) (n : Node) → is_some_and test (items_node n) ≡ true → is_dead_node dead n ≡ true → ⊥
 array_lives dead test (Node.array place) h d = false≢true d
 array_lives dead test _ h d = false≢true h
 
+-- nor a map
 map_lives : (dead : List ℕ) (test : ℕ → Bool) (n : Node) → is_some_and test (values_node n) ≡ true → is_dead_node dead n ≡ true → ⊥
 map_lives dead test (Node.map_of place) h d = false≢true d
 map_lives dead test _ h d = false≢true h
 
+-- nor an enum
 enum_lives : (dead : List ℕ) (test : List (List ℕ) → Bool) (n : Node) → is_some_and test (symbols_of n) ≡ true → is_dead_node dead n ≡ true → ⊥
 enum_lives dead test (Node.enum name aliases symbols default) h d = false≢true d
 enum_lives dead test _ h d = false≢true h
 
+-- nor a fixed
 fixed_lives : (dead : List ℕ) (test : ℕ → Bool) (n : Node) → is_some_and test (fixed_length n) ≡ true → is_dead_node dead n ≡ true → ⊥
 fixed_lives dead test (Node.fixed name aliases count) h d = false≢true d
 fixed_lives dead test _ h d = false≢true h
@@ -76,7 +85,7 @@ fields_are_dead : (writer : List Node) (dead : List ℕ) (vs : Values) (n : Node
 fields_are_dead writer dead vs (Node.record_of name aliases fields) h d = (field_places fields, d, h)
 fields_are_dead writer dead vs _ h d = absurd (false≢true h)
 
--- by induction on the datum
+-- by induction on the datum: none fits a node of the set
 mutual
   pub no_dead_datum : (writer : List Node) (dead : List ℕ) → is_dead writer dead ≡ true → (v : Value) (p : ℕ)
       → is_among dead p ≡ true → fits writer (node_at writer p) v ≡ true → ⊥
@@ -91,7 +100,8 @@ mutual
   no_dead_datum writer dead all (Value.string t) p among h =
       string_lives dead (node_at writer p) (and_left (is_string_node (node_at writer p)) (is_text t) h) (dead_at writer dead p all among)
   no_dead_datum writer dead all (Value.array vs) p among h =
-      array_lives dead (λ place. each_fits writer (node_at writer place) vs) (node_at writer p) (and_right (is_count (values_count vs)) _ h) (dead_at writer dead p all among)
+      array_lives dead (λ place. each_fits writer (node_at writer place) vs) (node_at writer p) (and_right (is_count (values_count vs)) _ h)
+      (dead_at writer dead p all among)
   no_dead_datum writer dead all (Value.map_of es) p among h =
       map_lives dead (λ place. entries_fit writer (node_at writer place) es) (node_at writer p) (and_right _ _ h) (dead_at writer dead p all among)
   no_dead_datum writer dead all (Value.union k v) p among h =
@@ -105,6 +115,7 @@ mutual
   no_dead_datum writer dead all (Value.fixed b) p among h =
       fixed_lives dead _ (node_at writer p) (and_right (are_bytes b) _ h) (dead_at writer dead p all among)
 
+  -- nor do values fit places of which one is in the set
   pub no_dead_fields : (writer : List Node) (dead : List ℕ) → is_dead writer dead ≡ true → (vs : Values) (places : List ℕ)
       → list_any (is_among dead) places ≡ true → fields_fit writer places vs ≡ true → ⊥
   no_dead_fields writer dead all no_values [] among h = false≢true among
@@ -112,5 +123,6 @@ mutual
   no_dead_fields writer dead all (value v vs) [] among h = false≢true among
   no_dead_fields writer dead all (value v vs) (place ∷ places) among h =
       elim (or_cases (is_among dead place) (list_any (is_among dead) places) among) [
-          inl first ↦ no_dead_datum writer dead all v place first (and_left (fits writer (node_at writer place) v) (fields_fit writer places vs) h)
-        | inr later ↦ no_dead_fields writer dead all vs places later (and_right (fits writer (node_at writer place) v) (fields_fit writer places vs) h) ]
+        | inl first ↦ no_dead_datum writer dead all v place first (and_left (fits writer (node_at writer place) v) (fields_fit writer places vs) h)
+        | inr later ↦ no_dead_fields writer dead all vs places later (and_right (fits writer (node_at writer place) v) (fields_fit writer places vs) h)
+      ]

@@ -1,18 +1,17 @@
 -- What a closed set says of a pair whose writer's node has a datum.
-use Rattle.std.proofs.Common.{◌≡◌, ℕ, zero, suc, Bool, true, false, not, ◌&&◌, ◌||◌, List, [], ◌∷◌, ◌++◌, Option, Some, None, length, ◌⊎◌, inl, inr, refl, sym, ap, ◌∙◌, subst, cond, arith}
-use Rattle.std.proofs.lemmas.Bool.{false≢true, true≢false, eqb-true, eq-eqb}
-use Rattle.std.proofs.lemmas.List.Folds.{list_all-append}
-use Rattle.std.specs.Prelude.{is_some, is_none, slice_get, unwrap_or, nat_lt, flat_map, ◌==◌}
-use Rattle.std.specs.List.{list_all, list_any}
+use Rattle.std.proofs.Common.{◌≡◌, ℕ, Bool, true, false, not, ◌&&◌, ◌||◌, List, [], ◌∷◌, Option, Some, None, length, refl, sym, ◌∙◌, subst, cond, arith}
+use Rattle.std.proofs.lemmas.Bool.{true≢false, eqb-true}
+use Rattle.std.specs.Prelude.{is_none, slice_get, unwrap_or, nat_lt, ◌==◌}
+use Rattle.std.specs.List.{list_all}
 use Rattle.avro_schema.specs.Value.{Value}
 use Rattle.avro_schema.specs.Node.{Node, FieldNode, node_at, branches_of, field_places}
 use Rattle.avro_schema.specs.Fits.{fits}
 use Rattle.avro_schema.specs.WellFormed.{is_schema}
 use Rattle.avro_resolve.specs.Match.{is_match, first_match}
-use Rattle.avro_resolve.specs.Source.{source_of, is_place, reader_field}
-use Rattle.avro_resolve.specs.Resolve.{Resolved, result_map, matched, into_branch, through, branch_node}
+use Rattle.avro_resolve.specs.Source.{source_of, reader_field}
+use Rattle.avro_resolve.specs.Resolve.{Resolved, matched, through, branch_node}
 use Rattle.avro_judge.specs.Closed.{Pair, is_among, is_among_pairs, is_dead, has_fault_of_kind, has_local_fault, children_of, field_children, is_closed_at}
-use Rattle.avro_judge.proofs.Tests.{and_left, and_right, or_left, or_right, or_not, not_true, not_false, all_at, all_among_pairs}
+use Rattle.avro_judge.proofs.Tests.{and_left, and_right, or_left, or_right, or_not, not_true, not_false, all_among_pairs}
 use Rattle.avro_judge.proofs.NodeKinds.{fault_of_union, fault_of_others, children_of_union, union_of_branches}
 use Rattle.avro_judge.proofs.DeadNodes.{no_dead_datum}
 use Rattle.avro_judge.proofs.Shapes.{plain_branch, first_match_within}
@@ -58,17 +57,19 @@ source_child test fields [] place f here all = absurd (grind arith)
 source_child test fields (g ∷ gs) place f here all = step (source_of fields g) refl (source_child test fields gs place f)
   where
     step : (o : Option ℕ) → source_of fields g ≡ o
-        → (reader_field fields gs place ≡ Some f → list_all test (field_children fields gs) ≡ true → test (record { w = unwrap_or (slice_get (field_places fields) place) 0; r = f.node }) ≡ true)
+        → (reader_field fields gs place ≡ Some f → list_all test (field_children fields gs) ≡ true
+        → test (record { w = unwrap_or (slice_get (field_places fields) place) 0; r = f.node }) ≡ true)
         → test (record { w = unwrap_or (slice_get (field_places fields) place) 0; r = f.node }) ≡ true
     step None e later = later (rw e at here) (rw e at all)
     step (Some source) e later =
         let found = rw e at here in
         let tests = rw e at all in
-        first_child test (field_places fields) source place g f (reader_field fields gs place) found (and_left _ _ tests) (λ there. later there (and_right _ _ tests))
+        first_child test (field_places fields) source place g f (reader_field fields gs place) found (and_left _ _ tests)
+        (λ there. later there (and_right _ _ tests))
 
 module _ (writer reader : List Node) (dead : List ℕ) (pairs : List Pair) (dead_set : is_dead writer dead ≡ true)
     (closed : list_all (is_closed_at writer reader dead pairs) pairs ≡ true) where
-
+  -- a pair of the sets is sound where a datum fits its writer's node
   pub sound : (v : Value) (w r : ℕ) → stands dead pairs (record { w = w; r = r }) ≡ true → fits writer (node_at writer w) v ≡ true
       → IsSound writer reader dead pairs w r (node_at writer w) (node_at reader r)
   sound v w r s h = record { faultless = not_true _ (and_left _ _ open_pair); children = and_right _ _ open_pair }
@@ -80,7 +81,7 @@ module _ (writer reader : List Node) (dead : List ℕ) (pairs : List Pair) (dead
           && list_all (stands dead pairs) (children_of writer reader w r (node_at writer w) (node_at reader r))) ≡ true
       open_pair = or_not (is_among dead w) _ (and_right (nat_lt w (length writer) && nat_lt r (length reader)) _
           (all_among_pairs (is_closed_at writer reader dead pairs) pairs (record { w = w; r = r }) closed
-              (or_not (is_among dead w) (is_among_pairs pairs (record { w = w; r = r })) s live))) live
+          (or_not (is_among dead w) (is_among_pairs pairs (record { w = w; r = r })) s live))) live
 
   -- where neither node is a union
   reach_plain : (w r : ℕ) (n : Node) → branches_of n ≡ None → branches_of (node_at reader r) ≡ None
@@ -91,7 +92,7 @@ module _ (writer reader : List Node) (dead : List ℕ) (pairs : List Pair) (dead
     matches = their_match;
     faultless = or_right _ _ no_fault;
     children = is_sound.children;
-    gives = λ f s. through_plain writer reader n (node_at reader r) f their_plain (succeeds_matched writer reader n (node_at reader r) f their_match s)
+    gives = λ f s. through_plain writer reader n (node_at reader r) f their_plain (succeeds_matched writer reader n (node_at reader r) f their_match s);
   }
     where
       no_fault : (not (is_match writer reader n (node_at reader r)) || has_fault_of_kind n (node_at reader r)) ≡ false
@@ -108,10 +109,8 @@ module _ (writer reader : List Node) (dead : List ℕ) (pairs : List Pair) (dead
   reach_branch formed v w r places here h plain is_sound = chosen (first_match writer reader (node_at writer w) places) refl
       (sym (fault_of_union writer reader (node_at writer w) places plain) ∙ is_sound.faultless)
     where
-      branch : ℕ → ℕ
-      branch k = unwrap_or (slice_get places k) 0
-
-      their_plain : (k : ℕ) → first_match writer reader (node_at writer w) places ≡ Some k → branches_of (node_at reader (unwrap_or (slice_get places k) 0)) ≡ None
+      their_plain : (k : ℕ) → first_match writer reader (node_at writer w) places ≡ Some k
+          → branches_of (node_at reader (unwrap_or (slice_get places k) 0)) ≡ None
       their_plain k taken =
           let found = first_match_within writer reader (node_at writer w) places k taken in
           subst (λ (o : Option ℕ). branches_of (node_at reader (unwrap_or o 0)) ≡ None) (sym found.1) (plain_branch reader r places k found.0 formed here found.1)
@@ -119,7 +118,8 @@ module _ (writer reader : List Node) (dead : List ℕ) (pairs : List Pair) (dead
       child : (k : ℕ) → first_match writer reader (node_at writer w) places ≡ Some k
           → stands dead pairs (record { w = w; r = unwrap_or (slice_get places k) 0 }) ≡ true
       child k taken = and_left (stands dead pairs (record { w = w; r = unwrap_or (slice_get places k) 0 })) true
-          (subst (λ (ps : List Pair). list_all (stands dead pairs) ps ≡ true) (children_of_union writer reader w r (node_at writer w) places k plain taken) is_sound.children)
+          (subst (λ (ps : List Pair). list_all (stands dead pairs) ps ≡ true)
+          (children_of_union writer reader w r (node_at writer w) places k plain taken) is_sound.children)
 
       within : (k : ℕ) → first_match writer reader (node_at writer w) places ≡ Some k
           → Reaches writer reader dead pairs w (node_at writer w) (node_at reader (unwrap_or (slice_get places k) 0))
@@ -138,9 +138,10 @@ module _ (writer reader : List Node) (dead : List ℕ) (pairs : List Pair) (dead
             faultless = way.faultless;
             children = way.children;
             gives = λ f s. rw taken (succeeds_map (Value.union k) (matched writer reader (node_at writer w) (branch_node reader places k) f)
-                (matched_plain writer reader (node_at writer w) (branch_node reader places k) f (their_plain k taken) (way.gives f s)))
+                (matched_plain writer reader (node_at writer w) (branch_node reader places k) f (their_plain k taken) (way.gives f s)));
           }
 
+  -- whatever the reader's node is
   pub reach : is_schema reader ≡ true → (v : Value) (w r : ℕ) → stands dead pairs (record { w = w; r = r }) ≡ true
       → fits writer (node_at writer w) v ≡ true → branches_of (node_at writer w) ≡ None
       → Reaches writer reader dead pairs w (node_at writer w) (node_at reader r)
@@ -154,5 +155,5 @@ module _ (writer reader : List Node) (dead : List ℕ) (pairs : List Pair) (dead
       by_branches (Some places) e =
           let here : node_at reader r ≡ Node.union places = union_of_branches (node_at reader r) places e in
           subst (λ (q : Node). Reaches writer reader dead pairs w (node_at writer w) q) (sym here)
-              (reach_branch formed v w r places here h plain
-                  (subst (λ (q : Node). IsSound writer reader dead pairs w r (node_at writer w) q) here is_sound))
+          (reach_branch formed v w r places here h plain
+          (subst (λ (q : Node). IsSound writer reader dead pairs w r (node_at writer w) q) here is_sound))

@@ -1,2 +1,4 @@
 //! Verdicts on pairs of schemas.
 #![tactic(auto)]
+
+pub mod laws;
