@@ -22,4 +22,4 @@ returns-clause-spelled c =
     let rest = c.loop-rest.rest in
     let len = c.loop-rest.len in
     subst (λ (z : ℤ). AreLeastGroups (zigzag z) (take (len + 1) (set bytes len rest))) (to_z-of_z w64 c.args.value c.ranges.value)
-      (written_all (zigzag (to_z w64 (of_z w64 c.args.value))) rest len bytes (omega arith) c.loop-rest-test.false c.loop-rest.invariant.3)
+    (written_all (zigzag (to_z w64 (of_z w64 c.args.value))) rest len bytes (omega arith) c.loop-rest-test.false c.loop-rest.invariant.3)
