@@ -3,7 +3,7 @@ use Rattle.std.proofs.Common.{◌≡◌, ℕ, zero, suc, ◌+◌, ◌*◌, ◌/�
 use Rattle.std.specs.List.{All}
 use Rattle.std.specs.Prelude.{◌==◌}
 use Rattle.std.proofs.lemmas.Bool.Decides.{nat_tests}
-use Rattle.std.proofs.lemmas.List.{take-append-drop, take_more, take_more_set}
+use Rattle.std.proofs.lemmas.List.{take-append-drop, take_more, take_more_set, get_or-set_other}
 use Rattle.std.proofs.lemmas.List.Elements.{All-take}
 use Rattle.std.proofs.lemmas.Bool.{cases_lt}
 use Rattle.std.proofs.lemmas.Nat.{pow-add}
@@ -40,6 +40,10 @@ pub written_more : (n rest len : ℕ) (bytes : List ℕ) → len < length bytes 
 written_more n rest len bytes short low so_far tail least =
     let b = 128 + rest % 128 in
     rw (take_more_set bytes len b short, append_assoc (take len bytes) (b ∷ []) tail) (so_far (b ∷ tail) (least-more rest tail low least))
+
+-- no place past them is written
+pub zero_more : (bytes : List ℕ) (len b : ℕ) → ((k : ℕ) → len ≤ k → get_or bytes k 0 ≡ 0) → (k : ℕ) → len + 1 ≤ k → get_or (set bytes len b) k 0 ≡ 0
+zero_more bytes len b zeros k h = get_or-set_other bytes len k b 0 (omega arith) ∙ zeros k (omega arith)
 
 -- the last group
 pub written_all : (n rest len : ℕ) (bytes : List ℕ) → len < length bytes → rest < 128

@@ -16,7 +16,7 @@ fn from_zigzag(number: u64) -> i64
     if number % 2 == 0 { half } else { -half - 1 }
 }
 
-/// The number of groups at the front of `bytes`, of which there are at most `most` with a last one of at most `top`, and how many there are.
+/// What the groups at the front of `bytes` stand for, and how many there are: at most `most`, and if as many, a last one of at most `top`.
 #[inline(always)]
 fn read_groups(bytes: &[u8], most: usize, top: u8) -> Result<(u64, usize), VarError>
     requires several { 2 ≤ most }
@@ -36,6 +36,7 @@ fn read_groups(bytes: &[u8], most: usize, top: u8) -> Result<(u64, usize), VarEr
             if index + 1 == most && byte > top {
                 return Err(VarError::OutOfRange);
             }
+            // Others stand before it: a number of one byte was found above.
             if byte == 0 {
                 return Err(VarError::NotShortest);
             }
