@@ -1,10 +1,11 @@
-pub mod Sources
-pub mod TextBytes
+pub mod AtMatch
+pub mod Branches
+pub mod EnoughSteps
+pub mod FirstKinds
 pub mod MatchTest
 pub mod Outcomes
-pub mod AtMatch
-pub mod Rules
-pub mod Branches
 pub mod RecordFields
 pub mod Resolved
-pub mod EnoughSteps
+pub mod Rules
+pub mod Sources
+pub mod TextBytes
