@@ -1,0 +1,2 @@
+mod RowsMatch
+mod RowsResolve
