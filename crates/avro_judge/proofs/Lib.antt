@@ -1,0 +1,2 @@
+mod RowsClosed
+mod RowsCompatible
