@@ -1,10 +1,10 @@
 -- Plain encodings of data, computed, and other spellings of the same data, derived.
-use Rattle.std.proofs.Common.{◌≡◌, refl, ℕ, ◌<◌, ◌≤◌, ◌^◌, pos, negsuc, true, false, List, [], ◌∷◌, None, codes, arith}
+use Rattle.std.proofs.Common.{◌≡◌, refl, ℕ, pos, negsuc, true, false, List, [], ◌∷◌, codes, arith}
 use Rattle.std.specs.Str.{is_utf8, chars}
 use lib.Utf8.{encode}
-use Rattle.avro_schema.specs.Value.{Value, Values, Entries, no_values, value, no_entries, entry}
-use Rattle.avro_schema.specs.Node.{Node, root_of}
-use Rattle.avro_schema.proofs.RowsSchemas.{one_value, two_values, array_of_long, array_of_null, map_of_int, long_or_int, long_and_string, linked_list}
+use Rattle.avro_schema.specs.Value.{Value, no_values, value, no_entries, entry}
+use Rattle.avro_schema.specs.Node.{root_of}
+use Rattle.avro_schema.proofs.RowsSchemas.{one_value, two_values, array_of_long, map_of_int, long_or_int, long_and_string}
 use Rattle.avro_binary.specs.Blocks.{IsInBlocks, no_more, counted, sized}
 use Rattle.avro_binary.specs.Encoding.{Encodes, plain}
 use Rattle.avro_binary.proofs.RowsNumbers.{spells}
@@ -30,6 +30,9 @@ plain_true : plain (Value.boolean true) ≡ 1 ∷ []
 plain_true = refl
 
 -- numbers
+plain_zero : plain (Value.int (pos 0)) ≡ 0 ∷ []
+plain_zero = refl
+
 plain_small : plain (Value.int (pos 64)) ≡ 0x80 ∷ 1 ∷ []
 plain_small = refl
 
@@ -63,6 +66,9 @@ plain_branch = refl
 -- parts in order
 plain_record : plain long_with_string ≡ 0x36 ∷ 6 ∷ 0x66 ∷ 0x6f ∷ 0x6f ∷ []
 plain_record = refl
+
+plain_items_of_records : plain (Value.array (one_value (Value.record_of (one_value (Value.int (pos 2)))))) ≡ 2 ∷ 4 ∷ 0 ∷ []
+plain_items_of_records = refl
 
 plain_empty_record : plain (Value.record_of no_values) ≡ []
 plain_empty_record = refl
@@ -116,7 +122,8 @@ in_two_blocks_of_two_kinds = sized ((6 ∷ []) ∷ []) ((0x36 ∷ []) ∷ []) (1
 two_longs_in : (bytes : List ℕ) → IsInBlocks two_items bytes → Encodes array_of_long (root_of array_of_long) two_longs bytes
 two_longs_in bytes blocks = record {
   fitting = refl;
-  spelled = (two_items, (6 ∷ [], (0x36 ∷ []) ∷ [], spells (pos 3) _ refl, (0x36 ∷ [], [], spells (pos 27) _ refl, refl, refl), refl), blocks) }
+  spelled = (two_items, (6 ∷ [], (0x36 ∷ []) ∷ [], spells (pos 3) _ refl, (0x36 ∷ [], [], spells (pos 27) _ refl, refl, refl), refl), blocks);
+}
 
 encodes_one_block : Encodes array_of_long (root_of array_of_long) two_longs (4 ∷ 6 ∷ 0x36 ∷ 0 ∷ [])
 encodes_one_block = two_longs_in _ in_one_block
@@ -138,9 +145,18 @@ encodes_record : Encodes long_and_string (root_of long_and_string) long_with_str
 unfolding is_utf8 chars encode
 encodes_record = record {
   fitting = refl;
-  spelled = ((0x36 ∷ []) ∷ (6 ∷ 0x66 ∷ 0x6f ∷ 0x6f ∷ []) ∷ [],
-    (0x36 ∷ [], (6 ∷ 0x66 ∷ 0x6f ∷ 0x6f ∷ []) ∷ [], spells (pos 27) _ refl,
-      (6 ∷ 0x66 ∷ 0x6f ∷ 0x6f ∷ [], [], (6 ∷ [], spells (pos 3) _ refl, refl), refl, refl), refl), refl) }
+  spelled = (
+    (0x36 ∷ []) ∷ (6 ∷ 0x66 ∷ 0x6f ∷ 0x6f ∷ []) ∷ [],
+    (
+      0x36 ∷ [],
+      (6 ∷ 0x66 ∷ 0x6f ∷ 0x6f ∷ []) ∷ [],
+      spells (pos 27) _ refl,
+      (6 ∷ 0x66 ∷ 0x6f ∷ 0x6f ∷ [], [], (6 ∷ [], spells (pos 3) _ refl, refl), refl, refl),
+      refl,
+    ),
+    refl,
+  );
+}
 
 encodes_branch : Encodes long_or_int (root_of long_or_int) (Value.union 1 (Value.int (pos 64))) (2 ∷ 0x80 ∷ 1 ∷ [])
 encodes_branch = record { fitting = refl; spelled = (2 ∷ [], 0x80 ∷ 1 ∷ [], spells (pos 1) _ refl, spells (pos 64) _ refl, refl) }
@@ -155,9 +171,19 @@ encodes_map_in_two_blocks : Encodes map_of_int (root_of map_of_int) two_entries 
 unfolding is_utf8 chars encode
 encodes_map_in_two_blocks = record {
   fitting = refl;
-  spelled = (first_entry ∷ second_entry ∷ [],
-    (2 ∷ 0x61 ∷ [], 2 ∷ [], second_entry ∷ [], (2 ∷ [], spells (pos 1) _ refl, refl), spells (pos 1) _ refl,
-      (2 ∷ 0x62 ∷ [], 4 ∷ [], [], (2 ∷ [], spells (pos 1) _ refl, refl), spells (pos 2) _ refl, refl, refl), refl),
+  spelled = (
+    first_entry ∷ second_entry ∷ [],
+    (
+      2 ∷ 0x61 ∷ [],
+      2 ∷ [],
+      second_entry ∷ [],
+      (2 ∷ [], spells (pos 1) _ refl, refl),
+      spells (pos 1) _ refl,
+      (2 ∷ 0x62 ∷ [], 4 ∷ [], [], (2 ∷ [], spells (pos 1) _ refl, refl), spells (pos 2) _ refl, refl, refl),
+      refl,
+    ),
     counted (first_entry ∷ []) (second_entry ∷ []) (2 ∷ []) (1 ∷ 6 ∷ 2 ∷ 0x62 ∷ 4 ∷ 0 ∷ []) refl (omega arith) (omega arith) (spells (pos 1) _ refl) refl
-      (sized (second_entry ∷ []) [] (1 ∷ []) (6 ∷ []) (0 ∷ []) refl (omega arith) (omega arith) (omega arith)
-        (spells (negsuc 0) _ refl) (spells (pos 3) _ refl) refl ends)) }
+        (sized (second_entry ∷ []) [] (1 ∷ []) (6 ∷ []) (0 ∷ []) refl (omega arith) (omega arith) (omega arith)
+        (spells (negsuc 0) _ refl) (spells (pos 3) _ refl) refl ends),
+  );
+}

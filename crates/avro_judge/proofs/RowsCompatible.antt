@@ -1,14 +1,14 @@
 -- Pairs of schemas that are compatible, and pairs with a least datum that errs.
-use Rattle.std.proofs.Common.{◌≡◌, refl, ℕ, suc, ◌≤◌, pos, Bool, true, false, ◌&&◌, List, [], ◌∷◌, Ok, Err, arith}
+use Rattle.std.proofs.Common.{◌≡◌, refl, ◌≤◌, pos, true, [], ◌∷◌, Ok, Err, arith}
 use Rattle.std.proofs.lemmas.Bool.{false≢true, and_parts}
 use Rattle.std.specs.Str.{is_utf8, chars}
 use lib.Utf8.{encode}
-use Rattle.avro_schema.specs.Value.{Value, Values, Entries, no_values, value, no_entries, entry, size}
+use Rattle.avro_schema.specs.Value.{Value, no_values, value, size}
 use Rattle.avro_schema.specs.Node.{Node, root_of}
 use Rattle.avro_schema.specs.Fits.{fits}
 use Rattle.avro_schema.proofs.RowsSchemas.{one_value, array_of_int, array_of_string, record_of_itself, record_of_int}
-use Rattle.avro_resolve.specs.Fault.{ResolutionFault, no_match, not_utf8}
-use Rattle.avro_judge.specs.Compatible.{ErrsWith, AreCompatible, IsLeastToErr}
+use Rattle.avro_resolve.specs.Fault.{no_match, not_utf8}
+use Rattle.avro_judge.specs.Compatible.{AreCompatible, IsLeastToErr}
 
 -- each datum has a node
 size_positive : (v : Value) → 1 ≤ size v
@@ -28,18 +28,21 @@ size_positive (Value.fixed b) = omega arith
 long_refutes_int : IsLeastToErr (Node.long ∷ []) (Node.int ∷ []) (Value.long (pos 0))
 long_refutes_int = record {
   errs = (record { cause = no_match; path = [] }, record { fitting = refl; faulty = refl });
-  least = λ w fault e. size_positive w }
+  least = λ w fault e. size_positive w;
+}
 
 int_array_refutes_string_array : IsLeastToErr array_of_int array_of_string (Value.array no_values)
 int_array_refutes_string_array = record {
   errs = (record { cause = no_match; path = [] }, record { fitting = refl; faulty = refl });
-  least = λ w fault e. size_positive w }
+  least = λ w fault e. size_positive w;
+}
 
 bytes_refute_string : IsLeastToErr (Node.bytes ∷ []) (Node.string ∷ []) (Value.bytes (255 ∷ []))
 unfolding is_utf8 chars encode
 bytes_refute_string = record {
   errs = (record { cause = not_utf8; path = [] }, record { fitting = refl; faulty = refl });
-  least = λ w fault e. size_positive w }
+  least = λ w fault e. size_positive w;
+}
 
 -- a record of one int has two nodes
 record_of_int-size : (v : Value) → fits record_of_int (root_of record_of_int) v ≡ true → 2 ≤ size v
@@ -60,7 +63,8 @@ record_of_int-size (Value.fixed b) e = absurd (false≢true (and_parts _ _ e).1)
 record_refutes_int : IsLeastToErr record_of_int (Node.int ∷ []) (Value.record_of (one_value (Value.int (pos 0))))
 record_refutes_int = record {
   errs = (record { cause = no_match; path = [] }, record { fitting = refl; faulty = refl });
-  least = λ w fault e. record_of_int-size w e.fitting }
+  least = λ w fault e. record_of_int-size w e.fitting;
+}
 
 -- an int fits, and nothing else
 int_goes_with_long : AreCompatible (Node.int ∷ []) (Node.long ∷ [])

@@ -1,2 +1,3 @@
 mod RowsMatch
 mod RowsResolve
+mod RowsSource

@@ -1,9 +1,9 @@
 -- Resolution of data, and the first faults of such that do not resolve: computed.
-use Rattle.std.proofs.Common.{◌≡◌, refl, ℕ, pos, negsuc, true, false, List, [], ◌∷◌, Option, Some, None, Ok, Err, codes}
+use Rattle.std.proofs.Common.{◌≡◌, refl, ℕ, pos, negsuc, true, false, List, [], ◌∷◌, Some, None, Ok, Err, codes}
 use Rattle.std.specs.Str.{is_utf8, chars}
 use lib.Utf8.{encode}
-use Rattle.avro_schema.specs.Value.{Value, Values, Entries, no_values, value, no_entries, entry, size, depth}
-use Rattle.avro_schema.specs.Node.{Node, FieldNode, root_of}
+use Rattle.avro_schema.specs.Value.{Value, no_values, no_entries, entry, size, depth}
+use Rattle.avro_schema.specs.Node.{Node, root_of}
 use Rattle.avro_schema.specs.Fits.{fits}
 use Rattle.avro_schema.specs.WellFormed.{is_schema}
 use Rattle.avro_schema.proofs.RowsSchemas.{plain_field, aliased_field, simply, one_value, two_values, array_of_int, array_of_string, array_of_int_union, map_of_int, map_of_string_union, long_or_int, long_and_string, string_and_long, three_symbols, two_symbols, one_of_int, two_of_one_simple_name, linked_list, doubled, doubled_value, no_fields, chain_of_four, chain_of_three, array_of_one, array_of_two, second_field, second_field_by_default, before_renaming, after_renaming, record_of_int}

@@ -2,10 +2,10 @@
 use Rattle.std.proofs.Common.{◌≡◌, refl, ℕ, pos, negsuc, true, false, List, [], ◌∷◌, None, codes}
 use Rattle.std.specs.Str.{is_utf8, chars}
 use lib.Utf8.{encode}
-use Rattle.avro_name.specs.Name.{Name}
-use Rattle.avro_schema.specs.Value.{Value, Values, Entries, no_values, value, no_entries, entry, size, depth, longest_blob}
-use Rattle.avro_schema.specs.Node.{Node, FieldNode, root_of}
-use Rattle.avro_schema.specs.Fits.{fits, LimitValues, is_within}
+use Rattle.avro_schema.specs.Value.{Value, no_values, no_entries, entry, size, depth, longest_blob}
+use Rattle.avro_schema.specs.Node.{Node, root_of}
+use Rattle.avro_schema.specs.Fits.{fits, is_within}
+use Rattle.avro_schema.proofs.RowsSchemas.{simply, one_value, two_values, map_of_int, linked_list}
 
 -- the least and the greatest int and long, and those beyond
 greatest_int : fits [] Node.int (Value.int (pos 2147483647)) ≡ true
@@ -46,15 +46,15 @@ bytes_past_255 : fits [] Node.bytes (Value.bytes (256 ∷ [])) ≡ false
 bytes_past_255 = refl
 
 -- a fixed has the number of bytes of its node
-fixed_of_two : fits [] (Node.fixed (record { namespace = []; simple = codes "F" }) [] 2) (Value.fixed (0 ∷ 1 ∷ [])) ≡ true
+fixed_of_two : fits [] (Node.fixed (simply (codes "F")) [] 2) (Value.fixed (0 ∷ 1 ∷ [])) ≡ true
 fixed_of_two = refl
 
-fixed_of_one_for_two : fits [] (Node.fixed (record { namespace = []; simple = codes "F" }) [] 2) (Value.fixed (0 ∷ [])) ≡ false
+fixed_of_one_for_two : fits [] (Node.fixed (simply (codes "F")) [] 2) (Value.fixed (0 ∷ [])) ≡ false
 fixed_of_one_for_two = refl
 
 -- the place of a symbol
 abbrev two_symbols : Node
-two_symbols = Node.enum (record { namespace = []; simple = codes "E" }) [] (codes "A" ∷ codes "B" ∷ []) None
+two_symbols = Node.enum (simply (codes "E")) [] (codes "A" ∷ codes "B" ∷ []) None
 
 last_symbol : fits [] two_symbols (Value.enum 1) ≡ true
 last_symbol = refl
@@ -62,10 +62,7 @@ last_symbol = refl
 no_such_symbol : fits [] two_symbols (Value.enum 2) ≡ false
 no_such_symbol = refl
 
--- a map of ints, whose keys are distinct texts
-abbrev map_of_int : List Node
-map_of_int = Node.map_of 1 ∷ Node.int ∷ []
-
+-- entries of a map of ints, whose keys are distinct texts
 abbrev two_entries : List ℕ → List ℕ → Value
 two_entries first second = Value.map_of (entry first (Value.int (pos 1)) (entry second (Value.int (pos 2)) no_entries))
 
@@ -91,16 +88,9 @@ map_depth = refl
 map_longest_blob : longest_blob (two_entries (codes "left") (codes "right")) ≡ 5
 map_longest_blob = refl
 
--- a list of ints by a record with an edge back to itself, and the data of one and of two records
-abbrev linked_list : List Node
-linked_list =
-    Node.record_of (record { namespace = []; simple = codes "Node" }) []
-        ((record { name = codes "value"; aliases = []; node = 1; default = None })
-        ∷ (record { name = codes "next"; aliases = []; node = 2; default = None }) ∷ [])
-    ∷ Node.int ∷ Node.union (3 ∷ 0 ∷ []) ∷ Node.null ∷ []
-
+-- data of one and of two records, of a list of ints by a record with an edge back to itself
 abbrev link : ℕ → Value → Value
-link n next = Value.record_of (value (Value.int (pos n)) (value next no_values))
+link n next = Value.record_of (two_values (Value.int (pos n)) next)
 
 abbrev one_link : Value
 one_link = link 1 (Value.union 0 Value.null)
@@ -108,18 +98,18 @@ one_link = link 1 (Value.union 0 Value.null)
 abbrev two_links : Value
 two_links = link 1 (Value.union 1 (link 2 (Value.union 0 Value.null)))
 
-two_links-fit : fits linked_list (root_of linked_list) two_links ≡ true
+two_links-fit : fits (linked_list Node.int) (root_of (linked_list Node.int)) two_links ≡ true
 two_links-fit = refl
 
 -- the branch is that of the record, but the value is null
-wrong_branch : fits linked_list (root_of linked_list) (link 1 (Value.union 1 Value.null)) ≡ false
+wrong_branch : fits (linked_list Node.int) (root_of (linked_list Node.int)) (link 1 (Value.union 1 Value.null)) ≡ false
 wrong_branch = refl
 
 -- there are two branches
-no_such_branch : fits linked_list (root_of linked_list) (link 1 (Value.union 2 Value.null)) ≡ false
+no_such_branch : fits (linked_list Node.int) (root_of (linked_list Node.int)) (link 1 (Value.union 2 Value.null)) ≡ false
 no_such_branch = refl
 
-field_missing : fits linked_list (root_of linked_list) (Value.record_of (value (Value.int (pos 1)) no_values)) ≡ false
+field_missing : fits (linked_list Node.int) (root_of (linked_list Node.int)) (Value.record_of (one_value (Value.int (pos 1)))) ≡ false
 field_missing = refl
 
 -- a union is a node, and its value another

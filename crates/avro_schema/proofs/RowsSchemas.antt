@@ -1,7 +1,7 @@
 -- Schemas of the rows that speak of encoding, resolution and compatibility. Each is well formed.
-use Rattle.std.proofs.Common.{◌≡◌, refl, ℕ, zero, suc, ◌+◌, pos, true, false, List, [], ◌∷◌, Option, Some, None, codes}
+use Rattle.std.proofs.Common.{◌≡◌, refl, ℕ, zero, suc, ◌+◌, pos, true, List, [], ◌∷◌, Option, Some, None, codes}
 use Rattle.avro_name.specs.Name.{Name}
-use Rattle.avro_schema.specs.Value.{Value, Values, Entries, no_values, value, no_entries, entry}
+use Rattle.avro_schema.specs.Value.{Value, Values, no_values, value}
 use Rattle.avro_schema.specs.Node.{Node, FieldNode}
 use Rattle.avro_schema.specs.WellFormed.{is_schema}
 
@@ -233,7 +233,7 @@ before_renaming-good = refl
 abbrev pub after_renaming : List Node
 after_renaming =
     Node.record_of (within (codes "new") (codes "Q")) (within (codes "old") (codes "P") ∷ [])
-        (aliased_field (codes "y") (codes "x" ∷ []) 1 ∷ [])
+    (aliased_field (codes "y") (codes "x" ∷ []) 1 ∷ [])
     ∷ Node.long ∷ []
 
 after_renaming-good : is_schema after_renaming ≡ true

@@ -1,21 +1,9 @@
 -- Lists of nodes that are schemas, and lists that are none, each for one reason: computed.
 use Rattle.std.proofs.Common.{◌≡◌, refl, ℕ, pos, true, false, List, [], ◌∷◌, Option, Some, None, codes}
-use Rattle.avro_name.specs.Name.{Name}
-use Rattle.avro_schema.specs.Value.{Value, Values, Entries, no_values, value, no_entries, entry}
-use Rattle.avro_schema.specs.Node.{Node, FieldNode}
+use Rattle.avro_schema.specs.Value.{Value, no_values}
+use Rattle.avro_schema.specs.Node.{Node}
 use Rattle.avro_schema.specs.WellFormed.{is_schema}
-
--- a name in the null namespace
-abbrev simply : List ℕ → Name
-simply word = record { namespace = []; simple = word }
-
--- a field with neither alias nor default
-abbrev plain_field : List ℕ → ℕ → FieldNode
-plain_field word place = record { name = word; aliases = []; node = place; default = None }
-
--- a field with a default
-abbrev default_field : List ℕ → ℕ → Value → FieldNode
-default_field word place v = record { name = word; aliases = []; node = place; default = Some v }
+use Rattle.avro_schema.proofs.RowsSchemas.{simply, within, plain_field, aliased_field, default_field}
 
 -- a schema of no nodes
 no_node : is_schema [] ≡ false
@@ -49,7 +37,7 @@ record_of_itself : is_schema (Node.record_of (simply (codes "R")) [] (plain_fiel
 record_of_itself = refl
 
 linked_list : is_schema
-    ( Node.record_of (simply (codes "Node")) [] (plain_field (codes "value") 1 ∷ plain_field (codes "next") 2 ∷ [])
+    (Node.record_of (simply (codes "Node")) [] (plain_field (codes "value") 1 ∷ plain_field (codes "next") 2 ∷ [])
     ∷ Node.int ∷ Node.union (3 ∷ 0 ∷ []) ∷ Node.null ∷ []) ≡ true
 linked_list = refl
 
@@ -109,7 +97,7 @@ too_long_fixed = refl
 abbrev two_fields : List (List ℕ) → List ℕ → List Node
 two_fields aliases second =
     Node.record_of (simply (codes "R")) []
-        ((record { name = codes "a"; aliases = aliases; node = 1; default = None }) ∷ plain_field second 1 ∷ [])
+    (aliased_field (codes "a") aliases 1 ∷ plain_field second 1 ∷ [])
     ∷ Node.int ∷ []
 
 no_fields : is_schema (Node.record_of (simply (codes "R")) [] [] ∷ []) ≡ true
@@ -154,23 +142,23 @@ default_of_second_branch = refl
 
 -- a record's default is again a record of all its fields
 default_of_itself : is_schema
-    ( Node.record_of (simply (codes "R")) []
-        (default_field (codes "f") 1 (Value.union 0 Value.null) ∷ default_field (codes "g") 3 (Value.array no_values) ∷ [])
+    (Node.record_of (simply (codes "R")) []
+    (default_field (codes "f") 1 (Value.union 0 Value.null) ∷ default_field (codes "g") 3 (Value.array no_values) ∷ [])
     ∷ Node.union (2 ∷ 0 ∷ []) ∷ Node.null ∷ Node.array 0 ∷ []) ≡ true
 default_of_itself = refl
 
 -- names: one twice, in two namespaces, a primitive word, an empty part, and aliases
 name_twice : is_schema
-    ( Node.record_of (simply (codes "R")) [] (plain_field (codes "a") 1 ∷ plain_field (codes "b") 2 ∷ [])
+    (Node.record_of (simply (codes "R")) [] (plain_field (codes "a") 1 ∷ plain_field (codes "b") 2 ∷ [])
     ∷ Node.fixed (simply (codes "F")) [] 2 ∷ Node.fixed (simply (codes "F")) [] 2 ∷ []) ≡ false
 name_twice = refl
 
 abbrev named : List ℕ → List ℕ → List Node
-named namespace simple = Node.fixed (record { namespace = namespace; simple = simple }) [] 2 ∷ []
+named namespace simple = Node.fixed (within namespace simple) [] 2 ∷ []
 
 name_in_two_namespaces : is_schema
-    ( Node.union (1 ∷ 2 ∷ []) ∷ Node.fixed (record { namespace = codes "a"; simple = codes "F" }) [] 2
-    ∷ Node.fixed (record { namespace = codes "b"; simple = codes "F" }) [] 2 ∷ []) ≡ true
+    (Node.union (1 ∷ 2 ∷ []) ∷ Node.fixed (within (codes "a") (codes "F")) [] 2
+    ∷ Node.fixed (within (codes "b") (codes "F")) [] 2 ∷ []) ≡ true
 name_in_two_namespaces = refl
 
 dotted_namespace : is_schema (named (codes "org.example") (codes "F")) ≡ true
