@@ -1,7 +1,9 @@
-pub mod Tests
-pub mod NodeKinds
 pub mod DeadNodes
-pub mod Shapes
-pub mod Successes
-pub mod SoundPairs
+pub mod NodeKinds
 pub mod Resolving
+mod RowsClosed
+mod RowsCompatible
+pub mod Shapes
+pub mod SoundPairs
+pub mod Successes
+pub mod Tests

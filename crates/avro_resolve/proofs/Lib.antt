@@ -6,6 +6,9 @@ pub mod MatchTest
 pub mod Outcomes
 pub mod RecordFields
 pub mod Resolved
+mod RowsMatch
+mod RowsResolve
+mod RowsSource
 pub mod Rules
 pub mod Sources
 pub mod TextBytes
