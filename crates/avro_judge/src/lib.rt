@@ -7,6 +7,7 @@
 
 mod approval;
 mod judging;
+pub mod laws;
 mod limits;
 mod verdict;
 

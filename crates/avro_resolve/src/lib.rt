@@ -3,6 +3,7 @@
 #![tactic(auto)]
 
 mod error;
+pub mod laws;
 mod matching;
 mod read;
 mod resolution;

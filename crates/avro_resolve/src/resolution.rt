@@ -1,9 +1,9 @@
-ghost use Rattle.std.specs.Prelude.{◌≡◌, true, IfOk};
+ghost use Rattle.std.specs.Prelude.{◌≡◌, true, Ok, IfOk};
 ghost use Rattle.avro_schema.specs.Fits.{fits};
 ghost use Rattle.avro_schema.specs.Node.{root_of};
-ghost use Rattle.avro_schema.specs.Seen.{value_of};
+ghost use Rattle.avro_schema.specs.Seen.{node_of, value_of};
 ghost use Rattle.avro_schema.specs.SeenSchema.{schema_nodes};
-ghost use Rattle.avro_resolve.specs.Resolve.{resolve_root};
+ghost use Rattle.avro_resolve.specs.Resolve.{resolve_root, int_as as kept_int};
 ghost use Rattle.avro_resolve.specs.Seen.{Answers};
 
 use std::alloc::Global;
@@ -34,16 +34,20 @@ pub fn resolve(
             path: Vec::new(alloc),
         }));
     }
-    Ok(match datum {
-        Datum::Null => Datum::Null,
-        Datum::Bool(value) => Datum::Bool(*value),
-        Datum::Int(value) => int_as(*reader.node(reader.root()), *value),
-        Datum::Long(value) => Datum::Long(*value),
-    })
+    let to = *reader.node(reader.root());
+    match datum {
+        Datum::Null => Ok(Datum::Null),
+        Datum::Bool(value) => Ok(Datum::Bool(*value)),
+        Datum::Int(value) => Ok(int_as(to, value)),
+        Datum::Long(value) => Ok(Datum::Long(*value)),
+    }
 }
 
 /// An int, or the long of its value where the reader has a long.
-fn int_as(reader: Node, value: i32) -> Datum {
+fn int_as(reader: Node, value: &i32) -> Datum
+    ensures { kept_int value.now (node_of reader) ≡ Ok (value_of result) }
+{
+    let value = *value;
     if reader == Node::Long {
         Datum::Long(i64::from(value))
     } else {

@@ -51,7 +51,7 @@ least-from_front (x ∷ front) b n go bytes low some e =
     let rest = least-from_front front b (n / 128) parts.1 (All-tail (λ y. y < 256) x front bytes) low (λ _. above) upper in
     let first : 128 + n % 128 ≡ x = omega arith in
     subst (λ (c : ℕ). AreLeastGroups n (c ∷ (front ++ b ∷ []))) first
-      (least-more n (front ++ b ∷ []) (omega (arith, value-some front b above low)) rest)
+    (least-more n (front ++ b ∷ []) (omega (arith, value-some front b above low)) rest)
 
 -- ---- Where groups end
 

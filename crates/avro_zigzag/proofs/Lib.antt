@@ -1,3 +1,4 @@
 pub mod Faults
+mod Rows
 pub mod Spelling
 mod Steps

@@ -1,7 +1,9 @@
 -- The steps of the loops that write and read groups.
-use Rattle.std.proofs.Common.{◌≡◌, ℕ, zero, suc, ◌+◌, ◌*◌, ◌/◌, ◌%◌, ◌-◌, ◌^◌, ◌<◌, ◌≤◌, ℤ, pos, negsuc, true, List, [], ◌∷◌, ◌++◌, length, take, drop, get_or, set, refl, sym, ap, ◌∙◌, subst, arith, append_assoc, length-take, drop-cons, ◌⊎◌, inl, inr, to_z, of_z, w32, w64}
+use Rattle.std.proofs.Common.{◌≡◌, ℕ, zero, suc, ◌+◌, ◌*◌, ◌/◌, ◌%◌, ◌-◌, ◌^◌, ◌<◌, ◌≤◌, ℤ, pos, negsuc, Bool, true, List, [], ◌∷◌, ◌++◌, length, take, drop, get_or, set, refl, sym, ap, ◌∙◌, subst, arith, append_assoc, length-take, drop-cons, ◌⊎◌, inl, inr, to_z, of_z, w32, w64}
 use Rattle.std.specs.List.{All}
-use Rattle.std.proofs.lemmas.List.{take-append-drop, take_more, take_more_set}
+use Rattle.std.specs.Prelude.{◌==◌}
+use Rattle.std.proofs.lemmas.Bool.Decides.{nat_tests}
+use Rattle.std.proofs.lemmas.List.{take-append-drop, take_more, take_more_set, get_or-set_other}
 use Rattle.std.proofs.lemmas.List.Elements.{All-take}
 use Rattle.std.proofs.lemmas.Bool.{cases_lt}
 use Rattle.std.proofs.lemmas.Nat.{pow-add}
@@ -39,6 +41,10 @@ written_more n rest len bytes short low so_far tail least =
     let b = 128 + rest % 128 in
     rw (take_more_set bytes len b short, append_assoc (take len bytes) (b ∷ []) tail) (so_far (b ∷ tail) (least-more rest tail low least))
 
+-- no place past them is written
+pub zero_more : (bytes : List ℕ) (len b : ℕ) → ((k : ℕ) → len ≤ k → get_or bytes k 0 ≡ 0) → (k : ℕ) → len + 1 ≤ k → get_or (set bytes len b) k 0 ≡ 0
+zero_more bytes len b zeros k h = get_or-set_other bytes len k b 0 (omega arith) ∙ zeros k (omega arith)
+
 -- the last group
 pub written_all : (n rest len : ℕ) (bytes : List ℕ) → len < length bytes → rest < 128
     → ((tail : List ℕ) → AreLeastGroups rest tail → AreLeastGroups n (take len bytes ++ tail))
@@ -46,6 +52,15 @@ pub written_all : (n rest len : ℕ) (bytes : List ℕ) → len < length bytes �
 written_all n rest len bytes short low so_far = rw (take_more_set bytes len rest short) (so_far (rest ∷ []) (least-last rest low))
 
 -- ---- Reading
+
+-- bytes with an index are not empty
+pub not_empty : (i : ℕ) (xs : List ℕ) (test : Bool) → i < length xs → test ≡ (length xs == 0) → test ≡ true → ⊥
+not_empty i xs test h e is = absurd (grind (arith, nat_tests))
+
+-- a byte 00 is not the first where that one goes on
+pub past-first : (xs : List ℕ) (i : ℕ) → 128 ≤ get_or xs 0 0 → get_or xs i 0 ≡ 0 → 0 < i
+past-first xs zero large none = absurd (omega arith)
+past-first xs (suc i) large none = omega arith
 
 split_here : (xs : List ℕ) (i : ℕ) → i < length xs → xs ≡ take i xs ++ get_or xs i 0 ∷ drop (suc i) xs
 split_here xs i h = sym (take-append-drop i xs) ∙ ap (λ ys. take i xs ++ ys) (drop-cons xs i 0 h)
@@ -115,7 +130,7 @@ value_pushed : (xs : List ℕ) (i b group : ℕ) → i < length xs → b % 128 �
     → groups_value (take i xs ++ b ∷ []) ≡ groups_value (take i xs) + group * 128 ^ i
 value_pushed xs i b group h e =
     let power : b % 128 * 128 ^ length (take i xs) ≡ group * 128 ^ i =
-      ap (λ k. b % 128 * 128 ^ k) (front-length xs i h) ∙ ap (λ q. q * 128 ^ i) e in
+    ap (λ k. b % 128 * 128 ^ k) (front-length xs i h) ∙ ap (λ q. q * 128 ^ i) e in
     omega (arith, groups_value-push (take i xs) b)
 
 -- the groups that are read
@@ -125,7 +140,7 @@ read_last xs i value h bytes go so_far low some =
     let b = get_or xs i 0 in
     let front = front-length xs i h in
     subst (λ (ys : List ℕ). AreLeastGroups (value + b * 128 ^ i) ys) (sym (take_more xs i 0 h))
-      (least-from_front (take i xs) b (value + b * 128 ^ i) go (All-take (λ x. x < 256) i xs bytes) low (λ q. some (omega arith)) (value_last xs i value h so_far low))
+    (least-from_front (take i xs) b (value + b * 128 ^ i) go (All-take (λ x. x < 256) i xs bytes) low (λ q. some (omega arith)) (value_last xs i value h so_far low))
   where
     value_last : (xs : List ℕ) (i value : ℕ) → i < length xs → value ≡ groups_value (take i xs) → get_or xs i 0 < 128
         → value + get_or xs i 0 * 128 ^ i ≡ groups_value (take i xs ++ get_or xs i 0 ∷ [])

@@ -6,9 +6,8 @@ pub mod read;
 pub mod write;
 
 pub use read::{read_int, read_long};
-pub use write::write_long;
-
 use thiserror::Error;
+pub use write::write_long;
 
 /// Why no number stands at the front of some bytes.
 #[derive(Clone, Copy, Debug, PartialEq, Eq, Hash, Error)]

@@ -16,15 +16,19 @@ fn from_zigzag(number: u64) -> i64
     if number % 2 == 0 { half } else { -half - 1 }
 }
 
-/// The number of groups at the front of `bytes`, of which there are at most `most` with a last one of at most `top`, and how many there are.
+/// What the groups at the front of `bytes` stand for, and how many there are: at most `most`, and if as many, a last one of at most `top`.
+#[inline(always)]
 fn read_groups(bytes: &[u8], most: usize, top: u8) -> Result<(u64, usize), VarError>
-    requires some { 1 ≤ most }
+    requires several { 2 ≤ most }
     requires low { top < 128 }
     requires fits { (top + 1) * 128 ^ (most - 1) ≤ 2 ^ 64 }
     ensures found { IfOk result (λ r. (1 ≤ r.1) × (r.1 ≤ length bytes.now) × AreLeastGroups r.0 (take r.1 bytes.now)) }
     ensures below { IfOk result (λ r. r.0 < (top + 1) * 128 ^ (most - 1)) }
     ensures refused { IfErr result (λ e. NumberFails most top bytes.now e) }
 {
+    if !bytes.is_empty() && bytes[0] < 128 {
+        return Ok((u64::from(bytes[0]), 1));
+    }
     let mut value = 0;
     for (index, byte) in bytes.iter().enumerate() {
         let byte = *byte;
@@ -32,7 +36,8 @@ fn read_groups(bytes: &[u8], most: usize, top: u8) -> Result<(u64, usize), VarEr
             if index + 1 == most && byte > top {
                 return Err(VarError::OutOfRange);
             }
-            if byte == 0 && index > 0 {
+            // Others stand before it: a number of one byte was found above.
+            if byte == 0 {
                 return Err(VarError::NotShortest);
             }
             return Ok((value + (u64::from(byte) << (7 * index)), index + 1));

@@ -1,6 +1,6 @@
 //! Writing a number (Avro 1.11, "Binary Encoding").
 
-ghost use Rattle.std.specs.Prelude.{◌≡◌, ◌≤◌, take};
+ghost use Rattle.std.specs.Prelude.{◌≡◌, ℕ, ◌≤◌, take, slice_index};
 ghost use Rattle.avro_zigzag.specs.Number.{zigzag, SpellsNumber};
 
 /// The zig-zag number of `value`: small for a value near 0 on either side.
@@ -20,6 +20,7 @@ fn to_zigzag(value: i64) -> u64
 pub fn write_long(value: i64) -> ([u8; 10], usize)
     ensures length { (1 ≤ result.1) × (result.1 ≤ 10) }
     ensures spelled { SpellsNumber value (take result.1 result.0) }
+    ensures rest_zero { (k : ℕ) → result.1 ≤ k → slice_index result.0 k ≡ 0 }
 {
     let mut bytes = [0; 10];
     let mut rest = to_zigzag(value);

@@ -16,7 +16,7 @@ returns-in-Ok-clause-fails c = λ e fails.
     let found = c.in-Ok.ensures.found in
     let bytes = c.args.bytes.now in
     absurd (number-excludes_fault 10 1 c.in-Ok.number bytes (take c.in-Ok.len bytes) (drop c.in-Ok.len bytes) e (omega arith) c.in-Ok.ensures.below found.2
-      (sym (take-append-drop c.in-Ok.len bytes)) fails)
+    (sym (take-append-drop c.in-Ok.len bytes)) fails)
 
 pub returns-in-Err-clause-only : goal.returns-in-Err-clause-only
 returns-in-Err-clause-only c = λ v front rest h s e.

@@ -1,4 +1,4 @@
-use Rattle.std.proofs.Common.{◌≡◌, ℕ, ◌*◌, ◌^◌, ◌<◌, ◌≤◌, List, ◌++◌, length, take}
+use Rattle.std.proofs.Common.{◌≡◌, ℕ, ◌*◌, ◌^◌, ◌<◌, ◌≤◌, List, ◌++◌, length, take, get_or}
 use Rattle.avro_zigzag.specs.Number.{zigzag, AreLeastGroups}
 use Rattle.avro_zigzag.proofs.write.write_long.Given as goal
 
@@ -7,6 +7,7 @@ abbrev pub invariant-loop-rest : goal.invariant-loop-rest
 invariant-loop-rest l =
     (l.len < 10) × (length l.bytes ≡ 10) × (l.rest * 128 ^ l.len ≤ zigzag l.value)
     × ((tail : List ℕ) → AreLeastGroups l.rest tail → AreLeastGroups (zigzag l.value) (take l.len l.bytes ++ tail))
+    × ((k : ℕ) → l.len ≤ k → get_or l.bytes k 0 ≡ 0)
 
 abbrev pub decreases-loop-rest : goal.decreases-loop-rest
 decreases-loop-rest l = l.rest

@@ -1,0 +1,14 @@
+pub mod AtMatch
+pub mod Branches
+pub mod EnoughSteps
+pub mod FirstKinds
+pub mod MatchTest
+pub mod Outcomes
+pub mod RecordFields
+pub mod Resolved
+mod RowsMatch
+mod RowsResolve
+mod RowsSource
+pub mod Rules
+pub mod Sources
+pub mod TextBytes
