@@ -1,3 +1,4 @@
+pub mod FirstKinds
 pub mod DeadNodes
 pub mod NodeKinds
 pub mod Resolving

@@ -1,5 +1,7 @@
-ghost use Rattle.std.specs.Prelude.{◌≡◌, ◌↔◌, ◌<◌, ◌≤◌, ◌*◌, length, IfOk};
-ghost use Rattle.avro_schema.specs.Seen.{value_of};
+ghost use Rattle.std.specs.Prelude.{◌≡◌, ◌↔◌, ◌<◌, ◌≤◌, ◌*◌, true, List, length, IfOk};
+ghost use Rattle.avro_schema.specs.Seen.{node_of, value_of};
+ghost use Rattle.avro_schema.specs.Fits.{fits};
+ghost use Rattle.avro_schema.specs.Node.{Node as SeenNode};
 ghost use Rattle.avro_schema.specs.SeenSchema.{schema_nodes};
 ghost use Rattle.avro_schema.specs.Value.{Value, size, depth};
 ghost use Rattle.avro_resolve.specs.Fault.{ResolutionFault};
@@ -73,7 +75,11 @@ pub fn judge<'a>(
 }
 
 /// A datum of the node with the fewest nodes.
-fn least_datum(node: Node) -> Datum {
+fn least_datum(node: Node) -> Datum
+    ensures fitting { (nodes : List SeenNode) → fits nodes (node_of node) (value_of result) ≡ true }
+    ensures one_node { size (value_of result) ≡ 1 }
+    ensures one_deep { depth (value_of result) ≡ 1 }
+{
     match node {
         Node::Null => Datum::Null,
         Node::Boolean => Datum::Bool(false),

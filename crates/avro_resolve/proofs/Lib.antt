@@ -1,7 +1,6 @@
 pub mod AtMatch
 pub mod Branches
 pub mod EnoughSteps
-pub mod FirstKinds
 pub mod MatchTest
 pub mod Outcomes
 pub mod RecordFields
