@@ -1,3 +1,4 @@
+use crate::schemas::padded_int;
 use avro_tool::run;
 use std::alloc::AllocError;
 use std::io::Write;
@@ -63,10 +64,8 @@ fn faults_are_told(rt: HostRuntime) -> Result<(), Fail> {
     fs::write(&rt, "open.avsc", "{")?;
     fs::write(&rt, "float.avsc", "\"float\"")?;
     fs::create_dir(&rt, "folder")?;
-    let mut long = vec![in rt.alloc(); b' '; 1_048_577]?;
-    long[..5].copy_from_slice(b"\"int\"");
-    fs::write(&rt, "long.avsc", &long)?;
-    fs::write(&rt, "most.avsc", &long[..1_048_576])?;
+    fs::write(&rt, "most.avsc", &padded_int(rt.alloc(), 1_048_576)?)?;
+    fs::write(&rt, "long.avsc", &padded_int(rt.alloc(), 1_048_577)?)?;
     for (writer, reader, status, text) in [
         ("most.avsc", "int.avsc", 0, ""),
         ("long.avsc", "int.avsc", 3, "avro: long.avsc: S12\n"),

@@ -1,5 +1,6 @@
 use avro_schema::Node;
 use avro_schema_json::{SchemaError, read_schema};
+use std::alloc::{AllocError, Global};
 use std::test::Fail;
 
 #[test]
@@ -30,27 +31,38 @@ fn other_texts_are_refused(rt: HostRuntime) -> Result<(), Fail> {
     ] {
         assert_eq!(rt; read_schema(rt.alloc(), text).err(), Some(error));
     }
-    let mut nested = vec![in rt.alloc(); b'['; 256]?;
-    for bracket in &mut nested[128..] {
-        *bracket = b']';
-    }
-    assert_eq!(rt;
-        read_schema(rt.alloc(), &nested).err(),
-        Some(SchemaError::NotJson)
-    );
     Ok(())
 }
 
 #[test]
+fn deep_texts_are_refused(rt: HostRuntime) -> Result<(), Fail> {
+    let mut nested = String::new(rt.alloc());
+    for bracket in ['[', ']'] {
+        for _ in 0..128 {
+            nested.push(bracket)?;
+        }
+    }
+    let error = read_schema(rt.alloc(), nested.as_bytes()).err();
+    assert_eq!(rt; error, Some(SchemaError::NotJson));
+    Ok(())
+}
+
+/// The text of an int, with blanks up to a length.
+pub(crate) fn padded_int(alloc: Global, len: usize) -> Result<String, AllocError> {
+    let mut text = String::from_str(alloc, "\"int\"")?;
+    for _ in text.len()..len {
+        text.push(' ')?;
+    }
+    Ok(text)
+}
+
+#[test]
 fn long_texts_are_refused(rt: HostRuntime) -> Result<(), Fail> {
-    let mut text = vec![in rt.alloc(); b' '; 1_048_576]?;
-    text[..5].copy_from_slice(b"\"int\"");
-    assert!(rt; read_schema(rt.alloc(), &text).is_ok());
-    text.push(b' ')?;
-    assert_eq!(rt;
-        read_schema(rt.alloc(), &text).err(),
-        Some(SchemaError::LimitExceeded)
-    );
+    let longest = padded_int(rt.alloc(), 1_048_576)?;
+    assert!(rt; read_schema(rt.alloc(), longest.as_bytes()).is_ok());
+    let longer = padded_int(rt.alloc(), 1_048_577)?;
+    let error = read_schema(rt.alloc(), longer.as_bytes()).err();
+    assert_eq!(rt; error, Some(SchemaError::LimitExceeded));
     Ok(())
 }
 
