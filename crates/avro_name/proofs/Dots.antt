@@ -1,11 +1,11 @@
 -- The parts of a text, and where its last dot is.
-use Rattle.std.proofs.Common.{◌≡◌, ◌≢◌, ℕ, zero, suc, ◌+◌, ◌-◌, ◌<◌, ◌≤◌, Bool, true, false, not, ◌&&◌, ◌||◌, cond, List, [], ◌∷◌, ◌++◌, length, get_or, take, drop, Option, Some, None, Ok, Err, IfOk, IfErr, ◌⊎◌, ⊎_elim, inl, inr, ◌==◌, refl, sym, ◌∙◌, ap, subst, arith, ne_eqb, eq-eqb, take-append-drop, length-drop, get_or-drop}
+use Rattle.std.proofs.Common.{◌≡◌, ◌≢◌, ℕ, zero, suc, ◌+◌, ◌-◌, ◌<◌, ◌≤◌, true, false, not, ◌&&◌, cond, List, [], ◌∷◌, ◌++◌, length, get_or, take, drop, Some, None, ◌⊎◌, ⊎_elim, inl, inr, ◌==◌, refl, sym, ◌∙◌, ap, subst, arith, ne_eqb, eq-eqb, take-append-drop, length-drop, get_or-drop}
 use Rattle.std.specs.Str.{NoCharPasses}
-use Rattle.std.specs.Str.Pattern.{RFindsChar, HasCharAt, SplitsAroundMatch}
+use Rattle.std.specs.Str.Pattern.{RFindsChar}
 use Rattle.std.proofs.lemmas.Str.{len_utf8_ascii}
 use Rattle.std.proofs.lemmas.Str.Pattern.{NoCharPasses-char, drop_at_char}
-use Rattle.std.specs.List.{list_all, list_any, before_last, after_last}
-use Rattle.std.proofs.lemmas.Bool.{cond-true, cond-false, or_parts, or_from, and_parts, and_from, and_left, and_right, not_from_true, not_from_false}
+use Rattle.std.specs.List.{list_all, before_last, after_last}
+use Rattle.std.proofs.lemmas.Bool.{cond-true, cond-false, or_parts, or_from, and_parts, and_from, not_from_true, not_from_false, cases_eq, cases_Bool}
 use Rattle.std.proofs.lemmas.List.{drop_more}
 use Rattle.std.proofs.lemmas.List.Folds.{list_all-append, list_any_at}
 use Rattle.std.proofs.lemmas.List.Sums.{suffix_len_is}
@@ -41,7 +41,7 @@ parts_at : (xs ys : List ℕ) → dotted_parts (xs ++ 46 ∷ ys) ≡ dotted_part
 parts_at [] ys = refl
 parts_at (c ∷ cs) ys =
     elim (c == 46) as (λ dot. cond dot ([] ∷ dotted_parts (cs ++ 46 ∷ ys)) (onto_first c (dotted_parts (cs ++ 46 ∷ ys)))
-        ≡ cond dot ([] ∷ dotted_parts cs) (onto_first c (dotted_parts cs)) ++ dotted_parts ys) [
+    ≡ cond dot ([] ∷ dotted_parts cs) (onto_first c (dotted_parts cs)) ++ dotted_parts ys) [
       | true ↦ ap (λ parts. [] ∷ parts) (parts_at cs ys)
       | false ↦ ap (onto_first c) (parts_at cs ys) ∙ onto_append c (dotted_parts cs) (dotted_parts ys) (parts_some cs)
     ]
@@ -78,8 +78,8 @@ pub split_last : (text enclosing : List ℕ) (i : ℕ) → IsLastDot text i → 
 split_last text enclosing i last =
     let within = last.within in
     let tail = suffix_len_is (λ c. not (c == 46)) text (i + 1) 0 (omega arith)
-        (λ k above below. not_from_false _ (ne_eqb _ 46 (last.after k (omega arith) below)))
-        (λ _. let place : i ≡ i + 1 - 1 = omega arith in not_from_true _ (eq-eqb _ 46 (ap (λ k. get_or text k 0) (sym place) ∙ last.here))) in
+    (λ k above below. not_from_false _ (ne_eqb _ 46 (last.after k (omega arith) below)))
+    (λ _. let place : i ≡ i + 1 - 1 = omega arith in not_from_true _ (eq-eqb _ 46 (ap (λ k. get_or text k 0) (sym place) ∙ last.here))) in
     let front : before_last (λ c. c == 46) text ≡ take i text = ap (λ k. take k text) (omega arith) in
     let back : after_last (λ c. c == 46) text ≡ drop (i + 1) text = ap (λ k. drop k text) (omega arith) in
     let some : has_dot text ≡ true = list_any_at (λ c. c == 46) text i 0 within (eq-eqb _ 46 last.here) in
@@ -91,13 +91,13 @@ pub good_last : (text : List ℕ) (i : ℕ) → IsLastDot text i → is_dotted_n
 good_last text i last dotted =
     let within = last.within in
     let cut : text ≡ take i text ++ 46 ∷ drop (i + 1) text =
-        sym (take-append-drop i text) ∙ ap (λ l. take i text ++ l) (drop_more text i 0 within ∙ ap (λ c. c ∷ drop (i + 1) text) last.here) in
+    sym (take-append-drop i text) ∙ ap (λ l. take i text ++ l) (drop_more text i 0 within ∙ ap (λ c. c ∷ drop (i + 1) text) last.here) in
     let alone = parts_alone (drop (i + 1) text)
-        (no_dot (drop (i + 1) text) (λ k l e. last.after (i + 1 + k) (omega arith) (omega (arith, length-drop (i + 1) text)) (sym (get_or-drop (i + 1) text k 0) ∙ e))) in
+    (no_dot (drop (i + 1) text) (λ k l e. last.after (i + 1 + k) (omega arith) (omega (arith, length-drop (i + 1) text)) (sym (get_or-drop (i + 1) text k 0) ∙ e))) in
     let parts : dotted_parts text ≡ dotted_parts (take i text) ++ drop (i + 1) text ∷ [] =
-        ap dotted_parts cut ∙ parts_at (take i text) (drop (i + 1) text) ∙ ap (λ l. dotted_parts (take i text) ++ l) alone in
+    ap dotted_parts cut ∙ parts_at (take i text) (drop (i + 1) text) ∙ ap (λ l. dotted_parts (take i text) ++ l) alone in
     let both : (is_dotted_name (take i text) && (is_simple_name (drop (i + 1) text) && true)) ≡ true =
-        sym (list_all-append is_simple_name (dotted_parts (take i text)) (drop (i + 1) text ∷ [])) ∙ ap (list_all is_simple_name) (sym parts) ∙ dotted in
+    sym (list_all-append is_simple_name (dotted_parts (take i text)) (drop (i + 1) text ∷ [])) ∙ ap (list_all is_simple_name) (sym parts) ∙ dotted in
     let halves = and_parts (is_dotted_name (take i text)) (is_simple_name (drop (i + 1) text) && true) both in
     and_from (is_namespace (take i text)) (is_simple_name (drop (i + 1) text)) (dotted_namespace (take i text) halves.0) (and_parts (is_simple_name (drop (i + 1) text)) true halves.1).0
 
@@ -119,3 +119,46 @@ found_last text i j found =
 -- no dot, as the search from the end finds none
 pub found_none : (text : List ℕ) → NoCharPasses (λ c. c == 46) text → has_dot text ≡ false
 found_none text none = no_dot text (λ i within. NoCharPasses-char 46 text i none (omega arith) within)
+
+-- among the first characters a dot is last, or there is none
+last_below : (text : List ℕ) (n : ℕ) → n ≤ length text
+    → ((i : ℕ) → i < n → get_or text i 0 ≢ 46) ⊎ ((i : ℕ) × (i < n) × (get_or text i 0 ≡ 46) × ((k : ℕ) → i < k → k < n → get_or text k 0 ≢ 46))
+last_below text zero within = inl (λ i l. absurd (omega arith))
+last_below text (suc n) within =
+    ⊎_elim
+    (λ dot. inr (n, omega arith, dot, λ k above below. absurd (omega arith)))
+    (λ other.
+    ⊎_elim
+    (λ none. inl (λ i l. ⊎_elim (λ here e. other (ap (λ j. get_or text j 0) (sym here) ∙ e)) (λ apart. none i (omega arith)) (cases_eq i n)))
+    (λ some. inr (some.0, omega arith, some.2, λ k above l. ⊎_elim (λ here e. other (ap (λ j. get_or text j 0) (sym here) ∙ e)) (λ apart. some.3 k above (omega arith)) (cases_eq k n)))
+    (last_below text n (omega arith)))
+    (cases_eq (get_or text n 0) 46)
+
+-- the parts of a text of simple names joined by dots are a namespace and a simple name
+good_split : (text enclosing : List ℕ) → is_dotted_name text ≡ true → is_namespace enclosing ≡ true
+    → (is_namespace (split_name text enclosing).namespace && is_simple_name (split_name text enclosing).simple) ≡ true
+good_split text enclosing dotted good =
+    let AreGood : Name → Type 0 = λ name. (is_namespace name.namespace && is_simple_name name.simple) ≡ true in
+    ⊎_elim
+    (λ none. let alone = no_dot text none in subst AreGood (sym (split_alone text enclosing alone)) (good_alone text enclosing alone dotted good))
+    (λ some.
+    let last : IsLastDot text some.0 = record { within = some.1; here = some.2; after = some.3 } in
+    subst AreGood (sym (split_last text enclosing some.0 last)) (good_last text some.0 last dotted))
+    (last_below text (length text) (omega arith))
+
+-- equal names that are there are equal
+Some_same : {a b : Name} → Some a ≡ Some b → a ≡ b
+Some_same e = cc
+
+-- what a text means in a namespace is a fullname
+pub name_is_full_lem : (text enclosing : List ℕ) (name : Name) → is_namespace enclosing ≡ true → name_of text enclosing ≡ Some name → is_full_name name ≡ true
+name_is_full_lem text enclosing name good named =
+    let split = split_name text enclosing in
+    ⊎_elim
+    (λ yes.
+    let both = and_parts (is_dotted_name text) (not (is_primitive_word split.simple)) yes in
+    let same : split ≡ name = Some_same (sym (cond-true _ (Some split) None yes) ∙ named) in
+    subst (λ (n : Name). is_full_name n ≡ true) same
+    (and_from (is_namespace split.namespace && is_simple_name split.simple) (not (is_primitive_word split.simple)) (good_split text enclosing both.0 good) both.1))
+    (λ no. let none : None ≡ Some name = sym (cond-false _ (Some split) None no) ∙ named in absurd (cc))
+    (cases_Bool (is_dotted_name text && not (is_primitive_word split.simple)))

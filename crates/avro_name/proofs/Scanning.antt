@@ -1,10 +1,10 @@
 -- What the first fault of a text says of its parts.
-use Rattle.std.proofs.Common.{◌≡◌, ℕ, Bool, true, false, not, ◌&&◌, ◌||◌, cond, List, [], ◌∷◌, Option, Some, None, is_none, OnOk, ◌==◌, refl, sym, ◌∙◌, ap, subst}
+use Rattle.std.proofs.Common.{◌≡◌, ℕ, Bool, true, false, not, ◌&&◌, ◌||◌, cond, List, [], ◌∷◌, Option, Some, None, is_none, ◌==◌, refl, sym, ◌∙◌, ap, subst}
 use Rattle.std.specs.Bool.{⊤}
 use Rattle.std.specs.List.{list_all, list_any}
 use Rattle.avro_name.specs.declared.error.NameError.{NameError}
 use Rattle.avro_name.specs.declared.error.NameError.TheVariants.{EmptyPart, BadCharacter, PrimitiveName, OutOfMemory}
-use Rattle.avro_name.specs.Name.{is_name_start, is_name_character, is_simple_name, onto_first, dotted_parts, is_dotted_name, is_empty_text, has_empty_part, is_misspelled, has_bad_character}
+use Rattle.avro_name.specs.Name.{is_name_start, is_name_character, is_simple_name, onto_first, dotted_parts, is_dotted_name, is_empty_text, is_misspelled}
 use Rattle.avro_name.specs.NameFault.{IsNamespaceFault, IsNameFault}
 use Rattle.avro_name.specs.Scan.{first_fault}
 
@@ -65,14 +65,14 @@ good_is true [] = refl
 good_is false [] = refl
 good_is true (c ∷ cs) =
     elim (c == 46) as (λ dot. are_good true (cond dot ([] ∷ dotted_parts cs) (onto_first c (dotted_parts cs)))
-        ≡ is_none (cond dot (Some EmptyPart) (cond (is_name_start c) (first_fault false cs) (Some BadCharacter)))) [
+    ≡ is_none (cond dot (Some EmptyPart) (cond (is_name_start c) (first_fault false cs) (Some BadCharacter)))) [
       | true ↦ refl
       | false ↦ good_start c (dotted_parts cs) ∙ ap (λ b. is_name_start c && b) (good_is false cs)
           ∙ elim (is_name_start c) as (λ s. (s && is_none (first_fault false cs)) ≡ is_none (cond s (first_fault false cs) (Some BadCharacter))) [ true ↦ refl | false ↦ refl ]
     ]
 good_is false (c ∷ cs) =
     elim (c == 46) as (λ dot. are_good false (cond dot ([] ∷ dotted_parts cs) (onto_first c (dotted_parts cs)))
-        ≡ is_none (cond dot (first_fault true cs) (cond (is_name_character c) (first_fault false cs) (Some BadCharacter)))) [
+    ≡ is_none (cond dot (first_fault true cs) (cond (is_name_character c) (first_fault false cs) (Some BadCharacter)))) [
       | true ↦ good_is true cs
       | false ↦ good_more c (dotted_parts cs) ∙ ap (λ b. is_name_character c && b) (good_is false cs)
           ∙ elim (is_name_character c) as (λ s. (s && is_none (first_fault false cs)) ≡ is_none (cond s (first_fault false cs) (Some BadCharacter))) [ true ↦ refl | false ↦ refl ]
@@ -124,22 +124,22 @@ fault_is true [] = refl
 fault_is false [] = tt
 fault_is true (c ∷ cs) =
     elim (c == 46) as (λ dot. IsFaultOf true (cond dot ([] ∷ dotted_parts cs) (onto_first c (dotted_parts cs)))
-        (cond dot (Some EmptyPart) (cond (is_name_start c) (first_fault false cs) (Some BadCharacter)))) [
+    (cond dot (Some EmptyPart) (cond (is_name_start c) (first_fault false cs) (Some BadCharacter)))) [
       | true ↦ refl
       | false ↦ let rest = fault_is false cs in let bad = bad_start c (dotted_parts cs) in
           elim (is_name_start c) as (λ s. have_bad true (onto_first c (dotted_parts cs)) ≡ (not s || have_bad false (dotted_parts cs))
-              → IsFaultOf true (onto_first c (dotted_parts cs)) (cond s (first_fault false cs) (Some BadCharacter))) [
+          → IsFaultOf true (onto_first c (dotted_parts cs)) (cond s (first_fault false cs) (Some BadCharacter))) [
             | true ↦ λ b. fault_kept true (dotted_parts cs) (onto_first c (dotted_parts cs)) (first_fault false cs) (empty_start c (dotted_parts cs)) b rest
             | false ↦ λ b. b
           ] bad
     ]
 fault_is false (c ∷ cs) =
     elim (c == 46) as (λ dot. IsFaultOf false (cond dot ([] ∷ dotted_parts cs) (onto_first c (dotted_parts cs)))
-        (cond dot (first_fault true cs) (cond (is_name_character c) (first_fault false cs) (Some BadCharacter)))) [
+    (cond dot (first_fault true cs) (cond (is_name_character c) (first_fault false cs) (Some BadCharacter)))) [
       | true ↦ fault_after (dotted_parts cs) (first_fault true cs) (fault_is true cs)
       | false ↦ let rest = fault_is false cs in let bad = bad_more c (dotted_parts cs) in
           elim (is_name_character c) as (λ s. have_bad false (onto_first c (dotted_parts cs)) ≡ (not s || have_bad false (dotted_parts cs))
-              → IsFaultOf false (onto_first c (dotted_parts cs)) (cond s (first_fault false cs) (Some BadCharacter))) [
+          → IsFaultOf false (onto_first c (dotted_parts cs)) (cond s (first_fault false cs) (Some BadCharacter))) [
             | true ↦ λ b. fault_kept false (dotted_parts cs) (onto_first c (dotted_parts cs)) (first_fault false cs) (empty_more c (dotted_parts cs)) b rest
             | false ↦ λ b. b
           ] bad

@@ -1,4 +1,4 @@
-use Rattle.std.proofs.Common.{◌≡◌, ℕ, ◌+◌, true, ◌&&◌, List, take, drop, sym, ap, ◌∙◌}
+use Rattle.std.proofs.Common.{◌≡◌, ℕ, ◌+◌, ◌&&◌, List, take, drop, sym, ap, ◌∙◌}
 use Rattle.avro_name.specs.Name.{Name, is_namespace, is_simple_name}
 use Rattle.avro_name.proofs.Dots.{found_last, found_none, split_last, good_last, split_alone, good_alone}
 use Rattle.avro_name.proofs.full_name.split.Goals as goal
