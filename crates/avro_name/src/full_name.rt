@@ -55,10 +55,7 @@ impl FullName {
         ensures named { (name : Name) → name_of text.now enclosing.now ≡ Some name → IsErrOf result NameError.OutOfMemory ⊎ (result ≡ Ok name) }
         ensures refused { IfErr result (IsNameFault text.now enclosing.now) }
     {
-        match check_dotted_name(text.as_bytes()) {
-            Ok(()) => {}
-            Err(error) => return Err(error),
-        }
+        check_dotted_name(text.as_bytes())?;
         let (namespace, simple) = split(text, enclosing.as_str());
         if is_primitive_word(simple) {
             return Err(NameError::PrimitiveName);
@@ -87,13 +84,10 @@ impl FullName {
         requires { is_full_name (record { namespace = namespace.now; simple = simple.now }) ≡ true }
         ensures { IsErrOf result NameError.OutOfMemory ⊎ (result ≡ Ok (record { namespace = namespace.now; simple = simple.now })) }
     {
-        match String::from_str(alloc, namespace) {
-            Ok(namespace) => match String::from_str(alloc, simple) {
-                Ok(simple) => Ok(FullName { namespace, simple }),
-                Err(_) => Err(NameError::OutOfMemory),
-            },
-            Err(_) => Err(NameError::OutOfMemory),
-        }
+        Ok(FullName {
+            namespace: String::from_str(alloc, namespace)?,
+            simple: String::from_str(alloc, simple)?,
+        })
     }
 }
 

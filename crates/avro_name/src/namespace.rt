@@ -54,14 +54,10 @@ impl Namespace {
         if text.is_empty() {
             return Ok(Namespace::null(alloc));
         }
-        match check_dotted_name(text.as_bytes()) {
-            Ok(()) => {}
-            Err(error) => return Err(error),
-        }
-        match String::from_str(alloc, text) {
-            Ok(text) => Ok(Namespace { text }),
-            Err(_) => Err(NameError::OutOfMemory),
-        }
+        check_dotted_name(text.as_bytes())?;
+        Ok(Namespace {
+            text: String::from_str(alloc, text)?,
+        })
     }
 
     /// The text of the namespace, which is empty for the null namespace.
