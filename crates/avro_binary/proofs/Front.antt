@@ -61,20 +61,20 @@ abbrev pub IsEntryItem : List Node → Node → List ℕ → Type 0
 IsEntryItem nodes n bytes =
     (k : List ℕ) × (w : Value) × (key first : List ℕ) × SpellsBytes k key × (fits nodes n w ≡ true) × Spells w first × (bytes ≡ key ++ first)
 
-items_are : (nodes : List Node) (n : Node) (vs : Values) (items : List (List ℕ)) → each_fits nodes n vs ≡ true → EachSpelled vs items → Each (IsItem nodes n) items
+pub items_are : (nodes : List Node) (n : Node) (vs : Values) (items : List (List ℕ)) → each_fits nodes n vs ≡ true → EachSpelled vs items → Each (IsItem nodes n) items
 items_are nodes n no_values items h s = subst (Each (IsItem nodes n)) (sym s) tt
 items_are nodes n (value v vs) items h s =
     let parts = and_parts (fits nodes n v) (each_fits nodes n vs) h in
     subst (Each (IsItem nodes n)) (sym s.4) ((v, parts.0, s.2), items_are nodes n vs s.1 parts.1 s.3)
 
-items_alone : (nodes : List Node) (n : Node) (vs : Values) (items : List (List ℕ)) → EachTold nodes n vs → EachSpelled vs items → Each (IsAlone (IsItem nodes n)) items
+pub items_alone : (nodes : List Node) (n : Node) (vs : Values) (items : List (List ℕ)) → EachTold nodes n vs → EachSpelled vs items → Each (IsAlone (IsItem nodes n)) items
 items_alone nodes n no_values items told s = subst (Each (IsAlone (IsItem nodes n))) (sym s) tt
 items_alone nodes n (value v vs) items told s =
     subst (Each (IsAlone (IsItem nodes n))) (sym s.4)
     ((λ other x y is e. (told.0 is.0 s.0 other x y is.1 s.2 is.2 e).0), items_alone nodes n vs s.1 told.1 s.3)
 
 -- the same items are those of the same values
-items_same : (nodes : List Node) (n : Node) (vs ws : Values) (items : List (List ℕ)) → EachTold nodes n vs → each_fits nodes n ws ≡ true → EachSpelled vs items
+pub items_same : (nodes : List Node) (n : Node) (vs ws : Values) (items : List (List ℕ)) → EachTold nodes n vs → each_fits nodes n ws ≡ true → EachSpelled vs items
     → EachSpelled ws items → vs ≡ ws
 items_same nodes n no_values no_values items told h s t = refl
 items_same nodes n no_values (value w ws) items told h s t = let e = t.4 in absurd cc
@@ -89,7 +89,7 @@ items_same nodes n (value v vs) (value w ws) items told h s t =
     let rest = items_same nodes n vs ws s.1 told.1 parts.1 s.3 (subst (EachSpelled ws) (sym others) t.3) in
     cc
 
-entries_are : (nodes : List Node) (n : Node) (es : Entries) (items : List (List ℕ)) → entries_fit nodes n es ≡ true → EntriesSpelled es items → Each (IsEntryItem nodes n) items
+pub entries_are : (nodes : List Node) (n : Node) (es : Entries) (items : List (List ℕ)) → entries_fit nodes n es ≡ true → EntriesSpelled es items → Each (IsEntryItem nodes n) items
 entries_are nodes n no_entries items h s = subst (Each (IsEntryItem nodes n)) (sym s) tt
 entries_are nodes n (entry k v es) items h s =
     let parts = and_parts (fits nodes n v) (entries_fit nodes n es) h in
@@ -105,7 +105,7 @@ same_entry nodes n k l v w key key' first first' x y told h s s' t t' e =
     let values = told w first first' x y h t t' (same_behind key key' (first ++ x) (first' ++ y) keys.0 joined) in
     (keys.1, values.1, keys.0, values.0)
 
-entries_alone : (nodes : List Node) (n : Node) (es : Entries) (items : List (List ℕ)) → EntriesTold nodes n es → EntriesSpelled es items → Each (IsAlone (IsEntryItem nodes n)) items
+pub entries_alone : (nodes : List Node) (n : Node) (es : Entries) (items : List (List ℕ)) → EntriesTold nodes n es → EntriesSpelled es items → Each (IsAlone (IsEntryItem nodes n)) items
 entries_alone nodes n no_entries items told s = subst (Each (IsAlone (IsEntryItem nodes n))) (sym s) tt
 entries_alone nodes n (entry k v es) items told s =
     subst (Each (IsAlone (IsEntryItem nodes n))) (sym s.6) (
@@ -119,7 +119,7 @@ entries_alone nodes n (entry k v es) items told s =
       entries_alone nodes n es s.2 told.1 s.5,
     )
 
-entries_same : (nodes : List Node) (n : Node) (es fs : Entries) (items : List (List ℕ)) → EntriesTold nodes n es → entries_fit nodes n fs ≡ true → EntriesSpelled es items
+pub entries_same : (nodes : List Node) (n : Node) (es fs : Entries) (items : List (List ℕ)) → EntriesTold nodes n es → entries_fit nodes n fs ≡ true → EntriesSpelled es items
     → EntriesSpelled fs items → es ≡ fs
 entries_same nodes n no_entries no_entries items told h s t = refl
 entries_same nodes n no_entries (entry l w fs) items told h s t = let e = t.6 in absurd cc
