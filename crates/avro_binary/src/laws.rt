@@ -30,3 +30,9 @@ pub fn fault_or_within()
     ensures { (nodes : List Node) (limits : LimitValues) (place : ℕ) (bytes : List ℕ) (f : ReadFault) (v : Value) (front rest : List ℕ) → is_schema nodes ≡ true
         → Breaks nodes limits (node_at nodes place) bytes f → Encodes nodes (node_at nodes place) v front → is_within limits v ≡ true → bytes ≡ front ++ rest → ⊥ }
 {}
+
+/// At most one fault holds of bytes: one code and one place.
+pub fn one_fault()
+    ensures { (nodes : List Node) (limits : LimitValues) (place : ℕ) (bytes : List ℕ) (f g : ReadFault) → is_schema nodes ≡ true
+        → Breaks nodes limits (node_at nodes place) bytes f → Breaks nodes limits (node_at nodes place) bytes g → f ≡ g }
+{}
