@@ -60,6 +60,19 @@ pub entries_spelled_count : (es : Entries) (items : List (List ℕ)) → Entries
 entries_spelled_count no_entries items s = ap length s
 entries_spelled_count (entry k v es) items s = omega (arith, ap length s.6, entries_spelled_count es s.2 s.5)
 
+-- a block with one more item at its front
+cut_more : (Follows : Left → List (List ℕ) → Type 0) (then_left : Left) (done : ℕ) (front item : List ℕ) (block later : List (List ℕ)) (x y : List ℕ)
+    → IsCut Follows then_left done front block later x y → IsCut Follows then_left (suc done) (item ++ front) (item ∷ block) later x y
+cut_more Follows then_left done front item block later x y cut = record {
+  before = item ∷ cut.before;
+  after = cut.after;
+  parts = ap (λ (is : List (List ℕ)). item ∷ is) cut.parts;
+  counted = ap suc cut.counted;
+  same = ap (λ (q : List ℕ). item ++ q) cut.same;
+  split = cut.split;
+  follows = cut.follows;
+}
+
 -- ---- Values
 
 -- bytes that break as a node, where so many nodes are left, begin with no value of it; a limit that is passed tells W,
@@ -105,15 +118,12 @@ cut_values W nodes n limits left (value v vs) (value w ws) items (i ∷ block) l
     let rest = cut_values W nodes n limits state vs ws s.1 block later x y mine.1 s.3 parts.1 (subst (EachSpelled ws) tail t.3)
         (λ u. AreSmall-others limits.depth left.nodes limits.blob w ws (small u)) (omega arith) (same_behind s.0 i (concat s.1 ++ y) (concat block ++ x) first.0 joined) in
     let nodes_left : left.nodes - size w - values_size vs ≡ left.nodes - (size v + values_size vs) = omega arith in
-    record {
-      before = i ∷ rest.before;
-      after = rest.after;
-      parts = ap (λ (is : List (List ℕ)). i ∷ is) rest.parts;
-      counted = ap suc rest.counted;
-      same = ap concat s.4 ∙ ap (λ (q : List ℕ). q ++ concat s.1) first.0 ∙ ap (λ (q : List ℕ). i ++ q) rest.same;
-      split = rest.split;
-      follows = subst (λ (c : ℕ). ValuesFollow W nodes n limits (record { nodes = c; keys = left.keys }) (rest.after ++ later)) nodes_left rest.follows;
-    }
+    let front : i ++ concat s.1 ≡ concat items = ap (λ (q : List ℕ). q ++ concat s.1) (sym first.0) ∙ sym (ap concat s.4) in
+    let Follows = ValuesFollow W nodes n limits in
+    let after : Left = record { nodes = left.nodes - size w - values_size vs; keys = left.keys } in
+    let more = cut_more Follows after (values_count vs) (concat s.1) i block later x y rest in
+    subst (λ (q : List ℕ). IsCut Follows (record { nodes = left.nodes - (size v + values_size vs); keys = left.keys }) (suc (values_count vs)) q (i ∷ block) later x y) front
+    (subst (λ (c : ℕ). IsCut Follows (record { nodes = c; keys = left.keys }) (suc (values_count vs)) (i ++ concat s.1) (i ∷ block) later x y) nodes_left more)
 
 pub values_follow : (W : Type 0) (nodes : List Node) (n : Node) (limits : LimitValues) (broken : ℕ → List ℕ → ReadFault → Type 0)
     → NoneAt W nodes n limits.depth limits.blob broken
@@ -201,18 +211,15 @@ cut_entries W nodes n limits left (entry k v es) (entry j w fs) items (i ∷ blo
     let nodes_left : left.nodes - size w - entries_size es ≡ left.nodes - (size v + entries_size es) = omega arith in
     let keys_left : left.keys ++ j ∷ [] ++ keys_of es ≡ left.keys ++ (k ∷ keys_of es) =
         append_assoc left.keys (j ∷ []) (keys_of es) ∙ ap (λ (q : List ℕ). left.keys ++ (q ∷ keys_of es)) (sym first.0) in
-    record {
-      before = i ∷ rest.before;
-      after = rest.after;
-      parts = ap (λ (is : List (List ℕ)). i ∷ is) rest.parts;
-      counted = ap suc rest.counted;
-      same = ap concat s.6 ∙ ap (λ (q : List ℕ). q ++ concat s.2) front ∙ ap (λ (q : List ℕ). i ++ q) rest.same;
-      split = rest.split;
-      follows =
-          subst (λ (c : ℕ). EntriesFollow W nodes n limits (record { nodes = c; keys = left.keys ++ (k ∷ keys_of es) }) (rest.after ++ later)) nodes_left
-          (subst (λ (ks : List (List ℕ)). EntriesFollow W nodes n limits (record { nodes = left.nodes - size w - entries_size es; keys = ks }) (rest.after ++ later)) keys_left
-          rest.follows);
-    }
+    let fronts : i ++ concat s.2 ≡ concat items = ap (λ (q : List ℕ). q ++ concat s.2) (sym front) ∙ sym (ap concat s.6) in
+    let Follows = EntriesFollow W nodes n limits in
+    let after : Left = record { nodes = left.nodes - size w - entries_size es; keys = left.keys ++ j ∷ [] ++ keys_of es } in
+    let more = cut_more Follows after (entries_count es) (concat s.2) i block later x y rest in
+    subst (λ (q : List ℕ). IsCut Follows (record { nodes = left.nodes - (size v + entries_size es); keys = left.keys ++ (k ∷ keys_of es) }) (suc (entries_count es)) q (i ∷ block) later x y)
+    fronts
+    (subst (λ (c : ℕ). IsCut Follows (record { nodes = c; keys = left.keys ++ (k ∷ keys_of es) }) (suc (entries_count es)) (i ++ concat s.2) (i ∷ block) later x y) nodes_left
+    (subst (λ (ks : List (List ℕ)). IsCut Follows (record { nodes = left.nodes - size w - entries_size es; keys = ks }) (suc (entries_count es)) (i ++ concat s.2) (i ∷ block) later x y)
+    keys_left more))
 
 -- a text is not too long for its length, and valid
 pub is_text-short : (t : List ℕ) → is_text t ≡ true → length t < 2 ^ 63
