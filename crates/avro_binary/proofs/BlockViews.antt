@@ -1,5 +1,5 @@
 -- What the bytes of blocks begin with.
-use Rattle.std.proofs.Common.{◌≡◌, ◌≢◌, ℕ, zero, suc, ◌-◌, ◌^◌, ◌<◌, ◌≤◌, ℤ, pos, negsuc, true, List, [], ◌∷◌, ◌++◌, length, refl, sym, ap, ◌∙◌, subst, append_assoc, length-append, arith}
+use Rattle.std.proofs.Common.{◌≡◌, ◌≢◌, ℕ, zero, suc, ◌-◌, ◌^◌, ◌<◌, ◌≤◌, ℤ, pos, negsuc, true, List, [], ◌∷◌, ◌++◌, length, refl, sym, ap, ◌∙◌, append_assoc, length-append, arith}
 use Rattle.std.specs.Prelude.{neg_ℤ, nat_abs}
 use Rattle.std.specs.List.{concat}
 use Rattle.std.proofs.lemmas.Bool.Decides.{nat_tests}
@@ -139,12 +139,12 @@ first_block left (Head.sized count length' bytes size_bytes) _ front x y h (IsIn
     absurd (neg-apart count 0 h.0 (sym same.1))
 first_block left (Head.sized count length' bytes size_bytes) items front x y h (IsInBlocks.counted block later count' rest e' some few s split blocks) e =
     let joined : count' ++ (concat block ++ (rest ++ y)) ≡ bytes ++ (size_bytes ++ x) =
-        sym (joined_three count' (concat block) rest y) ∙ ap (λ (f : List ℕ). f ++ y) (sym split) ∙ e ∙ append_assoc bytes size_bytes x in
+    sym (joined_three count' (concat block) rest y) ∙ ap (λ (f : List ℕ). f ++ y) (sym split) ∙ e ∙ append_assoc bytes size_bytes x in
     let same = one_spelling_lem (pos (length block)) (neg_ℤ (pos count)) count' bytes (concat block ++ (rest ++ y)) (size_bytes ++ x) s h.4 joined in
     absurd (neg-apart count (length block) h.0 (sym same.1))
 first_block left (Head.sized count length' bytes size_bytes) items front x y h (IsInBlocks.sized block later count' size rest e' some few short s u split blocks) e =
     let joined : count' ++ (size ++ (concat block ++ (rest ++ y))) ≡ bytes ++ (size_bytes ++ x) =
-        sym (joined_four count' size (concat block) rest y) ∙ ap (λ (f : List ℕ). f ++ y) (sym split) ∙ e ∙ append_assoc bytes size_bytes x in
+    sym (joined_four count' size (concat block) rest y) ∙ ap (λ (f : List ℕ). f ++ y) (sym split) ∙ e ∙ append_assoc bytes size_bytes x in
     let same = one_spelling_lem (neg_ℤ (pos (length block))) (neg_ℤ (pos count)) count' bytes (size ++ (concat block ++ (rest ++ y))) (size_bytes ++ x) s h.4 joined in
     let behind_count = same_behind count' bytes (size ++ (concat block ++ (rest ++ y))) (size_bytes ++ x) same.0 joined in
     let sizes = one_spelling_lem (pos (length (concat block))) (pos length') size size_bytes (concat block ++ (rest ++ y)) x u h.5 behind_count in

@@ -1,13 +1,13 @@
 -- A schema's unions and enums have so few choices that the place of each is an int.
 use Rattle.std.proofs.Common.{◌≡◌, ℕ, zero, suc, ◌^◌, ◌<◌, ◌≤◌, Bool, true, false, List, [], ◌∷◌, Option, Some, None, length, refl, sym, ap, ◌∙◌, subst, inl, inr, arith}
-use Rattle.std.specs.Prelude.{nat_lt, nat_le, ◌&&◌, ◌||◌, not, ◌==◌, bytes_eq, eqb, is_some, slice_get, unwrap_or, filter_map}
+use Rattle.std.specs.Prelude.{nat_lt, nat_le, ◌&&◌, ◌||◌, not, bytes_eq, eqb, is_some, slice_get, unwrap_or, filter_map}
 use Rattle.std.specs.List.{list_all, list_any, AllByRecursion, IsDistinct, cons_option}
 use Rattle.std.proofs.lemmas.Bool.{and_parts, or_parts, or_cases, false≢true, not-true, eqb-true}
 use Rattle.std.proofs.lemmas.Bool.Decides.{nat_tests, Decides-eqb}
 use Rattle.std.proofs.lemmas.Slice.Eq.{bytes_eq-Decides}
 use Rattle.std.proofs.lemmas.Map.Steps.{length-le_from_distinct_below}
-use Rattle.avro_name.specs.Name.{same_name, is_simple_name}
-use Rattle.avro_schema.specs.Node.{Node, node_at, node_name, edges_of}
+use Rattle.avro_name.specs.Name.{is_simple_name}
+use Rattle.avro_schema.specs.Node.{Node, node_at, node_name}
 use Rattle.avro_schema.specs.WellFormed.{is_schema, is_edge, is_good_node, are_good_nodes, BranchKind, unnamed, named, branch_kind, same_kind, has_good_names, meets_its_rules, max_count}
 use Rattle.avro_schema.specs.Distinct.{are_distinct}
 
@@ -60,8 +60,7 @@ module _ (nodes : List Node) where
       let parts = and_parts (is_some (kind_at_place x)) (list_all (λ place. is_some (kind_at_place place)) xs) some in
       let found = has_some (kind_at_place x) parts.0 in
       let h' = subst (λ (o : Option BranchKind). are_distinct same_kind (cons_option o (filter_map kind_at_place xs)) ≡ true) found.1 h in
-      let both = and_parts (not (list_any (same_kind found.0) (filter_map kind_at_place xs))) (are_distinct same_kind (filter_map kind_at_place xs)) h' in
-      (
+      let both = and_parts (not (list_any (same_kind found.0) (filter_map kind_at_place xs))) (are_distinct same_kind (filter_map kind_at_place xs)) h' in (
         kinds_apart x found.0 xs found.1 parts.1 (not-true (list_any (same_kind found.0) (filter_map kind_at_place xs)) both.0),
         distinct_places xs parts.1 both.1,
       )

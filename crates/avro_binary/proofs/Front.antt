@@ -1,5 +1,5 @@
 -- Of two encodings at one node, neither is a proper front of the other.
-use Rattle.std.proofs.Common.{◌≡◌, ℕ, zero, suc, pos, Bool, true, false, Some, List, [], ◌∷◌, ◌++◌, length, refl, sym, ap, ◌∙◌, subst, append_assoc, arith, slice_get, if◌then◌else◌}
+use Rattle.std.proofs.Common.{◌≡◌, ℕ, pos, Bool, true, false, Some, List, [], ◌∷◌, ◌++◌, length, refl, sym, ap, ◌∙◌, subst, append_assoc, arith, slice_get, if◌then◌else◌}
 use Rattle.std.specs.Prelude.{◌==◌}
 use Rattle.std.specs.List.{concat}
 use Rattle.std.proofs.lemmas.Bool.{and_parts, false≢true}
@@ -25,7 +25,7 @@ same_front (c ∷ a) (d ∷ b) x y l e = let tail : a ++ x ≡ b ++ y = cc in le
 pub same_bytes : (v w a b x y : List ℕ) → SpellsBytes v a → SpellsBytes w b → a ++ x ≡ b ++ y → (a ≡ b) × (v ≡ w)
 same_bytes v w a b x y s t e =
     let joined : s.0 ++ (v ++ x) ≡ t.0 ++ (w ++ y) =
-        sym (append_assoc s.0 v x) ∙ ap (λ (f : List ℕ). f ++ x) (sym s.2) ∙ e ∙ ap (λ (f : List ℕ). f ++ y) t.2 ∙ append_assoc t.0 w y in
+    sym (append_assoc s.0 v x) ∙ ap (λ (f : List ℕ). f ++ x) (sym s.2) ∙ e ∙ ap (λ (f : List ℕ). f ++ y) t.2 ∙ append_assoc t.0 w y in
     let number = one_spelling_lem (pos (length v)) (pos (length w)) s.0 t.0 (v ++ x) (w ++ y) s.1 t.1 joined in
     let content = same_front v w x y (same_from_pos (length v) (length w) number.1) (same_behind s.0 t.0 (v ++ x) (w ++ y) number.0 joined) in
     let left = s.2 in
@@ -149,11 +149,11 @@ fields_same nodes (place ∷ places) (value v vs) (value w ws) items others x y 
     let mine = and_parts (fits nodes (node_at nodes place) v) (fields_fit nodes places vs) g in
     let parts = and_parts (fits nodes (node_at nodes place) w) (fields_fit nodes places ws) h in
     let joined : s.0 ++ (concat s.1 ++ x) ≡ t.0 ++ (concat t.1 ++ y) =
-        sym (append_assoc s.0 (concat s.1) x) ∙ ap (λ (is : List (List ℕ)). concat is ++ x) (sym s.4) ∙ e
-        ∙ ap (λ (is : List (List ℕ)). concat is ++ y) t.4 ∙ append_assoc t.0 (concat t.1) y in
+    sym (append_assoc s.0 (concat s.1) x) ∙ ap (λ (is : List (List ℕ)). concat is ++ x) (sym s.4) ∙ e
+    ∙ ap (λ (is : List (List ℕ)). concat is ++ y) t.4 ∙ append_assoc t.0 (concat t.1) y in
     let first = told.0 w s.0 t.0 (concat s.1 ++ x) (concat t.1 ++ y) parts.0 s.2 t.2 joined in
     let rest = fields_same nodes places vs ws s.1 t.1 x y told.1 mine.1 parts.1 s.3 t.3
-        (same_behind s.0 t.0 (concat s.1 ++ x) (concat t.1 ++ y) first.0 joined) in
+    (same_behind s.0 t.0 (concat s.1 ++ x) (concat t.1 ++ y) first.0 joined) in
     let front : s.0 ++ concat s.1 ≡ t.0 ++ concat t.1 = cc in
     (ap concat s.4 ∙ front ∙ sym (ap concat t.4), cc)
 
@@ -232,13 +232,13 @@ mutual
       let is = union_value nodes parts.places w (kind_at nodes n (Node.union parts.places) w parts.is_union h) in
       let other = respelled w (Value.union is.0 is.1) b is.3 t in
       let joined : s.0 ++ (s.1 ++ x) ≡ other.0 ++ (other.1 ++ y) =
-          sym (append_assoc s.0 s.1 x) ∙ ap (λ (f : List ℕ). f ++ x) (sym s.4) ∙ e ∙ ap (λ (f : List ℕ). f ++ y) other.4 ∙ append_assoc other.0 other.1 y in
+      sym (append_assoc s.0 s.1 x) ∙ ap (λ (f : List ℕ). f ++ x) (sym s.4) ∙ e ∙ ap (λ (f : List ℕ). f ++ y) other.4 ∙ append_assoc other.0 other.1 y in
       let number = one_spelling_lem (pos k) (pos is.0) s.0 other.0 (s.1 ++ x) (other.1 ++ y) s.2 other.2 joined in
       let one : k ≡ is.0 = same_from_pos k is.0 number.1 in
       let place : is.2 ≡ parts.place = same_place parts.places k is.0 parts.place is.2 one parts.is_branch is.4 in
       let there = subst (λ (p : ℕ). fits nodes (node_at nodes p) is.1 ≡ true) place is.5 in
       let same = told nodes (node_at nodes parts.place) v parts.fitting is.1 s.1 other.1 x y there s.3 other.3
-          (same_behind s.0 other.0 (s.1 ++ x) (other.1 ++ y) number.0 joined) in
+      (same_behind s.0 other.0 (s.1 ++ x) (other.1 ++ y) number.0 joined) in
       (union_bytes a b s.0 s.1 other.0 other.1 s.4 other.4 number.0 same.0, union_is k is.0 v is.1 one same.1 ∙ sym is.3)
     where
       same_place : (places : List ℕ) (k j p q : ℕ) → k ≡ j → slice_get places k ≡ Some p → slice_get places j ≡ Some q → q ≡ p
@@ -255,7 +255,7 @@ mutual
       let other = respelled w (Value.record_of is.0) b is.1 t in
       let each = fields_told nodes (field_places parts.fields) vs parts.fitting in
       let same = fields_same nodes (field_places parts.fields) vs is.0 s.0 other.0 x y each parts.fitting is.2 s.1 other.1
-          (ap (λ (f : List ℕ). f ++ x) (sym s.2) ∙ e ∙ ap (λ (f : List ℕ). f ++ y) other.2) in
+      (ap (λ (f : List ℕ). f ++ x) (sym s.2) ∙ e ∙ ap (λ (f : List ℕ). f ++ y) other.2) in
       (s.2 ∙ same.0 ∙ sym other.2, ap Value.record_of same.1 ∙ sym is.1)
   told nodes n (Value.enum k) g w a b x y h s t e =
       let mine = FitsKind-from_fits nodes n (Value.enum k) g in

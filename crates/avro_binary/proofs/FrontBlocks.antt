@@ -1,10 +1,9 @@
 -- What stands at the front of bytes that are cut into blocks.
-use Rattle.std.proofs.Common.{◌≡◌, ℕ, zero, suc, ◌<◌, ℤ, pos, negsuc, List, [], ◌∷◌, ◌++◌, length, refl, sym, ap, ◌∙◌, subst, append_assoc, arith}
+use Rattle.std.proofs.Common.{◌≡◌, ℕ, zero, suc, ◌<◌, pos, List, [], ◌∷◌, ◌++◌, length, refl, sym, ap, ◌∙◌, subst, append_assoc, arith}
 use Rattle.std.specs.Prelude.{neg_ℤ}
 use Rattle.std.specs.List.{concat}
 use Rattle.std.proofs.lemmas.List.{append_cancel_left}
 use Rattle.std.proofs.Math.IntN.{neg_ℤ-neg_ℤ}
-use Rattle.avro_zigzag.specs.Number.{SpellsNumber}
 use Rattle.avro_zigzag.proofs.Spelling.{one_spelling_lem}
 use Rattle.avro_binary.specs.Blocks.{IsInBlocks, no_more, counted, sized}
 
@@ -77,17 +76,17 @@ same_blocks P items _ a b x y alone are (counted block later count rest e' some 
     absurd (omega (arith, same_from_pos (length block) 0 same.1))
 same_blocks P items others a b x y alone are (counted block later count rest e' some few s split blocks) (counted block' later' count' rest' e'' some' few' t split' blocks') e =
     let joined : count ++ (concat block ++ (rest ++ x)) ≡ count' ++ (concat block' ++ (rest' ++ y)) =
-        sym (joined_three count (concat block) rest x) ∙ ap (λ (f : List ℕ). f ++ x) (sym split) ∙ e ∙ ap (λ (f : List ℕ). f ++ y) split' ∙ joined_three count' (concat block') rest' y in
+    sym (joined_three count (concat block) rest x) ∙ ap (λ (f : List ℕ). f ++ x) (sym split) ∙ e ∙ ap (λ (f : List ℕ). f ++ y) split' ∙ joined_three count' (concat block') rest' y in
     let same = one_spelling_lem (pos (length block)) (pos (length block')) count count' (concat block ++ (rest ++ x)) (concat block' ++ (rest' ++ y)) s t joined in
     let left = Each-parts (IsAlone P) block later (subst (Each (IsAlone P)) e' alone) in
     let right = Each-parts P block' later' (subst (Each P) e'' are) in
     let run = same_run P block block' (rest ++ x) (rest' ++ y) left.0 right.0 (same_from_pos (length block) (length block') same.1)
-        (same_behind count count' (concat block ++ (rest ++ x)) (concat block' ++ (rest' ++ y)) same.0 joined) in
+    (same_behind count count' (concat block ++ (rest ++ x)) (concat block' ++ (rest' ++ y)) same.0 joined) in
     let after = same_blocks P later later' rest rest' x y left.1 right.1 blocks blocks' run.1 in
     (cc, cc)
 same_blocks P items others a b x y alone are (counted block later count rest e' some few s split blocks) (sized block' later' count' size rest' e'' some' few' short t u split' blocks') e =
     let joined : count ++ (concat block ++ (rest ++ x)) ≡ count' ++ (size ++ (concat block' ++ (rest' ++ y))) =
-        sym (joined_three count (concat block) rest x) ∙ ap (λ (f : List ℕ). f ++ x) (sym split) ∙ e ∙ ap (λ (f : List ℕ). f ++ y) split' ∙ joined_four count' size (concat block') rest' y in
+    sym (joined_three count (concat block) rest x) ∙ ap (λ (f : List ℕ). f ++ x) (sym split) ∙ e ∙ ap (λ (f : List ℕ). f ++ y) split' ∙ joined_four count' size (concat block') rest' y in
     let same = one_spelling_lem (pos (length block)) (neg_ℤ (pos (length block'))) count count' (concat block ++ (rest ++ x)) (size ++ (concat block' ++ (rest' ++ y))) s t joined in
     absurd (neg-apart (length block') (length block) some' (sym same.1))
 same_blocks P items _ a b x y alone are (sized block later count size rest e' some few short s u split blocks) (no_more t) e =
@@ -96,19 +95,19 @@ same_blocks P items _ a b x y alone are (sized block later count size rest e' so
     absurd (neg-apart (length block) 0 some same.1)
 same_blocks P items others a b x y alone are (sized block later count size rest e' some few short s u split blocks) (counted block' later' count' rest' e'' some' few' t split' blocks') e =
     let joined : count ++ (size ++ (concat block ++ (rest ++ x))) ≡ count' ++ (concat block' ++ (rest' ++ y)) =
-        sym (joined_four count size (concat block) rest x) ∙ ap (λ (f : List ℕ). f ++ x) (sym split) ∙ e ∙ ap (λ (f : List ℕ). f ++ y) split' ∙ joined_three count' (concat block') rest' y in
+    sym (joined_four count size (concat block) rest x) ∙ ap (λ (f : List ℕ). f ++ x) (sym split) ∙ e ∙ ap (λ (f : List ℕ). f ++ y) split' ∙ joined_three count' (concat block') rest' y in
     let same = one_spelling_lem (neg_ℤ (pos (length block))) (pos (length block')) count count' (size ++ (concat block ++ (rest ++ x))) (concat block' ++ (rest' ++ y)) s t joined in
     absurd (neg-apart (length block) (length block') some same.1)
 same_blocks P items others a b x y alone are (sized block later count size rest e' some few short s u split blocks) (sized block' later' count' size' rest' e'' some' few' short' t u' split' blocks') e =
     let joined : count ++ (size ++ (concat block ++ (rest ++ x))) ≡ count' ++ (size' ++ (concat block' ++ (rest' ++ y))) =
-        sym (joined_four count size (concat block) rest x) ∙ ap (λ (f : List ℕ). f ++ x) (sym split) ∙ e ∙ ap (λ (f : List ℕ). f ++ y) split' ∙ joined_four count' size' (concat block') rest' y in
+    sym (joined_four count size (concat block) rest x) ∙ ap (λ (f : List ℕ). f ++ x) (sym split) ∙ e ∙ ap (λ (f : List ℕ). f ++ y) split' ∙ joined_four count' size' (concat block') rest' y in
     let same = one_spelling_lem (neg_ℤ (pos (length block))) (neg_ℤ (pos (length block'))) count count'
-        (size ++ (concat block ++ (rest ++ x))) (size' ++ (concat block' ++ (rest' ++ y))) s t joined in
+    (size ++ (concat block ++ (rest ++ x))) (size' ++ (concat block' ++ (rest' ++ y))) s t joined in
     let behind_count = same_behind count count' (size ++ (concat block ++ (rest ++ x))) (size' ++ (concat block' ++ (rest' ++ y))) same.0 joined in
     let sizes = one_spelling_lem (pos (length (concat block))) (pos (length (concat block'))) size size' (concat block ++ (rest ++ x)) (concat block' ++ (rest' ++ y)) u u' behind_count in
     let left = Each-parts (IsAlone P) block later (subst (Each (IsAlone P)) e' alone) in
     let right = Each-parts P block' later' (subst (Each P) e'' are) in
     let run = same_run P block block' (rest ++ x) (rest' ++ y) left.0 right.0 (same_from_neg (length block) (length block') same.1)
-        (same_behind size size' (concat block ++ (rest ++ x)) (concat block' ++ (rest' ++ y)) sizes.0 behind_count) in
+    (same_behind size size' (concat block ++ (rest ++ x)) (concat block' ++ (rest' ++ y)) sizes.0 behind_count) in
     let after = same_blocks P later later' rest rest' x y left.1 right.1 blocks blocks' run.1 in
     (cc, cc)

@@ -1,13 +1,12 @@
 -- The data of a node, by the node's kind.
-use Rattle.std.proofs.Common.{◌≡◌, ℕ, Bool, true, List, Option, Some, None, refl, subst}
+use Rattle.std.proofs.Common.{◌≡◌, ℕ, true, List, Option, Some, refl, subst}
 use Rattle.std.specs.Prelude.{length, slice_get, nat_lt, ◌==◌, bytes_eq}
 use Rattle.std.specs.List.{list_all}
 use Rattle.avro_name.specs.Name.{Name}
-use Rattle.avro_schema.specs.Value.{Value, Values, Entries, values_count, entries_count, keys_of}
+use Rattle.avro_schema.specs.Value.{Value, Values, Entries, values_count, keys_of}
 use Rattle.avro_schema.specs.Node.{Node, FieldNode, node_at, symbols_of, fixed_length, field_places}
 use Rattle.avro_schema.specs.Fits.{fits, each_fits, entries_fit, fields_fit, is_count, are_bytes, is_text}
 use Rattle.avro_schema.specs.Distinct.{are_distinct}
-use Rattle.avro_schema.proofs.FitsParts.{ArrayFits, MapFits, UnionFits, RecordFits}
 use Rattle.avro_schema.proofs.FitsKind.{FitsKind, FitsKind-from_fits}
 
 -- the kind of a datum, seen at a node that is the same

@@ -1,5 +1,5 @@
 -- Bytes that break begin with no encoding of a datum within limits, and where no limit is passed, of any datum.
-use Rattle.std.proofs.Common.{◌≡◌, ◌≢◌, ◌⊎◌, inl, inr, ℕ, zero, suc, ◌+◌, ◌-◌, ◌^◌, ◌<◌, ◌≤◌, max, pos, Bool, true, false, Some, List, [], ◌∷◌, ◌++◌, length, refl, sym, ap, ◌∙◌, subst, append_assoc, append-nil, length-append, arith, slice_get, if◌then◌else◌}
+use Rattle.std.proofs.Common.{◌≡◌, ◌≢◌, ◌⊎◌, inl, inr, ℕ, zero, suc, ◌+◌, ◌-◌, ◌^◌, ◌<◌, ◌≤◌, pos, Bool, true, false, Some, List, [], ◌∷◌, ◌++◌, length, refl, sym, ap, ◌∙◌, subst, append_assoc, length-append, arith, slice_get, if◌then◌else◌}
 use Rattle.std.specs.Prelude.{◌==◌, nat_lt, nat_le, ◌&&◌}
 use Rattle.std.specs.List.{concat}
 use Rattle.std.specs.Str.{is_utf8}
@@ -16,9 +16,9 @@ use Rattle.avro_schema.specs.WellFormed.{is_schema}
 use Rattle.avro_schema.proofs.FitsParts.{is_count-below}
 use Rattle.avro_schema.proofs.FitsKind.{FitsKind, FitsKind-from_fits, boolean_value, int_value, long_value}
 use Rattle.avro_schema.proofs.Parts.{size-positive, depth-positive}
-use Rattle.avro_binary.specs.Encoding.{Spells, EachSpelled, EntriesSpelled, Encodes}
+use Rattle.avro_binary.specs.Encoding.{Spells, EachSpelled, Encodes}
 use Rattle.avro_binary.specs.Fault.{ReadFault, limit_exceeded}
-use Rattle.avro_binary.specs.Breaks.{ChildBreaks, BooleanBreaks, FixedBreaks, IndexBreaks, BranchBreaks, FieldsBreak, BlocksBreak, ItemsAreWhole, EntriesAreWhole, EntryBreaks, NodeBreaks, BreaksWithin, Breaks, all_left}
+use Rattle.avro_binary.specs.Breaks.{ChildBreaks, BooleanBreaks, FixedBreaks, IndexBreaks, BranchBreaks, FieldsBreak, ItemsAreWhole, EntriesAreWhole, EntryBreaks, NodeBreaks, BreaksWithin, Breaks}
 use Rattle.avro_binary.proofs.Front.{told}
 use Rattle.avro_binary.proofs.FrontBlocks.{same_behind, same_from_pos}
 use Rattle.avro_binary.proofs.KindOf.{bytes_value, string_value, array_value, map_value, union_value, record_value, enum_value, fixed_value}
@@ -64,8 +64,8 @@ union_none W nodes left child places bytes f k place v number first rest none fe
     let joined : b.number ++ b.breaks.rest ≡ number ++ (first ++ rest) = sym b.breaks.split ∙ e in
     let same = one_spelling_lem (pos (length b.before)) (pos k) b.number number b.breaks.rest (first ++ rest) b.spelled s joined in
     let here : slice_get places k ≡ Some b.branch =
-        ap (λ (i : ℕ). slice_get places i) (sym (same_from_pos (length b.before) k same.1))
-        ∙ ap (λ (ps : List ℕ). slice_get ps (length b.before)) b.places_are ∙ slice_get-middle b.before b.branch b.after in
+    ap (λ (i : ℕ). slice_get places i) (sym (same_from_pos (length b.before) k same.1))
+    ∙ ap (λ (ps : List ℕ). slice_get ps (length b.before)) b.places_are ∙ slice_get-middle b.before b.branch b.after in
     let branch : place ≡ b.branch = cc in
     none b.branch left.nodes b.breaks.rest b.breaks.fault b.breaks.breaks (behind_limit f b.breaks.fault (length b.number) W b.breaks.moved limit) v first rest
     (subst (λ (p : ℕ). fits nodes (node_at nodes p) v ≡ true) branch h) t small (same_behind b.number number b.breaks.rest (first ++ rest) same.0 joined)
@@ -90,8 +90,8 @@ fields_none W nodes d b child (place ∷ before) field after (value v vs) (value
     let mine = and_parts (fits nodes n v) (fields_fit nodes before vs) g in
     let parts = and_parts (fits nodes n w) (fields_fit nodes (before ++ field ∷ after) ws) h in
     let joined : s.0 ++ (concat s.1 ++ rest) ≡ t.0 ++ (concat t.1 ++ x) =
-        sym (append_assoc s.0 (concat s.1) rest) ∙ ap (λ (is : List (List ℕ)). concat is ++ rest) (sym s.4) ∙ e
-        ∙ ap (λ (is : List (List ℕ)). concat is ++ x) t.4 ∙ append_assoc t.0 (concat t.1) x in
+    sym (append_assoc s.0 (concat s.1) rest) ∙ ap (λ (is : List (List ℕ)). concat is ++ rest) (sym s.4) ∙ e
+    ∙ ap (λ (is : List (List ℕ)). concat is ++ x) t.4 ∙ append_assoc t.0 (concat t.1) x in
     let first = told nodes n v mine.0 w s.0 t.0 (concat s.1 ++ rest) (concat t.1 ++ x) parts.0 s.2 t.2 joined in
     let sizes : size v ≡ size w = ap size first.1 in
     let left : c - (size v + values_size vs) ≡ c - size w - values_size vs = omega arith in

@@ -1,14 +1,12 @@
 -- Blocks that break begin with no blocks of any items.
-use Rattle.std.proofs.Common.{◌≡◌, ◌≢◌, ℕ, zero, suc, ◌+◌, ◌-◌, ◌^◌, ◌<◌, ◌≤◌, ℤ, pos, negsuc, true, List, [], ◌∷◌, ◌++◌, length, refl, sym, ap, ◌∙◌, subst, append_assoc, append-nil, length-append, arith}
+use Rattle.std.proofs.Common.{◌≡◌, ℕ, ◌-◌, ◌^◌, ◌<◌, ◌≤◌, ℤ, pos, negsuc, List, [], ◌∷◌, ◌++◌, length, refl, sym, ap, ◌∙◌, subst, append_assoc, append-nil, length-append, arith}
 use Rattle.std.specs.Prelude.{nat_abs}
 use Rattle.std.specs.List.{concat}
-use Rattle.avro_zigzag.specs.Number.{SpellsNumber}
 use Rattle.avro_zigzag.proofs.Faults.{long-excludes_fault}
 use Rattle.avro_zigzag.proofs.Spelling.{one_spelling_lem}
 use Rattle.avro_binary.specs.Blocks.{IsInBlocks}
 use Rattle.avro_binary.specs.Fault.{ReadFault, limit_exceeded, behind}
-use Rattle.avro_binary.specs.Breaks.{Left, LongBreaks, StartsWithLong, BreaksAfter, Head, head_count, head_bytes, IsHead, HasSize, BlocksBreak}
-use Rattle.avro_binary.proofs.FrontBlocks.{joined_three, same_behind}
+use Rattle.avro_binary.specs.Breaks.{Left, LongBreaks, StartsWithLong, Head, head_bytes, BlocksBreak}
 use Rattle.avro_binary.proofs.BlockViews.{first_number, first_size, first_block, pos-long}
 
 -- no long in range begins bytes that break as a long
@@ -91,19 +89,19 @@ module _ (W : Type 0) (are_whole : Left → ℕ → List ℕ → Left → Type 0
   blocks_none (BlocksBreak.item_fails {left = left} {bytes = bytes} {f = f} head done whole then_left is more are after) limit items front y follows blocks e =
       let first = first_block left.nodes head items front (whole ++ after.rest) y is blocks (sym e ∙ after.split ∙ append_assoc (head_bytes head) whole after.rest) in
       let at_block = kind.cut left then_left done whole first.block first.later (first.rest ++ y) after.rest are (subst (Follows left) first.items_are follows)
-          (omega (arith, first.counted, more)) first.split in
+      (omega (arith, first.counted, more)) first.split in
       none_after then_left done whole after.rest (first.rest ++ y) after.fault first.block first.later at_block (omega (arith, first.counted, more)) after.breaks
       (behind_limit f after.fault (length (head_bytes head ++ whole)) W after.moved limit)
   blocks_none (BlocksBreak.size_differs {left = left} {bytes = bytes} count size count_bytes size_bytes whole rest then_left is are split differs) limit items front y follows blocks e =
       let head = Head.sized count size count_bytes size_bytes in
       let first = first_block left.nodes head items front (whole ++ rest) y is blocks (sym e ∙ split ∙ append_assoc (count_bytes ++ size_bytes) whole rest) in
       let at_block = kind.cut left then_left (length first.block) whole first.block first.later (first.rest ++ y) rest (subst (λ (c : ℕ). are_whole left c whole then_left) (sym first.counted) are)
-          (subst (Follows left) first.items_are follows) (omega arith) first.split in
+      (subst (Follows left) first.items_are follows) (omega arith) first.split in
       let all = all_whole then_left whole rest (first.rest ++ y) first.block first.later at_block in
       differs (first.has_size ∙ sym (ap (λ (w : List ℕ). length w) all.0))
   blocks_none (BlocksBreak.later_breaks {left = left} {bytes = bytes} {f = f} head whole rest then_left fault is are has_size split later moved) limit items front y follows blocks e =
       let first = first_block left.nodes head items front (whole ++ rest) y is blocks (sym e ∙ split ∙ append_assoc (head_bytes head) whole rest) in
       let at_block = kind.cut left then_left (length first.block) whole first.block first.later (first.rest ++ y) rest (subst (λ (c : ℕ). are_whole left c whole then_left) (sym first.counted) are)
-          (subst (Follows left) first.items_are follows) (omega arith) first.split in
+      (subst (Follows left) first.items_are follows) (omega arith) first.split in
       let all = all_whole then_left whole rest (first.rest ++ y) first.block first.later at_block in
       blocks_none later (behind_limit f fault (length (head_bytes head ++ whole)) W moved limit) first.later first.rest y all.2 first.blocks all.1

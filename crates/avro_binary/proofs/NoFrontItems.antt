@@ -1,9 +1,9 @@
 -- How values of an array, and entries of a map, go with those that follow.
-use Rattle.std.proofs.Common.{◌≡◌, ℕ, zero, suc, ◌+◌, ◌-◌, ◌^◌, ◌<◌, ◌≤◌, max, pos, Bool, true, false, List, [], ◌∷◌, ◌++◌, length, refl, sym, ap, ◌∙◌, subst, append_assoc, append-nil, length-append, arith}
-use Rattle.std.specs.Prelude.{bytes_eq, ◌&&◌}
+use Rattle.std.proofs.Common.{◌≡◌, ℕ, suc, ◌+◌, ◌-◌, ◌^◌, ◌<◌, ◌≤◌, true, List, [], ◌∷◌, ◌++◌, length, refl, sym, ap, ◌∙◌, subst, append_assoc, append-nil, arith}
+use Rattle.std.specs.Prelude.{bytes_eq}
 use Rattle.std.specs.List.{concat, list_all, list_any}
 use Rattle.std.specs.Str.{is_utf8}
-use Rattle.std.proofs.lemmas.Bool.{and_parts, false≢true}
+use Rattle.std.proofs.lemmas.Bool.{and_parts}
 use Rattle.avro_schema.specs.Value.{Value, Values, Entries, no_values, value, no_entries, entry, size, depth, longest_blob, values_size, values_depth, values_longest_blob, values_count, entries_size, entries_depth, entries_longest_blob, entries_count, keys_of}
 use Rattle.avro_schema.specs.Node.{Node}
 use Rattle.avro_schema.specs.Fits.{fits, each_fits, entries_fit, is_count, is_text, LimitValues}
@@ -11,8 +11,8 @@ use Rattle.avro_schema.specs.Distinct.{are_distinct}
 use Rattle.avro_schema.proofs.FitsParts.{is_count-below}
 use Rattle.avro_schema.proofs.Parts.{size-positive}
 use Rattle.avro_binary.specs.Encoding.{SpellsBytes, Spells, EachSpelled, EntriesSpelled}
-use Rattle.avro_binary.specs.Fault.{ReadFault, limit_exceeded, behind}
-use Rattle.avro_binary.specs.Breaks.{Left, ItemsAreWhole, EntriesAreWhole, KeyBreaks, EntryBreaks, BreaksAfter, ChildBreaks}
+use Rattle.avro_binary.specs.Fault.{ReadFault, limit_exceeded}
+use Rattle.avro_binary.specs.Breaks.{Left, ItemsAreWhole, EntriesAreWhole, KeyBreaks, EntryBreaks, ChildBreaks}
 use Rattle.avro_binary.proofs.FrontBlocks.{same_behind}
 use Rattle.avro_binary.proofs.Front.{told, same_bytes, same_entry}
 use Rattle.avro_binary.proofs.NoFrontBlocks.{IsCut, ItemsFollow, behind_limit}
@@ -111,12 +111,12 @@ cut_values W nodes n limits left (value v vs) (value w ws) items (i ∷ block) l
     let head : t.0 ≡ i = cc in
     let tail : t.1 ≡ block ++ later = cc in
     let joined : s.0 ++ (concat s.1 ++ y) ≡ i ++ (concat block ++ x) =
-        sym (append_assoc s.0 (concat s.1) y) ∙ ap (λ (is : List (List ℕ)). concat is ++ y) (sym s.4) ∙ e ∙ append_assoc i (concat block) x in
+    sym (append_assoc s.0 (concat s.1) y) ∙ ap (λ (is : List (List ℕ)). concat is ++ y) (sym s.4) ∙ e ∙ append_assoc i (concat block) x in
     let first = told nodes n v mine.0 w s.0 i (concat s.1 ++ y) (concat block ++ x) parts.0 s.2 (subst (Spells w) head t.2) joined in
     let sizes : size v ≡ size w = ap size first.1 in
     let state : Left = record { nodes = left.nodes - size w; keys = left.keys } in
     let rest = cut_values W nodes n limits state vs ws s.1 block later x y mine.1 s.3 parts.1 (subst (EachSpelled ws) tail t.3)
-        (λ u. AreSmall-others limits.depth left.nodes limits.blob w ws (small u)) (omega arith) (same_behind s.0 i (concat s.1 ++ y) (concat block ++ x) first.0 joined) in
+    (λ u. AreSmall-others limits.depth left.nodes limits.blob w ws (small u)) (omega arith) (same_behind s.0 i (concat s.1 ++ y) (concat block ++ x) first.0 joined) in
     let nodes_left : left.nodes - size w - values_size vs ≡ left.nodes - (size v + values_size vs) = omega arith in
     let front : i ++ concat s.1 ≡ concat items = ap (λ (q : List ℕ). q ++ concat s.1) (sym first.0) ∙ sym (ap concat s.4) in
     let Follows = ValuesFollow W nodes n limits in
@@ -132,7 +132,7 @@ values_follow W nodes n limits broken none = record {
   few = λ left items follows w. omega (arith, (follows.small w).1, values_count-size follows.values, spelled_count follows.values items follows.spelled);
   cut = λ left then_left done front block later x y is follows l e.
       let cut = cut_values W nodes n limits left is.values follows.values is.items block later x y is.fitting is.spelled follows.fitting follows.spelled follows.small
-          (omega (arith, is.counted)) (ap (λ (q : List ℕ). q ++ y) (sym is.bytes_are) ∙ e) in
+      (omega (arith, is.counted)) (ap (λ (q : List ℕ). q ++ y) (sym is.bytes_are) ∙ e) in
       record {
         before = cut.before;
         after = cut.after;
@@ -198,7 +198,7 @@ cut_entries W nodes n limits left (entry k v es) (entry j w fs) items (i ∷ blo
     let head : t.0 ++ t.1 ≡ i = cc in
     let tail : t.2 ≡ block ++ later = cc in
     let joined : s.0 ++ s.1 ++ (concat s.2 ++ y) ≡ i ++ (concat block ++ x) =
-        sym (append_assoc (s.0 ++ s.1) (concat s.2) y) ∙ ap (λ (is : List (List ℕ)). concat is ++ y) (sym s.6) ∙ e ∙ append_assoc i (concat block) x in
+    sym (append_assoc (s.0 ++ s.1) (concat s.2) y) ∙ ap (λ (is : List (List ℕ)). concat is ++ y) (sym s.6) ∙ e ∙ append_assoc i (concat block) x in
     let joined' : s.0 ++ s.1 ++ (concat s.2 ++ y) ≡ t.0 ++ t.1 ++ (concat block ++ x) = joined ∙ ap (λ (q : List ℕ). q ++ (concat block ++ x)) (sym head) in
     let first = same_entry nodes n k j v w s.0 t.0 s.1 t.1 (concat s.2 ++ y) (concat block ++ x) (told nodes n v mine.0) parts.0 s.3 t.3 s.4 t.4 joined' in
     let front : s.0 ++ s.1 ≡ i = ap (λ (q : List ℕ). q ++ s.1) first.2 ∙ ap (λ (q : List ℕ). t.0 ++ q) first.3 ∙ head in
@@ -206,11 +206,11 @@ cut_entries W nodes n limits left (entry k v es) (entry j w fs) items (i ∷ blo
     let state : Left = record { nodes = left.nodes - size w; keys = left.keys ++ j ∷ [] } in
     let distinct' = subst (λ (ks : List (List ℕ)). are_distinct bytes_eq ks ≡ true) (sym (append_assoc left.keys (j ∷ []) (keys_of fs))) distinct in
     let rest = cut_entries W nodes n limits state es fs s.2 block later x y mine.1 s.5 keys.1 distinct' parts.1 (subst (EntriesSpelled fs) tail t.5)
-        (λ u. EntriesSmall-others limits.depth left.nodes limits.blob j w fs (small u)) (omega arith)
-        (same_behind (s.0 ++ s.1) i (concat s.2 ++ y) (concat block ++ x) front joined) in
+    (λ u. EntriesSmall-others limits.depth left.nodes limits.blob j w fs (small u)) (omega arith)
+    (same_behind (s.0 ++ s.1) i (concat s.2 ++ y) (concat block ++ x) front joined) in
     let nodes_left : left.nodes - size w - entries_size es ≡ left.nodes - (size v + entries_size es) = omega arith in
     let keys_left : left.keys ++ j ∷ [] ++ keys_of es ≡ left.keys ++ (k ∷ keys_of es) =
-        append_assoc left.keys (j ∷ []) (keys_of es) ∙ ap (λ (q : List ℕ). left.keys ++ (q ∷ keys_of es)) (sym first.0) in
+    append_assoc left.keys (j ∷ []) (keys_of es) ∙ ap (λ (q : List ℕ). left.keys ++ (q ∷ keys_of es)) (sym first.0) in
     let fronts : i ++ concat s.2 ≡ concat items = ap (λ (q : List ℕ). q ++ concat s.2) (sym front) ∙ sym (ap concat s.6) in
     let Follows = EntriesFollow W nodes n limits in
     let after : Left = record { nodes = left.nodes - size w - entries_size es; keys = left.keys ++ j ∷ [] ++ keys_of es } in
@@ -250,7 +250,7 @@ entries_follow W nodes n limits child none = record {
   few = λ left items follows w. omega (arith, (follows.small w).1, entries_count-size follows.entries, entries_spelled_count follows.entries items follows.spelled);
   cut = λ left then_left done front block later x y is follows l e.
       let cut = cut_entries W nodes n limits left is.entries follows.entries is.items block later x y is.fitting is.spelled follows.texts follows.distinct follows.fitting follows.spelled
-          follows.small (omega (arith, is.counted)) (ap (λ (q : List ℕ). q ++ y) (sym is.bytes_are) ∙ e) in
+      follows.small (omega (arith, is.counted)) (ap (λ (q : List ℕ). q ++ y) (sym is.bytes_are) ∙ e) in
       record {
         before = cut.before;
         after = cut.after;

@@ -1,6 +1,6 @@
 -- A part that breaks begins with no whole part of its kind.
-use Rattle.std.proofs.Common.{◌≡◌, ◌≢◌, ◌⊎◌, inl, inr, ℕ, zero, suc, ◌-◌, ◌^◌, ◌<◌, ◌≤◌, ℤ, pos, negsuc, Bool, true, false, List, [], ◌∷◌, ◌++◌, length, take, refl, sym, ap, ◌∙◌, subst, append_assoc, length-append, arith}
-use Rattle.std.specs.Prelude.{nat_lt, bytes_eq, not, ◌&&◌}
+use Rattle.std.proofs.Common.{◌≡◌, inl, inr, ℕ, ◌^◌, ◌<◌, ◌≤◌, ℤ, pos, negsuc, Bool, true, List, [], ◌∷◌, ◌++◌, length, take, refl, sym, ap, ◌∙◌, subst, append_assoc, length-append, arith}
+use Rattle.std.specs.Prelude.{nat_lt, bytes_eq, not}
 use Rattle.std.specs.List.{list_any}
 use Rattle.std.proofs.Math.Seq.{take-append_seam}
 use Rattle.std.proofs.lemmas.Bool.{and_parts, false≢true, or_cases, or_left, or_right, not-true}
@@ -45,7 +45,7 @@ content_none W is_content blob bytes _ content front rest (ContentBreaks.cut n n
 content_none W is_content blob bytes _ content front rest (ContentBreaks.invalid n number x t within there bad) limit small s few good e =
     let same = content_at (pos n) bytes number x content front rest t s e in
     let taken : take n x ≡ content =
-        ap (λ (k : ℕ). take k x) (same_from_pos n (length content) same.0) ∙ ap (take (length content)) same.1 ∙ take-append_seam content rest in
+    ap (λ (k : ℕ). take k x) (same_from_pos n (length content) same.0) ∙ ap (take (length content)) same.1 ∙ take-append_seam content rest in
     false≢true (sym bad ∙ ap is_content taken ∙ good)
 
 -- ---- The place of one of so many

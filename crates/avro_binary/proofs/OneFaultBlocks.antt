@@ -1,12 +1,11 @@
 -- Blocks have at most one fault.
-use Rattle.std.proofs.Common.{◌≡◌, ◌≢◌, ◌⊎◌, inl, inr, ℕ, zero, suc, ◌+◌, ◌-◌, ◌^◌, ◌<◌, ◌≤◌, ℤ, pos, negsuc, true, List, [], ◌∷◌, ◌++◌, length, refl, sym, ap, ◌∙◌, subst, append_assoc, append-nil, length-append, arith}
-use Rattle.std.specs.Prelude.{nat_abs, neg_ℤ}
-use Rattle.std.specs.List.{concat}
+use Rattle.std.proofs.Common.{◌≡◌, ◌≢◌, ◌⊎◌, inl, inr, ℕ, zero, suc, ◌+◌, ◌-◌, ◌^◌, ◌<◌, ◌≤◌, ℤ, pos, negsuc, List, ◌++◌, length, refl, sym, ap, ◌∙◌, subst, append_assoc, length-append, arith}
+use Rattle.std.specs.Prelude.{nat_abs}
 use Rattle.std.proofs.lemmas.Bool.{cases_lt}
 use Rattle.avro_zigzag.specs.Number.{SpellsNumber}
 use Rattle.avro_zigzag.proofs.Spelling.{spelling-some}
 use Rattle.avro_binary.specs.Fault.{ReadFault, invalid_length, wrong_block_size, limit_exceeded, behind}
-use Rattle.avro_binary.specs.Breaks.{Left, LongBreaks, StartsWithLong, BreaksAfter, Head, head_count, head_bytes, IsHead, HasSize, BlocksBreak}
+use Rattle.avro_binary.specs.Breaks.{Left, LongBreaks, StartsWithLong, BreaksAfter, Head, IsHead, BlocksBreak}
 use Rattle.avro_binary.proofs.FrontBlocks.{same_behind}
 use Rattle.avro_binary.proofs.BlockViews.{pos-long, neg-long}
 use Rattle.avro_binary.proofs.NoFrontBlocks.{long_none}
@@ -95,7 +94,7 @@ module _ (are_whole : Left → ℕ → List ℕ → Left → Type 0) (item_break
       sized_view left count size number size_bytes (front ++ after.rest) bytes f (behind (length size_bytes) fault) is
       (after.split ∙ append_assoc (number ++ size_bytes) front after.rest ∙ append_assoc number size_bytes (front ++ after.rest))
       (λ starts. SizeBreaks.items size size_bytes (front ++ after.rest) fault starts
-          (ItemsBreak.fails done front then_left more are (record { rest = after.rest; fault = after.fault; split = refl; breaks = after.breaks; moved = refl })) refl)
+      (ItemsBreak.fails done front then_left more are (record { rest = after.rest; fault = after.fault; split = refl; breaks = after.breaks; moved = refl })) refl)
       (after.moved ∙ behind-append (number ++ size_bytes) front after.fault ∙ behind-append number size_bytes fault)
   blocks_view left bytes _ (BlocksBreak.size_differs count size number size_bytes front rest then_left is are split other_size) =
       sized_view left count size number size_bytes (front ++ rest) bytes (wrong_block_size (length number)) (wrong_block_size 0) is
@@ -191,7 +190,7 @@ module _ (are_whole : Left → ℕ → List ℕ → Left → Type 0) (item_break
   size_one most left count bytes f g ih l (SizeBreaks.differs size number rest front after then_left s are split other_size e) (SizeBreaks.items size' number' rest' fault t c moved) =
       let same = same_size size' size bytes number' number rest' rest t s in
       let there = subst (λ (r : List ℕ). ItemsBreak are_whole item_breaks (λ n. size ≡ n) left count r fault) same.2
-          (subst (λ (m : ℕ). ItemsBreak are_whole item_breaks (λ n. m ≡ n) left count rest' fault) same.0 c) in
+      (subst (λ (m : ℕ). ItemsBreak are_whole item_breaks (λ n. m ≡ n) left count rest' fault) same.0 c) in
       absurd (differs_none left then_left count size front after rest fault are split other_size there)
   size_one most left count bytes f g ih l (SizeBreaks.items size number rest fault s b moved) (SizeBreaks.fails c) = absurd (long_none (pos size) bytes number rest g s c)
   size_one most left count bytes f g ih l (SizeBreaks.items size number rest fault s b moved) (SizeBreaks.negative m number' rest' t e') =
@@ -199,7 +198,7 @@ module _ (are_whole : Left → ℕ → List ℕ → Left → Type 0) (item_break
   size_one most left count bytes f g ih l (SizeBreaks.items size number rest fault s b moved) (SizeBreaks.differs size' number' rest' front after then_left t are split other_size e') =
       let same = same_size size size' bytes number number' rest rest' s t in
       let there = subst (λ (r : List ℕ). ItemsBreak are_whole item_breaks (λ n. size' ≡ n) left count r fault) same.2
-          (subst (λ (m : ℕ). ItemsBreak are_whole item_breaks (λ n. m ≡ n) left count rest fault) same.0 b) in
+      (subst (λ (m : ℕ). ItemsBreak are_whole item_breaks (λ n. m ≡ n) left count rest fault) same.0 b) in
       absurd (differs_none left then_left count size' front after rest' fault are split other_size there)
   size_one most left count bytes f g ih l (SizeBreaks.items size number rest fault s b moved) (SizeBreaks.items size' number' rest' fault' t c moved') =
       let same = same_size size size' bytes number number' rest rest' s t in
@@ -247,9 +246,9 @@ module _ (are_whole : Left → ℕ → List ℕ → Left → Type 0) (item_break
   view_one most left bytes f g ih l (BlocksView.stands v number rest s b) (BlocksView.stands w number' rest' t c) =
       let same = same_long v w bytes number number' rest rest' s t in
       let there =
-          subst (λ (u : ℤ). CountBreaks are_whole item_breaks left u number' rest' f) same.1
-          (subst (λ (q : List ℕ). CountBreaks are_whole item_breaks left v q rest' f) same.0
-          (subst (λ (r : List ℕ). CountBreaks are_whole item_breaks left v number r f) same.2 b)) in
+      subst (λ (u : ℤ). CountBreaks are_whole item_breaks left u number' rest' f) same.1
+      (subst (λ (q : List ℕ). CountBreaks are_whole item_breaks left v q rest' f) same.0
+      (subst (λ (r : List ℕ). CountBreaks are_whole item_breaks left v number r f) same.2 b)) in
       count_one most left w number' rest' f g ih (omega (arith, l, ap length t.split, length-append number' rest', spelling-some w number' t.spelled)) there c
 
   blocks_up_to : (most : ℕ) → OneUpTo most

@@ -1,5 +1,5 @@
 -- Values of an array and entries of a map have at most one fault.
-use Rattle.std.proofs.Common.{◌≡◌, ℕ, ◌+◌, ◌-◌, ◌<◌, ◌≤◌, true, false, List, [], ◌++◌, length, refl, sym, ap, ◌∙◌, subst, append_assoc, append-nil, arith}
+use Rattle.std.proofs.Common.{◌≡◌, ℕ, ◌-◌, ◌<◌, ◌≤◌, true, false, List, [], ◌++◌, length, sym, ap, ◌∙◌, subst, append-nil, arith}
 use Rattle.std.specs.Prelude.{bytes_eq}
 use Rattle.std.specs.List.{concat, list_any}
 use Rattle.std.proofs.lemmas.Bool.{false≢true}
@@ -54,7 +54,7 @@ values_same nodes n limits left count a b x y then_left after_left is are e =
     let counts = spelled_count is.values is.items is.spelled ∙ is.counted ∙ sym (spelled_count are.values are.items are.spelled ∙ are.counted) in
     let joined : concat is.items ++ x ≡ concat are.items ++ y = ap (λ (q : List ℕ). q ++ x) (sym is.bytes_are) ∙ e ∙ ap (λ (q : List ℕ). q ++ y) are.bytes_are in
     let items = (same_run (IsItem nodes n) is.items are.items x y (items_alone nodes n is.values is.items told is.spelled) (items_are nodes n are.values are.items are.fitting are.spelled)
-        counts joined).0 in
+    counts joined).0 in
     let values = items_same nodes n is.values are.values is.items told are.fitting is.spelled (subst (EachSpelled are.values) (sym items) are.spelled) in
     let state = λ (vs : Values). left_after left (values_size vs) in
     (is.bytes_are ∙ ap concat items ∙ sym are.bytes_are, is.leaves ∙ ap state values ∙ sym are.leaves)
@@ -95,7 +95,7 @@ whole_entries_same nodes n limits left count a b x y then_left after_left is are
     let counts = entries_spelled_count is.entries is.items is.spelled ∙ is.counted ∙ sym (entries_spelled_count are.entries are.items are.spelled ∙ are.counted) in
     let joined : concat is.items ++ x ≡ concat are.items ++ y = ap (λ (q : List ℕ). q ++ x) (sym is.bytes_are) ∙ e ∙ ap (λ (q : List ℕ). q ++ y) are.bytes_are in
     let items = (same_run (IsEntryItem nodes n) is.items are.items x y (entries_alone nodes n is.entries is.items told is.spelled)
-        (entries_are nodes n are.entries are.items are.fitting are.spelled) counts joined).0 in
+    (entries_are nodes n are.entries are.items are.fitting are.spelled) counts joined).0 in
     let entries = entries_same nodes n is.entries are.entries is.items told are.fitting is.spelled (subst (EntriesSpelled are.entries) (sym items) are.spelled) in
     (is.bytes_are ∙ ap concat items ∙ sym are.bytes_are, is.leaves ∙ ap (left_after left) entries ∙ sym are.leaves)
   where

@@ -1,5 +1,5 @@
 -- Bytes have at most one fault, as a node of a schema and within limits.
-use Rattle.std.proofs.Common.{◌≡◌, ◌⊎◌, inl, inr, ℕ, zero, suc, ◌+◌, ◌-◌, ◌^◌, ◌<◌, ◌≤◌, pos, true, Some, List, [], ◌∷◌, ◌++◌, length, refl, sym, ap, ◌∙◌, subst, append_assoc, length-append, arith}
+use Rattle.std.proofs.Common.{◌≡◌, ◌⊎◌, inl, inr, ℕ, zero, suc, ◌+◌, ◌-◌, ◌^◌, ◌<◌, ◌≤◌, pos, true, List, [], ◌∷◌, ◌++◌, length, sym, ap, ◌∙◌, subst, append_assoc, length-append, arith}
 use Rattle.std.specs.Prelude.{slice_get}
 use Rattle.std.specs.List.{concat}
 use Rattle.std.specs.Str.{is_utf8}
@@ -41,8 +41,8 @@ union_one nodes left child places bytes f g one few (inr b) (inr c) =
     let rests = same_behind b.number c.number b.breaks.rest c.breaks.rest number.0 joined in
     let branch = same_branch b.before c.before b.branch c.branch b.after c.after b.places_are c.places_are (same_from_pos (length b.before) (length c.before) number.1) in
     let there =
-        subst (λ (p : ℕ). child left.nodes (node_at nodes p) c.breaks.rest b.breaks.fault) branch
-        (subst (λ (r : List ℕ). child left.nodes (node_at nodes b.branch) r b.breaks.fault) rests b.breaks.breaks) in
+    subst (λ (p : ℕ). child left.nodes (node_at nodes p) c.breaks.rest b.breaks.fault) branch
+    (subst (λ (r : List ℕ). child left.nodes (node_at nodes b.branch) r b.breaks.fault) rests b.breaks.breaks) in
     same_moved f g b.breaks.fault c.breaks.fault b.number c.number b.breaks.moved c.breaks.moved number.0
     (one c.branch left.nodes c.breaks.rest b.breaks.fault c.breaks.fault there c.breaks.breaks)
   where
@@ -106,17 +106,16 @@ module _ (nodes : List Node) (d b : ℕ) (child : ChildBreaks) (none : (p : ℕ)
       let parts = and_parts (fits nodes (node_at nodes q) w) (fields_fit nodes before' ws) k in
       let fitting = subst (λ (r : ℕ). fits nodes (node_at nodes r) w ≡ true) (sym same) parts.0 in
       let joined : s.0 ++ (concat s.1 ++ rest) ≡ t.0 ++ (concat t.1 ++ rest') =
-          sym (append_assoc s.0 (concat s.1) rest) ∙ ap (λ (is : List (List ℕ)). concat is ++ rest) (sym s.4) ∙ e
-          ∙ ap (λ (is : List (List ℕ)). concat is ++ rest') t.4 ∙ append_assoc t.0 (concat t.1) rest' in
+      sym (append_assoc s.0 (concat s.1) rest) ∙ ap (λ (is : List (List ℕ)). concat is ++ rest) (sym s.4) ∙ e
+      ∙ ap (λ (is : List (List ℕ)). concat is ++ rest') t.4 ∙ append_assoc t.0 (concat t.1) rest' in
       let first = told nodes n v mine.0 w s.0 t.0 (concat s.1 ++ rest) (concat t.1 ++ rest') fitting s.2 t.2 joined in
       let sizes : size v ≡ size w = ap size first.1 in
       let left : c - (size v + values_size vs) ≡ c - size w - values_size vs = omega arith in
       let left' : c - (size w + values_size ws) ≡ c - size w - values_size ws = omega arith in
       let small_rest = subst (λ (z : ℕ). AreSmall d (c - z) b vs) sizes (AreSmall-others d c b v vs small) in
       let others_one = fields_one before field after vs s.1 before' field' after' ws t.1 (c - size w) rest rest' f g places' mine.1 s.3 small_rest parts.1 t.3
-          (AreSmall-others d c b w ws small') (subst (λ (z : ℕ). child z (node_at nodes field) rest f) left broken)
-          (subst (λ (z : ℕ). child z (node_at nodes field') rest' g) left' broken') (same_behind s.0 t.0 (concat s.1 ++ rest) (concat t.1 ++ rest') first.0 joined) in
-      (
+      (AreSmall-others d c b w ws small') (subst (λ (z : ℕ). child z (node_at nodes field) rest f) left broken)
+      (subst (λ (z : ℕ). child z (node_at nodes field') rest' g) left' broken') (same_behind s.0 t.0 (concat s.1 ++ rest) (concat t.1 ++ rest') first.0 joined) in (
         ap concat s.4 ∙ ap (λ (r : List ℕ). r ++ concat s.1) first.0 ∙ ap (λ (r : List ℕ). t.0 ++ r) others_one.0 ∙ sym (ap concat t.4),
         others_one.1,
       )
@@ -126,8 +125,8 @@ record_one : (nodes : List Node) (left : LimitValues) (child : ChildBreaks) (pla
     → FieldsBreak nodes left child places bytes f → FieldsBreak nodes left child places bytes g → f ≡ g
 record_one nodes left child places bytes f g none one b c =
     let same = fields_one nodes left.depth left.blob child none one b.before b.field b.after b.values b.items c.before c.field c.after c.values c.items left.nodes b.breaks.rest c.breaks.rest
-        b.breaks.fault c.breaks.fault (sym b.places_are ∙ c.places_are) b.fitting b.spelled (b.deep, b.many, b.long) c.fitting c.spelled (c.deep, c.many, c.long) b.breaks.breaks
-        c.breaks.breaks (sym b.breaks.split ∙ c.breaks.split) in
+    b.breaks.fault c.breaks.fault (sym b.places_are ∙ c.places_are) b.fitting b.spelled (b.deep, b.many, b.long) c.fitting c.spelled (c.deep, c.many, c.long) b.breaks.breaks
+    c.breaks.breaks (sym b.breaks.split ∙ c.breaks.split) in
     same_moved f g b.breaks.fault c.breaks.fault (concat b.items) (concat c.items) b.breaks.moved c.breaks.moved same.0 same.1
 
 -- ---- Each kind
