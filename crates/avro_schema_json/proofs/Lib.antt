@@ -1,0 +1,4 @@
+pub mod RowsDeclared
+mod RowsDefaults
+mod RowsDisplays
+mod RowsFaults
