@@ -2,3 +2,4 @@ pub mod RowsDeclared
 mod RowsDefaults
 mod RowsDisplays
 mod RowsFaults
+pub mod RowsLaws

@@ -29,7 +29,7 @@ bare_nodes = map bare_node
 abbrev pub field_default : List Node → RawField → Option Value
 field_default nodes f = option_and_then (λ d. default_of nodes d (node_at nodes f.node)) f.default
 
--- a node with its defaults
+-- a node with its defaults; one that is no datum is left out
 abbrev pub whole_field : List Node → RawField → FieldNode
 whole_field nodes f = record { name = f.name; aliases = f.aliases; node = f.node; default = field_default nodes f }
 
@@ -55,11 +55,12 @@ abbrev pub is_empty : {A : Type 0} → List A → Bool
 is_empty [] = true
 is_empty (x ∷ xs) = false
 
--- The schema that a tree declares: its numbers are whole, what it makes has no fault, each default is a datum, and the
--- nodes with these are a schema.
+-- The schema that a tree declares: its numbers are whole, its declarations have no fault, its nodes are a schema, and
+-- each default is a datum.
 abbrev pub declared : Data → Option (List Node)
 declared tree =
-    if not (has_float tree) && is_empty (made_of tree).faults && are_all_defaults_read (made_of tree).nodes && is_schema (whole_nodes (made_of tree).nodes)
+    if not (has_float tree) && is_empty (made_of tree).faults && is_schema (whole_nodes (made_of tree).nodes)
+        && are_all_defaults_read (made_of tree).nodes
     then Some (whole_nodes (made_of tree).nodes) else None
 
 abbrev pub DeclaresSchema : Data → List Node → Type 0
@@ -110,12 +111,11 @@ abbrev pub or_else : {A : Type 0} → List A → List A → List A
 or_else [] ys = ys
 or_else (x ∷ xs) ys = x ∷ xs
 
--- The faults of a tree: those of its numbers, or else of its declarations, or else of the nodes without their defaults,
--- or else of the defaults.
+-- The faults of a tree: those of its numbers, or else of its declarations, or else of its nodes, or else of defaults
+-- that are no datum.
 abbrev pub faults_of : Data → List SchemaError
 faults_of tree =
     or_else (unless (not (has_float tree)) SchemaError.UnsupportedNumber)
     (or_else (made_of tree).faults
-    (or_else (faults_of_nodes (bare_nodes (made_of tree).nodes))
-    (or_else (unless (are_all_defaults_read (made_of tree).nodes) SchemaError.InvalidDefault)
-    (faults_of_nodes (whole_nodes (made_of tree).nodes)))))
+    (or_else (faults_of_nodes (whole_nodes (made_of tree).nodes))
+    (unless (are_all_defaults_read (made_of tree).nodes) SchemaError.InvalidDefault)))
