@@ -3,3 +3,4 @@ mod RowsDefaults
 mod RowsDisplays
 mod RowsFaults
 pub mod RowsLaws
+mod RowsLimits

@@ -1,6 +1,6 @@
 -- What follows from the definitions: a tree declares one schema at most, and none exactly where a fault is there.
-use Rattle.std.proofs.Common.{◌≡◌, ℕ, suc, Bool, true, false, not, ◌&&◌, ◌||◌, List, [], ◌∷◌, ◌++◌, Option, Some, None, refl, subst, length, Ordering}
-use Rattle.std.specs.Prelude.{option_map, option_and_then, bytes_eq, nat_lt, nat_le, filter_map, flat_map, if◌then◌else◌}
+use Rattle.std.proofs.Common.{◌≡◌, ℕ, suc, Bool, true, false, not, ◌&&◌, ◌||◌, List, [], ◌∷◌, ◌++◌, Option, Some, None, refl, subst, map, length, Ordering, arith}
+use Rattle.std.specs.Prelude.{option_map, option_and_then, bytes_eq, nat_lt, nat_le, filter_map, flat_map, if◌then◌else◌, Contains}
 use Rattle.std.specs.List.{list_all}
 use Rattle.std.specs.Ordering.{nat_cmp, match_ordering}
 use Rattle.std.specs.Cmp.Lexicographic.{slice_cmp}
@@ -12,11 +12,12 @@ use Rattle.avro_schema.specs.WellFormed.{max_nodes, max_count, is_edge, is_union
 use Rattle.serde_json.specs.Data.{Data, Members, no_members, member}
 use Rattle.serde_json.specs.Find.{get_member}
 use Rattle.serde_json.specs.Written.{has_float}
+use Rattle.serde_json.specs.View.{items_of}
 use Rattle.avro_schema_json.specs.declared.error.SchemaError.{SchemaError}
 use Rattle.avro_schema_json.specs.DeclaredAttributes.{unless}
-use Rattle.avro_schema_json.specs.Declares.{Meaning, RawField, made_of, meaning_of, meaning_under, fields_of, fields_under}
+use Rattle.avro_schema_json.specs.Declares.{Meaning, RawField, made_of, meaning_of, meaning_under, branches_of, fields_of, fields_under, field_meanings, field_meaning}
 use Rattle.avro_schema_json.specs.DeclaredDefaults.{default_of, default_under}
-use Rattle.avro_schema_json.specs.DeclaredFaults.{declared, faults_of, faults_of_nodes, faults_of_kind, node_faults, field_faults, enum_faults, whole_nodes, are_all_defaults_read, is_empty, or_else, DeclaresSchema}
+use Rattle.avro_schema_json.specs.DeclaredFaults.{declared, faults_of, faults_of_nodes, faults_of_kind, node_faults, field_faults, enum_faults, whole_nodes, are_all_defaults_read, is_empty, or_else, DeclaresSchema, HasFault}
 
 -- ---- look-ups
 
@@ -248,3 +249,56 @@ none_declared-from_faults tree e es h =
     let raws = (made_of tree).nodes in
     rw (stages-faulty (has_float tree) (is_schema (whole_nodes raws)) (are_all_defaults_read raws) (made_of tree).faults
       (faults_of_nodes (whole_nodes raws)) e es (no_faults-from_is_schema (whole_nodes raws)) h) refl
+
+no_element : {A : Type 0} (x : A) → Contains [] x → ⊥
+no_element x c = omega (arith, c.1)
+
+none_declared-from_faults_of : (tree : Data) (fault : SchemaError) (es : List SchemaError) → faults_of tree ≡ es → Contains es fault → declared tree ≡ None
+none_declared-from_faults_of tree fault [] h c = absurd (no_element fault c)
+none_declared-from_faults_of tree fault (e ∷ es) h c = none_declared-from_faults tree e es h
+
+-- a tree in which a fault is there declares no schema
+pub none_declared-from_fault : (tree : Data) (fault : SchemaError) → HasFault tree fault → declared tree ≡ None
+none_declared-from_fault tree fault h = none_declared-from_faults_of tree fault (faults_of tree) refl h
+
+-- ---- the stage in which a fault is there
+
+or_else-first : {A : Type 0} (xs ys : List A) (x : A) → Contains xs x → Contains (or_else xs ys) x
+or_else-first [] ys x c = absurd (no_element x c)
+or_else-first (y ∷ xs) ys x c = c
+
+or_else-second : {A : Type 0} (xs ys : List A) (x : A) → xs ≡ [] → Contains ys x → Contains (or_else xs ys) x
+or_else-second xs ys x h c = rw h c
+
+-- a number that is not whole
+pub fault-from_number : (tree : Data) → has_float tree ≡ true → HasFault tree SchemaError.UnsupportedNumber
+fault-from_number tree h = rw h (0, omega arith, refl)
+
+-- a fault of declarations
+pub fault-from_declarations : (tree : Data) (fault : SchemaError) → has_float tree ≡ false → Contains (made_of tree).faults fault → HasFault tree fault
+fault-from_declarations tree fault whole c =
+    rw whole (or_else-first (made_of tree).faults _ fault c)
+
+-- a fault of nodes
+pub fault-from_nodes : (tree : Data) (fault : SchemaError) → has_float tree ≡ false → (made_of tree).faults ≡ []
+    → Contains (faults_of_nodes (whole_nodes (made_of tree).nodes)) fault → HasFault tree fault
+fault-from_nodes tree fault whole clean c =
+    rw (whole, clean) (or_else-first (faults_of_nodes (whole_nodes (made_of tree).nodes)) _ fault c)
+
+-- a default that is no datum
+pub fault-from_defaults : (tree : Data) → has_float tree ≡ false → (made_of tree).faults ≡ []
+    → is_schema (whole_nodes (made_of tree).nodes) ≡ true → are_all_defaults_read (made_of tree).nodes ≡ false
+    → HasFault tree SchemaError.InvalidDefault
+fault-from_defaults tree whole clean formed unread =
+    rw (whole, clean, no_faults-from_is_schema (whole_nodes (made_of tree).nodes) formed, unread) (0, omega arith, refl)
+
+-- ---- lists of values
+
+-- the meanings of items in a list
+pub branches_of-items : (ds : List Data) → branches_of (items_of ds) ≡ map meaning_of ds
+branches_of-items [] = refl
+branches_of-items (d ∷ ds) = rw (branches_of-items ds) refl
+
+pub field_meanings-items : (ds : List Data) → field_meanings (items_of ds) ≡ map field_meaning ds
+field_meanings-items [] = refl
+field_meanings-items (d ∷ ds) = rw (field_meanings-items ds) refl

@@ -1,6 +1,6 @@
 -- When a JSON tree declares a schema, and which faults are there where it declares none (Avro 1.11, "Schema
 -- Declaration").
-use Rattle.std.specs.Prelude.{◌≡◌, ℕ, suc, Bool, true, false, not, ◌&&◌, ◌||◌, List, [], ◌∷◌, ◌++◌, length, map, nat_lt, nat_le, bytes_eq, if◌then◌else◌, Option, Some, None, option_map, option_and_then, is_some, filter_map, flat_map}
+use Rattle.std.specs.Prelude.{◌≡◌, Contains, ℕ, suc, Bool, true, false, not, ◌&&◌, ◌||◌, List, [], ◌∷◌, ◌++◌, length, map, nat_lt, nat_le, bytes_eq, if◌then◌else◌, Option, Some, None, option_map, option_and_then, is_some, filter_map, flat_map}
 use Rattle.std.specs.List.{list_all}
 use Rattle.avro_name.specs.Name.{Name, is_simple_name, same_name}
 use Rattle.avro_schema.specs.Value.{Value}
@@ -119,3 +119,16 @@ faults_of tree =
     (or_else (made_of tree).faults
     (or_else (faults_of_nodes (whole_nodes (made_of tree).nodes))
     (unless (are_all_defaults_read (made_of tree).nodes) SchemaError.InvalidDefault)))
+
+-- A fault is there. Each fault comes from one of these places:
+-- an unknown name: a reference to a name that is not defined before;
+-- a name twice: a definition of a fullname that is defined before;
+-- an invalid name: a name, namespace, alias or symbol that breaks the rules of names;
+-- an invalid declaration: an attribute is missing or ill-typed, or JSON is no schema;
+-- an invalid union, invalid symbols, a field twice: `faults_of_kind`, and a default symbol that is none;
+-- an invalid default: the last stage, or `has_good_default`;
+-- an unsupported type: `float`, `double` or `error`;
+-- an unsupported number: the first stage;
+-- a limit: too many nodes, symbols of an enum, or bytes of a fixed.
+abbrev pub HasFault : Data → SchemaError → Type 0
+HasFault tree fault = Contains (faults_of tree) fault
