@@ -4,7 +4,8 @@ use Rattle.avro_schema.specs.Node.{Node}
 use Rattle.avro_schema.proofs.RowsSchemas.{simply, within, plain_field, aliased_field}
 use Rattle.serde_json.specs.Read.{read}
 use Rattle.serde_json.proofs.OnLiterals.{serde_json_on_literals}
-use Rattle.avro_schema_json.specs.DeclaredFaults.{declared, faults_of}
+use Rattle.avro_schema_json.specs.DeclaredSchema.{declared}
+use Rattle.avro_schema_json.specs.DeclaredFaults.{faults_of}
 use Rattle.avro_schema_json.specs.declared.error.SchemaError.{SchemaError}
 
 -- the nodes of the schema that a text declares

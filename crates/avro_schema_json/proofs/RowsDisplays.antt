@@ -1,5 +1,5 @@
 -- Displays of data: computed.
-use Rattle.std.proofs.Common.{◌≡◌, refl, ℕ, pos, negsuc, false, List, [], ◌∷◌, ◌++◌, None, codes}
+use Rattle.std.proofs.Common.{◌≡◌, refl, pos, negsuc, false, [], ◌∷◌, ◌++◌, None, codes}
 use lib.Utf8.{encode}
 use Rattle.std.specs.Fmt.{digits}
 use Rattle.avro_schema.specs.Value.{Value, no_values, entry, no_entries}

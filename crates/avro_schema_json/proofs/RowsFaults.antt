@@ -1,6 +1,5 @@
 -- Faults of texts that declare no schema: computed.
-use Rattle.std.proofs.Common.{◌≡◌, refl, List, [], ◌∷◌, Some, None, codes}
-use Rattle.serde_json.specs.Read.{read}
+use Rattle.std.proofs.Common.{◌≡◌, refl, [], ◌∷◌, Some, codes}
 use Rattle.serde_json.proofs.OnLiterals.{serde_json_on_literals}
 use Rattle.avro_schema_json.specs.declared.error.SchemaError.{SchemaError}
 use Rattle.avro_schema_json.proofs.RowsDeclared.{faults_by}

@@ -4,20 +4,21 @@ use Rattle.std.specs.Prelude.{option_map, option_and_then, bytes_eq, nat_lt, nat
 use Rattle.std.specs.List.{list_all}
 use Rattle.std.specs.Ordering.{nat_cmp, match_ordering}
 use Rattle.std.specs.Cmp.Lexicographic.{slice_cmp}
-use Rattle.std.proofs.lemmas.Bool.{and_parts, and_from, false≢true}
+use Rattle.std.proofs.lemmas.Bool.{and_parts}
 use Rattle.avro_name.specs.Name.{is_simple_name, same_name}
-use Rattle.avro_schema.specs.Node.{Node, FieldNode, node_name, edges_of}
+use Rattle.avro_schema.specs.Node.{Node, node_name, edges_of}
 use Rattle.avro_schema.specs.Distinct.{are_distinct}
-use Rattle.avro_schema.specs.WellFormed.{max_nodes, max_count, is_edge, is_union, is_enum, are_fields, field_names, has_good_default, has_good_names, meets_its_rules, is_good_node, are_good_nodes, is_schema}
+use Rattle.avro_schema.specs.WellFormed.{max_nodes, max_count, is_edge, is_union, is_enum, field_names, has_good_default, has_good_names, meets_its_rules, is_good_node, are_good_nodes, is_schema}
 use Rattle.serde_json.specs.Data.{Data, Members, no_members, member}
 use Rattle.serde_json.specs.Find.{get_member}
 use Rattle.serde_json.specs.Written.{has_float}
 use Rattle.serde_json.specs.View.{items_of}
 use Rattle.avro_schema_json.specs.declared.error.SchemaError.{SchemaError}
 use Rattle.avro_schema_json.specs.DeclaredAttributes.{unless}
-use Rattle.avro_schema_json.specs.Declares.{Meaning, RawField, made_of, meaning_of, meaning_under, branches_of, fields_of, fields_under, field_meanings, field_meaning}
+use Rattle.avro_schema_json.specs.Declares.{made_of, meaning_of, meaning_under, branches_of, fields_from, fields_under, field_meanings, field_meaning}
 use Rattle.avro_schema_json.specs.DeclaredDefaults.{default_of, default_under}
-use Rattle.avro_schema_json.specs.DeclaredFaults.{declared, faults_of, faults_of_nodes, faults_of_kind, node_faults, field_faults, enum_faults, whole_nodes, are_all_defaults_read, is_empty, or_else, DeclaresSchema, HasFault}
+use Rattle.avro_schema_json.specs.DeclaredSchema.{declared, whole_nodes, are_all_defaults_read, is_empty, DeclaresSchema}
+use Rattle.avro_schema_json.specs.DeclaredFaults.{faults_of, faults_of_nodes, faults_of_kind, node_faults, enum_faults, or_else, HasFault}
 
 -- ---- look-ups
 
@@ -39,10 +40,10 @@ meaning_under-found key no_members = refl
 meaning_under-found key (member k d ms) =
     rw (option_map-match meaning_of (slice_cmp nat_cmp key k) (get_member key ms) (Some d) (get_member key ms), meaning_under-found key ms) refl
 
-pub fields_under-found : (key : List ℕ) (ms : Members) → fields_under key ms ≡ option_and_then fields_of (get_member key ms)
+pub fields_under-found : (key : List ℕ) (ms : Members) → fields_under key ms ≡ option_and_then fields_from (get_member key ms)
 fields_under-found key no_members = refl
 fields_under-found key (member k d ms) =
-    rw (option_and_then-match fields_of (slice_cmp nat_cmp key k) (get_member key ms) (Some d) (get_member key ms), fields_under-found key ms) refl
+    rw (option_and_then-match fields_from (slice_cmp nat_cmp key k) (get_member key ms) (Some d) (get_member key ms), fields_under-found key ms) refl
 
 pub default_under-found : (nodes : List Node) (key : List ℕ) (ms : Members) → default_under nodes key ms ≡ option_map (default_of nodes) (get_member key ms)
 default_under-found nodes key no_members = refl
@@ -177,7 +178,7 @@ schema_rules-clean a b c xs ha hb hx hc = rw (ha, hb, hx, hc) refl
 pub is_schema-from_no_faults : (nodes : List Node) → faults_of_nodes nodes ≡ [] → is_schema nodes ≡ true
 is_schema-from_no_faults nodes h =
     let parts = schema_rules-kept (nat_lt 0 (length nodes)) (nat_le (length nodes) max_nodes)
-        (are_distinct same_name (filter_map node_name nodes)) (node_faults nodes 0 nodes) h in
+    (are_distinct same_name (filter_map node_name nodes)) (node_faults nodes 0 nodes) h in
     rw (parts.0, parts.1, nodes-kept nodes 0 nodes parts.2, parts.3) refl
 
 pub no_faults-from_is_schema : (nodes : List Node) → is_schema nodes ≡ true → faults_of_nodes nodes ≡ []
@@ -242,13 +243,13 @@ pub declared-from_no_faults : (tree : Data) → faults_of tree ≡ [] → Declar
 declared-from_no_faults tree h =
     let raws = (made_of tree).nodes in
     rw (stages-clean (has_float tree) (is_schema (whole_nodes raws)) (are_all_defaults_read raws) (made_of tree).faults
-      (faults_of_nodes (whole_nodes raws)) (is_schema-from_no_faults (whole_nodes raws)) h) refl
+    (faults_of_nodes (whole_nodes raws)) (is_schema-from_no_faults (whole_nodes raws)) h) refl
 
 pub none_declared-from_faults : (tree : Data) (e : SchemaError) (es : List SchemaError) → faults_of tree ≡ e ∷ es → declared tree ≡ None
 none_declared-from_faults tree e es h =
     let raws = (made_of tree).nodes in
     rw (stages-faulty (has_float tree) (is_schema (whole_nodes raws)) (are_all_defaults_read raws) (made_of tree).faults
-      (faults_of_nodes (whole_nodes raws)) e es (no_faults-from_is_schema (whole_nodes raws)) h) refl
+    (faults_of_nodes (whole_nodes raws)) e es (no_faults-from_is_schema (whole_nodes raws)) h) refl
 
 no_element : {A : Type 0} (x : A) → Contains [] x → ⊥
 no_element x c = omega (arith, c.1)

@@ -1,11 +1,10 @@
 -- Limits of what is declared: computed.
-use Rattle.std.proofs.Common.{◌≡◌, refl, ℕ, zero, suc, List, [], ◌∷◌, ◌++◌, Option, Some, None, codes, option_map, length}
+use Rattle.std.proofs.Common.{◌≡◌, refl, ℕ, zero, suc, List, [], ◌∷◌, ◌++◌, Some, None, codes, option_map, length}
 use Rattle.serde_json.specs.Data.{Data}
 use Rattle.serde_json.specs.Read.{read}
 use Rattle.serde_json.proofs.OnLiterals.{serde_json_on_literals}
 use Rattle.avro_schema_json.specs.declared.error.SchemaError.{SchemaError}
 use Rattle.avro_schema_json.specs.Declares.{meaning_of}
-use Rattle.avro_schema_json.specs.DeclaredFaults.{declared, faults_of}
 use Rattle.avro_schema_json.proofs.RowsDeclared.{declared_by}
 
 -- so many arrays in one another, of null

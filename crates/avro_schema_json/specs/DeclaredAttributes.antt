@@ -1,6 +1,6 @@
 -- The attributes of a declaration (Avro 1.11, "Schema Declaration", "Names", "Aliases"), over the members of its JSON
 -- object. What is ill-typed or breaks a rule is noted as a fault.
-use Rattle.std.specs.Prelude.{ℕ, suc, ◌==◌, Bool, true, false, List, [], ◌∷◌, ◌++◌, length, codes, bytes_eq, nat_le, if◌then◌else◌, Option, Some, None, option_map, option_and_then, ok_or, is_some, filter_map, Result, Ok, Err}
+use Rattle.std.specs.Prelude.{ℕ, suc, Bool, true, false, List, [], ◌∷◌, ◌++◌, codes, bytes_eq, nat_le, if◌then◌else◌, Option, Some, None, option_map, option_and_then, ok_or, is_some, filter_map, Result, Ok, Err}
 use Rattle.std.specs.List.{list_all}
 use Rattle.avro_name.specs.Name.{Name, is_namespace, has_dot, name_of}
 use Rattle.avro_schema.specs.WellFormed.{max_count}
@@ -70,8 +70,9 @@ aliases_in namespace ms = aliases_from (alias_texts_in ms)
   where
     aliases_from : Attribute (List (List ℕ)) → Attribute (List Name)
     aliases_from texts = record {
-        value = filter_map (λ text. name_of text namespace) texts.value;
-        faults = texts.faults ++ unless (list_all (λ text. is_some (name_of text namespace)) texts.value) SchemaError.InvalidName }
+      value = filter_map (λ text. name_of text namespace) texts.value;
+      faults = texts.faults ++ unless (list_all (λ text. is_some (name_of text namespace)) texts.value) SchemaError.InvalidName;
+    }
 
 -- the place of a symbol
 abbrev pub symbol_place : List ℕ → List (List ℕ) → Option ℕ
@@ -85,6 +86,7 @@ default_symbol_from symbols (Some d) = from_text (as_str d)
   where
     from_place : Option ℕ → Attribute (Option ℕ)
     from_place place = record { value = place; faults = unless (is_some place) SchemaError.InvalidSymbols }
+
     from_text : Option (List ℕ) → Attribute (Option ℕ)
     from_text None = record { value = None; faults = SchemaError.InvalidDeclaration ∷ [] }
     from_text (Some word) = from_place (symbol_place word symbols)
@@ -95,6 +97,7 @@ symbols_in ms = symbols_from (option_and_then as_texts (get_member (codes "symbo
   where
     with_default : List (List ℕ) → Attribute (Option ℕ) → Attribute (List (List ℕ) × Option ℕ)
     with_default symbols default = record { value = (symbols, default.value); faults = default.faults }
+
     symbols_from : Option (List (List ℕ)) → Attribute (List (List ℕ) × Option ℕ)
     symbols_from None = record { value = ([], None); faults = SchemaError.InvalidDeclaration ∷ [] }
     symbols_from (Some symbols) = with_default symbols (default_symbol_from symbols (get_member (codes "default") ms))

@@ -1,11 +1,11 @@
 -- Defaults of fields: which datum their JSON is (Avro 1.11, "Complex Types", "Records"). They are read once the nodes
 -- of the whole schema are known.
-use Rattle.std.specs.Prelude.{ℕ, ◌==◌, ℤ, Bool, true, false, not, ◌&&◌, List, [], ◌∷◌, ◌++◌, length, map, chars, bytes_eq, nat_lt, if◌then◌else◌, Option, Some, None, option_map, option_and_then}
+use Rattle.std.specs.Prelude.{ℕ, ◌==◌, Bool, true, false, List, [], ◌∷◌, length, chars, bytes_eq, nat_lt, Option, Some, None, option_map, option_and_then}
 use Rattle.std.specs.Ordering.{nat_cmp, match_ordering}
 use Rattle.std.specs.Cmp.Lexicographic.{slice_cmp}
 use Rattle.std.specs.List.{list_all, list_any}
 use Rattle.avro_schema.specs.Value.{Value, Values, no_values, value, Entries, no_entries, entry}
-use Rattle.avro_schema.specs.Node.{Node, FieldNode, node_at, items_node, values_node, branches_of}
+use Rattle.avro_schema.specs.Node.{Node, FieldNode, node_at, items_node, branches_of}
 use Rattle.avro_schema.specs.Fits.{is_int, is_long}
 use Rattle.serde_json.specs.Data.{Num, Data, Items, no_items, item, Members, no_members, member}
 use Rattle.serde_json.specs.Find.{as_i64}
@@ -55,9 +55,9 @@ abbrev pub items_default : List Node → (Node → Option Values) → Node → O
 items_default nodes read n = option_map Value.array (option_and_then (λ place. read (node_at nodes place)) (items_node n))
 
 -- the keys of an object
-abbrev pub keys_of : Members → List (List ℕ)
-keys_of no_members = []
-keys_of (member k d ms) = k ∷ keys_of ms
+abbrev pub member_keys : Members → List (List ℕ)
+member_keys no_members = []
+member_keys (member k d ms) = k ∷ member_keys ms
 
 -- fields in order, each by the member of its name
 abbrev pub fields_default : List Node → (List ℕ → Option (Node → Option Value)) → List FieldNode → Option Values
@@ -86,7 +86,7 @@ abbrev mutual
   default_of nodes (Data.string text) n = by_first_branch nodes n (text_default text)
   default_of nodes (Data.array ds) n = by_first_branch nodes n (items_default nodes (λ m. each_default nodes ds m))
   default_of nodes (Data.object ms) n =
-      by_first_branch nodes n (object_default nodes (λ m. entries_default nodes ms m) (λ key. default_under nodes key ms) (keys_of ms))
+      by_first_branch nodes n (object_default nodes (λ m. entries_default nodes ms m) (λ key. default_under nodes key ms) (member_keys ms))
 
   pub each_default : List Node → Items → Node → Option Values
   each_default nodes no_items n = Some no_values

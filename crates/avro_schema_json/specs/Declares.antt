@@ -1,7 +1,7 @@
 -- What a JSON tree declares (Avro 1.11, "Schema Declaration", "Names").
 -- Definitions, arrays, maps, unions and uses of primitive types are nodes, numbered in the order in which they begin,
 -- depth first and from left to right. A reference makes no node: its edge goes to the definition.
-use Rattle.std.specs.Prelude.{ℕ, suc, ◌+◌, Bool, true, false, List, [], ◌∷◌, ◌++◌, length, codes, bytes_eq, nat_lt, if◌then◌else◌, Option, Some, None, option_map, option_and_then, is_some, not, Result, Ok, Err}
+use Rattle.std.specs.Prelude.{ℕ, suc, ◌+◌, List, [], ◌∷◌, ◌++◌, length, codes, bytes_eq, nat_lt, if◌then◌else◌, Option, Some, None, is_some, not, Result, Ok, Err}
 use Rattle.std.specs.Ordering.{nat_cmp, match_ordering}
 use Rattle.std.specs.Cmp.Lexicographic.{slice_cmp}
 use Rattle.avro_name.specs.Name.{Name, same_name, name_of}
@@ -52,7 +52,11 @@ faulty x fault enclosing known next = record { result = x; nodes = []; known = k
 -- a part, and the parts after it
 abbrev pub joined : {A : Type 0} → Made A → Made (List A) → Made (List A)
 joined first rest = record {
-    result = first.result ∷ rest.result; nodes = first.nodes ++ rest.nodes; known = rest.known; faults = first.faults ++ rest.faults }
+  result = first.result ∷ rest.result;
+  nodes = first.nodes ++ rest.nodes;
+  known = rest.known;
+  faults = first.faults ++ rest.faults;
+}
 
 abbrev pub followed_by : {A : Type 0} → Made A → (Made A → Made (List A)) → Made (List A)
 followed_by first rest = joined first (rest first)
@@ -66,10 +70,11 @@ in_turn (meaning ∷ meanings) enclosing known next =
 -- a node, with the parts below it; it is one too many past `max_nodes`
 abbrev pub above : {A : Type 0} → ℕ → (A → RawNode) → List SchemaError → Made A → Made ℕ
 above next node faults parts = record {
-    result = next;
-    nodes = node parts.result ∷ parts.nodes;
-    known = parts.known;
-    faults = unless (nat_lt next max_nodes) SchemaError.LimitExceeded ++ faults ++ parts.faults }
+  result = next;
+  nodes = node parts.result ∷ parts.nodes;
+  known = parts.known;
+  faults = unless (nat_lt next max_nodes) SchemaError.LimitExceeded ++ faults ++ parts.faults;
+}
 
 -- no part
 abbrev pub alone : Known → Made (List ℕ)
@@ -86,6 +91,7 @@ reference word enclosing known next = by_name (name_of word enclosing)
     by_place : Option ℕ → Made ℕ
     by_place None = faulty 0 SchemaError.UnknownName enclosing known next
     by_place (Some place) = record { result = place; nodes = []; known = known; faults = [] }
+
     by_name : Option Name → Made ℕ
     by_name None = faulty 0 SchemaError.InvalidName enclosing known next
     by_name (Some name) = by_place (place_of name known)
@@ -138,10 +144,11 @@ abbrev pub container_of : (ℕ → Node) → Option (Meaning ℕ) → Meaning �
 container_of node None = faulty 0 SchemaError.InvalidDeclaration
 container_of node (Some part) = λ enclosing known next. above next (λ place. RawNode.plain (node place)) [] (part enclosing known (suc next))
 
--- A definition of this name, known from its own start on. Its name is new.
+-- the names that are known from the start of a definition on
 abbrev pub defining : Name → ℕ → Known → Known
 defining name place known = known ++ (name, place) ∷ []
 
+-- no name is defined twice
 abbrev pub name_faults : Name → Known → List SchemaError
 name_faults name known = unless (not (is_some (place_of name known))) SchemaError.DuplicateName
 
@@ -221,14 +228,18 @@ field_of ms type enclosing known next = typed (type_made type)
   where
     name : Attribute (List ℕ)
     name = needed [] (text_in (codes "name") ms)
+
     aliases : Attribute (List (List ℕ))
     aliases = alias_texts_in ms
+
     typed : Made ℕ → Made RawField
     typed made = record {
-        result = record { name = name.value; aliases = aliases.value; node = made.result; default = get_member (codes "default") ms };
-        nodes = made.nodes;
-        known = made.known;
-        faults = name.faults ++ aliases.faults ++ made.faults }
+      result = record { name = name.value; aliases = aliases.value; node = made.result; default = get_member (codes "default") ms };
+      nodes = made.nodes;
+      known = made.known;
+      faults = name.faults ++ aliases.faults ++ made.faults;
+    }
+
     type_made : Option (Meaning ℕ) → Made ℕ
     type_made None = faulty 0 SchemaError.InvalidDeclaration enclosing known next
     type_made (Some meaning) = meaning enclosing known next
@@ -263,15 +274,15 @@ abbrev mutual
   pub fields_under : List ℕ → Members → Option (List (Meaning RawField))
   fields_under key no_members = None
   fields_under key (member k d ms) =
-      match_ordering (slice_cmp nat_cmp key k) (fields_under key ms) (fields_of d) (fields_under key ms)
+      match_ordering (slice_cmp nat_cmp key k) (fields_under key ms) (fields_from d) (fields_under key ms)
 
-  pub fields_of : Data → Option (List (Meaning RawField))
-  fields_of Data.null = None
-  fields_of (Data.boolean b) = None
-  fields_of (Data.number n) = None
-  fields_of (Data.string word) = None
-  fields_of (Data.array ds) = Some (field_meanings ds)
-  fields_of (Data.object ms) = None
+  pub fields_from : Data → Option (List (Meaning RawField))
+  fields_from Data.null = None
+  fields_from (Data.boolean b) = None
+  fields_from (Data.number n) = None
+  fields_from (Data.string word) = None
+  fields_from (Data.array ds) = Some (field_meanings ds)
+  fields_from (Data.object ms) = None
 
   pub field_meanings : Items → List (Meaning RawField)
   field_meanings no_items = []

@@ -1,5 +1,5 @@
 -- The display of a datum: the JSON tree whose compact text it is. It is this project's own, and no part of the standard.
-use Rattle.std.specs.Prelude.{ℕ, List, [], ◌∷◌, ◌++◌, Bool, true, false, codes, encode_utf8_all, slice_get, Option, Some, None, option_map, option_and_then, unwrap_or}
+use Rattle.std.specs.Prelude.{ℕ, List, [], ◌∷◌, ◌++◌, codes, encode_utf8_all, slice_get, Option, option_map, option_and_then, unwrap_or}
 use Rattle.avro_name.specs.Name.{Name}
 use Rattle.avro_schema.specs.Value.{Value, Values, no_values, value, Entries, no_entries, entry}
 use Rattle.avro_schema.specs.Node.{Node, FieldNode, node_at, items_node, values_node, branches_of, fields_of, symbols_of}

@@ -4,5 +4,6 @@ pub mod Shown
 pub mod DeclaredAttributes
 pub mod Declares
 pub mod DeclaredDefaults
+pub mod DeclaredSchema
 pub mod DeclaredFaults
 pub mod DisplayTree
