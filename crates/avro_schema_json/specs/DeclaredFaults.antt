@@ -64,15 +64,15 @@ faults_of tree =
     (or_else (faults_of_nodes (whole_nodes (made_of tree).nodes))
     (unless (are_all_defaults_read (made_of tree).nodes) SchemaError.InvalidDefault)))
 
--- A fault is there. Each fault comes from one of these places:
--- an unknown name: a reference to a name that is not defined before;
--- a name twice: a definition of a fullname that is defined before;
--- an invalid name: a name, namespace, alias or symbol that breaks the rules of names;
--- an invalid declaration: an attribute is missing or ill-typed, or JSON is no schema;
--- an invalid union, invalid symbols, a field twice: `faults_of_kind`, and a default symbol that is none;
--- an invalid default: the last stage, or `has_good_default`;
--- an unsupported type: `float`, `double` or `error`;
--- an unsupported number: the first stage;
--- a limit: too many nodes, symbols of an enum, or bytes of a fixed.
+-- A fault is there. Each comes from one of these places:
+-- S2, a reference: its name is not defined before it;
+-- S3, a definition: its fullname is defined before it;
+-- S4, a name, namespace or alias, where it is read, and a symbol or a field's name, in the rules of its kind;
+-- S5, an attribute: it is missing or ill-typed; JSON that is no schema or no field;
+-- S6, S7 and S8, the rules of a union, of symbols and of field names; S7 also a default that is no symbol;
+-- S9, a default that is no datum;
+-- S10, `float`, `double` and `error`;
+-- S11, a number that is not whole;
+-- S12, a node, a symbol or a byte of a fixed past its limit.
 abbrev pub HasFault : Data → SchemaError → Type 0
 HasFault tree fault = Contains (faults_of tree) fault
