@@ -1,15 +1,45 @@
--- How contracts see the data and the nodes of the program.
-use Rattle.std.specs.Prelude.{List, map}
-use Rattle.avro_schema.specs.Value.{Value}
+-- How contracts see the data and the nodes of the program: a text is its bytes, a `Vec` its items, a `Box` its value.
+use Rattle.std.specs.Prelude.{ℕ, List, [], ◌∷◌, map, String, string_bytes}
+use Rattle.std.specs.declared.alloc.Global.{Global}
+use Rattle.avro_schema.specs.Value.{Value, Values, Entries, no_values, value, no_entries, entry}
 use Rattle.avro_schema.specs.Node.{Node}
 use Rattle.avro_schema.specs.declared.datum.Datum.{Datum}
+use Rattle.avro_schema.specs.declared.datum.Datum.TheOpen.{Datum-F}
+use Rattle.avro_schema.specs.declared.datum.Datum.TheFolds.{fold-Datum}
 use Rattle.avro_schema.specs.declared.schema.Node.{Node as KeptNode}
 
+-- the values of a list, and the entries of one
+abbrev pub values_from : List Value → Values
+values_from [] = no_values
+values_from (v ∷ vs) = value v (values_from vs)
+
+abbrev pub entries_from : List (String Global × Value) → Entries
+entries_from [] = no_entries
+entries_from (e ∷ es) = entry (string_bytes e.0) e.1 (entries_from es)
+
+-- one level of a datum, with a value in place of each part
+abbrev pub view_step : Datum-F Value → Value
+view_step Datum-F.Null = Value.null
+view_step (Datum-F.Bool b) = Value.boolean b
+view_step (Datum-F.Int i) = Value.int i
+view_step (Datum-F.Long i) = Value.long i
+view_step (Datum-F.Bytes b) = Value.bytes b.items
+view_step (Datum-F.Str t) = Value.string (string_bytes t)
+view_step (Datum-F.Array vs) = Value.array (values_from vs.items)
+view_step (Datum-F.Map es) = Value.map_of (entries_from es.items)
+view_step (Datum-F.Union k v) = Value.union k v.value
+view_step (Datum-F.Record vs) = Value.record_of (values_from vs.items)
+view_step (Datum-F.Enum k) = Value.enum k
+view_step (Datum-F.Fixed b) = Value.fixed b.items
+
 abbrev pub value_of : Datum → Value
-value_of Datum.Null = Value.null
-value_of (Datum.Bool b) = Value.boolean b
-value_of (Datum.Int i) = Value.int i
-value_of (Datum.Long i) = Value.long i
+value_of = fold-Datum Value view_step
+
+abbrev pub values_of : List Datum → Values
+values_of ds = values_from (map value_of ds)
+
+abbrev pub entries_of : List (String Global × Datum) → Entries
+entries_of es = entries_from (map (λ e. (e.0, value_of e.1)) es)
 
 abbrev pub node_of : KeptNode → Node
 node_of KeptNode.Null = Node.null

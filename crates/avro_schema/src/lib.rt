@@ -10,7 +10,7 @@ pub mod laws;
 mod limits;
 mod schema;
 
-pub use datum::{Datum, Memory, depth, fits, size};
+pub use datum::{Datum, Memory, depth, size};
 pub use draft::{Draft, DraftError};
 pub use limits::Limits;
 pub use schema::{Node, NodeId, Schema};
