@@ -66,3 +66,21 @@ split_name text enclosing = if has_dot text
 abbrev pub name_of : List ℕ → List ℕ → Option Name
 name_of text enclosing = if is_dotted_name text && not (is_primitive_word (split_name text enclosing).simple)
     then Some (split_name text enclosing) else None
+
+-- a text without characters
+abbrev pub is_empty_text : List ℕ → Bool
+is_empty_text [] = true
+is_empty_text (c ∷ cs) = false
+
+-- some part between the dots is empty
+abbrev pub has_empty_part : List ℕ → Bool
+has_empty_part text = list_any is_empty_text (dotted_parts text)
+
+-- a character of a part may not stand where it does
+abbrev pub is_misspelled : List ℕ → Bool
+is_misspelled [] = false
+is_misspelled (c ∷ cs) = not (is_name_start c) || list_any (λ d. not (is_name_character d)) cs
+
+-- some part between the dots has a character that may not stand where it does
+abbrev pub has_bad_character : List ℕ → Bool
+has_bad_character text = list_any is_misspelled (dotted_parts text)

@@ -1,2 +1,13 @@
-//! Names of Avro types.
+//! Names of Avro types (Avro 1.11, "Names").
+//!
+//! Contracts see a [`FullName`] as its namespace and its simple part, and a [`Namespace`] as its text.
 #![tactic(auto)]
+
+mod check;
+mod error;
+mod full_name;
+mod namespace;
+
+pub use error::NameError;
+pub use full_name::FullName;
+pub use namespace::Namespace;

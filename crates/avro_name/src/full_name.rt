@@ -1,0 +1,153 @@
+ghost use Rattle.std.specs.Prelude.{◌≡◌, ◌++◌};
+ghost use Rattle.std.proofs.Common.{rules};
+ghost use Rattle.std.specs.Hash as fed;
+ghost use Rattle.std.specs.Ordering.{nat_cmp, on, then_cmp, as_partial_cmp};
+ghost use Rattle.std.specs.Cmp.{partial_order_from_own_ties};
+ghost use Rattle.std.specs.Cmp.Lexicographic.{slice_cmp};
+ghost use Rattle.std.specs.Cmp.Rules.{comparing, hashing};
+ghost use Rattle.avro_name.specs.Name.{same_name};
+
+use crate::check::{check_dotted_name, is_primitive_word};
+use crate::error::NameError;
+use crate::namespace::Namespace;
+use std::alloc::{AllocError, Global};
+use std::cmp::Ordering;
+use std::hash::{Hash, Hasher};
+use std::marker::Model;
+
+/// A fullname: a namespace, and a simple name that is none of a primitive type.
+#[derive(Debug, Drop)]
+pub struct FullName {
+    namespace: String,
+    simple: String,
+}
+
+impl Model for FullName {
+    ghost use Rattle.std.specs.Prelude.{◌≡◌, true, string_bytes};
+    ghost use Rattle.avro_name.specs.Name.{Name, is_full_name};
+
+    ghost Value = { Name };
+
+    ghost view = { λ n. record { namespace = string_bytes n.namespace; simple = string_bytes n.simple } };
+
+    ghost invariant = { λ n. is_full_name (record { namespace = string_bytes n.namespace; simple = string_bytes n.simple }) ≡ true };
+}
+
+impl FullName {
+    ghost use Rattle.std.specs.Prelude.{◌≡◌, ◌⊎◌, true, Some, Ok, IfOk, IsErrOf};
+    ghost use Rattle.avro_name.specs.Name.{Name, is_full_name, name_of, split_name, has_empty_part, has_bad_character, is_primitive_word};
+
+    /// The fullname that a text means where a namespace encloses it.
+    pub fn read(alloc: Global, text: &str, enclosing: &Namespace) -> Result<FullName, NameError>
+        ensures found { IfOk result (λ name. name_of text.now enclosing.now ≡ Some name) }
+        ensures named { (name : Name) → name_of text.now enclosing.now ≡ Some name → IsErrOf result NameError.OutOfMemory ⊎ (result ≡ Ok name) }
+        ensures empty_part { IsErrOf result NameError.EmptyPart → has_empty_part text.now ≡ true }
+        ensures bad_character { IsErrOf result NameError.BadCharacter → has_bad_character text.now ≡ true }
+        ensures primitive_name { IsErrOf result NameError.PrimitiveName → is_primitive_word (split_name text.now enclosing.now).simple ≡ true }
+    {
+        match check_dotted_name(text.as_bytes()) {
+            Ok(()) => {}
+            Err(error) => return Err(error),
+        }
+        let (namespace, simple) = match text.rsplit_once('.') {
+            Some((namespace, simple)) => (namespace, simple),
+            None => (enclosing.as_str(), text),
+        };
+        if is_primitive_word(simple) {
+            return Err(NameError::PrimitiveName);
+        }
+        FullName::from_parts(alloc, namespace, simple)
+    }
+
+    /// The part after the last dot.
+    pub fn simple(&self) -> &str
+        ensures part { result.now ≡ self.now.simple }
+        ensures full_name { is_full_name self.now ≡ true }
+    {
+        self.simple.as_str()
+    }
+
+    /// The namespace, which is empty for the null namespace.
+    pub fn namespace(&self) -> &str
+        ensures part { result.now ≡ self.now.namespace }
+        ensures full_name { is_full_name self.now ≡ true }
+    {
+        self.namespace.as_str()
+    }
+
+    /// The fullname of two parts that make one.
+    fn from_parts(alloc: Global, namespace: &str, simple: &str) -> Result<FullName, NameError>
+        requires { is_full_name (record { namespace = namespace.now; simple = simple.now }) ≡ true }
+        ensures { IsErrOf result NameError.OutOfMemory ⊎ (result ≡ Ok (record { namespace = namespace.now; simple = simple.now })) }
+    {
+        match String::from_str(alloc, namespace) {
+            Ok(namespace) => match String::from_str(alloc, simple) {
+                Ok(simple) => Ok(FullName { namespace, simple }),
+                Err(_) => Err(NameError::OutOfMemory),
+            },
+            Err(_) => Err(NameError::OutOfMemory),
+        }
+    }
+}
+
+impl Clone for FullName {
+    ghost is_clone = { λ a b. b ≡ a };
+
+    fn clone(&self) -> Result<FullName, AllocError> {
+        Ok(FullName {
+            namespace: self.namespace.clone()?,
+            simple: self.simple.clone()?,
+        })
+    }
+}
+
+impl PartialEq for FullName {
+    ghost eq = { same_name };
+
+    ghost laws = { Prim.search (comparing, rules) };
+
+    fn eq(&self, other: &FullName) -> bool {
+        self.namespace() == other.namespace() && self.simple() == other.simple()
+    }
+}
+
+impl Eq for FullName {
+    ghost laws = { Prim.search (comparing, rules) };
+}
+
+impl PartialOrd for FullName {
+    ghost partial_cmp = { as_partial_cmp (then_cmp (on (λ n. n.namespace) (slice_cmp nat_cmp)) (on (λ n. n.simple) (slice_cmp nat_cmp))) };
+
+    ghost laws = { partial_order_from_own_ties (Prim.search (comparing, rules)) (Prim.search (comparing, rules)) };
+
+    fn partial_cmp(&self, other: &FullName) -> Option<Ordering> {
+        Some(self.cmp(other))
+    }
+}
+
+impl Ord for FullName {
+    ghost cmp = { then_cmp (on (λ n. n.namespace) (slice_cmp nat_cmp)) (on (λ n. n.simple) (slice_cmp nat_cmp)) };
+
+    ghost total = { Prim.search (comparing, rules) };
+
+    ghost matches_partial_cmp = { Prim.search (comparing, rules) };
+
+    ghost matches_eq = { Prim.search (comparing, rules) };
+
+    fn cmp(&self, other: &FullName) -> Ordering {
+        self.namespace()
+            .cmp(other.namespace())
+            .then(self.simple().cmp(other.simple()))
+    }
+}
+
+impl Hash for FullName {
+    ghost hash_input = { λ n. fed.str n.namespace ++ fed.str n.simple };
+
+    ghost respects_eq = { Prim.search (hashing, rules) };
+
+    fn hash<H: Hasher>(&self, state: &mut H) {
+        self.namespace().hash(state);
+        self.simple().hash(state);
+    }
+}

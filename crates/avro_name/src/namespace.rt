@@ -1,0 +1,133 @@
+ghost use Rattle.std.specs.Prelude.{◌≡◌, Some, refl, bytes_eq};
+ghost use Rattle.std.proofs.Common.{rules};
+ghost use Rattle.std.specs.Hash as fed;
+ghost use Rattle.std.specs.Ordering.{nat_cmp};
+ghost use Rattle.std.specs.Cmp.{partial_equiv_from_equiv};
+ghost use Rattle.std.specs.Cmp.Lexicographic.{slice_cmp, nat_list_eq_equiv, nat_list_cmp_total, texts_ties, texts_po};
+ghost use Rattle.std.specs.Cmp.Rules.{hashing};
+
+use crate::check::check_dotted_name;
+use crate::error::NameError;
+use std::alloc::{AllocError, Global};
+use std::cmp::Ordering;
+use std::hash::{Hash, Hasher};
+use std::marker::Model;
+
+/// A namespace: simple names joined by dots, or the empty text, which is the null namespace.
+#[derive(Debug, Drop)]
+pub struct Namespace {
+    text: String,
+}
+
+impl Model for Namespace {
+    ghost use Rattle.std.specs.Prelude.{◌≡◌, ℕ, List, true, string_bytes};
+    ghost use Rattle.avro_name.specs.Name.{is_namespace};
+
+    ghost Value = { List ℕ };
+
+    ghost view = { λ n. string_bytes n.text };
+
+    ghost invariant = { λ n. is_namespace (string_bytes n.text) ≡ true };
+}
+
+impl Namespace {
+    ghost use Rattle.std.specs.Prelude.{◌≡◌, ◌⊎◌, true, [], Ok, IfOk, OnOk, IsErrOf, IsOkUnless};
+    ghost use Rattle.avro_name.specs.Name.{is_namespace, has_empty_part, has_bad_character};
+
+    /// The null namespace, which takes no memory.
+    pub fn null(alloc: Global) -> Namespace
+        ensures { result ≡ [] }
+    {
+        Namespace {
+            text: String::new(alloc),
+        }
+    }
+
+    /// The namespace that a text spells.
+    pub fn read(alloc: Global, text: &str) -> Result<Namespace, NameError>
+        ensures spelled { IfOk result (λ namespace. namespace ≡ text.now) }
+        ensures good { OnOk result (is_namespace text.now ≡ true) }
+        ensures read { is_namespace text.now ≡ true → IsErrOf result NameError.OutOfMemory ⊎ (result ≡ Ok text.now) }
+        ensures empty_part { IsErrOf result NameError.EmptyPart → has_empty_part text.now ≡ true }
+        ensures bad_character { IsErrOf result NameError.BadCharacter → has_bad_character text.now ≡ true }
+        ensures primitive_name { IsErrOf result NameError.PrimitiveName → ⊥ }
+    {
+        if text.is_empty() {
+            return Ok(Namespace::null(alloc));
+        }
+        match check_dotted_name(text.as_bytes()) {
+            Ok(()) => {}
+            Err(error) => return Err(error),
+        }
+        match String::from_str(alloc, text) {
+            Ok(text) => Ok(Namespace { text }),
+            Err(_) => Err(NameError::OutOfMemory),
+        }
+    }
+
+    /// The text of the namespace, which is empty for the null namespace.
+    pub fn as_str(&self) -> &str
+        ensures text { result.now ≡ self.now }
+        ensures good { is_namespace self.now ≡ true }
+    {
+        self.text.as_str()
+    }
+}
+
+impl Clone for Namespace {
+    ghost is_clone = { λ a b. b ≡ a };
+
+    fn clone(&self) -> Result<Namespace, AllocError> {
+        Ok(Namespace {
+            text: self.text.clone()?,
+        })
+    }
+}
+
+impl PartialEq for Namespace {
+    ghost eq = { bytes_eq };
+
+    ghost laws = { partial_equiv_from_equiv nat_list_eq_equiv };
+
+    fn eq(&self, other: &Namespace) -> bool {
+        self.as_str() == other.as_str()
+    }
+}
+
+impl Eq for Namespace {
+    ghost laws = { nat_list_eq_equiv };
+}
+
+impl PartialOrd for Namespace {
+    ghost partial_cmp = { λ a b. Some (slice_cmp nat_cmp a b) };
+
+    ghost laws = { texts_po };
+
+    fn partial_cmp(&self, other: &Namespace) -> Option<Ordering> {
+        Some(self.cmp(other))
+    }
+}
+
+impl Ord for Namespace {
+    ghost cmp = { slice_cmp nat_cmp };
+
+    ghost total = { nat_list_cmp_total };
+
+    ghost matches_partial_cmp = { λ a b. refl };
+
+    ghost matches_eq = { texts_ties };
+
+    fn cmp(&self, other: &Namespace) -> Ordering {
+        self.as_str().cmp(other.as_str())
+    }
+}
+
+impl Hash for Namespace {
+    ghost hash_input = { fed.str };
+
+    ghost respects_eq = { Prim.search (hashing, rules) };
+
+    fn hash<H: Hasher>(&self, state: &mut H) {
+        self.as_str().hash(state);
+    }
+}
