@@ -13,4 +13,4 @@ mod schema;
 pub use datum::{Datum, Memory, depth, size};
 pub use draft::{Draft, DraftError};
 pub use limits::Limits;
-pub use schema::{Node, NodeId, Schema};
+pub use schema::{EnumNode, Field, FixedNode, Node, NodeId, RecordNode, Schema};
