@@ -12,7 +12,7 @@ use Rattle.avro_schema.specs.declared.datum.Datum.TheVariants.{rolls-Map}
 use Rattle.avro_schema.specs.declared.datum.Datum.TheFolds.{fold-roll-Datum}
 use Rattle.avro_schema.specs.declared.datum.Datum.TheShapes.{former-Datum-Map-0-at-2}
 
-entries-seen : (es : List (String Global × Datum)) → entries_from (map (former-Datum-Map-0-at-2.map Datum Value value_of) es) ≡ entries_of es
+entries-seen : (es : List (String Global × Datum)) → entries_from (map (λ e. (string_bytes e.0, e.1)) (map (former-Datum-Map-0-at-2.map Datum Value value_of) es)) ≡ entries_of es
 entries-seen [] = refl
 entries-seen (e ∷ es) = ap (entry (string_bytes e.0) (value_of e.1)) (entries-seen es)
 

@@ -15,9 +15,9 @@ abbrev pub values_from : List Value → Values
 values_from [] = no_values
 values_from (v ∷ vs) = value v (values_from vs)
 
-abbrev pub entries_from : List (String Global × Value) → Entries
+abbrev pub entries_from : List (List ℕ × Value) → Entries
 entries_from [] = no_entries
-entries_from (e ∷ es) = entry (string_bytes e.0) e.1 (entries_from es)
+entries_from (e ∷ es) = entry e.0 e.1 (entries_from es)
 
 -- one level of a datum, with a value in place of each part
 abbrev pub view_step : Datum-F Value → Value
@@ -28,7 +28,7 @@ view_step (Datum-F.Long i) = Value.long i
 view_step (Datum-F.Bytes b) = Value.bytes b.items
 view_step (Datum-F.Str t) = Value.string (string_bytes t)
 view_step (Datum-F.Array vs) = Value.array (values_from vs.items)
-view_step (Datum-F.Map es) = Value.map_of (entries_from es.items)
+view_step (Datum-F.Map es) = Value.map_of (entries_from (map (λ e. (string_bytes e.0, e.1)) es.items))
 view_step (Datum-F.Union k v) = Value.union k v.value
 view_step (Datum-F.Record vs) = Value.record_of (values_from vs.items)
 view_step (Datum-F.Enum k) = Value.enum k
@@ -40,8 +40,12 @@ value_of = fold-Datum Value view_step
 abbrev pub values_of : List Datum → Values
 values_of ds = values_from (map value_of ds)
 
+-- a key and its value
+abbrev pub pair_of : (String Global × Datum) → (List ℕ × Value)
+pair_of e = (string_bytes e.0, value_of e.1)
+
 abbrev pub entries_of : List (String Global × Datum) → Entries
-entries_of es = entries_from (map (λ e. (e.0, value_of e.1)) es)
+entries_of es = entries_from (map pair_of es)
 
 -- texts
 abbrev pub texts_of : List (String Global) → List (List ℕ)

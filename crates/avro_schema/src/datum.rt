@@ -3,6 +3,7 @@ ghost use Rattle.avro_schema.specs.Node.{node_at};
 ghost use Rattle.avro_schema.specs.Seen.{value_of, values_of, entries_of, node_of, nodes_of};
 ghost use Rattle.avro_schema.specs.Value.{size as value_size, values_size, entries_size, depth as value_depth, values_depth, entries_depth};
 
+use std::alloc::{AllocError, Global};
 use thiserror::Error;
 
 /// Memory ran out.
@@ -129,4 +130,62 @@ fn depth_of_entries(entries: &[(String, Datum)]) -> u64
         deepest = deepest.max(depth(&entry.1));
     }
     deepest
+}
+
+impl Clone for Datum {
+    ghost use Rattle.std.specs.Prelude.{◌≡◌};
+    ghost use Rattle.avro_schema.specs.Seen.{value_of};
+
+    ghost is_clone = { λ d e. value_of e ≡ value_of d };
+
+    #[cycle(copy)]
+    fn clone(&self) -> Result<Datum, AllocError> {
+        match self {
+            Datum::Null => Ok(Datum::Null),
+            Datum::Bool(value) => Ok(Datum::Bool(*value)),
+            Datum::Int(value) => Ok(Datum::Int(*value)),
+            Datum::Long(value) => Ok(Datum::Long(*value)),
+            Datum::Bytes(bytes) => Ok(Datum::Bytes(bytes.to_vec(*bytes.allocator())?)),
+            Datum::Str(text) => Ok(Datum::Str(text.clone()?)),
+            Datum::Array(items) => Ok(Datum::Array(copy_of_items(*items.allocator(), items)?)),
+            Datum::Map(entries) => {
+                Ok(Datum::Map(copy_of_entries(*entries.allocator(), entries)?))
+            }
+            Datum::Union(branch, value) => {
+                let alloc = *Box::allocator(value);
+                let copy: Datum = Datum::clone(value)?;
+                Ok(Datum::Union(*branch, Box::new(alloc, copy)?))
+            }
+            Datum::Record(values) => Ok(Datum::Record(copy_of_items(*values.allocator(), values)?)),
+            Datum::Enum(symbol) => Ok(Datum::Enum(*symbol)),
+            Datum::Fixed(bytes) => Ok(Datum::Fixed(bytes.to_vec(*bytes.allocator())?)),
+        }
+    }
+}
+
+/// A copy of some data.
+#[cycle(copy)]
+fn copy_of_items(alloc: Global, items: &[Datum]) -> Result<Vec<Datum>, AllocError>
+    ensures { IfOk result (λ copy. values_of copy.items ≡ values_of items.now) }
+{
+    let mut copy: Vec<Datum> = Vec::new(alloc);
+    for item in items {
+        copy.push(item.clone()?)?;
+    }
+    Ok(copy)
+}
+
+/// A copy of a map's keys and values.
+#[cycle(copy)]
+fn copy_of_entries(
+    alloc: Global,
+    entries: &[(String, Datum)],
+) -> Result<Vec<(String, Datum)>, AllocError>
+    ensures { IfOk result (λ copy. entries_of copy.items ≡ entries_of entries.now) }
+{
+    let mut copy: Vec<(String, Datum)> = Vec::new(alloc);
+    for entry in entries {
+        copy.push((entry.0.clone()?, entry.1.clone()?))?;
+    }
+    Ok(copy)
 }
