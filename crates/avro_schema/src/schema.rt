@@ -94,6 +94,13 @@ impl Schema {
         Schema { nodes }
     }
 
+    /// The nodes, in the order of their numbers.
+    pub(crate) fn nodes(&self) -> &[Node]
+        ensures { nodes_of result.now ≡ schema_nodes self.now }
+    {
+        &self.nodes
+    }
+
     /// The node that the schema's data are of.
     pub fn root(&self) -> NodeId
         ensures root { result.0 ≡ 0 }
