@@ -1,1 +1,3 @@
 pub mod Name
+pub mod NameFault
+pub mod Scan

@@ -1,7 +1,9 @@
 //! The tests of a text's characters.
 
-ghost use Rattle.std.specs.Prelude.{◌≡◌, true, OnOk, IsErrOf};
-ghost use Rattle.avro_name.specs.Name.{is_name_start, is_name_character, is_dotted_name, is_primitive_word, has_empty_part, has_bad_character};
+ghost use Rattle.std.specs.Prelude.{◌≡◌, true, OnOk, IsOk, IfErr};
+ghost use Rattle.avro_name.specs.Name.{is_name_start, is_name_character, is_dotted_name, is_primitive_word};
+ghost use Rattle.avro_name.specs.NameFault.{IsNamespaceFault};
+ghost use Rattle.avro_name.specs.Scan.{first_fault};
 
 use crate::error::NameError;
 
@@ -19,37 +21,43 @@ fn is_name_character(byte: u8) -> bool
     matches!(byte, b'A'..=b'Z' | b'a'..=b'z' | b'_' | b'0'..=b'9')
 }
 
-/// Finds whether a text is simple names joined by dots, or the first fault of it.
-pub(crate) fn check_dotted_name(text: &[u8]) -> Result<(), NameError>
-    ensures good { OnOk result (is_dotted_name text.now ≡ true) }
-    ensures empty_part { IsErrOf result NameError.EmptyPart → has_empty_part text.now ≡ true }
-    ensures bad_character { IsErrOf result NameError.BadCharacter → has_bad_character text.now ≡ true }
-    ensures primitive_name { IsErrOf result NameError.PrimitiveName → ⊥ }
-    ensures memory { IsErrOf result NameError.OutOfMemory → ⊥ }
+/// The first fault of a text that is to be simple names joined by dots.
+fn first_fault(text: &[u8]) -> Option<NameError>
+    ensures { result ≡ first_fault true text.now }
 {
     let mut begins = true;
     for byte in text {
         if *byte == b'.' {
             if begins {
-                return Err(NameError::EmptyPart);
+                return Some(NameError::EmptyPart);
             }
             begins = true;
-        } else {
-            let fits = if begins {
-                is_name_start(*byte)
-            } else {
-                is_name_character(*byte)
-            };
-            if !fits {
-                return Err(NameError::BadCharacter);
+        } else if begins {
+            if !is_name_start(*byte) {
+                return Some(NameError::BadCharacter);
             }
             begins = false;
+        } else if !is_name_character(*byte) {
+            return Some(NameError::BadCharacter);
         }
     }
     if begins {
-        return Err(NameError::EmptyPart);
+        Some(NameError::EmptyPart)
+    } else {
+        None
     }
-    Ok(())
+}
+
+/// Finds whether a text is simple names joined by dots, or a fault of it.
+pub(crate) fn check_dotted_name(text: &[u8]) -> Result<(), NameError>
+    ensures good { OnOk result (is_dotted_name text.now ≡ true) }
+    ensures refused { IfErr result (IsNamespaceFault text.now) }
+    ensures passes { is_dotted_name text.now ≡ true → IsOk result }
+{
+    match first_fault(text) {
+        Some(fault) => Err(fault),
+        None => Ok(()),
+    }
 }
 
 /// Whether a text is the name of a primitive type.

@@ -1,11 +1,11 @@
-ghost use Rattle.std.specs.Prelude.{◌≡◌, ◌++◌};
+ghost use Rattle.std.specs.Prelude.{◌≡◌, ◌&&◌, ◌++◌, true};
 ghost use Rattle.std.proofs.Common.{rules};
 ghost use Rattle.std.specs.Hash as fed;
 ghost use Rattle.std.specs.Ordering.{nat_cmp, on, then_cmp, as_partial_cmp};
 ghost use Rattle.std.specs.Cmp.{partial_order_from_own_ties};
 ghost use Rattle.std.specs.Cmp.Lexicographic.{slice_cmp};
 ghost use Rattle.std.specs.Cmp.Rules.{comparing, hashing};
-ghost use Rattle.avro_name.specs.Name.{same_name};
+ghost use Rattle.avro_name.specs.Name.{is_dotted_name, is_namespace, is_simple_name, same_name, split_name};
 
 use crate::check::{check_dotted_name, is_primitive_word};
 use crate::error::NameError;
@@ -33,26 +33,30 @@ impl Model for FullName {
     ghost invariant = { λ n. is_full_name (record { namespace = string_bytes n.namespace; simple = string_bytes n.simple }) ≡ true };
 }
 
+/// The namespace and the simple part that a text means where a namespace encloses it.
+fn split<'a>(text: &'a str, enclosing: &'a str) -> (&'a str, &'a str)
+    ensures parts { split_name text.now enclosing.now ≡ record { namespace = result.0.now; simple = result.1.now } }
+    ensures good { is_dotted_name text.now ≡ true → is_namespace enclosing.now ≡ true → (is_namespace result.0.now && is_simple_name result.1.now) ≡ true }
+{
+    match text.rsplit_once('.') {
+        Some(parts) => parts,
+        None => (enclosing, text),
+    }
+}
+
 impl FullName {
-    ghost use Rattle.std.specs.Prelude.{◌≡◌, ◌⊎◌, true, Some, Ok, IfOk, IsErrOf};
-    ghost use Rattle.avro_name.specs.Name.{Name, is_full_name, name_of, split_name, has_empty_part, has_bad_character, is_primitive_word};
+    ghost use Rattle.std.specs.Prelude.{◌≡◌, ◌⊎◌, true, Some, Ok, IfOk, IfErr, IsErrOf};
+    ghost use Rattle.avro_name.specs.Name.{Name, is_full_name, name_of};
+    ghost use Rattle.avro_name.specs.NameFault.{IsNameFault};
 
     /// The fullname that a text means where a namespace encloses it.
     pub fn read(alloc: Global, text: &str, enclosing: &Namespace) -> Result<FullName, NameError>
         ensures found { IfOk result (λ name. name_of text.now enclosing.now ≡ Some name) }
         ensures named { (name : Name) → name_of text.now enclosing.now ≡ Some name → IsErrOf result NameError.OutOfMemory ⊎ (result ≡ Ok name) }
-        ensures empty_part { IsErrOf result NameError.EmptyPart → has_empty_part text.now ≡ true }
-        ensures bad_character { IsErrOf result NameError.BadCharacter → has_bad_character text.now ≡ true }
-        ensures primitive_name { IsErrOf result NameError.PrimitiveName → is_primitive_word (split_name text.now enclosing.now).simple ≡ true }
+        ensures refused { IfErr result (IsNameFault text.now enclosing.now) }
     {
-        match check_dotted_name(text.as_bytes()) {
-            Ok(()) => {}
-            Err(error) => return Err(error),
-        }
-        let (namespace, simple) = match text.rsplit_once('.') {
-            Some((namespace, simple)) => (namespace, simple),
-            None => (enclosing.as_str(), text),
-        };
+        check_dotted_name(text.as_bytes())?;
+        let (namespace, simple) = split(text, enclosing.as_str());
         if is_primitive_word(simple) {
             return Err(NameError::PrimitiveName);
         }
@@ -80,13 +84,10 @@ impl FullName {
         requires { is_full_name (record { namespace = namespace.now; simple = simple.now }) ≡ true }
         ensures { IsErrOf result NameError.OutOfMemory ⊎ (result ≡ Ok (record { namespace = namespace.now; simple = simple.now })) }
     {
-        match String::from_str(alloc, namespace) {
-            Ok(namespace) => match String::from_str(alloc, simple) {
-                Ok(simple) => Ok(FullName { namespace, simple }),
-                Err(_) => Err(NameError::OutOfMemory),
-            },
-            Err(_) => Err(NameError::OutOfMemory),
-        }
+        Ok(FullName {
+            namespace: String::from_str(alloc, namespace)?,
+            simple: String::from_str(alloc, simple)?,
+        })
     }
 }
 

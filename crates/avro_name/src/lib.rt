@@ -6,6 +6,7 @@
 mod check;
 mod error;
 mod full_name;
+pub mod laws;
 mod namespace;
 
 pub use error::NameError;

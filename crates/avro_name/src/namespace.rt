@@ -31,8 +31,9 @@ impl Model for Namespace {
 }
 
 impl Namespace {
-    ghost use Rattle.std.specs.Prelude.{◌≡◌, ◌⊎◌, true, [], Ok, IfOk, OnOk, IsErrOf, IsOkUnless};
-    ghost use Rattle.avro_name.specs.Name.{is_namespace, has_empty_part, has_bad_character};
+    ghost use Rattle.std.specs.Prelude.{◌≡◌, ◌⊎◌, true, [], Ok, IfOk, IfErr, OnOk, IsErrOf};
+    ghost use Rattle.avro_name.specs.Name.{is_namespace};
+    ghost use Rattle.avro_name.specs.NameFault.{IsNamespaceFault};
 
     /// The null namespace, which takes no memory.
     pub fn null(alloc: Global) -> Namespace
@@ -48,21 +49,15 @@ impl Namespace {
         ensures spelled { IfOk result (λ namespace. namespace ≡ text.now) }
         ensures good { OnOk result (is_namespace text.now ≡ true) }
         ensures read { is_namespace text.now ≡ true → IsErrOf result NameError.OutOfMemory ⊎ (result ≡ Ok text.now) }
-        ensures empty_part { IsErrOf result NameError.EmptyPart → has_empty_part text.now ≡ true }
-        ensures bad_character { IsErrOf result NameError.BadCharacter → has_bad_character text.now ≡ true }
-        ensures primitive_name { IsErrOf result NameError.PrimitiveName → ⊥ }
+        ensures refused { IfErr result (IsNamespaceFault text.now) }
     {
         if text.is_empty() {
             return Ok(Namespace::null(alloc));
         }
-        match check_dotted_name(text.as_bytes()) {
-            Ok(()) => {}
-            Err(error) => return Err(error),
-        }
-        match String::from_str(alloc, text) {
-            Ok(text) => Ok(Namespace { text }),
-            Err(_) => Err(NameError::OutOfMemory),
-        }
+        check_dotted_name(text.as_bytes())?;
+        Ok(Namespace {
+            text: String::from_str(alloc, text)?,
+        })
     }
 
     /// The text of the namespace, which is empty for the null namespace.

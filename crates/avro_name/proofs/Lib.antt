@@ -1,0 +1,4 @@
+mod Dots
+mod Rows
+mod Scanning
+mod Spellings

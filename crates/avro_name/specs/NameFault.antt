@@ -1,0 +1,19 @@
+-- Which faults a text has that is to be a namespace or a name.
+use Rattle.std.specs.Prelude.{◌≡◌, ℕ, true, List, ⊤}
+use Rattle.avro_name.specs.Name.{split_name, has_empty_part, has_bad_character, is_primitive_word}
+use Rattle.avro_name.specs.declared.error.NameError.{NameError}
+use Rattle.avro_name.specs.declared.error.NameError.TheVariants.{EmptyPart, BadCharacter, PrimitiveName, OutOfMemory}
+
+-- the text has this fault as a namespace; memory may be short of any text
+abbrev pub IsNamespaceFault : List ℕ → NameError → Type 0
+IsNamespaceFault text EmptyPart = has_empty_part text ≡ true
+IsNamespaceFault text BadCharacter = has_bad_character text ≡ true
+IsNamespaceFault text PrimitiveName = ⊥
+IsNamespaceFault text OutOfMemory = ⊤
+
+-- the text has this fault as a name in the enclosing namespace
+abbrev pub IsNameFault : List ℕ → List ℕ → NameError → Type 0
+IsNameFault text enclosing EmptyPart = has_empty_part text ≡ true
+IsNameFault text enclosing BadCharacter = has_bad_character text ≡ true
+IsNameFault text enclosing PrimitiveName = is_primitive_word (split_name text enclosing).simple ≡ true
+IsNameFault text enclosing OutOfMemory = ⊤
