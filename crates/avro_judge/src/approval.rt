@@ -4,8 +4,8 @@ use avro_schema::{Datum, Limits, Schema};
 use std::alloc::Global;
 use std::marker::Model;
 
-/// Two schemas of which every datum of the first resolves into the second. Contracts see the two
-/// schemas.
+/// Two schemas of which every datum of the first resolves into the second, and whose roots are null,
+/// booleans, ints or longs. Contracts see the two schemas.
 #[derive(Drop)]
 pub struct Approved<'a> {
     writer: &'a Schema,
@@ -13,15 +13,19 @@ pub struct Approved<'a> {
 }
 
 impl<'a> Model for Approved<'a> {
+    ghost use Rattle.std.specs.Coded.{codes};
+    ghost use Rattle.avro_schema.specs.contracts.datum.Datum as datum;
     ghost use Rattle.avro_schema.specs.declared.schema.Schema.{Schema};
     ghost use Rattle.avro_schema.specs.SeenSchema.{schema_nodes};
-    ghost use Rattle.avro_judge.specs.Compatible.{AreCompatible};
+    ghost use Rattle.avro_judge.specs.Compatible.{AreApproved};
 
     ghost Value = { Schema × Schema };
 
+    ghost coded = { Prim.hlevel (codes, datum.the_row.coded) };
+
     ghost view = { λ a. (a.writer.now, a.reader.now) };
 
-    ghost invariant = { λ a. AreCompatible (schema_nodes a.writer.now) (schema_nodes a.reader.now) };
+    ghost invariant = { λ a. AreApproved (schema_nodes a.writer.now) (schema_nodes a.reader.now) };
 }
 
 impl<'a> Approved<'a> {
@@ -39,11 +43,11 @@ impl<'a> Approved<'a> {
     ghost use Rattle.avro_binary.specs.Seen.{read_fault, UnlessOutOfMemory, Reports};
     ghost use Rattle.avro_resolve.specs.Reading.{StandsFor};
     ghost use Rattle.avro_resolve.specs.Resolve.{resolve_root};
-    ghost use Rattle.avro_judge.specs.Compatible.{AreCompatible};
+    ghost use Rattle.avro_judge.specs.Compatible.{AreApproved};
 
-    /// The approval of two schemas that are compatible.
+    /// The approval of two schemas that are compatible, of roots of the first kinds.
     pub(crate) fn of(writer: &'a Schema, reader: &'a Schema) -> Approved<'a>
-        requires { AreCompatible (schema_nodes writer.now) (schema_nodes reader.now) }
+        requires { AreApproved (schema_nodes writer.now) (schema_nodes reader.now) }
         ensures { result ≡ (writer.now, reader.now) }
     {
         Approved { writer, reader }

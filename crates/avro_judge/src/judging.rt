@@ -1,7 +1,8 @@
 ghost use Rattle.std.specs.Prelude.{◌≡◌, ◌↔◌, ◌<◌, ◌≤◌, ◌*◌, true, List, length, IfOk};
+ghost use Rattle.avro_schema.specs.FirstKinds.{is_first_kind};
 ghost use Rattle.avro_schema.specs.Seen.{node_of, value_of};
 ghost use Rattle.avro_schema.specs.Fits.{fits};
-ghost use Rattle.avro_schema.specs.Node.{Node as SeenNode};
+ghost use Rattle.avro_schema.specs.Node.{Node as SeenNode, root_of};
 ghost use Rattle.avro_schema.specs.SeenSchema.{schema_nodes};
 ghost use Rattle.avro_schema.specs.Value.{Value, size, depth};
 ghost use Rattle.avro_resolve.specs.Fault.{ResolutionFault};
@@ -20,6 +21,8 @@ use std::alloc::Global;
 ///
 /// Up to the pair limit the two schemas are approved exactly where they are compatible; else a least
 /// datum that fails is answered, within the size and the depth limit, or the limit that bars it.
+/// This holds where the root of each schema is null, a boolean, an int or a long. Up to the pair limit,
+/// others are answered `Cause::Size`: an interim answer, which says nothing of their data.
 ///
 /// # Errors
 ///
@@ -37,7 +40,9 @@ pub fn judge<'a>(
     // An approval is of these two schemas, and no datum of the writer's fails, of any size.
     ensures of_these { IfOk result (λ v. IfApproved v (λ a. a ≡ (writer.now, reader.now))) }
     ensures sound { IfOk result (λ v. IfApproved v (λ _. AreCompatible (schema_nodes writer.now) (schema_nodes reader.now))) }
-    ensures complete { IfOk result (λ v. length (schema_nodes writer.now) * length (schema_nodes reader.now) ≤ limits.now.pairs
+    ensures complete { IfOk result (λ v. is_first_kind (root_of (schema_nodes writer.now)) ≡ true
+        → is_first_kind (root_of (schema_nodes reader.now)) ≡ true
+        → length (schema_nodes writer.now) * length (schema_nodes reader.now) ≤ limits.now.pairs
         → AreCompatible (schema_nodes writer.now) (schema_nodes reader.now) → IsApproved v) }
 
     // The datum of a refutation is the writer's, and resolution gives it the stated fault.
@@ -50,21 +55,28 @@ pub fn judge<'a>(
         (size (value_of r.datum) ≤ limits.now.size) × (depth (value_of r.datum) ≤ limits.now.limits.depth))) }
 
     // The other two causes, up to the pair limit and not past it.
-    ensures size { IfOk result (λ v. IsUndecided v Cause.Size
+    ensures size { IfOk result (λ v. is_first_kind (root_of (schema_nodes writer.now)) ≡ true
+        → is_first_kind (root_of (schema_nodes reader.now)) ≡ true
+        → (IsUndecided v Cause.Size
         ↔ ((length (schema_nodes writer.now) * length (schema_nodes reader.now) ≤ limits.now.pairs)
-        × ErrsOnlyAbove (schema_nodes writer.now) (schema_nodes reader.now) limits.now.size)) }
-    ensures depth { IfOk result (λ v. IsUndecided v Cause.Depth
+        × ErrsOnlyAbove (schema_nodes writer.now) (schema_nodes reader.now) limits.now.size))) }
+    ensures depth { IfOk result (λ v. is_first_kind (root_of (schema_nodes writer.now)) ≡ true
+        → is_first_kind (root_of (schema_nodes reader.now)) ≡ true
+        → (IsUndecided v Cause.Depth
         ↔ ((length (schema_nodes writer.now) * length (schema_nodes reader.now) ≤ limits.now.pairs)
-        × ErrsLeastDeep (schema_nodes writer.now) (schema_nodes reader.now) limits.now.size limits.now.limits.depth)) }
+        × ErrsLeastDeep (schema_nodes writer.now) (schema_nodes reader.now) limits.now.size limits.now.limits.depth))) }
 {
     let pairs = writer.len() as u64 * reader.len() as u64;
     if pairs > u64::from(limits.pairs()) {
         return Ok(Verdict::Undecided(Cause::Pairs));
     }
+    if !has_first_kind(writer) || !has_first_kind(reader) {
+        return Ok(Verdict::Undecided(Cause::Size));
+    }
     if matches(writer, writer.root(), reader, reader.root()) {
         return Ok(Verdict::Approved(Approved::of(writer, reader)));
     }
-    let datum = least_datum(*writer.node(writer.root()));
+    let datum = least_datum(writer.node(writer.root()));
     match resolve(alloc, writer, reader, &datum) {
         Err(ResolveError::Fault(fault)) => Ok(Verdict::Refuted(Refutation { datum, fault })),
         Err(ResolveError::Memory) => Err(Memory),
@@ -72,9 +84,20 @@ pub fn judge<'a>(
     }
 }
 
-/// A datum of the node with the fewest nodes.
-fn least_datum(node: Node) -> Datum
-    ensures fitting { (nodes : List SeenNode) → fits nodes (node_of node) (value_of result) ≡ true }
+/// Whether the root of a schema is null, a boolean, an int or a long.
+fn has_first_kind(schema: &Schema) -> bool
+    ensures { result ≡ is_first_kind (root_of (schema_nodes schema.now)) }
+{
+    matches!(
+        schema.node(schema.root()),
+        Node::Null | Node::Boolean | Node::Int | Node::Long
+    )
+}
+
+/// A datum with the fewest nodes, of a node of the first kinds.
+fn least_datum(node: &Node) -> Datum
+    requires { is_first_kind (node_of node.now) ≡ true }
+    ensures fitting { (nodes : List SeenNode) → fits nodes (node_of node.now) (value_of result) ≡ true }
     ensures one_node { size (value_of result) ≡ 1 }
     ensures one_deep { depth (value_of result) ≡ 1 }
 {
@@ -83,5 +106,6 @@ fn least_datum(node: Node) -> Datum
         Node::Boolean => Datum::Bool(false),
         Node::Int => Datum::Int(0),
         Node::Long => Datum::Long(0),
+        _ => unreachable!(),
     }
 }

@@ -3,6 +3,9 @@
 //!
 //! [`judge`] approves, refutes with a least datum that fails, or says why it is undecided. An
 //! [`Approved`] reads bytes with no fault of resolution.
+//!
+//! Schemas are judged whose roots are null, booleans, ints or longs. Up to the pair limit, others are
+//! answered [`Cause::Size`]: an interim answer, which says nothing of their data.
 #![tactic(auto)]
 
 mod approval;

@@ -6,3 +6,4 @@ pub mod WellFormed
 pub mod Seen
 pub mod SeenSchema
 pub mod Ranges
+pub mod FirstKinds

@@ -63,17 +63,4 @@ impl Draft {
         self.nodes.push(node)?;
         Ok(NodeId(number as u32))
     }
-
-    /// The schema of these nodes. A draft without nodes is none.
-    pub fn finish(self) -> Result<Schema, DraftError>
-        ensures schema { IfOk result (λ schema. schema_nodes schema ≡ draft_nodes self) }
-        ensures formed { OnOk result (is_schema (draft_nodes self) ≡ true) }
-        ensures succeeds { is_schema (draft_nodes self) ≡ true → IsOk result }
-        ensures empty { IsErrOf result DraftError.LimitExceeded ↔ (draft_nodes self ≡ []) }
-    {
-        if self.nodes.is_empty() {
-            return Err(DraftError::LimitExceeded);
-        }
-        Ok(Schema::from_nodes(self.nodes))
-    }
 }

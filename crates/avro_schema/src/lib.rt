@@ -6,11 +6,14 @@
 
 mod datum;
 mod draft;
+mod fitting;
 pub mod laws;
 mod limits;
 mod schema;
+mod uniqueness;
 
-pub use datum::{Datum, Memory, depth, fits, size};
+pub use datum::{Datum, Memory, depth, size};
 pub use draft::{Draft, DraftError};
+pub use fitting::fits;
 pub use limits::Limits;
-pub use schema::{Node, NodeId, Schema};
+pub use schema::{EnumNode, Field, FixedNode, Node, NodeId, RecordNode, Schema};

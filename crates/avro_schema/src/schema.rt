@@ -2,12 +2,15 @@ ghost use Rattle.std.specs.Prelude.{◌≡◌, true};
 ghost use Rattle.avro_schema.specs.Seen.{nodes_of};
 ghost use Rattle.avro_schema.specs.WellFormed.{is_schema};
 
+use crate::datum::Datum;
+use avro_name::FullName;
+
 /// The place of a node among those of its schema; 0 is the root.
 #[derive(Clone, Copy, Debug, PartialEq, Eq, PartialOrd, Ord, Hash)]
 pub struct NodeId(pub u32);
 
 /// A node of a schema (Avro 1.11, "Schema Declaration").
-#[derive(Clone, Copy, Debug, PartialEq, Eq, Hash)]
+#[derive(Debug, PartialEq, Drop)]
 pub enum Node {
     /// The type of the one datum null.
     Null,
@@ -17,6 +20,56 @@ pub enum Node {
     Int,
     /// A signed number of 64 bits.
     Long,
+    /// Bytes.
+    Bytes,
+    /// A text.
+    Str,
+    /// Items of one node.
+    Array(NodeId),
+    /// Texts, each with a value of one node.
+    Map(NodeId),
+    /// A datum of one of several nodes.
+    Union(Vec<NodeId>),
+    /// A datum for each field.
+    Record(RecordNode),
+    /// One of several symbols.
+    Enum(EnumNode),
+    /// Bytes of one length.
+    Fixed(FixedNode),
+}
+
+/// A record: its fullname, its aliases, and its fields in order.
+#[derive(Debug, PartialEq, Drop)]
+pub struct RecordNode {
+    pub name: FullName,
+    pub aliases: Vec<FullName>,
+    pub fields: Vec<Field>,
+}
+
+/// A field of a record: its name, its aliases, the node of its data, and its default.
+#[derive(Debug, PartialEq, Drop)]
+pub struct Field {
+    pub name: String,
+    pub aliases: Vec<String>,
+    pub node: NodeId,
+    pub default: Option<Datum>,
+}
+
+/// An enum: its fullname, its aliases, its symbols in order, and the place of its default.
+#[derive(Debug, PartialEq, Drop)]
+pub struct EnumNode {
+    pub name: FullName,
+    pub aliases: Vec<FullName>,
+    pub symbols: Vec<String>,
+    pub default: Option<u32>,
+}
+
+/// A fixed: its fullname, its aliases, and its number of bytes.
+#[derive(Debug, PartialEq, Drop)]
+pub struct FixedNode {
+    pub name: FullName,
+    pub aliases: Vec<FullName>,
+    pub size: u32,
 }
 
 /// A well-formed schema: 1 to 4,096 nodes that keep the rules of the standard.
@@ -39,6 +92,13 @@ impl Schema {
         ensures { schema_nodes result ≡ nodes_of nodes.items }
     {
         Schema { nodes }
+    }
+
+    /// The nodes, in the order of their numbers.
+    pub(crate) fn nodes(&self) -> &[Node]
+        ensures { nodes_of result.now ≡ schema_nodes self.now }
+    {
+        &self.nodes
     }
 
     /// The node that the schema's data are of.

@@ -1,4 +1,4 @@
-use Rattle.std.proofs.Common.{◌≡◌, ◌<◌, Some, true, false, sym, ap, ◌∙◌, arith}
+use Rattle.std.proofs.Common.{◌<◌, Some, true, false, sym, ap, ◌∙◌, arith}
 use Rattle.avro_binary.proofs.Exact.{boolean_ended, boolean_read, boolean_refused}
 use Rattle.avro_binary.proofs.read.decode_boolean.Goals as goal
 

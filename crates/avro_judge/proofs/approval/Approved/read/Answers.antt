@@ -5,7 +5,6 @@ use Rattle.avro_binary.specs.declared.error.ReadError.{ReadError}
 use Rattle.avro_resolve.specs.Seen.{UnlessOutOfMemory as UnlessNoMemory}
 use Rattle.avro_resolve.specs.declared.error.ReadResolveError.{ReadResolveError}
 use Rattle.avro_judge.proofs.approval.Approved.read.Goals as goal
-use Rattle.avro_judge.proofs.approval.Approved.read.Goals.{in-Ok, in-Err-Read}
 
 abbrev unread : ReadError → Result (Datum × ℕ) ReadResolveError
 unread e = Err (ReadResolveError.Read e)
@@ -18,9 +17,9 @@ only_memory : (e : ReadError) → UnlessNoMemory (unread e) ⊥ → UnlessOutOfM
 only_memory ReadError.OutOfMemory h = tt
 only_memory _ h = h
 
-pub returns-clause-begins : goal.returns-clause-begins
-returns-clause-begins c = rw (← c.self.view_is) (λ v front rest encoded within split.
-    elim c.match-read_resolved.branch [
-      | in-Ok w ↦ rw w.result-is (w.in-Ok.ensures.begins v front rest encoded within split)
-      | in-Err-Read w ↦ rw w.result-is (only_memory w.in-Err-Read.e (rw w.in-Err-Read.field-0-is at (w.in-Err-Read.ensures.begins v front rest encoded within split)))
-    ])
+pub returns-in-Ok-clause-begins : goal.returns-in-Ok-clause-begins
+returns-in-Ok-clause-begins c = rw (← c.self.view_is) (λ v front rest encoded within split. c.in-Ok.ensures.begins v front rest encoded within split)
+
+pub returns-in-Err-Read-clause-begins : goal.returns-in-Err-Read-clause-begins
+returns-in-Err-Read-clause-begins c = rw (← c.self.view_is) (λ v front rest encoded within split.
+    only_memory c.in-Err-Read.e (rw c.in-Err-Read.field-0-is at (c.in-Err-Read.ensures.begins v front rest encoded within split)))

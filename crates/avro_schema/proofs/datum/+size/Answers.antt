@@ -1,0 +1,10 @@
+use Rattle.std.proofs.Common.{arith, rules}
+use Rattle.std.proofs.lemmas.Grind.{common_steps}
+use Rattle.avro_schema.proofs.DatumViews.{value_of-Map}
+use Rattle.avro_schema.proofs.datum.+size.Goals as goal
+
+pub size-returns-in-Map : goal.size-returns-in-Map
+size-returns-in-Map t c =
+    let e = value_of-Map c.in-Map.entries in
+    let s = c.deref-in-Map.ensures.value in
+    rw (c.in-Map.is, e, ← s) (omega (arith, c.saturating_add-in-Map.ensures, c.size_of_entries.ensures))

@@ -1,0 +1,244 @@
+ghost use Rattle.std.specs.Prelude.{◌≡◌, ◌<◌, List, length, map, IfOk, slice_get, option_map, option_and_then, string_bytes};
+ghost use Rattle.avro_schema.specs.Fits.{fits as value_fits, each_fits as values_fit, entries_fit as values_of_map_fit, fields_fit as values_fit_fields};
+ghost use Rattle.avro_schema.specs.Node.{Node as SeenNode, node_at, branches_of, field_places};
+ghost use Rattle.avro_schema.specs.Seen.{value_of, values_of, entries_of, node_of, nodes_of, seen_fields};
+ghost use Rattle.avro_schema.specs.SeenSchema.{schema_nodes};
+ghost use Rattle.avro_schema.specs.Value.{Value, keys_of};
+
+use crate::datum::{Datum, Memory};
+use crate::schema::{Field, Node, NodeId, Schema};
+use crate::uniqueness::are_unique_texts;
+use std::alloc::Global;
+
+/// Whether a datum is one of a node of the schema.
+pub fn fits(alloc: Global, schema: &Schema, node: NodeId, datum: &Datum) -> Result<bool, Memory>
+    requires { node.0 < length (schema_nodes schema.now) }
+    ensures { IfOk result (λ answer.
+        answer ≡ value_fits (schema_nodes schema.now) (node_at (schema_nodes schema.now) node.0) (value_of datum.now)) }
+{
+    fits_place(alloc, schema.nodes(), node, datum)
+}
+
+/// Whether a datum is one of the node at a place; a place without a node is that of null.
+#[cycle(fitting)]
+pub(crate) fn fits_place(
+    alloc: Global,
+    nodes: &[Node],
+    place: NodeId,
+    datum: &Datum,
+) -> Result<bool, Memory>
+    ensures { IfOk result (λ answer. answer ≡ value_fits (nodes_of nodes.now) (node_at (nodes_of nodes.now) place.0) (value_of datum.now)) }
+{
+    match nodes.get(place.0 as usize) {
+        Some(node) => fits_node(alloc, nodes, node, datum),
+        None => fits_node(alloc, nodes, &Node::Null, datum),
+    }
+}
+
+/// Whether a datum is one of a node.
+#[cycle(fitting)]
+fn fits_node(alloc: Global, nodes: &[Node], node: &Node, datum: &Datum) -> Result<bool, Memory>
+    ensures { IfOk result (λ answer. answer ≡ value_fits (nodes_of nodes.now) (node_of node.now) (value_of datum.now)) }
+{
+    match datum {
+        Datum::Null => Ok(matches!(node, Node::Null)),
+        Datum::Bool(_) => Ok(matches!(node, Node::Boolean)),
+        Datum::Int(value) => Ok(fits_int(node, value)),
+        Datum::Long(value) => Ok(fits_long(node, value)),
+        Datum::Bytes(bytes) => Ok(fits_bytes(node, bytes)),
+        Datum::Str(text) => Ok(fits_text(node, text)),
+        Datum::Array(items) => fits_array(alloc, nodes, node, items),
+        Datum::Map(entries) => fits_map(alloc, nodes, node, entries),
+        Datum::Union(branch, value) => match branch_node(node, *branch) {
+            Some(place) => fits_place(alloc, nodes, place, value),
+            None => Ok(false),
+        },
+        Datum::Record(values) => fits_record(alloc, nodes, node, values),
+        Datum::Enum(symbol) => Ok(fits_enum(node, *symbol)),
+        Datum::Fixed(bytes) => Ok(fits_fixed(node, bytes)),
+    }
+}
+
+/// Whether an int is one of the node's data.
+fn fits_int(node: &Node, value: &i32) -> bool
+    ensures { (nodes : List SeenNode) → result ≡ value_fits nodes (node_of node.now) (Value.int value.now) }
+{
+    let _value = *value;
+    matches!(node, Node::Int)
+}
+
+/// Whether a long is one of the node's data.
+fn fits_long(node: &Node, value: &i64) -> bool
+    ensures { (nodes : List SeenNode) → result ≡ value_fits nodes (node_of node.now) (Value.long value.now) }
+{
+    let _value = *value;
+    matches!(node, Node::Long)
+}
+
+/// Whether bytes are one of the node's data.
+fn fits_bytes(node: &Node, bytes: &Vec<u8>) -> bool
+    ensures { (nodes : List SeenNode) → result ≡ value_fits nodes (node_of node.now) (Value.bytes bytes.now.items) }
+{
+    matches!(node, Node::Bytes)
+}
+
+/// Whether a text is one of the node's data.
+fn fits_text(node: &Node, text: &String) -> bool
+    ensures { (nodes : List SeenNode) → result ≡ value_fits nodes (node_of node.now) (Value.string (string_bytes text.now)) }
+{
+    matches!(node, Node::Str)
+}
+
+/// Whether the place of a symbol is one of the node's data.
+fn fits_enum(node: &Node, symbol: u32) -> bool
+    ensures { (nodes : List SeenNode) → result ≡ value_fits nodes (node_of node.now) (Value.enum symbol) }
+{
+    match node {
+        Node::Enum(enumeration) => (symbol as usize) < enumeration.symbols.len(),
+        _ => false,
+    }
+}
+
+/// Whether bytes of a fixed are one of the node's data.
+fn fits_fixed(node: &Node, bytes: &Vec<u8>) -> bool
+    ensures { (nodes : List SeenNode) → result ≡ value_fits nodes (node_of node.now) (Value.fixed bytes.now.items) }
+{
+    match node {
+        Node::Fixed(fixed) => bytes.len() == fixed.size as usize,
+        _ => false,
+    }
+}
+
+/// The node of a union's branch.
+fn branch_node(node: &Node, branch: u32) -> Option<NodeId>
+    ensures { option_map (λ id. id.0) result ≡ option_and_then (λ places. slice_get places branch) (branches_of (node_of node.now)) }
+{
+    match node {
+        Node::Union(branches) => branches.get(branch as usize).copied(),
+        _ => None,
+    }
+}
+
+/// Whether items are one of the node's data.
+#[cycle(fitting)]
+fn fits_array(
+    alloc: Global,
+    nodes: &[Node],
+    node: &Node,
+    items: &Vec<Datum>,
+) -> Result<bool, Memory>
+    ensures { IfOk result (λ answer. answer ≡ value_fits (nodes_of nodes.now) (node_of node.now) (Value.array (values_of items.now.items))) }
+{
+    match node {
+        Node::Array(place) => each_fits(alloc, nodes, *place, items),
+        _ => Ok(false),
+    }
+}
+
+/// Whether each of some data is one of the node at a place.
+#[cycle(fitting)]
+fn each_fits(
+    alloc: Global,
+    nodes: &[Node],
+    place: NodeId,
+    items: &[Datum],
+) -> Result<bool, Memory>
+    ensures { IfOk result (λ answer. answer ≡ values_fit (nodes_of nodes.now) (node_at (nodes_of nodes.now) place.0) (values_of items.now)) }
+{
+    for item in items {
+        if !fits_place(alloc, nodes, place, item)? {
+            return Ok(false);
+        }
+    }
+    Ok(true)
+}
+
+/// Whether keys with their values are one of the node's data.
+#[cycle(fitting)]
+fn fits_map(
+    alloc: Global,
+    nodes: &[Node],
+    node: &Node,
+    entries: &Vec<(String, Datum)>,
+) -> Result<bool, Memory>
+    ensures { IfOk result (λ answer. answer ≡ value_fits (nodes_of nodes.now) (node_of node.now) (Value.map_of (entries_of entries.now.items))) }
+{
+    match node {
+        Node::Map(place) => {
+            if !are_unique_texts(keys(alloc, entries)?)? {
+                return Ok(false);
+            }
+            entries_fit(alloc, nodes, *place, entries)
+        }
+        _ => Ok(false),
+    }
+}
+
+/// The keys of a map.
+fn keys(alloc: Global, entries: &[(String, Datum)]) -> Result<Vec<&str>, Memory>
+    ensures { IfOk result (λ keys. map (λ key. key.now) keys.items ≡ keys_of (entries_of entries.now)) }
+{
+    let mut keys: Vec<&str> = Vec::new(alloc);
+    for entry in entries {
+        match keys.push(entry.0.as_str()) {
+            Ok(()) => {}
+            Err(_) => return Err(Memory),
+        }
+    }
+    Ok(keys)
+}
+
+/// Whether each value of a map is one of the node at a place.
+#[cycle(fitting)]
+fn entries_fit(
+    alloc: Global,
+    nodes: &[Node],
+    place: NodeId,
+    entries: &[(String, Datum)],
+) -> Result<bool, Memory>
+    ensures { IfOk result (λ answer. answer ≡ values_of_map_fit (nodes_of nodes.now) (node_at (nodes_of nodes.now) place.0) (entries_of entries.now)) }
+{
+    for entry in entries {
+        if !fits_place(alloc, nodes, place, &entry.1)? {
+            return Ok(false);
+        }
+    }
+    Ok(true)
+}
+
+/// Whether values of fields are one of the node's data.
+#[cycle(fitting)]
+fn fits_record(
+    alloc: Global,
+    nodes: &[Node],
+    node: &Node,
+    values: &[Datum],
+) -> Result<bool, Memory>
+    ensures { IfOk result (λ answer. answer ≡ value_fits (nodes_of nodes.now) (node_of node.now) (Value.record_of (values_of values.now))) }
+{
+    match node {
+        Node::Record(record) => fields_fit(alloc, nodes, &record.fields, values),
+        _ => Ok(false),
+    }
+}
+
+/// Whether there is a value for each field, of the field's node.
+#[cycle(fitting)]
+fn fields_fit(
+    alloc: Global,
+    nodes: &[Node],
+    fields: &[Field],
+    values: &[Datum],
+) -> Result<bool, Memory>
+    ensures { IfOk result (λ answer. answer ≡ values_fit_fields (nodes_of nodes.now) (field_places (seen_fields fields.now)) (values_of values.now)) }
+{
+    if fields.len() != values.len() {
+        return Ok(false);
+    }
+    for i in 0..values.len() {
+        if !fits_place(alloc, nodes, fields[i].node, &values[i])? {
+            return Ok(false);
+        }
+    }
+    Ok(true)
+}
