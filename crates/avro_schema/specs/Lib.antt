@@ -6,3 +6,5 @@ pub mod WellFormed
 pub mod Seen
 pub mod SeenSchema
 pub mod Ranges
+pub mod Faulty
+pub mod SeenKind
