@@ -6,5 +6,6 @@ pub mod WellFormed
 pub mod Seen
 pub mod SeenSchema
 pub mod Ranges
+pub mod FirstKinds
 pub mod Faulty
 pub mod SeenKind
