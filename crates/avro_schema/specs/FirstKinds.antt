@@ -1,4 +1,4 @@
--- The kinds of nodes that decoding, resolution and judging take: null, boolean, int and long.
+-- The kinds of nodes whose data are read and resolved so far: null, boolean, int or long.
 use Rattle.std.specs.Prelude.{Bool, true, false}
 use Rattle.avro_schema.specs.Node.{Node}
 

@@ -7,3 +7,5 @@ pub mod Seen
 pub mod SeenSchema
 pub mod Ranges
 pub mod FirstKinds
+pub mod Faulty
+pub mod SeenKind

@@ -50,15 +50,15 @@ is_union nodes places =
     nat_lt 0 (length places) && list_all (λ place. is_some (branch_kind (node_at nodes place))) places
     && are_distinct same_kind (filter_map (λ place. branch_kind (node_at nodes place)) places)
 
+abbrev pub is_default : List (List ℕ) → Option ℕ → Bool
+is_default symbols None = true
+is_default symbols (Some place) = nat_lt place (length symbols)
+
 -- an enum has a symbol, and at most `max_count`, which are distinct names; its default is the place of one
 abbrev pub is_enum : List (List ℕ) → Option ℕ → Bool
 is_enum symbols default =
     nat_lt 0 (length symbols) && nat_le (length symbols) max_count && list_all is_simple_name symbols
     && are_distinct bytes_eq symbols && is_default symbols default
-  where
-    is_default : List (List ℕ) → Option ℕ → Bool
-    is_default all None = true
-    is_default all (Some place) = nat_lt place (length all)
 
 -- each union in the datum, at any depth, is its first branch
 abbrev mutual

@@ -1,31 +1,9 @@
-ghost use Rattle.std.specs.Prelude.{◌≡◌, ◌≤◌, vec_len};
-ghost use Rattle.avro_schema.specs.declared.draft.DraftError.TheVariants.{OutOfMemory};
+ghost use Rattle.std.specs.Prelude.{◌≤◌, vec_len};
 
+use crate::checking::{MAX_NODES, check_nodes};
+use crate::fault::DraftError;
 use crate::schema::{Node, NodeId, Schema};
-use std::alloc::{AllocFailed, Global};
-use thiserror::Error;
-
-/// Why nodes are no schema.
-#[derive(Clone, Copy, Debug, PartialEq, Eq, Hash, Error)]
-pub enum DraftError {
-    /// There is no node, or there are 4,096 and one more is added.
-    #[error("S12")]
-    LimitExceeded,
-    /// Memory ran out.
-    #[error("S13")]
-    OutOfMemory,
-}
-
-impl<T: Drop> From<AllocFailed<T>> for DraftError {
-    ghost from_gives = { λ _ e. e ≡ OutOfMemory };
-
-    fn from(_e: AllocFailed<T>) -> DraftError {
-        DraftError::OutOfMemory
-    }
-}
-
-/// The greatest number of nodes of a schema.
-const MAX_NODES: usize = 4096;
+use std::alloc::Global;
 
 /// Nodes that are to be a schema, in the order of their numbers.
 #[derive(Debug, Drop)]
@@ -35,7 +13,8 @@ pub struct Draft {
 }
 
 impl Draft {
-    ghost use Rattle.std.specs.Prelude.{◌≡◌, ◌↔◌, true, [], ◌∷◌, ◌++◌, length, IfOk, OnOk, OnErr, IsOk, IsErrOf};
+    ghost use Rattle.std.specs.Prelude.{◌≡◌, ◌↔◌, true, [], ◌∷◌, ◌++◌, length, IfOk, IfErr, OnOk, OnErr, IsErrOf};
+    ghost use Rattle.avro_schema.specs.Faulty.{IsThere};
     ghost use Rattle.avro_schema.specs.Seen.{node_of};
     ghost use Rattle.avro_schema.specs.SeenSchema.{schema_nodes, draft_nodes};
     ghost use Rattle.avro_schema.specs.WellFormed.{is_schema};
@@ -62,5 +41,18 @@ impl Draft {
         }
         self.nodes.push(node)?;
         Ok(NodeId(number as u32))
+    }
+
+    /// The schema of these nodes.
+    pub fn finish(self) -> Result<Schema, DraftError>
+        ensures schema { IfOk result (λ schema. schema_nodes schema ≡ draft_nodes self) }
+        ensures formed { OnOk result (is_schema (draft_nodes self) ≡ true) }
+        ensures succeeds { is_schema (draft_nodes self) ≡ true → IfErr result (λ e. e ≡ DraftError.OutOfMemory) }
+        ensures faulty { IfErr result (λ e. IsThere e (draft_nodes self)) }
+    {
+        match check_nodes(*self.nodes.allocator(), &self.nodes) {
+            Ok(()) => Ok(Schema::from_nodes(self.nodes)),
+            Err(error) => Err(error),
+        }
     }
 }

@@ -4,16 +4,21 @@
 //! schema as the list of its nodes, and a [`Datum`] as a tree with no capacity and no pointer in it.
 #![tactic(auto)]
 
+mod checking;
 mod datum;
 mod draft;
+mod fault;
 mod fitting;
 pub mod laws;
 mod limits;
+mod naming;
 mod schema;
+mod branches;
 mod uniqueness;
 
 pub use datum::{Datum, Memory, depth, size};
-pub use draft::{Draft, DraftError};
+pub use draft::Draft;
+pub use fault::DraftError;
 pub use fitting::fits;
 pub use limits::Limits;
 pub use schema::{EnumNode, Field, FixedNode, Node, NodeId, RecordNode, Schema};

@@ -1,0 +1,14 @@
+use Rattle.std.proofs.Common.{◌≡◌, true, nat_lt, length, rules, tests}
+use Rattle.std.proofs.lemmas.List.{length-map}
+use Rattle.avro_schema.specs.Seen.{nodes_of, places_of}
+use Rattle.avro_schema.proofs.BranchKinds.{no_union, union_by_kinds}
+use Rattle.avro_schema.proofs.branches.is_union.Goals as goal
+
+pub returns-in-Some : goal.returns-in-Some
+returns-in-Some c =
+    let some : nat_lt 0 (length (places_of c.args.branches.now)) ≡ true = rw length-map (search (rules, tests)) in
+    let kinds = union_by_kinds (nodes_of c.args.nodes.now) (places_of c.args.branches.now) c.in_ok-kinds.field-0 c.in-Some.kinds c.in_ok-kinds.ensures c.in-Some.is some in
+    rw (← kinds) c.are_unique_kinds.ensures
+
+pub returns-in-None : goal.returns-in-None
+returns-in-None c = no_union (nodes_of c.args.nodes.now) (places_of c.args.branches.now) c.in_ok-kinds.field-0 c.in_ok-kinds.ensures c.in-None.is

@@ -1,0 +1,8 @@
+use Rattle.std.proofs.Common.{◌≡◌, drop}
+use Rattle.std.specs.List.{list_all}
+use Rattle.avro_schema.specs.Seen.{nodes_of, places_of}
+use Rattle.avro_schema.specs.WellFormed.{is_edge}
+use Rattle.avro_schema.proofs.checking.are_edges.Given as goal
+
+abbrev pub invariant-loop-place : goal.invariant-loop-place
+invariant-loop-place l = list_all (is_edge (nodes_of l.nodes) l.from) (places_of l.places) ≡ list_all (is_edge (nodes_of l.nodes) l.from) (places_of (drop l.place-index l.places))

@@ -1,0 +1,303 @@
+//! Whether nodes are a schema.
+
+ghost use Rattle.std.specs.Prelude.{◌≡◌, ℕ, ◌<◌, true, length, IfOk, IfErr, OnOk};
+ghost use Rattle.std.specs.List.{list_all};
+ghost use Rattle.avro_schema.specs.Faulty.{IsBroken, SomeIsBroken, IsThere};
+ghost use Rattle.avro_schema.specs.Node.{Node as SeenNode, node_at, field_places};
+ghost use Rattle.avro_schema.specs.Seen.{value_of, values_of, entries_of, field_of, node_of, nodes_of, places_of, seen_fields};
+ghost use Rattle.avro_schema.specs.WellFormed.{is_edge as is_good_edge, is_good_node, are_good_nodes, is_schema, takes_first_branches as takes_first, values_take_first_branches, entries_take_first_branches, has_good_default as is_good_default};
+ghost use Rattle.avro_schema.specs.declared.schema.Node.TheVariants as kept;
+
+use crate::branches::is_union;
+use crate::datum::{Datum, Memory};
+use crate::fault::DraftError;
+use crate::fitting::fits_place;
+use crate::naming::{are_simple_names, have_unique_names, name_of, names_of_fields, read_names, texts};
+use crate::schema::{EnumNode, Field, FixedNode, Node, NodeId, RecordNode};
+use crate::uniqueness::are_unique_texts;
+use std::alloc::Global;
+
+/// The greatest number of nodes of a schema.
+pub(crate) const MAX_NODES: usize = 4096;
+
+/// The greatest number of symbols of an enum, and of bytes of a fixed.
+const MAX_COUNT: usize = 1_048_576;
+
+/// Tests the rules of a schema.
+pub(crate) fn check_nodes(alloc: Global, nodes: &[Node]) -> Result<(), DraftError>
+    ensures formed { OnOk result (is_schema (nodes_of nodes.now) ≡ true) }
+    ensures faulty { IfErr result (λ e. IsThere e (nodes_of nodes.now)) }
+{
+    if nodes.is_empty() {
+        return Err(DraftError::LimitExceeded);
+    }
+    if nodes.len() > MAX_NODES {
+        return Err(DraftError::LimitExceeded);
+    }
+    match check_each(alloc, nodes) {
+        Ok(()) => {}
+        Err(error) => return Err(error),
+    }
+    if !have_unique_names(alloc, nodes)? {
+        return Err(DraftError::DuplicateName);
+    }
+    Ok(())
+}
+
+/// Tests the rules of each node by itself.
+fn check_each(alloc: Global, nodes: &[Node]) -> Result<(), DraftError>
+    ensures good { OnOk result (are_good_nodes (nodes_of nodes.now) 0 (nodes_of nodes.now) ≡ true) }
+    ensures broken { IfErr result (λ e. SomeIsBroken e (nodes_of nodes.now)) }
+{
+    for i in 0..nodes.len() {
+        match check_node(alloc, nodes, i, &nodes[i]) {
+            Ok(()) => {}
+            Err(error) => return Err(error),
+        }
+    }
+    Ok(())
+}
+
+/// Tests the rules of a node at its place.
+fn check_node(alloc: Global, nodes: &[Node], place: usize, node: &Node) -> Result<(), DraftError>
+    ensures good { OnOk result (is_good_node (nodes_of nodes.now) place (node_of node.now) ≡ true) }
+    ensures broken { IfErr result (λ e. IsBroken e (nodes_of nodes.now) place (node_of node.now)) }
+{
+    match node {
+        Node::Null | Node::Boolean | Node::Int | Node::Long | Node::Bytes | Node::Str => Ok(()),
+        Node::Array(items) => check_array(nodes, place, *items),
+        Node::Map(values) => check_map(nodes, place, *values),
+        Node::Union(branches) => check_union(alloc, nodes, place, branches),
+        Node::Record(record) => check_record(alloc, nodes, place, record),
+        Node::Enum(enumeration) => check_enum(alloc, nodes, place, enumeration),
+        Node::Fixed(fixed) => check_fixed(nodes, place, fixed),
+    }
+}
+
+/// Whether an edge stays among the nodes, and goes to a later one or to a record, an enum or a fixed.
+fn is_edge(nodes: &[Node], from: usize, to: NodeId) -> bool
+    ensures { result ≡ is_good_edge (nodes_of nodes.now) from to.0 }
+{
+    match nodes.get(to.0 as usize) {
+        Some(node) => from < to.0 as usize || name_of(node).is_some(),
+        None => false,
+    }
+}
+
+/// Whether edges are good.
+fn are_edges(nodes: &[Node], from: usize, places: &[NodeId]) -> bool
+    ensures { result ≡ list_all (is_good_edge (nodes_of nodes.now) from) (places_of places.now) }
+{
+    for place in places {
+        if !is_edge(nodes, from, *place) {
+            return false;
+        }
+    }
+    true
+}
+
+/// Whether the edges of fields are good.
+fn are_field_edges(nodes: &[Node], from: usize, fields: &[Field]) -> bool
+    ensures { result ≡ list_all (is_good_edge (nodes_of nodes.now) from) (field_places (seen_fields fields.now)) }
+{
+    for field in fields {
+        if !is_edge(nodes, from, field.node) {
+            return false;
+        }
+    }
+    true
+}
+
+/// Tests the rules of an array.
+fn check_array(nodes: &[Node], place: usize, items: NodeId) -> Result<(), DraftError>
+    ensures good { OnOk result (is_good_node (nodes_of nodes.now) place (SeenNode.array items.0) ≡ true) }
+    ensures broken { IfErr result (λ e. IsBroken e (nodes_of nodes.now) place (SeenNode.array items.0)) }
+{
+    if !is_edge(nodes, place, items) {
+        return Err(DraftError::UnknownNode);
+    }
+    Ok(())
+}
+
+/// Tests the rules of a map.
+fn check_map(nodes: &[Node], place: usize, values: NodeId) -> Result<(), DraftError>
+    ensures good { OnOk result (is_good_node (nodes_of nodes.now) place (SeenNode.map_of values.0) ≡ true) }
+    ensures broken { IfErr result (λ e. IsBroken e (nodes_of nodes.now) place (SeenNode.map_of values.0)) }
+{
+    if !is_edge(nodes, place, values) {
+        return Err(DraftError::UnknownNode);
+    }
+    Ok(())
+}
+
+/// Tests the rules of a union.
+fn check_union(
+    alloc: Global,
+    nodes: &[Node],
+    place: usize,
+    branches: &[NodeId],
+) -> Result<(), DraftError>
+    ensures good { OnOk result (is_good_node (nodes_of nodes.now) place (SeenNode.union (places_of branches.now)) ≡ true) }
+    ensures broken { IfErr result (λ e. IsBroken e (nodes_of nodes.now) place (SeenNode.union (places_of branches.now))) }
+{
+    if !are_edges(nodes, place, branches) {
+        return Err(DraftError::UnknownNode);
+    }
+    if !is_union(alloc, nodes, branches)? {
+        return Err(DraftError::InvalidUnion);
+    }
+    Ok(())
+}
+
+/// Tests the rules of a record.
+fn check_record(
+    alloc: Global,
+    nodes: &[Node],
+    place: usize,
+    record_node: &RecordNode,
+) -> Result<(), DraftError>
+    ensures good { OnOk result (is_good_node (nodes_of nodes.now) place (node_of (kept.Record record_node.now)) ≡ true) }
+    ensures broken { IfErr result (λ e. IsBroken e (nodes_of nodes.now) place (node_of (kept.Record record_node.now))) }
+{
+    let _ = record_node.name.simple();
+    read_names(&record_node.aliases);
+    if !are_field_edges(nodes, place, &record_node.fields) {
+        return Err(DraftError::UnknownNode);
+    }
+    let names = names_of_fields(alloc, &record_node.fields)?;
+    if !are_simple_names(&names) {
+        return Err(DraftError::InvalidName);
+    }
+    if !are_unique_texts(names)? {
+        return Err(DraftError::DuplicateField);
+    }
+    if !are_good_defaults(alloc, nodes, &record_node.fields)? {
+        return Err(DraftError::InvalidDefault);
+    }
+    Ok(())
+}
+
+/// Tests the rules of an enum.
+fn check_enum(
+    alloc: Global,
+    nodes: &[Node],
+    place: usize,
+    enumeration: &EnumNode,
+) -> Result<(), DraftError>
+    ensures good { OnOk result (is_good_node (nodes_of nodes.now) place (node_of (kept.Enum enumeration.now)) ≡ true) }
+    ensures broken { IfErr result (λ e. IsBroken e (nodes_of nodes.now) place (node_of (kept.Enum enumeration.now))) }
+{
+    let _ = enumeration.name.simple();
+    read_names(&enumeration.aliases);
+    let count = enumeration.symbols.len();
+    if count == 0 {
+        return Err(DraftError::InvalidSymbols);
+    }
+    if count > MAX_COUNT {
+        return Err(DraftError::LimitExceeded);
+    }
+    match enumeration.default {
+        Some(place) => {
+            if place as usize >= count {
+                return Err(DraftError::InvalidSymbols);
+            }
+        }
+        None => {}
+    }
+    let symbols = texts(alloc, &enumeration.symbols)?;
+    if !are_simple_names(&symbols) {
+        return Err(DraftError::InvalidName);
+    }
+    if !are_unique_texts(symbols)? {
+        return Err(DraftError::InvalidSymbols);
+    }
+    Ok(())
+}
+
+/// Tests the rules of a fixed.
+fn check_fixed(nodes: &[Node], place: usize, fixed: &FixedNode) -> Result<(), DraftError>
+    ensures good { OnOk result (is_good_node (nodes_of nodes.now) place (node_of (kept.Fixed fixed.now)) ≡ true) }
+    ensures broken { IfErr result (λ e. IsBroken e (nodes_of nodes.now) place (node_of (kept.Fixed fixed.now))) }
+{
+    let _ = fixed.name.simple();
+    read_names(&fixed.aliases);
+    if fixed.size as usize > MAX_COUNT {
+        return Err(DraftError::LimitExceeded);
+    }
+    Ok(())
+}
+
+/// Whether the defaults of fields are good.
+fn are_good_defaults(alloc: Global, nodes: &[Node], fields: &[Field]) -> Result<bool, Memory>
+    ensures { IfOk result (λ answer. answer ≡ list_all (is_good_default (nodes_of nodes.now)) (seen_fields fields.now)) }
+{
+    for field in fields {
+        if !has_good_default(alloc, nodes, field)? {
+            return Ok(false);
+        }
+    }
+    Ok(true)
+}
+
+/// Whether a field has no default, or one that is a datum of its node and takes the first branch of
+/// each union.
+fn has_good_default(alloc: Global, nodes: &[Node], field: &Field) -> Result<bool, Memory>
+    ensures { IfOk result (λ answer. answer ≡ is_good_default (nodes_of nodes.now) (field_of field.now)) }
+{
+    match &field.default {
+        None => Ok(true),
+        Some(datum) => {
+            if !fits_place(alloc, nodes, field.node, datum)? {
+                return Ok(false);
+            }
+            Ok(takes_first_branches(datum))
+        }
+    }
+}
+
+/// Whether each union in a datum, at any depth, is its first branch.
+#[cycle(first_branches)]
+fn takes_first_branches(datum: &Datum) -> bool
+    ensures { result ≡ takes_first (value_of datum.now) }
+{
+    match datum {
+        Datum::Null
+        | Datum::Bool(_)
+        | Datum::Int(_)
+        | Datum::Long(_)
+        | Datum::Bytes(_)
+        | Datum::Str(_)
+        | Datum::Enum(_)
+        | Datum::Fixed(_) => true,
+        Datum::Array(items) => items_take_first_branches(items),
+        Datum::Map(entries) => values_of_map_take_first_branches(entries),
+        Datum::Union(branch, value) => *branch == 0 && takes_first_branches(value),
+        Datum::Record(values) => items_take_first_branches(values),
+    }
+}
+
+/// Whether each union in some data is its first branch.
+#[cycle(first_branches)]
+fn items_take_first_branches(items: &[Datum]) -> bool
+    ensures { result ≡ values_take_first_branches (values_of items.now) }
+{
+    for item in items {
+        if !takes_first_branches(item) {
+            return false;
+        }
+    }
+    true
+}
+
+/// Whether each union in the values of a map is its first branch.
+#[cycle(first_branches)]
+fn values_of_map_take_first_branches(entries: &[(String, Datum)]) -> bool
+    ensures { result ≡ entries_take_first_branches (entries_of entries.now) }
+{
+    for entry in entries {
+        if !takes_first_branches(&entry.1) {
+            return false;
+        }
+    }
+    true
+}

@@ -1,0 +1,150 @@
+//! The names in nodes.
+
+ghost use Rattle.std.specs.Prelude.{◌≡◌, ◌++◌, true, map, IfOk, option_map, filter_map, flat_map, string_bytes};
+ghost use Rattle.std.specs.List.{list_all};
+ghost use Rattle.avro_name.specs.Name.{is_name_start, is_name_character, is_simple_name, is_full_name, same_name};
+ghost use Rattle.avro_schema.specs.Distinct.{are_distinct};
+ghost use Rattle.avro_schema.specs.Node.{node_name};
+ghost use Rattle.avro_schema.specs.Seen.{node_of, nodes_of, seen_fields, texts_of};
+ghost use Rattle.avro_schema.specs.WellFormed.{field_names};
+
+use crate::datum::Memory;
+use crate::schema::{Field, Node};
+use crate::uniqueness::are_unique;
+use avro_name::FullName;
+use std::alloc::Global;
+
+/// Whether a byte may begin a name.
+fn begins_name(byte: u8) -> bool
+    ensures { result ≡ is_name_start byte }
+{
+    matches!(byte, b'A'..=b'Z' | b'a'..=b'z' | b'_')
+}
+
+/// Whether a byte may follow in a name.
+fn continues_name(byte: u8) -> bool
+    ensures { result ≡ is_name_character byte }
+{
+    matches!(byte, b'A'..=b'Z' | b'a'..=b'z' | b'_' | b'0'..=b'9')
+}
+
+/// Whether bytes may follow in a name.
+fn continue_name(bytes: &[u8]) -> bool
+    ensures { result ≡ list_all is_name_character bytes.now }
+{
+    for byte in bytes {
+        if !continues_name(*byte) {
+            return false;
+        }
+    }
+    true
+}
+
+/// Whether a text is a name without dots.
+fn is_simple_name(text: &str) -> bool
+    ensures { result ≡ is_simple_name text.now }
+{
+    match text.as_bytes().split_first() {
+        Some((first, rest)) => begins_name(*first) && continue_name(rest),
+        None => false,
+    }
+}
+
+/// Whether texts are names without dots.
+pub(crate) fn are_simple_names(texts: &[&str]) -> bool
+    ensures { result ≡ list_all is_simple_name (map (λ t. t.now) texts.now) }
+{
+    for text in texts {
+        if !is_simple_name(text) {
+            return false;
+        }
+    }
+    true
+}
+
+/// The texts themselves.
+pub(crate) fn texts(alloc: Global, strings: &[String]) -> Result<Vec<&str>, Memory>
+    ensures { IfOk result (λ texts. map (λ t. t.now) texts.items ≡ texts_of strings.now) }
+{
+    let mut texts: Vec<&str> = Vec::new(alloc);
+    for string in strings {
+        match texts.push(string.as_str()) {
+            Ok(()) => {}
+            Err(_) => return Err(Memory),
+        }
+    }
+    Ok(texts)
+}
+
+/// The names and aliases of fields.
+pub(crate) fn names_of_fields(alloc: Global, fields: &[Field]) -> Result<Vec<&str>, Memory>
+    ensures { IfOk result (λ names. map (λ t. t.now) names.items ≡ flat_map field_names (seen_fields fields.now)) }
+{
+    let mut names: Vec<&str> = Vec::new(alloc);
+    for field in fields {
+        match names.push(field.name.as_str()) {
+            Ok(()) => {}
+            Err(_) => return Err(Memory),
+        }
+        for alias in &field.aliases {
+            match names.push(alias.as_str()) {
+                Ok(()) => {}
+                Err(_) => return Err(Memory),
+            }
+        }
+    }
+    Ok(names)
+}
+
+/// Reads names, which are fullnames by their type.
+pub(crate) fn read_names(names: &[FullName])
+    ensures { list_all is_full_name names.now ≡ true }
+{
+    for name in names {
+        let _ = name.simple();
+    }
+}
+
+/// The name of a record, an enum or a fixed.
+pub(crate) fn name_of(node: &Node) -> Option<&FullName>
+    ensures { option_map (λ n. n.now) result ≡ node_name (node_of node.now) }
+{
+    match node {
+        Node::Record(record) => Some(&record.name),
+        Node::Enum(enumeration) => Some(&enumeration.name),
+        Node::Fixed(fixed) => Some(&fixed.name),
+        Node::Null
+        | Node::Boolean
+        | Node::Int
+        | Node::Long
+        | Node::Bytes
+        | Node::Str
+        | Node::Array(_)
+        | Node::Map(_)
+        | Node::Union(_) => None,
+    }
+}
+
+/// The names of the records, enums and fixed.
+fn names_of_types(alloc: Global, nodes: &[Node]) -> Result<Vec<&FullName>, Memory>
+    ensures { IfOk result (λ names. map (λ n. n.now) names.items ≡ filter_map node_name (nodes_of nodes.now)) }
+{
+    let mut names: Vec<&FullName> = Vec::new(alloc);
+    for node in nodes {
+        match name_of(node) {
+            Some(name) => match names.push(name) {
+                Ok(()) => {}
+                Err(_) => return Err(Memory),
+            },
+            None => {}
+        }
+    }
+    Ok(names)
+}
+
+/// Whether no two types have one fullname.
+pub(crate) fn have_unique_names(alloc: Global, nodes: &[Node]) -> Result<bool, Memory>
+    ensures { IfOk result (λ answer. answer ≡ are_distinct same_name (filter_map node_name (nodes_of nodes.now))) }
+{
+    are_unique(names_of_types(alloc, nodes)?)
+}
