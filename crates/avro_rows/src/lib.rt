@@ -5,10 +5,16 @@
 #[cfg(test)]
 mod data;
 #[cfg(test)]
+mod drafts;
+#[cfg(test)]
 mod judging;
+#[cfg(test)]
+mod names;
 #[cfg(test)]
 mod numbers;
 #[cfg(test)]
 mod program;
 #[cfg(test)]
 mod schemas;
+#[cfg(test)]
+mod trees;
