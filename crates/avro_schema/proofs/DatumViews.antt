@@ -1,16 +1,22 @@
 -- How each kind of datum is seen.
 use Rattle.std.proofs.Common.{◌≡◌, ℕ, ℤ, Bool, List, [], ◌∷◌, map, refl, ap, ◌∙◌, sym}
 use Rattle.std.specs.Prelude.{String, string_bytes}
-use Rattle.std.specs.Global.{Vec, Box}
+use Rattle.std.specs.Global.{Vec}
 use Rattle.std.specs.declared.alloc.Global.{Global}
 use Rattle.avro_schema.specs.Value.{Value, entry}
-use Rattle.avro_schema.specs.Seen.{value_of, values_of, entries_of, entries_from, view_step}
+use Rattle.avro_schema.specs.Seen.{value_of, entries_of, entries_from, view_step}
 use Rattle.avro_schema.specs.declared.datum.Datum.{Datum}
 use Rattle.avro_schema.specs.declared.datum.Datum.TheOpen.{Datum-F}
 use Rattle.avro_schema.specs.declared.datum.Datum.TheViews as view
 use Rattle.avro_schema.specs.declared.datum.Datum.TheVariants as variants
 use Rattle.avro_schema.specs.declared.datum.Datum.TheFolds.{fold-roll-Datum}
 use Rattle.avro_schema.specs.declared.datum.Datum.TheShapes.{former-Datum-Map-0-at-2}
+
+pub value_of-Null : value_of Datum.Null ≡ Value.null
+value_of-Null = ap value_of (sym variants.rolls-Null) ∙ fold-roll-Datum Value view_step Datum-F.Null
+
+pub value_of-Bool : (b : Bool) → value_of (Datum.Bool b) ≡ Value.boolean b
+value_of-Bool b = ap value_of (sym (variants.rolls-Bool b)) ∙ fold-roll-Datum Value view_step (Datum-F.Bool b)
 
 pub value_of-Int : (i : ℤ) → value_of (Datum.Int i) ≡ Value.int i
 value_of-Int i = ap value_of (sym (variants.rolls-Int i)) ∙ fold-roll-Datum Value view_step (Datum-F.Int i)

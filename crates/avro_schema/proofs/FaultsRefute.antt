@@ -1,13 +1,13 @@
 -- Nodes with a fault are no schema.
-use Rattle.std.proofs.Common.{◌≡◌, ℕ, zero, suc, ◌+◌, ◌<◌, Bool, true, false, not, ◌&&◌, ◌⊎◌, inl, inr, ⊎_elim, List, [], ◌∷◌, length, refl, sym, ap, subst, ◌∙◌, arith, nat_lt, nat_le}
+use Rattle.std.proofs.Common.{◌≡◌, ℕ, zero, suc, ◌+◌, ◌<◌, Bool, true, false, not, ◌&&◌, inl, inr, List, [], ◌∷◌, length, refl, sym, subst, ◌∙◌, arith, nat_lt, nat_le}
 use Rattle.std.specs.Prelude.{Option, bytes_eq, filter_map, flat_map}
 use Rattle.std.specs.List.{list_all}
 use Rattle.std.proofs.lemmas.Bool.{and_parts, false≢true}
-use Rattle.avro_name.specs.Name.{Name, is_simple_name, same_name}
+use Rattle.avro_name.specs.Name.{is_simple_name, same_name}
 use Rattle.avro_schema.specs.Node.{Node, FieldNode, node_at, node_name, edges_of}
 use Rattle.avro_schema.specs.Distinct.{are_distinct}
 use Rattle.avro_schema.specs.WellFormed.{max_nodes, max_count, is_edge, is_union, is_enum, is_default, are_fields, field_names, has_good_default, has_good_names, meets_its_rules, is_good_node, are_good_nodes, is_schema}
-use Rattle.avro_schema.specs.Faulty.{IsBroken, SomeIsBroken, IsThere, has_unknown_node, has_invalid_name, has_invalid_union, has_invalid_symbols, has_duplicate_field, has_invalid_default, exceeds_limit}
+use Rattle.avro_schema.specs.Faulty.{IsBroken, SomeIsBroken, IsThere, has_invalid_name, has_invalid_union, has_invalid_symbols, has_duplicate_field, has_invalid_default, exceeds_limit}
 use Rattle.avro_schema.specs.declared.fault.DraftError.{DraftError}
 
 not_both : (b : Bool) → not b ≡ true → b ≡ true → ⊥
@@ -51,7 +51,7 @@ enum_rules symbols default h =
 edges_good : (nodes : List Node) (place : ℕ) (n : Node) → is_good_node nodes place n ≡ true → list_all (is_edge nodes place) (edges_of n) ≡ true
 edges_good nodes place n good =
     (and_parts (list_all (is_edge nodes place) (edges_of n)) (has_good_names n)
-        (and_parts (list_all (is_edge nodes place) (edges_of n) && has_good_names n) (meets_its_rules nodes n) good).0).0
+    (and_parts (list_all (is_edge nodes place) (edges_of n) && has_good_names n) (meets_its_rules nodes n) good).0).0
 
 rules_met : (nodes : List Node) (place : ℕ) (n : Node) → is_good_node nodes place n ≡ true → meets_its_rules nodes n ≡ true
 rules_met nodes place n good = (and_parts (list_all (is_edge nodes place) (edges_of n) && has_good_names n) (meets_its_rules nodes n) good).1

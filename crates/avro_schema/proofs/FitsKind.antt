@@ -1,10 +1,9 @@
 -- A datum that fits has the kind of its node.
-use Rattle.std.proofs.Common.{◌≡◌, ℕ, ℤ, Bool, true, false, ◌&&◌, List, Option, Some, None, refl}
+use Rattle.std.proofs.Common.{◌≡◌, ℕ, ℤ, Bool, true, List, Some, refl}
 use Rattle.std.specs.Prelude.{length, nat_lt, ◌==◌}
 use Rattle.std.proofs.lemmas.Bool.{and_parts, false≢true}
-use Rattle.avro_name.specs.Name.{Name}
-use Rattle.avro_schema.specs.Value.{Value, Values, Entries}
-use Rattle.avro_schema.specs.Node.{Node, FieldNode, symbols_of, fixed_length}
+use Rattle.avro_schema.specs.Value.{Value}
+use Rattle.avro_schema.specs.Node.{Node, symbols_of, fixed_length}
 use Rattle.avro_schema.specs.Fits.{fits, is_int, is_long, are_bytes, is_text, is_some_and, is_null_node, is_boolean_node, is_int_node, is_long_node, is_bytes_node, is_string_node}
 use Rattle.avro_schema.proofs.FitsParts.{ArrayFits, MapFits, UnionFits, RecordFits, ArrayFits-from_fits, MapFits-from_fits, UnionFits-from_fits, RecordFits-from_fits, is_some_and-some}
 

@@ -1,8 +1,7 @@
 -- Names and kinds are the same just where their order does not tell them apart.
-use Rattle.std.proofs.Common.{◌≡◌, Bool, true, false, ◌&&◌, refl, sym, ap, ◌∙◌}
-use Rattle.std.specs.Prelude.{ℕ, bytes_eq}
+use Rattle.std.proofs.Common.{◌≡◌, ◌&&◌, refl, ◌∙◌}
 use Rattle.std.specs.Cmp.Lexicographic.{slice_cmp}
-use Rattle.std.specs.Ordering.{is_eq, nat_cmp, on, then_cmp, ordering_then, eq_by_cmp}
+use Rattle.std.specs.Ordering.{is_eq, nat_cmp, on, then_cmp, ordering_then}
 use Rattle.std.specs.declared.cmp.Ordering.{Ordering}
 use Rattle.std.specs.declared.cmp.Ordering.TheVariants.{Less, Equal, Greater}
 use Rattle.std.proofs.lemmas.Map.Text.{is_eq-slice_cmp}

@@ -1,5 +1,5 @@
 -- A list in order has no element twice exactly where each of its elements is below the next.
-use Rattle.std.proofs.Common.{◌≡◌, ℕ, zero, suc, ◌+◌, ◌-◌, ◌<◌, ◌≤◌, Bool, true, false, not, ◌&&◌, List, [], ◌∷◌, map, length, get_or, MatchBool, refl, sym, ap, ◌∙◌, arith}
+use Rattle.std.proofs.Common.{◌≡◌, ℕ, zero, suc, ◌+◌, ◌-◌, ◌<◌, ◌≤◌, Bool, true, false, not, List, [], ◌∷◌, map, length, get_or, MatchBool, refl, sym, ap, ◌∙◌, arith}
 use Rattle.std.specs.List.{list_any, IsDistinct, AllAdjacentBelow}
 use Rattle.std.specs.List.Sorted.{IsPermutation, IsSorted}
 use Rattle.std.specs.Cmp.{IsTotalOrder}
@@ -57,13 +57,13 @@ from_pair : {K : Type 0} (R : K → K → Ordering) → IsTotalOrder R → (ys :
 from_pair R o [] up apart k below pair = absurd (omega arith)
 from_pair R o (y ∷ ys) up apart k below pair =
     let equal = equal_neighbours (R (get_or (y ∷ ys) k y) (get_or (y ∷ ys) (k + 1) y)) (R (get_or (y ∷ ys) (k + 1) y) (get_or (y ∷ ys) k y))
-            (o.antisymm _ _) (up k y (omega arith) below) (pair y) in
+    (o.antisymm _ _) (up k y (omega arith) below) (pair y) in
     false≢true (sym (apart_from_distinct (eq_by_cmp R) (y ∷ ys) k (k + 1) y apart (omega arith) below) ∙ equal)
 
 -- the answer of a test of neighbours, once they are sorted
 pub distinct-answer : {K : Type 0} (R : K → K → Ordering) → IsTotalOrder R → (xs ys : List K) → IsPermutation xs ys → (r : Bool) → IsSorted R ys
     → MatchBool r (AllAdjacentBelow (λ x y. R x y ≡ Less) ys (length ys))
-        ((k : ℕ) × (k + 1 < length ys) × ((d : K) → R (get_or ys k d) (get_or ys (k + 1) d) ≡ Less → ⊥))
+    ((k : ℕ) × (k + 1 < length ys) × ((d : K) → R (get_or ys k d) (get_or ys (k + 1) d) ≡ Less → ⊥))
     → r ≡ are_distinct (eq_by_cmp R) xs
 distinct-answer R o xs ys moved true up rise =
     let E = eq_by_cmp R in
@@ -72,7 +72,7 @@ distinct-answer R o xs ys moved true up rise =
 distinct-answer R o xs ys moved false up pair =
     let E = eq_by_cmp R in
     sym (false_from_ne_true (are_distinct E xs) (λ distinct.
-        from_pair R o ys up (IsDistinct-IsPermutation E (eq_by_cmp_equiv o).symm xs ys moved (IsDistinct-from_are_distinct E xs distinct)) pair.0 pair.1 pair.2))
+    from_pair R o ys up (IsDistinct-IsPermutation E (eq_by_cmp_equiv o).symm xs ys moved (IsDistinct-from_are_distinct E xs distinct)) pair.0 pair.1 pair.2))
 
 -- a list whose elements are seen is distinct by a test that sees them the same
 pub are_distinct-map : {A B : Type 0} (f : A → B) (d : A → A → Bool) (e : B → B → Bool) → ((x y : A) → d x y ≡ e (f x) (f y))
@@ -89,8 +89,11 @@ pub no_rise : {K : Type 0} (R : K → K → Ordering) (xs : List K) (i : ℕ) (a
     → a ≡ get_or xs (i - 1) a → b ≡ get_or xs i b → o ≡ R a b → (o ≡ Less → ⊥)
     → (k : ℕ) × (k + 1 < length xs) × ((d : K) → R (get_or xs k d) (get_or xs (k + 1) d) ≡ Less → ⊥)
 no_rise R xs i a b o low below first second is not_less =
-    let next : i - 1 + 1 ≡ i = omega arith in
-    (i - 1, omega arith, λ d less.
-        let earlier = first ∙ get_or_default xs (i - 1) a d (omega arith) in
-        let later = second ∙ get_or_default xs i b d below in
-        not_less (is ∙ ap (λ x. R x b) earlier ∙ ap (λ y. R (get_or xs (i - 1) d) y) (later ∙ ap (λ j. get_or xs j d) (sym next)) ∙ less))
+    let next : i - 1 + 1 ≡ i = omega arith in (
+      i - 1,
+      omega arith,
+      λ d less.
+          let earlier = first ∙ get_or_default xs (i - 1) a d (omega arith) in
+          let later = second ∙ get_or_default xs i b d below in
+          not_less (is ∙ ap (λ x. R x b) earlier ∙ ap (λ y. R (get_or xs (i - 1) d) y) (later ∙ ap (λ j. get_or xs j d) (sym next)) ∙ less),
+    )

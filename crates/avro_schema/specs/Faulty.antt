@@ -1,5 +1,5 @@
 -- Which faults nodes have: each breaks a part of what makes them a schema.
-use Rattle.std.specs.Prelude.{◌≡◌, ℕ, ◌<◌, Bool, true, false, not, ◌&&◌, ◌⊎◌, List, [], length, nat_lt, nat_le, bytes_eq, filter_map, flat_map}
+use Rattle.std.specs.Prelude.{◌≡◌, ℕ, ◌<◌, Bool, true, false, not, ◌&&◌, ◌⊎◌, List, length, nat_lt, nat_le, bytes_eq, filter_map, flat_map}
 use Rattle.std.specs.List.{list_all}
 use Rattle.avro_name.specs.Name.{is_simple_name, same_name}
 use Rattle.avro_schema.specs.Node.{Node, node_at, node_name, edges_of}

@@ -1,9 +1,9 @@
 -- When a datum is one of a schema's node, and within limits (Avro 1.11, "Schema Declaration").
-use Rattle.std.specs.Prelude.{ℕ, zero, suc, ◌-◌, ◌^◌, ℤ, pos, negsuc, Bool, true, false, ◌&&◌, List, [], ◌∷◌, Option, Some, None, length, map, slice_get, nat_lt, nat_le, ◌==◌, int_le, bytes_eq, option_and_then}
+use Rattle.std.specs.Prelude.{ℕ, ◌-◌, ◌^◌, ℤ, pos, negsuc, Bool, true, false, ◌&&◌, List, [], ◌∷◌, Option, Some, None, length, slice_get, nat_lt, nat_le, ◌==◌, int_le, bytes_eq, option_and_then}
 use Rattle.std.specs.List.{list_all}
 use Rattle.std.specs.Str.{is_utf8}
 use Rattle.avro_schema.specs.Value.{Value, Values, Entries, no_values, value, no_entries, entry, size, depth, longest_blob, values_count, entries_count, keys_of}
-use Rattle.avro_schema.specs.Node.{Node, FieldNode, node_at, items_node, values_node, branches_of, fields_of, symbols_of, fixed_length, field_places}
+use Rattle.avro_schema.specs.Node.{Node, node_at, items_node, values_node, branches_of, fields_of, symbols_of, fixed_length, field_places}
 use Rattle.avro_schema.specs.Distinct.{are_distinct}
 
 -- 32 and 64 bits

@@ -1,6 +1,6 @@
 -- The nodes of a schema (Avro 1.11, "Schema Declaration"). A schema is the list of its nodes, the first of which is
 -- its root; an edge is a place in that list.
-use Rattle.std.specs.Prelude.{ℕ, Bool, true, false, List, [], ◌∷◌, Option, Some, None, slice_get, map, unwrap_or}
+use Rattle.std.specs.Prelude.{ℕ, List, [], ◌∷◌, Option, Some, None, slice_get, map, unwrap_or}
 use Rattle.avro_name.specs.Name.{Name}
 use Rattle.avro_schema.specs.Value.{Value}
 

@@ -1,5 +1,5 @@
 -- Which numbers may be limits.
-use Rattle.std.specs.Prelude.{ℕ, ◌≤◌}
+use Rattle.std.specs.Prelude.{◌≤◌}
 use Rattle.avro_schema.specs.Fits.{LimitValues}
 
 pub record AreLimits (limits : LimitValues) : Type 0 where

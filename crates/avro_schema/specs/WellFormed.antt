@@ -1,10 +1,10 @@
 -- When a list of nodes is a schema (Avro 1.11, "Schema Declaration", "Names", "Aliases").
-use Rattle.std.specs.Prelude.{ℕ, zero, suc, ◌*◌, ◌^◌, Bool, true, false, not, ◌&&◌, ◌||◌, List, [], ◌∷◌, ◌++◌, Option, Some, None, length, map, nat_lt, nat_le, ◌==◌, bytes_eq, is_some, filter_map, flat_map}
-use Rattle.std.specs.List.{list_all, list_any}
+use Rattle.std.specs.Prelude.{ℕ, suc, Bool, true, false, ◌&&◌, ◌||◌, List, [], ◌∷◌, Option, Some, None, length, nat_lt, nat_le, ◌==◌, bytes_eq, is_some, filter_map, flat_map}
+use Rattle.std.specs.List.{list_all}
 use Rattle.avro_name.specs.Name.{Name, is_full_name, is_simple_name, same_name}
 use Rattle.avro_schema.specs.Value.{Value, Values, Entries, no_values, value, no_entries, entry}
 use Rattle.avro_schema.specs.Node.{Node, FieldNode, node_at, node_name, node_aliases, edges_of}
-use Rattle.avro_schema.specs.Fits.{fits, is_some_and}
+use Rattle.avro_schema.specs.Fits.{fits}
 use Rattle.avro_schema.specs.Distinct.{are_distinct}
 
 -- limits of this project: nodes of a schema, and symbols of an enum or bytes of a fixed

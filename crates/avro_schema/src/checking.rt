@@ -12,7 +12,9 @@ use crate::branches::is_union;
 use crate::datum::{Datum, Memory};
 use crate::fault::DraftError;
 use crate::fitting::fits_place;
-use crate::naming::{are_simple_names, have_unique_names, name_of, names_of_fields, read_names, texts};
+use crate::naming::{
+    are_simple_names, have_unique_names, name_of, names_of_fields, read_names, texts,
+};
 use crate::schema::{EnumNode, Field, FixedNode, Node, NodeId, RecordNode};
 use crate::uniqueness::are_unique_texts;
 use std::alloc::Global;

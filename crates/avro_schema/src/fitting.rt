@@ -137,12 +137,7 @@ fn fits_array(
 
 /// Whether each of some data is one of the node at a place.
 #[cycle(fitting)]
-fn each_fits(
-    alloc: Global,
-    nodes: &[Node],
-    place: NodeId,
-    items: &[Datum],
-) -> Result<bool, Memory>
+fn each_fits(alloc: Global, nodes: &[Node], place: NodeId, items: &[Datum]) -> Result<bool, Memory>
     ensures { IfOk result (λ answer. answer ≡ values_fit (nodes_of nodes.now) (node_at (nodes_of nodes.now) place.0) (values_of items.now)) }
 {
     for item in items {
@@ -208,12 +203,7 @@ fn entries_fit(
 
 /// Whether values of fields are one of the node's data.
 #[cycle(fitting)]
-fn fits_record(
-    alloc: Global,
-    nodes: &[Node],
-    node: &Node,
-    values: &[Datum],
-) -> Result<bool, Memory>
+fn fits_record(alloc: Global, nodes: &[Node], node: &Node, values: &[Datum]) -> Result<bool, Memory>
     ensures { IfOk result (λ answer. answer ≡ value_fits (nodes_of nodes.now) (node_of node.now) (Value.record_of (values_of values.now))) }
 {
     match node {

@@ -4,6 +4,7 @@
 //! schema as the list of its nodes, and a [`Datum`] as a tree with no capacity and no pointer in it.
 #![tactic(auto)]
 
+mod branches;
 mod checking;
 mod datum;
 mod draft;
@@ -13,7 +14,6 @@ pub mod laws;
 mod limits;
 mod naming;
 mod schema;
-mod branches;
 mod uniqueness;
 
 pub use datum::{Datum, Memory, depth, size};

@@ -25,7 +25,7 @@ pub(crate) fn are_unique<T: Ord + Drop>(items: Vec<T>) -> Result<bool, Memory>
 fn rise<T: Ord>(items: &[T]) -> bool
     ensures { MatchBool result (AllAdjacentBelow (λ x y. T.cmp x y ≡ Less) items.now (length items.now))
         ((k : ℕ) × (k + 1 < length items.now)
-            × ((d : T) → T.cmp (slice_index_or items.now k d) (slice_index_or items.now (k + 1) d) ≡ Less → ⊥)) }
+        × ((d : T) → T.cmp (slice_index_or items.now k d) (slice_index_or items.now (k + 1) d) ≡ Less → ⊥)) }
 {
     for i in 1..items.len() {
         match items[i - 1].cmp(&items[i]) {

@@ -1,6 +1,5 @@
-use Rattle.std.proofs.Common.{◌≡◌, ◌++◌, map, filter_map, is_some, drop}
+use Rattle.std.proofs.Common.{◌≡◌, ◌++◌, map, filter_map, drop}
 use Rattle.std.specs.List.{list_all}
-use Rattle.avro_schema.specs.Node.{node_at}
 use Rattle.avro_schema.specs.Seen.{nodes_of, places_of}
 use Rattle.avro_schema.specs.SeenKind.{kind_of, kind_at, has_kind}
 use Rattle.avro_schema.proofs.branches.kinds.Given as goal

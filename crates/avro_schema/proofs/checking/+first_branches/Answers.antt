@@ -1,6 +1,3 @@
-use Rattle.std.proofs.Common.{ap, ◌∙◌}
-use Rattle.avro_schema.specs.WellFormed.{entries_take_first_branches}
-use Rattle.avro_schema.specs.Seen.{entries_of}
 use Rattle.avro_schema.proofs.DatumViews.{value_of-Map}
 use Rattle.avro_schema.proofs.checking.+first_branches.Goals as goal
 

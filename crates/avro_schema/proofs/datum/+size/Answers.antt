@@ -1,5 +1,4 @@
-use Rattle.std.proofs.Common.{arith, rules}
-use Rattle.std.proofs.lemmas.Grind.{common_steps}
+use Rattle.std.proofs.Common.{arith}
 use Rattle.avro_schema.proofs.DatumViews.{value_of-Map}
 use Rattle.avro_schema.proofs.datum.+size.Goals as goal
 

@@ -1,4 +1,4 @@
-use Rattle.std.proofs.Common.{◌==◌, refl, ap}
+use Rattle.std.proofs.Common.{refl}
 use Rattle.avro_schema.proofs.DatumRanges.{are_bytes-items}
 use Rattle.avro_schema.proofs.fitting.fits_fixed.Goals as goal
 

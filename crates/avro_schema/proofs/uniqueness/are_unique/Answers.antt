@@ -1,4 +1,3 @@
-use Rattle.std.proofs.Common.{MatchBool, ◌≡◌}
 use Rattle.avro_schema.proofs.Unique.{distinct-answer}
 use Rattle.avro_schema.proofs.uniqueness.are_unique.Goals as goal
 
@@ -7,4 +6,4 @@ returns g c =
     let order = g.T.Ord.cmp in
     let sorted = c.sort.new.self.items in
     distinct-answer order g.met.T.Ord.total c.args.items.items sorted c.in-Ok.ensures.permutation c.rise.result c.in-Ok.ensures.sorted
-        (rw c.deref.ensures.value at c.rise.ensures)
+    (rw c.deref.ensures.value at c.rise.ensures)

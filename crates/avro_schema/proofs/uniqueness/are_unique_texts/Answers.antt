@@ -1,4 +1,4 @@
-use Rattle.std.proofs.Common.{◌≡◌, bytes_eq, sym}
+use Rattle.std.proofs.Common.{bytes_eq, sym}
 use Rattle.std.proofs.lemmas.Map.Text.{is_eq-slice_cmp}
 use Rattle.avro_schema.proofs.Unique.{are_distinct-map}
 use Rattle.avro_schema.proofs.uniqueness.are_unique_texts.Goals as goal

@@ -1,4 +1,4 @@
-use Rattle.std.proofs.Common.{◌≡◌, ◌≤◌, ◌⊎◌, length, Less}
+use Rattle.std.proofs.Common.{◌≡◌, Less}
 use Rattle.std.specs.List.{AllAdjacentBelow}
 use Rattle.avro_schema.proofs.uniqueness.rise.Given as goal
 
