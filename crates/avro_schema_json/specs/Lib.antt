@@ -1,3 +1,3 @@
 pub mod Declaration
 pub mod Refusals
-pub mod Shown
+pub mod DisplayTree

@@ -1,0 +1,2 @@
+pub mod FirstSchemas
+pub mod NoFloats
