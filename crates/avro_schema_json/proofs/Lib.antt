@@ -4,3 +4,5 @@ mod RowsDisplays
 mod RowsFaults
 pub mod RowsLaws
 mod RowsLimits
+pub mod FirstSchemas
+pub mod NoFloats

@@ -1,6 +1,5 @@
 pub mod Declaration
 pub mod Refusals
-pub mod Shown
 pub mod DeclaredAttributes
 pub mod Declares
 pub mod DeclaredDefaults

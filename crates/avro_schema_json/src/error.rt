@@ -54,6 +54,13 @@ impl From<DraftError> for SchemaError {
 
     fn from(e: DraftError) -> SchemaError {
         match e {
+            DraftError::UnknownNode => SchemaError::UnknownName,
+            DraftError::DuplicateName => SchemaError::DuplicateName,
+            DraftError::InvalidName => SchemaError::InvalidName,
+            DraftError::InvalidUnion => SchemaError::InvalidUnion,
+            DraftError::InvalidSymbols => SchemaError::InvalidSymbols,
+            DraftError::DuplicateField => SchemaError::DuplicateField,
+            DraftError::InvalidDefault => SchemaError::InvalidDefault,
             DraftError::LimitExceeded => SchemaError::LimitExceeded,
             DraftError::OutOfMemory => SchemaError::OutOfMemory,
         }

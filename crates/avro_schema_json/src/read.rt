@@ -1,4 +1,6 @@
-ghost use Rattle.std.specs.Prelude.{◌≡◌, ◌⊎◌, ◌<◌, ◌≤◌, ◌↔◌, length, option_map, IfOk, IfErr, IsErrOf};
+ghost use Rattle.std.specs.Prelude.{◌≡◌, ◌⊎◌, ◌<◌, ◌≤◌, ◌↔◌, ◌∷◌, [], true, length, option_map, IfOk, IfErr, IsErrOf};
+ghost use Rattle.std.specs.Option.{IfSome};
+ghost use Rattle.avro_schema.specs.FirstKinds.{is_first_kind};
 ghost use Rattle.avro_schema.specs.Seen.{node_of};
 ghost use Rattle.avro_schema.specs.SeenSchema.{schema_nodes};
 ghost use Rattle.avro_schema_json.specs.Declaration.{max_text, HasTree, IsNoJson, primitive_node, declared_node, Declares, DeclaresNone};
@@ -33,9 +35,25 @@ pub fn read_schema(alloc: Global, text: &[u8]) -> Result<Schema, SchemaError>
     let Some(node) = declared_node(&tree) else {
         return Err(SchemaError::UnsupportedType);
     };
+    schema_of(alloc, node)
+}
+
+/// The schema of one node.
+fn schema_of(alloc: Global, node: Node) -> Result<Schema, SchemaError>
+    requires { is_first_kind (node_of node) ≡ true }
+    ensures found { IfOk result (λ schema. schema_nodes schema ≡ node_of node ∷ []) }
+    ensures err { IfErr result (λ e. e ≡ OutOfMemory) }
+{
     let mut draft = Draft::new(alloc);
-    draft.add(node)?;
-    Ok(draft.finish()?)
+    // There is room in an empty draft.
+    match draft.add(node) {
+        Ok(_) => {}
+        Err(_) => return Err(SchemaError::OutOfMemory),
+    }
+    match draft.finish() {
+        Ok(schema) => Ok(schema),
+        Err(e) => Err(SchemaError::from(e)),
+    }
 }
 
 /// The tree of a JSON text.
@@ -56,7 +74,8 @@ fn read_tree(alloc: Global, text: &[u8]) -> Result<Value, SchemaError>
 
 /// The node that a tree declares.
 fn declared_node(tree: &Value) -> Option<Node>
-    ensures { option_map node_of result ≡ declared_node (view tree.now) }
+    ensures declared { option_map node_of result ≡ declared_node (view tree.now) }
+    ensures first_kind { IfSome result (λ node. is_first_kind (node_of node) ≡ true) }
 {
     match tree.as_str() {
         Some(word) => primitive_node(word),
@@ -66,7 +85,8 @@ fn declared_node(tree: &Value) -> Option<Node>
 
 /// The primitive type of a word.
 fn primitive_node(word: &str) -> Option<Node>
-    ensures { option_map node_of result ≡ primitive_node word.now }
+    ensures declared { option_map node_of result ≡ primitive_node word.now }
+    ensures first_kind { IfSome result (λ node. is_first_kind (node_of node) ≡ true) }
 {
     match word {
         "null" => Some(Node::Null),
