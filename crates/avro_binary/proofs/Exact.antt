@@ -10,6 +10,7 @@ use Rattle.avro_schema.specs.Fits.{fits, is_int, is_long, is_within, LimitValues
 use Rattle.avro_schema.specs.Ranges.{AreLimits}
 use Rattle.avro_schema.specs.Seen.{value_of}
 use Rattle.avro_schema.specs.declared.datum.Datum.{Datum}
+use Rattle.avro_schema.proofs.DatumViews.{value_of-Null, value_of-Bool}
 use Rattle.avro_schema.proofs.FitsKind.{FitsKind-from_fits, null_value, boolean_value, int_value, long_value}
 use Rattle.avro_binary.specs.Encoding.{Spells, Encodes}
 use Rattle.avro_binary.specs.Fault.{ReadFault, end_of_input, invalid_boolean, limit_exceeded}
@@ -161,11 +162,11 @@ module _ (nodes : List Node) (n : Node) (make : ℤ → Value) (in_range : ℤ �
 -- null takes no bytes
 pub null_read : (nodes : List Node) (limits : LimitValues) (bytes : List ℕ) → AreLimits limits → ReadsExactly nodes Node.null limits bytes (Ok (Datum.Null, 0))
 null_read nodes limits bytes limited = record {
-  found = (omega arith, record { fitting = refl; spelled = refl }, within-one limits limited);
+  found = rw value_of-Null (omega arith, record { fitting = refl; spelled = refl }, within-one limits limited);
   begins = λ v front rest encoded within split.
       let is = null_value nodes v (FitsKind-from_fits nodes Node.null v encoded.fitting) in
       let none : front ≡ [] = subst (λ (u : Value). Spells u front) is encoded.spelled in
-      (sym is, sym (ap (λ (f : List ℕ). length f) none));
+      (value_of-Null ∙ sym is, sym (ap (λ (f : List ℕ). length f) none));
   refused = tt;
   breaks = λ f b. breaks-to nodes limits.depth limits.nodes limits.blob Node.null bytes f ⊥ limited.some_depth limited.some_nodes (λ left child x. x) b;
   no_front = tt;
@@ -222,11 +223,11 @@ module _ (nodes : List Node) (limits : LimitValues) (limited : AreLimits limits)
   boolean_read (x ∷ bytes) b h =
       let is : x ≡ boolean_byte b = cc in
       record {
-        found = (omega arith, record { fitting = refl; spelled = ap (λ (y : ℕ). y ∷ []) is }, within-one limits limited);
+        found = rw (value_of-Bool b) (omega arith, record { fitting = refl; spelled = ap (λ (y : ℕ). y ∷ []) is }, within-one limits limited);
         begins = λ v front rest encoded within split.
             let d = boolean_front nodes v front encoded in
             let first = front_of_some x bytes front rest (boolean_byte d.0) split d.2 in
-            (ap Value.boolean (boolean_byte-same b d.0 (sym is ∙ first)) ∙ sym d.1, sym (ap (λ (f : List ℕ). length f) d.2));
+            (value_of-Bool b ∙ ap Value.boolean (boolean_byte-same b d.0 (sym is ∙ first)) ∙ sym d.1, sym (ap (λ (f : List ℕ). length f) d.2));
         refused = tt;
         breaks = λ f broken. let k = boolean_broken (x ∷ bytes) f broken in omega (arith, boolean_byte-small b);
         no_front = tt;

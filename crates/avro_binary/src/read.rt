@@ -1,4 +1,5 @@
-ghost use Rattle.std.specs.Prelude.{◌≡◌, ◌<◌, length, List, Some};
+ghost use Rattle.std.specs.Prelude.{◌≡◌, ◌<◌, true, length, List, Some};
+ghost use Rattle.avro_schema.specs.FirstKinds.{is_first_kind};
 ghost use Rattle.avro_schema.specs.Fits.{LimitValues};
 ghost use Rattle.avro_schema.specs.Node.{Node as SeenNode, node_at};
 ghost use Rattle.avro_schema.specs.Ranges.{AreLimits};
@@ -14,7 +15,7 @@ use avro_zigzag::{VarError, read_int, read_long};
 
 use crate::error::ReadError;
 
-/// Reads a datum of a node of the schema from the front of bytes, and answers it with the length of
+/// Reads a datum of a node of the schema, which is null, boolean, int or long, from the front of bytes, and answers it with the length of
 /// its encoding.
 ///
 /// # Errors
@@ -27,7 +28,8 @@ pub fn decode(
     bytes: &[u8],
     limits: &Limits,
 ) -> Result<(Datum, usize), ReadError>
-    requires { node.0 < length (schema_nodes schema.now) }
+    requires in_schema { node.0 < length (schema_nodes schema.now) }
+    requires first_kind { is_first_kind (node_at (schema_nodes schema.now) node.0) ≡ true }
     ensures { ReadsExactly (schema_nodes schema.now) (node_at (schema_nodes schema.now) node.0) limits.now bytes.now result }
 {
     let _depth = limits.depth();
@@ -36,6 +38,7 @@ pub fn decode(
         Node::Boolean => decode_boolean(bytes),
         Node::Int => decode_int(bytes),
         Node::Long => decode_long(bytes),
+        _ => unreachable!(),
     }
 }
 
