@@ -1,3 +1,6 @@
+ghost use Rattle.std.specs.Prelude.{◌≡◌, true};
+ghost use Rattle.avro_schema.specs.FirstKinds.{is_first_kind};
+ghost use Rattle.avro_schema.specs.Node.{root_of};
 ghost use Rattle.avro_schema.specs.SeenSchema.{schema_nodes};
 ghost use Rattle.avro_resolve.specs.Reading.{ReadsResolved};
 
@@ -10,7 +13,7 @@ use crate::error::{ReadResolveError, ResolveError};
 use crate::resolution::resolve;
 
 /// Reads a writer's datum from the front of bytes, and answers what it is for the reader, with the
-/// length of its encoding.
+/// length of its encoding. Each root is null, boolean, int or long.
 ///
 /// # Errors
 ///
@@ -22,6 +25,8 @@ pub fn read_resolved(
     bytes: &[u8],
     limits: &Limits,
 ) -> Result<(Datum, usize), ReadResolveError>
+    requires first_writer { is_first_kind (root_of (schema_nodes writer.now)) ≡ true }
+    requires first_reader { is_first_kind (root_of (schema_nodes reader.now)) ≡ true }
     ensures { ReadsResolved (schema_nodes writer.now) (schema_nodes reader.now) limits.now bytes.now result }
 {
     match decode(alloc, writer, writer.root(), bytes, limits) {

@@ -1,4 +1,5 @@
 ghost use Rattle.std.specs.Prelude.{◌≡◌, true, Ok, IfOk};
+ghost use Rattle.avro_schema.specs.FirstKinds.{is_first_kind};
 ghost use Rattle.avro_schema.specs.Fits.{fits};
 ghost use Rattle.avro_schema.specs.Node.{root_of};
 ghost use Rattle.avro_schema.specs.Seen.{node_of, value_of};
@@ -13,7 +14,8 @@ use avro_schema::{Datum, Node, Schema};
 use crate::error::{Fault, FaultKind, ResolveError};
 use crate::matching::matches;
 
-/// What a datum of the writer's schema is for the reader's schema.
+/// What a datum of the writer's schema is for the reader's schema. Each root is null, boolean, int or
+/// long.
 ///
 /// # Errors
 ///
@@ -24,7 +26,9 @@ pub fn resolve(
     reader: &Schema,
     datum: &Datum,
 ) -> Result<Datum, ResolveError>
-    requires { fits (schema_nodes writer.now) (root_of (schema_nodes writer.now)) (value_of datum.now) ≡ true }
+    requires fitting { fits (schema_nodes writer.now) (root_of (schema_nodes writer.now)) (value_of datum.now) ≡ true }
+    requires first_writer { is_first_kind (root_of (schema_nodes writer.now)) ≡ true }
+    requires first_reader { is_first_kind (root_of (schema_nodes reader.now)) ≡ true }
     ensures answers { Answers result (resolve_root (schema_nodes writer.now) (schema_nodes reader.now) (value_of datum.now)) }
     ensures fitting { IfOk result (λ u. fits (schema_nodes reader.now) (root_of (schema_nodes reader.now)) (value_of u) ≡ true) }
 {
@@ -34,21 +38,22 @@ pub fn resolve(
             path: Vec::new(alloc),
         }));
     }
-    let to = *reader.node(reader.root());
+    let to = reader.node(reader.root());
     match datum {
         Datum::Null => Ok(Datum::Null),
         Datum::Bool(value) => Ok(Datum::Bool(*value)),
         Datum::Int(value) => Ok(int_as(to, value)),
         Datum::Long(value) => Ok(Datum::Long(*value)),
+        _ => unreachable!(),
     }
 }
 
 /// An int, or the long of its value where the reader has a long.
-fn int_as(reader: Node, value: &i32) -> Datum
-    ensures { kept_int value.now (node_of reader) ≡ Ok (value_of result) }
+fn int_as(reader: &Node, value: &i32) -> Datum
+    ensures { kept_int value.now (node_of reader.now) ≡ Ok (value_of result) }
 {
     let value = *value;
-    if reader == Node::Long {
+    if matches!(reader, Node::Long) {
         Datum::Long(i64::from(value))
     } else {
         Datum::Int(value)
