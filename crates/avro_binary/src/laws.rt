@@ -1,12 +1,38 @@
 //! Laws of encodings.
 
-ghost use Rattle.std.specs.Prelude.{◌≡◌, true, List};
+ghost use Rattle.std.specs.Prelude.{◌≡◌, ◌≢◌, ℕ, true, List, ◌++◌};
 ghost use Rattle.avro_schema.specs.Value.{Value};
-ghost use Rattle.avro_schema.specs.Node.{Node};
-ghost use Rattle.avro_schema.specs.Fits.{fits};
+ghost use Rattle.avro_schema.specs.Node.{Node, node_at};
+ghost use Rattle.avro_schema.specs.Fits.{fits, LimitValues, is_within};
+ghost use Rattle.avro_schema.specs.WellFormed.{is_schema};
 ghost use Rattle.avro_binary.specs.Encoding.{Encodes, plain};
+ghost use Rattle.avro_binary.specs.Fault.{ReadFault, limit_exceeded};
+ghost use Rattle.avro_binary.specs.Breaks.{Breaks};
 
 /// The plain encoding of a datum that fits is an encoding of it.
 pub fn plain_encodes()
     ensures { (nodes : List Node) (n : Node) (v : Value) → fits nodes n v ≡ true → Encodes nodes n v (plain v) }
+{}
+
+/// No encoding at a node begins another: the bytes tell where a datum ends and which one it is.
+pub fn prefix()
+    ensures { (nodes : List Node) (n : Node) (v w : Value) (a b x y : List ℕ) → Encodes nodes n v a → Encodes nodes n w b → a ++ x ≡ b ++ y → (a ≡ b) × (v ≡ w) }
+{}
+
+/// Bytes with a fault that is no limit begin with no encoding of any datum.
+pub fn fault_leaves_none()
+    ensures { (nodes : List Node) (limits : LimitValues) (place : ℕ) (bytes : List ℕ) (f : ReadFault) (v : Value) (front rest : List ℕ) → is_schema nodes ≡ true
+        → Breaks nodes limits (node_at nodes place) bytes f → f ≢ limit_exceeded → Encodes nodes (node_at nodes place) v front → bytes ≡ front ++ rest → ⊥ }
+{}
+
+/// Bytes with a fault begin with no encoding of a datum within limits.
+pub fn fault_or_within()
+    ensures { (nodes : List Node) (limits : LimitValues) (place : ℕ) (bytes : List ℕ) (f : ReadFault) (v : Value) (front rest : List ℕ) → is_schema nodes ≡ true
+        → Breaks nodes limits (node_at nodes place) bytes f → Encodes nodes (node_at nodes place) v front → is_within limits v ≡ true → bytes ≡ front ++ rest → ⊥ }
+{}
+
+/// At most one fault holds of bytes: one code and one place.
+pub fn one_fault()
+    ensures { (nodes : List Node) (limits : LimitValues) (place : ℕ) (bytes : List ℕ) (f g : ReadFault) → is_schema nodes ≡ true
+        → Breaks nodes limits (node_at nodes place) bytes f → Breaks nodes limits (node_at nodes place) bytes g → f ≡ g }
 {}

@@ -8,12 +8,10 @@ ghost use Rattle.avro_binary.specs.Breaks.{number_fault};
 ghost use Rattle.avro_binary.specs.Seen.{read_fault};
 ghost use Rattle.avro_binary.specs.Reading.{ReadsExactly};
 
-use std::alloc::Global;
-
+use crate::error::ReadError;
 use avro_schema::{Datum, Limits, Node, NodeId, Schema};
 use avro_zigzag::{VarError, read_int, read_long};
-
-use crate::error::ReadError;
+use std::alloc::Global;
 
 /// Reads a datum of a node of the schema, which is null, boolean, int or long, from the front of bytes, and answers it with the length of
 /// its encoding.

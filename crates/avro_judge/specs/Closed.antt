@@ -78,9 +78,9 @@ abbrev pub is_closed_at : List Node → List Node → List ℕ → List Pair →
 is_closed_at writer reader dead pairs p =
     nat_lt p.w (length writer) && nat_lt p.r (length reader)
     && (is_among dead p.w
-        || (not (has_local_fault writer reader (node_at writer p.w) (node_at reader p.r))
-            && list_all (λ child. is_among dead child.w || is_among_pairs pairs child)
-                (children_of writer reader p.w p.r (node_at writer p.w) (node_at reader p.r))))
+    || (not (has_local_fault writer reader (node_at writer p.w) (node_at reader p.r))
+    && list_all (λ child. is_among dead child.w || is_among_pairs pairs child)
+    (children_of writer reader p.w p.r (node_at writer p.w) (node_at reader p.r))))
 
 -- The first set is dead, the roots are a pair unless the writer's is dead, and each pair is closed.
 abbrev pub is_closed : List Node → List Node → List ℕ → List Pair → Bool

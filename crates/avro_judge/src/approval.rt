@@ -1,9 +1,8 @@
-use std::alloc::Global;
-use std::marker::Model;
-
 use avro_binary::ReadError;
 use avro_resolve::{ReadResolveError, read_resolved};
 use avro_schema::{Datum, Limits, Schema};
+use std::alloc::Global;
+use std::marker::Model;
 
 /// Two schemas of which every datum of the first resolves into the second. Contracts see the two
 /// schemas.
@@ -67,7 +66,7 @@ impl<'a> Approved<'a> {
         ensures begins { (v : Value) (front rest : List ℕ) → Encodes (schema_nodes self.now.0) (root_of (schema_nodes self.now.0)) v front
             → is_within limits.now v ≡ true → bytes.now ≡ front ++ rest
             → UnlessOutOfMemory result (IsOkAnd result (λ r.
-                (resolve_root (schema_nodes self.now.0) (schema_nodes self.now.1) v ≡ Ok (value_of r.0)) × (r.1 ≡ length front))) }
+            (resolve_root (schema_nodes self.now.0) (schema_nodes self.now.1) v ≡ Ok (value_of r.0)) × (r.1 ≡ length front))) }
         // There is no other answer.
         ensures found { IfOk result (λ r. StandsFor (schema_nodes self.now.0) (schema_nodes self.now.1) limits.now bytes.now r.1 (Ok (value_of r.0))) }
         // An error reports the first fault of the bytes, and each fault is reported.

@@ -9,14 +9,12 @@ ghost use Rattle.avro_resolve.specs.Seen.{fault_of};
 ghost use Rattle.avro_judge.specs.Answered.{IsApproved, IfApproved, IfRefuted, IsUndecided};
 ghost use Rattle.avro_judge.specs.Compatible.{AreCompatible, ErrsWith, ErrsOnlyAbove, ErrsLeastDeep};
 
-use std::alloc::Global;
-
-use avro_resolve::{ResolveError, matches, resolve};
-use avro_schema::{Datum, Memory, Node, Schema};
-
 use crate::approval::Approved;
 use crate::limits::JudgeLimits;
 use crate::verdict::{Cause, Refutation, Verdict};
+use avro_resolve::{ResolveError, matches, resolve};
+use avro_schema::{Datum, Memory, Node, Schema};
+use std::alloc::Global;
 
 /// Whether every datum of the writer's schema resolves into the reader's, of any size.
 ///
@@ -54,10 +52,10 @@ pub fn judge<'a>(
     // The other two causes, up to the pair limit and not past it.
     ensures size { IfOk result (λ v. IsUndecided v Cause.Size
         ↔ ((length (schema_nodes writer.now) * length (schema_nodes reader.now) ≤ limits.now.pairs)
-            × ErrsOnlyAbove (schema_nodes writer.now) (schema_nodes reader.now) limits.now.size)) }
+        × ErrsOnlyAbove (schema_nodes writer.now) (schema_nodes reader.now) limits.now.size)) }
     ensures depth { IfOk result (λ v. IsUndecided v Cause.Depth
         ↔ ((length (schema_nodes writer.now) * length (schema_nodes reader.now) ≤ limits.now.pairs)
-            × ErrsLeastDeep (schema_nodes writer.now) (schema_nodes reader.now) limits.now.size limits.now.limits.depth)) }
+        × ErrsLeastDeep (schema_nodes writer.now) (schema_nodes reader.now) limits.now.size limits.now.limits.depth)) }
 {
     let pairs = writer.len() as u64 * reader.len() as u64;
     if pairs > u64::from(limits.pairs()) {

@@ -1,6 +1,5 @@
-use std::marker::Model;
-
 use avro_schema::Limits;
+use std::marker::Model;
 
 /// Limits of judging: the greatest product of the two numbers of nodes, the greatest number of nodes
 /// of a refuting datum, and limits of which the depth bounds that datum too.
@@ -49,8 +48,8 @@ impl JudgeLimits {
     pub fn new(pairs: u32, size: u32, limits: Limits) -> Option<JudgeLimits>
         ensures { SomeIff result (AreJudgeLimits (record { pairs = pairs; size = size; limits = limits })) (record { pairs = pairs; size = size; limits = limits }) }
     {
-        let in_range =
-            (1..=JudgeLimits::MAX_PAIRS).contains(&pairs) && (1..=limits.nodes()).contains(&size);
+        let in_range = (1..=JudgeLimits::MAX_PAIRS).contains(&pairs)
+            && (1..=limits.nodes()).contains(&size);
         if in_range {
             Some(JudgeLimits {
                 pairs,

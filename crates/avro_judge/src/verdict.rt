@@ -1,7 +1,6 @@
+use crate::approval::Approved;
 use avro_resolve::Fault;
 use avro_schema::Datum;
-
-use crate::approval::Approved;
 
 /// What is known of a writer's schema and a reader's.
 #[derive(Drop)]

@@ -126,7 +126,7 @@ abbrev mutual
       (λ q. result_map Value.map_of (resolve_entries writer reader (part_at writer (values_node w)) (part_at reader (values_node q)) 0 es))
   resolve writer reader w r (Value.record_of vs) = through writer reader w r
       (λ q. record_or_missing (fields_at w) (fields_at q) (missing_field (fields_at w) (fields_at q))
-          (resolve_sources writer reader (fields_at w) (fields_at q) 0 vs))
+      (resolve_sources writer reader (fields_at w) (fields_at q) 0 vs))
   resolve writer reader w r (Value.enum k) = through writer reader w r (enum_as (symbol_at w k))
   resolve writer reader w r (Value.fixed b) = through writer reader w r (λ q. Ok (Value.fixed b))
 
@@ -147,8 +147,8 @@ abbrev mutual
   resolve_sources writer reader ws rs place no_values = Ok []
   resolve_sources writer reader ws rs place (value v vs) =
       with_sourced (reader_field ws rs place) place
-          (λ f. resolve writer reader (node_at writer (unwrap_or (slice_get (map (λ g. g.node) ws) place) 0)) (node_at reader f.node) v)
-          (resolve_sources writer reader ws rs (suc place) vs)
+      (λ f. resolve writer reader (node_at writer (unwrap_or (slice_get (map (λ g. g.node) ws) place) 0)) (node_at reader f.node) v)
+      (resolve_sources writer reader ws rs (suc place) vs)
 
 -- at the roots
 abbrev pub resolve_root : List Node → List Node → Value → Resolved

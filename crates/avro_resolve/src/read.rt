@@ -4,13 +4,11 @@ ghost use Rattle.avro_schema.specs.Node.{root_of};
 ghost use Rattle.avro_schema.specs.SeenSchema.{schema_nodes};
 ghost use Rattle.avro_resolve.specs.Reading.{ReadsResolved};
 
-use std::alloc::Global;
-
-use avro_binary::{ReadError, decode};
-use avro_schema::{Datum, Limits, Schema};
-
 use crate::error::{ReadResolveError, ResolveError};
 use crate::resolution::resolve;
+use avro_binary::{ReadError, decode};
+use avro_schema::{Datum, Limits, Schema};
+use std::alloc::Global;
 
 /// Reads a writer's datum from the front of bytes, and answers what it is for the reader, with the
 /// length of its encoding. Each root is null, boolean, int or long.

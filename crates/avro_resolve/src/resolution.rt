@@ -7,12 +7,10 @@ ghost use Rattle.avro_schema.specs.SeenSchema.{schema_nodes};
 ghost use Rattle.avro_resolve.specs.Resolve.{resolve_root, int_as as kept_int};
 ghost use Rattle.avro_resolve.specs.Seen.{Answers};
 
-use std::alloc::Global;
-
-use avro_schema::{Datum, Node, Schema};
-
 use crate::error::{Fault, FaultKind, ResolveError};
 use crate::matching::matches;
+use avro_schema::{Datum, Node, Schema};
+use std::alloc::Global;
 
 /// What a datum of the writer's schema is for the reader's schema. Each root is null, boolean, int or
 /// long.

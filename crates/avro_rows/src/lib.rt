@@ -1,13 +1,14 @@
-// A library with one function.
+//! Tests of the whole: worked rows, the texts and statuses of the program, and one call of each
+//! function that takes memory.
 #![tactic(auto)]
 
-ghost use Rattle.std.specs.Prelude.{◌≡◌};
-ghost use Rattle.avro_rows.specs.Echo.{echo_of};
-
-// The `ensures` clause is the contract: what `echo` returns is `echo_of` of its argument, a definition
-// in `specs/Echo.antt`, which a caller's clause can cite too.
-pub fn echo(x: usize) -> usize
-    ensures { result ≡ echo_of x }
-{
-    x
-}
+#[cfg(test)]
+mod data;
+#[cfg(test)]
+mod judging;
+#[cfg(test)]
+mod numbers;
+#[cfg(test)]
+mod program;
+#[cfg(test)]
+mod schemas;

@@ -1,13 +1,12 @@
-// A library with one function.
+//! Avro schemas as JSON texts, and the display of data.
+//!
+//! Contracts speak of the tree that `serde_json` reads in a text.
 #![tactic(auto)]
 
-ghost use Rattle.std.specs.Prelude.{◌≡◌};
-ghost use Rattle.avro_schema_json.specs.Echo.{echo_of};
+mod display;
+mod error;
+mod read;
 
-// The `ensures` clause is the contract: what `echo` returns is `echo_of` of its argument, a definition
-// in `specs/Echo.antt`, which a caller's clause can cite too.
-pub fn echo(x: usize) -> usize
-    ensures { result ≡ echo_of x }
-{
-    x
-}
+pub use display::show;
+pub use error::SchemaError;
+pub use read::read_schema;

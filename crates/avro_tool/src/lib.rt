@@ -1,13 +1,69 @@
-// A library with one function.
+//! The program `avro`, as a function over its words and two writers.
 #![tactic(auto)]
 
-ghost use Rattle.std.specs.Prelude.{◌≡◌};
-ghost use Rattle.avro_tool.specs.Echo.{echo_of};
+mod command;
+mod failure;
+mod judging;
+mod schema_file;
 
-// The `ensures` clause is the contract: what `echo` returns is `echo_of` of its argument, a definition
-// in `specs/Echo.antt`, which a caller's clause can cite too.
-pub fn echo(x: usize) -> usize
-    ensures { result ≡ echo_of x }
-{
-    x
+use command::{Request, request_of};
+use failure::Failure;
+use std::io;
+use std::io::Write;
+use std::rt::Files;
+
+/// What a command found. Its status is the program's.
+#[derive(Clone, Copy, Debug, PartialEq, Eq)]
+enum Finding {
+    Yes,
+    No,
+    Undecided,
+}
+
+impl Finding {
+    fn status(self) -> u8 {
+        match self {
+            Finding::Yes => 0,
+            Finding::No => 1,
+            Finding::Undecided => 2,
+        }
+    }
+}
+
+/// Tells that the words could not be taken from the system, and answers the status.
+pub fn refuse_words<E: Write>(error: &io::Error, err: &mut E) -> u8 {
+    told(&Failure::of_words(error), err)
+}
+
+/// Runs the program over its words, without its name, and answers its status: 0 good or yes, 1 no,
+/// 2 undecided, 3 refused input, 4 a file's fault, 5 out of memory, 64 usage. What it finds goes to
+/// `out`; faults and the texts of usage go to `err`.
+pub fn run<R: Files + AllocGlobal, O: Write, E: Write>(
+    rt: &R,
+    words: &[String],
+    out: &mut O,
+    err: &mut E,
+) -> u8 {
+    match answer(rt, words, out) {
+        Ok(finding) => finding.status(),
+        Err(failure) => told(&failure, err),
+    }
+}
+
+/// Tells of a failure, and answers its status. Where the standard error fails too, the status is all
+/// that can be told.
+fn told<E: Write>(failure: &Failure<'_>, err: &mut E) -> u8 {
+    let _ = failure.write_to(err);
+    failure.status()
+}
+
+/// Does what the words ask for.
+fn answer<'a, R: Files + AllocGlobal, O: Write>(
+    rt: &R,
+    words: &'a [String],
+    out: &mut O,
+) -> Result<Finding, Failure<'a>> {
+    match request_of(rt.alloc(), words)? {
+        Request::Judge { writer, reader } => judging::judge_files(rt, writer, reader, out),
+    }
 }

@@ -36,6 +36,8 @@ returns-in-Err-Fault-clause-least c =
     (least_of_one (schema_nodes c.args.writer.now) (schema_nodes c.args.reader.now) _ _ (errs c) c.least_datum-datum.ensures.one_node).least
 
 pub returns-in-Err-Fault-clause-depth : goal.returns-in-Err-Fault-clause-depth
-returns-in-Err-Fault-clause-depth c =
-    (λ h. absurd h, λ h. not_deep (schema_nodes c.args.writer.now) (schema_nodes c.args.reader.now) c.args.limits.now _ _ c.pairs.ensures.in_range (errs c)
-    c.least_datum-datum.ensures.one_node c.least_datum-datum.ensures.one_deep h.1)
+returns-in-Err-Fault-clause-depth c = (
+  λ h. absurd h,
+  λ h. not_deep (schema_nodes c.args.writer.now) (schema_nodes c.args.reader.now) c.args.limits.now _ _ c.pairs.ensures.in_range (errs c)
+      c.least_datum-datum.ensures.one_node c.least_datum-datum.ensures.one_deep h.1,
+)

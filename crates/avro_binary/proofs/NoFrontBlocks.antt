@@ -1,0 +1,107 @@
+-- Blocks that break begin with no blocks of any items.
+use Rattle.std.proofs.Common.{◌≡◌, ℕ, ◌-◌, ◌^◌, ◌<◌, ◌≤◌, ℤ, pos, negsuc, List, [], ◌∷◌, ◌++◌, length, refl, sym, ap, ◌∙◌, subst, append_assoc, append-nil, length-append, arith}
+use Rattle.std.specs.Prelude.{nat_abs}
+use Rattle.std.specs.List.{concat}
+use Rattle.avro_zigzag.proofs.Faults.{long-excludes_fault}
+use Rattle.avro_zigzag.proofs.Spelling.{one_spelling_lem}
+use Rattle.avro_binary.specs.Blocks.{IsInBlocks}
+use Rattle.avro_binary.specs.Fault.{ReadFault, limit_exceeded, behind}
+use Rattle.avro_binary.specs.Breaks.{Left, LongBreaks, StartsWithLong, Head, head_bytes, BlocksBreak}
+use Rattle.avro_binary.proofs.BlockViews.{first_number, first_size, first_block, pos-long}
+
+-- no long in range begins bytes that break as a long
+pub long_none : (v : ℤ) (bytes front rest : List ℕ) (f : ReadFault) → StartsWithLong v bytes front rest → LongBreaks bytes f → ⊥
+long_none v bytes front rest f s b = long-excludes_fault v bytes front rest b.0 s.in_range s.spelled s.split b.1
+
+-- a limit behind bytes is a limit
+pub behind_limit : (f fault : ReadFault) (n : ℕ) (W : Type 0) → f ≡ behind n fault → (f ≡ limit_exceeded → W) → fault ≡ limit_exceeded → W
+behind_limit f fault n W moved limit e = limit (moved ∙ ap (behind n) e)
+
+-- a block is cut where the items of some bytes end
+pub record IsCut (Follows : Left → List (List ℕ) → Type 0) (then_left : Left) (done : ℕ) (front : List ℕ) (block later : List (List ℕ)) (x y : List ℕ) : Type 0 where
+  pub before : List (List ℕ)
+  pub after : List (List ℕ)
+  pub parts : block ≡ before ++ after
+  pub counted : length before ≡ done
+  pub same : front ≡ concat before
+  pub split : y ≡ concat after ++ x
+  pub follows : Follows then_left (after ++ later)
+
+-- How whole items and one that breaks go with items that follow. A limit that is passed tells W, and W that the items
+-- that follow are within limits.
+pub record ItemsFollow (W : Type 0) (are_whole : Left → ℕ → List ℕ → Left → Type 0) (item_breaks : Left → List ℕ → ReadFault → Type 0) (Follows : Left → List (List ℕ) → Type 0) : Type 0 where
+  pub few : (left : Left) (items : List (List ℕ)) → Follows left items → W → length items ≤ left.nodes
+  pub cut : (left then_left : Left) (done : ℕ) (front : List ℕ) (block later : List (List ℕ)) (x y : List ℕ) → are_whole left done front then_left
+      → Follows left (block ++ later) → done ≤ length block → front ++ y ≡ concat block ++ x → IsCut Follows then_left done front block later x y
+  pub none : (left : Left) (bytes : List ℕ) (f : ReadFault) (item : List ℕ) (items : List (List ℕ)) (rest : List ℕ) → item_breaks left bytes f
+      → (f ≡ limit_exceeded → W) → Follows left (item ∷ items) → bytes ≡ item ++ rest → ⊥
+
+-- nothing is left of a block whose items all stand before
+pub nothing_after : (block before after : List (List ℕ)) → block ≡ before ++ after → length before ≡ length block → after ≡ []
+nothing_after block before [] e l = refl
+nothing_after block before (item ∷ after) e l = absurd (omega (arith, ap length e, length-append before (item ∷ after)))
+
+module _ (W : Type 0) (are_whole : Left → ℕ → List ℕ → Left → Type 0) (item_breaks : Left → List ℕ → ReadFault → Type 0) (Follows : Left → List (List ℕ) → Type 0) (kind : ItemsFollow W are_whole item_breaks Follows) where
+  -- an item follows where not all of a block's items are whole, and so none breaks there
+  pub none_after : (left : Left) (done : ℕ) (front rest x : List ℕ) (fault : ReadFault) (block later : List (List ℕ)) (cut : IsCut Follows left done front block later x rest)
+      → done < length block → item_breaks left rest fault → (fault ≡ limit_exceeded → W) → ⊥
+  none_after left done front rest x fault block later cut more breaks limit = go cut.after cut.parts cut.split cut.follows
+    where
+      go : (after : List (List ℕ)) → block ≡ cut.before ++ after → rest ≡ concat after ++ x → Follows left (after ++ later) → ⊥
+      go [] e split follows = omega (arith, ap length e, length-append cut.before [], cut.counted)
+      go (item ∷ after) e split follows =
+          kind.none left rest fault item (after ++ later) (concat after ++ x) breaks limit follows (split ∙ append_assoc item (concat after) x)
+
+  -- where all are whole, what follows the block follows
+  pub all_whole : (left : Left) (front rest x : List ℕ) (block later : List (List ℕ)) (cut : IsCut Follows left (length block) front block later x rest)
+      → (front ≡ concat block) × (rest ≡ x) × Follows left later
+  all_whole left front rest x block later cut =
+      let empty = nothing_after block cut.before cut.after cut.parts cut.counted in
+      let all : block ≡ cut.before = cut.parts ∙ ap (λ (a : List (List ℕ)). cut.before ++ a) empty ∙ append-nil cut.before in (
+        cut.same ∙ ap concat (sym all),
+        cut.split ∙ ap (λ (a : List (List ℕ)). concat a ++ x) empty,
+        subst (λ (a : List (List ℕ)). Follows left (a ++ later)) empty cut.follows,
+      )
+
+  pub blocks_none : {left : Left} {bytes : List ℕ} {f : ReadFault} → BlocksBreak are_whole item_breaks left bytes f → (f ≡ limit_exceeded → W)
+      → (items : List (List ℕ)) (front y : List ℕ) → Follows left items → IsInBlocks items front → bytes ≡ front ++ y → ⊥
+  blocks_none (BlocksBreak.count_breaks {left = left} {bytes = bytes} {f = f} b) limit items front y follows blocks e =
+      let first = first_number items front blocks in
+      let split : bytes ≡ first.number ++ (first.rest ++ y) = e ∙ ap (λ (g : List ℕ). g ++ y) first.split ∙ append_assoc first.number first.rest y in
+      long-excludes_fault first.v bytes first.number (first.rest ++ y) b.0 first.in_range first.spelled split b.1
+  blocks_none (BlocksBreak.least_count {left = left} {bytes = bytes} number rest s) limit items front y follows blocks e =
+      let first = first_number items front blocks in
+      let split : number ++ rest ≡ first.number ++ (first.rest ++ y) = sym s.split ∙ e ∙ ap (λ (g : List ℕ). g ++ y) first.split ∙ append_assoc first.number first.rest y in
+      first.not_least (sym (one_spelling_lem (negsuc (2 ^ 63 - 1)) first.v number first.number rest (first.rest ++ y) s.spelled first.spelled split).1)
+  blocks_none (BlocksBreak.too_many {left = left} {bytes = bytes} v number rest s not_least many) limit items front y follows blocks e =
+      let first = first_number items front blocks in
+      let split : number ++ rest ≡ first.number ++ (first.rest ++ y) = sym s.split ∙ e ∙ ap (λ (g : List ℕ). g ++ y) first.split ∙ append_assoc first.number first.rest y in
+      let same = (one_spelling_lem v first.v number first.number rest (first.rest ++ y) s.spelled first.spelled split).1 in
+      omega (arith, many, ap nat_abs same, first.few, kind.few left items follows (limit refl))
+  blocks_none (BlocksBreak.size_breaks {left = left} {bytes = bytes} {f = f} n number s few less after) limit items front y follows blocks e =
+      let first = first_size items front number after.rest y n blocks s (sym e ∙ after.split) in
+      let starts : StartsWithLong (pos first.size) after.rest first.number first.rest = record { spelled = first.spelled; in_range = pos-long first.size first.short; split = first.split } in
+      long_none (pos first.size) after.rest first.number first.rest after.fault starts after.breaks
+  blocks_none (BlocksBreak.negative_size {left = left} {bytes = bytes} n m number size behind_count rest s few less split t) limit items front y follows blocks e =
+      let first = first_size items front number behind_count y n blocks s (sym e ∙ split) in
+      let same = (one_spelling_lem (pos first.size) (negsuc m) first.number size first.rest rest first.spelled t.spelled (sym first.split ∙ t.split)).1 in
+      cc
+  blocks_none (BlocksBreak.item_fails {left = left} {bytes = bytes} {f = f} head done whole then_left is more are after) limit items front y follows blocks e =
+      let first = first_block left.nodes head items front (whole ++ after.rest) y is blocks (sym e ∙ after.split ∙ append_assoc (head_bytes head) whole after.rest) in
+      let at_block = kind.cut left then_left done whole first.block first.later (first.rest ++ y) after.rest are (subst (Follows left) first.items_are follows)
+      (omega (arith, first.counted, more)) first.split in
+      none_after then_left done whole after.rest (first.rest ++ y) after.fault first.block first.later at_block (omega (arith, first.counted, more)) after.breaks
+      (behind_limit f after.fault (length (head_bytes head ++ whole)) W after.moved limit)
+  blocks_none (BlocksBreak.size_differs {left = left} {bytes = bytes} count size count_bytes size_bytes whole rest then_left is are split differs) limit items front y follows blocks e =
+      let head = Head.sized count size count_bytes size_bytes in
+      let first = first_block left.nodes head items front (whole ++ rest) y is blocks (sym e ∙ split ∙ append_assoc (count_bytes ++ size_bytes) whole rest) in
+      let at_block = kind.cut left then_left (length first.block) whole first.block first.later (first.rest ++ y) rest (subst (λ (c : ℕ). are_whole left c whole then_left) (sym first.counted) are)
+      (subst (Follows left) first.items_are follows) (omega arith) first.split in
+      let all = all_whole then_left whole rest (first.rest ++ y) first.block first.later at_block in
+      differs (first.has_size ∙ sym (ap (λ (w : List ℕ). length w) all.0))
+  blocks_none (BlocksBreak.later_breaks {left = left} {bytes = bytes} {f = f} head whole rest then_left fault is are has_size split later moved) limit items front y follows blocks e =
+      let first = first_block left.nodes head items front (whole ++ rest) y is blocks (sym e ∙ split ∙ append_assoc (head_bytes head) whole rest) in
+      let at_block = kind.cut left then_left (length first.block) whole first.block first.later (first.rest ++ y) rest (subst (λ (c : ℕ). are_whole left c whole then_left) (sym first.counted) are)
+      (subst (Follows left) first.items_are follows) (omega arith) first.split in
+      let all = all_whole then_left whole rest (first.rest ++ y) first.block first.later at_block in
+      blocks_none later (behind_limit f fault (length (head_bytes head ++ whole)) W moved limit) first.later first.rest y all.2 first.blocks all.1

@@ -1,0 +1,6 @@
+pub mod RowsDeclared
+mod RowsDefaults
+mod RowsDisplays
+mod RowsFaults
+pub mod RowsLaws
+mod RowsLimits

@@ -1,0 +1,62 @@
+-- The schema that a JSON tree declares (Avro 1.11, "Schema Declaration").
+use Rattle.std.specs.Prelude.{◌≡◌, Bool, true, false, not, ◌&&◌, ◌||◌, List, [], ◌∷◌, map, if◌then◌else◌, Option, Some, None, option_and_then, is_some}
+use Rattle.std.specs.List.{list_all}
+use Rattle.avro_schema.specs.Value.{Value}
+use Rattle.avro_schema.specs.Node.{Node, FieldNode, node_at}
+use Rattle.avro_schema.specs.WellFormed.{is_schema}
+use Rattle.serde_json.specs.Data.{Data}
+use Rattle.serde_json.specs.Written.{has_float}
+use Rattle.avro_schema_json.specs.Declares.{RawField, RawNode, made_of}
+use Rattle.avro_schema_json.specs.DeclaredDefaults.{default_of}
+
+-- a node without its defaults
+abbrev pub bare_field : RawField → FieldNode
+bare_field f = record { name = f.name; aliases = f.aliases; node = f.node; default = None }
+
+abbrev pub bare_node : RawNode → Node
+bare_node (RawNode.plain n) = n
+bare_node (RawNode.record_of name aliases fields) = Node.record_of name aliases (map bare_field fields)
+
+abbrev pub bare_nodes : List RawNode → List Node
+bare_nodes = map bare_node
+
+-- the default of a field among these nodes
+abbrev pub field_default : List Node → RawField → Option Value
+field_default nodes f = option_and_then (λ d. default_of nodes d (node_at nodes f.node)) f.default
+
+-- a node with its defaults; one that is no datum is left out
+abbrev pub whole_field : List Node → RawField → FieldNode
+whole_field nodes f = record { name = f.name; aliases = f.aliases; node = f.node; default = field_default nodes f }
+
+abbrev pub whole_node : List Node → RawNode → Node
+whole_node nodes (RawNode.plain n) = n
+whole_node nodes (RawNode.record_of name aliases fields) = Node.record_of name aliases (map (whole_field nodes) fields)
+
+abbrev pub whole_nodes : List RawNode → List Node
+whole_nodes raws = map (whole_node (bare_nodes raws)) raws
+
+-- a field has no default, or one that is a datum
+abbrev pub is_default_read : List Node → RawField → Bool
+is_default_read nodes f = is_some (field_default nodes f) || not (is_some f.default)
+
+abbrev pub are_defaults_read : List Node → RawNode → Bool
+are_defaults_read nodes (RawNode.plain n) = true
+are_defaults_read nodes (RawNode.record_of name aliases fields) = list_all (is_default_read nodes) fields
+
+abbrev pub are_all_defaults_read : List RawNode → Bool
+are_all_defaults_read raws = list_all (are_defaults_read (bare_nodes raws)) raws
+
+abbrev pub is_empty : {A : Type 0} → List A → Bool
+is_empty [] = true
+is_empty (x ∷ xs) = false
+
+-- The schema that a tree declares: its numbers are whole, its declarations have no fault, its nodes are a schema, and
+-- each default is a datum.
+abbrev pub declared : Data → Option (List Node)
+declared tree =
+    if not (has_float tree) && is_empty (made_of tree).faults && is_schema (whole_nodes (made_of tree).nodes)
+    && are_all_defaults_read (made_of tree).nodes
+    then Some (whole_nodes (made_of tree).nodes) else None
+
+abbrev pub DeclaresSchema : Data → List Node → Type 0
+DeclaresSchema tree nodes = declared tree ≡ Some nodes

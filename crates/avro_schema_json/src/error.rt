@@ -1,0 +1,61 @@
+ghost use Rattle.avro_schema_json.specs.Refusals.{refusal_of};
+
+use avro_schema::DraftError;
+use thiserror::Error;
+
+/// Why a text is no schema. Each is shown as its code.
+#[derive(Clone, Copy, Debug, PartialEq, Eq, Hash, Error)]
+pub enum SchemaError {
+    /// The text is no JSON, is no UTF-8, or nests more than 127 levels.
+    #[error("S1")]
+    NotJson,
+    /// A reference to a type that is not defined before.
+    #[error("S2")]
+    UnknownName,
+    /// A name that is defined twice.
+    #[error("S3")]
+    DuplicateName,
+    /// A name, namespace, alias or symbol that breaks the rules of names.
+    #[error("S4")]
+    InvalidName,
+    /// An attribute is missing or of a wrong kind, or the JSON is no schema.
+    #[error("S5")]
+    InvalidDeclaration,
+    /// A union that is empty, holds a union, or holds two branches of one kind.
+    #[error("S6")]
+    InvalidUnion,
+    /// An enum without symbols, with a symbol twice, or with an unknown default.
+    #[error("S7")]
+    InvalidSymbols,
+    /// A name or an alias that two fields of a record have.
+    #[error("S8")]
+    DuplicateField,
+    /// A default that is no datum of its field.
+    #[error("S9")]
+    InvalidDefault,
+    /// A type that this program does not know.
+    #[error("S10")]
+    UnsupportedType,
+    /// A number that is no whole number of 64 bits.
+    #[error("S11")]
+    UnsupportedNumber,
+    /// The text, the number of nodes or a count in it is over its limit.
+    #[error("S12")]
+    LimitExceeded,
+    /// Memory ran out.
+    #[error("S13")]
+    OutOfMemory,
+}
+
+impl From<DraftError> for SchemaError {
+    ghost use Rattle.std.specs.Prelude.{◌≡◌};
+
+    ghost from_gives = { λ e refusal. refusal ≡ refusal_of e };
+
+    fn from(e: DraftError) -> SchemaError {
+        match e {
+            DraftError::LimitExceeded => SchemaError::LimitExceeded,
+            DraftError::OutOfMemory => SchemaError::OutOfMemory,
+        }
+    }
+}

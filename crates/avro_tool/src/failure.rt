@@ -1,0 +1,96 @@
+use avro_schema::Memory;
+use avro_schema_json::SchemaError;
+use clap::error::ErrorKind;
+use std::alloc::AllocError;
+use std::io;
+use std::io::Write;
+
+/// Why the program ends without an answer. A word is the argument that names the file.
+#[derive(Debug, Drop)]
+pub(crate) enum Failure<'a> {
+    /// A schema's text was refused.
+    Schema(&'a str, SchemaError),
+    /// A file could not be opened or read.
+    CannotRead(&'a str),
+    /// The standard output could not be written.
+    CannotPrint,
+    /// Memory ran out.
+    OutOfMemory,
+    /// The words are no request, or ask for help.
+    Usage(clap::Error),
+    /// An argument is not UTF-8.
+    NotText,
+}
+
+impl<'a> Failure<'a> {
+    /// The failure of taking the words from the system.
+    pub(crate) fn of_words(error: &io::Error) -> Failure<'a> {
+        if error.kind() == io::ErrorKind::OutOfMemory {
+            Failure::OutOfMemory
+        } else {
+            Failure::NotText
+        }
+    }
+
+    /// The failure of reading a file.
+    pub(crate) fn of_reading(word: &'a str, error: &io::Error) -> Failure<'a> {
+        if error.kind() == io::ErrorKind::OutOfMemory {
+            Failure::OutOfMemory
+        } else {
+            Failure::CannotRead(word)
+        }
+    }
+
+    /// The failure of reading a schema's text.
+    pub(crate) fn of_schema(word: &'a str, error: SchemaError) -> Failure<'a> {
+        if error == SchemaError::OutOfMemory {
+            Failure::OutOfMemory
+        } else {
+            Failure::Schema(word, error)
+        }
+    }
+
+    /// The status that the program ends with.
+    pub(crate) fn status(&self) -> u8 {
+        match self {
+            Failure::Schema(..) => 3,
+            Failure::CannotRead(_) | Failure::CannotPrint => 4,
+            Failure::OutOfMemory => 5,
+            Failure::Usage(_) | Failure::NotText => 64,
+        }
+    }
+
+    /// Writes the line of the failure, or the text of usage.
+    pub(crate) fn write_to<E: Write>(&self, err: &mut E) -> io::Result<()> {
+        match self {
+            Failure::Schema(word, error) => writeln!(err, "avro: {word}: {error}"),
+            Failure::CannotRead(word) => writeln!(err, "avro: {word}: cannot read"),
+            Failure::CannotPrint => writeln!(err, "avro: output: cannot write"),
+            Failure::OutOfMemory => writeln!(err, "avro: out of memory"),
+            Failure::Usage(text) => write!(err, "{text}"),
+            Failure::NotText => writeln!(err, "avro: an argument is not UTF-8"),
+        }
+    }
+}
+
+impl<'a> From<Memory> for Failure<'a> {
+    fn from(_e: Memory) -> Failure<'a> {
+        Failure::OutOfMemory
+    }
+}
+
+impl<'a> From<AllocError> for Failure<'a> {
+    fn from(_e: AllocError) -> Failure<'a> {
+        Failure::OutOfMemory
+    }
+}
+
+impl<'a> From<clap::Error> for Failure<'a> {
+    fn from(e: clap::Error) -> Failure<'a> {
+        if e.kind() == ErrorKind::OutOfMemory {
+            Failure::OutOfMemory
+        } else {
+            Failure::Usage(e)
+        }
+    }
+}

@@ -1,0 +1,32 @@
+use crate::failure::Failure;
+use avro_schema::Schema;
+use avro_schema_json::read_schema;
+use std::io::Read;
+use std::rt::Files;
+use std::{fs, io};
+
+/// The greatest length of a schema's text.
+const MAX_TEXT: u64 = 1_048_576;
+
+/// The schema in a file. At most one byte more than a text may have is read, once.
+pub(crate) fn read_schema_file<'a, R: Files + AllocGlobal>(
+    rt: &R,
+    word: &'a str,
+) -> Result<Schema, Failure<'a>> {
+    match bytes_of(rt, word) {
+        Ok(bytes) => match read_schema(rt.alloc(), &bytes) {
+            Ok(schema) => Ok(schema),
+            Err(e) => Err(Failure::of_schema(word, e)),
+        },
+        Err(e) => Err(Failure::of_reading(word, &e)),
+    }
+}
+
+/// The bytes of a file, up to one more than a text may have.
+fn bytes_of<R: Files + AllocGlobal>(rt: &R, path: &str) -> io::Result<Vec<u8>> {
+    let mut bytes = Vec::new(rt.alloc());
+    fs::open(rt, path)?
+        .take(MAX_TEXT + 1)
+        .read_to_end(&mut bytes)?;
+    Ok(bytes)
+}
