@@ -9,7 +9,6 @@ use Rattle.avro_schema.specs.Fits.{fits, is_int, is_long, is_within, LimitValues
 use Rattle.avro_schema.specs.Ranges.{AreLimits}
 use Rattle.avro_schema.specs.Seen.{value_of}
 use Rattle.avro_schema.specs.declared.datum.Datum.{Datum}
-use Rattle.avro_schema.proofs.DatumViews.{value_of-Null, value_of-Bool}
 use Rattle.avro_schema.proofs.FitsKind.{FitsKind-from_fits, null_value, boolean_value, int_value, long_value}
 use Rattle.avro_binary.specs.Encoding.{Spells, Encodes}
 use Rattle.avro_binary.specs.Fault.{ReadFault, end_of_input, invalid_boolean}

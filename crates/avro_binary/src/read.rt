@@ -13,13 +13,8 @@ use avro_schema::{Datum, Limits, Node, NodeId, Schema};
 use avro_zigzag::{VarError, read_int, read_long};
 use std::alloc::Global;
 
-<<<<<<< HEAD
 /// Reads a datum of a node of the schema, which is null, a boolean, an int or a long, from the front
 /// of bytes, and answers it with the length of its encoding.
-=======
-/// Reads a datum of a node of the schema, which is null, boolean, int or long, from the front of bytes, and answers it with the length of
-/// its encoding.
->>>>>>> bench
 ///
 /// # Errors
 ///

@@ -6,21 +6,12 @@ ghost use Rattle.avro_resolve.specs.Match.{is_match};
 
 use avro_schema::{Node, NodeId, Schema};
 
-<<<<<<< HEAD
 /// Whether a writer's node and a reader's match, each of them null, a boolean, an int or a long.
 pub fn matches(writer: &Schema, w: NodeId, reader: &Schema, r: NodeId) -> bool
     requires in_writer { w.0 < length (schema_nodes writer.now) }
     requires in_reader { r.0 < length (schema_nodes reader.now) }
     requires first_kind_of_writer { is_first_kind (node_at (schema_nodes writer.now) w.0) ≡ true }
     requires first_kind_of_reader { is_first_kind (node_at (schema_nodes reader.now) r.0) ≡ true }
-=======
-/// Whether a writer's node and a reader's match, each of which is null, boolean, int or long.
-pub fn matches(writer: &Schema, w: NodeId, reader: &Schema, r: NodeId) -> bool
-    requires in_writer { w.0 < length (schema_nodes writer.now) }
-    requires in_reader { r.0 < length (schema_nodes reader.now) }
-    requires first_writer { is_first_kind (node_at (schema_nodes writer.now) w.0) ≡ true }
-    requires first_reader { is_first_kind (node_at (schema_nodes reader.now) r.0) ≡ true }
->>>>>>> bench
     ensures { result ≡ is_match (schema_nodes writer.now) (schema_nodes reader.now)
         (node_at (schema_nodes writer.now) w.0) (node_at (schema_nodes reader.now) r.0) }
 {

@@ -11,11 +11,7 @@ use avro_schema::{Datum, Limits, Schema};
 use std::alloc::Global;
 
 /// Reads a writer's datum from the front of bytes, and answers what it is for the reader, with the
-<<<<<<< HEAD
 /// length of its encoding. The root of each schema is null, a boolean, an int or a long.
-=======
-/// length of its encoding. Each root is null, boolean, int or long.
->>>>>>> bench
 ///
 /// # Errors
 ///
@@ -27,13 +23,8 @@ pub fn read_resolved(
     bytes: &[u8],
     limits: &Limits,
 ) -> Result<(Datum, usize), ReadResolveError>
-<<<<<<< HEAD
     requires first_kind_of_writer { is_first_kind (root_of (schema_nodes writer.now)) ≡ true }
     requires first_kind_of_reader { is_first_kind (root_of (schema_nodes reader.now)) ≡ true }
-=======
-    requires first_writer { is_first_kind (root_of (schema_nodes writer.now)) ≡ true }
-    requires first_reader { is_first_kind (root_of (schema_nodes reader.now)) ≡ true }
->>>>>>> bench
     ensures { ReadsResolved (schema_nodes writer.now) (schema_nodes reader.now) limits.now bytes.now result }
 {
     match decode(alloc, writer, writer.root(), bytes, limits) {

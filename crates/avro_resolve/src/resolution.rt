@@ -12,13 +12,8 @@ use crate::matching::matches;
 use avro_schema::{Datum, Node, Schema};
 use std::alloc::Global;
 
-<<<<<<< HEAD
 /// What a datum of the writer's schema is for the reader's schema. The root of each is null, a boolean,
 /// an int or a long.
-=======
-/// What a datum of the writer's schema is for the reader's schema. Each root is null, boolean, int or
-/// long.
->>>>>>> bench
 ///
 /// # Errors
 ///
@@ -30,13 +25,8 @@ pub fn resolve(
     datum: &Datum,
 ) -> Result<Datum, ResolveError>
     requires fitting { fits (schema_nodes writer.now) (root_of (schema_nodes writer.now)) (value_of datum.now) ≡ true }
-<<<<<<< HEAD
     requires first_kind_of_writer { is_first_kind (root_of (schema_nodes writer.now)) ≡ true }
     requires first_kind_of_reader { is_first_kind (root_of (schema_nodes reader.now)) ≡ true }
-=======
-    requires first_writer { is_first_kind (root_of (schema_nodes writer.now)) ≡ true }
-    requires first_reader { is_first_kind (root_of (schema_nodes reader.now)) ≡ true }
->>>>>>> bench
     ensures answers { Answers result (resolve_root (schema_nodes writer.now) (schema_nodes reader.now) (value_of datum.now)) }
     ensures fitting { IfOk result (λ u. fits (schema_nodes reader.now) (root_of (schema_nodes reader.now)) (value_of u) ≡ true) }
 {
