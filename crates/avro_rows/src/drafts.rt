@@ -90,7 +90,7 @@ fn each_kind_of_node_is_built(rt: HostRuntime) -> Result<(), Fail> {
         field(alloc, "e", 7, Some(Datum::Enum(1)))?,
         field(alloc, "f", 8, None)?,
         field(alloc, "b", 9, None)?,
-        field(alloc, "s", 10, None)?
+        field(alloc, "s", 10, None)?,
     ]?;
     let nodes = vec![in alloc;
         record(alloc, "R", fields)?,
@@ -103,7 +103,7 @@ fn each_kind_of_node_is_built(rt: HostRuntime) -> Result<(), Fail> {
         enumeration(alloc, &["A", "B"], Some(1))?,
         fixed(alloc, "F", 1_048_576)?,
         Node::Bytes,
-        Node::Str
+        Node::Str,
     ]?;
     let schema = finished(alloc, nodes)?;
     assert_eq!(rt; schema.len(), 11);
@@ -116,7 +116,7 @@ fn edges_go_forward_or_to_a_named_type(rt: HostRuntime) -> Result<(), Fail> {
     let alloc = rt.alloc();
     let back_to_record = vec![in alloc;
         record(alloc, "R", vec![in alloc; field(alloc, "f", 1, None)?]?)?,
-        Node::Array(NodeId(0))
+        Node::Array(NodeId(0)),
     ]?;
     assert!(rt; finished(alloc, back_to_record).is_ok());
     let unknown = Some(DraftError::UnknownNode);
@@ -134,9 +134,12 @@ fn names_are_defined_once(rt: HostRuntime) -> Result<(), Fail> {
     let twice = vec![in alloc;
         record(alloc, "R", fields)?,
         fixed(alloc, "F", 1)?,
-        fixed(alloc, "F", 2)?
+        fixed(alloc, "F", 2)?,
     ]?;
-    assert_eq!(rt; finished(alloc, twice).err(), Some(DraftError::DuplicateName));
+    assert_eq!(rt;
+        finished(alloc, twice).err(),
+        Some(DraftError::DuplicateName)
+    );
     Ok(())
 }
 
@@ -155,7 +158,7 @@ fn unions_keep_their_rules(rt: HostRuntime) -> Result<(), Fail> {
         Node::Array(NodeId(2)),
         Node::Int,
         Node::Array(NodeId(4)),
-        Node::Long
+        Node::Long,
     ]?;
     assert_eq!(rt; finished(alloc, arrays).err(), invalid);
     Ok(())
@@ -174,7 +177,10 @@ fn symbols_keep_their_rules(rt: HostRuntime) -> Result<(), Fail> {
         assert_eq!(rt; finished(alloc, nodes).err(), Some(error));
     }
     let large = vec![in alloc; fixed(alloc, "F", 1_048_577)?]?;
-    assert_eq!(rt; finished(alloc, large).err(), Some(DraftError::LimitExceeded));
+    assert_eq!(rt;
+        finished(alloc, large).err(),
+        Some(DraftError::LimitExceeded)
+    );
     Ok(())
 }
 
@@ -183,15 +189,23 @@ fn fields_keep_their_rules(rt: HostRuntime) -> Result<(), Fail> {
     let alloc = rt.alloc();
     let twice = vec![in alloc; field(alloc, "x", 1, None)?, field(alloc, "x", 1, None)?]?;
     let nodes = vec![in alloc; record(alloc, "R", twice)?, Node::Int]?;
-    assert_eq!(rt; finished(alloc, nodes).err(), Some(DraftError::DuplicateField));
-    let own_alias = vec![in alloc; Field {
-        name: String::from_str(alloc, "x")?,
-        aliases: texts(alloc, &["x"])?,
-        node: NodeId(1),
-        default: None,
-    }]?;
+    assert_eq!(rt;
+        finished(alloc, nodes).err(),
+        Some(DraftError::DuplicateField)
+    );
+    let own_alias = vec![in alloc;
+        Field {
+            name: String::from_str(alloc, "x")?,
+            aliases: texts(alloc, &["x"])?,
+            node: NodeId(1),
+            default: None,
+        },
+    ]?;
     let nodes = vec![in alloc; record(alloc, "R", own_alias)?, Node::Int]?;
-    assert_eq!(rt; finished(alloc, nodes).err(), Some(DraftError::DuplicateField));
+    assert_eq!(rt;
+        finished(alloc, nodes).err(),
+        Some(DraftError::DuplicateField)
+    );
     let no_name = vec![in alloc; field(alloc, "a-b", 1, None)?]?;
     let nodes = vec![in alloc; record(alloc, "R", no_name)?, Node::Int]?;
     assert_eq!(rt; finished(alloc, nodes).err(), Some(DraftError::InvalidName));
@@ -207,7 +221,7 @@ fn defaults_fit_their_field(rt: HostRuntime) -> Result<(), Fail> {
         record(alloc, "R", first)?,
         union(alloc, &[2, 3])?,
         Node::Null,
-        Node::Int
+        Node::Int,
     ]?;
     assert!(rt; finished(alloc, nodes).is_ok());
     let invalid = Some(DraftError::InvalidDefault);
@@ -217,16 +231,20 @@ fn defaults_fit_their_field(rt: HostRuntime) -> Result<(), Fail> {
         record(alloc, "R", second)?,
         union(alloc, &[2, 3])?,
         Node::Null,
-        Node::Int
+        Node::Int,
     ]?;
     assert_eq!(rt; finished(alloc, nodes).err(), invalid);
     let long = Datum::Array(vec![in alloc; Datum::Long(1)]?);
     let deep = Datum::Record(vec![in alloc; long]?);
     let nodes = vec![in alloc;
-        record(alloc, "R", vec![in alloc; field(alloc, "f", 1, Some(deep))?]?)?,
+        record(
+            alloc,
+            "R",
+            vec![in alloc; field(alloc, "f", 1, Some(deep))?]?
+        )?,
         record(alloc, "S", vec![in alloc; field(alloc, "g", 2, None)?]?)?,
         Node::Array(NodeId(3)),
-        Node::Int
+        Node::Int,
     ]?;
     assert_eq!(rt; finished(alloc, nodes).err(), invalid);
     Ok(())

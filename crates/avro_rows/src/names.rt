@@ -54,7 +54,11 @@ fn namespaces_are_names_joined_by_dots(rt: HostRuntime) -> Result<(), Fail> {
         ("a.", NameError::EmptyPart),
         ("a.b-c", NameError::BadCharacter),
     ] {
-        assert_eq!(rt; Namespace::read(rt.alloc(), text).err(), Some(error), "{text}");
+        assert_eq!(rt;
+            Namespace::read(rt.alloc(), text).err(),
+            Some(error),
+            "{text}"
+        );
     }
     Ok(())
 }

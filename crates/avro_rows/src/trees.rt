@@ -25,7 +25,7 @@ fn sizes_and_depths_count_nodes(rt: HostRuntime) -> Result<(), Fail> {
         (Datum::Union(0, boxed), 4, 3),
         (Datum::Record(Vec::new(alloc)), 1, 1),
         (Datum::Enum(3), 1, 1),
-        (Datum::Fixed(Vec::new(alloc)), 1, 1)
+        (Datum::Fixed(Vec::new(alloc)), 1, 1),
     ]? {
         assert_eq!(rt; (size(&datum), depth(&datum)), (nodes, deep));
     }
