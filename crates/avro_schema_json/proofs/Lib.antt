@@ -6,3 +6,4 @@ pub mod RowsLaws
 mod RowsLimits
 pub mod FirstSchemas
 pub mod NoFloats
+pub mod DisplaySeen

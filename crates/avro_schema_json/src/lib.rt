@@ -5,6 +5,8 @@
 
 mod display;
 mod error;
+mod labels;
+mod places;
 mod read;
 
 pub use display::show;
