@@ -13,7 +13,7 @@ pub struct Draft {
 }
 
 impl Draft {
-    ghost use Rattle.std.specs.Prelude.{◌≡◌, ◌↔◌, true, [], ◌∷◌, ◌++◌, length, IfOk, IfErr, OnOk, OnErr, IsErrOf};
+    ghost use Rattle.std.specs.Prelude.{◌≡◌, ◌⊎◌, ◌↔◌, true, [], ◌∷◌, ◌++◌, length, IfOk, IfErr, OnOk, OnErr, IsErrOf};
     ghost use Rattle.avro_schema.specs.Faulty.{IsThere};
     ghost use Rattle.avro_schema.specs.Seen.{node_of};
     ghost use Rattle.avro_schema.specs.SeenSchema.{schema_nodes, draft_nodes};
@@ -33,6 +33,7 @@ impl Draft {
         ensures added { OnOk result (draft_nodes self.new ≡ draft_nodes self.old ++ node_of node ∷ []) }
         ensures number { IfOk result (λ id. id.0 ≡ length (draft_nodes self.old)) }
         ensures full { IsErrOf result DraftError.LimitExceeded ↔ (length (draft_nodes self.old) ≡ 4096) }
+        ensures errors { IfErr result (λ e. (e ≡ DraftError.LimitExceeded) ⊎ (e ≡ DraftError.OutOfMemory)) }
         ensures err { OnErr result (draft_nodes self.new ≡ draft_nodes self.old) }
     {
         let number = self.nodes.len();
