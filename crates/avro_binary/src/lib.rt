@@ -5,9 +5,13 @@
 //! its place.
 #![tactic(auto)]
 
+mod cursor;
 mod error;
+mod keys;
 pub mod laws;
 mod read;
 
+pub use cursor::Cursor;
 pub use error::ReadError;
+pub use keys::Keys;
 pub use read::decode;
