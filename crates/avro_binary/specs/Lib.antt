@@ -6,3 +6,4 @@ pub mod Seen
 pub mod Reading
 pub mod KeySet
 pub mod CursorValue
+pub mod Elements
