@@ -7,6 +7,7 @@ use Rattle.std.specs.Cmp.Lexicographic.{slice_cmp, nat_list_cmp_total, nat_list_
 use Rattle.std.specs.FinSet as set
 use Rattle.std.specs.BTreeSet.{BTreeSet, contains, Updates}
 use Rattle.std.proofs.lemmas.Map.Text.{is_eq-slice_cmp}
+use Rattle.std.proofs.lemmas.Slice.Eq.{bytes_eq-Decides}
 use Rattle.avro_binary.specs.KeySet.{KeySet, key_set}
 
 -- keys as slices, seen as their bytes
@@ -58,3 +59,15 @@ key_set-updates before after k updates =
 -- whether the set has a key, as the tree answers
 pub key_set-contains : (before : BTreeSet (Bor (List ℕ))) (k : Bor (List ℕ)) → contains slice_order before k ≡ set.contains (key_set (seen_keys before.keys)) k.now
 key_set-contains before k = sym (contains-seen before.keys k)
+
+-- a key of the set adds nothing
+pub key_set-again : (s : KeySet) (k : List ℕ) → set.contains s k ≡ true → set.insert s k ≡ s
+key_set-again s k old =
+    set.same_set nat_list_cmp_total (set.slice_cmp-IsAntisymmetric set.nat_cmp-IsAntisymmetric) _ _ (λ q.
+      set.contains-insert nat_list_cmp_total s k q ∙ absorbs (eq_by_cmp (slice_cmp nat_cmp) q k) (set.contains s q) (λ same. tied q same))
+  where
+    absorbs : (b c : Bool) → (b ≡ true → c ≡ true) → (b || c) ≡ c
+    absorbs true c h = sym (h refl)
+    absorbs false c h = refl
+    tied : (q : List ℕ) → eq_by_cmp (slice_cmp nat_cmp) q k ≡ true → set.contains s q ≡ true
+    tied q same = ap (set.contains s) ((bytes_eq-Decides q k).0 (sym (is_eq-slice_cmp q k) ∙ same)) ∙ old

@@ -16,3 +16,11 @@ pub record Passes (before : CursorValue) (front : List ℕ) (after : CursorValue
   pub depth : after.depth ≡ before.depth
   pub nodes : after.nodes ≡ before.nodes
   pub blob : after.blob ≡ before.blob
+
+-- A node was entered: it takes one of the nodes left and one of the depth, and nothing else has changed.
+pub record Enters (before after : CursorValue) : Type 0 where
+  pub depth : before.depth ≡ after.depth + 1
+  pub nodes : before.nodes ≡ after.nodes + 1
+  pub bytes : after.bytes ≡ before.bytes
+  pub place : after.place ≡ before.place
+  pub blob : after.blob ≡ before.blob

@@ -7,3 +7,4 @@ pub mod Reading
 pub mod KeySet
 pub mod CursorValue
 pub mod Elements
+pub mod BlockHeads

@@ -1,8 +1,10 @@
-ghost use Rattle.std.specs.Prelude.{◌≡◌, ◌+◌, ◌≤◌, ◌<◌, List, ℕ, Bool, length, take, drop, pos, Some, IfSome, IfNone, IfOk, false, true};
+ghost use Rattle.std.specs.Prelude.{◌≡◌, ◌≢◌, ◌⊎◌, ◌+◌, ◌-◌, ◌^◌, ◌≤◌, ◌<◌, List, ℕ, Bool, length, take, drop, pos, negsuc, neg_ℤ, nat_abs, Some, IfSome, IfNone, IfOk, OnOk, OnErr, false, true};
 ghost use Rattle.std.specs.Result.{IfErr};
 ghost use Rattle.std.specs.Str.{is_utf8};
-ghost use Rattle.avro_binary.specs.Breaks.{StartsWithLong, ContentBreaks, BytesBreaks, StringBreaks, BooleanBreaks, IntBreaks, LongBreaks, FixedBreaks, IndexBreaks, is_index, number_fault};
-ghost use Rattle.avro_binary.specs.CursorValue.{Passes};
+ghost use Rattle.avro_zigzag.specs.Number.{SpellsNumber};
+ghost use Rattle.avro_binary.specs.BlockHeads.{HeadBreaks, IsBlock, ReadsHead, EndsBlock};
+ghost use Rattle.avro_binary.specs.Breaks.{Head, head_bytes, StartsWithLong, ContentBreaks, BytesBreaks, StringBreaks, BooleanBreaks, IntBreaks, LongBreaks, FixedBreaks, IndexBreaks, is_index, number_fault};
+ghost use Rattle.avro_binary.specs.CursorValue.{Passes, Enters};
 ghost use Rattle.avro_binary.specs.Elements.{ReadsElement, ReadsKey, Refuses, ContentStands, IsBoolean, IsInt, IsLong, IsBytes, IsString, IsFixed, IsIndex};
 ghost use Rattle.avro_binary.specs.Fault.{behind};
 ghost use Rattle.avro_binary.specs.KeySet.{key_set};
@@ -14,6 +16,7 @@ use avro_schema::Limits;
 use avro_zigzag::{VarError, read_int, read_long};
 use simdutf8::basic::from_utf8;
 
+use crate::block::{Block, BlockSize};
 use crate::error::ReadError;
 use crate::keys::Keys;
 
@@ -38,7 +41,7 @@ impl<'a> Model for Cursor<'a> {
 
     ghost view = { λ c. record { bytes = c.rest.now; place = c.len - length c.rest.now; depth = c.depth; nodes = c.nodes; blob = c.blob } };
 
-    ghost invariant = { λ c. length c.rest.now ≤ c.len };
+    ghost invariant = { λ c. (length c.rest.now ≤ c.len) × (c.depth ≤ 256) };
 }
 
 impl<'a> Cursor<'a> {
@@ -294,6 +297,154 @@ impl<'a> Cursor<'a> {
             },
             Err(error) => Err(error),
         }
+    }
+
+    /// The count of a block at the front, after its tests, and how many bytes it takes.
+    fn block_count(&self) -> Result<(i64, usize), ReadError>
+        ensures inside { IfOk result (λ r. r.1 ≤ length self.now.bytes) }
+        ensures within { IfOk result (λ r. nat_abs r.0 ≤ self.now.nodes) }
+        ensures above_least { IfOk result (λ r. r.0 ≢ negsuc (2 ^ 63 - 1)) }
+        ensures stands { IfOk result (λ r. StartsWithLong r.0 self.now.bytes (take r.1 self.now.bytes) (drop r.1 self.now.bytes)) }
+        ensures refused { IfErr result (Refuses (HeadBreaks self.now.nodes) self.now) }
+    {
+        match read_long(self.rest()) {
+            Ok((count, len)) => {
+                if count == i64::MIN {
+                    return Err(ReadError::InvalidLength { place: self.place() });
+                }
+                if count.unsigned_abs() > u64::from(self.nodes) {
+                    return Err(ReadError::LimitExceeded);
+                }
+                Ok((count, len))
+            }
+            Err(error) => Err(number_error(error, self.place())),
+        }
+    }
+
+    /// The size of a block behind its count, after its test, and how many bytes the two take.
+    fn block_size(&self, len: usize) -> Result<(u64, usize), ReadError>
+        requires { len ≤ length self.now.bytes }
+        ensures inside { IfOk result (λ r. (len ≤ r.1) × (r.1 ≤ length self.now.bytes)) }
+        ensures stands { IfOk result (λ r. StartsWithLong (pos r.0) (drop len self.now.bytes) (take (r.1 - len) (drop len self.now.bytes)) (drop (r.1 - len) (drop len self.now.bytes))) }
+        ensures refused { (n : ℕ) → SpellsNumber (negsuc n) (take len self.now.bytes) → n + 1 < 2 ^ 63 → n < self.now.nodes → IfErr result (Refuses (HeadBreaks self.now.nodes) self.now) }
+    {
+        let (_, behind) = self.rest().split_at(len);
+        match read_long(behind) {
+            Ok((size, more)) => {
+                if size < 0 {
+                    return Err(ReadError::InvalidLength {
+                        place: self.place_behind(len),
+                    });
+                }
+                Ok((size as u64, len + more))
+            }
+            Err(error) => Err(number_error(error, self.place_behind(len))),
+        }
+    }
+
+    /// Reads the head of a block, or the 0 that ends the blocks: nothing.
+    ///
+    /// # Errors
+    ///
+    /// Of the count: `EndOfInput`, `InvalidNumber`, then `InvalidLength` where it is the least of all, then
+    /// `LimitExceeded` where it is more than the nodes left; then of the size: `EndOfInput`, `InvalidNumber`,
+    /// `InvalidLength` where it is negative.
+    pub fn block(&mut self) -> Result<Option<Block>, ReadError>
+        ensures { ReadsHead self.old self.new result }
+    {
+        match self.block_count() {
+            Ok((count, len)) => {
+                if count == 0 {
+                    self.pass(len);
+                    return Ok(None);
+                }
+                if count > 0 {
+                    self.pass(len);
+                    return Ok(Some(Block {
+                        count: count as u32,
+                        size: None,
+                    }));
+                }
+                self.sized_block(count.unsigned_abs() as u32, len)
+            }
+            Err(error) => Err(error),
+        }
+    }
+
+    /// Reads a block's head behind whose count, of so many bytes, a size stands.
+    fn sized_block(&mut self, count: u32, len: usize) -> Result<Option<Block>, ReadError>
+        requires inside { len ≤ length self.old.bytes }
+        requires some { 0 < count }
+        requires within { count ≤ self.old.nodes }
+        requires spelled { SpellsNumber (neg_ℤ (pos count)) (take len self.old.bytes) }
+        ensures { ReadsHead self.old self.new result }
+    {
+        match self.block_size(len) {
+            Ok((bytes, both)) => {
+                let place = self.place_behind(len);
+                let items = self.place_behind(both);
+                self.pass(both);
+                let size = BlockSize {
+                    bytes,
+                    place,
+                    items,
+                };
+                Ok(Some(Block {
+                    count,
+                    size: Some(size),
+                }))
+            }
+            Err(error) => Err(error),
+        }
+    }
+
+    /// Compares the size that a block's head gave, if any, with where the cursor is behind the
+    /// block's items.
+    ///
+    /// # Errors
+    ///
+    /// `WrongBlockSize`.
+    pub fn end_block(&self, block: &Block) -> Result<(), ReadError>
+        ensures { (place n : ℕ) (head : Head) → IsBlock place head block.now → self.now.place ≡ place + length (head_bytes head) + n → EndsBlock place head n result }
+    {
+        match block.size {
+            Some(size) => {
+                let place = self.place();
+                if place >= size.items && (place - size.items) as u64 == size.bytes {
+                    Ok(())
+                } else {
+                    Err(ReadError::WrongBlockSize { place: size.place })
+                }
+            }
+            None => Ok(()),
+        }
+    }
+
+    /// Enters a node: it takes one of the nodes left and one of the depth.
+    ///
+    /// # Errors
+    ///
+    /// `LimitExceeded` where there is none.
+    pub fn enter(&mut self) -> Result<(), ReadError>
+        ensures entered { OnOk result (Enters self.old self.new) }
+        ensures shallow { self.old.depth ≤ 256 }
+        ensures refused { IfErr result (λ e. (e ≡ LimitExceeded) × ((self.old.depth ≡ 0) ⊎ (self.old.nodes ≡ 0))) }
+        ensures unchanged { OnErr result (self.new ≡ self.old) }
+    {
+        if self.depth == 0 || self.nodes == 0 {
+            return Err(ReadError::LimitExceeded);
+        }
+        self.depth -= 1;
+        self.nodes -= 1;
+        Ok(())
+    }
+
+    /// Leaves a node, whose depth is free again.
+    pub fn leave(&mut self)
+        requires { self.old.depth < 256 }
+        ensures { self.new ≡ record self.old { depth = self.old.depth + 1 } }
+    {
+        self.depth += 1;
     }
 }
 
