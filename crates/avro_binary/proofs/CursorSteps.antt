@@ -1,9 +1,8 @@
 -- What the calls of a cursor answer, from what they read.
-use Rattle.std.proofs.Common.{◌≡◌, ◌≢◌, ◌⊎◌, ℕ, zero, suc, ◌+◌, ◌-◌, ◌^◌, ◌<◌, ◌≤◌, ℤ, pos, negsuc, ◌<ℤ◌, ◌≤ℤ◌, nat_abs, Bool, true, false, List, [], ◌∷◌, ◌++◌, length, take, drop, Result, Ok, Err, Option, Some, None, refl, sym, ap, ◌∙◌, subst, arith, rules, tests, nat_lt, inl, inr, length-append, add-zero, slice_get, append_assoc, length-take-le}
+use Rattle.std.proofs.Common.{◌≡◌, ℕ, ◌+◌, ◌-◌, ◌^◌, ◌<◌, ◌≤◌, ℤ, pos, negsuc, ◌<ℤ◌, Bool, true, false, List, [], ◌∷◌, ◌++◌, length, take, drop, Ok, Err, Some, None, refl, sym, ap, ◌∙◌, subst, arith, rules, tests, length-append, add-zero, slice_get, append_assoc, length-take-le}
 use Rattle.std.proofs.lemmas.List.{take-append-drop}
 use Rattle.std.proofs.lemmas.Int.{ints}
-use Rattle.std.proofs.lemmas.Bool.{false≢true}
-use Rattle.std.proofs.Math.Seq.{take-append_seam, drop-append_seam}
+use Rattle.std.proofs.Math.Seq.{take-append_seam}
 use Rattle.std.specs.Str.{is_utf8, IsUtf8}
 use Rattle.std.proofs.lemmas.Str.{IsUtf8-from_is_utf8}
 use Rattle.avro_zigzag.specs.Number.{SpellsNumber}
@@ -11,13 +10,13 @@ use Rattle.avro_zigzag.specs.NumberFault.{LongFails, IntFails}
 use Rattle.avro_zigzag.specs.declared.VarError.{VarError}
 use Rattle.avro_zigzag.proofs.Spelling.{is_long-zigzag}
 use Rattle.avro_schema.specs.Fits.{is_int, is_long}
-use Rattle.avro_binary.specs.Fault.{ReadFault, end_of_input, invalid_number, invalid_boolean, invalid_text, unknown_index, invalid_length, limit_exceeded, behind}
-use Rattle.avro_binary.specs.Breaks.{number_fault, IntBreaks, LongBreaks, BooleanBreaks, FixedBreaks, is_index, IndexBreaks, number_breaks, unknown, StartsWithLong, ContentBreaks, BytesBreaks, StringBreaks, length_breaks, negative, too_long, cut, invalid}
+use Rattle.avro_binary.specs.Fault.{ReadFault, end_of_input, invalid_boolean, invalid_text, unknown_index, invalid_length, limit_exceeded, behind}
+use Rattle.avro_binary.specs.Breaks.{number_fault, IntBreaks, LongBreaks, BooleanBreaks, is_index, IndexBreaks, number_breaks, unknown, StartsWithLong, ContentBreaks, negative, too_long, cut, invalid}
 use Rattle.avro_binary.specs.Seen.{read_fault}
 use Rattle.avro_binary.specs.CursorValue.{CursorValue, Passes}
-use Rattle.avro_binary.specs.Elements.{IsBoolean, IsInt, IsLong, IsContent, IsFixed, IsIndex, IsBytes, IsString, ReadsElement, ContentStands, Refuses}
+use Rattle.avro_binary.specs.Elements.{IsBoolean, IsInt, IsLong, IsContent, IsIndex, ReadsElement, ContentStands}
 use Rattle.avro_binary.specs.declared.error.ReadError.{ReadError}
-use Rattle.avro_binary.proofs.ElementLaws.{element_found, element_refused, int_part, long_part, boolean_part, fixed_part, index_part, content_part}
+use Rattle.avro_binary.proofs.ElementLaws.{element_found, element_refused, int_part, long_part, boolean_part, index_part}
 
 pub int_found : (before after : CursorValue) (bytes : List ℕ) (value answer : ℤ) (len : ℕ) → bytes ≡ before.bytes → answer ≡ value
     → SpellsNumber value (take len bytes) → is_int value ≡ true → Passes before (take len before.bytes) after
@@ -112,9 +111,11 @@ module _ (is_content : List ℕ → Bool) (blob : ℕ) (bytes : List ℕ) where
   pub content_cut : (n len place offset : ℕ) → StartsWithLong (pos n) bytes (take len bytes) (drop len bytes) → n ≤ blob → length (drop len bytes) < n → len ≤ length bytes
       → offset ≡ place + len
       → (f : ReadFault) × ContentBreaks is_content blob bytes f × (Some (end_of_input offset) ≡ Some (behind place f))
-  content_cut n len place offset s small short inside at =
-      (end_of_input (length (take len bytes)), cut n (take len bytes) (drop len bytes) s small short,
-        ap (λ (k : ℕ). Some (end_of_input k)) (at ∙ ap (λ (k : ℕ). place + k) (sym (length-take-le len bytes inside))))
+  content_cut n len place offset s small short inside at = (
+    end_of_input (length (take len bytes)),
+    cut n (take len bytes) (drop len bytes) s small short,
+    ap (λ (k : ℕ). Some (end_of_input k)) (at ∙ ap (λ (k : ℕ). place + k) (sym (length-take-le len bytes inside))),
+  )
 
 -- a content behind its length
 pub content_stands : (blob n len : ℕ) (bytes content : List ℕ) → StartsWithLong (pos n) bytes (take len bytes) (drop len bytes) → n ≤ blob → n ≤ length (drop len bytes)
@@ -153,10 +154,11 @@ content_invalid is_content blob bytes content len place offset s wrong at =
       in_range = long_count (length content) s.countable;
       split = s.split ∙ append_assoc s.number content s.rest;
     } in
-    let number : len - length content ≡ length s.number = let b = s.both in omega arith in
-    (invalid_text (length s.number),
+    let number : len - length content ≡ length s.number = let b = s.both in omega arith in (
+      invalid_text (length s.number),
       invalid (length content) s.number (content ++ s.rest) starts s.within (omega (arith, length-append content s.rest)) (ap is_content (take-append_seam content s.rest) ∙ wrong),
-      ap (λ (k : ℕ). Some (invalid_text k)) (at ∙ ap (λ (k : ℕ). place + k) number))
+      ap (λ (k : ℕ). Some (invalid_text k)) (at ∙ ap (λ (k : ℕ). place + k) number),
+    )
   where
     long_count : (n : ℕ) → n < 2 ^ 63 → is_long (pos n) ≡ true
     long_count n h = search (rules, tests)

@@ -1,18 +1,13 @@
 -- The elements of encodings: at most one stands at the front of bytes, it has no fault there, and there is one fault at most.
-use Rattle.std.proofs.Common.{◌≡◌, ◌≢◌, ◌⊎◌, ℕ, zero, suc, ◌+◌, ◌^◌, ◌<◌, ◌≤◌, ℤ, pos, negsuc, Bool, true, false, cond, List, [], ◌∷◌, ◌++◌, length, take, Result, Ok, Err, Option, Some, None, refl, sym, ap, ◌∙◌, subst, arith, rules, tests, nat_lt, if◌then◌else◌, inl, inr, length-append, append_assoc, IfOk, OnErr, IsOkAnd}
+use Rattle.std.proofs.Common.{◌≡◌, ℕ, ◌^◌, ◌<◌, ◌≤◌, ℤ, pos, negsuc, Bool, true, false, cond, List, [], ◌∷◌, ◌++◌, length, take, Ok, Err, Option, Some, None, refl, sym, ap, ◌∙◌, subst, arith, rules, tests, nat_lt, if◌then◌else◌, inl, inr, length-append, append_assoc}
 use Rattle.std.proofs.lemmas.List.{append_cancel_left}
 use Rattle.std.proofs.Math.Seq.{take-append_seam}
-use Rattle.std.specs.Result.{IfErr}
-use Rattle.avro_zigzag.specs.Number.{SpellsNumber}
-use Rattle.avro_zigzag.specs.NumberFault.{LongFails, IntFails}
-use Rattle.avro_zigzag.specs.declared.VarError.{VarError}
 use Rattle.avro_zigzag.proofs.Spelling.{one_spelling_lem}
 use Rattle.avro_zigzag.proofs.Faults.{long-excludes_fault, int-excludes_fault, one_fault as one_number_fault}
-use Rattle.avro_schema.specs.Fits.{is_int, is_long}
-use Rattle.avro_binary.specs.Encoding.{SpellsBytes}
-use Rattle.avro_binary.specs.Fault.{ReadFault, end_of_input, invalid_number, invalid_boolean, invalid_text, unknown_index, invalid_length, limit_exceeded, behind}
+use Rattle.avro_schema.specs.Fits.{is_long}
+use Rattle.avro_binary.specs.Fault.{ReadFault, end_of_input, invalid_text, invalid_length, limit_exceeded, behind}
 use Rattle.avro_binary.specs.Breaks.{number_fault, IntBreaks, LongBreaks, BooleanBreaks, FixedBreaks, StartsWithLong, ContentBreaks, length_breaks, negative, too_long, cut, invalid, is_index, IndexBreaks, number_breaks, unknown}
-use Rattle.avro_binary.specs.Seen.{read_fault, Reports}
+use Rattle.avro_binary.specs.Seen.{read_fault}
 use Rattle.avro_binary.specs.CursorValue.{CursorValue, Passes}
 use Rattle.avro_binary.specs.Elements.{IsBoolean, IsInt, IsLong, IsContent, IsFixed, IsIndex, ReadsElement}
 use Rattle.avro_binary.specs.declared.error.ReadError.{ReadError}
@@ -121,13 +116,13 @@ fixed_part count blob = record {
 }
 
 -- the long at the front is one
-head_same : (v w : ℤ) (bytes n m r s : List ℕ) → StartsWithLong v bytes n r → StartsWithLong w bytes m s → (n ≡ m) × (v ≡ w) × (r ≡ s)
+pub head_same : (v w : ℤ) (bytes n m r s : List ℕ) → StartsWithLong v bytes n r → StartsWithLong w bytes m s → (n ≡ m) × (v ≡ w) × (r ≡ s)
 head_same v w bytes n m r s a b =
     let joined : n ++ r ≡ m ++ s = sym a.split ∙ b.split in
     let same = one_spelling_lem v w n m r s a.spelled b.spelled joined in
     (same.0, same.1, append_cancel_left m r s (ap (λ (k : List ℕ). k ++ r) (sym same.0) ∙ joined))
 
-no_long_fault : (v : ℤ) (bytes number rest : List ℕ) (f : ReadFault) → StartsWithLong v bytes number rest → LongBreaks bytes f → ⊥
+pub no_long_fault : (v : ℤ) (bytes number rest : List ℕ) (f : ReadFault) → StartsWithLong v bytes number rest → LongBreaks bytes f → ⊥
 no_long_fault v bytes number rest f s b = long-excludes_fault v bytes number rest b.0 s.in_range s.spelled s.split b.1
 
 module _ (is_content : List ℕ → Bool) (blob : ℕ) where
@@ -207,7 +202,7 @@ module _ (is_content : List ℕ → Bool) (blob : ℕ) where
       let y = fault-content (length content) number (content ++ rest) p.within (omega (arith, length-append content rest)) in
       let z : is_content (take (length content) (content ++ rest)) ≡ true = ap is_content (take-append_seam content rest) ∙ p.right in
       let w : cond (is_content (take (length content) (content ++ rest))) None (Some (invalid_text (length number))) ≡ None =
-          ap (λ (t : Bool). cond t None (Some (invalid_text (length number)))) z in
+      ap (λ (t : Bool). cond t None (Some (invalid_text (length number)))) z in
       let bad : None ≡ Some f = sym w ∙ sym y ∙ x in cc
 
   content-one : (v w a b x y : List ℕ) → IsContent is_content blob v a → IsContent is_content blob w b → a ++ x ≡ b ++ y → (a ≡ b) × (v ≡ w)

@@ -1,5 +1,5 @@
 -- What reading a key answers.
-use Rattle.std.proofs.Common.{◌≡◌, ◌≢◌, ℕ, ◌+◌, ◌^◌, ◌<◌, ◌≤◌, Bool, true, false, not, List, [], ◌∷◌, ◌++◌, length, take, drop, Result, Ok, Err, Some, None, refl, sym, ap, ◌∙◌, subst, arith, rules, tests, bytes_eq, append_assoc, length-append}
+use Rattle.std.proofs.Common.{◌≡◌, ℕ, ◌≤◌, true, false, List, ◌++◌, length, take, Ok, Err, Some, refl, sym, ap, ◌∙◌, subst, rules, tests, bytes_eq, length-append}
 use Rattle.std.proofs.Math.Seq.{take-append_seam}
 use Rattle.std.proofs.lemmas.Bool.{and_parts, false≢true}
 use Rattle.std.specs.List.{list_any}
@@ -13,7 +13,7 @@ use Rattle.avro_binary.specs.Breaks.{StringBreaks, KeyBreaks, string_breaks, twi
 use Rattle.avro_binary.specs.Seen.{read_fault}
 use Rattle.avro_binary.specs.CursorValue.{CursorValue, Passes}
 use Rattle.avro_binary.specs.KeySet.{KeySet, key_set}
-use Rattle.avro_binary.specs.Elements.{IsContent, IsString, IsKey, ReadsKey, ContentStands}
+use Rattle.avro_binary.specs.Elements.{IsString, IsKey, ReadsKey, ContentStands}
 use Rattle.avro_binary.specs.declared.error.ReadError.{ReadError}
 use Rattle.avro_binary.proofs.Exact.{unless_reported}
 use Rattle.avro_binary.proofs.KeySets.{contains-key_set, key_set-push, key_set-again}
@@ -99,6 +99,7 @@ module _ {R : Type 0} (seen : R → List ℕ) (keys : List (List ℕ)) (before a
     where
       text_is : IsString before.blob key (take len before.bytes) → is_text key ≡ true
       text_is p = let c = p.countable in let counted : is_count (length key) ≡ true = search (rules, tests) in rw (counted, p.right) refl
+
       split_is : (p : IsString before.blob key (take len before.bytes)) → before.bytes ≡ take len before.bytes ++ stands.rest
       split_is p =
           let size : len ≡ length (stands.number ++ key) = stands.both ∙ sym (length-append stands.number key) in

@@ -1,5 +1,5 @@
 -- The heads of blocks, and what reading one answers (Avro 1.11, "Binary Encoding", "Complex Types").
-use Rattle.std.specs.Prelude.{◌≡◌, ◌≢◌, ℕ, suc, ◌+◌, ◌-◌, ◌^◌, ◌<◌, ◌≤◌, ℤ, pos, negsuc, nat_abs, List, ◌++◌, length, Option, Some, None, Result, Ok, Err, IfOk, IsOk, IsOkAnd, OnErr}
+use Rattle.std.specs.Prelude.{◌≡◌, ◌≢◌, ℕ, suc, ◌+◌, ◌-◌, ◌^◌, ◌<◌, ℤ, pos, negsuc, neg_ℤ, nat_abs, Bool, true, false, List, ◌++◌, length, Option, Some, None, Result, IfOk, IsOk, IsOkAnd, OnErr}
 use Rattle.std.specs.Result.{IfErr, MatchResult}
 use Rattle.avro_zigzag.specs.Number.{SpellsNumber}
 use Rattle.avro_binary.specs.Fault.{ReadFault, invalid_length, wrong_block_size, limit_exceeded, behind}
@@ -9,6 +9,11 @@ use Rattle.avro_binary.specs.CursorValue.{CursorValue, Passes}
 use Rattle.avro_binary.specs.Elements.{Refuses}
 use Rattle.avro_binary.specs.declared.block.Block.{Block}
 use Rattle.avro_binary.specs.declared.error.ReadError.{ReadError}
+
+-- a count by its sign and its magnitude
+abbrev pub signed_count : Bool → ℕ → ℤ
+signed_count true n = neg_ℤ (pos n)
+signed_count false n = pos n
 
 -- a head, where so many nodes are left, or the 0 that ends the blocks
 abbrev pub IsHeadOrEnd : ℕ → Option Head → List ℕ → Type 0

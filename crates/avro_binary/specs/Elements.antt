@@ -5,7 +5,7 @@ use Rattle.std.specs.Option.{IfSome}
 use Rattle.std.specs.List.{list_any}
 use Rattle.std.specs.Str.{is_utf8}
 use Rattle.avro_zigzag.specs.Number.{SpellsNumber}
-use Rattle.avro_schema.specs.Fits.{is_int, is_long, is_text}
+use Rattle.avro_schema.specs.Fits.{is_int, is_long}
 use Rattle.avro_binary.specs.Encoding.{SpellsBytes}
 use Rattle.avro_binary.specs.Fault.{ReadFault, behind}
 use Rattle.avro_binary.specs.Breaks.{KeyBreaks}

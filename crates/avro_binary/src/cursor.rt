@@ -1,24 +1,22 @@
-ghost use Rattle.std.specs.Prelude.{◌≡◌, ◌≢◌, ◌⊎◌, ◌+◌, ◌-◌, ◌^◌, ◌≤◌, ◌<◌, List, ℕ, Bool, length, take, drop, pos, negsuc, neg_ℤ, nat_abs, Some, IfSome, IfNone, IfOk, OnOk, OnErr, false, true};
+ghost use Rattle.std.specs.Prelude.{◌≡◌, ◌⊎◌, ◌+◌, ◌-◌, ◌^◌, ◌≤◌, ◌<◌, List, ℕ, Bool, length, take, drop, pos, negsuc, neg_ℤ, Some, IfSome, IfNone, IfOk, OnOk, OnErr, false, true};
 ghost use Rattle.std.specs.Result.{IfErr};
 ghost use Rattle.std.specs.Str.{is_utf8};
 ghost use Rattle.avro_zigzag.specs.Number.{SpellsNumber};
-ghost use Rattle.avro_binary.specs.BlockHeads.{HeadBreaks, IsBlock, ReadsHead, EndsBlock};
+ghost use Rattle.avro_binary.specs.BlockHeads.{HeadBreaks, IsBlock, ReadsHead, EndsBlock, signed_count};
 ghost use Rattle.avro_binary.specs.Breaks.{Head, head_bytes, StartsWithLong, ContentBreaks, BytesBreaks, StringBreaks, BooleanBreaks, IntBreaks, LongBreaks, FixedBreaks, IndexBreaks, is_index, number_fault};
 ghost use Rattle.avro_binary.specs.CursorValue.{Passes, Enters};
 ghost use Rattle.avro_binary.specs.Elements.{ReadsElement, ReadsKey, Refuses, ContentStands, IsBoolean, IsInt, IsLong, IsBytes, IsString, IsFixed, IsIndex};
-ghost use Rattle.avro_binary.specs.Fault.{behind};
+ghost use Rattle.avro_binary.specs.Fault.{behind, limit_exceeded};
 ghost use Rattle.avro_binary.specs.KeySet.{key_set};
 ghost use Rattle.avro_binary.specs.Seen.{read_fault};
-
-use std::marker::Model;
-
-use avro_schema::Limits;
-use avro_zigzag::{VarError, read_int, read_long};
-use simdutf8::basic::from_utf8;
 
 use crate::block::{Block, BlockSize};
 use crate::error::ReadError;
 use crate::keys::Keys;
+use avro_schema::Limits;
+use avro_zigzag::{VarError, read_int, read_long};
+use simdutf8::basic::from_utf8;
+use std::marker::Model;
 
 /// A place in bytes, and what is left of the limits there. Each call reads one element, and answers
 /// slices of the bytes.
@@ -100,7 +98,9 @@ impl<'a> Cursor<'a> {
         ensures { ReadsElement (λ b. b) IsBoolean BooleanBreaks self.old self.new result }
     {
         match self.rest().first() {
-            None => Err(ReadError::EndOfInput { place: self.place() }),
+            None => Err(ReadError::EndOfInput {
+                place: self.place(),
+            }),
             Some(0) => {
                 self.pass(1);
                 Ok(false)
@@ -109,7 +109,9 @@ impl<'a> Cursor<'a> {
                 self.pass(1);
                 Ok(true)
             }
-            Some(_) => Err(ReadError::InvalidBoolean { place: self.place() }),
+            Some(_) => Err(ReadError::InvalidBoolean {
+                place: self.place(),
+            }),
         }
     }
 
@@ -160,7 +162,9 @@ impl<'a> Cursor<'a> {
         }
         let size = size as usize;
         if size > self.rest().len() {
-            return Err(ReadError::EndOfInput { place: self.place() });
+            return Err(ReadError::EndOfInput {
+                place: self.place(),
+            });
         }
         Ok(self.pass(size))
     }
@@ -179,7 +183,9 @@ impl<'a> Cursor<'a> {
                     self.pass(len);
                     Ok(index)
                 }
-                None => Err(ReadError::UnknownIndex { place: self.place() }),
+                None => Err(ReadError::UnknownIndex {
+                    place: self.place(),
+                }),
             },
             Err(error) => Err(number_error(error, self.place())),
         }
@@ -195,7 +201,9 @@ impl<'a> Cursor<'a> {
         match read_long(self.rest()) {
             Ok((count, len)) => {
                 if count < 0 {
-                    return Err(ReadError::InvalidLength { place: self.place() });
+                    return Err(ReadError::InvalidLength {
+                        place: self.place(),
+                    });
                 }
                 if count > i64::from(self.blob) {
                     return Err(ReadError::LimitExceeded);
@@ -292,30 +300,37 @@ impl<'a> Cursor<'a> {
                     self.pass(len);
                     Ok(text)
                 }
-                Ok(false) => Err(ReadError::DuplicateKey { place: self.place() }),
+                Ok(false) => Err(ReadError::DuplicateKey {
+                    place: self.place(),
+                }),
                 Err(_) => Err(ReadError::OutOfMemory),
             },
             Err(error) => Err(error),
         }
     }
 
-    /// The count of a block at the front, after its tests, and how many bytes it takes.
-    fn block_count(&self) -> Result<(i64, usize), ReadError>
-        ensures inside { IfOk result (λ r. r.1 ≤ length self.now.bytes) }
-        ensures within { IfOk result (λ r. nat_abs r.0 ≤ self.now.nodes) }
-        ensures above_least { IfOk result (λ r. r.0 ≢ negsuc (2 ^ 63 - 1)) }
-        ensures stands { IfOk result (λ r. StartsWithLong r.0 self.now.bytes (take r.1 self.now.bytes) (drop r.1 self.now.bytes)) }
+    /// Whether the count of a block at the front is negative, its magnitude after its tests, and how
+    /// many bytes it takes.
+    fn block_count(&self) -> Result<(bool, u32, usize), ReadError>
+        ensures inside { IfOk result (λ r. r.2 ≤ length self.now.bytes) }
+        ensures within { IfOk result (λ r. r.1 ≤ self.now.nodes) }
+        ensures some { IfOk result (λ r. r.0 ≡ true → 0 < r.1) }
+        ensures small { IfOk result (λ r. r.1 < 2 ^ 63) }
+        ensures stands { IfOk result (λ r. StartsWithLong (signed_count r.0 r.1) self.now.bytes (take r.2 self.now.bytes) (drop r.2 self.now.bytes)) }
         ensures refused { IfErr result (Refuses (HeadBreaks self.now.nodes) self.now) }
     {
         match read_long(self.rest()) {
             Ok((count, len)) => {
                 if count == i64::MIN {
-                    return Err(ReadError::InvalidLength { place: self.place() });
+                    return Err(ReadError::InvalidLength {
+                        place: self.place(),
+                    });
                 }
-                if count.unsigned_abs() > u64::from(self.nodes) {
+                let magnitude = count.unsigned_abs();
+                if magnitude > u64::from(self.nodes) {
                     return Err(ReadError::LimitExceeded);
                 }
-                Ok((count, len))
+                Ok((count < 0, magnitude as u32, len))
             }
             Err(error) => Err(number_error(error, self.place())),
         }
@@ -353,19 +368,15 @@ impl<'a> Cursor<'a> {
         ensures { ReadsHead self.old self.new result }
     {
         match self.block_count() {
-            Ok((count, len)) => {
+            Ok((is_sized, count, len)) => {
+                if is_sized {
+                    return self.sized_block(count, len);
+                }
+                self.pass(len);
                 if count == 0 {
-                    self.pass(len);
                     return Ok(None);
                 }
-                if count > 0 {
-                    self.pass(len);
-                    return Ok(Some(Block {
-                        count: count as u32,
-                        size: None,
-                    }));
-                }
-                self.sized_block(count.unsigned_abs() as u32, len)
+                Ok(Some(Block { count, size: None }))
             }
             Err(error) => Err(error),
         }
@@ -376,6 +387,7 @@ impl<'a> Cursor<'a> {
         requires inside { len ≤ length self.old.bytes }
         requires some { 0 < count }
         requires within { count ≤ self.old.nodes }
+        requires small { count < 2 ^ 63 }
         requires spelled { SpellsNumber (neg_ℤ (pos count)) (take len self.old.bytes) }
         ensures { ReadsHead self.old self.new result }
     {
@@ -428,7 +440,7 @@ impl<'a> Cursor<'a> {
     pub fn enter(&mut self) -> Result<(), ReadError>
         ensures entered { OnOk result (Enters self.old self.new) }
         ensures shallow { self.old.depth ≤ 256 }
-        ensures refused { IfErr result (λ e. (e ≡ LimitExceeded) × ((self.old.depth ≡ 0) ⊎ (self.old.nodes ≡ 0))) }
+        ensures refused { IfErr result (λ e. (read_fault e ≡ Some limit_exceeded) × ((self.old.depth ≡ 0) ⊎ (self.old.nodes ≡ 0))) }
         ensures unchanged { OnErr result (self.new ≡ self.old) }
     {
         if self.depth == 0 || self.nodes == 0 {

@@ -1,4 +1,4 @@
-use Rattle.std.proofs.Common.{◌≡◌, ◌<◌, ◌≤◌, ℕ, ap, sym, ◌∙◌, arith, List, take, drop, length}
+use Rattle.std.proofs.Common.{◌≡◌, ◌<◌, ◌≤◌, ℕ, ap, ◌∙◌, arith, List, take, drop, length}
 use Rattle.avro_binary.proofs.CursorSteps.{content_cut, content_stands}
 use Rattle.avro_binary.proofs.cursor.Cursor.content.Goals as goal
 

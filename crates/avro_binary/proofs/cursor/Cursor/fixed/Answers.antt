@@ -1,4 +1,4 @@
-use Rattle.std.proofs.Common.{◌≡◌, ◌<◌, ◌≤◌, ap, inl, inr, refl, arith, length}
+use Rattle.std.proofs.Common.{◌<◌, ◌≤◌, ap, inl, inr, refl, arith, length}
 use Rattle.avro_binary.specs.Breaks.{FixedBreaks}
 use Rattle.avro_binary.specs.Elements.{IsFixed}
 use Rattle.avro_binary.specs.CursorValue.{CursorValue}

@@ -1,4 +1,4 @@
-use Rattle.std.proofs.Common.{rules, ◌≡◌, not, OnOk, OnErr, IfOk, ap, sym, ◌∙◌}
+use Rattle.std.proofs.Common.{not, ap, ◌∙◌}
 use Rattle.std.specs.FinSet as set
 use Rattle.avro_binary.specs.KeySet.{KeySet}
 use Rattle.avro_binary.proofs.KeySets.{key_set-updates, key_set-contains}
