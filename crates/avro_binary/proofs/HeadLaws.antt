@@ -7,7 +7,7 @@ use Rattle.avro_zigzag.specs.Number.{SpellsNumber}
 use Rattle.avro_zigzag.proofs.Spelling.{one_spelling_lem, is_long-zigzag}
 use Rattle.avro_schema.specs.Fits.{is_long}
 use Rattle.avro_binary.specs.Fault.{ReadFault, end_of_input, invalid_number, invalid_boolean, invalid_text, unknown_index, invalid_length, wrong_block_size, duplicate_key, limit_exceeded, behind}
-use Rattle.avro_binary.specs.Breaks.{LongBreaks, StartsWithLong, Head, counted, sized}
+use Rattle.avro_binary.specs.Breaks.{LongBreaks, StartsWithLong, Head, counted, sized, Left, BlocksBreak, count_breaks, least_count as least_number, too_many, size_breaks, negative_size}
 use Rattle.avro_binary.specs.Seen.{read_fault}
 use Rattle.avro_binary.specs.CursorValue.{CursorValue, Passes}
 use Rattle.avro_binary.specs.BlockHeads.{IsHeadOrEnd, HeadBreaks, count_fails, count_least, count_over, size_fails, size_negative, IsBlockOrEnd, ReadsHead}
@@ -259,3 +259,12 @@ behind-behind m n (invalid_length place) = ap invalid_length (omega arith)
 behind-behind m n (wrong_block_size place) = ap wrong_block_size (omega arith)
 behind-behind m n (duplicate_key place) = ap duplicate_key (omega arith)
 behind-behind m n limit_exceeded = refl
+
+-- the fault of a head is one of the blocks that it begins, whatever their items are
+pub blocks_break : (are_whole : Left → ℕ → List ℕ → Left → Type 0) (item_breaks : Left → List ℕ → ReadFault → Type 0) (left : Left) (bytes : List ℕ) (f : ReadFault)
+    → HeadBreaks left.nodes bytes f → BlocksBreak are_whole item_breaks left bytes f
+blocks_break are_whole item_breaks left bytes f (count_fails b) = count_breaks b
+blocks_break are_whole item_breaks left bytes f (count_least m r t) = least_number m r t
+blocks_break are_whole item_breaks left bytes f (count_over w m r t other over) = too_many w m r t other over
+blocks_break are_whole item_breaks left bytes f (size_fails n m t small few b) = size_breaks n m t small few b
+blocks_break are_whole item_breaks left bytes f (size_negative n k m size after more t small few split u) = negative_size n k m size after more t small few split u

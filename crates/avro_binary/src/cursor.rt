@@ -1,7 +1,8 @@
 ghost use Rattle.std.specs.Prelude.{◌≡◌, ◌⊎◌, ◌+◌, ◌-◌, ◌^◌, ◌≤◌, ◌<◌, List, ℕ, Bool, length, take, drop, pos, negsuc, neg_ℤ, Some, IfSome, IfNone, IfOk, OnOk, OnErr, false, true};
 ghost use Rattle.std.specs.Result.{IfErr};
 ghost use Rattle.std.specs.Str.{is_utf8};
-ghost use Rattle.avro_zigzag.specs.Number.{SpellsNumber};
+ghost use Rattle.avro_zigzag.specs.Number.{SpellsNumber, zigzag, is_int, is_long};
+ghost use Rattle.avro_zigzag.specs.NumberFault.{IntFails, LongFails};
 ghost use Rattle.avro_binary.specs.BlockHeads.{HeadBreaks, IsBlock, ReadsHead, EndsBlock, signed_count};
 ghost use Rattle.avro_binary.specs.Breaks.{Head, head_bytes, StartsWithLong, ContentBreaks, BytesBreaks, StringBreaks, BooleanBreaks, IntBreaks, LongBreaks, FixedBreaks, IndexBreaks, is_index, number_fault};
 ghost use Rattle.avro_binary.specs.CursorValue.{Passes, Enters};
@@ -123,7 +124,7 @@ impl<'a> Cursor<'a> {
     pub fn int(&mut self) -> Result<i32, ReadError>
         ensures { ReadsElement (λ v. v) IsInt IntBreaks self.old self.new result }
     {
-        match read_int(self.rest()) {
+        match front_int(self.rest()) {
             Ok((value, len)) => {
                 self.pass(len);
                 Ok(value)
@@ -140,7 +141,7 @@ impl<'a> Cursor<'a> {
     pub fn long(&mut self) -> Result<i64, ReadError>
         ensures { ReadsElement (λ v. v) IsLong LongBreaks self.old self.new result }
     {
-        match read_long(self.rest()) {
+        match front_long(self.rest()) {
             Ok((value, len)) => {
                 self.pass(len);
                 Ok(value)
@@ -177,7 +178,7 @@ impl<'a> Cursor<'a> {
     pub fn index(&mut self, choices: usize) -> Result<usize, ReadError>
         ensures { ReadsElement (λ n. n) (IsIndex choices) (IndexBreaks choices) self.old self.new result }
     {
-        match read_int(self.rest()) {
+        match front_int(self.rest()) {
             Ok((value, len)) => match place_of(value, choices) {
                 Some(index) => {
                     self.pass(len);
@@ -198,7 +199,7 @@ impl<'a> Cursor<'a> {
         ensures stands { IfOk result (λ r. StartsWithLong (pos r.0) self.now.bytes (take r.1 self.now.bytes) (drop r.1 self.now.bytes)) }
         ensures refused { (is_content : List ℕ → Bool) → IfErr result (Refuses (ContentBreaks is_content self.now.blob) self.now) }
     {
-        match read_long(self.rest()) {
+        match front_long(self.rest()) {
             Ok((count, len)) => {
                 if count < 0 {
                     return Err(ReadError::InvalidLength {
@@ -319,7 +320,7 @@ impl<'a> Cursor<'a> {
         ensures stands { IfOk result (λ r. StartsWithLong (signed_count r.0 r.1) self.now.bytes (take r.2 self.now.bytes) (drop r.2 self.now.bytes)) }
         ensures refused { IfErr result (Refuses (HeadBreaks self.now.nodes) self.now) }
     {
-        match read_long(self.rest()) {
+        match front_long(self.rest()) {
             Ok((count, len)) => {
                 if count == i64::MIN {
                     return Err(ReadError::InvalidLength {
@@ -344,7 +345,7 @@ impl<'a> Cursor<'a> {
         ensures refused { (n : ℕ) → SpellsNumber (negsuc n) (take len self.now.bytes) → n + 1 < 2 ^ 63 → n < self.now.nodes → IfErr result (Refuses (HeadBreaks self.now.nodes) self.now) }
     {
         let (_, behind) = self.rest().split_at(len);
-        match read_long(behind) {
+        match front_long(behind) {
             Ok((size, more)) => {
                 if size < 0 {
                     return Err(ReadError::InvalidLength {
@@ -480,4 +481,40 @@ fn place_of(value: i32, choices: usize) -> Option<usize>
     }
     let index = value as usize;
     if index < choices { Some(index) } else { None }
+}
+
+/// The number whose zig-zag number is one byte.
+#[inline(always)]
+fn small_number(byte: u8) -> i32
+    ensures { zigzag result ≡ byte }
+{
+    let half = i32::from(byte / 2);
+    if byte % 2 == 0 { half } else { -half - 1 }
+}
+
+/// The long at the front, and how many bytes it takes. Most numbers are one byte: that case is here,
+/// where a caller has it without a call.
+#[inline(always)]
+fn front_long(bytes: &[u8]) -> Result<(i64, usize), VarError>
+    ensures found { IfOk result (λ r. (r.1 ≤ length bytes.now) × SpellsNumber r.0 (take r.1 bytes.now)) }
+    ensures in_range { IfOk result (λ r. is_long r.0 ≡ true) }
+    ensures refused { IfErr result (λ e. LongFails bytes.now e) }
+{
+    if !bytes.is_empty() && bytes[0] < 128 {
+        return Ok((i64::from(small_number(bytes[0])), 1));
+    }
+    read_long(bytes)
+}
+
+/// The int at the front, and how many bytes it takes.
+#[inline(always)]
+fn front_int(bytes: &[u8]) -> Result<(i32, usize), VarError>
+    ensures found { IfOk result (λ r. (r.1 ≤ length bytes.now) × SpellsNumber r.0 (take r.1 bytes.now)) }
+    ensures in_range { IfOk result (λ r. is_int r.0 ≡ true) }
+    ensures refused { IfErr result (λ e. IntFails bytes.now e) }
+{
+    if !bytes.is_empty() && bytes[0] < 128 {
+        return Ok((small_number(bytes[0]), 1));
+    }
+    read_int(bytes)
 }
