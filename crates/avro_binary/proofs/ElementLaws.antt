@@ -1,15 +1,19 @@
 -- The elements of encodings: at most one stands at the front of bytes, it has no fault there, and there is one fault at most.
 use Rattle.std.proofs.Common.{◌≡◌, ℕ, ◌^◌, ◌<◌, ◌≤◌, ℤ, pos, negsuc, Bool, true, false, cond, List, [], ◌∷◌, ◌++◌, length, take, Ok, Err, Option, Some, None, refl, sym, ap, ◌∙◌, subst, arith, rules, tests, nat_lt, if◌then◌else◌, inl, inr, length-append, append_assoc}
+use Rattle.std.proofs.lemmas.Bool.{and_parts}
 use Rattle.std.proofs.lemmas.List.{append_cancel_left}
+use Rattle.std.specs.Str.{is_utf8}
 use Rattle.std.proofs.Math.Seq.{take-append_seam}
 use Rattle.avro_zigzag.proofs.Spelling.{one_spelling_lem}
 use Rattle.avro_zigzag.proofs.Faults.{long-excludes_fault, int-excludes_fault, one_fault as one_number_fault}
-use Rattle.avro_schema.specs.Fits.{is_long}
+use Rattle.avro_schema.specs.Fits.{is_long, is_count, is_text}
+use Rattle.avro_schema.proofs.FitsParts.{is_count-below}
+use Rattle.avro_binary.specs.Encoding.{SpellsBytes}
 use Rattle.avro_binary.specs.Fault.{ReadFault, end_of_input, invalid_text, invalid_length, limit_exceeded, behind}
 use Rattle.avro_binary.specs.Breaks.{number_fault, IntBreaks, LongBreaks, BooleanBreaks, FixedBreaks, StartsWithLong, ContentBreaks, length_breaks, negative, too_long, cut, invalid, is_index, IndexBreaks, number_breaks, unknown}
 use Rattle.avro_binary.specs.Seen.{read_fault}
 use Rattle.avro_binary.specs.CursorValue.{CursorValue, Passes}
-use Rattle.avro_binary.specs.Elements.{IsBoolean, IsInt, IsLong, IsContent, IsFixed, IsIndex, ReadsElement}
+use Rattle.avro_binary.specs.Elements.{IsBoolean, IsInt, IsLong, IsContent, IsFixed, IsIndex, IsBytes, IsString, ReadsElement}
 use Rattle.avro_binary.specs.declared.error.ReadError.{ReadError}
 
 pub record IsPart {A : Type 0} (IsElement : A → List ℕ → Type 0) (ElementBreaks : List ℕ → ReadFault → Type 0) : Type 0 where
@@ -242,3 +246,18 @@ index_part choices = record {
   excludes = index-excludes choices;
   one_fault = index-one_fault choices;
 }
+
+-- bytes and texts of data that fit, behind their lengths, are elements, and the way back
+pub bytes_is : (blob : ℕ) (content bytes : List ℕ) → SpellsBytes content bytes → is_count (length content) ≡ true → length content ≤ blob → IsBytes blob content bytes
+bytes_is blob content bytes spelled counted within = record { right = refl; countable = is_count-below (length content) counted; within = within; spelled = spelled }
+
+pub string_is : (blob : ℕ) (content bytes : List ℕ) → SpellsBytes content bytes → is_text content ≡ true → length content ≤ blob → IsString blob content bytes
+string_is blob content bytes spelled text within =
+    let parts = and_parts (is_count (length content)) (is_utf8 content) text in
+    record { right = parts.1; countable = is_count-below (length content) parts.0; within = within; spelled = spelled }
+
+pub is_count-from_below : (n : ℕ) → n < 2 ^ 63 → is_count n ≡ true
+is_count-from_below n h = search (rules, tests)
+
+pub is_text-from_string : (blob : ℕ) (content bytes : List ℕ) → IsString blob content bytes → is_text content ≡ true
+is_text-from_string blob content bytes p = rw (is_count-from_below (length content) p.countable, p.right) refl

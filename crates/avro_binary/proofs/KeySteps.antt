@@ -1,30 +1,30 @@
 -- What reading a key answers.
-use Rattle.std.proofs.Common.{◌≡◌, ℕ, ◌≤◌, true, false, List, ◌++◌, length, take, Ok, Err, Some, refl, sym, ap, ◌∙◌, subst, rules, tests, bytes_eq, length-append}
+use Rattle.std.proofs.Common.{◌≡◌, ℕ, ◌≤◌, true, false, List, ◌++◌, length, take, Result, Ok, Err, Some, refl, sym, ap, ◌∙◌, subst, rules, tests, bytes_eq, length-append}
 use Rattle.std.proofs.Math.Seq.{take-append_seam}
-use Rattle.std.proofs.lemmas.Bool.{and_parts, false≢true}
+use Rattle.std.proofs.lemmas.Bool.{false≢true}
 use Rattle.std.specs.List.{list_any}
 use Rattle.std.specs.Str.{is_utf8}
 use Rattle.std.specs.FinSet as set
-use Rattle.avro_schema.specs.Fits.{is_text, is_count}
-use Rattle.avro_schema.proofs.FitsParts.{is_count-below}
+use Rattle.avro_schema.specs.Fits.{is_text}
 use Rattle.avro_binary.specs.Encoding.{SpellsBytes}
 use Rattle.avro_binary.specs.Fault.{ReadFault, duplicate_key, behind}
 use Rattle.avro_binary.specs.Breaks.{StringBreaks, KeyBreaks, string_breaks, twice}
-use Rattle.avro_binary.specs.Seen.{read_fault}
+use Rattle.avro_binary.specs.Seen.{read_fault, UnlessOutOfMemory}
 use Rattle.avro_binary.specs.CursorValue.{CursorValue, Passes}
 use Rattle.avro_binary.specs.KeySet.{KeySet, key_set}
 use Rattle.avro_binary.specs.Elements.{IsString, IsKey, ReadsKey, ContentStands}
 use Rattle.avro_binary.specs.declared.error.ReadError.{ReadError}
-use Rattle.avro_binary.proofs.Exact.{unless_reported}
 use Rattle.avro_binary.proofs.KeySets.{contains-key_set, key_set-push, key_set-again}
-use Rattle.avro_binary.proofs.ElementLaws.{IsPart, content_part}
+use Rattle.avro_binary.proofs.ElementLaws.{string_is, is_text-from_string, IsPart, content_part}
 use Rattle.avro_binary.proofs.CursorSteps.{content_is, from_front}
 
--- a text behind its length
-string_is : (blob : ℕ) (key front : List ℕ) → SpellsBytes key front → is_text key ≡ true → length key ≤ blob → IsString blob key front
-string_is blob key front spelled text within =
-    let parts = and_parts (is_count (length key)) (is_utf8 key) text in
-    record { right = parts.1; countable = is_count-below (length key) parts.0; within = within; spelled = spelled }
+abbrev as_error : {A : Type 0} → ReadError → Result A ReadError
+as_error e = Err e
+
+-- an error that reports a fault is not want of memory
+unless_reported : (A : Type 0) (error : ReadError) (f : ReadFault) (P : Type 0) → read_fault error ≡ Some f → P → UnlessOutOfMemory (as_error {A = A} error) P
+unless_reported A ReadError.OutOfMemory f P h p = tt
+unless_reported A _ f P h p = p
 
 module _ (keys : List (List ℕ)) (blob : ℕ) where
   strings : IsPart (IsString blob) (StringBreaks blob)
@@ -94,12 +94,9 @@ module _ {R : Type 0} (seen : R → List ℕ) (keys : List (List ℕ)) (before a
   key_twice key len place stands valid old added at same =
       let is = content_is is_utf8 before.blob before.bytes key len stands valid in
       key_refused (ReadError.DuplicateKey place) (duplicate_key 0)
-      (twice key (take len before.bytes) stands.rest is.spelled (text_is is) stands.within (split_is is) (sym (has key) ∙ old))
+      (twice key (take len before.bytes) stands.rest is.spelled (is_text-from_string before.blob key (take len before.bytes) is) stands.within (split_is is) (sym (has key) ∙ old))
       (from_front duplicate_key before.place place at) same (added ∙ key_set-again set_before key old)
     where
-      text_is : IsString before.blob key (take len before.bytes) → is_text key ≡ true
-      text_is p = let c = p.countable in let counted : is_count (length key) ≡ true = search (rules, tests) in rw (counted, p.right) refl
-
       split_is : (p : IsString before.blob key (take len before.bytes)) → before.bytes ≡ take len before.bytes ++ stands.rest
       split_is p =
           let size : len ≡ length (stands.number ++ key) = stands.both ∙ sym (length-append stands.number key) in

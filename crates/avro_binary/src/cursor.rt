@@ -142,9 +142,9 @@ impl<'a> Cursor<'a> {
         ensures { ReadsElement (λ v. v) IsLong LongBreaks self.old self.new result }
     {
         match front_long(self.rest()) {
-            Ok((value, len)) => {
+            Ok((number, len)) => {
                 self.pass(len);
-                Ok(value)
+                Ok(number)
             }
             Err(error) => Err(number_error(error, self.place())),
         }

@@ -6,8 +6,8 @@ use Rattle.avro_binary.proofs.cursor.Cursor.long.Goals as goal
 pub returns-in-Ok : goal.returns-in-Ok
 returns-in-Ok c =
     let read = c.in-Ok.ensures in
-    let fits : FitsSigned w64 c.in-Ok.value = search rules in
-    long_found c.args.self.now c.pass.new.self c.rest.result.now c.in-Ok.value _ c.in-Ok.len c.rest.ensures (to_z-of_z w64 c.in-Ok.value fits)
+    let fits : FitsSigned w64 c.in-Ok.number = search rules in
+    long_found c.args.self.now c.pass.new.self c.rest.result.now c.in-Ok.number _ c.in-Ok.len c.rest.ensures (to_z-of_z w64 c.in-Ok.number fits)
     read.found.1 read.in_range c.pass.ensures.passed
 
 pub returns-in-Err : goal.returns-in-Err
