@@ -208,9 +208,9 @@ module _ (writer reader : List Node) (dead : List ℕ) (pairs : List Pair) (dead
         (and_right (fits writer (node_at writer p) v) (fields_fit writer ps vs) h))
 
 -- a closed set shows that each datum of the writer's is one of the reader's
-pub closed_compatible : (writer reader : List Node) (dead : List ℕ) (pairs : List Pair) → is_schema writer ≡ true → is_schema reader ≡ true
+pub closed_compatible : (writer reader : List Node) (dead : List ℕ) (pairs : List Pair) → is_schema reader ≡ true
     → is_closed writer reader dead pairs ≡ true → AreCompatible writer reader
-closed_compatible writer reader dead pairs writer_formed formed h v fault errs =
+closed_compatible writer reader dead pairs formed h v fault errs =
     subst Succeeds errs.faulty (resolves writer reader dead pairs dead_set closed formed v 0 0 root_stands errs.fitting)
   where
     front : (is_dead writer dead && stands dead pairs (record { w = 0; r = 0 })) ≡ true

@@ -8,5 +8,5 @@ ghost use Rattle.avro_judge.specs.Closed.{Pair, is_closed};
 
 /// Two sets that are closed show that no datum of the writer's schema has a fault.
 pub fn closed_is_compatible()
-    ensures { (writer reader : List Node) (dead : List ℕ) (pairs : List Pair) → is_schema writer ≡ true → is_schema reader ≡ true → is_closed writer reader dead pairs ≡ true → AreCompatible writer reader }
+    ensures { (writer reader : List Node) (dead : List ℕ) (pairs : List Pair) → is_schema reader ≡ true → is_closed writer reader dead pairs ≡ true → AreCompatible writer reader }
 {}

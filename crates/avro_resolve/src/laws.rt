@@ -16,6 +16,6 @@ pub fn match_is_the_test()
 
 /// What a writer's datum resolves to is a datum of the reader's schema.
 pub fn resolved_fits()
-    ensures { (writer reader : List Node) (v u : Value) → is_schema writer ≡ true → is_schema reader ≡ true
+    ensures { (writer reader : List Node) (v u : Value) → is_schema reader ≡ true
         → fits writer (root_of writer) v ≡ true → resolve_root writer reader v ≡ Ok u → fits reader (root_of reader) u ≡ true }
 {}
