@@ -74,18 +74,33 @@ impl<'a> Failure<'a> {
 }
 
 impl<'a> From<Memory> for Failure<'a> {
+    ghost use Rattle.std.specs.Prelude.{◌≡◌};
+    ghost use Rattle.avro_tool.specs.declared.failure.Failure.TheVariants.{OutOfMemory};
+
+    ghost from_gives = { λ _ failure. failure ≡ OutOfMemory };
+
     fn from(_e: Memory) -> Failure<'a> {
         Failure::OutOfMemory
     }
 }
 
 impl<'a> From<AllocError> for Failure<'a> {
+    ghost use Rattle.std.specs.Prelude.{◌≡◌};
+    ghost use Rattle.avro_tool.specs.declared.failure.Failure.TheVariants.{OutOfMemory};
+
+    ghost from_gives = { λ _ failure. failure ≡ OutOfMemory };
+
     fn from(_e: AllocError) -> Failure<'a> {
         Failure::OutOfMemory
     }
 }
 
 impl<'a> From<clap::Error> for Failure<'a> {
+    ghost use Rattle.std.specs.Prelude.{◌≡◌, ◌⊎◌};
+    ghost use Rattle.avro_tool.specs.declared.failure.Failure.TheVariants.{OutOfMemory, Usage};
+
+    ghost from_gives = { λ e failure. (failure ≡ OutOfMemory) ⊎ (failure ≡ Usage e) };
+
     fn from(e: clap::Error) -> Failure<'a> {
         if e.kind() == ErrorKind::OutOfMemory {
             Failure::OutOfMemory
