@@ -4,3 +4,4 @@ pub mod Fault
 pub mod Breaks
 pub mod Seen
 pub mod Reading
+pub mod Encoded

@@ -7,6 +7,8 @@ mod data;
 #[cfg(test)]
 mod drafts;
 #[cfg(test)]
+mod encoding;
+#[cfg(test)]
 mod judging;
 #[cfg(test)]
 mod names;

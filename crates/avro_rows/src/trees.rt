@@ -3,7 +3,7 @@ use std::alloc::{AllocError, Global};
 use std::test::Fail;
 
 /// A map of these keys, each with an int.
-fn map_of(alloc: Global, keys: &[&str]) -> Result<Datum, AllocError> {
+pub(crate) fn map_of(alloc: Global, keys: &[&str]) -> Result<Datum, AllocError> {
     let mut entries = Vec::new(alloc);
     for key in keys {
         entries.push((String::from_str(alloc, key)?, Datum::Int(1)))?;

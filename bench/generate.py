@@ -1,0 +1,67 @@
+"""Writes a file that holds one Avro datum in binary again and again, for the walkers to read.
+
+    generate.py records|strings FILE [MEGABYTES]
+
+The datum of `records` is an array of 250,000 records {a long, b int, c string}, that of `strings` an array of
+1,000,000 strings: 1,000,001 nodes. Items stand in blocks of 1,000, and each fourth block has its size. The same
+words write the same bytes.
+"""
+
+import random
+import sys
+
+ITEMS = {"records": 250_000, "strings": 1_000_000}
+BLOCK = 1_000
+LETTERS = "abcdefghijklmnopqrstuvwxyz0123456789 _-."
+WIDE = "éüß€漢字😀"
+
+
+def number(value):
+    """The bytes of an int or a long: zig-zag, and then groups of seven bits, the least first."""
+    rest = 2 * value if value >= 0 else -2 * value - 1
+    groups = bytearray()
+    while rest >= 128:
+        groups.append(128 + rest % 128)
+        rest //= 128
+    groups.append(rest)
+    return bytes(groups)
+
+
+def string(choose):
+    """A string of up to 24 characters, each eighth one with some that take several bytes."""
+    letters = choose.choices(LETTERS, k=choose.randrange(25))
+    if choose.randrange(8) == 0:
+        letters += choose.choices(WIDE, k=2)
+    text = "".join(letters).encode()
+    return number(len(text)) + text
+
+
+def record(choose):
+    """A record: longs of up to 48 bits on either side of 0, and small ints."""
+    long = choose.getrandbits(choose.randrange(1, 49)) * choose.choice((1, 1, 1, -1))
+    return number(long) + number(choose.randrange(-1_000, 1_000)) + string(choose)
+
+
+def array(choose, item, count):
+    """An array in blocks."""
+    parts = []
+    for block in range(count // BLOCK):
+        items = b"".join(item(choose) for _ in range(BLOCK))
+        if block % 4 == 3:
+            parts += (number(-BLOCK), number(len(items)), items)
+        else:
+            parts += (number(BLOCK), items)
+    parts.append(number(0))
+    return b"".join(parts)
+
+
+def main(kind, path, megabytes="100"):
+    choose = random.Random(1)
+    datum = array(choose, {"records": record, "strings": string}[kind], ITEMS[kind])
+    with open(path, "wb") as file:
+        for _ in range(int(megabytes) * 1_000_000 // len(datum) + 1):
+            file.write(datum)
+
+
+if __name__ == "__main__":
+    main(*sys.argv[1:])
