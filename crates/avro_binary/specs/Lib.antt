@@ -4,3 +4,7 @@ pub mod Fault
 pub mod Breaks
 pub mod Seen
 pub mod Reading
+pub mod KeySet
+pub mod CursorValue
+pub mod Elements
+pub mod BlockHeads

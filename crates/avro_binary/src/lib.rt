@@ -5,9 +5,15 @@
 //! its place.
 #![tactic(auto)]
 
+mod block;
+mod cursor;
 mod error;
+mod keys;
 pub mod laws;
 mod read;
 
+pub use block::Block;
+pub use cursor::Cursor;
 pub use error::ReadError;
+pub use keys::Keys;
 pub use read::decode;
