@@ -8,3 +8,4 @@ pub mod KeySet
 pub mod CursorValue
 pub mod Elements
 pub mod BlockHeads
+pub mod CursorReads

@@ -64,6 +64,14 @@ impl<'a> Cursor<'a> {
         self.len - self.rest.len()
     }
 
+    /// How many nodes are left of the limit.
+    pub fn nodes(&self) -> u32
+        ensures count { result ≡ self.now.nodes }
+        ensures in_range { self.now.nodes < 2 ^ 32 }
+    {
+        self.nodes
+    }
+
     /// The bytes that are left.
     fn rest(&self) -> &'a [u8]
         ensures { result.now ≡ self.now.bytes }
@@ -293,7 +301,8 @@ impl<'a> Cursor<'a> {
     ///
     /// As for a string, then `DuplicateKey`; `OutOfMemory`.
     pub fn key(&mut self, seen: &mut Keys<'a>) -> Result<&'a str, ReadError>
-        ensures { (keys : List (List ℕ)) → seen.old ≡ key_set keys → ReadsKey (λ text. text.now) keys self.old self.new seen.old seen.new result }
+        ensures depth { self.new.depth ≡ self.old.depth }
+        ensures read { (keys : List (List ℕ)) → seen.old ≡ key_set keys → ReadsKey (λ text. text.now) keys self.old self.new seen.old seen.new result }
     {
         match self.text() {
             Ok((text, len)) => match seen.add(text.as_bytes()) {

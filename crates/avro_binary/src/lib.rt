@@ -11,9 +11,11 @@ mod error;
 mod keys;
 pub mod laws;
 mod read;
+mod walking;
 
 pub use block::Block;
 pub use cursor::Cursor;
 pub use error::ReadError;
 pub use keys::Keys;
 pub use read::decode;
+pub use walking::walk;

@@ -20,7 +20,7 @@ fn texts(alloc: Global, words: &[&str]) -> Result<Vec<String>, AllocError> {
 }
 
 /// A field without aliases.
-fn field(
+pub(crate) fn field(
     alloc: Global,
     name: &str,
     node: u32,
@@ -35,7 +35,7 @@ fn field(
 }
 
 /// A record without aliases.
-fn record(alloc: Global, text: &str, fields: Vec<Field>) -> Result<Node, NameError> {
+pub(crate) fn record(alloc: Global, text: &str, fields: Vec<Field>) -> Result<Node, NameError> {
     Ok(Node::Record(RecordNode {
         name: name(alloc, text)?,
         aliases: Vec::new(alloc),
@@ -44,7 +44,7 @@ fn record(alloc: Global, text: &str, fields: Vec<Field>) -> Result<Node, NameErr
 }
 
 /// An enum E.
-fn enumeration(alloc: Global, symbols: &[&str], default: Option<u32>) -> Result<Node, Fail> {
+pub(crate) fn enumeration(alloc: Global, symbols: &[&str], default: Option<u32>) -> Result<Node, Fail> {
     Ok(Node::Enum(EnumNode {
         name: name(alloc, "E")?,
         aliases: Vec::new(alloc),
@@ -54,7 +54,7 @@ fn enumeration(alloc: Global, symbols: &[&str], default: Option<u32>) -> Result<
 }
 
 /// A fixed without aliases.
-fn fixed(alloc: Global, text: &str, size: u32) -> Result<Node, NameError> {
+pub(crate) fn fixed(alloc: Global, text: &str, size: u32) -> Result<Node, NameError> {
     Ok(Node::Fixed(FixedNode {
         name: name(alloc, text)?,
         aliases: Vec::new(alloc),
@@ -63,7 +63,7 @@ fn fixed(alloc: Global, text: &str, size: u32) -> Result<Node, NameError> {
 }
 
 /// A union of these nodes.
-fn union(alloc: Global, places: &[u32]) -> Result<Node, AllocError> {
+pub(crate) fn union(alloc: Global, places: &[u32]) -> Result<Node, AllocError> {
     let mut branches = Vec::new(alloc);
     for place in places {
         branches.push(NodeId(*place))?;
@@ -72,7 +72,7 @@ fn union(alloc: Global, places: &[u32]) -> Result<Node, AllocError> {
 }
 
 /// The schema of these nodes.
-fn finished(alloc: Global, nodes: Vec<Node>) -> Result<Schema, DraftError> {
+pub(crate) fn finished(alloc: Global, nodes: Vec<Node>) -> Result<Schema, DraftError> {
     let mut draft = Draft::new(alloc);
     for node in nodes {
         draft.add(node)?;

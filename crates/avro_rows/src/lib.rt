@@ -15,6 +15,8 @@ mod numbers;
 #[cfg(test)]
 mod program;
 #[cfg(test)]
+mod reading;
+#[cfg(test)]
 mod schemas;
 #[cfg(test)]
 mod trees;
