@@ -5,3 +5,8 @@ pub mod Fault
 pub mod Breaks
 pub mod Seen
 pub mod Reading
+pub mod KeySet
+pub mod CursorValue
+pub mod Elements
+pub mod BlockHeads
+pub mod CursorReads
