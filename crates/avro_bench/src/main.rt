@@ -3,16 +3,23 @@
 
 mod large;
 mod measure;
+mod walking;
 
 use anyhow::bail;
 use large::{Shape, draft_of};
 use measure::print_drafts;
 use std::env;
+use walking::print_walk;
 
 fn main(rt: HostRuntime) -> anyhow::Result<()> {
-    match env::args(&rt)?.nth(1) {
-        Some(word) => run(&rt, word.as_str()),
-        None => check(&rt),
+    let words: Vec<String> = env::args(&rt)?.skip(1).collect(rt.alloc())?;
+    match words.as_slice() {
+        [] => check(&rt),
+        [word] => run(&rt, word.as_str()),
+        [word, file, kind] if word.as_str() == "walk" => {
+            print_walk(&rt, file.as_str(), kind.as_str())
+        }
+        _ => usage(),
     }
 }
 
@@ -21,8 +28,13 @@ fn run(rt: &HostRuntime, word: &str) -> anyhow::Result<()> {
     match word {
         "check" => check(rt),
         "draft" => print_drafts(rt),
-        _ => bail!("avro_bench check | draft"),
+        _ => usage(),
     }
+}
+
+/// Says which words there are.
+fn usage() -> anyhow::Result<()> {
+    bail!("avro_bench check | draft | walk FILE records|strings")
 }
 
 /// Makes a small schema, and prints its number of nodes.

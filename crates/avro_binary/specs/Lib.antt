@@ -1,7 +1,12 @@
 pub mod Blocks
 pub mod Encoding
+pub mod Encoded
 pub mod Fault
 pub mod Breaks
 pub mod Seen
 pub mod Reading
-pub mod Encoded
+pub mod KeySet
+pub mod CursorValue
+pub mod Elements
+pub mod BlockHeads
+pub mod CursorReads

@@ -27,3 +27,18 @@ pub record ReadsExactly (nodes : List Node) (n : Node) (limits : LimitValues) (b
   -- a fault that is no limit leaves no front of the bytes that encodes any datum
   pub no_front : IfErr result (λ e. IfSome (read_fault e) (λ fault.
       fault ≢ limit_exceeded → (v : Value) (front rest : List ℕ) → Encodes nodes n v front → bytes ≡ front ++ rest → ⊥))
+
+-- Bytes are walked over exactly: the length of the encoding within limits that they begin with is answered, or their
+-- first fault.
+pub record WalksExactly (nodes : List Node) (n : Node) (limits : LimitValues) (bytes : List ℕ) (result : Result ℕ ReadError) : Type 0 where
+  -- an encoding of that length stands there
+  pub found : IfOk result (λ len. (v : Value) × (len ≤ length bytes) × Encodes nodes n v (take len bytes) × (is_within limits v ≡ true))
+  -- the length of what stands there is answered, whatever follows it
+  pub begins : (v : Value) (front rest : List ℕ) → Encodes nodes n v front → is_within limits v ≡ true → bytes ≡ front ++ rest
+      → UnlessOutOfMemory result (result ≡ Ok (length front))
+  -- what is refused has the fault that is reported, and what has a fault is refused
+  pub refused : IfErr result (λ e. IfSome (read_fault e) (Breaks nodes limits n bytes))
+  pub breaks : (fault : ReadFault) → Breaks nodes limits n bytes fault → UnlessOutOfMemory result (Reports result fault)
+  -- a fault that is no limit leaves no front of the bytes that encodes any datum
+  pub no_front : IfErr result (λ e. IfSome (read_fault e) (λ fault.
+      fault ≢ limit_exceeded → (v : Value) (front rest : List ℕ) → Encodes nodes n v front → bytes ≡ front ++ rest → ⊥))

@@ -5,13 +5,21 @@
 //! its place. [`encode`] appends the plain encoding of a datum.
 #![tactic(auto)]
 
+mod block;
+mod cursor;
 mod encode_error;
 mod error;
+mod keys;
 pub mod laws;
 mod read;
+mod walking;
 mod write;
 
+pub use block::Block;
+pub use cursor::Cursor;
 pub use encode_error::EncodeError;
 pub use error::ReadError;
+pub use keys::Keys;
 pub use read::decode;
+pub use walking::walk;
 pub use write::encode;

@@ -17,6 +17,8 @@ mod numbers;
 #[cfg(test)]
 mod program;
 #[cfg(test)]
+mod reading;
+#[cfg(test)]
 mod schemas;
 #[cfg(test)]
 mod trees;

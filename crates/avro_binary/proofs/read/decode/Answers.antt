@@ -1,30 +1,16 @@
-use Rattle.std.proofs.Common.{◌≡◌, sym, ap, ◌∙◌}
-use Rattle.avro_schema.specs.Node.{Node, node_at}
-use Rattle.avro_schema.specs.Seen.{node_of}
+use Rattle.std.proofs.lemmas.Result.{err_from_is_err_and}
 use Rattle.avro_schema.specs.SeenSchema.{schema_nodes}
-use Rattle.avro_binary.proofs.Exact.{null_read}
+use Rattle.avro_binary.specs.CursorReads.{StandsFor}
+use Rattle.avro_binary.proofs.ExactReads.{decode_exact, decode_fails}
 use Rattle.avro_binary.proofs.read.decode.Goals as goal
 
-pub returns-in-Null : goal.returns-in-Null
-returns-in-Null c =
-    let nodes = schema_nodes c.args.schema.now in
-    let is : node_at nodes c.args.node.0 ≡ Node.null = sym c.node.ensures ∙ ap node_of c.in-Null.is in
-    rw is (null_read nodes c.args.limits.now c.args.bytes.now c.depth-depth.ensures.in_range)
+pub returns : goal.returns
+returns c =
+    decode_exact (schema_nodes c.args.schema.now) c.len-count.ensures.formed c.args.node.0 c.args.limits.now c.args.bytes.now StandsFor c.new-cursor.result
+    c.read_place.new.cursor c.new-cursor.ensures c.in_ok-datum.datum c.in_ok-datum.datum c.place.result c.place.ensures (λ v is. is) c.in_ok-datum.ensures
 
-pub returns-in-Boolean : goal.returns-in-Boolean
-returns-in-Boolean c =
-    let nodes = schema_nodes c.args.schema.now in
-    let is : node_at nodes c.args.node.0 ≡ Node.boolean = sym c.node.ensures ∙ ap node_of c.in-Boolean.is in
-    rw is (c.decode_boolean.ensures nodes c.args.limits.now c.depth-depth.ensures.in_range)
-
-pub returns-in-Int : goal.returns-in-Int
-returns-in-Int c =
-    let nodes = schema_nodes c.args.schema.now in
-    let is : node_at nodes c.args.node.0 ≡ Node.int = sym c.node.ensures ∙ ap node_of c.in-Int.is in
-    rw is (c.decode_int.ensures nodes c.args.limits.now c.depth-depth.ensures.in_range)
-
-pub returns-in-Long : goal.returns-in-Long
-returns-in-Long c =
-    let nodes = schema_nodes c.args.schema.now in
-    let is : node_at nodes c.args.node.0 ≡ Node.long = sym c.node.ensures ∙ ap node_of c.in-Long.is in
-    rw is (c.decode_long.ensures nodes c.args.limits.now c.depth-depth.ensures.in_range)
+pub returns-in_err-datum : goal.returns-in_err-datum
+returns-in_err-datum c =
+    let p = err_from_is_err_and c.from_residual.result c.from_residual.ensures.1 in
+    rw (p.1, p.2) (decode_fails (schema_nodes c.args.schema.now) c.len-count.ensures.formed c.args.node.0 c.args.limits.now c.args.bytes.now StandsFor c.new-cursor.result
+    c.read_place.new.cursor c.new-cursor.ensures c.in_err-datum.field-0.0 c.in_err-datum.ensures)

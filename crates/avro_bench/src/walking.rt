@@ -1,0 +1,75 @@
+//! Walking files of data.
+
+use anyhow::{Context, bail, ensure};
+use avro_binary::walk;
+use avro_name::{FullName, Namespace};
+use avro_schema::{Draft, Field, Limits, Node, NodeId, RecordNode, Schema};
+use std::alloc::{AllocError, Global};
+use std::fs;
+
+/// Walks a file that holds data of a kind one after another, and prints how many there are.
+pub(crate) fn print_walk(rt: &HostRuntime, path: &str, kind: &str) -> anyhow::Result<()> {
+    let schema = schema_of(rt.alloc(), kind)?;
+    let bytes = fs::read(rt, path)?;
+    let data = count_data(rt.alloc(), &schema, &bytes)?;
+    println!(rt; "data {data} bytes {}", bytes.len())?;
+    Ok(())
+}
+
+/// How many data of a schema's root stand one after another in bytes.
+fn count_data(alloc: Global, schema: &Schema, bytes: &[u8]) -> anyhow::Result<usize> {
+    let limits = Limits::default();
+    let mut rest = bytes;
+    let mut data = 0;
+    while !rest.is_empty() {
+        let len = walk(alloc, schema, schema.root(), rest, &limits).context(format_args!(
+            "datum {data}"
+        ))?;
+        ensure!(len > 0, "datum {data} has no bytes");
+        let (_, others) = rest.split_at(len);
+        rest = others;
+        data += 1;
+    }
+    Ok(data)
+}
+
+/// The schema of the data of a kind: an array of records {a long, b int, c string}, or of strings.
+fn schema_of(alloc: Global, kind: &str) -> anyhow::Result<Schema> {
+    let mut draft = Draft::new(alloc);
+    draft.add(Node::Array(NodeId(1)))?;
+    match kind {
+        "records" => {
+            draft.add(record(alloc)?)?;
+            draft.add(Node::Long)?;
+            draft.add(Node::Int)?;
+        }
+        "strings" => {}
+        _ => bail!("avro_bench walk FILE records|strings"),
+    }
+    draft.add(Node::Str)?;
+    Ok(draft.finish()?)
+}
+
+/// The record, whose fields have the nodes behind it.
+fn record(alloc: Global) -> anyhow::Result<Node> {
+    let fields = vec![in alloc;
+        field(alloc, "a", 2)?,
+        field(alloc, "b", 3)?,
+        field(alloc, "c", 4)?,
+    ]?;
+    Ok(Node::Record(RecordNode {
+        name: FullName::read(alloc, "R", &Namespace::null(alloc))?,
+        aliases: Vec::new(alloc),
+        fields,
+    }))
+}
+
+/// A field without aliases and default.
+fn field(alloc: Global, name: &str, node: u32) -> Result<Field, AllocError> {
+    Ok(Field {
+        name: String::from_str(alloc, name)?,
+        aliases: Vec::new(alloc),
+        node: NodeId(node),
+        default: None,
+    })
+}

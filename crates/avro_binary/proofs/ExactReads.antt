@@ -1,0 +1,186 @@
+-- Bytes that were read through a cursor were read exactly.
+use Rattle.std.proofs.Common.{◌≡◌, ℕ, ◌+◌, ◌≤◌, true, ◌&&◌, List, ◌++◌, length, take, Result, Ok, Err, Option, Some, None, refl, sym, ap, ◌∙◌, subst, arith, rules, tests, length-append}
+use Rattle.std.specs.Prelude.{nat_le}
+use Rattle.std.specs.Option.{IfSome}
+use Rattle.std.proofs.Math.Seq.{take-append_seam}
+use Rattle.avro_schema.specs.Value.{Value, size, depth, longest_blob}
+use Rattle.avro_schema.specs.Node.{Node, node_at}
+use Rattle.avro_schema.specs.Fits.{LimitValues, is_within}
+use Rattle.avro_schema.specs.Seen.{value_of}
+use Rattle.avro_schema.specs.WellFormed.{is_schema}
+use Rattle.avro_schema.specs.declared.datum.Datum.{Datum}
+use Rattle.avro_binary.specs.Encoding.{Encodes}
+use Rattle.avro_binary.specs.Fault.{ReadFault, end_of_input, invalid_number, invalid_boolean, invalid_text, unknown_index, invalid_length, wrong_block_size, duplicate_key, limit_exceeded, behind}
+use Rattle.avro_binary.specs.Breaks.{Breaks, BreaksWithin}
+use Rattle.avro_binary.specs.Seen.{read_fault, UnlessOutOfMemory}
+use Rattle.avro_binary.specs.Reading.{ReadsExactly, WalksExactly}
+use Rattle.avro_binary.specs.CursorValue.{CursorValue}
+use Rattle.avro_binary.specs.CursorReads.{FindsValue, ReportsFault, ReadsNode}
+use Rattle.avro_binary.specs.declared.error.ReadError.{ReadError}
+use Rattle.avro_binary.proofs.Exact.{as_error, unless_reported}
+use Rattle.avro_binary.proofs.Front.{one_front}
+use Rattle.avro_binary.proofs.NoFront.{no_front_of_fault, no_front_within}
+use Rattle.avro_binary.proofs.OneFaults.{one_fault_lem}
+
+-- a cursor at the front of bytes
+abbrev pub front_of : List ℕ → LimitValues → CursorValue
+front_of bytes limits = record { bytes = bytes; place = 0; depth = limits.depth; nodes = limits.nodes; blob = limits.blob }
+
+within-from : (limits : LimitValues) (v : Value) → depth v ≤ limits.depth → size v ≤ limits.nodes → longest_blob v ≤ limits.blob → is_within limits v ≡ true
+within-from limits v d n b =
+    let deep : nat_le (depth v) limits.depth ≡ true = search (rules, tests) in
+    let many : nat_le (size v) limits.nodes ≡ true = search (rules, tests) in
+    let long : nat_le (longest_blob v) limits.blob ≡ true = search (rules, tests) in
+    rw (deep, many, long) refl
+
+behind-front : (f : ReadFault) → behind 0 f ≡ f
+behind-front (end_of_input place) = ap end_of_input (omega arith)
+behind-front (invalid_number place) = ap invalid_number (omega arith)
+behind-front (invalid_boolean place) = ap invalid_boolean (omega arith)
+behind-front (invalid_text place) = ap invalid_text (omega arith)
+behind-front (unknown_index place) = ap unknown_index (omega arith)
+behind-front (invalid_length place) = ap invalid_length (omega arith)
+behind-front (wrong_block_size place) = ap wrong_block_size (omega arith)
+behind-front (duplicate_key place) = ap duplicate_key (omega arith)
+behind-front limit_exceeded = refl
+
+abbrev as_length : ℕ → Result ℕ ReadError
+as_length n = Ok n
+
+module _ (nodes : List Node) (formed : is_schema nodes ≡ true) (place : ℕ) (limits : LimitValues) (bytes : List ℕ) where
+  -- the front that was passed
+  pub record FrontIs (v : Value) (len : ℕ) : Type 0 where
+    pub front : List ℕ
+    pub rest : List ℕ
+    pub split : bytes ≡ front ++ rest
+    pub length_is : len ≡ length front
+    pub encoded : Encodes nodes (node_at nodes place) v front
+    pub within : is_within limits v ≡ true
+
+  pub front_is : (v : Value) (after : CursorValue) → FindsValue nodes (node_at nodes place) (front_of bytes limits) after v → FrontIs v after.place
+  front_is v after found = record {
+    front = found.front;
+    rest = after.bytes;
+    split = found.moves.split;
+    length_is = let p = found.moves.place in omega arith;
+    encoded = found.encoded;
+    within = within-from limits v found.deep (let m = found.many in omega arith) found.long;
+  }
+
+  front-taken : (v : Value) (len : ℕ) (is : FrontIs v len) → take len bytes ≡ is.front
+  front-taken v len is = (λ i. take (is.length_is i) (is.split i)) ∙ take-append_seam is.front is.rest
+
+  front-inside : (v : Value) (len : ℕ) → FrontIs v len → len ≤ length bytes
+  front-inside v len is = let l = is.length_is in omega (arith, ap length is.split, length-append is.front is.rest)
+
+  -- no other datum stands there
+  front-only : (v : Value) (len : ℕ) (is : FrontIs v len) (w : Value) (front rest : List ℕ) → Encodes nodes (node_at nodes place) w front → bytes ≡ front ++ rest
+      → (is.front ≡ front) × (v ≡ w)
+  front-only v len is w front rest encoded split =
+      one_front nodes (node_at nodes place) v w is.front front is.rest rest is.encoded encoded (sym is.split ∙ split)
+
+  front-whole : (v : Value) (len : ℕ) → FrontIs v len → (f : ReadFault) → Breaks nodes limits (node_at nodes place) bytes f → ⊥
+  front-whole v len is f b = no_front_within nodes limits place bytes f v is.front is.rest formed b is.encoded is.within is.split
+
+  pub walked : (v : Value) (len : ℕ) → FrontIs v len → WalksExactly nodes (node_at nodes place) limits bytes (Ok len)
+  walked v len is = record {
+    found = (v, front-inside v len is, subst (Encodes nodes (node_at nodes place) v) (sym (front-taken v len is)) is.encoded, is.within);
+    begins = λ w front rest encoded within split.
+        let same = front-only v len is w front rest encoded split in
+        ap as_length (is.length_is ∙ ap (λ (q : List ℕ). length q) same.0);
+    refused = tt;
+    breaks = λ f b. front-whole v len is f b;
+    no_front = tt;
+  }
+
+  pub decoded : (datum : Datum) (v : Value) (len : ℕ) → FrontIs v len → value_of datum ≡ v → ReadsExactly nodes (node_at nodes place) limits bytes (Ok (datum, len))
+  decoded datum v len is seen = record {
+    found = (
+      front-inside v len is,
+      subst (λ (w : Value). Encodes nodes (node_at nodes place) w (take len bytes)) (sym seen) (subst (Encodes nodes (node_at nodes place) v) (sym (front-taken v len is)) is.encoded),
+      subst (λ (w : Value). is_within limits w ≡ true) (sym seen) is.within,
+    );
+    begins = λ w front rest encoded within split.
+        let same = front-only v len is w front rest encoded split in
+        (seen ∙ same.1, is.length_is ∙ ap (λ (q : List ℕ). length q) same.0);
+    refused = tt;
+    breaks = λ f b. front-whole v len is f b;
+    no_front = tt;
+  }
+
+  -- what an error tells of the bytes
+  abbrev pub Told : Option ReadFault → Type 0
+  Told fault = IfSome fault (λ g. (f : ReadFault) × Breaks nodes limits (node_at nodes place) bytes f × (g ≡ behind 0 f))
+
+  abbrev FaultIs : Option ReadFault → Type 0
+  FaultIs fault = IfSome fault (Breaks nodes limits (node_at nodes place) bytes)
+
+  told-breaks : (fault : Option ReadFault) → Told fault → FaultIs fault
+  told-breaks None t = tt
+  told-breaks (Some g) t = subst (Breaks nodes limits (node_at nodes place) bytes) (sym (t.2 ∙ behind-front t.0)) t.1
+
+  told-none : (fault : Option ReadFault) → Told fault
+      → IfSome fault (λ f. (f ≡ limit_exceeded → ⊥) → (v : Value) (front rest : List ℕ) → Encodes nodes (node_at nodes place) v front → bytes ≡ front ++ rest → ⊥)
+  told-none None t = tt
+  told-none (Some g) t = λ no_limit v front rest encoded split. no_front_of_fault nodes limits place bytes g v front rest formed (told-breaks (Some g) t) no_limit encoded split
+
+  -- an error that tells nothing is want of memory
+  silent : (A : Type 0) (P : Type 0) (e : ReadError) → read_fault e ≡ None → UnlessOutOfMemory (as_error {A = A} e) P
+  silent A P ReadError.OutOfMemory h = tt
+  silent A P _ h = absurd cc
+
+  reported : (A : Type 0) (e : ReadError) (fault : Option ReadFault) → read_fault e ≡ fault → Told fault → (f : ReadFault) → Breaks nodes limits (node_at nodes place) bytes f
+      → UnlessOutOfMemory (as_error {A = A} e) (read_fault e ≡ Some f)
+  reported A e None is t f b = silent A (read_fault e ≡ Some f) e is
+  reported A e (Some g) is t f b =
+      unless_reported A e g (read_fault e ≡ Some f) is
+      (is ∙ ap (λ (h : ReadFault). Some h) (one_fault_lem nodes limits place bytes g f formed (told-breaks (Some g) t) b))
+
+  stays_out : (A : Type 0) (P : Type 0) (e : ReadError) (fault : Option ReadFault) → read_fault e ≡ fault → Told fault → (v : Value) (front rest : List ℕ)
+      → Encodes nodes (node_at nodes place) v front → is_within limits v ≡ true → bytes ≡ front ++ rest → UnlessOutOfMemory (as_error {A = A} e) P
+  stays_out A P e None is t v front rest encoded within split = silent A P e is
+  stays_out A P e (Some g) is t v front rest encoded within split =
+      absurd (no_front_within nodes limits place bytes g v front rest formed (told-breaks (Some g) t) encoded within split)
+
+  pub walk_refused : (e : ReadError) → Told (read_fault e) → WalksExactly nodes (node_at nodes place) limits bytes (Err e)
+  walk_refused e t = record {
+    found = tt;
+    begins = λ v front rest encoded within split. stays_out ℕ (as_error {A = ℕ} e ≡ Ok (length front)) e (read_fault e) refl t v front rest encoded within split;
+    refused = told-breaks (read_fault e) t;
+    breaks = λ f b. reported ℕ e (read_fault e) refl t f b;
+    no_front = told-none (read_fault e) t;
+  }
+
+  pub decode_refused : (e : ReadError) → Told (read_fault e) → ReadsExactly nodes (node_at nodes place) limits bytes (Err e)
+  decode_refused e t = record {
+    found = tt;
+    begins = λ v front rest encoded within split. stays_out (Datum × ℕ) ⊥ e (read_fault e) refl t v front rest encoded within split;
+    refused = told-breaks (read_fault e) t;
+    breaks = λ f b. reported (Datum × ℕ) e (read_fault e) refl t f b;
+    no_front = told-none (read_fault e) t;
+  }
+
+  -- ---- From the cursor's call
+
+  module _ {R : Type 0} (stands : R → Value → Type 0) (before after : CursorValue) (at_front : before ≡ front_of bytes limits) where
+    moved_front : (result : Result R ReadError) → ReadsNode stands nodes (node_at nodes place) before after result
+        → ReadsNode stands nodes (node_at nodes place) (front_of bytes limits) after result
+    moved_front result reads = subst (λ (b : CursorValue). ReadsNode stands nodes (node_at nodes place) b after result) at_front reads
+
+    pub walk_exact : (r : R) (len : ℕ) → len ≡ after.place → ReadsNode stands nodes (node_at nodes place) before after (Ok r)
+        → WalksExactly nodes (node_at nodes place) limits bytes (Ok len)
+    walk_exact r len is reads =
+        let found = (moved_front (Ok r) reads).found in
+        walked found.0 len (subst (λ (n : ℕ). FrontIs found.0 n) (sym is) (front_is found.0 after found.1))
+
+    pub walk_fails : (e : ReadError) → ReadsNode stands nodes (node_at nodes place) before after (Err e) → WalksExactly nodes (node_at nodes place) limits bytes (Err e)
+    walk_fails e reads = walk_refused e (moved_front (Err e) reads).refused
+
+    pub decode_exact : (datum : Datum) (r : R) (len : ℕ) → len ≡ after.place → ((v : Value) → stands r v → value_of datum ≡ v)
+        → ReadsNode stands nodes (node_at nodes place) before after (Ok r) → ReadsExactly nodes (node_at nodes place) limits bytes (Ok (datum, len))
+    decode_exact datum r len is seen reads =
+        let found = (moved_front (Ok r) reads).found in
+        decoded datum found.0 len (subst (λ (n : ℕ). FrontIs found.0 n) (sym is) (front_is found.0 after found.1)) (seen found.0 found.2)
+
+    pub decode_fails : (e : ReadError) → ReadsNode stands nodes (node_at nodes place) before after (Err e) → ReadsExactly nodes (node_at nodes place) limits bytes (Err e)
+    decode_fails e reads = decode_refused e (moved_front (Err e) reads).refused

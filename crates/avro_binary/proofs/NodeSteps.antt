@@ -1,0 +1,507 @@
+-- What reading a datum of a node answers, from what reading its parts does.
+use Rattle.std.proofs.Common.{◌≡◌, ◌⊎◌, inl, inr, ℕ, zero, suc, ◌+◌, ◌-◌, ◌^◌, ◌<◌, ◌≤◌, ℤ, pos, Bool, true, ◌&&◌, List, [], ◌∷◌, ◌++◌, length, take, drop, get_or, Result, Ok, Err, Option, Some, None, refl, sym, ap, ◌∙◌, subst, append_assoc, append-nil, length-append, arith}
+use Rattle.std.specs.Prelude.{slice_get, bytes_eq, String}
+use Rattle.std.specs.List.{concat, list_all}
+use Rattle.std.proofs.lemmas.List.Folds.{concat-append}
+use Rattle.avro_name.specs.Name.{Name}
+use Rattle.avro_zigzag.specs.Number.{SpellsNumber}
+use Rattle.avro_schema.specs.Value.{Value, Values, Entries, size, depth, longest_blob, values_size, values_depth, values_longest_blob, values_count, entries_count, keys_of}
+use Rattle.avro_schema.specs.Node.{Node, FieldNode, node_at, field_places}
+use Rattle.avro_schema.specs.Fits.{fits, each_fits, entries_fit, fields_fit, is_count, is_text, LimitValues}
+use Rattle.avro_schema.specs.Seen.{values_from, entries_from, seen_fields, places_of, texts_of}
+use Rattle.avro_schema.specs.declared.schema.Field.{Field}
+use Rattle.avro_schema.specs.declared.schema.NodeId.{NodeId}
+use Rattle.std.specs.declared.alloc.Global.{Global}
+use Rattle.avro_schema.specs.Distinct.{are_distinct}
+use Rattle.avro_binary.specs.Blocks.{IsInBlocks, no_more}
+use Rattle.avro_binary.specs.Encoding.{Encodes, EachSpelled, Spells}
+use Rattle.avro_binary.specs.Fault.{ReadFault, limit_exceeded, behind}
+use Rattle.avro_binary.specs.Breaks.{BreaksWithin, NodeBreaks, BlocksBreak, ItemsAreWhole, EntriesAreWhole, BranchBreaks, FieldsBreak, IndexBreaks, Left, head_bytes, HasSize}
+use Rattle.avro_binary.specs.Seen.{read_fault}
+use Rattle.avro_binary.specs.CursorValue.{CursorValue, Passes, Enters}
+use Rattle.avro_binary.specs.Elements.{Refuses, Finds, IsIndex}
+use Rattle.avro_binary.specs.BlockHeads.{HeadBreaks, EndsBlock}
+use Rattle.avro_binary.specs.declared.block.Block.{Block}
+use Rattle.avro_binary.specs.CursorReads.{Moves, FindsValue, FindsRun, RunBreaks, ReportsFault, ReadsNode, outside, left_node, left_at, limits_at, ValuesRun, EntriesRun, value_breaks, entry_breaks, child_breaks}
+use Rattle.avro_binary.specs.declared.error.ReadError.{ReadError}
+use Rattle.avro_binary.proofs.ElementLaws.{is_count-from_below}
+use Rattle.avro_binary.proofs.RunLaws.{IsRun, values_run, entries_run, values_count-from, entries_count-from, values_size-append, values_depth-append, values_blob-append, EachSpelled-append, fields_fit-push}
+use Rattle.avro_binary.proofs.RunSteps.{moves-none, moves-passed, moves-join, moves-same, report_moved, report_same, breaks_within-same}
+use Rattle.avro_binary.proofs.BlockSteps.{BlocksDone, EndRead, HeadRead, some-head, as_error, blocks_none, blocks_push, head_refused, item_refused, size_refused}
+
+-- ---- Entering and leaving
+
+-- a cursor that entered a node was outside it
+entered-from : (before mid : CursorValue) → Enters before mid → outside mid ≡ before
+entered-from before mid e =
+    let deep : suc mid.depth ≡ before.depth = let d = e.depth in omega arith in
+    let many : suc mid.nodes ≡ before.nodes = let n = e.nodes in omega arith in
+    λ i. record { bytes = e.bytes i; place = e.place i; depth = deep i; nodes = many i; blob = e.blob i }
+
+left-from : (inside after : CursorValue) → after ≡ record inside { depth = inside.depth + 1 } → left_node inside ≡ after
+left-from inside after is =
+    let deep : suc inside.depth ≡ inside.depth + 1 = omega arith in
+    (λ i. record inside { depth = deep i }) ∙ sym is
+
+module _ {R : Type 0} (stands : R → Value → Type 0) (nodes : List Node) (n : Node) where
+  pub node_left : (before mid inside after : CursorValue) (r : R) → Enters before mid → ReadsNode stands nodes n (outside mid) (left_node inside) (Ok r)
+      → after ≡ record inside { depth = inside.depth + 1 } → ReadsNode stands nodes n before after (Ok r)
+  node_left before mid inside after r e reads is =
+      subst (λ (a : CursorValue). ReadsNode stands nodes n before a (Ok r)) (left-from inside after is)
+      (subst (λ (b : CursorValue). ReadsNode stands nodes n b (left_node inside) (Ok r)) (entered-from before mid e) reads)
+
+  -- a refusal doesn't say where the cursor is
+  pub refused_anywhere : {S : Type 0} (others : S → Value → Type 0) (before after elsewhere : CursorValue) (error : ReadError)
+      → ReadsNode others nodes n before after (Err error) → ReadsNode stands nodes n before elsewhere (Err error)
+  refused_anywhere others before after elsewhere error reads = record { found = tt; refused = reads.refused }
+
+  pub node_refused : {S : Type 0} (others : S → Value → Type 0) (before mid inside after : CursorValue) (error : ReadError) → Enters before mid
+      → ReadsNode others nodes n (outside mid) (left_node inside) (Err error) → ReadsNode stands nodes n before after (Err error)
+  node_refused others before mid inside after error e reads =
+      subst (λ (b : CursorValue). ReadsNode stands nodes n b after (Err error)) (entered-from before mid e) (record { found = tt; refused = reads.refused })
+
+  limit-breaks : (depth_left nodes_left blob : ℕ) (bytes : List ℕ) → (depth_left ≡ 0) ⊎ (nodes_left ≡ 0) → BreaksWithin nodes depth_left nodes_left blob n bytes limit_exceeded
+  limit-breaks zero nodes_left blob bytes h = refl
+  limit-breaks (suc depth_left) zero blob bytes h = refl
+  limit-breaks (suc depth_left) (suc nodes_left) blob bytes (inl h) = absurd (omega arith)
+  limit-breaks (suc depth_left) (suc nodes_left) blob bytes (inr h) = absurd (omega arith)
+
+  pub enter_refused : (before after : CursorValue) (error : ReadError) → (read_fault error ≡ Some limit_exceeded) × ((before.depth ≡ 0) ⊎ (before.nodes ≡ 0))
+      → ReadsNode stands nodes n before after (Err error)
+  enter_refused before after error refused = record {
+    found = tt;
+    refused = rw (refused.0) (limit_exceeded, limit-breaks before.depth before.nodes before.blob before.bytes refused.1, refl);
+  }
+
+-- ---- Arrays and maps
+
+-- the blocks of an array so far
+abbrev pub ArrayDone : List Node → ℕ → CursorValue → CursorValue → List (List ℕ) → List Value → Type 0
+ArrayDone nodes place start now keys xs =
+    let n = node_at nodes place in
+    let limits = limits_at start in
+    BlocksDone (ValuesRun nodes limits n) (ItemsAreWhole nodes limits n) (value_breaks nodes limits n) start now keys xs
+
+-- the same of a map, with the keys so far
+abbrev pub MapDone : List Node → ℕ → CursorValue → CursorValue → List (List ℕ) → List (List ℕ × Value) → Type 0
+MapDone nodes place start now keys xs =
+    let n = node_at nodes place in
+    let limits = limits_at start in
+    BlocksDone (EntriesRun nodes limits n) (EntriesAreWhole nodes limits n) (entry_breaks nodes limits n) start now keys xs
+
+module _ {R : Type 0} (stands : R → Value → Type 0) (nodes : List Node) (place : ℕ) (start now after : CursorValue) (keys : List (List ℕ)) where
+  array-spelled : (xs : List Value) (done : ArrayDone nodes place start now keys xs) (end : List ℕ) → SpellsNumber (pos 0) end → IsInBlocks done.items (done.front ++ end)
+  array-spelled xs done end s = subst (λ (is : List (List ℕ)). IsInBlocks is (done.front ++ end)) (append-nil done.items) (done.ends [] end (no_more s))
+
+  pub array_found : (xs : List Value) (r : R) → ArrayDone nodes place start now keys xs → EndRead now after → start.nodes < 2 ^ 32 → stands r (Value.array (values_from xs))
+      → ReadsNode stands nodes (Node.array place) (outside start) (left_node after) (Ok r)
+  array_found xs r done end small s =
+      let n = node_at nodes place in
+      let limits = limits_at start in
+      let few = (values_run nodes limits n).few (left_at start []) (left_at now keys) xs done.items done.stand in
+      let counted : is_count (values_count (values_from xs)) ≡ true = ap is_count (values_count-from xs) ∙ is_count-from_below (length xs) (omega arith) in
+      let moved = moves-join start now after done.front end.front done.moves (moves-passed now after end.front end.passes) in
+      record {
+        found = (
+          Value.array (values_from xs),
+          record {
+            front = done.front ++ end.front;
+            encoded = record {
+              fitting = rw (counted, done.stand.fitting) refl;
+              spelled = (done.items, done.stand.spelled, array-spelled xs done end.front end.spelled);
+            };
+            deep = let d = done.stand.deep in omega arith;
+            many = let m = done.stand.many in let p = end.passes.nodes in omega arith;
+            long = done.stand.long;
+            moves = record { split = moved.split; place = moved.place; depth = ap suc moved.depth; blob = moved.blob };
+          },
+          s,
+        );
+        refused = tt;
+      }
+
+  map-spelled : (xs : List (List ℕ × Value)) (done : MapDone nodes place start now keys xs) (end : List ℕ) → SpellsNumber (pos 0) end → IsInBlocks done.items (done.front ++ end)
+  map-spelled xs done end s = subst (λ (is : List (List ℕ)). IsInBlocks is (done.front ++ end)) (append-nil done.items) (done.ends [] end (no_more s))
+
+  pub map_found : (xs : List (List ℕ × Value)) (r : R) → MapDone nodes place start now keys xs → EndRead now after → start.nodes < 2 ^ 32 → stands r (Value.map_of (entries_from xs))
+      → ReadsNode stands nodes (Node.map_of place) (outside start) (left_node after) (Ok r)
+  map_found xs r done end small s =
+      let n = node_at nodes place in
+      let limits = limits_at start in
+      let few = (entries_run nodes limits n).few (left_at start []) (left_at now keys) xs done.items done.stand in
+      let counted : is_count (entries_count (entries_from xs)) ≡ true = ap is_count (entries_count-from xs) ∙ is_count-from_below (length xs) (omega arith) in
+      let distinct : are_distinct bytes_eq (keys_of (entries_from xs)) ≡ true = ap (are_distinct bytes_eq) (sym done.stand.keys) ∙ done.stand.distinct in
+      let moved = moves-join start now after done.front end.front done.moves (moves-passed now after end.front end.passes) in
+      record {
+        found = (
+          Value.map_of (entries_from xs),
+          record {
+            front = done.front ++ end.front;
+            encoded = record {
+              fitting = rw (counted, done.stand.texts, distinct, done.stand.fitting) refl;
+              spelled = (done.items, done.stand.spelled, map-spelled xs done end.front end.spelled);
+            };
+            deep = let d = done.stand.deep in omega arith;
+            many = let m = done.stand.many in let p = end.passes.nodes in omega arith;
+            long = done.stand.long;
+            moves = record { split = moved.split; place = moved.place; depth = ap suc moved.depth; blob = moved.blob };
+          },
+          s,
+        );
+        refused = tt;
+      }
+
+  -- the blocks break
+  pub array_refused : (e : ReadError)
+      → ReportsFault (BlocksBreak (ItemsAreWhole nodes (limits_at start) (node_at nodes place)) (value_breaks nodes (limits_at start) (node_at nodes place)) (left_at start [])) start e
+      → ReadsNode stands nodes (Node.array place) (outside start) (left_node after) (Err e)
+  array_refused e reported = record { found = tt; refused = reported }
+
+  pub map_refused : (e : ReadError)
+      → ReportsFault (BlocksBreak (EntriesAreWhole nodes (limits_at start) (node_at nodes place)) (entry_breaks nodes (limits_at start) (node_at nodes place)) (left_at start [])) start e
+      → ReadsNode stands nodes (Node.map_of place) (outside start) (left_node after) (Err e)
+  map_refused e reported = record { found = tt; refused = reported }
+
+module _ {R : Type 0} (stands : R → Value → Type 0) (nodes : List Node) (place : ℕ) (start : CursorValue) where
+  -- an array of which nothing was read
+  pub array_none : ArrayDone nodes place start start [] []
+  array_none =
+      let n = node_at nodes place in
+      let limits = limits_at start in
+      blocks_none (ValuesRun nodes limits n) (ItemsAreWhole nodes limits n) (λ left. Unit {0}) (values_run nodes limits n) (value_breaks nodes limits n) start tt
+
+  pub map_none : MapDone nodes place start start [] []
+  map_none =
+      let n = node_at nodes place in
+      let limits = limits_at start in
+      blocks_none (EntriesRun nodes limits n) (EntriesAreWhole nodes limits n) (λ left. are_distinct bytes_eq left.keys ≡ true) (entries_run nodes limits n) (entry_breaks nodes limits n) start refl
+
+  module _ (now : CursorValue) (xs : List Value) (done : ArrayDone nodes place start now [] xs) where
+    pub array_head_refused : (after : CursorValue) (e : ReadError) → Refuses (HeadBreaks now.nodes) now e → ReadsNode stands nodes (Node.array place) (outside start) (left_node after) (Err e)
+    array_head_refused after e refused =
+        let n = node_at nodes place in
+        let limits = limits_at start in
+        array_refused stands nodes place start now after [] e
+        (head_refused (ValuesRun nodes limits n) (ItemsAreWhole nodes limits n) (λ left. Unit {0}) (values_run nodes limits n) (value_breaks nodes limits n) start now [] xs done e refused)
+
+    module _ (mid : CursorValue) (block : Block) (head : HeadRead now mid block) where
+      -- the limits of the items are those of the array
+      pub depth_kept : start.depth ≡ mid.depth
+      depth_kept = sym (head.passes.depth ∙ done.moves.depth)
+
+      pub blob_kept : start.blob ≡ mid.blob
+      blob_kept = sym (head.passes.blob ∙ done.moves.blob)
+
+      pub array_item_refused : (after : CursorValue) (count : ℕ) (e : ReadError) → count ≡ block.count
+          → ReportsFault (RunBreaks (ValuesRun nodes (limits_at start) (node_at nodes place)) (value_breaks nodes (limits_at start) (node_at nodes place)) (left_at mid []) count) mid e
+          → ReadsNode stands nodes (Node.array place) (outside start) (left_node after) (Err e)
+      array_item_refused after count e same reported =
+          let n = node_at nodes place in
+          let limits = limits_at start in
+          array_refused stands nodes place start now after [] e
+          (item_refused (ValuesRun nodes limits n) (ItemsAreWhole nodes limits n) (λ left. Unit {0}) (values_run nodes limits n) (value_breaks nodes limits n) start now mid [] xs done block head e
+          (subst (λ (k : ℕ). ReportsFault (RunBreaks (ValuesRun nodes limits n) (value_breaks nodes limits n) (left_at mid []) k) mid e) same reported))
+
+      module _ (after : CursorValue) (then_keys : List (List ℕ)) (ys : List Value) (found : FindsRun (ValuesRun nodes (limits_at start) (node_at nodes place)) mid after [] then_keys ys) (counted : length ys ≡ block.count) where
+        pub array_place : after.place ≡ now.place + length (head_bytes head.head) + length (concat found.items)
+        array_place = let p = head.passes.place in let q = found.moves.place in omega arith
+
+        -- fewer nodes are left behind the block
+        pub array_smaller : after.nodes < now.nodes
+        array_smaller =
+            let few = (values_run nodes (limits_at start) (node_at nodes place)).few (left_at mid []) (left_at after then_keys) ys found.items found.stand in
+            let same = head.passes.nodes in
+            let some = some-head now.nodes head.head head.is_head in
+            let k = head.counted in
+            omega arith
+
+        pub array_size_refused : (A : Type 0) (e : ReadError) → EndsBlock now.place head.head (length (concat found.items)) (as_error A e)
+            → ReadsNode stands nodes (Node.array place) (outside start) (left_node after) (Err e)
+        array_size_refused A e ends =
+            let n = node_at nodes place in
+            let limits = limits_at start in
+            array_refused stands nodes place start now after [] e
+            (size_refused (ValuesRun nodes limits n) (ItemsAreWhole nodes limits n) (λ left. Unit {0}) (values_run nodes limits n) (value_breaks nodes limits n) start now mid [] xs done block head
+            after then_keys ys found counted A e ends)
+
+        pub array_push : HasSize head.head (length (concat found.items)) → ArrayDone nodes place start after [] (xs ++ ys)
+        array_push has =
+            let n = node_at nodes place in
+            let limits = limits_at start in
+            subst (λ (keys : List (List ℕ)). ArrayDone nodes place start after keys (xs ++ ys)) found.stand.keys
+            (blocks_push (ValuesRun nodes limits n) (ItemsAreWhole nodes limits n) (λ left. Unit {0}) (values_run nodes limits n) (value_breaks nodes limits n) start now mid [] xs done block head
+            after then_keys ys found counted has)
+
+  module _ (now : CursorValue) (keys : List (List ℕ)) (xs : List (List ℕ × Value)) (done : MapDone nodes place start now keys xs) where
+    pub map_head_refused : (after : CursorValue) (e : ReadError) → Refuses (HeadBreaks now.nodes) now e → ReadsNode stands nodes (Node.map_of place) (outside start) (left_node after) (Err e)
+    map_head_refused after e refused =
+        let n = node_at nodes place in
+        let limits = limits_at start in
+        map_refused stands nodes place start now after keys e
+        (head_refused (EntriesRun nodes limits n) (EntriesAreWhole nodes limits n) (λ left. are_distinct bytes_eq left.keys ≡ true) (entries_run nodes limits n) (entry_breaks nodes limits n)
+        start now keys xs done e refused)
+
+    pub map_distinct : are_distinct bytes_eq keys ≡ true
+    map_distinct = done.stand.distinct
+
+    module _ (mid : CursorValue) (block : Block) (head : HeadRead now mid block) where
+      pub map_depth_kept : start.depth ≡ mid.depth
+      map_depth_kept = sym (head.passes.depth ∙ done.moves.depth)
+
+      pub map_blob_kept : start.blob ≡ mid.blob
+      map_blob_kept = sym (head.passes.blob ∙ done.moves.blob)
+
+      pub map_item_refused : (after : CursorValue) (count : ℕ) (e : ReadError) → count ≡ block.count
+          → ReportsFault (RunBreaks (EntriesRun nodes (limits_at start) (node_at nodes place)) (entry_breaks nodes (limits_at start) (node_at nodes place)) (left_at mid keys) count) mid e
+          → ReadsNode stands nodes (Node.map_of place) (outside start) (left_node after) (Err e)
+      map_item_refused after count e same reported =
+          let n = node_at nodes place in
+          let limits = limits_at start in
+          map_refused stands nodes place start now after keys e
+          (item_refused (EntriesRun nodes limits n) (EntriesAreWhole nodes limits n) (λ left. are_distinct bytes_eq left.keys ≡ true) (entries_run nodes limits n) (entry_breaks nodes limits n)
+          start now mid keys xs done block head e
+          (subst (λ (k : ℕ). ReportsFault (RunBreaks (EntriesRun nodes limits n) (entry_breaks nodes limits n) (left_at mid keys) k) mid e) same reported))
+
+      module _ (after : CursorValue) (then_keys : List (List ℕ)) (ys : List (List ℕ × Value)) (found : FindsRun (EntriesRun nodes (limits_at start) (node_at nodes place)) mid after keys then_keys ys) (counted : length ys ≡ block.count) where
+        pub map_place : after.place ≡ now.place + length (head_bytes head.head) + length (concat found.items)
+        map_place = let p = head.passes.place in let q = found.moves.place in omega arith
+
+        pub map_smaller : after.nodes < now.nodes
+        map_smaller =
+            let few = (entries_run nodes (limits_at start) (node_at nodes place)).few (left_at mid keys) (left_at after then_keys) ys found.items found.stand in
+            let same = head.passes.nodes in
+            let some = some-head now.nodes head.head head.is_head in
+            let k = head.counted in
+            omega arith
+
+        pub map_size_refused : (A : Type 0) (e : ReadError) → EndsBlock now.place head.head (length (concat found.items)) (as_error A e)
+            → ReadsNode stands nodes (Node.map_of place) (outside start) (left_node after) (Err e)
+        map_size_refused A e ends =
+            let n = node_at nodes place in
+            let limits = limits_at start in
+            map_refused stands nodes place start now after keys e
+            (size_refused (EntriesRun nodes limits n) (EntriesAreWhole nodes limits n) (λ left. are_distinct bytes_eq left.keys ≡ true) (entries_run nodes limits n) (entry_breaks nodes limits n)
+            start now mid keys xs done block head after then_keys ys found counted A e ends)
+
+        pub map_push : HasSize head.head (length (concat found.items)) → MapDone nodes place start after then_keys (xs ++ ys)
+        map_push has =
+            let n = node_at nodes place in
+            let limits = limits_at start in
+            blocks_push (EntriesRun nodes limits n) (EntriesAreWhole nodes limits n) (λ left. are_distinct bytes_eq left.keys ≡ true) (entries_run nodes limits n) (entry_breaks nodes limits n)
+            start now mid keys xs done block head after then_keys ys found counted has
+
+-- ---- Unions
+
+-- a place in a list
+pub record IsAt (places : List ℕ) (k place : ℕ) : Type 0 where
+  pub before : List ℕ
+  pub after : List ℕ
+  pub places_are : places ≡ before ++ place ∷ after
+  pub length_is : length before ≡ k
+
+pub is_at : (places : List ℕ) (k place : ℕ) → slice_get places k ≡ Some place → IsAt places k place
+is_at [] k place h = absurd cc
+is_at (p ∷ places) zero place h = record { before = []; after = places; places_are = let same : p ≡ place = cc in ap (λ (q : ℕ). q ∷ places) same; length_is = refl }
+is_at (p ∷ places) (suc k) place h =
+    let rest = is_at places k place h in
+    record { before = p ∷ rest.before; after = rest.after; places_are = ap (λ (ps : List ℕ). p ∷ ps) rest.places_are; length_is = ap suc rest.length_is }
+
+module _ {R : Type 0} (stands : R → Value → Type 0) (nodes : List Node) (places : List ℕ) (start mid : CursorValue) where
+  -- no place of a branch
+  pub branch_unread : (after : CursorValue) (e : ReadError) → Refuses (IndexBreaks (length places)) start e
+      → ReadsNode stands nodes (Node.union places) (outside start) (left_node after) (Err e)
+  branch_unread after e refused = record { found = tt; refused = rw (refused.2) (refused.0, inl refused.1, refl) }
+
+  module _ (k place : ℕ) (at : slice_get places k ≡ Some place) (found : Finds (λ (x : ℕ). x) (IsIndex (length places)) start mid k) where
+    pub union_found : {S : Type 0} (gives : S → Value → Type 0) (after : CursorValue) (s : S) (r : R) → ReadsNode gives nodes (node_at nodes place) mid after (Ok s)
+        → ((v : Value) → gives s v → stands r (Value.union k v)) → ReadsNode stands nodes (Node.union places) (outside start) (left_node after) (Ok r)
+    union_found gives after s r reads step =
+        let v = reads.found.0 in
+        let value = reads.found.1 in
+        let passes = found.2 in
+        let moved = moves-join start mid after found.0 value.front (moves-passed start mid found.0 passes) value.moves in
+        record {
+          found = (
+            Value.union k v,
+            record {
+              front = found.0 ++ value.front;
+              encoded = record {
+                fitting = rw (at) (value.encoded.fitting);
+                spelled = (found.0, value.front, found.1.1.1, value.encoded.spelled, refl);
+              };
+              deep = let d = value.deep in let p = passes.depth in omega arith;
+              many = let m = value.many in let p = passes.nodes in omega arith;
+              long = let l = value.long in let p = passes.blob in omega arith;
+              moves = record { split = moved.split; place = moved.place; depth = ap suc moved.depth; blob = moved.blob };
+            },
+            step v reads.found.2,
+          );
+          refused = tt;
+        }
+
+    -- the branch breaks
+    pub branch_refused : {S : Type 0} (gives : S → Value → Type 0) (after elsewhere : CursorValue) (e : ReadError) → ReadsNode gives nodes (node_at nodes place) mid elsewhere (Err e)
+        → ReadsNode stands nodes (Node.union places) (outside start) (left_node after) (Err e)
+    branch_refused gives after elsewhere e reads =
+        let where_is = is_at places k place at in
+        let passes = found.2 in
+        record {
+          found = tt;
+          refused = report_moved start mid found.0 e (BreaksWithin nodes mid.depth mid.nodes mid.blob (node_at nodes place))
+              (NodeBreaks nodes (limits_at start) (child_breaks nodes (limits_at start)) (Node.union places)) (moves-passed start mid found.0 passes)
+              (λ f h. inr (record {
+              before = where_is.before;
+              branch = place;
+              after = where_is.after;
+              places_are = where_is.places_are;
+              number = found.0;
+              spelled = subst (λ (q : ℕ). SpellsNumber (pos q) found.0) (sym where_is.length_is) found.1.1.1;
+              breaks = record {
+                rest = mid.bytes;
+                fault = f;
+                split = passes.split;
+                breaks = subst (λ (left : ℕ). BreaksWithin nodes start.depth left start.blob (node_at nodes place) mid.bytes f) passes.nodes
+                    (breaks_within-same nodes mid.depth start.depth mid.nodes mid.blob start.blob (node_at nodes place) mid.bytes f passes.depth passes.blob h);
+                moved = refl;
+              };
+              })) reads.refused;
+        }
+
+    -- what reading the branch answers is the answer
+    pub union_read : (after : CursorValue) (result : Result R ReadError) (gives : R → Value → Type 0) → ((r : R) (v : Value) → gives r v → stands r (Value.union k v))
+        → ReadsNode gives nodes (node_at nodes place) mid after result → ReadsNode stands nodes (Node.union places) (outside start) (left_node after) result
+    union_read after (Ok r) gives step reads = union_found gives after r r reads (step r)
+    union_read after (Err e) gives step reads = branch_refused gives after after e reads
+
+-- ---- Records
+
+-- the place of a field, among those of all
+pub places_split : (fields : List Field) (i : ℕ) (d : Field) → i < length fields
+    → field_places (seen_fields fields) ≡ take i (field_places (seen_fields fields)) ++ (get_or fields i d).node.0 ∷ drop (suc i) (field_places (seen_fields fields))
+places_split [] i d h = absurd (omega arith)
+places_split (f ∷ fields) zero d h = refl
+places_split (f ∷ fields) (suc i) d h = ap (λ (ps : List ℕ). f.node.0 ∷ ps) (places_split fields i d (omega arith))
+
+pub places_next : (fields : List Field) (i : ℕ) (d : Field) → i < length fields
+    → take (suc i) (field_places (seen_fields fields)) ≡ take i (field_places (seen_fields fields)) ++ (get_or fields i d).node.0 ∷ []
+places_next [] i d h = absurd (omega arith)
+places_next (f ∷ fields) zero d h = refl
+places_next (f ∷ fields) (suc i) d h = ap (λ (ps : List ℕ). f.node.0 ∷ ps) (places_next fields i d (omega arith))
+
+pub places_all : (fields : List Field) (i : ℕ) → length fields ≤ i → take i (field_places (seen_fields fields)) ≡ field_places (seen_fields fields)
+places_all [] zero h = refl
+places_all [] (suc i) h = refl
+places_all (f ∷ fields) zero h = absurd (omega arith)
+places_all (f ∷ fields) (suc i) h = ap (λ (ps : List ℕ). f.node.0 ∷ ps) (places_all fields i (omega arith))
+
+-- the place of a branch
+pub branch_at : (branches : List NodeId) (k : ℕ) (d : NodeId) → k < length branches → slice_get (places_of branches) k ≡ Some (get_or branches k d).0
+branch_at [] k d h = absurd (omega arith)
+branch_at (b ∷ branches) zero d h = refl
+branch_at (b ∷ branches) (suc k) d h = branch_at branches k d (omega arith)
+
+pub places-length : (branches : List NodeId) → length (places_of branches) ≡ length branches
+places-length [] = refl
+places-length (b ∷ branches) = ap suc (places-length branches)
+
+pub texts-length : (texts : List (String Global)) → length (texts_of texts) ≡ length texts
+texts-length [] = refl
+texts-length (t ∷ texts) = ap suc (texts-length texts)
+
+-- a place past the nodes is that of null
+pub null_past : (nodes : List Node) (k : ℕ) → length nodes ≤ k → node_at nodes k ≡ Node.null
+null_past [] k h = refl
+null_past (n ∷ nodes) zero h = absurd (omega arith)
+null_past (n ∷ nodes) (suc k) h = null_past nodes k (omega arith)
+
+-- values of the fields at some places were read, one behind another
+pub record FieldsDone (nodes : List Node) (places : List ℕ) (start now : CursorValue) (vs : List Value) : Type 0 where
+  pub items : List (List ℕ)
+  pub fitting : fields_fit nodes places (values_from vs) ≡ true
+  pub spelled : EachSpelled (values_from vs) items
+  pub deep : values_depth (values_from vs) ≤ start.depth
+  pub many : start.nodes ≡ now.nodes + values_size (values_from vs)
+  pub long : values_longest_blob (values_from vs) ≤ start.blob
+  pub moves : Moves start (concat items) now
+
+pub fields_none : (nodes : List Node) (at : CursorValue) → FieldsDone nodes [] at at []
+fields_none nodes at = record {
+  items = [];
+  fitting = refl;
+  spelled = refl;
+  deep = omega arith;
+  many = omega arith;
+  long = omega arith;
+  moves = moves-none at;
+}
+
+module _ (nodes : List Node) (places : List ℕ) (start now : CursorValue) (vs : List Value) (done : FieldsDone nodes places start now vs) where
+  -- one more value
+  pub fields_push : (place : ℕ) (after : CursorValue) (v : Value) → FindsValue nodes (node_at nodes place) now after v
+      → FieldsDone nodes (places ++ place ∷ []) start after (vs ++ v ∷ [])
+  fields_push place after v value =
+      let d = done.moves.depth in
+      let b = done.moves.blob in record {
+        items = done.items ++ value.front ∷ [];
+        fitting = fields_fit-push nodes places vs place v done.fitting value.encoded.fitting;
+        spelled = EachSpelled-append vs (v ∷ []) done.items (value.front ∷ []) done.spelled (value.front, [], value.encoded.spelled, refl, refl);
+        deep = values_depth-append vs (v ∷ []) start.depth done.deep (let h = value.deep in omega arith);
+        many = let m = done.many in let k = value.many in omega (arith, values_size-append vs (v ∷ []));
+        long = values_blob-append vs (v ∷ []) start.blob done.long (let h = value.long in omega arith);
+        moves = moves-same start after (concat done.items ++ value.front) (concat (done.items ++ value.front ∷ []))
+            (sym (concat-append done.items (value.front ∷ []) ∙ ap (λ (q : List ℕ). concat done.items ++ q) (append-nil value.front)))
+            (moves-join start now after (concat done.items) value.front done.moves value.moves);
+      }
+
+  -- a field breaks
+  pub field_breaks : (all after_places : List ℕ) (place : ℕ) → all ≡ places ++ place ∷ after_places → (e : ReadError)
+      → ReportsFault (BreaksWithin nodes now.depth now.nodes now.blob (node_at nodes place)) now e
+      → ReportsFault (FieldsBreak nodes (limits_at start) (child_breaks nodes (limits_at start)) all) start e
+  field_breaks all after_places place are e reported =
+      let fewer : now.nodes ≡ start.nodes - values_size (values_from vs) = let m = done.many in omega arith in
+      report_moved start now (concat done.items) e (BreaksWithin nodes now.depth now.nodes now.blob (node_at nodes place))
+      (FieldsBreak nodes (limits_at start) (child_breaks nodes (limits_at start)) all) done.moves
+      (λ f h. record {
+      before = places;
+      field = place;
+      after = after_places;
+      places_are = are;
+      values = values_from vs;
+      items = done.items;
+      fitting = done.fitting;
+      spelled = done.spelled;
+      deep = done.deep;
+      many = let m = done.many in omega arith;
+      long = done.long;
+      breaks = record {
+        rest = now.bytes;
+        fault = f;
+        split = done.moves.split;
+        breaks = subst (λ (left : ℕ). BreaksWithin nodes start.depth left start.blob (node_at nodes place) now.bytes f) fewer
+            (breaks_within-same nodes now.depth start.depth now.nodes now.blob start.blob (node_at nodes place) now.bytes f done.moves.depth done.moves.blob h);
+        moved = refl;
+      };
+      }) reported
+
+module _ {R : Type 0} (stands : R → Value → Type 0) (nodes : List Node) (name : Name) (aliases : List Name) (fields : List FieldNode) (start now : CursorValue) where
+  pub record_found : (vs : List Value) (r : R) → FieldsDone nodes (field_places fields) start now vs → stands r (Value.record_of (values_from vs))
+      → ReadsNode stands nodes (Node.record_of name aliases fields) (outside start) (left_node now) (Ok r)
+  record_found vs r done s = record {
+    found = (
+      Value.record_of (values_from vs),
+      record {
+        front = concat done.items;
+        encoded = record { fitting = done.fitting; spelled = (done.items, done.spelled, refl) };
+        deep = let d = done.deep in omega arith;
+        many = let m = done.many in omega arith;
+        long = done.long;
+        moves = record { split = done.moves.split; place = done.moves.place; depth = ap suc done.moves.depth; blob = done.moves.blob };
+      },
+      s,
+    );
+    refused = tt;
+  }
+
+  pub record_refused : (e : ReadError) → ReportsFault (FieldsBreak nodes (limits_at start) (child_breaks nodes (limits_at start)) (field_places fields)) start e
+      → ReadsNode stands nodes (Node.record_of name aliases fields) (outside start) (left_node now) (Err e)
+  record_refused e reported = record { found = tt; refused = reported }

@@ -1,0 +1,26 @@
+use Rattle.std.proofs.Common.{◌<◌, ◌≤◌, ap, inl, inr, refl, arith, length}
+use Rattle.avro_binary.specs.Breaks.{FixedBreaks}
+use Rattle.avro_binary.specs.Elements.{IsFixed}
+use Rattle.avro_binary.specs.CursorValue.{CursorValue}
+use Rattle.avro_binary.specs.Fault.{limit_exceeded, end_of_input}
+use Rattle.avro_binary.specs.declared.error.ReadError.{ReadError}
+use Rattle.avro_binary.proofs.ElementLaws.{element_refused, fixed_part}
+use Rattle.avro_binary.proofs.CursorSteps.{from_front}
+use Rattle.avro_binary.proofs.cursor.Cursor.fixed.Goals as goal
+
+pub returns-then-size-self : goal.returns-then-size-self
+returns-then-size-self c =
+    let blob = ap (λ (v : CursorValue). v.blob) c.self.view_is in
+    let over : c.args.self.now.blob < c.args.size = omega arith in
+    element_refused (λ content. content.now) (IsFixed c.args.size c.args.self.now.blob) (FixedBreaks c.args.size c.args.self.now.blob)
+    (fixed_part c.args.size c.args.self.now.blob) c.args.self.now c.args.self.now ReadError.LimitExceeded limit_exceeded (inl (over, refl)) refl refl
+
+pub returns-then-size-rest : goal.returns-then-size-rest
+returns-then-size-rest c =
+    let blob = ap (λ (v : CursorValue). v.blob) c.self.view_is in
+    let rest = ap length c.rest.ensures in
+    let under : c.args.size ≤ c.args.self.now.blob = omega arith in
+    let short : length c.args.self.now.bytes < c.args.size = omega arith in
+    element_refused (λ content. content.now) (IsFixed c.args.size c.args.self.now.blob) (FixedBreaks c.args.size c.args.self.now.blob)
+    (fixed_part c.args.size c.args.self.now.blob) c.args.self.now c.args.self.now (ReadError.EndOfInput c.place.result) (end_of_input 0)
+    (inr (under, short, refl)) (from_front end_of_input c.args.self.now.place c.place.result c.place.ensures) refl

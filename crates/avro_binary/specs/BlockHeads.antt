@@ -1,0 +1,61 @@
+-- The heads of blocks, and what reading one answers (Avro 1.11, "Binary Encoding", "Complex Types").
+use Rattle.std.specs.Prelude.{◌≡◌, ◌≢◌, ℕ, suc, ◌+◌, ◌-◌, ◌^◌, ◌<◌, ℤ, pos, negsuc, neg_ℤ, nat_abs, Bool, true, false, List, ◌++◌, length, Option, Some, None, Result, IfOk, IsOk, IsOkAnd, OnErr}
+use Rattle.std.specs.Result.{IfErr, MatchResult}
+use Rattle.avro_zigzag.specs.Number.{SpellsNumber}
+use Rattle.avro_binary.specs.Fault.{ReadFault, invalid_length, wrong_block_size, limit_exceeded, behind}
+use Rattle.avro_binary.specs.Breaks.{LongBreaks, StartsWithLong, BreaksAfter, Head, counted, sized, head_bytes, IsHead}
+use Rattle.avro_binary.specs.Seen.{read_fault, Reports}
+use Rattle.avro_binary.specs.CursorValue.{CursorValue, Passes}
+use Rattle.avro_binary.specs.Elements.{Refuses}
+use Rattle.avro_binary.specs.declared.block.Block.{Block}
+use Rattle.avro_binary.specs.declared.error.ReadError.{ReadError}
+
+-- a count by its sign and its magnitude
+abbrev pub signed_count : Bool → ℕ → ℤ
+signed_count true n = neg_ℤ (pos n)
+signed_count false n = pos n
+
+-- a head, where so many nodes are left, or the 0 that ends the blocks
+abbrev pub IsHeadOrEnd : ℕ → Option Head → List ℕ → Type 0
+IsHeadOrEnd nodes (Some head) bytes = IsHead nodes head × (bytes ≡ head_bytes head)
+IsHeadOrEnd nodes None bytes = SpellsNumber (pos 0) bytes
+
+-- the fault of a head, where so many nodes are left: the first five of those of blocks
+pub data HeadBreaks (nodes : ℕ) (bytes : List ℕ) : ReadFault → Type 0 where
+  count_fails : {f : ReadFault} → LongBreaks bytes f → HeadBreaks nodes bytes f
+  count_least : (number rest : List ℕ) → StartsWithLong (negsuc (2 ^ 63 - 1)) bytes number rest → HeadBreaks nodes bytes (invalid_length 0)
+  count_over : (v : ℤ) (number rest : List ℕ) → StartsWithLong v bytes number rest → v ≢ negsuc (2 ^ 63 - 1) → nodes < nat_abs v
+      → HeadBreaks nodes bytes limit_exceeded
+  size_fails : {f : ReadFault} (n : ℕ) (number : List ℕ) → SpellsNumber (negsuc n) number → suc n < 2 ^ 63 → n < nodes
+      → BreaksAfter LongBreaks number bytes f → HeadBreaks nodes bytes f
+  size_negative : (n m : ℕ) (number size behind_count rest : List ℕ) → SpellsNumber (negsuc n) number → suc n < 2 ^ 63 → n < nodes
+      → bytes ≡ number ++ behind_count → StartsWithLong (negsuc m) behind_count size rest → HeadBreaks nodes bytes (invalid_length (length number))
+
+-- the block is of a head that stands at a place
+abbrev pub IsBlock : ℕ → Head → Block → Type 0
+IsBlock place (counted count count_bytes) block = (block.count ≡ count) × (block.size ≡ None)
+IsBlock place (sized count size count_bytes size_bytes) block =
+    (block.count ≡ count)
+    × (block.size ≡ Some (record { bytes = size; place = place + length count_bytes; items = place + length count_bytes + length size_bytes }))
+
+abbrev pub IsBlockOrEnd : ℕ → Option Head → Option Block → Type 0
+IsBlockOrEnd place (Some head) (Some block) = IsBlock place head block
+IsBlockOrEnd place (Some head) None = ⊥
+IsBlockOrEnd place None (Some block) = ⊥
+IsBlockOrEnd place None None = Unit {0}
+
+-- A call that reads a head or the end, as one that reads an element.
+pub record ReadsHead (before after : CursorValue) (result : Result (Option Block) ReadError) : Type 0 where
+  pub found : IfOk result (λ r. (head : Option Head) × (front : List ℕ) × IsHeadOrEnd before.nodes head front × Passes before front after × IsBlockOrEnd before.place head r)
+  pub stands : (head : Option Head) (front rest : List ℕ) → IsHeadOrEnd before.nodes head front → before.bytes ≡ front ++ rest
+      → IsOkAnd result (λ r. IsBlockOrEnd before.place head r) × Passes before front after
+  pub refused : IfErr result (Refuses (HeadBreaks before.nodes) before)
+  pub breaks : (f : ReadFault) → HeadBreaks before.nodes before.bytes f → Reports result (behind before.place f)
+  pub unchanged : OnErr result (after ≡ before)
+
+-- The end of a block whose head stands at a place and whose items are so many bytes: it is refused where its size is
+-- another.
+abbrev pub EndsBlock : {A : Type 0} → ℕ → Head → ℕ → Result A ReadError → Type 0
+EndsBlock place (counted count count_bytes) n result = IsOk result
+EndsBlock place (sized count size count_bytes size_bytes) n result =
+    MatchResult result (λ _. size ≡ n) (λ e. (size ≢ n) × (read_fault e ≡ Some (behind place (wrong_block_size (length count_bytes)))))

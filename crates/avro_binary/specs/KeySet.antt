@@ -1,0 +1,12 @@
+-- The keys of a map that were read so far, as a set of byte strings.
+use Rattle.std.specs.Prelude.{ℕ, List}
+use Rattle.std.specs.Ordering.{nat_cmp}
+use Rattle.std.specs.Cmp.Lexicographic.{slice_cmp}
+use Rattle.std.specs.FinSet as set
+
+abbrev pub KeySet : Type 0
+KeySet = set.FinSet (slice_cmp {A = ℕ} {B = ℕ} nat_cmp)
+
+-- the set of the keys of a list
+abbrev pub key_set : List (List ℕ) → KeySet
+key_set keys = set.from_list keys
