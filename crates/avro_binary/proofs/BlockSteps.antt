@@ -71,7 +71,7 @@ pub has_size : {A : Type 0} (x : A) (place : ℕ) (head : Head) (n : ℕ) → En
 has_size x place (counted count count_bytes) n ends = tt
 has_size x place (sized count size count_bytes size_bytes) n ends = ends
 
-behind-none : (f : ReadFault) → f ≡ behind 0 f
+pub behind-none : (f : ReadFault) → f ≡ behind 0 f
 behind-none (end_of_input place) = ap end_of_input (omega arith)
 behind-none (invalid_number place) = ap invalid_number (omega arith)
 behind-none (invalid_boolean place) = ap invalid_boolean (omega arith)

@@ -10,14 +10,15 @@ use Rattle.avro_schema.specs.Seen.{value_of}
 use Rattle.avro_schema.specs.WellFormed.{is_schema}
 use Rattle.avro_schema.specs.declared.datum.Datum.{Datum}
 use Rattle.avro_binary.specs.Encoding.{Encodes}
-use Rattle.avro_binary.specs.Fault.{ReadFault, end_of_input, invalid_number, invalid_boolean, invalid_text, unknown_index, invalid_length, wrong_block_size, duplicate_key, limit_exceeded, behind}
+use Rattle.avro_binary.specs.Fault.{ReadFault, limit_exceeded, behind}
 use Rattle.avro_binary.specs.Breaks.{Breaks, BreaksWithin}
 use Rattle.avro_binary.specs.Seen.{read_fault, UnlessOutOfMemory}
 use Rattle.avro_binary.specs.Reading.{ReadsExactly, WalksExactly}
 use Rattle.avro_binary.specs.CursorValue.{CursorValue}
 use Rattle.avro_binary.specs.CursorReads.{FindsValue, ReportsFault, ReadsNode}
 use Rattle.avro_binary.specs.declared.error.ReadError.{ReadError}
-use Rattle.avro_binary.proofs.Exact.{as_error, unless_reported}
+use Rattle.avro_binary.proofs.BlockSteps.{behind-none}
+use Rattle.avro_binary.proofs.KeySteps.{as_error, unless_reported}
 use Rattle.avro_binary.proofs.Front.{one_front}
 use Rattle.avro_binary.proofs.NoFront.{no_front_of_fault, no_front_within}
 use Rattle.avro_binary.proofs.OneFaults.{one_fault_lem}
@@ -32,17 +33,6 @@ within-from limits v d n b =
     let many : nat_le (size v) limits.nodes ≡ true = search (rules, tests) in
     let long : nat_le (longest_blob v) limits.blob ≡ true = search (rules, tests) in
     rw (deep, many, long) refl
-
-behind-front : (f : ReadFault) → behind 0 f ≡ f
-behind-front (end_of_input place) = ap end_of_input (omega arith)
-behind-front (invalid_number place) = ap invalid_number (omega arith)
-behind-front (invalid_boolean place) = ap invalid_boolean (omega arith)
-behind-front (invalid_text place) = ap invalid_text (omega arith)
-behind-front (unknown_index place) = ap unknown_index (omega arith)
-behind-front (invalid_length place) = ap invalid_length (omega arith)
-behind-front (wrong_block_size place) = ap wrong_block_size (omega arith)
-behind-front (duplicate_key place) = ap duplicate_key (omega arith)
-behind-front limit_exceeded = refl
 
 abbrev as_length : ℕ → Result ℕ ReadError
 as_length n = Ok n
@@ -117,7 +107,7 @@ module _ (nodes : List Node) (formed : is_schema nodes ≡ true) (place : ℕ) (
 
   told-breaks : (fault : Option ReadFault) → Told fault → FaultIs fault
   told-breaks None t = tt
-  told-breaks (Some g) t = subst (Breaks nodes limits (node_at nodes place) bytes) (sym (t.2 ∙ behind-front t.0)) t.1
+  told-breaks (Some g) t = subst (Breaks nodes limits (node_at nodes place) bytes) (sym (t.2 ∙ sym (behind-none t.0))) t.1
 
   told-none : (fault : Option ReadFault) → Told fault
       → IfSome fault (λ f. (f ≡ limit_exceeded → ⊥) → (v : Value) (front rest : List ℕ) → Encodes nodes (node_at nodes place) v front → bytes ≡ front ++ rest → ⊥)

@@ -6,7 +6,7 @@ use Rattle.std.proofs.Math.Seq.{take-add}
 use Rattle.avro_zigzag.specs.Number.{SpellsNumber}
 use Rattle.avro_zigzag.proofs.Spelling.{one_spelling_lem, is_long-zigzag}
 use Rattle.avro_schema.specs.Fits.{is_long}
-use Rattle.avro_binary.specs.Fault.{ReadFault, end_of_input, invalid_number, invalid_boolean, invalid_text, unknown_index, invalid_length, wrong_block_size, duplicate_key, limit_exceeded, behind}
+use Rattle.avro_binary.specs.Fault.{ReadFault, invalid_length, limit_exceeded, behind}
 use Rattle.avro_binary.specs.Breaks.{LongBreaks, StartsWithLong, Head, counted, sized, Left, BlocksBreak, count_breaks, least_count as least_number, too_many, size_breaks, negative_size}
 use Rattle.avro_binary.specs.Seen.{read_fault}
 use Rattle.avro_binary.specs.CursorValue.{CursorValue, Passes}
@@ -247,18 +247,6 @@ module _ (nodes : ℕ) (bytes : List ℕ) where
       → HeadBreaks nodes bytes (behind (length (take len bytes)) f)
   size_failed n len f s small few b =
       size_fails n (take len bytes) s small few (record { rest = drop len bytes; fault = f; split = sym (take-append-drop len bytes); breaks = b; moved = refl })
-
--- a fault behind a fault's place
-pub behind-behind : (m n : ℕ) (f : ReadFault) → behind m (behind n f) ≡ behind (m + n) f
-behind-behind m n (end_of_input place) = ap end_of_input (omega arith)
-behind-behind m n (invalid_number place) = ap invalid_number (omega arith)
-behind-behind m n (invalid_boolean place) = ap invalid_boolean (omega arith)
-behind-behind m n (invalid_text place) = ap invalid_text (omega arith)
-behind-behind m n (unknown_index place) = ap unknown_index (omega arith)
-behind-behind m n (invalid_length place) = ap invalid_length (omega arith)
-behind-behind m n (wrong_block_size place) = ap wrong_block_size (omega arith)
-behind-behind m n (duplicate_key place) = ap duplicate_key (omega arith)
-behind-behind m n limit_exceeded = refl
 
 -- the fault of a head is one of the blocks that it begins, whatever their items are
 pub blocks_break : (are_whole : Left → ℕ → List ℕ → Left → Type 0) (item_breaks : Left → List ℕ → ReadFault → Type 0) (left : Left) (bytes : List ℕ) (f : ReadFault)

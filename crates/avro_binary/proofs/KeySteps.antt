@@ -18,11 +18,11 @@ use Rattle.avro_binary.proofs.KeySets.{contains-key_set, key_set-push, key_set-a
 use Rattle.avro_binary.proofs.ElementLaws.{string_is, is_text-from_string, IsPart, content_part}
 use Rattle.avro_binary.proofs.CursorSteps.{content_is, from_front}
 
-abbrev as_error : {A : Type 0} → ReadError → Result A ReadError
+abbrev pub as_error : {A : Type 0} → ReadError → Result A ReadError
 as_error e = Err e
 
 -- an error that reports a fault is not want of memory
-unless_reported : (A : Type 0) (error : ReadError) (f : ReadFault) (P : Type 0) → read_fault error ≡ Some f → P → UnlessOutOfMemory (as_error {A = A} error) P
+pub unless_reported : (A : Type 0) (error : ReadError) (f : ReadFault) (P : Type 0) → read_fault error ≡ Some f → P → UnlessOutOfMemory (as_error {A = A} error) P
 unless_reported A ReadError.OutOfMemory f P h p = tt
 unless_reported A _ f P h p = p
 

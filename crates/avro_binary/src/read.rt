@@ -7,7 +7,7 @@ ghost use Rattle.avro_schema.specs.Node.{Node as SeenNode, node_at};
 ghost use Rattle.avro_schema.specs.Seen.{value_of, pair_of, places_of, seen_fields};
 ghost use Rattle.avro_schema.specs.SeenSchema.{schema_nodes};
 ghost use Rattle.avro_binary.specs.Breaks.{KeyBreaks};
-ghost use Rattle.avro_binary.specs.CursorReads.{StandsFor, ReportsFault, ReadsNode, ReadsRun, ValuesRun, EntriesRun, value_breaks, entry_breaks, outside, left_node};
+ghost use Rattle.avro_binary.specs.CursorReads.{IsSeenAs, ReportsFault, ReadsNode, ReadsRun, ValuesRun, EntriesRun, value_breaks, entry_breaks, outside, left_node};
 ghost use Rattle.avro_binary.specs.Elements.{Finds, IsKey};
 ghost use Rattle.avro_binary.specs.KeySet.{key_set};
 ghost use Rattle.avro_binary.specs.Reading.{ReadsExactly};
@@ -48,7 +48,7 @@ fn read_place(
     place: NodeId,
     cursor: &mut Cursor<'_>,
 ) -> Result<Datum, ReadError>
-    ensures { ReadsNode StandsFor (schema_nodes schema.now) (node_at (schema_nodes schema.now) place.0) cursor.old cursor.new result }
+    ensures { ReadsNode IsSeenAs (schema_nodes schema.now) (node_at (schema_nodes schema.now) place.0) cursor.old cursor.new result }
 {
     cursor.enter()?;
     let datum = read_node(alloc, schema, place, cursor)?;
@@ -64,7 +64,7 @@ fn read_node(
     place: NodeId,
     cursor: &mut Cursor<'_>,
 ) -> Result<Datum, ReadError>
-    ensures { ReadsNode StandsFor (schema_nodes schema.now) (node_at (schema_nodes schema.now) place.0) (outside cursor.old) (left_node cursor.new) result }
+    ensures { ReadsNode IsSeenAs (schema_nodes schema.now) (node_at (schema_nodes schema.now) place.0) (outside cursor.old) (left_node cursor.new) result }
 {
     if !schema.has(place) {
         return Ok(Datum::Null);
@@ -87,7 +87,7 @@ fn read_node(
 
 /// Reads a boolean.
 fn read_boolean(cursor: &mut Cursor<'_>) -> Result<Datum, ReadError>
-    ensures { (nodes : List SeenNode) → ReadsNode StandsFor nodes SeenNode.boolean (outside cursor.old) (left_node cursor.new) result }
+    ensures { (nodes : List SeenNode) → ReadsNode IsSeenAs nodes SeenNode.boolean (outside cursor.old) (left_node cursor.new) result }
 {
     match cursor.boolean() {
         Ok(value) => Ok(Datum::Bool(value)),
@@ -97,7 +97,7 @@ fn read_boolean(cursor: &mut Cursor<'_>) -> Result<Datum, ReadError>
 
 /// Reads an int.
 fn read_int(cursor: &mut Cursor<'_>) -> Result<Datum, ReadError>
-    ensures { (nodes : List SeenNode) → ReadsNode StandsFor nodes SeenNode.int (outside cursor.old) (left_node cursor.new) result }
+    ensures { (nodes : List SeenNode) → ReadsNode IsSeenAs nodes SeenNode.int (outside cursor.old) (left_node cursor.new) result }
 {
     match cursor.int() {
         Ok(value) => Ok(Datum::Int(value)),
@@ -107,7 +107,7 @@ fn read_int(cursor: &mut Cursor<'_>) -> Result<Datum, ReadError>
 
 /// Reads a long.
 fn read_long(cursor: &mut Cursor<'_>) -> Result<Datum, ReadError>
-    ensures { (nodes : List SeenNode) → ReadsNode StandsFor nodes SeenNode.long (outside cursor.old) (left_node cursor.new) result }
+    ensures { (nodes : List SeenNode) → ReadsNode IsSeenAs nodes SeenNode.long (outside cursor.old) (left_node cursor.new) result }
 {
     match cursor.long() {
         Ok(value) => Ok(Datum::Long(value)),
@@ -118,7 +118,7 @@ fn read_long(cursor: &mut Cursor<'_>) -> Result<Datum, ReadError>
 /// Reads bytes, which are copied once.
 #[inline(never)]
 fn read_bytes(alloc: Global, cursor: &mut Cursor<'_>) -> Result<Datum, ReadError>
-    ensures { (nodes : List SeenNode) → ReadsNode StandsFor nodes SeenNode.bytes (outside cursor.old) (left_node cursor.new) result }
+    ensures { (nodes : List SeenNode) → ReadsNode IsSeenAs nodes SeenNode.bytes (outside cursor.old) (left_node cursor.new) result }
 {
     match cursor.bytes() {
         Ok(content) => match copy_of(alloc, content) {
@@ -140,7 +140,7 @@ fn copy_of(alloc: Global, content: &[u8]) -> Result<Vec<u8>, AllocError>
 /// Reads a text, which is copied once.
 #[inline(never)]
 fn read_text(alloc: Global, cursor: &mut Cursor<'_>) -> Result<Datum, ReadError>
-    ensures { (nodes : List SeenNode) → ReadsNode StandsFor nodes SeenNode.string (outside cursor.old) (left_node cursor.new) result }
+    ensures { (nodes : List SeenNode) → ReadsNode IsSeenAs nodes SeenNode.string (outside cursor.old) (left_node cursor.new) result }
 {
     match cursor.string() {
         Ok(content) => match String::from_str(alloc, content) {
@@ -154,7 +154,7 @@ fn read_text(alloc: Global, cursor: &mut Cursor<'_>) -> Result<Datum, ReadError>
 /// Reads the place of a symbol, of so many.
 fn read_symbol(symbols: usize, cursor: &mut Cursor<'_>) -> Result<Datum, ReadError>
     ensures { (nodes : List SeenNode) (name : Name) (aliases : List Name) (texts : List (List ℕ)) (default : Option ℕ) → symbols ≡ length texts
-        → ReadsNode StandsFor nodes (SeenNode.enum name aliases texts default) (outside cursor.old) (left_node cursor.new) result }
+        → ReadsNode IsSeenAs nodes (SeenNode.enum name aliases texts default) (outside cursor.old) (left_node cursor.new) result }
 {
     match cursor.index(symbols) {
         Ok(symbol) => Ok(Datum::Enum(symbol as u32)),
@@ -165,7 +165,7 @@ fn read_symbol(symbols: usize, cursor: &mut Cursor<'_>) -> Result<Datum, ReadErr
 /// Reads a fixed of so many bytes, which are copied once.
 #[inline(never)]
 fn read_fixed(alloc: Global, size: u32, cursor: &mut Cursor<'_>) -> Result<Datum, ReadError>
-    ensures { (nodes : List SeenNode) (name : Name) (aliases : List Name) → ReadsNode StandsFor nodes (SeenNode.fixed name aliases size) (outside cursor.old) (left_node cursor.new) result }
+    ensures { (nodes : List SeenNode) (name : Name) (aliases : List Name) → ReadsNode IsSeenAs nodes (SeenNode.fixed name aliases size) (outside cursor.old) (left_node cursor.new) result }
 {
     match cursor.fixed(size) {
         Ok(content) => match copy_of(alloc, content) {
@@ -185,7 +185,7 @@ fn read_array(
     place: NodeId,
     cursor: &mut Cursor<'_>,
 ) -> Result<Datum, ReadError>
-    ensures { ReadsNode StandsFor (schema_nodes schema.now) (SeenNode.array place.0) (outside cursor.old) (left_node cursor.new) result }
+    ensures { ReadsNode IsSeenAs (schema_nodes schema.now) (SeenNode.array place.0) (outside cursor.old) (left_node cursor.new) result }
 {
     let _nodes = cursor.nodes();
     let mut items: Vec<Datum> = Vec::new(alloc);
@@ -228,7 +228,7 @@ fn read_map(
     place: NodeId,
     cursor: &mut Cursor<'_>,
 ) -> Result<Datum, ReadError>
-    ensures { ReadsNode StandsFor (schema_nodes schema.now) (SeenNode.map_of place.0) (outside cursor.old) (left_node cursor.new) result }
+    ensures { ReadsNode IsSeenAs (schema_nodes schema.now) (SeenNode.map_of place.0) (outside cursor.old) (left_node cursor.new) result }
 {
     let _nodes = cursor.nodes();
     let mut keys = Keys::new(alloc);
@@ -297,7 +297,7 @@ fn read_union(
     branches: &[NodeId],
     cursor: &mut Cursor<'_>,
 ) -> Result<Datum, ReadError>
-    ensures { ReadsNode StandsFor (schema_nodes schema.now) (SeenNode.union (places_of branches.now)) (outside cursor.old) (left_node cursor.new) result }
+    ensures { ReadsNode IsSeenAs (schema_nodes schema.now) (SeenNode.union (places_of branches.now)) (outside cursor.old) (left_node cursor.new) result }
 {
     let branch = cursor.index(branches.len())?;
     let value = read_place(alloc, schema, branches[branch], cursor)?;
@@ -316,7 +316,7 @@ fn read_record(
     fields: &[Field],
     cursor: &mut Cursor<'_>,
 ) -> Result<Datum, ReadError>
-    ensures { (name : Name) (aliases : List Name) → ReadsNode StandsFor (schema_nodes schema.now) (SeenNode.record_of name aliases (seen_fields fields.now)) (outside cursor.old) (left_node cursor.new) result }
+    ensures { (name : Name) (aliases : List Name) → ReadsNode IsSeenAs (schema_nodes schema.now) (SeenNode.record_of name aliases (seen_fields fields.now)) (outside cursor.old) (left_node cursor.new) result }
 {
     let mut values: Vec<Datum> = Vec::new(alloc);
     for field in fields {

@@ -16,7 +16,7 @@ use Rattle.avro_binary.specs.Breaks.{ItemsAreWhole, EntriesAreWhole, Head, head_
 use Rattle.avro_binary.specs.BlockHeads.{IsHeadOrEnd, IsBlockOrEnd}
 use Rattle.avro_binary.specs.CursorValue.{Passes}
 use Rattle.avro_binary.specs.Elements.{Finds, IsIndex}
-use Rattle.avro_binary.specs.CursorReads.{StandsFor, ReadsNode, ReadsRun, ValuesRun, EntriesRun, value_breaks, entry_breaks, limits_at, outside, left_node}
+use Rattle.avro_binary.specs.CursorReads.{IsSeenAs, ReadsNode, ReadsRun, ValuesRun, EntriesRun, value_breaks, entry_breaks, limits_at, outside, left_node}
 use Rattle.avro_binary.specs.declared.block.Block.{Block}
 use Rattle.avro_binary.proofs.BlockSteps.{HeadRead, head_read, EndRead, end_read, has_size}
 use Rattle.avro_schema.proofs.DatumViews.{value_of-Null, value_of-Map}
@@ -39,14 +39,14 @@ not-below k n false h f = elim (nat_lt k n) as (λ x. nat_lt k n ≡ x → n ≤
 
 pub read_array-loop-items-init : goal.read_array-loop-items-init
 read_array-loop-items-init t c =
-    let none = array_none StandsFor (schema_nodes c.args.schema.now) c.args.place.0 c.args.cursor.now in 
+    let none = array_none IsSeenAs (schema_nodes c.args.schema.now) c.args.place.0 c.args.cursor.now in 
     subst (λ (vs : List Value). ArrayDone (schema_nodes c.args.schema.now) c.args.place.0 c.args.cursor.now c.args.cursor.now [] vs) (sym (ap (map value_of) c.new-items.ensures.items)) none
 
 pub read_array-returns-in_err-block : goal.read_array-returns-in_err-block
 read_array-returns-in_err-block t c =
     let p = err_from_is_err_and c.from_residual.result c.from_residual.ensures.1 in
     let done = c.loop-items.invariant in
-    rw (p.1, p.2) (array_head_refused StandsFor (schema_nodes c.args.schema.now) c.args.place.0 c.args.cursor.now c.loop-items.cursor (map value_of c.loop-items.items.items) done c.block.new.self
+    rw (p.1, p.2) (array_head_refused IsSeenAs (schema_nodes c.args.schema.now) c.args.place.0 c.args.cursor.now c.loop-items.cursor (map value_of c.loop-items.items.items) done c.block.new.self
     c.in_err-block.field-0.0 c.in_err-block.ensures.refused)
 
 pub read_array-returns-in_err-read_items : goal.read_array-returns-in_err-read_items
@@ -59,11 +59,11 @@ read_array-returns-in_err-read_items t c =
     let mid = c.block.new.self in
     let block = c.in-Some.block in
     let head = head_read now mid block (rw c.in-Some.is at c.in_ok-block.ensures.found) in
-    let d = depth_kept StandsFor nodes place start now (map value_of c.loop-items.items.items) done mid block head in
-    let b = blob_kept StandsFor nodes place start now (map value_of c.loop-items.items.items) done mid block head in
+    let d = depth_kept IsSeenAs nodes place start now (map value_of c.loop-items.items.items) done mid block head in
+    let b = blob_kept IsSeenAs nodes place start now (map value_of c.loop-items.items.items) done mid block head in
     let p = err_from_is_err_and c.from_residual-in_err-read_items.result c.from_residual-in_err-read_items.ensures.1 in
     let read = c.in_err-read_items.ensures (limits_at start) d b in
-    rw (p.1, p.2) (array_item_refused StandsFor nodes place start now (map value_of c.loop-items.items.items) done mid block head c.read_items.new.cursor c.count.result c.in_err-read_items.field-0.0 c.count.ensures read.refused)
+    rw (p.1, p.2) (array_item_refused IsSeenAs nodes place start now (map value_of c.loop-items.items.items) done mid block head c.read_items.new.cursor c.count.result c.in_err-read_items.field-0.0 c.count.ensures read.refused)
 
 pub read_array-loop-items-smaller : goal.read_array-loop-items-smaller
 read_array-loop-items-smaller t c = 
@@ -75,14 +75,14 @@ read_array-loop-items-smaller t c =
     let mid = c.block.new.self in
     let block = c.in-Some.block in
     let head = head_read now mid block (rw c.in-Some.is at c.in_ok-block.ensures.found) in
-    let d = depth_kept StandsFor nodes place start now (map value_of c.loop-items.items.items) done mid block head in
-    let b = blob_kept StandsFor nodes place start now (map value_of c.loop-items.items.items) done mid block head in
+    let d = depth_kept IsSeenAs nodes place start now (map value_of c.loop-items.items.items) done mid block head in
+    let b = blob_kept IsSeenAs nodes place start now (map value_of c.loop-items.items.items) done mid block head in
     let read = c.in_ok-read_items.ensures (limits_at start) d b in
     let ys = read.found.0 in
     let found = read.found.3 in
     let counted = read.found.2 ∙ c.count.ensures in
     let after = c.read_items.new.cursor in
-    array_smaller StandsFor nodes place start now (map value_of c.loop-items.items.items) done mid block head after read.found.1 ys found counted
+    array_smaller IsSeenAs nodes place start now (map value_of c.loop-items.items.items) done mid block head after read.found.1 ys found counted
 
 pub read_array-loop-items-preserved : goal.read_array-loop-items-preserved
 read_array-loop-items-preserved t c = 
@@ -94,16 +94,16 @@ read_array-loop-items-preserved t c =
     let mid = c.block.new.self in
     let block = c.in-Some.block in
     let head = head_read now mid block (rw c.in-Some.is at c.in_ok-block.ensures.found) in
-    let d = depth_kept StandsFor nodes place start now (map value_of c.loop-items.items.items) done mid block head in
-    let b = blob_kept StandsFor nodes place start now (map value_of c.loop-items.items.items) done mid block head in
+    let d = depth_kept IsSeenAs nodes place start now (map value_of c.loop-items.items.items) done mid block head in
+    let b = blob_kept IsSeenAs nodes place start now (map value_of c.loop-items.items.items) done mid block head in
     let read = c.in_ok-read_items.ensures (limits_at start) d b in
     let ys = read.found.0 in
     let found = read.found.3 in
     let counted = read.found.2 ∙ c.count.ensures in
     let after = c.read_items.new.cursor in
     let size = length (concat found.items) in
-    let ends = c.in_ok-end_block.ensures now.place size head.head head.is_block (array_place StandsFor nodes place start now (map value_of c.loop-items.items.items) done mid block head after read.found.1 ys found counted) in
-    let more = array_push StandsFor nodes place start now (map value_of c.loop-items.items.items) done mid block head after read.found.1 ys found counted (has_size tt now.place head.head size ends) in
+    let ends = c.in_ok-end_block.ensures now.place size head.head head.is_block (array_place IsSeenAs nodes place start now (map value_of c.loop-items.items.items) done mid block head after read.found.1 ys found counted) in
+    let more = array_push IsSeenAs nodes place start now (map value_of c.loop-items.items.items) done mid block head after read.found.1 ys found counted (has_size tt now.place head.head size ends) in
     subst (λ (xs : List Value). ArrayDone nodes place start after [] xs) (sym read.found.4) more
 
 pub read_array-returns-in_err-end_block : goal.read_array-returns-in_err-end_block
@@ -116,8 +116,8 @@ read_array-returns-in_err-end_block t c =
     let mid = c.block.new.self in
     let block = c.in-Some.block in
     let head = head_read now mid block (rw c.in-Some.is at c.in_ok-block.ensures.found) in
-    let d = depth_kept StandsFor nodes place start now (map value_of c.loop-items.items.items) done mid block head in
-    let b = blob_kept StandsFor nodes place start now (map value_of c.loop-items.items.items) done mid block head in
+    let d = depth_kept IsSeenAs nodes place start now (map value_of c.loop-items.items.items) done mid block head in
+    let b = blob_kept IsSeenAs nodes place start now (map value_of c.loop-items.items.items) done mid block head in
     let read = c.in_ok-read_items.ensures (limits_at start) d b in
     let ys = read.found.0 in
     let found = read.found.3 in
@@ -125,8 +125,8 @@ read_array-returns-in_err-end_block t c =
     let after = c.read_items.new.cursor in
     let p = err_from_is_err_and c.from_residual-in_err-end_block.result c.from_residual-in_err-end_block.ensures.1 in
     let size = length (concat found.items) in
-    let ends = c.in_err-end_block.ensures now.place size head.head head.is_block (array_place StandsFor nodes place start now (map value_of c.loop-items.items.items) done mid block head after read.found.1 ys found counted) in
-    rw (p.1, p.2) (array_size_refused StandsFor nodes place start now (map value_of c.loop-items.items.items) done mid block head after read.found.1 ys found counted (Unit {0}) c.in_err-end_block.field-0.0 ends)
+    let ends = c.in_err-end_block.ensures now.place size head.head head.is_block (array_place IsSeenAs nodes place start now (map value_of c.loop-items.items.items) done mid block head after read.found.1 ys found counted) in
+    rw (p.1, p.2) (array_size_refused IsSeenAs nodes place start now (map value_of c.loop-items.items.items) done mid block head after read.found.1 ys found counted (Unit {0}) c.in_err-end_block.field-0.0 ends)
 
 pub read_array-returns : goal.read_array-returns
 read_array-returns t c =
@@ -134,13 +134,13 @@ read_array-returns t c =
     let nodes = schema_nodes c.args.schema.now in
     let start = c.args.cursor.now in
     let end = end_read c.loop-items.cursor c.block.new.self (rw c.in_default.is at c.in_ok-block.ensures.found) in
-    array_found StandsFor nodes c.args.place.0 start c.loop-items.cursor c.block.new.self [] (map value_of c.loop-items.items.items) _ done end c.nodes-nodes.ensures.in_range (value_of-Array c.loop-items.items)
+    array_found IsSeenAs nodes c.args.place.0 start c.loop-items.cursor c.block.new.self [] (map value_of c.loop-items.items.items) _ done end c.nodes-nodes.ensures.in_range (value_of-Array c.loop-items.items)
 
 -- ---- Maps
 
 pub read_map-loop-entries-init : goal.read_map-loop-entries-init
 read_map-loop-entries-init t c =
-    let none = map_none StandsFor (schema_nodes c.args.schema.now) c.args.place.0 c.args.cursor.now in 
+    let none = map_none IsSeenAs (schema_nodes c.args.schema.now) c.args.place.0 c.args.cursor.now in 
     (
     [], c.new-keys.ensures,
     subst (λ (es : List (List ℕ × Value)). MapDone (schema_nodes c.args.schema.now) c.args.place.0 c.args.cursor.now c.args.cursor.now [] es) (sym (ap (map pair_of) c.new-entries.ensures.items)) none,
@@ -150,14 +150,14 @@ pub read_map-returns-in_err-block : goal.read_map-returns-in_err-block
 read_map-returns-in_err-block t c =
     let p = err_from_is_err_and c.from_residual.result c.from_residual.ensures.1 in
     let done = c.loop-entries.invariant in
-    rw (p.1, p.2) (map_head_refused StandsFor (schema_nodes c.args.schema.now) c.args.place.0 c.args.cursor.now c.loop-entries.cursor done.0 (map pair_of c.loop-entries.entries.items) done.2 c.block.new.self
+    rw (p.1, p.2) (map_head_refused IsSeenAs (schema_nodes c.args.schema.now) c.args.place.0 c.args.cursor.now c.loop-entries.cursor done.0 (map pair_of c.loop-entries.entries.items) done.2 c.block.new.self
     c.in_err-block.field-0.0 c.in_err-block.ensures.refused)
 
 pub read_map-returns : goal.read_map-returns
 read_map-returns t c =
     let done = c.loop-entries.invariant in
     let end = end_read c.loop-entries.cursor c.block.new.self (rw c.in_default.is at c.in_ok-block.ensures.found) in
-    map_found StandsFor (schema_nodes c.args.schema.now) c.args.place.0 c.args.cursor.now c.loop-entries.cursor c.block.new.self done.0 (map pair_of c.loop-entries.entries.items) _ done.2 end c.nodes-nodes.ensures.in_range (value_of-Map c.loop-entries.entries)
+    map_found IsSeenAs (schema_nodes c.args.schema.now) c.args.place.0 c.args.cursor.now c.loop-entries.cursor c.block.new.self done.0 (map pair_of c.loop-entries.entries.items) _ done.2 end c.nodes-nodes.ensures.in_range (value_of-Map c.loop-entries.entries)
 
 pub read_map-returns-in_err-read_entries : goal.read_map-returns-in_err-read_entries
 read_map-returns-in_err-read_entries t c = 
@@ -169,12 +169,12 @@ read_map-returns-in_err-read_entries t c =
     let mid = c.block.new.self in
     let block = c.in-Some.block in
     let head = head_read now mid block (rw c.in-Some.is at c.in_ok-block.ensures.found) in
-    let d = map_depth_kept StandsFor nodes place start now done.0 (map pair_of c.loop-entries.entries.items) done.2 mid block head in
-    let b = map_blob_kept StandsFor nodes place start now done.0 (map pair_of c.loop-entries.entries.items) done.2 mid block head in
-    let distinct = map_distinct StandsFor nodes place start now done.0 (map pair_of c.loop-entries.entries.items) done.2 in
+    let d = map_depth_kept IsSeenAs nodes place start now done.0 (map pair_of c.loop-entries.entries.items) done.2 mid block head in
+    let b = map_blob_kept IsSeenAs nodes place start now done.0 (map pair_of c.loop-entries.entries.items) done.2 mid block head in
+    let distinct = map_distinct IsSeenAs nodes place start now done.0 (map pair_of c.loop-entries.entries.items) done.2 in
     let p = err_from_is_err_and c.from_residual-in_err-read_entries.result c.from_residual-in_err-read_entries.ensures.1 in
     let read = c.in_err-read_entries.ensures (limits_at start) done.0 d b done.1 distinct in
-    rw (p.1, p.2) (map_item_refused StandsFor nodes place start now done.0 (map pair_of c.loop-entries.entries.items) done.2 mid block head c.read_entries.new.cursor c.count-count.result c.in_err-read_entries.field-0.0 c.count-count.ensures read.refused)
+    rw (p.1, p.2) (map_item_refused IsSeenAs nodes place start now done.0 (map pair_of c.loop-entries.entries.items) done.2 mid block head c.read_entries.new.cursor c.count-count.result c.in_err-read_entries.field-0.0 c.count-count.ensures read.refused)
 
 pub read_map-loop-entries-smaller : goal.read_map-loop-entries-smaller
 read_map-loop-entries-smaller t c = 
@@ -186,15 +186,15 @@ read_map-loop-entries-smaller t c =
     let mid = c.block.new.self in
     let block = c.in-Some.block in
     let head = head_read now mid block (rw c.in-Some.is at c.in_ok-block.ensures.found) in
-    let d = map_depth_kept StandsFor nodes place start now done.0 (map pair_of c.loop-entries.entries.items) done.2 mid block head in
-    let b = map_blob_kept StandsFor nodes place start now done.0 (map pair_of c.loop-entries.entries.items) done.2 mid block head in
-    let distinct = map_distinct StandsFor nodes place start now done.0 (map pair_of c.loop-entries.entries.items) done.2 in
+    let d = map_depth_kept IsSeenAs nodes place start now done.0 (map pair_of c.loop-entries.entries.items) done.2 mid block head in
+    let b = map_blob_kept IsSeenAs nodes place start now done.0 (map pair_of c.loop-entries.entries.items) done.2 mid block head in
+    let distinct = map_distinct IsSeenAs nodes place start now done.0 (map pair_of c.loop-entries.entries.items) done.2 in
     let read = c.in_ok-read_entries.ensures (limits_at start) done.0 d b done.1 distinct in
     let ys = read.found.0 in
     let found = read.found.3 in
     let counted = read.found.2 ∙ c.count-count.ensures in
     let after = c.read_entries.new.cursor in
-    map_smaller StandsFor nodes place start now done.0 (map pair_of c.loop-entries.entries.items) done.2 mid block head after read.found.1 ys found counted
+    map_smaller IsSeenAs nodes place start now done.0 (map pair_of c.loop-entries.entries.items) done.2 mid block head after read.found.1 ys found counted
 
 pub read_map-loop-entries-preserved : goal.read_map-loop-entries-preserved
 read_map-loop-entries-preserved t c = 
@@ -206,17 +206,17 @@ read_map-loop-entries-preserved t c =
     let mid = c.block.new.self in
     let block = c.in-Some.block in
     let head = head_read now mid block (rw c.in-Some.is at c.in_ok-block.ensures.found) in
-    let d = map_depth_kept StandsFor nodes place start now done.0 (map pair_of c.loop-entries.entries.items) done.2 mid block head in
-    let b = map_blob_kept StandsFor nodes place start now done.0 (map pair_of c.loop-entries.entries.items) done.2 mid block head in
-    let distinct = map_distinct StandsFor nodes place start now done.0 (map pair_of c.loop-entries.entries.items) done.2 in
+    let d = map_depth_kept IsSeenAs nodes place start now done.0 (map pair_of c.loop-entries.entries.items) done.2 mid block head in
+    let b = map_blob_kept IsSeenAs nodes place start now done.0 (map pair_of c.loop-entries.entries.items) done.2 mid block head in
+    let distinct = map_distinct IsSeenAs nodes place start now done.0 (map pair_of c.loop-entries.entries.items) done.2 in
     let read = c.in_ok-read_entries.ensures (limits_at start) done.0 d b done.1 distinct in
     let ys = read.found.0 in
     let found = read.found.3 in
     let counted = read.found.2 ∙ c.count-count.ensures in
     let after = c.read_entries.new.cursor in
     let size = length (concat found.items) in
-    let ends = c.in_ok-end_block.ensures now.place size head.head head.is_block (map_place StandsFor nodes place start now done.0 (map pair_of c.loop-entries.entries.items) done.2 mid block head after read.found.1 ys found counted) in
-    let more = map_push StandsFor nodes place start now done.0 (map pair_of c.loop-entries.entries.items) done.2 mid block head after read.found.1 ys found counted (has_size tt now.place head.head size ends) in
+    let ends = c.in_ok-end_block.ensures now.place size head.head head.is_block (map_place IsSeenAs nodes place start now done.0 (map pair_of c.loop-entries.entries.items) done.2 mid block head after read.found.1 ys found counted) in
+    let more = map_push IsSeenAs nodes place start now done.0 (map pair_of c.loop-entries.entries.items) done.2 mid block head after read.found.1 ys found counted (has_size tt now.place head.head size ends) in
     (read.found.1, read.found.4.0, subst (λ (xs : List (List ℕ × Value)). MapDone nodes place start after read.found.1 xs) (sym read.found.4.1) more)
 
 pub read_map-returns-in_err-end_block : goal.read_map-returns-in_err-end_block
@@ -229,9 +229,9 @@ read_map-returns-in_err-end_block t c =
     let mid = c.block.new.self in
     let block = c.in-Some.block in
     let head = head_read now mid block (rw c.in-Some.is at c.in_ok-block.ensures.found) in
-    let d = map_depth_kept StandsFor nodes place start now done.0 (map pair_of c.loop-entries.entries.items) done.2 mid block head in
-    let b = map_blob_kept StandsFor nodes place start now done.0 (map pair_of c.loop-entries.entries.items) done.2 mid block head in
-    let distinct = map_distinct StandsFor nodes place start now done.0 (map pair_of c.loop-entries.entries.items) done.2 in
+    let d = map_depth_kept IsSeenAs nodes place start now done.0 (map pair_of c.loop-entries.entries.items) done.2 mid block head in
+    let b = map_blob_kept IsSeenAs nodes place start now done.0 (map pair_of c.loop-entries.entries.items) done.2 mid block head in
+    let distinct = map_distinct IsSeenAs nodes place start now done.0 (map pair_of c.loop-entries.entries.items) done.2 in
     let read = c.in_ok-read_entries.ensures (limits_at start) done.0 d b done.1 distinct in
     let ys = read.found.0 in
     let found = read.found.3 in
@@ -239,8 +239,8 @@ read_map-returns-in_err-end_block t c =
     let after = c.read_entries.new.cursor in
     let p = err_from_is_err_and c.from_residual-in_err-end_block.result c.from_residual-in_err-end_block.ensures.1 in
     let size = length (concat found.items) in
-    let ends = c.in_err-end_block.ensures now.place size head.head head.is_block (map_place StandsFor nodes place start now done.0 (map pair_of c.loop-entries.entries.items) done.2 mid block head after read.found.1 ys found counted) in
-    rw (p.1, p.2) (map_size_refused StandsFor nodes place start now done.0 (map pair_of c.loop-entries.entries.items) done.2 mid block head after read.found.1 ys found counted (Unit {0}) c.in_err-end_block.field-0.0 ends)
+    let ends = c.in_err-end_block.ensures now.place size head.head head.is_block (map_place IsSeenAs nodes place start now done.0 (map pair_of c.loop-entries.entries.items) done.2 mid block head after read.found.1 ys found counted) in
+    rw (p.1, p.2) (map_size_refused IsSeenAs nodes place start now done.0 (map pair_of c.loop-entries.entries.items) done.2 mid block head after read.found.1 ys found counted (Unit {0}) c.in_err-end_block.field-0.0 ends)
 
 -- ---- Entries
 
@@ -396,13 +396,13 @@ read_node-returns-then-not-has t c =
     let none = c.if-not-has.true in
     let has = c.has.ensures in
     let past : length nodes ≤ c.args.place.0 = not-below c.args.place.0 (length nodes) c.has.result none has.1 in
-    rw (null_past nodes c.args.place.0 past) (null_found StandsFor nodes c.args.cursor.now _ value_of-Null)
+    rw (null_past nodes c.args.place.0 past) (null_found IsSeenAs nodes c.args.cursor.now _ value_of-Null)
 
 pub read_node-returns-in-Null : goal.read_node-returns-in-Null
 read_node-returns-in-Null t c =
     let nodes = schema_nodes c.args.schema.now in
     let is : node_at nodes c.args.place.0 ≡ Node.null = sym c.node.ensures ∙ ap node_of c.in-Null.is in
-    rw is (null_found StandsFor nodes c.args.cursor.now _ value_of-Null)
+    rw is (null_found IsSeenAs nodes c.args.cursor.now _ value_of-Null)
 
 pub read_node-returns-in-Boolean : goal.read_node-returns-in-Boolean
 read_node-returns-in-Boolean t c =
@@ -460,13 +460,13 @@ pub read_place-returns-in_err-enter : goal.read_place-returns-in_err-enter
 read_place-returns-in_err-enter t c =
     let p = err_from_is_err_and c.from_residual.result c.from_residual.ensures.1 in
     let nodes = schema_nodes c.args.schema.now in
-    rw (p.1, p.2) (enter_refused StandsFor nodes (node_at nodes c.args.place.0) c.args.cursor.now c.enter.new.self c.in_err-enter.field-0.0 c.in_err-enter.ensures.refused)
+    rw (p.1, p.2) (enter_refused IsSeenAs nodes (node_at nodes c.args.place.0) c.args.cursor.now c.enter.new.self c.in_err-enter.field-0.0 c.in_err-enter.ensures.refused)
 
 pub read_place-returns-in_err-datum : goal.read_place-returns-in_err-datum
 read_place-returns-in_err-datum t c =
     let p = err_from_is_err_and c.from_residual-in_err-datum.result c.from_residual-in_err-datum.ensures.1 in
     let nodes = schema_nodes c.args.schema.now in
-    rw (p.1, p.2) (node_refused StandsFor nodes (node_at nodes c.args.place.0) StandsFor c.args.cursor.now c.enter.new.self c.read_node.new.cursor c.read_node.new.cursor
+    rw (p.1, p.2) (node_refused IsSeenAs nodes (node_at nodes c.args.place.0) IsSeenAs c.args.cursor.now c.enter.new.self c.read_node.new.cursor c.read_node.new.cursor
     c.in_err-datum.field-0.0 c.in_ok-enter.ensures.entered c.in_err-datum.ensures)
 
 -- ---- Records
@@ -483,7 +483,7 @@ read_record-returns-in_err-value t c = λ name aliases.
     let below : i < length fields = c.loop-field-test.true in
     let e = c.in_err-value.field-0.0 in
     let are = places_split fields i field below ∙ ap (λ (f : Field). take i places ++ f.node.0 ∷ drop (suc i) places) (sym c.field-item.is) in
-    rw (p.1, p.2) (record_refused StandsFor nodes name aliases (seen_fields fields) c.args.cursor.now c.read_place.new.cursor e
+    rw (p.1, p.2) (record_refused IsSeenAs nodes name aliases (seen_fields fields) c.args.cursor.now c.read_place.new.cursor e
     (field_breaks nodes (take i places) c.args.cursor.now c.loop-field.cursor (map value_of c.loop-field.values.items) so_far places (drop (suc i) places) field.node.0 are e c.in_err-value.ensures.refused))
 
 pub read_record-loop-field-preserved : goal.read_record-loop-field-preserved
@@ -513,7 +513,7 @@ read_record-returns t c = λ name aliases.
     let i = c.loop-field.field-index in
     let so_far = c.loop-field.invariant in
     let past : length fields ≤ i = c.loop-field-test.false in
-    record_found StandsFor nodes name aliases (seen_fields fields) c.args.cursor.now c.loop-field.cursor (map value_of c.loop-field.values.items) _
+    record_found IsSeenAs nodes name aliases (seen_fields fields) c.args.cursor.now c.loop-field.cursor (map value_of c.loop-field.values.items) _
     (subst (λ (ps : List ℕ). FieldsDone nodes ps c.args.cursor.now c.loop-field.cursor (map value_of c.loop-field.values.items)) (places_all fields i past) so_far) (value_of-Record c.loop-field.values)
 
 -- ---- Unions
@@ -531,7 +531,7 @@ read_union-returns-in_err-value t c =
     let branch = get_or branches k (record { 0 = 0 }) in
     let at = branch_at branches k (record { 0 = 0 }) found.1.0 in
     let p = err_from_is_err_and c.from_residual-in_err-value.result c.from_residual-in_err-value.ensures.1 in
-    rw (p.1, p.2) (branch_refused StandsFor nodes (places_of branches) start mid k branch.0 at among StandsFor after after c.in_err-value.field-0.0 c.in_err-value.ensures)
+    rw (p.1, p.2) (branch_refused IsSeenAs nodes (places_of branches) start mid k branch.0 at among IsSeenAs after after c.in_err-value.field-0.0 c.in_err-value.ensures)
 
 pub read_union-returns-in-Ok : goal.read_union-returns-in-Ok
 read_union-returns-in-Ok t c =
@@ -545,5 +545,5 @@ read_union-returns-in-Ok t c =
     let among = subst (λ (n : ℕ). Finds (λ (x : ℕ). x) (IsIndex n) start mid k) (sym (places-length branches)) found in
     let branch = get_or branches k (record { 0 = 0 }) in
     let at = branch_at branches k (record { 0 = 0 }) found.1.0 in
-    let step = λ (v : Value) (is : StandsFor c.in_ok-value.value v). value_of-Union k c.in-Ok.value ∙ ap (λ (d : Datum). Value.union k (value_of d)) c.in-Ok.ensures.ok ∙ ap (Value.union k) is in
-    union_found StandsFor nodes (places_of branches) start mid k branch.0 at among StandsFor after c.in_ok-value.value _ c.in_ok-value.ensures step
+    let step = λ (v : Value) (is : IsSeenAs c.in_ok-value.value v). value_of-Union k c.in-Ok.value ∙ ap (λ (d : Datum). Value.union k (value_of d)) c.in-Ok.ensures.ok ∙ ap (Value.union k) is in
+    union_found IsSeenAs nodes (places_of branches) start mid k branch.0 at among IsSeenAs after c.in_ok-value.value _ c.in_ok-value.ensures step

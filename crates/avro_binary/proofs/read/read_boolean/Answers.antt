@@ -2,12 +2,12 @@ use Rattle.std.proofs.Common.{rules, FitsSigned, w32, w64, ap, ◌∙◌}
 use Rattle.std.proofs.lemmas.Int.{to_z-of_z}
 use Rattle.avro_schema.specs.Value.{Value}
 use Rattle.avro_schema.proofs.DatumViews.{value_of-Bool}
-use Rattle.avro_binary.specs.CursorReads.{StandsFor}
+use Rattle.avro_binary.specs.CursorReads.{IsSeenAs}
 use Rattle.avro_binary.proofs.LeafReads.{boolean_found, boolean_refused}
 use Rattle.avro_binary.proofs.read.read_boolean.Goals as goal
 
 pub returns-in-Ok : goal.returns-in-Ok
-returns-in-Ok c = λ nodes. boolean_found StandsFor nodes c.args.cursor.now c.boolean.new.self _ c.in-Ok.value c.in-Ok.ensures.found (value_of-Bool c.in-Ok.value)
+returns-in-Ok c = λ nodes. boolean_found IsSeenAs nodes c.args.cursor.now c.boolean.new.self _ c.in-Ok.value c.in-Ok.ensures.found (value_of-Bool c.in-Ok.value)
 
 pub returns-in-Err : goal.returns-in-Err
-returns-in-Err c = λ nodes. boolean_refused StandsFor nodes c.args.cursor.now c.boolean.new.self c.in-Err.error c.in-Err.ensures.refused
+returns-in-Err c = λ nodes. boolean_refused IsSeenAs nodes c.args.cursor.now c.boolean.new.self c.in-Err.error c.in-Err.ensures.refused

@@ -5,7 +5,8 @@ use Rattle.avro_zigzag.specs.NumberFault.{LongFails}
 use Rattle.avro_binary.specs.Breaks.{StartsWithLong, number_fault}
 use Rattle.avro_binary.specs.Fault.{ReadFault, invalid_length, behind}
 use Rattle.avro_binary.proofs.CursorSteps.{starts_with_long}
-use Rattle.avro_binary.proofs.HeadLaws.{size_below, size_failed, behind-behind}
+use Rattle.avro_binary.proofs.HeadLaws.{size_below, size_failed}
+use Rattle.avro_binary.proofs.OneFaultParts.{behind-add}
 use Rattle.avro_binary.proofs.cursor.Cursor.block_size.Goals as goal
 
 pub returns-then-size-lt0-clause-refused : goal.returns-then-size-lt0-clause-refused
@@ -34,5 +35,5 @@ returns-in-Err-clause-refused c = λ n spelled small few.
       behind (length (take len now.bytes)) fault,
       size_failed now.nodes now.bytes n len fault spelled (omega arith) few
           (c.in-Err.error, subst (λ (b : List ℕ). LongFails b c.in-Err.error) back c.in-Err.ensures.refused, refl),
-      c.number_error.ensures ∙ ap (λ (k : ℕ). Some (behind k fault)) at ∙ ap (λ (f : ReadFault). Some f) (sym (behind-behind now.place (length (take len now.bytes)) fault)),
+      c.number_error.ensures ∙ ap (λ (k : ℕ). Some (behind k fault)) at ∙ ap (λ (f : ReadFault). Some f) (behind-add now.place (length (take len now.bytes)) fault),
     )
