@@ -6,3 +6,4 @@ pub mod DeclaredDefaults
 pub mod DeclaredSchema
 pub mod DeclaredFaults
 pub mod DisplayTree
+pub mod SeenRaw

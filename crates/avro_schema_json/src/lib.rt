@@ -7,6 +7,7 @@ mod display;
 mod error;
 mod labels;
 mod places;
+mod raw;
 mod read;
 
 pub use display::show;
