@@ -5,6 +5,7 @@
 
 mod display;
 mod error;
+mod floats;
 mod labels;
 mod places;
 mod raw;
