@@ -7,3 +7,4 @@ pub mod DeclaredSchema
 pub mod DeclaredFaults
 pub mod DisplayTree
 pub mod SeenRaw
+pub mod OwnDefaults

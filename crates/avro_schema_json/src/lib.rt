@@ -5,9 +5,11 @@
 
 mod display;
 mod error;
+mod fields;
 mod floats;
 mod labels;
 mod places;
+mod plain_defaults;
 mod raw;
 mod read;
 
