@@ -4,6 +4,8 @@ mod RowsDisplays
 mod RowsFaults
 pub mod RowsLaws
 pub mod RawSeen
+pub mod DefaultsSeen
+pub mod DefaultSteps
 mod RowsLimits
 pub mod FirstSchemas
 pub mod NoFloats
