@@ -8,3 +8,4 @@ pub mod DeclaredFaults
 pub mod DisplayTree
 pub mod SeenRaw
 pub mod OwnDefaults
+pub mod SeenDefaults

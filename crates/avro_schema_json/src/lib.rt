@@ -13,6 +13,7 @@ mod places;
 mod plain_defaults;
 mod raw;
 mod read;
+mod whole;
 
 pub use display::show;
 pub use error::SchemaError;
