@@ -5,6 +5,8 @@ mod RowsFaults
 pub mod RowsLaws
 pub mod RawSeen
 pub mod DefaultsSeen
+pub mod WholeSeen
+pub mod FaultsThere
 pub mod DefaultSteps
 mod RowsLimits
 pub mod FirstSchemas

@@ -9,3 +9,4 @@ pub mod DisplayTree
 pub mod SeenRaw
 pub mod OwnDefaults
 pub mod SeenDefaults
+pub mod Placed

@@ -1,18 +1,20 @@
 //! Nodes with their defaults.
 
-ghost use Rattle.std.specs.Prelude.{◌≡◌, ◌⊎◌, ◌<◌, ◌&&◌, true, [], None, length, map, option_map, IfOk, IfErr, OnOk, Contains};
+ghost use Rattle.std.specs.Prelude.{◌≡◌, ◌≢◌, ◌⊎◌, ◌<◌, true, [], None, length, map, option_map, IfOk, IfErr, OnOk, Contains};
 ghost use Rattle.std.specs.List.{list_all};
 ghost use Rattle.std.specs.Vec.Iter.{into_iter_items};
 ghost use Rattle.avro_schema.specs.Seen.{value_of, node_of, seen_fields};
 ghost use Rattle.avro_schema.specs.SeenSchema.{schema_nodes, draft_nodes};
 ghost use Rattle.avro_schema.specs.WellFormed.{is_schema};
+ghost use Rattle.avro_schema.specs.declared.fault.DraftError.TheVariants.{LimitExceeded as DraftLimit, OutOfMemory as DraftMemory};
 ghost use Rattle.avro_schema_json.specs.DeclaredAttributes.{unless};
 ghost use Rattle.avro_schema_json.specs.DeclaredFaults.{faults_of_nodes, or_else};
 ghost use Rattle.avro_schema_json.specs.DeclaredSchema.{field_default, is_default_read, are_defaults_read, are_all_defaults_read, whole_nodes};
 ghost use Rattle.avro_schema_json.specs.OwnDefaults.{bares_of};
+ghost use Rattle.avro_schema_json.specs.Placed.{are_placed};
 ghost use Rattle.avro_schema_json.specs.SeenDefaults.{data_seen, lists_seen, defaults_of_node as node_defaults_by, first_or, others_of, filled_fields, filled_node, filled_nodes};
 ghost use Rattle.avro_schema_json.specs.SeenRaw.{raw_field_of, raw_fields_of, raw_node_of, raw_nodes_of};
-ghost use Rattle.avro_schema_json.specs.declared.error.SchemaError.TheVariants.{InvalidDefault, LimitExceeded, NotJson, OutOfMemory};
+ghost use Rattle.avro_schema_json.specs.declared.error.SchemaError.TheVariants.{InvalidDefault, NotJson, OutOfMemory};
 
 use crate::defaults::default_of;
 use crate::error::SchemaError;
@@ -185,5 +187,56 @@ fn whole_node(
                 fields,
             }))
         }
+    }
+}
+
+/// A draft of the nodes with these defaults.
+fn drafted(
+    alloc: Global,
+    raws: Vec<RawNode<'_>>,
+    defaults: Vec<Vec<Option<Datum>>>,
+) -> Result<Draft, DraftError>
+    ensures drafted { IfOk result (λ draft. draft_nodes draft ≡ filled_nodes (raw_nodes_of raws.entry.items) (lists_seen defaults.items)) }
+    ensures refused { IfErr result (λ e. (e ≡ DraftMemory) ⊎ ((e ≡ DraftLimit) × (4096 < length raws.entry.items))) }
+{
+    let mut draft = Draft::new(alloc);
+    let mut rest = defaults.into_iter();
+    for raw in raws {
+        let node = whole_node(alloc, raw, next_list(alloc, &mut rest))?;
+        match draft.add(node) {
+            Ok(_) => {}
+            Err(error) => return Err(error),
+        }
+    }
+    Ok(draft)
+}
+
+/// The schema of nodes. A default that is no datum is left out at first, so that another fault of the
+/// nodes is answered before it.
+pub(crate) fn schema_of(alloc: Global, raws: Vec<RawNode<'_>>) -> Result<Schema, SchemaError>
+    requires { are_placed (raw_nodes_of raws.items) ≡ true }
+    ensures found { IfOk result (λ schema. schema_nodes schema ≡ whole_nodes (raw_nodes_of raws.entry.items)) }
+    ensures formed { OnOk result (is_schema (whole_nodes (raw_nodes_of raws.entry.items)) ≡ true) }
+    ensures read { OnOk result (are_all_defaults_read (raw_nodes_of raws.entry.items) ≡ true) }
+    ensures refused { IfErr result (λ e. (e ≡ OutOfMemory)
+        ⊎ Contains (or_else (faults_of_nodes (whole_nodes (raw_nodes_of raws.entry.items))) (unless (are_all_defaults_read (raw_nodes_of raws.entry.items)) InvalidDefault)) e) }
+    ensures json { IfErr result (λ e. e ≢ NotJson) }
+{
+    let defaults = match defaults_of_nodes(alloc, &raws) {
+        Ok(defaults) => defaults,
+        Err(_) => return Err(SchemaError::OutOfMemory),
+    };
+    let Defaults { of_nodes, are_read } = defaults;
+    let draft = match drafted(alloc, raws, of_nodes) {
+        Ok(draft) => draft,
+        Err(error) => return Err(SchemaError::from(error)),
+    };
+    match draft.finish() {
+        Ok(schema) => if are_read {
+            Ok(schema)
+        } else {
+            Err(SchemaError::InvalidDefault)
+        },
+        Err(error) => Err(SchemaError::from(error)),
     }
 }
