@@ -9,6 +9,7 @@ pub mod WholeSeen
 pub mod FaultsThere
 pub mod DefaultSteps
 mod RowsLimits
-pub mod FirstSchemas
+pub mod ReadSeen
+pub mod MadeSound
 pub mod NoFloats
 pub mod DisplaySeen

@@ -10,3 +10,4 @@ pub mod SeenRaw
 pub mod OwnDefaults
 pub mod SeenDefaults
 pub mod Placed
+pub mod TextRefusals

@@ -3,6 +3,7 @@
 //! Contracts speak of the tree that `serde_json` reads in a text.
 #![tactic(auto)]
 
+mod declarations;
 mod defaults;
 mod display;
 mod error;
