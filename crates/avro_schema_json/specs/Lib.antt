@@ -11,3 +11,4 @@ pub mod OwnDefaults
 pub mod SeenDefaults
 pub mod Placed
 pub mod TextRefusals
+pub mod DeclaredText

@@ -14,8 +14,10 @@ mod places;
 mod plain_defaults;
 mod raw;
 mod read;
+mod reader_text;
 mod whole;
 
 pub use display::show;
 pub use error::SchemaError;
 pub use read::read_schema;
+pub use reader_text::ReaderText;

@@ -4,6 +4,7 @@ ghost use Rattle.avro_schema.specs.SeenSchema.{schema_nodes};
 ghost use Rattle.avro_schema_json.specs.Declaration.{max_text, HasTree, IsNoJson};
 ghost use Rattle.avro_schema_json.specs.DeclaredFaults.{HasFault};
 ghost use Rattle.avro_schema_json.specs.DeclaredSchema.{DeclaresSchema};
+ghost use Rattle.avro_schema_json.specs.DeclaredText.{DeclaresText};
 ghost use Rattle.avro_schema_json.specs.Refusals.{HasMemory};
 ghost use Rattle.avro_schema_json.specs.TextRefusals.{IsRefusalOf};
 ghost use Rattle.avro_schema_json.specs.declared.error.SchemaError.TheVariants.{NotJson, OutOfMemory};
@@ -29,8 +30,7 @@ const MAX_TEXT: usize = 1_048_576;
 ///
 /// A fault that is there; each is described at its variant of [`SchemaError`].
 pub fn read_schema(alloc: Global, text: &[u8]) -> Result<Schema, SchemaError>
-    ensures found { IfOk result (λ schema. (tree : Data) × HasTree text.now tree
-        × DeclaresSchema tree (schema_nodes schema)) }
+    ensures found { IfOk result (λ schema. DeclaresText text.now (schema_nodes schema)) }
     ensures complete { (tree : Data) (nodes : List Node) → HasTree text.now tree → DeclaresSchema tree nodes
         → length text.now ≤ max_text → IfErr result (λ e. e ≡ OutOfMemory) }
     ensures too_long { max_text < length text.now → IsErrOf result SchemaError.LimitExceeded }
