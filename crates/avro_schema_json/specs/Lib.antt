@@ -7,3 +7,6 @@ pub mod DeclaredSchema
 pub mod DeclaredFaults
 pub mod DisplayTree
 pub mod SeenRaw
+pub mod NameRefusal
+pub mod Reading
+pub mod ReadingSeen

@@ -1,0 +1,29 @@
+-- How contracts see the state of a reading, its words and its forms.
+use Rattle.std.specs.Prelude.{ℕ, List}
+use Rattle.avro_schema.specs.Seen.{node_of}
+use Rattle.avro_schema_json.specs.declared.error.SchemaError.{SchemaError}
+use Rattle.avro_schema_json.specs.Declares.{Meaning, faulty, use_of, reference, Form as SeenForm, record_form, enum_form, fixed_form, array_form, map_form, error_form, word_form, no_form}
+use Rattle.avro_schema_json.specs.Reading.{State}
+use Rattle.avro_schema_json.specs.SeenRaw.{raw_nodes_of}
+use Rattle.avro_schema_json.specs.declared.declarations.Declarations.{Declarations}
+use Rattle.avro_schema_json.specs.declared.words.Word.{Word}
+use Rattle.avro_schema_json.specs.declared.words.Form.{Form}
+
+abbrev pub state_of : Declarations → State
+state_of d = record { nodes = raw_nodes_of d.nodes.items; known = d.names.entries }
+
+-- what a word means, once it is known which it is
+abbrev pub meaning_of_word : List ℕ → Word → Meaning ℕ
+meaning_of_word text (Word.Primitive n) = use_of (node_of n)
+meaning_of_word text Word.Unsupported = faulty 0 SchemaError.UnsupportedType
+meaning_of_word text Word.TypeName = reference text
+
+abbrev pub form_seen : Form → SeenForm
+form_seen Form.Record = record_form
+form_seen Form.Enum = enum_form
+form_seen Form.Fixed = fixed_form
+form_seen Form.Array = array_form
+form_seen Form.Map = map_form
+form_seen Form.Error = error_form
+form_seen (Form.Word word) = word_form word.now
+form_seen Form.Missing = no_form
