@@ -1,12 +1,12 @@
 -- What the reading of a part answers, and what it leaves.
-use Rattle.std.specs.Prelude.{◌≡◌, ℕ, ◌⊎◌, ◌++◌, List, [], ◌∷◌, length, true, nat_lt, Result, Ok, Err, Contains}
+use Rattle.std.specs.Prelude.{◌≡◌, ℕ, ◌⊎◌, ◌++◌, List, [], ◌∷◌, length, true, nat_lt, Option, Some, None, Result, Ok, Err, Contains}
 use Rattle.avro_name.specs.Name.{Name}
 use Rattle.avro_schema.specs.Node.{Node}
 use Rattle.avro_schema.specs.WellFormed.{max_nodes}
 use Rattle.serde_json.specs.Data.{Members}
 use Rattle.avro_schema_json.specs.declared.error.SchemaError.{SchemaError}
 use Rattle.avro_schema_json.specs.DeclaredAttributes.{Attribute, unless, name_in}
-use Rattle.avro_schema_json.specs.Declares.{RawNode, Known, Made, Meaning, defining, name_faults}
+use Rattle.avro_schema_json.specs.Declares.{RawNode, RawField, in_turn, faulty, Known, Made, Meaning, defining, name_faults}
 
 -- the nodes so far, and the names that are known
 pub record State : Type 0 where
@@ -24,9 +24,17 @@ pub record IsRead {A : Type 0} (made : Made A) (before after : State) (result : 
   pub nodes_are : after.nodes ≡ before.nodes ++ made.nodes
   pub known_are : after.known ≡ made.known
 
+-- the same for a part that begins in a state
+abbrev pub Reads : {A : Type 0} → Meaning A → List ℕ → State → State → A → Type 0
+Reads meaning enclosing before after result = IsRead (made_at meaning enclosing before) before after result
+
 -- memory ran out, or the fault is one of these
 abbrev pub IsRefusal : List SchemaError → SchemaError → Type 0
 IsRefusal faults e = (e ≡ SchemaError.OutOfMemory) ⊎ Contains faults e
+
+-- the same of a part that begins in a state
+abbrev pub Refuses : {A : Type 0} → Meaning A → List ℕ → State → SchemaError → Type 0
+Refuses meaning enclosing before e = IsRefusal (made_at meaning enclosing before).faults e
 
 -- an attribute is read: it has no fault, and this is what it says
 pub record IsAttribute {A : Type 0} (attribute : Attribute A) (value : A) : Type 0 where
@@ -57,3 +65,8 @@ pub record IsBegun (enclosing : List ℕ) (ms : Members) (before after : State) 
 abbrev pub beginning_faults : State → Result Name SchemaError → List SchemaError
 beginning_faults before (Err fault) = fault ∷ []
 beginning_faults before (Ok name) = limit_faults before ++ name_faults name before.known
+
+-- the meaning of what is under `fields`
+abbrev pub fields_meaning : Option (List (Meaning RawField)) → Meaning (List RawField)
+fields_meaning None = faulty [] SchemaError.InvalidDeclaration
+fields_meaning (Some meanings) = in_turn meanings

@@ -11,6 +11,7 @@ mod labels;
 mod places;
 mod raw;
 mod read;
+mod types;
 mod words;
 
 pub use display::show;
