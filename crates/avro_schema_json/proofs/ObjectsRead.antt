@@ -66,7 +66,8 @@ module _ (ms : Members) (enclosing : List ℕ) (before : State) where
   pub field-refused : (d : Data) (e : SchemaError) → get_member (codes "type") ms ≡ Some d → Refuses (meaning_of d) enclosing before e
       → Refuses (field_meaning (object ms)) enclosing before e
   field-refused d e found refused =
-      rw (typed d found) (second-refused ((needed {A = List ℕ} [] (text_in (codes "name") ms)).faults ++ (alias_texts_in ms).faults) _ e refused)
+      subst (λ (m : Meaning RawField). Refuses m enclosing before e) (sym (typed d found))
+      (second-refused ((needed {A = List ℕ} [] (text_in (codes "name") ms)).faults ++ (alias_texts_in ms).faults) _ e refused)
 
   pub field-untyped : get_member (codes "type") ms ≡ None → Refuses (field_meaning (object ms)) enclosing before SchemaError.InvalidDeclaration
   field-untyped missing =
@@ -79,7 +80,8 @@ module _ (ms : Members) (enclosing : List ℕ) (before : State) where
       → Reads (meaning_of d) enclosing before after node → default ≡ get_member (codes "default") ms
       → Reads (field_meaning (object ms)) enclosing before after (record { name = name; aliases = aliases; node = node; default = default })
   field-read d after name aliases node default named aliased found read defaulted =
-      rw (typed d found)
+      subst (λ (m : Meaning RawField). Reads m enclosing before after (record { name = name; aliases = aliases; node = node; default = default }))
+      (sym (typed d found))
       (record {
         no_faults = rw (named.no_faults, aliased.no_faults, read.no_faults) refl;
         result_is = rw (named.value_is, aliased.value_is, read.result_is, defaulted) refl;
