@@ -60,7 +60,7 @@ above-read part space before inside after last held put node faults known result
       no_faults = rw (within, clean, read.no_faults) refl;
       result_is = sym at;
       nodes_are = put-node before.nodes made.nodes inside.nodes after.nodes last.nodes held (node made.result) place at kept read.nodes_are
-      (nodes ∙ ap (λ n. slice_set after.nodes place n) put_is);
+          (nodes ∙ ap (λ n. slice_set after.nodes place n) put_is);
       known_are = last_names ∙ read.known_are;
     })
 

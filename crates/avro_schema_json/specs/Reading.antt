@@ -1,12 +1,12 @@
 -- What the reading of a part answers, and what it leaves.
-use Rattle.std.specs.Prelude.{◌≡◌, ℕ, ◌⊎◌, ◌++◌, List, [], ◌∷◌, length, true, nat_lt, Option, Some, None, Result, Ok, Err, Contains}
+use Rattle.std.specs.Prelude.{◌≡◌, ℕ, ◌⊎◌, ◌++◌, List, [], ◌∷◌, length, codes, true, nat_lt, Option, Some, None, Result, Ok, Err, Contains}
 use Rattle.avro_name.specs.Name.{Name}
 use Rattle.avro_schema.specs.Node.{Node}
 use Rattle.avro_schema.specs.WellFormed.{max_nodes}
-use Rattle.serde_json.specs.Data.{Members}
+use Rattle.serde_json.specs.Data.{Data, Members}
 use Rattle.avro_schema_json.specs.declared.error.SchemaError.{SchemaError}
 use Rattle.avro_schema_json.specs.DeclaredAttributes.{Attribute, unless, name_in}
-use Rattle.avro_schema_json.specs.Declares.{RawNode, RawField, in_turn, faulty, Known, Made, Meaning, defining, name_faults}
+use Rattle.avro_schema_json.specs.Declares.{RawNode, RawField, Known, Made, Meaning, faulty, in_turn, container_of, definition_of, record_named, enum_named, fixed_named, defining, name_faults, meaning_of, fields_under}
 
 -- the nodes so far, and the names that are known
 pub record State : Type 0 where
@@ -70,3 +70,19 @@ beginning_faults before (Ok name) = limit_faults before ++ name_faults name befo
 abbrev pub fields_meaning : Option (List (Meaning RawField)) → Meaning (List RawField)
 fields_meaning None = faulty [] SchemaError.InvalidDeclaration
 fields_meaning (Some meanings) = in_turn meanings
+
+-- the meanings of an array, a map, a record, an enum and a fixed
+abbrev pub array_meaning : Data → Meaning ℕ
+array_meaning items = container_of Node.array (Some (meaning_of items))
+
+abbrev pub map_meaning : Data → Meaning ℕ
+map_meaning values = container_of Node.map_of (Some (meaning_of values))
+
+abbrev pub record_meaning : Members → Meaning ℕ
+record_meaning ms = definition_of ms (record_named ms (fields_under (codes "fields") ms))
+
+abbrev pub enum_meaning : Members → Meaning ℕ
+enum_meaning ms = definition_of ms (enum_named ms)
+
+abbrev pub fixed_meaning : Members → Meaning ℕ
+fixed_meaning ms = definition_of ms (fixed_named ms)

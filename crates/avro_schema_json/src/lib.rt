@@ -8,10 +8,11 @@ mod declarations;
 mod display;
 mod error;
 mod labels;
+mod leaves;
 mod places;
+mod progress;
 mod raw;
 mod read;
-mod types;
 mod words;
 
 pub use display::show;

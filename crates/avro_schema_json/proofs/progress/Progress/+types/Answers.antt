@@ -14,7 +14,14 @@ use Rattle.avro_schema_json.specs.SeenRaw.{raw_node_of, raw_field_of, raw_fields
 use Rattle.avro_schema_json.proofs.DefinitionsRead.{record-unbegun, record-misnamed, record-fields_refused, record-read}
 use Rattle.avro_schema_json.proofs.ObjectsRead.{member-found, member-missing, refuses-faulty, object-array, object-no_items, object-map, object-no_values, fields-found, fields-missing, field-refused, field-untyped, field-read}
 use Rattle.avro_schema_json.proofs.TypesRead.{above-read, above-part, reading-begun, item-read, item-refused, items-read, branch_meanings, list_meanings, next_branch, next_field}
-use Rattle.avro_schema_json.proofs.declarations.Declarations.+types.Goals as goal
+use Rattle.avro_schema_json.proofs.progress.Progress.+types.Goals as goal
+
+pub read_array-returns-in_err-place-clause-refused : goal.read_array-returns-in_err-place-clause-refused
+read_array-returns-in_err-place-clause-refused t c =
+    let p = err_from_is_err_and c.from_residual-in_err-place.result c.from_residual-in_err-place.ensures.1 in
+    let added = c.in_ok-id.ensures.added in
+    rw (p.1, p.2) (above-part (meaning_of (view c.args.items.now)) c.args.enclosing.now (state_of c.args.self.now) (state_of c.reserve.new.self) (RawNode.plain Node.null)
+    (λ place. RawNode.plain (Node.array place)) [] c.args.self.now.names.entries c.in_err-place.field-0.0 added.nodes_are added.known_are c.in_err-place.ensures.refused)
 
 pub read_array-returns-clause-read : goal.read_array-returns-clause-read
 read_array-returns-clause-read t c =
@@ -23,6 +30,13 @@ read_array-returns-clause-read t c =
     (state_of c.read_type.new.self) (state_of c.put.new.self) (RawNode.plain Node.null) (RawNode.plain (Node.array c.in_ok-place.place.0))
     (λ place. RawNode.plain (Node.array place)) [] c.args.self.now.names.entries c.in_ok-place.place.0 c.in_ok-id.id.0
     added.place_is added.within refl added.nodes_are added.known_are c.in_ok-place.ensures.read refl c.put.ensures.nodes c.put.ensures.names
+
+pub read_map-returns-in_err-place-clause-refused : goal.read_map-returns-in_err-place-clause-refused
+read_map-returns-in_err-place-clause-refused t c =
+    let p = err_from_is_err_and c.from_residual-in_err-place.result c.from_residual-in_err-place.ensures.1 in
+    let added = c.in_ok-id.ensures.added in
+    rw (p.1, p.2) (above-part (meaning_of (view c.args.values.now)) c.args.enclosing.now (state_of c.args.self.now) (state_of c.reserve.new.self) (RawNode.plain Node.null)
+    (λ place. RawNode.plain (Node.map_of place)) [] c.args.self.now.names.entries c.in_err-place.field-0.0 added.nodes_are added.known_are c.in_err-place.ensures.refused)
 
 pub read_map-returns-clause-read : goal.read_map-returns-clause-read
 read_map-returns-clause-read t c =

@@ -6,7 +6,7 @@ use Rattle.avro_schema_json.specs.Reading.{made_at}
 use Rattle.avro_schema_json.specs.ReadingSeen.{state_of}
 use Rattle.avro_schema_json.specs.SeenRaw.{raw_fields_of}
 use Rattle.avro_schema_json.proofs.TypesRead.{IsReading}
-use Rattle.avro_schema_json.proofs.declarations.Declarations.+types.Given as goal
+use Rattle.avro_schema_json.proofs.progress.Progress.+types.Given as goal
 
 abbrev pub invariant-read_union-loop-branch : goal.invariant-read_union-loop-branch
 invariant-read_union-loop-branch l =

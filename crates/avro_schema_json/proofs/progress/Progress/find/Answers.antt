@@ -3,7 +3,7 @@ use Rattle.avro_name.specs.Name.{name_of}
 use Rattle.avro_schema_json.specs.ReadingSeen.{state_of}
 use Rattle.avro_schema_json.specs.declared.error.SchemaError.{SchemaError}
 use Rattle.avro_schema_json.proofs.PartsRead.{reference-read, reference-unknown, ok-or_memory, some-from_ok_or, place_of-lookup}
-use Rattle.avro_schema_json.proofs.declarations.Declarations.find.Goals as goal
+use Rattle.avro_schema_json.proofs.progress.Progress.find.Goals as goal
 
 pub returns-in-Some-clause-found : goal.returns-in-Some-clause-found
 returns-in-Some-clause-found c =
