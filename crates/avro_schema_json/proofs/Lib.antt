@@ -8,6 +8,10 @@ pub mod DefaultsSeen
 pub mod WholeSeen
 pub mod FaultsThere
 pub mod DefaultSteps
+pub mod PartsRead
+pub mod TypesRead
+pub mod DefinitionsRead
+pub mod ObjectsRead
 mod RowsLimits
 pub mod ReadSeen
 pub mod MadeSound

@@ -12,3 +12,6 @@ pub mod SeenDefaults
 pub mod Placed
 pub mod TextRefusals
 pub mod DeclaredText
+pub mod NameRefusal
+pub mod Reading
+pub mod ReadingSeen
