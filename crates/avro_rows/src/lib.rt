@@ -5,7 +5,15 @@
 #[cfg(test)]
 mod data;
 #[cfg(test)]
+mod declared;
+#[cfg(test)]
+mod defaults;
+#[cfg(test)]
+mod displays;
+#[cfg(test)]
 mod drafts;
+#[cfg(test)]
+mod edges;
 #[cfg(test)]
 mod judging;
 #[cfg(test)]
@@ -14,6 +22,10 @@ mod names;
 mod numbers;
 #[cfg(test)]
 mod program;
+#[cfg(test)]
+mod refusals;
+#[cfg(test)]
+mod schema_command;
 #[cfg(test)]
 mod schemas;
 #[cfg(test)]
