@@ -17,7 +17,7 @@ use Rattle.avro_schema_json.proofs.RawSeen.{name_and_node}
 use Rattle.avro_schema_json.proofs.RowsLaws.{default_under-found}
 use Rattle.avro_schema_json.proofs.DefaultsSeen.{after_values, after_entries, value_step, value_stop, values_end, entry_step, entry_stop, entries_end}
 
-drop_past : {A : Type 0} (xs : List A) (i : ℕ) → length xs ≤ i → drop i xs ≡ []
+pub drop_past : {A : Type 0} (xs : List A) (i : ℕ) → length xs ≤ i → drop i xs ≡ []
 drop_past [] zero h = refl
 drop_past [] (suc i) h = refl
 drop_past (x ∷ xs) zero h = absurd (omega arith)
@@ -52,7 +52,7 @@ entry_next nodes n before left key copy x all done d step same whole is =
 
 -- ---- fields
 
-drop_at : (fields : List FieldNode) (i : ℕ) (f : FieldNode) → slice_get fields i ≡ Some f → drop i fields ≡ f ∷ drop (suc i) fields
+pub drop_at : (fields : List FieldNode) (i : ℕ) (f : FieldNode) → slice_get fields i ≡ Some f → drop i fields ≡ f ∷ drop (suc i) fields
 drop_at [] i f h = cc
 drop_at (g ∷ fields) zero f h = let same : g ≡ f = cc in rw same refl
 drop_at (g ∷ fields) (suc i) f h = drop_at fields i f h
@@ -73,12 +73,12 @@ first_default-none : (nodes : List Node) (es : List Entry) (f : FieldNode) → g
 first_default-none nodes es f h = rw (default_under-found nodes f.name (members_view es), h) refl
 
 -- a field at a place
-record IsFieldAt (fields : List FieldNode) (i : ℕ) (name : List ℕ) (place : ℕ) (f : FieldNode) : Type 0 where
-  at : slice_get fields i ≡ Some f
-  named : f.name ≡ name
-  placed : f.node ≡ place
+pub record IsFieldAt (fields : List FieldNode) (i : ℕ) (name : List ℕ) (place : ℕ) (f : FieldNode) : Type 0 where
+  pub at : slice_get fields i ≡ Some f
+  pub named : f.name ≡ name
+  pub placed : f.node ≡ place
 
-field_at-found : (fields : List FieldNode) (i : ℕ) (name : List ℕ) (place : ℕ) (found : Option FieldNode) → slice_get fields i ≡ found
+pub field_at-found : (fields : List FieldNode) (i : ℕ) (name : List ℕ) (place : ℕ) (found : Option FieldNode) → slice_get fields i ≡ found
     → Some (name, place) ≡ option_map name_and_node found → (f : FieldNode) × IsFieldAt fields i name place f
 field_at-found fields i name place None is h = cc
 field_at-found fields i name place (Some f) is h =

@@ -8,6 +8,7 @@ pub mod DefaultsSeen
 pub mod WholeSeen
 pub mod FaultsThere
 pub mod DefaultSteps
+pub mod NamesSeen
 pub mod PartsRead
 pub mod TypesRead
 pub mod DefinitionsRead

@@ -24,13 +24,3 @@ raw_field_at fs i =
         → option_map {U = List ℕ × ℕ} (λ f. (string_bytes f.name, f.node.0)) f ≡ option_map name_and_node (option_map bare_field (option_map raw_field_of f))
     seen None = refl
     seen (Some f) = refl
-
--- whether a field has a name
-pub whole_has-seen : (name : List ℕ) (fs : List Field) → list_any (λ f. bytes_eq name (string_bytes f.name)) fs ≡ list_any (λ f. bytes_eq name f.name) (seen_fields fs)
-whole_has-seen name [] = refl
-whole_has-seen name (f ∷ fs) = ap (λ b. bytes_eq name (string_bytes f.name) || b) (whole_has-seen name fs)
-
-pub raw_has-seen : (name : List ℕ) (fs : List RawField)
-    → list_any (λ f. bytes_eq name (string_bytes f.name)) fs ≡ list_any (λ f. bytes_eq name f.name) (map bare_field (raw_fields_of fs))
-raw_has-seen name [] = refl
-raw_has-seen name (f ∷ fs) = ap (λ b. bytes_eq name (string_bytes f.name) || b) (raw_has-seen name fs)

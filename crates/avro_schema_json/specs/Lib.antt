@@ -15,3 +15,4 @@ pub mod DeclaredText
 pub mod NameRefusal
 pub mod Reading
 pub mod ReadingSeen
+pub mod FieldNames

@@ -226,7 +226,7 @@ fn record_default(
     let Some(values) = field_defaults(alloc, raws, members, fields)? else {
         return Ok(None);
     };
-    if names_fields(members, fields) {
+    if names_fields(alloc, members, fields)? {
         Ok(Some(Datum::Record(values)))
     } else {
         Ok(None)
@@ -234,15 +234,20 @@ fn record_default(
 }
 
 /// Whether each key is the name of a field.
-fn names_fields(members: &Map<String, Value>, fields: Fields<'_>) -> bool
-    ensures { result ≡ names_only (member_keys (members_view members.now.entries)) (fields_seen fields.entry) }
+fn names_fields(
+    alloc: Global,
+    members: &Map<String, Value>,
+    fields: Fields<'_>,
+) -> Result<bool, Memory>
+    ensures { IfOk result (λ answer. answer ≡ names_only (member_keys (members_view members.now.entries)) (fields_seen fields.entry)) }
 {
+    let names = fields.names(alloc)?;
     for (key, _) in members.iter() {
-        if !fields.has(key.as_str()) {
-            return false;
+        if !names.contains_key(key.as_str()) {
+            return Ok(false);
         }
     }
-    true
+    Ok(true)
 }
 
 /// The default of each field, by the member of its name.

@@ -1,8 +1,9 @@
-ghost use Rattle.std.specs.Prelude.{◌≡◌, ℕ, List, bytes_eq, string_bytes, slice_get, option_map};
-ghost use Rattle.std.specs.List.{list_any};
+ghost use Rattle.std.specs.Prelude.{◌≡◌, ℕ, List, string_bytes, slice_get, option_map};
 
 use crate::raw::RawField;
-use avro_schema::{Field, NodeId};
+use avro_schema::{Field, Memory, NodeId};
+use std::alloc::Global;
+use std::collections::BTreeMap;
 
 /// The fields of a record, whether their defaults are read or still JSON.
 #[derive(Clone, Copy)]
@@ -12,8 +13,8 @@ pub(crate) enum Fields<'a> {
 }
 
 impl<'a> Fields<'a> {
-    ghost use Rattle.std.specs.Prelude.{◌≡◌, ℕ, List, length, bytes_eq, slice_get, option_map};
-    ghost use Rattle.std.specs.List.{list_any};
+    ghost use Rattle.std.specs.Prelude.{◌≡◌, ℕ, List, length, slice_get, option_map, IfOk};
+    ghost use Rattle.avro_schema_json.specs.FieldNames.{HasNames};
     ghost use Rattle.avro_schema_json.specs.OwnDefaults.{fields_seen};
 
     /// The number of fields.
@@ -39,29 +40,22 @@ impl<'a> Fields<'a> {
         }
     }
 
-    /// Whether a field has a name.
-    pub(crate) fn has(self, name: &str) -> bool
-        ensures { result ≡ list_any (λ f. bytes_eq name.now f.name) (fields_seen self.entry) }
+    /// The names of the fields, to look keys up in.
+    pub(crate) fn names(self, alloc: Global) -> Result<BTreeMap<&'a str, ()>, Memory>
+        ensures { IfOk result (λ names. HasNames names (fields_seen self.entry)) }
     {
-        match self {
-            Fields::Whole(fields) => whole_has(fields, name),
-            Fields::Raw(fields) => raw_has(fields, name),
+        let mut names: BTreeMap<&'a str, ()> = BTreeMap::new(alloc);
+        for i in 0..self.len() {
+            match self.get(i) {
+                Some((name, _)) => match names.insert(name, ()) {
+                    Ok(_) => {}
+                    Err(_) => return Err(Memory),
+                },
+                None => {}
+            }
         }
+        Ok(names)
     }
-}
-
-/// Whether a field of a node has a name.
-fn whole_has(fields: &[Field], name: &str) -> bool
-    ensures { result ≡ list_any (λ f. bytes_eq name.now (string_bytes f.name)) fields.now }
-{
-    fields.iter().any(|field| name == field.name.as_str())
-}
-
-/// Whether a field has a name, of fields whose defaults are still JSON.
-fn raw_has(fields: &[RawField], name: &str) -> bool
-    ensures { result ≡ list_any (λ f. bytes_eq name.now (string_bytes f.name)) fields.now }
-{
-    fields.iter().any(|field| name == field.name.as_str())
 }
 
 /// The name of the field at a place and the place of its node, of fields whose defaults are still
