@@ -1,12 +1,12 @@
 -- How definitions are read: a record, an enum, a fixed.
-use Rattle.std.proofs.Common.{◌≡◌, ℕ, suc, List, [], ◌∷◌, ◌++◌, Option, Some, None, refl, subst, length, arith, sym, ap, ◌∙◌, inl, inr}
-use Rattle.std.specs.Prelude.{◌⊎◌, slice_set, codes, Result, Ok, Err, Contains}
-use Rattle.std.proofs.lemmas.List.{append_assoc, append-nil}
+use Rattle.std.proofs.Common.{◌≡◌, ℕ, suc, List, [], ◌∷◌, ◌++◌, Option, Some, None, refl, subst, length, sym, ap, ◌∙◌}
+use Rattle.std.specs.Prelude.{slice_set, Result, Ok, Err}
+use Rattle.std.proofs.lemmas.List.{append-nil}
 use Rattle.avro_name.specs.Name.{Name}
 use Rattle.avro_schema.specs.Node.{Node}
 use Rattle.serde_json.specs.Data.{Members}
 use Rattle.avro_schema_json.specs.declared.error.SchemaError.{SchemaError}
-use Rattle.avro_schema_json.specs.DeclaredAttributes.{Attribute, name_in, aliases_in, symbols_in, size_in}
+use Rattle.avro_schema_json.specs.DeclaredAttributes.{name_in, aliases_in, symbols_in, size_in}
 use Rattle.avro_schema_json.specs.Declares.{RawNode, RawField, Known, Made, Meaning, alone, above, definition_of, enum_named, fixed_named, record_named, defining, name_faults}
 use Rattle.avro_schema_json.specs.Reading.{State, made_at, IsRead, Reads, IsRefusal, Refuses, IsAttribute, IsBegun, limit_faults, beginning_faults, fields_meaning}
 use Rattle.avro_schema_json.proofs.TypesRead.{first-refused, second-refused, grown-refused, above-read, above-own, above-part}

@@ -1,8 +1,6 @@
 -- How objects are read: what their members mean.
-use Rattle.std.proofs.Common.{◌≡◌, ℕ, suc, List, [], ◌∷◌, ◌++◌, Option, Some, None, refl, subst, length, arith, sym, ap, ◌∙◌, inl, inr, BTreeMap, String, Global, string_bytes}
-use Rattle.std.specs.Prelude.{◌⊎◌, option_map, option_and_then, codes, Result, Ok, Err, Contains}
-use Rattle.std.specs.Ordering.{nat_cmp}
-use Rattle.std.specs.Cmp.Lexicographic.{slice_cmp}
+use Rattle.std.proofs.Common.{◌≡◌, ℕ, List, [], ◌∷◌, ◌++◌, Option, Some, None, refl, subst, arith, sym, ap, ◌∙◌, inr, BTreeMap, String, Global}
+use Rattle.std.specs.Prelude.{option_map, option_and_then, codes}
 use Rattle.std.specs.BTreeMap.{get_by_text}
 use Rattle.avro_schema.specs.Node.{Node}
 use Rattle.serde_json.specs.Data.{Data, Members, object}
@@ -11,9 +9,9 @@ use Rattle.serde_json.specs.View.{view, members_view}
 use Rattle.serde_json.specs.declared.value.Value.{Value}
 use Rattle.serde_json.proofs.Views.{view-lookup}
 use Rattle.avro_schema_json.specs.declared.error.SchemaError.{SchemaError}
-use Rattle.avro_schema_json.specs.DeclaredAttributes.{Attribute, needed, text_in, alias_texts_in}
-use Rattle.avro_schema_json.specs.Declares.{RawNode, RawField, Made, Meaning, faulty, container_of, meaning_of, meaning_under, fields_under, fields_from, field_meaning, field_of, form_of, array_form, map_form}
-use Rattle.avro_schema_json.specs.Reading.{State, made_at, IsRead, Reads, IsRefusal, Refuses, IsAttribute, fields_meaning}
+use Rattle.avro_schema_json.specs.DeclaredAttributes.{needed, text_in, alias_texts_in}
+use Rattle.avro_schema_json.specs.Declares.{RawField, Meaning, faulty, container_of, meaning_of, fields_under, fields_from, field_meaning, field_of, form_of, array_form, map_form}
+use Rattle.avro_schema_json.specs.Reading.{State, Reads, Refuses, IsAttribute}
 use Rattle.avro_schema_json.proofs.RowsLaws.{meaning_under-found, fields_under-found}
 use Rattle.avro_schema_json.proofs.TypesRead.{second-refused}
 

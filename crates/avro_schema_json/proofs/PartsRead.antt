@@ -1,21 +1,18 @@
 -- How the parts of a declaration are read.
-use Rattle.std.proofs.Common.{◌≡◌, ℕ, suc, zero, ◌+◌, ◌<◌, Bool, true, false, List, [], ◌∷◌, ◌++◌, Option, Some, None, refl, subst, map, length, get_or, set, arith, sym, ap, ◌∙◌, inl, inr, length-append, drop, drop-cons, add-one}
-use Rattle.std.specs.Prelude.{◌⊎◌, IsErrOf, is_some, ok_or, String, string_bytes, option_map, bytes_eq, nat_lt, nat_le, slice_set, if◌then◌else◌, Result, Ok, Err, Contains}
+use Rattle.std.proofs.Common.{◌≡◌, ℕ, suc, ◌+◌, ◌<◌, true, false, List, [], ◌∷◌, Option, Some, None, refl, length, get_or, arith, sym, ap, ◌∙◌, inr, drop, drop-cons, add-one}
+use Rattle.std.specs.Prelude.{◌⊎◌, IsErrOf, is_some, ok_or, String, string_bytes, option_map, bytes_eq, Result, Ok, Contains}
 use Rattle.std.specs.Map.{lookup}
 use Rattle.std.specs.HashMap.{HashMap, get}
 use Rattle.indexmap.specs.IndexMap.{insert_entry}
 use Rattle.indexmap.proofs.CallerLemmas.{insert_entry-new}
-use Rattle.std.proofs.lemmas.List.{append_assoc, append-nil, map-set}
-use Rattle.std.proofs.lemmas.List.Elements.{Contains-append_left, Contains-append_right}
-use Rattle.std.proofs.Math.Seq.{set-append_seam}
+use Rattle.std.proofs.lemmas.List.{append-nil}
+use Rattle.std.proofs.lemmas.List.Elements.{Contains-append_right}
 use Rattle.avro_name.specs.Name.{Name, same_name, name_of}
 use Rattle.std.specs.declared.alloc.Global.{Global}
 use Rattle.avro_schema.specs.Seen.{texts_of}
-use Rattle.avro_schema.specs.Node.{Node}
-use Rattle.avro_schema.specs.WellFormed.{max_nodes}
 use Rattle.avro_schema_json.specs.declared.error.SchemaError.{SchemaError}
-use Rattle.avro_schema_json.specs.DeclaredAttributes.{unless, symbol_place}
-use Rattle.avro_schema_json.specs.Declares.{name_faults, defining, RawNode, Known, Made, Meaning, place_of, reference, above, in_turn, joined, faulty}
+use Rattle.avro_schema_json.specs.DeclaredAttributes.{symbol_place}
+use Rattle.avro_schema_json.specs.Declares.{name_faults, defining, Known, place_of, reference}
 use Rattle.avro_schema_json.specs.Reading.{State, made_at, IsRead, IsRefusal, limit_faults, beginning_faults}
 
 -- ---- names that are known
@@ -36,10 +33,6 @@ pub reference-unknown : (word enclosing : List ℕ) (s : State) (name : Name) �
     → place_of name s.known ≡ None → Contains (made_at (reference word) enclosing s).faults SchemaError.UnknownName
 reference-unknown word enclosing s name is unknown = rw (is, unknown) (0, omega arith, refl)
 
-pub reference-invalid : (word enclosing : List ℕ) (s : State) → name_of word enclosing ≡ None
-    → Contains (made_at (reference word) enclosing s).faults SchemaError.InvalidName
-reference-invalid word enclosing s is = rw is (0, omega arith, refl)
-
 -- ---- answers that are a model's, or want memory
 
 pub ok-or_memory : {A : Type 0} (x : A) (model : Result A SchemaError) → IsErrOf (Ok x) SchemaError.OutOfMemory ⊎ (Ok x ≡ model) → model ≡ Ok x
@@ -48,14 +41,6 @@ ok-or_memory x model h = grind arith
 pub some-from_ok_or : {A : Type 0} (o : Option A) (x : A) (e : SchemaError) → ok_or o e ≡ Ok x → o ≡ Some x
 some-from_ok_or None x e h = cc
 some-from_ok_or (Some y) x e h = cc
-
-err-injective : {A : Type 0} (e f : SchemaError) → ◌≡◌ {A = Result A SchemaError} (Err e) (Err f) → e ≡ f
-err-injective e f h = cc
-
-pub no_memory : {A : Type 0} (e : SchemaError) (model : Result A SchemaError)
-    → IsErrOf {T = A} (Err e) SchemaError.OutOfMemory ⊎ (Err e ≡ model) → (e ≡ SchemaError.OutOfMemory) ⊎ (model ≡ Err e)
-no_memory e model (inl h) = inl (err-injective e SchemaError.OutOfMemory h)
-no_memory e model (inr h) = inr (sym h)
 
 pub not_some : {A : Type 0} (o : Option A) → is_some o ≡ false → o ≡ None
 not_some None h = refl
@@ -104,17 +89,6 @@ name_faults-new name known h = rw (← place_of-lookup name known, h) refl
 pub name_faults-known : (name : Name) (known : Known) → is_some (lookup (same_name name) known) ≡ true
     → Contains (name_faults name known) SchemaError.DuplicateName
 name_faults-known name known h = rw (← place_of-lookup name known, h) (0, omega arith, refl)
-
--- a fault of the name, of the limit, or of a name that is known
-pub beginning-unnamed : (before : State) (named : Result Name SchemaError) (e : SchemaError)
-    → IsErrOf {T = Name} (Err e) SchemaError.OutOfMemory ⊎ (Err e ≡ named) → IsRefusal (beginning_faults before named) e
-beginning-unnamed before named e (inl h) = inl (err-injective e SchemaError.OutOfMemory h)
-beginning-unnamed before named e (inr h) = inr (rw (← h) (0, omega arith, refl))
-
-pub beginning-limited : (before : State) (named : Result Name SchemaError) (name : Name) (e : SchemaError) → named ≡ Ok name
-    → IsRefusal (limit_faults before) e → IsRefusal (beginning_faults before named) e
-beginning-limited before named name e is (inl h) = inl h
-beginning-limited before named name e is (inr h) = inr (rw is (Contains-append_left (limit_faults before) (name_faults name before.known) e h))
 
 pub beginning-known : (before : State) (named : Result Name SchemaError) (name : Name) → named ≡ Ok name
     → is_some (lookup (same_name name) before.known) ≡ true → IsRefusal (beginning_faults before named) SchemaError.DuplicateName

@@ -1,14 +1,11 @@
 -- How types are read: a node above its parts, and parts one after another.
-use Rattle.std.proofs.Common.{◌≡◌, ℕ, suc, ◌+◌, ◌<◌, ◌≤◌, Bool, true, List, [], ◌∷◌, ◌++◌, Option, Some, None, refl, subst, map, length, get_or, arith, sym, ap, ◌∙◌, inl, inr, length-append, drop, drop-cons, add-one}
-use Rattle.std.specs.Prelude.{◌⊎◌, slice_set, nat_lt, Result, Ok, Err, Contains}
-use Rattle.std.proofs.lemmas.List.{append_assoc, append-nil, map-append}
+use Rattle.std.proofs.Common.{◌≡◌, ℕ, suc, ◌+◌, ◌<◌, ◌≤◌, true, List, [], ◌∷◌, ◌++◌, refl, subst, length, get_or, arith, sym, ap, ◌∙◌, inl, inr, length-append, drop, drop-cons, add-one}
+use Rattle.std.specs.Prelude.{slice_set, nat_lt}
+use Rattle.std.proofs.lemmas.List.{append_assoc, append-nil}
 use Rattle.std.proofs.lemmas.List.Elements.{Contains-append_left, Contains-append_right}
 use Rattle.std.proofs.Math.ListN.{drop_of_length-le}
 use Rattle.std.proofs.Math.Seq.{set-append_seam}
-use Rattle.avro_schema.specs.Seen.{places_of}
 use Rattle.avro_schema.specs.WellFormed.{max_nodes}
-use Rattle.avro_schema.specs.declared.schema.NodeId.{NodeId}
-use Rattle.serde_json.specs.Data.{Data}
 use Rattle.serde_json.specs.View.{view, items_view}
 use Rattle.serde_json.specs.declared.value.Value.{Value}
 use Rattle.avro_schema_json.specs.declared.error.SchemaError.{SchemaError}
@@ -64,12 +61,7 @@ above-read part space before inside after last held put node faults known result
       known_are = last_names ∙ read.known_are;
     })
 
--- no room, a fault of the node's own, a fault of a part
-pub above-limited : {A : Type 0} (before : State) (node : A → RawNode) (faults : List SchemaError) (parts : Made A) (e : SchemaError)
-    → IsRefusal (limit_faults before) e → IsRefusal (above (length before.nodes) node faults parts).faults e
-above-limited before node faults parts e h =
-    first-refused (limit_faults before ++ faults) parts.faults e (first-refused (limit_faults before) faults e h)
-
+-- a fault of the node's own, and one of a part
 pub above-own : {A : Type 0} (before : State) (node : A → RawNode) (faults : List SchemaError) (parts : Made A) (e : SchemaError)
     → IsRefusal faults e → IsRefusal (above (length before.nodes) node faults parts).faults e
 above-own before node faults parts e h =

@@ -1,10 +1,8 @@
-use Rattle.std.proofs.Common.{length, sym, ◌∙◌, inr, ap}
-use Rattle.avro_name.specs.Name.{same_name}
-use Rattle.indexmap.proofs.CallerLemmas.{insert_entry-new}
+use Rattle.std.proofs.Common.{length, sym, ◌∙◌}
 use Rattle.serde_json.specs.View.{members_view}
 use Rattle.avro_schema_json.specs.DeclaredAttributes.{name_in}
 use Rattle.avro_schema_json.specs.ReadingSeen.{state_of}
-use Rattle.avro_schema_json.proofs.PartsRead.{ok-or_memory, not_some, name_faults-new, beginning-known, begun-known}
+use Rattle.avro_schema_json.proofs.PartsRead.{ok-or_memory, name_faults-new, beginning-known, begun-known}
 use Rattle.avro_schema_json.proofs.progress.Progress.begin.Goals as goal
 
 pub returns-then-contains_key-clause-refused : goal.returns-then-contains_key-clause-refused
