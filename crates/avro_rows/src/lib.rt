@@ -5,7 +5,15 @@
 #[cfg(test)]
 mod data;
 #[cfg(test)]
+mod declared;
+#[cfg(test)]
+mod defaults;
+#[cfg(test)]
+mod displays;
+#[cfg(test)]
 mod drafts;
+#[cfg(test)]
+mod edges;
 #[cfg(test)]
 mod encoding;
 #[cfg(test)]
@@ -18,6 +26,10 @@ mod numbers;
 mod program;
 #[cfg(test)]
 mod reading;
+#[cfg(test)]
+mod refusals;
+#[cfg(test)]
+mod schema_command;
 #[cfg(test)]
 mod schemas;
 #[cfg(test)]

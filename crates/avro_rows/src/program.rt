@@ -8,13 +8,14 @@ use std::{fs, io};
 
 /// What a run of the program answered and wrote.
 #[derive(Drop)]
-struct Outcome {
-    status: u8,
-    out: Vec<u8>,
-    err: Vec<u8>,
+pub(crate) struct Outcome {
+    pub status: u8,
+    pub out: Vec<u8>,
+    pub err: Vec<u8>,
 }
 
-fn outcome_of<R: Files + AllocGlobal>(rt: &R, words: &[&str]) -> Result<Outcome, AllocError> {
+/// A run of the program over its words.
+pub(crate) fn outcome_of<R: Files + AllocGlobal>(rt: &R, words: &[&str]) -> Result<Outcome, AllocError> {
     let mut out = Vec::new(rt.alloc());
     let mut err = Vec::new(rt.alloc());
     let words = words_of(rt, words)?;
@@ -102,6 +103,9 @@ fn other_words_are_usage(rt: HostRuntime) -> Result<(), Fail> {
         &["judge", "int.avsc"],
         &["judge", "int.avsc", "long.avsc", "null.avsc"],
         &["judge", "--fast", "int.avsc", "long.avsc"],
+        &["schema"],
+        &["schema", "--help"],
+        &["schema", "int.avsc", "long.avsc"],
     ] {
         let ran = outcome_of(&rt, words)?;
         assert_eq!(rt; ran.status, 64);

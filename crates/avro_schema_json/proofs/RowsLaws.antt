@@ -1,5 +1,5 @@
 -- What follows from the definitions: a tree declares one schema at most, and none exactly where a fault is there.
-use Rattle.std.proofs.Common.{◌≡◌, ℕ, suc, Bool, true, false, not, ◌&&◌, ◌||◌, List, [], ◌∷◌, ◌++◌, Option, Some, None, refl, subst, map, length, Ordering, arith, ◌+◌, sym, ◌∙◌}
+use Rattle.std.proofs.Common.{◌≡◌, ℕ, suc, Bool, true, false, not, ◌&&◌, ◌||◌, List, [], ◌∷◌, ◌++◌, Option, Some, None, refl, subst, length, Ordering, arith}
 use Rattle.std.specs.Prelude.{option_map, option_and_then, bytes_eq, nat_lt, nat_le, filter_map, flat_map, if◌then◌else◌, Contains}
 use Rattle.std.specs.List.{list_all}
 use Rattle.std.specs.Ordering.{nat_cmp, match_ordering}
@@ -12,12 +12,9 @@ use Rattle.avro_schema.specs.WellFormed.{max_nodes, max_count, is_edge, is_union
 use Rattle.serde_json.specs.Data.{Data, Members, no_members, member}
 use Rattle.serde_json.specs.Find.{get_member}
 use Rattle.serde_json.specs.Written.{has_float}
-use Rattle.serde_json.specs.View.{items_of}
 use Rattle.avro_schema_json.specs.declared.error.SchemaError.{SchemaError}
 use Rattle.avro_schema_json.specs.DeclaredAttributes.{unless}
-use Rattle.avro_schema_json.specs.Declares.{RawNode, Made, Known, Meaning, in_turn, made_of, meaning_of, meaning_under, branches_of, fields_from, fields_under, field_meanings, field_meaning}
-use Rattle.std.proofs.lemmas.List.{append_assoc, append-nil}
-use Rattle.std.proofs.lemmas.List.Elements.{Contains-append_left}
+use Rattle.avro_schema_json.specs.Declares.{made_of, meaning_of, meaning_under, fields_from, fields_under}
 use Rattle.avro_schema_json.specs.DeclaredDefaults.{default_of, default_under}
 use Rattle.avro_schema_json.specs.DeclaredSchema.{declared, whole_nodes, are_all_defaults_read, is_empty, DeclaresSchema}
 use Rattle.avro_schema_json.specs.DeclaredFaults.{faults_of, faults_of_nodes, faults_of_kind, node_faults, enum_faults, or_else, HasFault}
@@ -294,61 +291,3 @@ pub fault-from_defaults : (tree : Data) → has_float tree ≡ false → (made_o
     → HasFault tree SchemaError.InvalidDefault
 fault-from_defaults tree whole clean formed unread =
     rw (whole, clean, no_faults-from_is_schema (whole_nodes (made_of tree).nodes) formed, unread) (0, omega arith, refl)
-
--- ---- lists of values
-
--- the meanings of items in a list
-pub branches_of-items : (ds : List Data) → branches_of (items_of ds) ≡ map meaning_of ds
-branches_of-items [] = refl
-branches_of-items (d ∷ ds) = rw (branches_of-items ds) refl
-
-pub field_meanings-items : (ds : List Data) → field_meanings (items_of ds) ≡ map field_meaning ds
-field_meanings-items [] = refl
-field_meanings-items (d ∷ ds) = rw (field_meanings-items ds) refl
-
--- ---- parts one after another
-
--- Of the whole, some parts are read without a fault, with these nodes and results, and the rest is still to come.
-pub record IsAhead {A : Type 0} (whole rest : Made (List A)) (nodes : List RawNode) (results : List A) : Type 0 where
-  pub nodes_are : whole.nodes ≡ nodes ++ rest.nodes
-  pub results_are : whole.result ≡ results ++ rest.result
-  pub known_are : whole.known ≡ rest.known
-  pub faults_are : whole.faults ≡ rest.faults
-
-pub all-ahead : {A : Type 0} (whole : Made (List A)) → IsAhead whole whole [] []
-all-ahead whole = record { nodes_are = refl; results_are = refl; known_are = refl; faults_are = refl }
-
--- a part is read without a fault
-pub next-ahead : {A : Type 0} (whole : Made (List A)) (meaning : Meaning A) (meanings : List (Meaning A)) (enclosing : List ℕ) (known : Known)
-    (next : ℕ) (nodes : List RawNode) (results : List A)
-    → IsAhead whole (in_turn (meaning ∷ meanings) enclosing known next) nodes results
-    → (meaning enclosing known next).faults ≡ []
-    → IsAhead whole (in_turn meanings enclosing (meaning enclosing known next).known (next + length (meaning enclosing known next).nodes))
-    (nodes ++ (meaning enclosing known next).nodes) (results ++ (meaning enclosing known next).result ∷ [])
-next-ahead whole meaning meanings enclosing known next nodes results ahead clean =
-    let first = meaning enclosing known next in
-    let rest = in_turn meanings enclosing first.known (next + length first.nodes) in
-    let none : first.faults ++ rest.faults ≡ rest.faults = rw clean refl in
-    record {
-      nodes_are = ahead.nodes_are ∙ sym (append_assoc nodes first.nodes rest.nodes);
-      results_are = ahead.results_are ∙ sym (append_assoc results (first.result ∷ []) rest.result);
-      known_are = ahead.known_are;
-      faults_are = ahead.faults_are ∙ none;
-    }
-
--- a fault of the next part is one of the whole
-pub fault-ahead : {A : Type 0} (whole : Made (List A)) (meaning : Meaning A) (meanings : List (Meaning A)) (enclosing : List ℕ) (known : Known)
-    (next : ℕ) (nodes : List RawNode) (results : List A) (fault : SchemaError)
-    → IsAhead whole (in_turn (meaning ∷ meanings) enclosing known next) nodes results
-    → Contains (meaning enclosing known next).faults fault → Contains whole.faults fault
-fault-ahead whole meaning meanings enclosing known next nodes results fault ahead c =
-    let first = meaning enclosing known next in
-    let rest = in_turn meanings enclosing first.known (next + length first.nodes) in
-    rw ahead.faults_are (Contains-append_left first.faults rest.faults fault c)
-
--- nothing is left
-pub none-ahead : {A : Type 0} (whole : Made (List A)) (enclosing : List ℕ) (known : Known) (next : ℕ) (nodes : List RawNode) (results : List A)
-    → IsAhead whole (in_turn [] enclosing known next) nodes results
-    → (whole.nodes ≡ nodes) × (whole.result ≡ results) × (whole.known ≡ known) × (whole.faults ≡ [])
-none-ahead whole enclosing known next nodes results ahead =
-    (ahead.nodes_are ∙ append-nil nodes, ahead.results_are ∙ append-nil results, ahead.known_are, ahead.faults_are)

@@ -1,0 +1,70 @@
+-- The names of fields as they are gathered.
+use Rattle.std.proofs.Common.{◌≡◌, ℕ, suc, ◌+◌, ◌<◌, ◌≤◌, Bool, true, false, ◌||◌, cond, List, [], ◌∷◌, length, Option, Some, None, option_map, drop, refl, ap, sym, ◌∙◌, add-one}
+use Rattle.std.specs.Prelude.{String, string_bytes, slice_get, bytes_eq, is_some}
+use Rattle.std.specs.declared.alloc.Global.{Global}
+use Rattle.std.specs.List.{list_any}
+use Rattle.std.specs.Map.{update}
+use Rattle.std.proofs.lemmas.Slice.Eq.{bytes_eq-Decides}
+use Rattle.avro_schema.specs.Node.{FieldNode}
+use Rattle.serde_json.specs.View.{members_view}
+use Rattle.serde_json.specs.declared.value.Value.{Value as Tree}
+use Rattle.serde_json.proofs.Views.{Entry}
+use Rattle.avro_schema_json.specs.DeclaredDefaults.{member_keys, names_only}
+use Rattle.avro_schema_json.proofs.RawSeen.{name_and_node}
+use Rattle.avro_schema_json.proofs.DefaultSteps.{drop_past, drop_at, field_at-found}
+
+bytes_eq-comm : (xs ys : List ℕ) → bytes_eq xs ys ≡ bytes_eq ys xs
+bytes_eq-comm xs ys = by_cases (bytes_eq xs ys) (bytes_eq ys xs) refl refl
+  where
+    by_cases : (a b : Bool) → bytes_eq xs ys ≡ a → bytes_eq ys xs ≡ b → a ≡ b
+    by_cases true true h k = refl
+    by_cases false false h k = refl
+    by_cases true false h k = sym ((bytes_eq-Decides ys xs).1 (sym ((bytes_eq-Decides xs ys).0 h))) ∙ k
+    by_cases false true h k = sym h ∙ (bytes_eq-Decides xs ys).1 (sym ((bytes_eq-Decides ys xs).0 k))
+
+or-false : (a b : Bool) → (a || false) ≡ b → a ≡ b
+or-false true b h = h
+or-false false b h = h
+
+gathered : (b : Bool) (before : Option (Unit {0})) (r : Bool) → (is_some (cond b (Some tt) before) || r) ≡ (is_some before || (b || r))
+gathered true None r = refl
+gathered true (Some x) r = refl
+gathered false before r = refl
+
+-- whether a field has the name
+abbrev pub is_named : List ℕ → FieldNode → Bool
+is_named name f = bytes_eq name f.name
+
+pub name_next : (fields : List FieldNode) (i : ℕ) (key : List ℕ) (place : ℕ) (before after : Option (Unit {0})) (name : List ℕ) (all : Bool)
+    → Some (key, place) ≡ option_map name_and_node (slice_get fields i) → after ≡ cond (bytes_eq key name) (Some tt) before
+    → (is_some before || list_any (is_named name) (drop i fields)) ≡ all → (is_some after || list_any (is_named name) (drop (i + 1) fields)) ≡ all
+name_next fields i key place before after name all got put whole =
+    let found = field_at-found fields i key place (slice_get fields i) refl got in
+    let f = found.0 in
+    let here : drop i fields ≡ f ∷ drop (suc i) fields = drop_at fields i f found.1.at in
+    let same : bytes_eq key name ≡ bytes_eq name f.name = bytes_eq-comm key name ∙ ap (bytes_eq name) (sym found.1.named) in
+    let w = rw here at whole in
+    rw (put, same, add-one) (gathered (bytes_eq name f.name) before (list_any (is_named name) (drop (suc i) fields)) ∙ w)
+
+pub names_end : (fields : List FieldNode) (i : ℕ) (here : Bool) (name : List ℕ) (all : Bool) → length fields ≤ i
+    → (here || list_any (is_named name) (drop i fields)) ≡ all → here ≡ all
+names_end fields i here name all past whole =
+    let none : drop i fields ≡ [] = drop_past fields i past in
+    or-false here all (rw none at whole)
+
+-- ---- keys that are looked up
+
+pub key_named : (fields : List FieldNode) (before left : List Entry) (key : String Global) (x : Tree) (here all : Bool) → before ≡ (key, x) ∷ left
+    → here ≡ list_any (is_named (string_bytes key)) fields → all ≡ names_only (member_keys (members_view before)) fields → here ≡ true
+    → all ≡ names_only (member_keys (members_view left)) fields
+key_named fields before left key x here all step is whole passes =
+    let named : list_any (is_named (string_bytes key)) fields ≡ true = sym is ∙ passes in
+    let w = rw step at whole in
+    rw named at w
+
+pub key_unnamed : (fields : List FieldNode) (before left : List Entry) (key : String Global) (x : Tree) (here all : Bool) → before ≡ (key, x) ∷ left
+    → here ≡ list_any (is_named (string_bytes key)) fields → all ≡ names_only (member_keys (members_view before)) fields → here ≡ false → false ≡ all
+key_unnamed fields before left key x here all step is whole none =
+    let named : list_any (is_named (string_bytes key)) fields ≡ false = sym is ∙ none in
+    let w = rw step at whole in
+    sym (rw named at w)

@@ -1,0 +1,14 @@
+use Rattle.std.proofs.Common.{◌≡◌, ℕ, List, ◌||◌, drop}
+use Rattle.std.specs.Prelude.{is_some}
+use Rattle.std.specs.List.{list_any}
+use Rattle.std.specs.Ordering.{nat_cmp}
+use Rattle.std.specs.Cmp.Lexicographic.{slice_cmp}
+use Rattle.std.specs.BTreeMap.{get_by}
+use Rattle.avro_schema_json.specs.OwnDefaults.{fields_seen}
+use Rattle.avro_schema_json.proofs.NamesSeen.{is_named}
+use Rattle.avro_schema_json.proofs.fields.Fields.names.Given as goal
+
+abbrev pub invariant-loop-i : goal.invariant-loop-i
+invariant-loop-i l = (name : List ℕ)
+    → (is_some (get_by (λ k. slice_cmp nat_cmp name k.now) l.names) || list_any (is_named name) (drop l.i (fields_seen l.self)))
+    ≡ list_any (is_named name) (fields_seen l.self)

@@ -1,0 +1,71 @@
+ghost use Rattle.std.specs.Prelude.{◌≡◌, ℕ, List, string_bytes, slice_get, option_map};
+
+use crate::raw::RawField;
+use avro_schema::{Field, Memory, NodeId};
+use std::alloc::Global;
+use std::collections::BTreeMap;
+
+/// The fields of a record, whether their defaults are read or still JSON.
+#[derive(Clone, Copy)]
+pub(crate) enum Fields<'a> {
+    Whole(&'a [Field]),
+    Raw(&'a [RawField<'a>]),
+}
+
+impl<'a> Fields<'a> {
+    ghost use Rattle.std.specs.Prelude.{◌≡◌, ℕ, List, length, slice_get, option_map, IfOk};
+    ghost use Rattle.avro_schema_json.specs.FieldNames.{HasNames};
+    ghost use Rattle.avro_schema_json.specs.OwnDefaults.{fields_seen};
+
+    /// The number of fields.
+    pub(crate) fn len(self) -> usize
+        ensures { result ≡ length (fields_seen self.entry) }
+    {
+        match self {
+            Fields::Whole(fields) => fields.len(),
+            Fields::Raw(fields) => fields.len(),
+        }
+    }
+
+    /// The name of the field at a place, and the place of its node.
+    pub(crate) fn get(self, place: usize) -> Option<(&'a str, NodeId)>
+        ensures { option_map {U = List ℕ × ℕ} (λ f. (f.0.now, f.1.0)) result ≡ option_map {U = List ℕ × ℕ} (λ f. (f.name, f.node)) (slice_get (fields_seen self.entry) place) }
+    {
+        match self {
+            Fields::Whole(fields) => match fields.get(place) {
+                Some(field) => Some((field.name.as_str(), field.node)),
+                None => None,
+            },
+            Fields::Raw(fields) => raw_get(fields, place),
+        }
+    }
+
+    /// The names of the fields, to look keys up in.
+    pub(crate) fn names(self, alloc: Global) -> Result<BTreeMap<&'a str, ()>, Memory>
+        ensures { IfOk result (λ names. HasNames names (fields_seen self.entry)) }
+    {
+        let mut names: BTreeMap<&'a str, ()> = BTreeMap::new(alloc);
+        for i in 0..self.len() {
+            match self.get(i) {
+                Some((name, _)) => match names.insert(name, ()) {
+                    Ok(_) => {}
+                    Err(_) => return Err(Memory),
+                },
+                None => {}
+            }
+        }
+        Ok(names)
+    }
+}
+
+/// The name of the field at a place and the place of its node, of fields whose defaults are still
+/// JSON.
+fn raw_get<'a>(fields: &'a [RawField<'a>], place: usize) -> Option<(&'a str, NodeId)>
+    ensures { option_map {U = List ℕ × ℕ} (λ f. (f.0.now, f.1.0)) result
+        ≡ option_map {U = List ℕ × ℕ} (λ f. (string_bytes f.name, f.node.0)) (slice_get fields.now place) }
+{
+    match fields.get(place) {
+        Some(field) => Some((field.name.as_str(), field.node)),
+        None => None,
+    }
+}
