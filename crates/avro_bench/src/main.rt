@@ -3,11 +3,13 @@
 
 mod large;
 mod measure;
+mod texts;
 
 use anyhow::bail;
 use large::{Shape, draft_of};
 use measure::print_drafts;
 use std::env;
+use texts::{print_texts, text_of};
 
 fn main(rt: HostRuntime) -> anyhow::Result<()> {
     match env::args(&rt)?.nth(1) {
@@ -21,7 +23,8 @@ fn run(rt: &HostRuntime, word: &str) -> anyhow::Result<()> {
     match word {
         "check" => check(rt),
         "draft" => print_drafts(rt),
-        _ => bail!("avro_bench check | draft"),
+        "schema" => print_texts(rt),
+        _ => bail!("avro_bench check | draft | schema"),
     }
 }
 
