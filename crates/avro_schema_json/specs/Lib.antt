@@ -6,3 +6,12 @@ pub mod DeclaredDefaults
 pub mod DeclaredSchema
 pub mod DeclaredFaults
 pub mod DisplayTree
+pub mod SeenRaw
+pub mod OwnDefaults
+pub mod SeenDefaults
+pub mod Placed
+pub mod TextRefusals
+pub mod DeclaredText
+pub mod NameRefusal
+pub mod Reading
+pub mod ReadingSeen

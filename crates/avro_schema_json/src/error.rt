@@ -1,6 +1,10 @@
 ghost use Rattle.avro_schema_json.specs.Refusals.{refusal_of};
+ghost use Rattle.avro_schema_json.specs.NameRefusal.{refusal_of_name};
+ghost use Rattle.avro_schema_json.specs.declared.error.SchemaError.TheVariants.{OutOfMemory};
 
+use avro_name::NameError;
 use avro_schema::DraftError;
+use std::alloc::{AllocError, AllocFailed};
 use thiserror::Error;
 
 /// Why a text is no schema. Each is shown as its code.
@@ -64,5 +68,40 @@ impl From<DraftError> for SchemaError {
             DraftError::LimitExceeded => SchemaError::LimitExceeded,
             DraftError::OutOfMemory => SchemaError::OutOfMemory,
         }
+    }
+}
+
+impl From<NameError> for SchemaError {
+    ghost use Rattle.std.specs.Prelude.{◌≡◌};
+
+    ghost from_gives = { λ e refusal. refusal ≡ refusal_of_name e };
+
+    fn from(e: NameError) -> SchemaError {
+        match e {
+            NameError::OutOfMemory => SchemaError::OutOfMemory,
+            NameError::EmptyPart | NameError::BadCharacter | NameError::PrimitiveName => {
+                SchemaError::InvalidName
+            }
+        }
+    }
+}
+
+impl From<AllocError> for SchemaError {
+    ghost use Rattle.std.specs.Prelude.{◌≡◌};
+
+    ghost from_gives = { λ _ e. e ≡ OutOfMemory };
+
+    fn from(_error: AllocError) -> SchemaError {
+        SchemaError::OutOfMemory
+    }
+}
+
+impl<T: Drop> From<AllocFailed<T>> for SchemaError {
+    ghost use Rattle.std.specs.Prelude.{◌≡◌};
+
+    ghost from_gives = { λ _ e. e ≡ OutOfMemory };
+
+    fn from(_error: AllocFailed<T>) -> SchemaError {
+        SchemaError::OutOfMemory
     }
 }

@@ -1,59 +1,48 @@
-ghost use Rattle.std.specs.Prelude.{◌≡◌, ◌⊎◌, ◌<◌, ◌≤◌, ◌↔◌, ◌∷◌, [], true, length, option_map, IfOk, IfErr, IsErrOf};
-ghost use Rattle.std.specs.Option.{IfSome};
-ghost use Rattle.avro_schema.specs.FirstKinds.{is_first_kind};
-ghost use Rattle.avro_schema.specs.Seen.{node_of};
+ghost use Rattle.std.specs.Prelude.{◌≡◌, ◌≢◌, ◌⊎◌, ◌<◌, ◌≤◌, ◌↔◌, List, length, IfOk, IfErr, IsErrOf};
+ghost use Rattle.avro_schema.specs.Node.{Node};
 ghost use Rattle.avro_schema.specs.SeenSchema.{schema_nodes};
-ghost use Rattle.avro_schema_json.specs.Declaration.{max_text, HasTree, IsNoJson, primitive_node, declared_node, Declares, DeclaresNone};
-ghost use Rattle.avro_schema_json.specs.Refusals.{HasMemory, IsRefusalOfText};
+ghost use Rattle.avro_schema_json.specs.Declaration.{max_text, HasTree, IsNoJson};
+ghost use Rattle.avro_schema_json.specs.DeclaredFaults.{HasFault};
+ghost use Rattle.avro_schema_json.specs.DeclaredSchema.{DeclaresSchema};
+ghost use Rattle.avro_schema_json.specs.DeclaredText.{DeclaresText};
+ghost use Rattle.avro_schema_json.specs.Refusals.{HasMemory};
+ghost use Rattle.avro_schema_json.specs.TextRefusals.{IsRefusalOf};
 ghost use Rattle.avro_schema_json.specs.declared.error.SchemaError.TheVariants.{NotJson, OutOfMemory};
 ghost use Rattle.serde_json.specs.Data.{Data};
 ghost use Rattle.serde_json.specs.View.{view};
 
+use crate::declarations::declarations;
 use crate::error::SchemaError;
-use avro_schema::{Draft, Node, Schema};
+use crate::floats::has_float;
+use crate::whole::schema_of;
+use avro_schema::Schema;
 use serde_json::Value;
 use std::alloc::Global;
 
 /// The greatest length of a text.
 const MAX_TEXT: usize = 1_048_576;
 
-/// The schema that a JSON text declares. The length of the text is looked at first.
+/// The schema that a JSON text declares (Avro 1.11, "Schema Declaration"). The length of the text is
+/// looked at first, then its JSON, its numbers, the declarations, the rules of the whole schema, and
+/// the defaults.
+///
+/// # Errors
+///
+/// A fault that is there; each is described at its variant of [`SchemaError`].
 pub fn read_schema(alloc: Global, text: &[u8]) -> Result<Schema, SchemaError>
-    ensures found { IfOk result (λ schema. (tree : Data) × HasTree text.now tree
-        × Declares tree (schema_nodes schema)) }
-    ensures too_long { IsErrOf result SchemaError.LimitExceeded ↔ (max_text < length text.now) }
+    ensures found { IfOk result (λ schema. DeclaresText text.now (schema_nodes schema)) }
+    ensures complete { (tree : Data) (nodes : List Node) → HasTree text.now tree → DeclaresSchema tree nodes
+        → length text.now ≤ max_text → IfErr result (λ e. e ≡ OutOfMemory) }
+    ensures too_long { max_text < length text.now → IsErrOf result SchemaError.LimitExceeded }
     ensures not_json { IsErrOf result SchemaError.NotJson
         ↔ (HasMemory result × (length text.now ≤ max_text) × IsNoJson text.now) }
-    ensures unsupported { IsErrOf result SchemaError.UnsupportedType
-        ↔ (HasMemory result × (length text.now ≤ max_text) × DeclaresNone text.now) }
-    ensures err { IfErr result IsRefusalOfText }
+    ensures refused { IfErr result (IsRefusalOf text.now) }
 {
     if text.len() > MAX_TEXT {
         return Err(SchemaError::LimitExceeded);
     }
     let tree = read_tree(alloc, text)?;
-    let Some(node) = declared_node(&tree) else {
-        return Err(SchemaError::UnsupportedType);
-    };
-    schema_of(alloc, node)
-}
-
-/// The schema of one node.
-fn schema_of(alloc: Global, node: Node) -> Result<Schema, SchemaError>
-    requires { is_first_kind (node_of node) ≡ true }
-    ensures found { IfOk result (λ schema. schema_nodes schema ≡ node_of node ∷ []) }
-    ensures err { IfErr result (λ e. e ≡ OutOfMemory) }
-{
-    let mut draft = Draft::new(alloc);
-    // There is room in an empty draft.
-    match draft.add(node) {
-        Ok(_) => {}
-        Err(_) => return Err(SchemaError::OutOfMemory),
-    }
-    match draft.finish() {
-        Ok(schema) => Ok(schema),
-        Err(e) => Err(SchemaError::from(e)),
-    }
+    declared_schema(alloc, &tree)
 }
 
 /// The tree of a JSON text.
@@ -72,27 +61,17 @@ fn read_tree(alloc: Global, text: &[u8]) -> Result<Value, SchemaError>
     }
 }
 
-/// The node that a tree declares.
-fn declared_node(tree: &Value) -> Option<Node>
-    ensures declared { option_map node_of result ≡ declared_node (view tree.now) }
-    ensures first_kind { IfSome result (λ node. is_first_kind (node_of node) ≡ true) }
+/// The schema that a tree declares.
+fn declared_schema(alloc: Global, tree: &Value) -> Result<Schema, SchemaError>
+    ensures found { IfOk result (λ schema. DeclaresSchema (view tree.now) (schema_nodes schema)) }
+    ensures refused { IfErr result (λ e. (e ≡ OutOfMemory) ⊎ HasFault (view tree.now) e) }
+    ensures json { IfErr result (λ e. e ≢ NotJson) }
 {
-    match tree.as_str() {
-        Some(word) => primitive_node(word),
-        None => None,
+    if has_float(tree) {
+        return Err(SchemaError::UnsupportedNumber);
     }
-}
-
-/// The primitive type of a word.
-fn primitive_node(word: &str) -> Option<Node>
-    ensures declared { option_map node_of result ≡ primitive_node word.now }
-    ensures first_kind { IfSome result (λ node. is_first_kind (node_of node) ≡ true) }
-{
-    match word {
-        "null" => Some(Node::Null),
-        "boolean" => Some(Node::Boolean),
-        "int" => Some(Node::Int),
-        "long" => Some(Node::Long),
-        _ => None,
+    match declarations(alloc, tree) {
+        Ok(raws) => schema_of(alloc, raws),
+        Err(error) => Err(error),
     }
 }

@@ -8,6 +8,8 @@ use std::alloc::{AllocError, Global};
 pub(crate) enum Request<'a> {
     /// Whether the reader's schema takes all data of the writer's.
     Judge { writer: &'a str, reader: &'a str },
+    /// Whether a text declares a schema, and how many nodes it has.
+    Schema { file: &'a str },
 }
 
 /// The request that the words are.
@@ -28,6 +30,10 @@ pub(crate) fn request_of<'a>(
 
 /// The request of words that have the form of the program's.
 fn request_in<'a>(matches: &ArgMatches<'a>) -> Option<Request<'a>> {
+    if let Some(schema) = matches.subcommand_matches("schema") {
+        let file = schema.get_str("file")?;
+        return Some(Request::Schema { file });
+    }
     let judge = matches.subcommand_matches("judge")?;
     let writer = judge.get_str("writer")?;
     let reader = judge.get_str("reader")?;
@@ -46,12 +52,17 @@ fn program<'a>(alloc: Global) -> Result<Command<'a>, AllocError> {
         .about("Tells whether a reader's schema takes all data of a writer's")
         .arg(writer)?
         .arg(reader)?;
+    let file = schema_file(alloc, "file", "FILE").help("File of the schema");
+    let schema = Command::new(alloc, "schema")
+        .about("Tells whether a text is a schema, and its number of nodes")
+        .arg(file)?;
     Command::new(alloc, "avro")
         .about("Checks Avro schemas")
         .no_binary_name(true)
         .bin_name("avro")?
         .subcommand_required(true)
-        .subcommand(judge)
+        .subcommand(judge)?
+        .subcommand(schema)
 }
 
 /// A required argument that names the file of a schema.

@@ -5,6 +5,7 @@ mod command;
 mod failure;
 mod judging;
 mod schema_file;
+mod showing;
 
 use command::{Request, request_of};
 use failure::Failure;
@@ -15,6 +16,7 @@ use std::rt::Files;
 /// What a command found. Its status is the program's.
 #[derive(Clone, Copy, Debug, PartialEq, Eq)]
 enum Finding {
+    Good,
     Yes,
     No,
     Undecided,
@@ -23,7 +25,7 @@ enum Finding {
 impl Finding {
     fn status(self) -> u8 {
         match self {
-            Finding::Yes => 0,
+            Finding::Good | Finding::Yes => 0,
             Finding::No => 1,
             Finding::Undecided => 2,
         }
@@ -65,5 +67,6 @@ fn answer<'a, R: Files + AllocGlobal, O: Write>(
 ) -> Result<Finding, Failure<'a>> {
     match request_of(rt.alloc(), words)? {
         Request::Judge { writer, reader } => judging::judge_files(rt, writer, reader, out),
+        Request::Schema { file } => showing::show_schema(rt, file, out),
     }
 }

@@ -1,0 +1,133 @@
+-- One step of reading the defaults of items, of entries and of fields.
+use Rattle.std.proofs.Common.{◌≡◌, ℕ, zero, suc, ◌+◌, ◌<◌, ◌≤◌, List, [], ◌∷◌, ◌++◌, length, Option, Some, None, option_map, option_and_then, get_or, map, drop, refl, ap, ◌∙◌, sym, arith, add-one}
+use Rattle.std.specs.Prelude.{String, string_bytes, slice_get}
+use Rattle.std.specs.declared.alloc.Global.{Global}
+use Rattle.std.proofs.lemmas.List.{drop_more}
+use Rattle.avro_schema.specs.Node.{Node, FieldNode, node_at}
+use Rattle.avro_schema.specs.Seen.{value_of, values_of, entries_of}
+use Rattle.avro_schema.specs.Value.{Value, Values, no_values, Entries}
+use Rattle.avro_schema.specs.declared.datum.Datum.{Datum}
+use Rattle.serde_json.specs.Data.{Data, Members}
+use Rattle.serde_json.specs.Find.{get_member}
+use Rattle.serde_json.specs.View.{view, items_view, members_view}
+use Rattle.serde_json.specs.declared.value.Value.{Value as Tree}
+use Rattle.serde_json.proofs.Views.{Entry}
+use Rattle.avro_schema_json.specs.DeclaredDefaults.{default_of, default_under, each_default, entries_default, fields_default}
+use Rattle.avro_schema_json.proofs.RawSeen.{name_and_node}
+use Rattle.avro_schema_json.proofs.RowsLaws.{default_under-found}
+use Rattle.avro_schema_json.proofs.DefaultsSeen.{after_values, after_entries, value_step, value_stop, values_end, entry_step, entry_stop, entries_end}
+
+drop_past : {A : Type 0} (xs : List A) (i : ℕ) → length xs ≤ i → drop i xs ≡ []
+drop_past [] zero h = refl
+drop_past [] (suc i) h = refl
+drop_past (x ∷ xs) zero h = absurd (omega arith)
+drop_past (x ∷ xs) (suc i) h = drop_past xs i (omega arith)
+
+-- ---- items
+
+pub item_next : (nodes : List Node) (n : Node) (xs : List Tree) (i : ℕ) (x : Tree) (all : Option Values) (done : List Datum) (d : Datum)
+    → i < length xs → x ≡ get_or xs i x → option_map (after_values done) (each_default nodes (items_view (drop i xs)) n) ≡ all
+    → Some (value_of d) ≡ default_of nodes (view x) n
+    → option_map (after_values (done ++ d ∷ [])) (each_default nodes (items_view (drop (i + 1) xs)) n) ≡ all
+item_next nodes n xs i x all done d below at whole is =
+    let here : drop i xs ≡ x ∷ drop (i + 1) xs = drop_more xs i x below ∙ ap (λ y. y ∷ drop (i + 1) xs) (sym at) in
+    value_step all done d (default_of nodes (view x) n) (each_default nodes (items_view (drop (i + 1) xs)) n) (rw here at whole) is
+
+pub items_end : (nodes : List Node) (n : Node) (xs : List Tree) (i : ℕ) (all : Option Values) (done : List Datum)
+    → length xs ≤ i → option_map (after_values done) (each_default nodes (items_view (drop i xs)) n) ≡ all → Some (values_of done) ≡ all
+items_end nodes n xs i all done past whole =
+    let none : drop i xs ≡ [] = drop_past xs i past in
+    values_end all done (each_default nodes (items_view (drop i xs)) n) whole (rw none refl)
+
+-- ---- entries
+
+pub entry_next : (nodes : List Node) (n : Node) (before left : List Entry) (key copy : String Global) (x : Tree) (all : Option Entries)
+    (done : List (String Global × Datum)) (d : Datum)
+    → before ≡ (key, x) ∷ left → string_bytes copy ≡ string_bytes key
+    → option_map (after_entries done) (entries_default nodes (members_view before) n) ≡ all → Some (value_of d) ≡ default_of nodes (view x) n
+    → option_map (after_entries (done ++ (copy, d) ∷ [])) (entries_default nodes (members_view left) n) ≡ all
+entry_next nodes n before left key copy x all done d step same whole is =
+    let w = rw (step, ← same) at whole in
+    entry_step all done copy d (default_of nodes (view x) n) (entries_default nodes (members_view left) n) w is
+
+-- ---- fields
+
+drop_at : (fields : List FieldNode) (i : ℕ) (f : FieldNode) → slice_get fields i ≡ Some f → drop i fields ≡ f ∷ drop (suc i) fields
+drop_at [] i f h = cc
+drop_at (g ∷ fields) zero f h = let same : g ≡ f = cc in rw same refl
+drop_at (g ∷ fields) (suc i) f h = drop_at fields i f h
+
+-- the fields from a place on
+abbrev pub fields_left : List Node → List Entry → List FieldNode → Option Values
+fields_left nodes es fields = fields_default nodes (λ key. default_under nodes key (members_view es)) fields
+
+-- the default of a field
+abbrev pub first_default : List Node → List Entry → FieldNode → Option Value
+first_default nodes es f = option_and_then (λ read. read (node_at nodes f.node)) (default_under nodes f.name (members_view es))
+
+first_default-found : (nodes : List Node) (es : List Entry) (f : FieldNode) (x : Data) → get_member f.name (members_view es) ≡ Some x
+    → first_default nodes es f ≡ default_of nodes x (node_at nodes f.node)
+first_default-found nodes es f x h = rw (default_under-found nodes f.name (members_view es), h) refl
+
+first_default-none : (nodes : List Node) (es : List Entry) (f : FieldNode) → get_member f.name (members_view es) ≡ None → first_default nodes es f ≡ None
+first_default-none nodes es f h = rw (default_under-found nodes f.name (members_view es), h) refl
+
+-- a field at a place
+record IsFieldAt (fields : List FieldNode) (i : ℕ) (name : List ℕ) (place : ℕ) (f : FieldNode) : Type 0 where
+  at : slice_get fields i ≡ Some f
+  named : f.name ≡ name
+  placed : f.node ≡ place
+
+field_at-found : (fields : List FieldNode) (i : ℕ) (name : List ℕ) (place : ℕ) (found : Option FieldNode) → slice_get fields i ≡ found
+    → Some (name, place) ≡ option_map name_and_node found → (f : FieldNode) × IsFieldAt fields i name place f
+field_at-found fields i name place None is h = cc
+field_at-found fields i name place (Some f) is h =
+    let pair : (name, place) ≡ (f.name, f.node) = cc in
+    (f, record { at = is; named = sym (ap (λ (q : List ℕ × ℕ). q.0) pair); placed = sym (ap (λ (q : List ℕ × ℕ). q.1) pair) })
+
+pub field_next : (nodes : List Node) (es : List Entry) (fields : List FieldNode) (i : ℕ) (name : List ℕ) (place : ℕ) (x : Data) (all : Option Values)
+    (done : List Datum) (d : Datum)
+    → Some (name, place) ≡ option_map name_and_node (slice_get fields i) → Some x ≡ get_member name (members_view es)
+    → option_map (after_values done) (fields_left nodes es (drop i fields)) ≡ all → Some (value_of d) ≡ default_of nodes x (node_at nodes place)
+    → option_map (after_values (done ++ d ∷ [])) (fields_left nodes es (drop (i + 1) fields)) ≡ all
+field_next nodes es fields i name place x all done d got member whole is =
+    let found = field_at-found fields i name place (slice_get fields i) refl got in
+    let f = found.0 in
+    let here : drop i fields ≡ f ∷ drop (suc i) fields = drop_at fields i f found.1.at in
+    let under : get_member f.name (members_view es) ≡ Some x = rw found.1.named (sym member) in
+    let first : Some (value_of d) ≡ first_default nodes es f = is ∙ ap (λ p. default_of nodes x (node_at nodes p)) (sym found.1.placed) ∙ sym (first_default-found nodes es f x under) in
+    rw add-one (value_step all done d (first_default nodes es f) (fields_left nodes es (drop (suc i) fields)) (rw here at whole) first)
+
+pub field_stop : (nodes : List Node) (es : List Entry) (fields : List FieldNode) (i : ℕ) (name : List ℕ) (place : ℕ) (x : Data) (all : Option Values) (done : List Datum)
+    → Some (name, place) ≡ option_map name_and_node (slice_get fields i) → Some x ≡ get_member name (members_view es)
+    → option_map (after_values done) (fields_left nodes es (drop i fields)) ≡ all → None ≡ default_of nodes x (node_at nodes place) → None ≡ all
+field_stop nodes es fields i name place x all done got member whole is =
+    let found = field_at-found fields i name place (slice_get fields i) refl got in
+    let f = found.0 in
+    let here : drop i fields ≡ f ∷ drop (suc i) fields = drop_at fields i f found.1.at in
+    let under : get_member f.name (members_view es) ≡ Some x = rw found.1.named (sym member) in
+    let first : None ≡ first_default nodes es f = is ∙ ap (λ p. default_of nodes x (node_at nodes p)) (sym found.1.placed) ∙ sym (first_default-found nodes es f x under) in
+    value_stop all done (first_default nodes es f) (fields_left nodes es (drop (suc i) fields)) (rw here at whole) first
+
+pub field_missing : (nodes : List Node) (es : List Entry) (fields : List FieldNode) (i : ℕ) (name : List ℕ) (place : ℕ) (all : Option Values) (done : List Datum)
+    → Some (name, place) ≡ option_map name_and_node (slice_get fields i) → None ≡ get_member name (members_view es)
+    → option_map (after_values done) (fields_left nodes es (drop i fields)) ≡ all → None ≡ all
+field_missing nodes es fields i name place all done got member whole =
+    let found = field_at-found fields i name place (slice_get fields i) refl got in
+    let f = found.0 in
+    let here : drop i fields ≡ f ∷ drop (suc i) fields = drop_at fields i f found.1.at in
+    let under : get_member f.name (members_view es) ≡ None = rw found.1.named (sym member) in
+    let first : None ≡ first_default nodes es f = sym (first_default-none nodes es f under) in
+    value_stop all done (first_default nodes es f) (fields_left nodes es (drop (suc i) fields)) (rw here at whole) first
+
+pub fields_end : (nodes : List Node) (es : List Entry) (fields : List FieldNode) (i : ℕ) (all : Option Values) (done : List Datum)
+    → length fields ≤ i → option_map (after_values done) (fields_left nodes es (drop i fields)) ≡ all → Some (values_of done) ≡ all
+fields_end nodes es fields i all done past whole =
+    let none : drop i fields ≡ [] = drop_past fields i past in
+    values_end all done (fields_left nodes es (drop i fields)) whole (rw none refl)
+
+-- there is a field at each place below their number
+pub field_absent : (fields : List FieldNode) (i : ℕ) → i < length fields → None ≡ option_map name_and_node (slice_get fields i) → ⊥
+field_absent [] i below h = omega arith
+field_absent (f ∷ fields) zero below h = cc
+field_absent (f ∷ fields) (suc i) below h = field_absent fields i (omega arith) h

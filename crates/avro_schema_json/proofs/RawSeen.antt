@@ -1,0 +1,36 @@
+-- How the program's nodes and fields are seen before their defaults are read.
+use Rattle.std.proofs.Common.{◌≡◌, ℕ, Bool, List, [], ◌∷◌, ◌++◌, Option, Some, None, zero, suc, option_map, map, refl, ap, ◌∙◌, sym, arith, ◌+◌}
+use Rattle.std.specs.Prelude.{slice_get, string_bytes, bytes_eq, ◌||◌}
+use Rattle.std.specs.List.{list_any}
+use Rattle.std.proofs.lemmas.Option.{slice_get-map}
+use Rattle.avro_schema.specs.Node.{FieldNode}
+use Rattle.avro_schema.specs.Seen.{seen_fields}
+use Rattle.avro_schema.specs.declared.schema.Field.{Field}
+use Rattle.avro_schema_json.specs.DeclaredSchema.{bare_field}
+use Rattle.avro_schema_json.specs.SeenRaw.{raw_field_of, raw_fields_of}
+use Rattle.avro_schema_json.specs.declared.raw.RawField.{RawField}
+
+-- the name and the node of a field
+abbrev pub name_and_node : FieldNode → List ℕ × ℕ
+name_and_node f = (f.name, f.node)
+
+pub raw_field_at : (fs : List RawField) (i : ℕ)
+    → option_map {U = List ℕ × ℕ} (λ f. (string_bytes f.name, f.node.0)) (slice_get fs i) ≡ option_map name_and_node (slice_get (map bare_field (raw_fields_of fs)) i)
+raw_field_at fs i =
+    seen (slice_get fs i) ∙ ap (λ f. option_map name_and_node (option_map bare_field f)) (sym (slice_get-map raw_field_of fs i))
+    ∙ ap (option_map name_and_node) (sym (slice_get-map bare_field (raw_fields_of fs) i))
+  where
+    seen : (f : Option RawField)
+        → option_map {U = List ℕ × ℕ} (λ f. (string_bytes f.name, f.node.0)) f ≡ option_map name_and_node (option_map bare_field (option_map raw_field_of f))
+    seen None = refl
+    seen (Some f) = refl
+
+-- whether a field has a name
+pub whole_has-seen : (name : List ℕ) (fs : List Field) → list_any (λ f. bytes_eq name (string_bytes f.name)) fs ≡ list_any (λ f. bytes_eq name f.name) (seen_fields fs)
+whole_has-seen name [] = refl
+whole_has-seen name (f ∷ fs) = ap (λ b. bytes_eq name (string_bytes f.name) || b) (whole_has-seen name fs)
+
+pub raw_has-seen : (name : List ℕ) (fs : List RawField)
+    → list_any (λ f. bytes_eq name (string_bytes f.name)) fs ≡ list_any (λ f. bytes_eq name f.name) (map bare_field (raw_fields_of fs))
+raw_has-seen name [] = refl
+raw_has-seen name (f ∷ fs) = ap (λ b. bytes_eq name (string_bytes f.name) || b) (raw_has-seen name fs)

@@ -1,0 +1,97 @@
+use Rattle.std.proofs.Common.{◌≡◌, Some, None, drop, option_map, sym, ap, ◌∙◌, arith}
+use Rattle.avro_schema.specs.Node.{Node, node_at}
+use Rattle.avro_schema.specs.Seen.{value_of, node_of}
+use Rattle.avro_schema.specs.Value.{Value}
+use Rattle.avro_schema.proofs.DatumViews.{value_of-Map}
+use Rattle.serde_json.specs.View.{view, items_view, members_view}
+use Rattle.serde_json.proofs.Views.{view-lookup}
+use Rattle.avro_schema_json.specs.DeclaredDefaults.{each_default, entries_default}
+use Rattle.avro_schema_json.specs.OwnDefaults.{bares_of, fields_seen}
+use Rattle.avro_schema_json.proofs.DefaultsSeen.{entries_end}
+use Rattle.avro_schema_json.proofs.DefaultSteps.{item_next, items_end, entry_next, fields_left, field_next, field_stop, field_missing, fields_end, field_absent}
+use Rattle.avro_schema_json.proofs.defaults.+defaults.Goals as goal
+
+pub item_defaults-loop-item-preserved : goal.item_defaults-loop-item-preserved
+item_defaults-loop-item-preserved t c =
+    let l = c.loop-item in
+    let nodes = bares_of c.args.raws.now in
+    let n = node_at nodes c.args.place.0 in
+    let xs = c.deref-item-items.result.now in
+    let read = ap (option_map value_of) (sym c.in-Some.is) ∙ c.in_ok-value.ensures in
+    rw c.in-Ok.ensures.items (item_next nodes n xs l.item-index c.item-item.result (each_default nodes (items_view xs) n) l.values.items c.in-Some.value
+    c.loop-item-test.true c.item-item.is l.invariant read)
+
+pub item_defaults-returns : goal.item_defaults-returns
+item_defaults-returns t c =
+    let l = c.loop-item in
+    let nodes = bares_of c.args.raws.now in
+    let n = node_at nodes c.args.place.0 in
+    let xs = c.deref-item-items.result.now in
+    items_end nodes n xs l.item-index (each_default nodes (items_view xs) n) l.values.items c.loop-item-test.false l.invariant
+    ∙ ap (λ ys. each_default nodes (items_view ys) n) c.deref-item-items.ensures.value
+
+pub entry_defaults-loop-key-preserved : goal.entry_defaults-loop-key-preserved
+entry_defaults-loop-key-preserved t c =
+    let l = c.loop-key in
+    let nodes = bares_of c.args.raws.now in
+    let n = node_at nodes c.args.place.0 in
+    let read = ap (option_map value_of) (sym c.in-Some-2.is) ∙ c.in_ok-value.ensures in
+    let same = c.in_ok-copy_of_text.ensures ∙ c.as_str.ensures.value in
+    rw c.in-Ok.ensures.items (entry_next nodes n l.key-iterator c.next.new.self c.in-Some.key.now c.in_ok-copy_of_text.field-0 c.in-Some.tree.now
+    (entries_default nodes (members_view c.args.members.now.entries) n) l.entries.items c.in-Some-2.value c.in-Some.ensures.steps same l.invariant read)
+
+pub entry_defaults-returns : goal.entry_defaults-returns
+entry_defaults-returns t c =
+    let l = c.loop-key in
+    let nodes = bares_of c.args.raws.now in
+    let n = node_at nodes c.args.place.0 in
+    entries_end (entries_default nodes (members_view c.args.members.now.entries) n) l.entries.items (entries_default nodes (members_view l.key-iterator) n)
+    l.invariant (ap (λ es. entries_default nodes (members_view es) n) c.in-None.ensures.steps.0)
+
+pub field_defaults-returns-in_default : goal.field_defaults-returns-in_default
+field_defaults-returns-in_default t c =
+    absurd (field_absent (fields_seen c.args.fields) c.loop-i.i (omega (arith, c.loop-i-test.true, c.len-i-end.ensures)) c.in_default.ensures)
+
+pub field_defaults-returns-in_default-get : goal.field_defaults-returns-in_default-get
+field_defaults-returns-in_default-get t c =
+    let l = c.loop-i in
+    let nodes = bares_of c.args.raws.now in
+    let es = c.args.members.now.entries in
+    let fields = fields_seen c.args.fields in
+    let member = ap (option_map view) c.in_default-get.ensures.value ∙ view-lookup c.in-Some.name.now es in
+    field_missing nodes es fields l.i c.in-Some.name.now c.in-Some.place.0 (fields_left nodes es fields) l.values.items c.in-Some.ensures member l.invariant
+
+pub field_defaults-returns-in_default-2 : goal.field_defaults-returns-in_default-2
+field_defaults-returns-in_default-2 t c =
+    let l = c.loop-i in
+    let nodes = bares_of c.args.raws.now in
+    let es = c.args.members.now.entries in
+    let fields = fields_seen c.args.fields in
+    let member = ap (option_map view) c.in-Some-get.ensures.value ∙ view-lookup c.in-Some.name.now es in
+    let none = ap (option_map value_of) (sym c.in_default-2.is) ∙ c.in_ok-value.ensures in
+    field_stop nodes es fields l.i c.in-Some.name.now c.in-Some.place.0 (view c.in-Some-get.tree.now) (fields_left nodes es fields) l.values.items
+    c.in-Some.ensures member l.invariant none
+
+pub field_defaults-loop-i-preserved : goal.field_defaults-loop-i-preserved
+field_defaults-loop-i-preserved t c =
+    let l = c.loop-i in
+    let nodes = bares_of c.args.raws.now in
+    let es = c.args.members.now.entries in
+    let fields = fields_seen c.args.fields in
+    let member = ap (option_map view) c.in-Some-get.ensures.value ∙ view-lookup c.in-Some.name.now es in
+    let read = ap (option_map value_of) (sym c.in-Some-2.is) ∙ c.in_ok-value.ensures in
+    rw c.in-Ok.ensures.items (field_next nodes es fields l.i c.in-Some.name.now c.in-Some.place.0 (view c.in-Some-get.tree.now) (fields_left nodes es fields)
+    l.values.items c.in-Some-2.value c.in-Some.ensures member l.invariant read)
+
+pub field_defaults-returns : goal.field_defaults-returns
+field_defaults-returns t c =
+    let l = c.loop-i in
+    let nodes = bares_of c.args.raws.now in
+    let es = c.args.members.now.entries in
+    let fields = fields_seen c.args.fields in
+    fields_end nodes es fields l.i (fields_left nodes es fields) l.values.items (omega (arith, c.loop-i-test.false, c.len-i-end.ensures)) l.invariant
+
+pub object_default-returns-in-Some : goal.object_default-returns-in-Some
+object_default-returns-in-Some t c =
+    let read = rw c.in-Some.is at c.in_ok-entries-in-Map.ensures in
+    rw (c.in-Map.is, value_of-Map c.in-Some.entries) (ap (option_map Value.map_of) read)

@@ -1,0 +1,28 @@
+use Rattle.std.proofs.Common.{◌≡◌, ℕ, List, Option, drop, option_map}
+use Rattle.avro_schema.specs.Node.{Node, node_at}
+use Rattle.avro_schema.specs.Value.{Value}
+use Rattle.avro_schema_json.specs.DeclaredDefaults.{each_default, entries_default, fields_default, default_under}
+use Rattle.avro_schema_json.specs.OwnDefaults.{bares_of, fields_seen}
+use Rattle.serde_json.specs.View.{items_view, members_view}
+use Rattle.avro_schema_json.proofs.DefaultsSeen.{after_values, after_entries}
+use Rattle.avro_schema_json.proofs.defaults.+defaults.Given as goal
+
+abbrev pub invariant-item_defaults-loop-item : goal.invariant-item_defaults-loop-item
+invariant-item_defaults-loop-item l =
+    let nodes = bares_of l.raws in
+    let node = node_at nodes l.place.0 in
+    option_map (after_values l.values.items) (each_default nodes (items_view (drop l.item-index l.item-items)) node)
+    ≡ each_default nodes (items_view l.item-items) node
+
+abbrev pub invariant-entry_defaults-loop-key : goal.invariant-entry_defaults-loop-key
+invariant-entry_defaults-loop-key l =
+    let nodes = bares_of l.raws in
+    let node = node_at nodes l.place.0 in
+    option_map (after_entries l.entries.items) (entries_default nodes (members_view l.key-iterator) node)
+    ≡ entries_default nodes (members_view l.members.entries) node
+
+abbrev pub invariant-field_defaults-loop-i : goal.invariant-field_defaults-loop-i
+invariant-field_defaults-loop-i l =
+    let nodes = bares_of l.raws in
+    let under : List ℕ → Option (Node → Option Value) = λ key. default_under nodes key (members_view l.members.entries) in
+    option_map (after_values l.values.items) (fields_default nodes under (drop l.i (fields_seen l.fields))) ≡ fields_default nodes under (fields_seen l.fields)

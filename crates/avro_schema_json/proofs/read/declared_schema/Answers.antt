@@ -1,0 +1,54 @@
+use Rattle.std.proofs.Common.{◌≡◌, ◌⊎◌, inl, inr, true, false, List, [], Result, Ok, Err, ap, sym, ◌∙◌, subst}
+use Rattle.std.specs.Prelude.{Contains, IfOk, IfErr, OnOk}
+use Rattle.avro_schema.specs.SeenSchema.{schema_nodes}
+use Rattle.avro_schema.specs.WellFormed.{is_schema}
+use Rattle.avro_schema.specs.declared.schema.Schema.{Schema}
+use Rattle.serde_json.specs.Data.{Data}
+use Rattle.serde_json.specs.Written.{has_float}
+use Rattle.serde_json.specs.View.{view}
+use Rattle.avro_schema_json.specs.declared.error.SchemaError.{SchemaError}
+use Rattle.avro_schema_json.specs.Declares.{RawNode, made_of}
+use Rattle.avro_schema_json.specs.DeclaredAttributes.{unless}
+use Rattle.avro_schema_json.specs.DeclaredFaults.{faults_of_nodes, or_else, HasFault}
+use Rattle.avro_schema_json.specs.DeclaredSchema.{whole_nodes, are_all_defaults_read, DeclaresSchema}
+use Rattle.avro_schema_json.specs.Placed.{are_placed}
+use Rattle.avro_schema_json.specs.SeenRaw.{raw_nodes_of}
+use Rattle.avro_schema_json.proofs.MadeSound.{made_placed, made_fault}
+use Rattle.avro_schema_json.proofs.ReadSeen.{declared-found, fault-found}
+use Rattle.avro_schema_json.proofs.read.declared_schema.Goals as goal
+
+schema_found : (tree : Data) (raws : List RawNode) (r : Result Schema SchemaError) → false ≡ has_float tree → (made_of tree).faults ≡ [] → raws ≡ (made_of tree).nodes
+    → IfOk r (λ schema. schema_nodes schema ≡ whole_nodes raws) → OnOk r (is_schema (whole_nodes raws) ≡ true) → OnOk r (are_all_defaults_read raws ≡ true)
+    → IfOk r (λ schema. DeclaresSchema tree (schema_nodes schema))
+schema_found tree raws (Ok schema) whole clean same nodes formed good = declared-found tree raws (schema_nodes schema) whole clean same formed good nodes
+schema_found tree raws (Err e) whole clean same nodes formed good = tt
+
+schema_refused : (tree : Data) (raws : List RawNode) (r : Result Schema SchemaError) → false ≡ has_float tree → (made_of tree).faults ≡ [] → raws ≡ (made_of tree).nodes
+    → IfErr r (λ e. (e ≡ SchemaError.OutOfMemory)
+    ⊎ Contains (or_else (faults_of_nodes (whole_nodes raws)) (unless (are_all_defaults_read raws) SchemaError.InvalidDefault)) e)
+    → IfErr r (λ e. (e ≡ SchemaError.OutOfMemory) ⊎ HasFault tree e)
+schema_refused tree raws (Ok schema) whole clean same refused = tt
+schema_refused tree raws (Err e) whole clean same (inl memory) = inl memory
+schema_refused tree raws (Err e) whole clean same (inr c) = inr (fault-found tree raws e whole clean same c)
+
+made_refused : (tree : Data) (e : SchemaError) → (e ≡ SchemaError.OutOfMemory) ⊎ Contains (made_of tree).faults e → e ≡ SchemaError.NotJson → ⊥
+made_refused tree e (inl memory) is = cc
+made_refused tree e (inr c) is = made_fault tree e c is
+
+pub schema_of-requires : goal.schema_of-requires
+schema_of-requires c = ap are_placed c.in-Ok.ensures.found.1 ∙ made_placed (view c.args.tree.now)
+
+pub returns-in-Ok-clause-found : goal.returns-in-Ok-clause-found
+returns-in-Ok-clause-found c =
+    let float = sym c.if-has_float.false ∙ c.has_float.ensures in
+    schema_found (view c.args.tree.now) (raw_nodes_of c.in-Ok.raws.items) c.schema_of.result float c.in-Ok.ensures.found.0 c.in-Ok.ensures.found.1
+    c.schema_of.ensures.found c.schema_of.ensures.formed c.schema_of.ensures.read
+
+pub returns-in-Ok-clause-refused : goal.returns-in-Ok-clause-refused
+returns-in-Ok-clause-refused c =
+    let float = sym c.if-has_float.false ∙ c.has_float.ensures in
+    schema_refused (view c.args.tree.now) (raw_nodes_of c.in-Ok.raws.items) c.schema_of.result float c.in-Ok.ensures.found.0 c.in-Ok.ensures.found.1
+    c.schema_of.ensures.refused
+
+pub returns-in-Err-clause-json : goal.returns-in-Err-clause-json
+returns-in-Err-clause-json c = made_refused (view c.args.tree.now) c.in-Err.error c.in-Err.ensures.refused

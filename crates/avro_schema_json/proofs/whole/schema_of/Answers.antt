@@ -1,0 +1,103 @@
+use Rattle.std.proofs.Common.{◌≡◌, ◌<◌, ◌⊎◌, inl, inr, true, false, Bool, List, length, map, refl, sym, ap, subst, ◌∙◌, arith}
+use Rattle.std.specs.Prelude.{Contains, Option}
+use Rattle.std.proofs.lemmas.List.{length-map}
+use Rattle.avro_schema.specs.Node.{Node}
+use Rattle.avro_schema.specs.Faulty.{IsThere}
+use Rattle.avro_schema.specs.SeenSchema.{draft_nodes}
+use Rattle.avro_schema.specs.WellFormed.{is_schema}
+use Rattle.avro_schema.specs.Value.{Value}
+use Rattle.avro_schema.specs.declared.fault.DraftError.{DraftError}
+use Rattle.avro_schema_json.specs.declared.error.SchemaError.{SchemaError}
+use Rattle.avro_schema_json.specs.declared.raw.RawNode.{RawNode as KeptNode}
+use Rattle.avro_schema_json.specs.Declares.{RawNode}
+use Rattle.avro_schema_json.specs.DeclaredAttributes.{unless}
+use Rattle.avro_schema_json.specs.DeclaredFaults.{faults_of_nodes, or_else}
+use Rattle.avro_schema_json.specs.DeclaredSchema.{bare_nodes, whole_node, whole_nodes, are_all_defaults_read}
+use Rattle.avro_schema_json.specs.OwnDefaults.{bares_of}
+use Rattle.avro_schema_json.specs.Placed.{are_placed}
+use Rattle.avro_schema_json.specs.Refusals.{refusal_of}
+use Rattle.avro_schema_json.specs.SeenDefaults.{lists_seen, defaults_of_node, filled_nodes}
+use Rattle.avro_schema_json.specs.SeenRaw.{raw_node_of, raw_nodes_of}
+use Rattle.avro_schema_json.proofs.FaultsThere.{there-contains, placed_whole}
+use Rattle.avro_schema_json.proofs.RowsLaws.{no_faults-from_is_schema}
+use Rattle.avro_schema_json.proofs.WholeSeen.{filled-whole, or_else-first, or_else-unread, too_many-contains}
+use Rattle.avro_schema_json.proofs.whole.schema_of.Goals as goal
+
+-- what is drafted is the whole
+whole_draft : (raws read : List KeptNode) (lists : List (List (Option Value))) (drafted : List Node) → read ≡ raws
+    → lists ≡ map (defaults_of_node (bares_of read)) (raw_nodes_of read) → drafted ≡ filled_nodes (raw_nodes_of raws) lists
+    → drafted ≡ whole_nodes (raw_nodes_of raws)
+whole_draft raws read lists drafted same listed is =
+    let d = rw same at listed in
+    is ∙ ap (filled_nodes (raw_nodes_of raws)) d ∙ filled-whole (bares_of raws) (raw_nodes_of raws)
+
+memory_or : (e : DraftError) → (e ≡ DraftError.OutOfMemory) ⊎ (e ≡ DraftError.OutOfMemory → ⊥)
+memory_or DraftError.UnknownNode = inr (λ h. cc)
+memory_or DraftError.DuplicateName = inr (λ h. cc)
+memory_or DraftError.InvalidName = inr (λ h. cc)
+memory_or DraftError.InvalidUnion = inr (λ h. cc)
+memory_or DraftError.InvalidSymbols = inr (λ h. cc)
+memory_or DraftError.DuplicateField = inr (λ h. cc)
+memory_or DraftError.InvalidDefault = inr (λ h. cc)
+memory_or DraftError.LimitExceeded = inr (λ h. cc)
+memory_or DraftError.OutOfMemory = inl refl
+
+-- the refusals of nodes
+abbrev faults_with : List RawNode → List SchemaError
+faults_with raws = or_else (faults_of_nodes (whole_nodes raws)) (unless (are_all_defaults_read raws) SchemaError.InvalidDefault)
+
+of_draft : (raws : List RawNode) (nodes : List Node) (e : DraftError) (r : SchemaError) → nodes ≡ whole_nodes raws → are_placed raws ≡ true → IsThere e nodes
+    → r ≡ refusal_of e → (r ≡ SchemaError.OutOfMemory) ⊎ Contains (faults_with raws) r
+of_draft raws nodes e r whole placed there is =
+    elim (memory_or e) [
+      | inl memory ↦ inl (is ∙ ap refusal_of memory)
+      | inr other ↦
+          let good = placed_whole (bare_nodes raws) raws ∙ placed in
+          let found = there-contains e (whole_nodes raws) good (subst (λ (ns : List Node). IsThere e ns) whole there) other in
+          inr (subst (λ (x : SchemaError). Contains (faults_with raws) x) (sym is)
+          (or_else-first (faults_of_nodes (whole_nodes raws)) (unless (are_all_defaults_read raws) SchemaError.InvalidDefault) (refusal_of e) found))
+    ]
+
+-- the refusals of a draft that is too long
+of_length : (raws : List KeptNode) (e : DraftError) (r : SchemaError) → (e ≡ DraftError.OutOfMemory) ⊎ ((e ≡ DraftError.LimitExceeded) × (4096 < length raws))
+    → r ≡ refusal_of e → (r ≡ SchemaError.OutOfMemory) ⊎ Contains (faults_with (raw_nodes_of raws)) r
+of_length raws e r (inl memory) is = inl (is ∙ ap refusal_of memory)
+of_length raws e r (inr limit) is =
+    let nodes = whole_nodes (raw_nodes_of raws) in
+    let count : length nodes ≡ length raws = simp length-map in
+    let found = too_many-contains nodes (rw count limit.1) in
+    let same : r ≡ SchemaError.LimitExceeded = is ∙ ap refusal_of limit.0 in
+    inr (subst (λ (x : SchemaError). Contains (faults_with (raw_nodes_of raws)) x) (sym same)
+    (or_else-first (faults_of_nodes nodes) (unless (are_all_defaults_read (raw_nodes_of raws)) SchemaError.InvalidDefault) SchemaError.LimitExceeded found))
+
+pub returns-in-Err-drafted-clause-refused : goal.returns-in-Err-drafted-clause-refused
+returns-in-Err-drafted-clause-refused c = of_length c.args.raws.items c.in-Err-drafted.error c.from.result c.in-Err-drafted.ensures.refused c.from.ensures
+
+pub returns-then-are_read-clause-found : goal.returns-then-are_read-clause-found
+returns-then-are_read-clause-found c =
+    let whole = whole_draft c.args.raws.items c.deref.result.now (lists_seen c.in-Ok.defaults.of_nodes.items) (draft_nodes c.in-Ok-drafted.draft)
+    c.deref.ensures.value c.in-Ok.ensures.data c.in-Ok-drafted.ensures.drafted in
+    c.in-Ok-finish.ensures.schema ∙ whole
+
+pub returns-then-are_read-clause-formed : goal.returns-then-are_read-clause-formed
+returns-then-are_read-clause-formed c =
+    let whole = whole_draft c.args.raws.items c.deref.result.now (lists_seen c.in-Ok.defaults.of_nodes.items) (draft_nodes c.in-Ok-drafted.draft)
+    c.deref.ensures.value c.in-Ok.ensures.data c.in-Ok-drafted.ensures.drafted in
+    ap is_schema (sym whole) ∙ c.in-Ok-finish.ensures.formed
+
+pub returns-else-are_read-clause-refused : goal.returns-else-are_read-clause-refused
+returns-else-are_read-clause-refused c =
+    let raws = raw_nodes_of c.args.raws.items in
+    let whole = whole_draft c.args.raws.items c.deref.result.now (lists_seen c.in-Ok.defaults.of_nodes.items) (draft_nodes c.in-Ok-drafted.draft)
+    c.deref.ensures.value c.in-Ok.ensures.data c.in-Ok-drafted.ensures.drafted in
+    let formed : is_schema (whole_nodes raws) ≡ true = ap is_schema (sym whole) ∙ c.in-Ok-finish.ensures.formed in
+    let unread : are_all_defaults_read raws ≡ false =
+    ap (λ (ns : List KeptNode). are_all_defaults_read (raw_nodes_of ns)) (sym c.deref.ensures.value) ∙ sym c.in-Ok.ensures.read ∙ c.if-are_read.false in
+    inr (or_else-unread (faults_of_nodes (whole_nodes raws)) (are_all_defaults_read raws) SchemaError.InvalidDefault (no_faults-from_is_schema (whole_nodes raws) formed) unread)
+
+pub returns-in-Err-finish-clause-refused : goal.returns-in-Err-finish-clause-refused
+returns-in-Err-finish-clause-refused c =
+    let whole = whole_draft c.args.raws.items c.deref.result.now (lists_seen c.in-Ok.defaults.of_nodes.items) (draft_nodes c.in-Ok-drafted.draft)
+    c.deref.ensures.value c.in-Ok.ensures.data c.in-Ok-drafted.ensures.drafted in
+    of_draft (raw_nodes_of c.args.raws.items) (draft_nodes c.in-Ok-drafted.draft) c.in-Err-finish.error c.from-in-Err-finish.result whole c.requires
+    c.in-Err-finish.ensures.faulty c.from-in-Err-finish.ensures

@@ -1,0 +1,220 @@
+//! What a tree declares (Avro 1.11, "Schema Declaration"): its nodes, in the order in which they begin.
+
+ghost use Rattle.std.specs.Prelude.{◌≡◌, [], IfOk, IfErr};
+ghost use Rattle.avro_schema_json.specs.Declares.{made_of, meaning_of, union_of, branches_of, fields_from, field_meaning};
+ghost use Rattle.avro_schema_json.specs.Reading.{IsRefusal, array_meaning, map_meaning, record_meaning, fields_meaning};
+ghost use Rattle.avro_schema_json.specs.ReadingSeen.{ReadsAt, ReadsNode, RefusesAt};
+ghost use Rattle.avro_schema_json.specs.SeenRaw.{raw_nodes_of, raw_field_of, raw_fields_of};
+ghost use Rattle.serde_json.specs.Data.{object};
+ghost use Rattle.serde_json.specs.View.{view, items_view, members_view};
+
+use crate::attributes::{Members, alias_texts, aliases, field_name, form, member};
+use crate::error::SchemaError;
+use crate::progress::{Definition, Progress};
+use crate::raw::{RawField, RawNode, RawRecord};
+use crate::words::Form;
+use avro_name::Namespace;
+use avro_schema::{Node, NodeId};
+use serde_json::Value;
+use std::alloc::Global;
+
+impl<'a> Progress<'a> {
+    /// The type that a tree declares.
+    #[cycle(types)]
+    fn read_type(
+        &mut self,
+        alloc: Global,
+        enclosing: &Namespace,
+        tree: &'a Value,
+    ) -> Result<NodeId, SchemaError>
+        ensures read { IfOk result (ReadsNode (meaning_of (view tree.now)) enclosing.now self.old self.new) }
+        ensures refused { IfErr result (RefusesAt (meaning_of (view tree.now)) enclosing.now self.old) }
+    {
+        match tree {
+            Value::String(word) => self.read_word(alloc, enclosing, word.as_str()),
+            Value::Array(branches) => self.read_union(alloc, enclosing, branches),
+            Value::Object(members) => self.read_object(alloc, enclosing, members),
+            Value::Null | Value::Bool(_) | Value::Number(_) => {
+                Err(SchemaError::InvalidDeclaration)
+            }
+        }
+    }
+
+    /// A union of its branches in order.
+    #[cycle(types)]
+    fn read_union(
+        &mut self,
+        alloc: Global,
+        enclosing: &Namespace,
+        branches: &'a [Value],
+    ) -> Result<NodeId, SchemaError>
+        ensures read { IfOk result (ReadsNode (union_of (branches_of (items_view branches.now))) enclosing.now self.old self.new) }
+        ensures refused { IfErr result (RefusesAt (union_of (branches_of (items_view branches.now))) enclosing.now self.old) }
+    {
+        let id = self.reserve()?;
+        let mut places = Vec::new(alloc);
+        for branch in branches {
+            places.push(self.read_type(alloc, enclosing, branch)?)?;
+        }
+        self.put(id, RawNode::Plain(Node::Union(places)));
+        Ok(id)
+    }
+
+    /// The type that an object declares.
+    #[cycle(types)]
+    fn read_object(
+        &mut self,
+        alloc: Global,
+        enclosing: &Namespace,
+        members: &'a Members,
+    ) -> Result<NodeId, SchemaError>
+        ensures read { IfOk result (ReadsNode (meaning_of (object (members_view members.now.entries))) enclosing.now self.old self.new) }
+        ensures refused { IfErr result (RefusesAt (meaning_of (object (members_view members.now.entries))) enclosing.now self.old) }
+    {
+        match form(members) {
+            Form::Record => self.read_record(alloc, enclosing, members),
+            Form::Enum => self.read_enum(alloc, enclosing, members),
+            Form::Fixed => self.read_fixed(alloc, enclosing, members),
+            Form::Array => match members.get("items") {
+                Some(items) => self.read_array(alloc, enclosing, items),
+                None => Err(SchemaError::InvalidDeclaration),
+            },
+            Form::Map => match members.get("values") {
+                Some(values) => self.read_map(alloc, enclosing, values),
+                None => Err(SchemaError::InvalidDeclaration),
+            },
+            Form::Error => Err(SchemaError::UnsupportedType),
+            Form::Word(word) => self.read_word(alloc, enclosing, word),
+            Form::Missing => Err(SchemaError::InvalidDeclaration),
+        }
+    }
+
+    /// An array of a type.
+    #[cycle(types)]
+    fn read_array(
+        &mut self,
+        alloc: Global,
+        enclosing: &Namespace,
+        items: &'a Value,
+    ) -> Result<NodeId, SchemaError>
+        ensures read { IfOk result (ReadsNode (array_meaning (view items.now)) enclosing.now self.old self.new) }
+        ensures refused { IfErr result (RefusesAt (array_meaning (view items.now)) enclosing.now self.old) }
+    {
+        let id = self.reserve()?;
+        let place = self.read_type(alloc, enclosing, items)?;
+        self.put(id, RawNode::Plain(Node::Array(place)));
+        Ok(id)
+    }
+
+    /// A map of a type.
+    #[cycle(types)]
+    fn read_map(
+        &mut self,
+        alloc: Global,
+        enclosing: &Namespace,
+        values: &'a Value,
+    ) -> Result<NodeId, SchemaError>
+        ensures read { IfOk result (ReadsNode (map_meaning (view values.now)) enclosing.now self.old self.new) }
+        ensures refused { IfErr result (RefusesAt (map_meaning (view values.now)) enclosing.now self.old) }
+    {
+        let id = self.reserve()?;
+        let place = self.read_type(alloc, enclosing, values)?;
+        self.put(id, RawNode::Plain(Node::Map(place)));
+        Ok(id)
+    }
+
+    /// A record.
+    #[cycle(types)]
+    fn read_record(
+        &mut self,
+        alloc: Global,
+        enclosing: &Namespace,
+        members: &'a Members,
+    ) -> Result<NodeId, SchemaError>
+        ensures read { IfOk result (ReadsNode (record_meaning (members_view members.now.entries)) enclosing.now self.old self.new) }
+        ensures refused { IfErr result (RefusesAt (record_meaning (members_view members.now.entries)) enclosing.now self.old) }
+    {
+        let Definition {
+            id,
+            name,
+            namespace,
+        } = self.begin(alloc, enclosing, members)?;
+        let aliases = aliases(alloc, &namespace, members)?;
+        let fields = match members.get("fields") {
+            Some(list) => self.read_fields(alloc, &namespace, list)?,
+            None => return Err(SchemaError::InvalidDeclaration),
+        };
+        self.put(
+            id,
+            RawNode::Record(RawRecord {
+                name,
+                aliases,
+                fields,
+            }),
+        );
+        Ok(id)
+    }
+
+    /// The fields of a record in order.
+    #[cycle(types)]
+    fn read_fields(
+        &mut self,
+        alloc: Global,
+        enclosing: &Namespace,
+        list: &'a Value,
+    ) -> Result<Vec<RawField<'a>>, SchemaError>
+        ensures read { IfOk result (λ fields. ReadsAt (fields_meaning (fields_from (view list.now))) enclosing.now self.old self.new (raw_fields_of fields.items)) }
+        ensures refused { IfErr result (RefusesAt (fields_meaning (fields_from (view list.now))) enclosing.now self.old) }
+    {
+        let Value::Array(items) = list else {
+            return Err(SchemaError::InvalidDeclaration);
+        };
+        let mut fields = Vec::new(alloc);
+        for item in items {
+            fields.push(self.read_field(alloc, enclosing, item)?)?;
+        }
+        Ok(fields)
+    }
+
+    /// A field of a record.
+    #[cycle(types)]
+    fn read_field(
+        &mut self,
+        alloc: Global,
+        enclosing: &Namespace,
+        item: &'a Value,
+    ) -> Result<RawField<'a>, SchemaError>
+        ensures read { IfOk result (λ field. ReadsAt (field_meaning (view item.now)) enclosing.now self.old self.new (raw_field_of field)) }
+        ensures refused { IfErr result (RefusesAt (field_meaning (view item.now)) enclosing.now self.old) }
+    {
+        let Value::Object(members) = item else {
+            return Err(SchemaError::InvalidDeclaration);
+        };
+        let name = field_name(alloc, members)?;
+        let aliases = alias_texts(alloc, members)?;
+        let node = match members.get("type") {
+            Some(tree) => self.read_type(alloc, enclosing, tree)?,
+            None => return Err(SchemaError::InvalidDeclaration),
+        };
+        Ok(RawField {
+            name,
+            aliases,
+            node,
+            default: member(members, "default"),
+        })
+    }
+}
+
+/// The nodes that a tree declares, in the order in which they begin.
+pub(crate) fn declarations<'a>(
+    alloc: Global,
+    tree: &'a Value,
+) -> Result<Vec<RawNode<'a>>, SchemaError>
+    ensures found { IfOk result (λ raws. ((made_of (view tree.now)).faults ≡ []) × (raw_nodes_of raws.items ≡ (made_of (view tree.now)).nodes)) }
+    ensures refused { IfErr result (IsRefusal (made_of (view tree.now)).faults) }
+{
+    let mut progress = Progress::new(alloc);
+    progress.read_type(alloc, &Namespace::null(alloc), tree)?;
+    let Progress { nodes, names: _ } = progress;
+    Ok(nodes)
+}

@@ -1,0 +1,276 @@
+//! Defaults of fields.
+
+ghost use Rattle.std.specs.Prelude.{◌≡◌, true, length, option_map, IfOk};
+ghost use Rattle.avro_schema.specs.Node.{Node as SeenNode, node_at, branches_of as branches_in};
+ghost use Rattle.avro_schema.specs.Seen.{value_of, values_of, entries_of, node_of, places_of};
+ghost use Rattle.avro_schema.specs.Value.{Value as SeenValue};
+ghost use Rattle.avro_schema_json.specs.DeclaredDefaults.{default_of as default_by, each_default, entries_default as each_entry, default_under, fields_default as each_field, object_default as default_of_object, items_default as default_of_items, member_keys, names_only};
+ghost use Rattle.avro_schema_json.specs.OwnDefaults.{own_default as own_default_by, default_of_fields, bare_of, bares_of, fields_seen};
+ghost use Rattle.serde_json.specs.View.{view, items_view, members_view};
+
+use crate::fields::Fields;
+use crate::labels::copy_of_text;
+use crate::plain_defaults::{boolean_default, null_default, number_default, text_default};
+use crate::raw::RawNode;
+use avro_schema::{Datum, Memory, Node, NodeId};
+use serde_json::{Map, Value};
+use std::alloc::Global;
+
+/// The default that JSON is for the node at a place, or nothing where it is none. A union takes it
+/// as one of its first branch.
+#[cycle(defaults)]
+pub(crate) fn default_of(
+    alloc: Global,
+    raws: &[RawNode],
+    tree: &Value,
+    place: NodeId,
+) -> Result<Option<Datum>, Memory>
+    ensures { IfOk result (λ datum. option_map value_of datum ≡ default_by (bares_of raws.now) (view tree.now) (node_at (bares_of raws.now) place.0)) }
+{
+    let null = RawNode::Plain(Node::Null);
+    let node = raw_at(raws, &null, place);
+    match branches(node) {
+        None => own_default(alloc, raws, tree, node),
+        Some(places) => match places.first() {
+            Some(first) => {
+                let branch = raw_at(raws, &null, *first);
+                in_first_branch(alloc, own_default(alloc, raws, tree, branch)?)
+            }
+            None => Ok(None),
+        },
+    }
+}
+
+/// The node at a place, or the given node, that of null, where there is none.
+fn raw_at<'a>(
+    raws: &'a [RawNode<'a>],
+    null: &'a RawNode<'a>,
+    place: NodeId,
+) -> &'a RawNode<'a>
+    requires { bare_of null.now ≡ SeenNode.null }
+    ensures { bare_of result.now ≡ node_at (bares_of raws.now) place.0 }
+{
+    raws.get(place.0 as usize).unwrap_or(null)
+}
+
+/// The branches of a union.
+fn branches<'a>(node: &'a RawNode<'_>) -> Option<&'a [NodeId]>
+    ensures { option_map (λ ids. places_of ids.now) result ≡ branches_in (bare_of node.now) }
+{
+    match node {
+        RawNode::Plain(node) => match node {
+            Node::Union(places) => Some(places),
+            _ => None,
+        },
+        RawNode::Record(_) => None,
+    }
+}
+
+/// A datum as one of a union's first branch.
+fn in_first_branch(alloc: Global, datum: Option<Datum>) -> Result<Option<Datum>, Memory>
+    ensures { IfOk result (λ whole. option_map value_of whole ≡ option_map (SeenValue.union 0) (option_map value_of datum)) }
+{
+    match datum {
+        Some(datum) => match Box::new(alloc, datum) {
+            Ok(boxed) => Ok(Some(Datum::Union(0, boxed))),
+            Err(_) => Err(Memory),
+        },
+        None => Ok(None),
+    }
+}
+
+/// The default that JSON is for a node itself.
+#[cycle(defaults)]
+fn own_default(
+    alloc: Global,
+    raws: &[RawNode],
+    tree: &Value,
+    node: &RawNode,
+) -> Result<Option<Datum>, Memory>
+    ensures { IfOk result (λ datum. option_map value_of datum ≡ own_default_by (bares_of raws.now) (view tree.now) (bare_of node.now)) }
+{
+    match node {
+        RawNode::Plain(node) => plain_default(alloc, raws, tree, node),
+        RawNode::Record(record) => match tree {
+            Value::Object(members) => {
+                record_default(alloc, raws, members, Fields::Raw(&record.fields))
+            }
+            _ => Ok(None),
+        },
+    }
+}
+
+/// The default that JSON is for a node without defaults of its own.
+#[cycle(defaults)]
+fn plain_default(
+    alloc: Global,
+    raws: &[RawNode],
+    tree: &Value,
+    node: &Node,
+) -> Result<Option<Datum>, Memory>
+    ensures { IfOk result (λ datum. option_map value_of datum ≡ own_default_by (bares_of raws.now) (view tree.now) (node_of node.now)) }
+{
+    match tree {
+        Value::Null => Ok(null_default(node)),
+        Value::Bool(value) => Ok(boolean_default(*value, node)),
+        Value::Number(number) => Ok(number_default(*number, node)),
+        Value::String(text) => text_default(alloc, text.as_str(), node),
+        Value::Array(items) => items_default(alloc, raws, items, node),
+        Value::Object(members) => object_default(alloc, raws, members, node),
+    }
+}
+
+/// The default that an array is.
+#[cycle(defaults)]
+fn items_default(
+    alloc: Global,
+    raws: &[RawNode],
+    items: &Vec<Value>,
+    node: &Node,
+) -> Result<Option<Datum>, Memory>
+    ensures { IfOk result (λ datum. option_map value_of datum
+        ≡ default_of_items (bares_of raws.now) (λ m. each_default (bares_of raws.now) (items_view items.now.items) m) (node_of node.now)) }
+{
+    match node {
+        Node::Array(place) => match item_defaults(alloc, raws, items, *place)? {
+            Some(values) => Ok(Some(Datum::Array(values))),
+            None => Ok(None),
+        },
+        _ => Ok(None),
+    }
+}
+
+/// The defaults that items are for the node at a place.
+#[cycle(defaults)]
+fn item_defaults(
+    alloc: Global,
+    raws: &[RawNode],
+    items: &Vec<Value>,
+    place: NodeId,
+) -> Result<Option<Vec<Datum>>, Memory>
+    ensures { IfOk result (λ values. option_map (λ vs. values_of vs.items) values
+        ≡ each_default (bares_of raws.now) (items_view items.now.items) (node_at (bares_of raws.now) place.0)) }
+{
+    let mut values: Vec<Datum> = Vec::new(alloc);
+    for item in items {
+        let Some(value) = default_of(alloc, raws, item, place)? else {
+            return Ok(None);
+        };
+        match values.push(value) {
+            Ok(()) => {}
+            Err(_) => return Err(Memory),
+        }
+    }
+    Ok(Some(values))
+}
+
+/// The default that an object is.
+#[cycle(defaults)]
+fn object_default(
+    alloc: Global,
+    raws: &[RawNode],
+    members: &Map<String, Value>,
+    node: &Node,
+) -> Result<Option<Datum>, Memory>
+    ensures { IfOk result (λ datum. option_map value_of datum
+        ≡ default_of_object (bares_of raws.now) (λ m. each_entry (bares_of raws.now) (members_view members.now.entries) m)
+        (λ key. default_under (bares_of raws.now) key (members_view members.now.entries)) (member_keys (members_view members.now.entries)) (node_of node.now)) }
+{
+    match node {
+        Node::Map(place) => match entry_defaults(alloc, raws, members, *place)? {
+            Some(entries) => Ok(Some(Datum::Map(entries))),
+            None => Ok(None),
+        },
+        Node::Record(record) => {
+            record_default(alloc, raws, members, Fields::Whole(&record.fields))
+        }
+        _ => Ok(None),
+    }
+}
+
+/// The keys, each with the default that its value is for the node at a place.
+#[cycle(defaults)]
+fn entry_defaults(
+    alloc: Global,
+    raws: &[RawNode],
+    members: &Map<String, Value>,
+    place: NodeId,
+) -> Result<Option<Vec<(String, Datum)>>, Memory>
+    ensures { IfOk result (λ entries. option_map (λ es. entries_of es.items) entries
+        ≡ each_entry (bares_of raws.now) (members_view members.now.entries) (node_at (bares_of raws.now) place.0)) }
+{
+    let mut entries: Vec<(String, Datum)> = Vec::new(alloc);
+    for (key, tree) in members.iter() {
+        let Some(value) = default_of(alloc, raws, tree, place)? else {
+            return Ok(None);
+        };
+        match entries.push((copy_of_text(alloc, key.as_str())?, value)) {
+            Ok(()) => {}
+            Err(_) => return Err(Memory),
+        }
+    }
+    Ok(Some(entries))
+}
+
+/// The record that an object is by a member for each field and no other.
+#[cycle(defaults)]
+fn record_default(
+    alloc: Global,
+    raws: &[RawNode],
+    members: &Map<String, Value>,
+    fields: Fields<'_>,
+) -> Result<Option<Datum>, Memory>
+    ensures { IfOk result (λ datum. option_map value_of datum
+        ≡ default_of_fields (bares_of raws.now) (members_view members.now.entries) (fields_seen fields.entry)) }
+{
+    let Some(values) = field_defaults(alloc, raws, members, fields)? else {
+        return Ok(None);
+    };
+    if names_fields(members, fields) {
+        Ok(Some(Datum::Record(values)))
+    } else {
+        Ok(None)
+    }
+}
+
+/// Whether each key is the name of a field.
+fn names_fields(members: &Map<String, Value>, fields: Fields<'_>) -> bool
+    ensures { result ≡ names_only (member_keys (members_view members.now.entries)) (fields_seen fields.entry) }
+{
+    for (key, _) in members.iter() {
+        if !fields.has(key.as_str()) {
+            return false;
+        }
+    }
+    true
+}
+
+/// The default of each field, by the member of its name.
+#[cycle(defaults)]
+fn field_defaults(
+    alloc: Global,
+    raws: &[RawNode],
+    members: &Map<String, Value>,
+    fields: Fields<'_>,
+) -> Result<Option<Vec<Datum>>, Memory>
+    ensures { IfOk result (λ values. option_map (λ vs. values_of vs.items) values
+        ≡ each_field (bares_of raws.now) (λ key. default_under (bares_of raws.now) key (members_view members.now.entries)) (fields_seen fields.entry)) }
+{
+    let mut values: Vec<Datum> = Vec::new(alloc);
+    for i in 0..fields.len() {
+        let Some((name, place)) = fields.get(i) else {
+            return Ok(None);
+        };
+        let Some(tree) = members.get(name) else {
+            return Ok(None);
+        };
+        let Some(value) = default_of(alloc, raws, tree, place)? else {
+            return Ok(None);
+        };
+        match values.push(value) {
+            Ok(()) => {}
+            Err(_) => return Err(Memory),
+        }
+    }
+    Ok(Some(values))
+}

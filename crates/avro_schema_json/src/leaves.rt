@@ -1,0 +1,92 @@
+//! The types without parts: primitive types and references, enums, fixeds.
+
+ghost use Rattle.std.specs.Prelude.{IfOk, IfErr};
+ghost use Rattle.avro_schema_json.specs.Declares.{type_of_word};
+ghost use Rattle.avro_schema_json.specs.Reading.{enum_meaning, fixed_meaning};
+ghost use Rattle.avro_schema_json.specs.ReadingSeen.{ReadsNode, RefusesAt};
+ghost use Rattle.serde_json.specs.View.{members_view};
+
+use crate::attributes::{Members, aliases, size, symbols};
+use crate::error::SchemaError;
+use crate::progress::{Definition, Progress};
+use crate::raw::RawNode;
+use crate::words::{Word, word_of};
+use avro_name::Namespace;
+use avro_schema::{EnumNode, FixedNode, Node, NodeId};
+use std::alloc::Global;
+
+impl Progress<'_> {
+    /// A type that a word names.
+    pub(crate) fn read_word(
+        &mut self,
+        alloc: Global,
+        enclosing: &Namespace,
+        word: &str,
+    ) -> Result<NodeId, SchemaError>
+        ensures read { IfOk result (ReadsNode (type_of_word word.now) enclosing.now self.old self.new) }
+        ensures refused { IfErr result (RefusesAt (type_of_word word.now) enclosing.now self.old) }
+    {
+        match word_of(word) {
+            Word::Primitive(node) => self.add(RawNode::Plain(node)),
+            Word::Unsupported => Err(SchemaError::UnsupportedType),
+            Word::TypeName => self.find(alloc, enclosing, word),
+        }
+    }
+
+    /// An enum.
+    pub(crate) fn read_enum(
+        &mut self,
+        alloc: Global,
+        enclosing: &Namespace,
+        members: &Members,
+    ) -> Result<NodeId, SchemaError>
+        ensures read { IfOk result (ReadsNode (enum_meaning (members_view members.now.entries)) enclosing.now self.old self.new) }
+        ensures refused { IfErr result (RefusesAt (enum_meaning (members_view members.now.entries)) enclosing.now self.old) }
+    {
+        let Definition {
+            id,
+            name,
+            namespace,
+        } = self.begin(alloc, enclosing, members)?;
+        let aliases = aliases(alloc, &namespace, members)?;
+        let (symbols, default) = symbols(alloc, members)?;
+        self.put(
+            id,
+            RawNode::Plain(Node::Enum(EnumNode {
+                name,
+                aliases,
+                symbols,
+                default,
+            })),
+        );
+        Ok(id)
+    }
+
+    /// A fixed.
+    pub(crate) fn read_fixed(
+        &mut self,
+        alloc: Global,
+        enclosing: &Namespace,
+        members: &Members,
+    ) -> Result<NodeId, SchemaError>
+        ensures read { IfOk result (ReadsNode (fixed_meaning (members_view members.now.entries)) enclosing.now self.old self.new) }
+        ensures refused { IfErr result (RefusesAt (fixed_meaning (members_view members.now.entries)) enclosing.now self.old) }
+    {
+        let Definition {
+            id,
+            name,
+            namespace,
+        } = self.begin(alloc, enclosing, members)?;
+        let aliases = aliases(alloc, &namespace, members)?;
+        let size = size(members)?;
+        self.put(
+            id,
+            RawNode::Plain(Node::Fixed(FixedNode {
+                name,
+                aliases,
+                size,
+            })),
+        );
+        Ok(id)
+    }
+}

@@ -1,0 +1,121 @@
+ghost use Rattle.std.specs.Prelude.{◌≡◌, ◌<◌, [], length, slice_set, IfOk, IfErr, Contains};
+ghost use Rattle.avro_schema.specs.Node.Node.{null as NullNode};
+ghost use Rattle.avro_schema_json.specs.DeclaredAttributes.{name_in};
+ghost use Rattle.avro_schema_json.specs.Declares.RawNode.{plain as plain_node};
+ghost use Rattle.avro_schema_json.specs.Declares.{reference};
+ghost use Rattle.avro_schema_json.specs.Reading.{State, made_at, IsRead, IsRefusal, IsAdded, IsBegun, limit_faults, beginning_faults};
+ghost use Rattle.avro_schema_json.specs.ReadingSeen.{state_of};
+ghost use Rattle.avro_schema_json.specs.SeenRaw.{raw_node_of};
+ghost use Rattle.serde_json.specs.View.{members_view};
+
+use crate::attributes::{Members, full_name, name};
+use crate::error::SchemaError;
+use crate::raw::RawNode;
+use avro_name::{FullName, Namespace};
+use avro_schema::{Node, NodeId};
+use indexmap::IndexMap;
+use std::alloc::Global;
+
+/// The greatest number of nodes.
+const MAX_NODES: usize = 4096;
+
+/// The nodes of a declaration that is being read, in the order in which they begin, and the
+/// definitions that are known.
+#[derive(Drop)]
+pub(crate) struct Progress<'a> {
+    pub nodes: Vec<RawNode<'a>>,
+    pub names: IndexMap<FullName, u32>,
+}
+
+/// A definition that is begun.
+#[derive(Drop)]
+pub(crate) struct Definition {
+    pub id: NodeId,
+    pub name: FullName,
+    /// The namespace of its parts, which is that of its name.
+    pub namespace: Namespace,
+}
+
+impl<'a> Progress<'a> {
+    /// No nodes and no names.
+    pub fn new(alloc: Global) -> Progress<'a>
+        ensures { state_of result ≡ record { nodes = []; known = [] } }
+    {
+        Progress {
+            nodes: Vec::new(alloc),
+            names: IndexMap::new(alloc),
+        }
+    }
+
+    /// Adds a node.
+    pub fn add(&mut self, node: RawNode<'a>) -> Result<NodeId, SchemaError>
+        ensures added { IfOk result (λ id. IsAdded (state_of self.old) (state_of self.new) (raw_node_of node.entry) id.0) }
+        ensures refused { IfErr result (IsRefusal (limit_faults (state_of self.old))) }
+    {
+        let place = self.nodes.len();
+        if place >= MAX_NODES {
+            return Err(SchemaError::LimitExceeded);
+        }
+        self.nodes.push(node)?;
+        Ok(NodeId(place as u32))
+    }
+
+    /// Keeps a place for a node whose parts come after it.
+    pub fn reserve(&mut self) -> Result<NodeId, SchemaError>
+        ensures added { IfOk result (λ id. IsAdded (state_of self.old) (state_of self.new) (plain_node NullNode) id.0) }
+        ensures refused { IfErr result (IsRefusal (limit_faults (state_of self.old))) }
+    {
+        self.add(RawNode::Plain(Node::Null))
+    }
+
+    /// Puts a node at its place.
+    pub fn put(&mut self, id: NodeId, node: RawNode<'a>)
+        requires { id.0 < length (state_of self.old).nodes }
+        ensures nodes { (state_of self.new).nodes ≡ slice_set (state_of self.old).nodes id.0 (raw_node_of node.entry) }
+        ensures names { (state_of self.new).known ≡ (state_of self.old).known }
+    {
+        self.nodes[id.0 as usize] = node;
+    }
+
+    /// The node of the definition that a word refers to.
+    pub fn find(
+        &self,
+        alloc: Global,
+        enclosing: &Namespace,
+        word: &str,
+    ) -> Result<NodeId, SchemaError>
+        ensures found { IfOk result (λ id. IsRead (made_at (reference word.now) enclosing.now (state_of self.now)) (state_of self.now) (state_of self.now) id.0) }
+        ensures refused { IfErr result (IsRefusal (made_at (reference word.now) enclosing.now (state_of self.now)).faults) }
+    {
+        let name = full_name(alloc, word, enclosing)?;
+        match self.names.get(&name) {
+            Some(place) => Ok(NodeId(*place)),
+            None => Err(SchemaError::UnknownName),
+        }
+    }
+
+    /// Begins a definition: reads its name, which is known from now on, and keeps a place for it.
+    pub fn begin(
+        &mut self,
+        alloc: Global,
+        enclosing: &Namespace,
+        members: &Members,
+    ) -> Result<Definition, SchemaError>
+        ensures begun { IfOk result (λ d. IsBegun enclosing.now (members_view members.now.entries) (state_of self.old) (state_of self.new) d.name d.id.0) }
+        ensures namespace { IfOk result (λ d. d.namespace ≡ d.name.namespace) }
+        ensures refused { IfErr result (IsRefusal (beginning_faults (state_of self.old) (name_in enclosing.now (members_view members.now.entries)))) }
+    {
+        let name = name(alloc, enclosing, members)?;
+        if self.names.contains_key(&name) {
+            return Err(SchemaError::DuplicateName);
+        }
+        let namespace = Namespace::read(alloc, name.namespace())?;
+        let id = self.reserve()?;
+        self.names.insert(name.clone()?, id.0)?;
+        Ok(Definition {
+            id,
+            name,
+            namespace,
+        })
+    }
+}
