@@ -9,7 +9,7 @@ use anyhow::bail;
 use large::{Shape, draft_of};
 use measure::print_drafts;
 use std::env;
-use texts::{print_texts, text_of};
+use texts::{print_texts, small_text};
 
 fn main(rt: HostRuntime) -> anyhow::Result<()> {
     match env::args(&rt)?.nth(1) {
@@ -28,7 +28,7 @@ fn run(rt: &HostRuntime, word: &str) -> anyhow::Result<()> {
     }
 }
 
-/// Makes a small schema, and prints its number of nodes.
+/// Makes a small schema and reads another, and prints their numbers of nodes.
 fn check(rt: &HostRuntime) -> anyhow::Result<()> {
     let shape = Shape {
         groups: 3,
@@ -37,5 +37,6 @@ fn check(rt: &HostRuntime) -> anyhow::Result<()> {
     };
     let schema = draft_of(rt.alloc(), shape)?.finish()?;
     println!(rt; "ok {}", schema.len())?;
+    println!(rt; "ok {}", small_text(rt.alloc())?)?;
     Ok(())
 }

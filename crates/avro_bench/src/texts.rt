@@ -8,7 +8,8 @@ use std::time::{Duration, Instant};
 const RUNS: u32 = 5;
 
 /// What stands in the attribute `doc` of each definition.
-const DOC: &str = "One of many small definitions, of which each has symbols, an alias and a default.";
+const DOC: &str =
+    "One of many small definitions, of which each has symbols, an alias and a default. It is here for its length only";
 
 /// Prints the times of texts that grow in the number of their definitions, up to the greatest text.
 pub(crate) fn print_texts(rt: &HostRuntime) -> anyhow::Result<()> {
@@ -27,8 +28,19 @@ fn print_text(rt: &HostRuntime, definitions: u32) -> anyhow::Result<()> {
         least = least.min(time_reading(rt, text.as_bytes())?.1);
     }
     let micros = least.as_micros();
-    println!(rt; "{} {nodes} {}.{:03}", text.len(), micros / 1000, micros % 1000)?;
+    println!(rt;
+        "{} {nodes} {}.{:03}",
+        text.len(),
+        micros / 1000,
+        micros % 1000
+    )?;
     Ok(())
+}
+
+/// The number of nodes of the schema of a small text.
+pub(crate) fn small_text(alloc: Global) -> anyhow::Result<usize> {
+    let text = text_of(alloc, 4)?;
+    Ok(read_schema(alloc, text.as_bytes())?.len())
 }
 
 /// The number of nodes of the schema of a text, and the time until it is read.
@@ -40,7 +52,7 @@ fn time_reading(rt: &HostRuntime, text: &[u8]) -> anyhow::Result<(usize, Duratio
 }
 
 /// A record each of whose fields defines an enum.
-pub(crate) fn text_of(alloc: Global, definitions: u32) -> Result<String, AllocError> {
+fn text_of(alloc: Global, definitions: u32) -> Result<String, AllocError> {
     let mut text = String::from_str(
         alloc,
         "{\"type\":\"record\",\"name\":\"org.example.Large\",\"fields\":[",
