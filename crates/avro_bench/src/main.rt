@@ -3,12 +3,14 @@
 
 mod large;
 mod measure;
+mod texts;
 mod walking;
 
 use anyhow::bail;
 use large::{Shape, draft_of};
 use measure::print_drafts;
 use std::env;
+use texts::{print_texts, small_text};
 use walking::print_walk;
 
 fn main(rt: HostRuntime) -> anyhow::Result<()> {
@@ -28,16 +30,17 @@ fn run(rt: &HostRuntime, word: &str) -> anyhow::Result<()> {
     match word {
         "check" => check(rt),
         "draft" => print_drafts(rt),
+        "schema" => print_texts(rt),
         _ => usage(),
     }
 }
 
 /// Says which words there are.
 fn usage() -> anyhow::Result<()> {
-    bail!("avro_bench check | draft | walk FILE records|strings")
+    bail!("avro_bench check | draft | schema | walk FILE records|strings")
 }
 
-/// Makes a small schema, and prints its number of nodes.
+/// Makes a small schema and reads another, and prints their numbers of nodes.
 fn check(rt: &HostRuntime) -> anyhow::Result<()> {
     let shape = Shape {
         groups: 3,
@@ -46,5 +49,6 @@ fn check(rt: &HostRuntime) -> anyhow::Result<()> {
     };
     let schema = draft_of(rt.alloc(), shape)?.finish()?;
     println!(rt; "ok {}", schema.len())?;
+    println!(rt; "ok {}", small_text(rt.alloc())?)?;
     Ok(())
 }
