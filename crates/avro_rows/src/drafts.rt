@@ -44,7 +44,11 @@ pub(crate) fn record(alloc: Global, text: &str, fields: Vec<Field>) -> Result<No
 }
 
 /// An enum E.
-pub(crate) fn enumeration(alloc: Global, symbols: &[&str], default: Option<u32>) -> Result<Node, Fail> {
+pub(crate) fn enumeration(
+    alloc: Global,
+    symbols: &[&str],
+    default: Option<u32>,
+) -> Result<Node, Fail> {
     Ok(Node::Enum(EnumNode {
         name: name(alloc, "E")?,
         aliases: Vec::new(alloc),
