@@ -193,11 +193,11 @@ module _ {E : Type 0} (run : Left → List E → List (List ℕ) → Left → Ty
         (λ f r.
         item_fails head.head (length r.xs) (concat r.items) r.then_left head.is_head (let few = r.few in let same = head.counted in omega arith)
         (whole_behind r.xs r.items r.then_left r.stand) (record {
-        rest = r.next.rest;
-        fault = r.next.fault;
-        split = split_behind (concat r.items) r.next.rest r.next.split;
-        breaks = r.next.breaks;
-        moved = ap (behind (length (head_bytes head.head))) r.next.moved ∙ sym (behind-append (head_bytes head.head) (concat r.items) r.next.fault);
+          rest = r.next.rest;
+          fault = r.next.fault;
+          split = split_behind (concat r.items) r.next.rest r.next.split;
+          breaks = r.next.breaks;
+          moved = ap (behind (length (head_bytes head.head))) r.next.moved ∙ sym (behind-append (head_bytes head.head) (concat r.items) r.next.fault);
         })) reported)
 
   -- a head breaks

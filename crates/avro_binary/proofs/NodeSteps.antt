@@ -350,20 +350,20 @@ module _ {R : Type 0} (stands : R → Value → Type 0) (nodes : List Node) (pla
           refused = report_moved start mid found.0 e (BreaksWithin nodes mid.depth mid.nodes mid.blob (node_at nodes place))
               (NodeBreaks nodes (limits_at start) (child_breaks nodes (limits_at start)) (Node.union places)) (moves-passed start mid found.0 passes)
               (λ f h. inr (record {
-              before = where_is.before;
-              branch = place;
-              after = where_is.after;
-              places_are = where_is.places_are;
-              number = found.0;
-              spelled = subst (λ (q : ℕ). SpellsNumber (pos q) found.0) (sym where_is.length_is) found.1.1.1;
-              breaks = record {
-                rest = mid.bytes;
-                fault = f;
-                split = passes.split;
-                breaks = subst (λ (left : ℕ). BreaksWithin nodes start.depth left start.blob (node_at nodes place) mid.bytes f) passes.nodes
-                    (breaks_within-same nodes mid.depth start.depth mid.nodes mid.blob start.blob (node_at nodes place) mid.bytes f passes.depth passes.blob h);
-                moved = refl;
-              };
+                before = where_is.before;
+                branch = place;
+                after = where_is.after;
+                places_are = where_is.places_are;
+                number = found.0;
+                spelled = subst (λ (q : ℕ). SpellsNumber (pos q) found.0) (sym where_is.length_is) found.1.1.1;
+                breaks = record {
+                  rest = mid.bytes;
+                  fault = f;
+                  split = passes.split;
+                  breaks = subst (λ (left : ℕ). BreaksWithin nodes start.depth left start.blob (node_at nodes place) mid.bytes f) passes.nodes
+                      (breaks_within-same nodes mid.depth start.depth mid.nodes mid.blob start.blob (node_at nodes place) mid.bytes f passes.depth passes.blob h);
+                  moved = refl;
+                };
               })) reads.refused;
         }
 
@@ -462,25 +462,25 @@ module _ (nodes : List Node) (places : List ℕ) (start now : CursorValue) (vs :
       report_moved start now (concat done.items) e (BreaksWithin nodes now.depth now.nodes now.blob (node_at nodes place))
       (FieldsBreak nodes (limits_at start) (child_breaks nodes (limits_at start)) all) done.moves
       (λ f h. record {
-      before = places;
-      field = place;
-      after = after_places;
-      places_are = are;
-      values = values_from vs;
-      items = done.items;
-      fitting = done.fitting;
-      spelled = done.spelled;
-      deep = done.deep;
-      many = let m = done.many in omega arith;
-      long = done.long;
-      breaks = record {
-        rest = now.bytes;
-        fault = f;
-        split = done.moves.split;
-        breaks = subst (λ (left : ℕ). BreaksWithin nodes start.depth left start.blob (node_at nodes place) now.bytes f) fewer
-            (breaks_within-same nodes now.depth start.depth now.nodes now.blob start.blob (node_at nodes place) now.bytes f done.moves.depth done.moves.blob h);
-        moved = refl;
-      };
+        before = places;
+        field = place;
+        after = after_places;
+        places_are = are;
+        values = values_from vs;
+        items = done.items;
+        fitting = done.fitting;
+        spelled = done.spelled;
+        deep = done.deep;
+        many = let m = done.many in omega arith;
+        long = done.long;
+        breaks = record {
+          rest = now.bytes;
+          fault = f;
+          split = done.moves.split;
+          breaks = subst (λ (left : ℕ). BreaksWithin nodes start.depth left start.blob (node_at nodes place) now.bytes f) fewer
+              (breaks_within-same nodes now.depth start.depth now.nodes now.blob start.blob (node_at nodes place) now.bytes f done.moves.depth done.moves.blob h);
+          moved = refl;
+        };
       }) reported
 
 module _ {R : Type 0} (stands : R → Value → Type 0) (nodes : List Node) (name : Name) (aliases : List Name) (fields : List FieldNode) (start now : CursorValue) where

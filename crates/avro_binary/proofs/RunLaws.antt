@@ -176,7 +176,14 @@ module _ (nodes : List Node) (limits : LimitValues) (n : Node) where
   pub entries_run : IsRun (EntriesRun nodes limits n) (EntriesAreWhole nodes limits n) (λ left. are_distinct bytes_eq left.keys ≡ true)
   entries_run = record {
     none = λ left ready. record {
-      texts = refl; distinct = ready; fitting = refl; spelled = refl; deep = omega arith; many = omega arith; long = omega arith; keys = sym (append-nil left.keys);
+      texts = refl;
+      distinct = ready;
+      fitting = refl;
+      spelled = refl;
+      deep = omega arith;
+      many = omega arith;
+      long = omega arith;
+      keys = sym (append-nil left.keys);
     };
     joins = λ a b c xs ys items more r s. record {
       texts = ap (list_all is_text) (keys_of-append xs ys) ∙ list_all-append is_text (keys_of (entries_from xs)) (keys_of (entries_from ys))

@@ -51,9 +51,9 @@ pub report_moved : (a b : CursorValue) (front : List ℕ) (e : ReadError) (P Q :
 report_moved a b front e P Q m step reported =
     some_map (read_fault e) (λ fault. (f : ReadFault) × P b.bytes f × (fault ≡ behind b.place f)) (λ fault. (f : ReadFault) × Q a.bytes f × (fault ≡ behind a.place f))
     (λ fault r. (
-    behind (length front) r.0,
-    step r.0 r.1,
-    r.2 ∙ ap (λ (p : ℕ). behind p r.0) m.place ∙ behind-add a.place (length front) r.0,
+      behind (length front) r.0,
+      step r.0 r.1,
+      r.2 ∙ ap (λ (p : ℕ). behind p r.0) m.place ∙ behind-add a.place (length front) r.0,
     )) reported
 
 -- the same of bytes in place
@@ -93,12 +93,12 @@ module _ {E : Type 0} (run : Left → List E → List (List ℕ) → Left → Ty
   run_breaks breaks a b keys then_keys xs count e found few reported =
       report_moved a b (concat found.items) e (breaks (left_at b then_keys)) (RunBreaks run breaks (left_at a keys) count) found.moves
       (λ f h. record {
-      xs = xs;
-      items = found.items;
-      then_left = left_at b then_keys;
-      few = few;
-      stand = found.stand;
-      next = record { rest = b.bytes; fault = f; split = found.moves.split; breaks = h; moved = refl };
+        xs = xs;
+        items = found.items;
+        then_left = left_at b then_keys;
+        few = few;
+        stand = found.stand;
+        next = record { rest = b.bytes; fault = f; split = found.moves.split; breaks = h; moved = refl };
       }) reported
 
 -- one item of an array
@@ -148,10 +148,10 @@ module _ (nodes : List Node) (limits : LimitValues) (n : Node) where
   entry_report a b keys key front e is passes d l reported =
       report_moved a b front e (BreaksWithin nodes b.depth b.nodes b.blob n) (entry_breaks nodes limits n (left_at a keys)) (moves-passed a b front passes)
       (λ f h. value_of_entry_breaks key front is.0.spelled (is_text-from_string a.blob key front is.0) (let w = is.0.within in omega arith) is.1 (record {
-      rest = b.bytes;
-      fault = f;
-      split = passes.split;
-      breaks = subst (λ (left : ℕ). BreaksWithin nodes limits.depth left limits.blob n b.bytes f) passes.nodes
-          (breaks_within-same nodes b.depth limits.depth b.nodes b.blob limits.blob n b.bytes f (passes.depth ∙ sym d) (passes.blob ∙ sym l) h);
-      moved = refl;
+        rest = b.bytes;
+        fault = f;
+        split = passes.split;
+        breaks = subst (λ (left : ℕ). BreaksWithin nodes limits.depth left limits.blob n b.bytes f) passes.nodes
+            (breaks_within-same nodes b.depth limits.depth b.nodes b.blob limits.blob n b.bytes f (passes.depth ∙ sym d) (passes.blob ∙ sym l) h);
+        moved = refl;
       })) reported

@@ -68,10 +68,16 @@ fn contents_are_read(rt: HostRuntime) -> Result<(), Fail> {
     ];
     let schema = schema_of(alloc, Node::Str)?;
     assert_eq!(rt; wrong_row(alloc, &schema, &limits, &texts)?, None);
-    let bytes: [(&[u8], &str, &str); 2] = [(b"\x02\xff", "\"\u{ff}\" 2", "2"), (b"", "B1 at 0", "B1 at 0")];
+    let bytes: [(&[u8], &str, &str); 2] = [
+        (b"\x02\xff", "\"\u{ff}\" 2", "2"),
+        (b"", "B1 at 0", "B1 at 0"),
+    ];
     let schema = schema_of(alloc, Node::Bytes)?;
     assert_eq!(rt; wrong_row(alloc, &schema, &limits, &bytes)?, None);
-    let fixed_rows: [(&[u8], &str, &str); 2] = [(b"ab!", "\"ab\" 2", "2"), (b"a", "B1 at 0", "B1 at 0")];
+    let fixed_rows: [(&[u8], &str, &str); 2] = [
+        (b"ab!", "\"ab\" 2", "2"),
+        (b"a", "B1 at 0", "B1 at 0"),
+    ];
     let schema = schema_of(alloc, fixed(alloc, "F", 2)?)?;
     assert_eq!(rt; wrong_row(alloc, &schema, &limits, &fixed_rows)?, None);
     let symbols: [(&[u8], &str, &str); 3] = [
@@ -97,7 +103,10 @@ fn arrays_are_read(rt: HostRuntime) -> Result<(), Fail> {
         (b"\x04\x06", "B1 at 2", "B1 at 2"),
     ];
     let schema = array_of(alloc, Node::Long)?;
-    assert_eq!(rt; wrong_row(alloc, &schema, &Limits::default(), &longs)?, None);
+    assert_eq!(rt;
+        wrong_row(alloc, &schema, &Limits::default(), &longs)?,
+        None
+    );
     Ok(())
 }
 
@@ -119,7 +128,11 @@ fn counts_are_limited(rt: HostRuntime) -> Result<(), Fail> {
     let alloc = rt.alloc();
     let rows: [(&[u8], &str, &str); 4] = [
         (b"\x80\x80\x80\x80\x80\x80\x80\x80\x80\x01", "B9", "B9"),
-        (b"\xff\xff\xff\xff\xff\xff\xff\xff\xff\x01", "B6 at 0", "B6 at 0"),
+        (
+            b"\xff\xff\xff\xff\xff\xff\xff\xff\xff\x01",
+            "B6 at 0",
+            "B6 at 0",
+        ),
         (b"\x80\x80\x80\x01\x00", "B9", "B9"),
         (b"\xfe\xff\x7f\x02\x00", "B9", "B9"),
     ];
@@ -136,7 +149,11 @@ fn maps_are_read(rt: HostRuntime) -> Result<(), Fail> {
     let alloc = rt.alloc();
     let rows: [(&[u8], &str, &str); 5] = [
         (b"\x04\x02a\x02\x02b\x04\x00", "{\"a\":1,\"b\":2} 8", "8"),
-        (b"\x02\x02a\x02\x01\x06\x02b\x04\x00", "{\"a\":1,\"b\":2} 10", "10"),
+        (
+            b"\x02\x02a\x02\x01\x06\x02b\x04\x00",
+            "{\"a\":1,\"b\":2} 10",
+            "10",
+        ),
         (b"\x04\x02a\x02\x02a\x04\x00", "B8 at 4", "B8 at 4"),
         (b"\x02\x02a\x02\x02\x02a\x04\x00", "B8 at 5", "B8 at 5"),
         (b"\x02\x02a", "B1 at 3", "B1 at 3"),
@@ -176,7 +193,10 @@ fn list_of(alloc: Global, records: usize) -> Result<Vec<u8>, AllocError> {
 #[test]
 fn depth_is_limited(rt: HostRuntime) -> Result<(), Fail> {
     let alloc = rt.alloc();
-    let fields = vec![in alloc; field(alloc, "value", 1, None)?, field(alloc, "next", 2, None)?]?;
+    let fields = vec![in alloc;
+        field(alloc, "value", 1, None)?,
+        field(alloc, "next", 2, None)?,
+    ]?;
     let nodes = vec![in alloc;
         record(alloc, "Node", fields)?,
         Node::Int,

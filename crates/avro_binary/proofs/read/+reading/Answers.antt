@@ -39,7 +39,7 @@ not-below k n false h f = elim (nat_lt k n) as (λ x. nat_lt k n ≡ x → n ≤
 
 pub read_array-loop-items-init : goal.read_array-loop-items-init
 read_array-loop-items-init t c =
-    let none = array_none IsSeenAs (schema_nodes c.args.schema.now) c.args.place.0 c.args.cursor.now in 
+    let none = array_none IsSeenAs (schema_nodes c.args.schema.now) c.args.place.0 c.args.cursor.now in
     subst (λ (vs : List Value). ArrayDone (schema_nodes c.args.schema.now) c.args.place.0 c.args.cursor.now c.args.cursor.now [] vs) (sym (ap (map value_of) c.new-items.ensures.items)) none
 
 pub read_array-returns-in_err-block : goal.read_array-returns-in_err-block
@@ -50,7 +50,7 @@ read_array-returns-in_err-block t c =
     c.in_err-block.field-0.0 c.in_err-block.ensures.refused)
 
 pub read_array-returns-in_err-read_items : goal.read_array-returns-in_err-read_items
-read_array-returns-in_err-read_items t c = 
+read_array-returns-in_err-read_items t c =
     let done = c.loop-items.invariant in
     let nodes = schema_nodes c.args.schema.now in
     let place = c.args.place.0 in
@@ -66,7 +66,7 @@ read_array-returns-in_err-read_items t c =
     rw (p.1, p.2) (array_item_refused IsSeenAs nodes place start now (map value_of c.loop-items.items.items) done mid block head c.read_items.new.cursor c.count.result c.in_err-read_items.field-0.0 c.count.ensures read.refused)
 
 pub read_array-loop-items-smaller : goal.read_array-loop-items-smaller
-read_array-loop-items-smaller t c = 
+read_array-loop-items-smaller t c =
     let done = c.loop-items.invariant in
     let nodes = schema_nodes c.args.schema.now in
     let place = c.args.place.0 in
@@ -85,7 +85,7 @@ read_array-loop-items-smaller t c =
     array_smaller IsSeenAs nodes place start now (map value_of c.loop-items.items.items) done mid block head after read.found.1 ys found counted
 
 pub read_array-loop-items-preserved : goal.read_array-loop-items-preserved
-read_array-loop-items-preserved t c = 
+read_array-loop-items-preserved t c =
     let done = c.loop-items.invariant in
     let nodes = schema_nodes c.args.schema.now in
     let place = c.args.place.0 in
@@ -107,7 +107,7 @@ read_array-loop-items-preserved t c =
     subst (λ (xs : List Value). ArrayDone nodes place start after [] xs) (sym read.found.4) more
 
 pub read_array-returns-in_err-end_block : goal.read_array-returns-in_err-end_block
-read_array-returns-in_err-end_block t c = 
+read_array-returns-in_err-end_block t c =
     let done = c.loop-items.invariant in
     let nodes = schema_nodes c.args.schema.now in
     let place = c.args.place.0 in
@@ -140,10 +140,10 @@ read_array-returns t c =
 
 pub read_map-loop-entries-init : goal.read_map-loop-entries-init
 read_map-loop-entries-init t c =
-    let none = map_none IsSeenAs (schema_nodes c.args.schema.now) c.args.place.0 c.args.cursor.now in 
-    (
-    [], c.new-keys.ensures,
-    subst (λ (es : List (List ℕ × Value)). MapDone (schema_nodes c.args.schema.now) c.args.place.0 c.args.cursor.now c.args.cursor.now [] es) (sym (ap (map pair_of) c.new-entries.ensures.items)) none,
+    let none = map_none IsSeenAs (schema_nodes c.args.schema.now) c.args.place.0 c.args.cursor.now in (
+      [],
+      c.new-keys.ensures,
+      subst (λ (es : List (List ℕ × Value)). MapDone (schema_nodes c.args.schema.now) c.args.place.0 c.args.cursor.now c.args.cursor.now [] es) (sym (ap (map pair_of) c.new-entries.ensures.items)) none,
     )
 
 pub read_map-returns-in_err-block : goal.read_map-returns-in_err-block
@@ -160,7 +160,7 @@ read_map-returns t c =
     map_found IsSeenAs (schema_nodes c.args.schema.now) c.args.place.0 c.args.cursor.now c.loop-entries.cursor c.block.new.self done.0 (map pair_of c.loop-entries.entries.items) _ done.2 end c.nodes-nodes.ensures.in_range (value_of-Map c.loop-entries.entries)
 
 pub read_map-returns-in_err-read_entries : goal.read_map-returns-in_err-read_entries
-read_map-returns-in_err-read_entries t c = 
+read_map-returns-in_err-read_entries t c =
     let done = c.loop-entries.invariant in
     let nodes = schema_nodes c.args.schema.now in
     let place = c.args.place.0 in
@@ -177,7 +177,7 @@ read_map-returns-in_err-read_entries t c =
     rw (p.1, p.2) (map_item_refused IsSeenAs nodes place start now done.0 (map pair_of c.loop-entries.entries.items) done.2 mid block head c.read_entries.new.cursor c.count-count.result c.in_err-read_entries.field-0.0 c.count-count.ensures read.refused)
 
 pub read_map-loop-entries-smaller : goal.read_map-loop-entries-smaller
-read_map-loop-entries-smaller t c = 
+read_map-loop-entries-smaller t c =
     let done = c.loop-entries.invariant in
     let nodes = schema_nodes c.args.schema.now in
     let place = c.args.place.0 in
@@ -197,7 +197,7 @@ read_map-loop-entries-smaller t c =
     map_smaller IsSeenAs nodes place start now done.0 (map pair_of c.loop-entries.entries.items) done.2 mid block head after read.found.1 ys found counted
 
 pub read_map-loop-entries-preserved : goal.read_map-loop-entries-preserved
-read_map-loop-entries-preserved t c = 
+read_map-loop-entries-preserved t c =
     let done = c.loop-entries.invariant in
     let nodes = schema_nodes c.args.schema.now in
     let place = c.args.place.0 in
@@ -220,7 +220,7 @@ read_map-loop-entries-preserved t c =
     (read.found.1, read.found.4.0, subst (λ (xs : List (List ℕ × Value)). MapDone nodes place start after read.found.1 xs) (sym read.found.4.1) more)
 
 pub read_map-returns-in_err-end_block : goal.read_map-returns-in_err-end_block
-read_map-returns-in_err-end_block t c = 
+read_map-returns-in_err-end_block t c =
     let done = c.loop-entries.invariant in
     let nodes = schema_nodes c.args.schema.now in
     let place = c.args.place.0 in
@@ -293,34 +293,36 @@ read_entries-returns-in_err-value t c = λ limits before d b are distinct.
 
 pub read_entries-loop-done-preserved : goal.read_entries-loop-done-preserved
 read_entries-loop-done-preserved t c = (
-    let found = c.in_ok-value.ensures.found in found.1.moves.depth ∙ c.in_ok-key.ensures.depth ∙ c.loop-done.invariant.0, λ limits before d b are distinct.
-    let nodes = schema_nodes c.args.schema.now in
-    let n = node_at nodes c.args.place.0 in
-    let start = c.args.cursor.now in
-    let now = c.loop-done.cursor in
-    let so_far = c.loop-done.invariant.1 limits before d b are distinct in
-    let xs = so_far.0 in
-    let keys = so_far.1 in
-    let run = so_far.4 in
-    let deep = d ∙ sym run.moves.depth in
-    let long = b ∙ sym run.moves.blob in
-    let mid = c.read_key.new.cursor in
-    let read = c.in_ok-key.ensures.read keys so_far.3 in
-    let key = string_bytes c.in_ok-key.key in
-    let front = read.0.0 in
-    let is = read.0.1 in
-    let passes = read.0.2 in
-    let found = c.in_ok-value.ensures.found in
-    let after = c.read_place.new.cursor in
-    let v = found.0 in
-    let value = found.1 in
-    let one = entry_run nodes limits n now mid after keys key front v value ((entries_run nodes limits n).prepared _ _ xs run.items run.stand) is passes deep long in
-    let moved = moves-join now mid after front value.front (moves-passed now mid front passes) value.moves in
-    let more = run_push (EntriesRun nodes limits n) (EntriesAreWhole nodes limits n) (λ left. are_distinct bytes_eq left.keys ≡ true) (entries_run nodes limits n) start now after before keys (keys ++ key ∷ []) xs (key, v) (front ++ value.front) run one moved in
-    let pushed = ap (map pair_of) c.in-Ok.ensures.items ∙ map-append pair_of c.loop-done.entries.items ((c.in_ok-key.key, c.in_ok-value.value) ∷ [])
-    ∙ (λ i. so_far.5 i ++ (key, found.2 i) ∷ []) ∙ append_assoc (map pair_of c.args.entries.now.items) xs ((key, v) ∷ []) in
-    let counted = so_far.2 in
-    (xs ++ (key, v) ∷ [], keys ++ key ∷ [], omega (arith, length-append xs ((key, v) ∷ [])), read.1, more, pushed))
+  let found = c.in_ok-value.ensures.found in found.1.moves.depth ∙ c.in_ok-key.ensures.depth ∙ c.loop-done.invariant.0,
+  λ limits before d b are distinct.
+      let nodes = schema_nodes c.args.schema.now in
+      let n = node_at nodes c.args.place.0 in
+      let start = c.args.cursor.now in
+      let now = c.loop-done.cursor in
+      let so_far = c.loop-done.invariant.1 limits before d b are distinct in
+      let xs = so_far.0 in
+      let keys = so_far.1 in
+      let run = so_far.4 in
+      let deep = d ∙ sym run.moves.depth in
+      let long = b ∙ sym run.moves.blob in
+      let mid = c.read_key.new.cursor in
+      let read = c.in_ok-key.ensures.read keys so_far.3 in
+      let key = string_bytes c.in_ok-key.key in
+      let front = read.0.0 in
+      let is = read.0.1 in
+      let passes = read.0.2 in
+      let found = c.in_ok-value.ensures.found in
+      let after = c.read_place.new.cursor in
+      let v = found.0 in
+      let value = found.1 in
+      let one = entry_run nodes limits n now mid after keys key front v value ((entries_run nodes limits n).prepared _ _ xs run.items run.stand) is passes deep long in
+      let moved = moves-join now mid after front value.front (moves-passed now mid front passes) value.moves in
+      let more = run_push (EntriesRun nodes limits n) (EntriesAreWhole nodes limits n) (λ left. are_distinct bytes_eq left.keys ≡ true) (entries_run nodes limits n) start now after before keys (keys ++ key ∷ []) xs (key, v) (front ++ value.front) run one moved in
+      let pushed = ap (map pair_of) c.in-Ok.ensures.items ∙ map-append pair_of c.loop-done.entries.items ((c.in_ok-key.key, c.in_ok-value.value) ∷ [])
+      ∙ (λ i. so_far.5 i ++ (key, found.2 i) ∷ []) ∙ append_assoc (map pair_of c.args.entries.now.items) xs ((key, v) ∷ []) in
+      let counted = so_far.2 in
+      (xs ++ (key, v) ∷ [], keys ++ key ∷ [], omega (arith, length-append xs ((key, v) ∷ [])), read.1, more, pushed),
+)
 
 pub read_entries-returns : goal.read_entries-returns
 read_entries-returns t c = λ limits before d b are distinct.
@@ -360,7 +362,7 @@ read_items-returns-in_err-item t c = λ limits d b.
     rw (p.1, p.2) (record { found = tt; refused = refused })
 
 pub read_items-loop-done-preserved : goal.read_items-loop-done-preserved
-read_items-loop-done-preserved t c = 
+read_items-loop-done-preserved t c =
     let found = c.in_ok-item.ensures.found in
     let nodes = schema_nodes c.args.schema.now in
     let n = node_at nodes c.args.place.0 in
@@ -368,16 +370,18 @@ read_items-loop-done-preserved t c =
     let now = c.loop-done.cursor in
     let after = c.read_place.new.cursor in
     let v = found.0 in
-    let value = found.1 in
-    (value.moves.depth ∙ c.loop-done.invariant.0, λ limits d b.
-    let so_far = c.loop-done.invariant.1 limits d b in
-    let xs = so_far.0 in
-    let counted = so_far.1 in
-    let one = value_run nodes limits n now after [] v value (d ∙ sym so_far.2.moves.depth) (b ∙ sym so_far.2.moves.blob) in
-    let more = run_push (ValuesRun nodes limits n) (ItemsAreWhole nodes limits n) (λ left. Unit {0}) (values_run nodes limits n) start now after [] [] [] xs v value.front so_far.2 one value.moves in
-    let pushed = ap (map value_of) c.in-Ok.ensures.items ∙ map-append value_of c.loop-done.items.items (c.in_ok-item.item ∷ [])
-    ∙ (λ i. so_far.3 i ++ found.2 i ∷ []) ∙ append_assoc (map value_of c.args.items.now.items) xs (v ∷ []) in
-    (xs ++ v ∷ [], omega (arith, length-append xs (v ∷ [])), more, pushed))
+    let value = found.1 in (
+      value.moves.depth ∙ c.loop-done.invariant.0,
+      λ limits d b.
+          let so_far = c.loop-done.invariant.1 limits d b in
+          let xs = so_far.0 in
+          let counted = so_far.1 in
+          let one = value_run nodes limits n now after [] v value (d ∙ sym so_far.2.moves.depth) (b ∙ sym so_far.2.moves.blob) in
+          let more = run_push (ValuesRun nodes limits n) (ItemsAreWhole nodes limits n) (λ left. Unit {0}) (values_run nodes limits n) start now after [] [] [] xs v value.front so_far.2 one value.moves in
+          let pushed = ap (map value_of) c.in-Ok.ensures.items ∙ map-append value_of c.loop-done.items.items (c.in_ok-item.item ∷ [])
+          ∙ (λ i. so_far.3 i ++ found.2 i ∷ []) ∙ append_assoc (map value_of c.args.items.now.items) xs (v ∷ []) in
+          (xs ++ v ∷ [], omega (arith, length-append xs (v ∷ [])), more, pushed),
+    )
 
 pub read_items-returns : goal.read_items-returns
 read_items-returns t c = λ limits d b.
@@ -391,7 +395,7 @@ read_items-returns t c = λ limits d b.
 -- ---- Nodes
 
 pub read_node-returns-then-not-has : goal.read_node-returns-then-not-has
-read_node-returns-then-not-has t c = 
+read_node-returns-then-not-has t c =
     let nodes = schema_nodes c.args.schema.now in
     let none = c.if-not-has.true in
     let has = c.has.ensures in

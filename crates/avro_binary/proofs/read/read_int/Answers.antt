@@ -7,7 +7,7 @@ use Rattle.avro_binary.proofs.LeafReads.{int_found, int_refused}
 use Rattle.avro_binary.proofs.read.read_int.Goals as goal
 
 pub returns-in-Ok : goal.returns-in-Ok
-returns-in-Ok c = λ nodes. 
+returns-in-Ok c = λ nodes.
     let fits : FitsSigned w32 c.in-Ok.value = search rules in
     int_found IsSeenAs nodes c.args.cursor.now c.int.new.self _ c.in-Ok.value c.in-Ok.ensures.found (value_of-Int _ ∙ ap Value.int (to_z-of_z w32 c.in-Ok.value fits))
 

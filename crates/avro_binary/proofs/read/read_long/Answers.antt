@@ -7,7 +7,7 @@ use Rattle.avro_binary.proofs.LeafReads.{long_found, long_refused}
 use Rattle.avro_binary.proofs.read.read_long.Goals as goal
 
 pub returns-in-Ok : goal.returns-in-Ok
-returns-in-Ok c = λ nodes. 
+returns-in-Ok c = λ nodes.
     let fits : FitsSigned w64 c.in-Ok.value = search rules in
     long_found IsSeenAs nodes c.args.cursor.now c.long.new.self _ c.in-Ok.value c.in-Ok.ensures.found (value_of-Long _ ∙ ap Value.long (to_z-of_z w64 c.in-Ok.value fits))
 

@@ -48,7 +48,7 @@ walk_array-returns-in_err-block t c =
     c.in_err-block.field-0.0 c.in_err-block.ensures.refused)
 
 pub walk_array-returns-in_err-walk_items : goal.walk_array-returns-in_err-walk_items
-walk_array-returns-in_err-walk_items t c = 
+walk_array-returns-in_err-walk_items t c =
     let done = c.loop-block.invariant in
     let nodes = schema_nodes c.args.schema.now in
     let place = c.args.place.0 in
@@ -64,7 +64,7 @@ walk_array-returns-in_err-walk_items t c =
     rw (p.1, p.2) (array_item_refused none_kept nodes place start now done.0 done.1 mid block head c.walk_items.new.cursor c.count.result c.in_err-walk_items.field-0.0 c.count.ensures read.refused)
 
 pub walk_array-loop-block-smaller : goal.walk_array-loop-block-smaller
-walk_array-loop-block-smaller t c = 
+walk_array-loop-block-smaller t c =
     let done = c.loop-block.invariant in
     let nodes = schema_nodes c.args.schema.now in
     let place = c.args.place.0 in
@@ -83,7 +83,7 @@ walk_array-loop-block-smaller t c =
     array_smaller none_kept nodes place start now done.0 done.1 mid block head after read.found.1 ys found counted
 
 pub walk_array-loop-block-preserved : goal.walk_array-loop-block-preserved
-walk_array-loop-block-preserved t c = 
+walk_array-loop-block-preserved t c =
     let done = c.loop-block.invariant in
     let nodes = schema_nodes c.args.schema.now in
     let place = c.args.place.0 in
@@ -104,7 +104,7 @@ walk_array-loop-block-preserved t c =
     (done.0 ++ ys, array_push none_kept nodes place start now done.0 done.1 mid block head after read.found.1 ys found counted (has_size tt now.place head.head size ends))
 
 pub walk_array-returns-in_err-end_block : goal.walk_array-returns-in_err-end_block
-walk_array-returns-in_err-end_block t c = 
+walk_array-returns-in_err-end_block t c =
     let done = c.loop-block.invariant in
     let nodes = schema_nodes c.args.schema.now in
     let place = c.args.place.0 in
@@ -152,7 +152,7 @@ walk_map-returns t c =
     map_found none_kept (schema_nodes c.args.schema.now) c.args.place.0 c.args.cursor.now c.loop-keys.cursor c.block.new.self done.1 done.0 tt done.3 end c.nodes-nodes.ensures.in_range tt
 
 pub walk_map-returns-in_err-walk_entries : goal.walk_map-returns-in_err-walk_entries
-walk_map-returns-in_err-walk_entries t c = 
+walk_map-returns-in_err-walk_entries t c =
     let done = c.loop-keys.invariant in
     let nodes = schema_nodes c.args.schema.now in
     let place = c.args.place.0 in
@@ -169,7 +169,7 @@ walk_map-returns-in_err-walk_entries t c =
     rw (p.1, p.2) (map_item_refused none_kept nodes place start now done.1 done.0 done.3 mid block head c.walk_entries.new.cursor c.count.result c.in_err-walk_entries.field-0.0 c.count.ensures read.refused)
 
 pub walk_map-loop-keys-smaller : goal.walk_map-loop-keys-smaller
-walk_map-loop-keys-smaller t c = 
+walk_map-loop-keys-smaller t c =
     let done = c.loop-keys.invariant in
     let nodes = schema_nodes c.args.schema.now in
     let place = c.args.place.0 in
@@ -189,7 +189,7 @@ walk_map-loop-keys-smaller t c =
     map_smaller none_kept nodes place start now done.1 done.0 done.3 mid block head after read.found.1 ys found counted
 
 pub walk_map-loop-keys-preserved : goal.walk_map-loop-keys-preserved
-walk_map-loop-keys-preserved t c = 
+walk_map-loop-keys-preserved t c =
     let done = c.loop-keys.invariant in
     let nodes = schema_nodes c.args.schema.now in
     let place = c.args.place.0 in
@@ -211,7 +211,7 @@ walk_map-loop-keys-preserved t c =
     (done.0 ++ ys, read.found.1, read.found.4, map_push none_kept nodes place start now done.1 done.0 done.3 mid block head after read.found.1 ys found counted (has_size tt now.place head.head size ends))
 
 pub walk_map-returns-in_err-end_block : goal.walk_map-returns-in_err-end_block
-walk_map-returns-in_err-end_block t c = 
+walk_map-returns-in_err-end_block t c =
     let done = c.loop-keys.invariant in
     let nodes = schema_nodes c.args.schema.now in
     let place = c.args.place.0 in
@@ -285,32 +285,34 @@ walk_entries-returns-in_err-walk_place t c = λ limits before d b are distinct.
 
 pub walk_entries-loop-done-preserved : goal.walk_entries-loop-done-preserved
 walk_entries-loop-done-preserved t c = (
-    let found = c.in_ok-walk_place.ensures.found in found.1.moves.depth ∙ c.in_ok-key.ensures.depth ∙ c.loop-done.invariant.0, λ limits before d b are distinct.
-    let nodes = schema_nodes c.args.schema.now in
-    let n = node_at nodes c.args.place.0 in
-    let start = c.args.cursor.now in
-    let now = c.loop-done.cursor in
-    let so_far = c.loop-done.invariant.1 limits before d b are distinct in
-    let xs = so_far.0 in
-    let keys = so_far.1 in
-    let run = so_far.4 in
-    let deep = d ∙ sym run.moves.depth in
-    let long = b ∙ sym run.moves.blob in
-    let mid = c.key.new.self in
-    let read = c.in_ok-key.ensures.read keys so_far.3 in
-    let key = c.in_ok-key.field-0.now in
-    let front = read.found.0 in
-    let is = read.found.1 in
-    let passes = read.found.2 in
-    let found = c.in_ok-walk_place.ensures.found in
-    let after = c.walk_place.new.cursor in
-    let v = found.0 in
-    let value = found.1 in
-    let one = entry_run nodes limits n now mid after keys key front v value ((entries_run nodes limits n).prepared _ _ xs run.items run.stand) is passes deep long in
-    let moved = moves-join now mid after front value.front (moves-passed now mid front passes) value.moves in
-    let more = run_push (EntriesRun nodes limits n) (EntriesAreWhole nodes limits n) (λ left. are_distinct bytes_eq left.keys ≡ true) (entries_run nodes limits n) start now after before keys (keys ++ key ∷ []) xs (key, v) (front ++ value.front) run one moved in
-    let counted = so_far.2 in
-    (xs ++ (key, v) ∷ [], keys ++ key ∷ [], omega (arith, length-append xs ((key, v) ∷ [])), read.added, more))
+  let found = c.in_ok-walk_place.ensures.found in found.1.moves.depth ∙ c.in_ok-key.ensures.depth ∙ c.loop-done.invariant.0,
+  λ limits before d b are distinct.
+      let nodes = schema_nodes c.args.schema.now in
+      let n = node_at nodes c.args.place.0 in
+      let start = c.args.cursor.now in
+      let now = c.loop-done.cursor in
+      let so_far = c.loop-done.invariant.1 limits before d b are distinct in
+      let xs = so_far.0 in
+      let keys = so_far.1 in
+      let run = so_far.4 in
+      let deep = d ∙ sym run.moves.depth in
+      let long = b ∙ sym run.moves.blob in
+      let mid = c.key.new.self in
+      let read = c.in_ok-key.ensures.read keys so_far.3 in
+      let key = c.in_ok-key.field-0.now in
+      let front = read.found.0 in
+      let is = read.found.1 in
+      let passes = read.found.2 in
+      let found = c.in_ok-walk_place.ensures.found in
+      let after = c.walk_place.new.cursor in
+      let v = found.0 in
+      let value = found.1 in
+      let one = entry_run nodes limits n now mid after keys key front v value ((entries_run nodes limits n).prepared _ _ xs run.items run.stand) is passes deep long in
+      let moved = moves-join now mid after front value.front (moves-passed now mid front passes) value.moves in
+      let more = run_push (EntriesRun nodes limits n) (EntriesAreWhole nodes limits n) (λ left. are_distinct bytes_eq left.keys ≡ true) (entries_run nodes limits n) start now after before keys (keys ++ key ∷ []) xs (key, v) (front ++ value.front) run one moved in
+      let counted = so_far.2 in
+      (xs ++ (key, v) ∷ [], keys ++ key ∷ [], omega (arith, length-append xs ((key, v) ∷ [])), read.added, more),
+)
 
 pub walk_entries-returns : goal.walk_entries-returns
 walk_entries-returns t c = λ limits before d b are distinct.
@@ -350,7 +352,7 @@ walk_items-returns-in_err-walk_place t c = λ limits d b.
     rw (p.1, p.2) (record { found = tt; refused = refused })
 
 pub walk_items-loop-done-preserved : goal.walk_items-loop-done-preserved
-walk_items-loop-done-preserved t c = 
+walk_items-loop-done-preserved t c =
     let found = c.in_ok-walk_place.ensures.found in
     let nodes = schema_nodes c.args.schema.now in
     let n = node_at nodes c.args.place.0 in
@@ -358,14 +360,16 @@ walk_items-loop-done-preserved t c =
     let now = c.loop-done.cursor in
     let after = c.walk_place.new.cursor in
     let v = found.0 in
-    let value = found.1 in
-    (value.moves.depth ∙ c.loop-done.invariant.0, λ limits d b.
-    let so_far = c.loop-done.invariant.1 limits d b in
-    let xs = so_far.0 in
-    let counted = so_far.1 in
-    let one = value_run nodes limits n now after [] v value (d ∙ sym so_far.2.moves.depth) (b ∙ sym so_far.2.moves.blob) in
-    let more = run_push (ValuesRun nodes limits n) (ItemsAreWhole nodes limits n) (λ left. Unit {0}) (values_run nodes limits n) start now after [] [] [] xs v value.front so_far.2 one value.moves in
-    (xs ++ v ∷ [], omega (arith, length-append xs (v ∷ [])), more))
+    let value = found.1 in (
+      value.moves.depth ∙ c.loop-done.invariant.0,
+      λ limits d b.
+          let so_far = c.loop-done.invariant.1 limits d b in
+          let xs = so_far.0 in
+          let counted = so_far.1 in
+          let one = value_run nodes limits n now after [] v value (d ∙ sym so_far.2.moves.depth) (b ∙ sym so_far.2.moves.blob) in
+          let more = run_push (ValuesRun nodes limits n) (ItemsAreWhole nodes limits n) (λ left. Unit {0}) (values_run nodes limits n) start now after [] [] [] xs v value.front so_far.2 one value.moves in
+          (xs ++ v ∷ [], omega (arith, length-append xs (v ∷ [])), more),
+    )
 
 pub walk_items-returns : goal.walk_items-returns
 walk_items-returns t c = λ limits d b.
@@ -379,7 +383,7 @@ walk_items-returns t c = λ limits d b.
 -- ---- Nodes
 
 pub walk_node-returns-then-not-has : goal.walk_node-returns-then-not-has
-walk_node-returns-then-not-has t c = 
+walk_node-returns-then-not-has t c =
     let nodes = schema_nodes c.args.schema.now in
     let none = c.if-not-has.true in
     let has = c.has.ensures in
@@ -486,11 +490,10 @@ walk_record-loop-field-preserved t c =
     let found = c.in_ok-walk_place.ensures.found in
     let next : i + 1 ≡ suc i = omega arith in
     let are : take i places ++ field.node.0 ∷ [] ≡ take (i + 1) places =
-    ap (λ (f : Field). take i places ++ f.node.0 ∷ []) c.field-item.is ∙ sym (places_next fields i field below) ∙ ap (λ (m : ℕ). take m places) (sym next) in
-    (
-    so_far.0 ++ found.0 ∷ [],
-    subst (λ (ps : List ℕ). FieldsDone nodes ps c.args.cursor.now c.walk_place.new.cursor (so_far.0 ++ found.0 ∷ [])) are
-    (fields_push nodes (take i places) c.args.cursor.now c.loop-field.cursor so_far.0 so_far.1 field.node.0 c.walk_place.new.cursor found.0 found.1),
+    ap (λ (f : Field). take i places ++ f.node.0 ∷ []) c.field-item.is ∙ sym (places_next fields i field below) ∙ ap (λ (m : ℕ). take m places) (sym next) in (
+      so_far.0 ++ found.0 ∷ [],
+      subst (λ (ps : List ℕ). FieldsDone nodes ps c.args.cursor.now c.walk_place.new.cursor (so_far.0 ++ found.0 ∷ [])) are
+          (fields_push nodes (take i places) c.args.cursor.now c.loop-field.cursor so_far.0 so_far.1 field.node.0 c.walk_place.new.cursor found.0 found.1),
     )
 
 pub walk_record-returns : goal.walk_record-returns
