@@ -52,7 +52,9 @@ fn a_record_may_hold_itself(rt: HostRuntime) -> Result<(), Fail> {
     assert_eq!(rt; schema.len(), 4);
     let record = root_record(&schema)?;
     assert_eq!(rt; record.fields.len(), 2);
-    match schema.node(record.fields[1].node) {
+    let next = record.fields[1].node;
+    assert!(rt; schema.has(next));
+    match schema.node(next) {
         Node::Union(branches) => {
             assert_eq!(rt; branches.len(), 2);
             assert_eq!(rt; (branches[0].0, branches[1].0), (3, 0));
