@@ -3,7 +3,8 @@ use avro_schema_json::{ReaderText, SchemaError, read_schema};
 use std::test::Fail;
 
 /// A record in a namespace, with aliases, and an enum that its three fields go to.
-const RECORD: &str = r#"{"type":"record","name":"R","namespace":"a","aliases":["S","b.T"],"fields":[{"name":"e","type":{"type":"enum","name":"E","symbols":["X"]}},{"name":"f","type":"E"},{"name":"g","type":"a.E"}]}"#;
+const RECORD: &str =
+    r#"{"type":"record","name":"R","namespace":"a","aliases":["S","b.T"],"fields":[{"name":"e","type":{"type":"enum","name":"E","symbols":["X"]}},{"name":"f","type":"E"},{"name":"g","type":"a.E"}]}"#;
 
 /// The record that the root of a schema is.
 pub(crate) fn root_record(schema: &Schema) -> Result<&RecordNode, &'static str> {
@@ -45,12 +46,15 @@ fn a_namespace_is_not_looked_at_beside_a_dot(rt: HostRuntime) -> Result<(), Fail
 
 #[test]
 fn a_record_may_hold_itself(rt: HostRuntime) -> Result<(), Fail> {
-    let text = r#"{"type":"record","name":"Node","fields":[{"name":"value","type":"int"},{"name":"next","type":["null","Node"]}]}"#;
+    let text =
+        r#"{"type":"record","name":"Node","fields":[{"name":"value","type":"int"},{"name":"next","type":["null","Node"]}]}"#;
     let schema = read_schema(rt.alloc(), text.as_bytes())?;
     assert_eq!(rt; schema.len(), 4);
     let record = root_record(&schema)?;
     assert_eq!(rt; record.fields.len(), 2);
-    match schema.node(record.fields[1].node) {
+    let next = record.fields[1].node;
+    assert!(rt; schema.has(next));
+    match schema.node(next) {
         Node::Union(branches) => {
             assert_eq!(rt; branches.len(), 2);
             assert_eq!(rt; (branches[0].0, branches[1].0), (3, 0));
@@ -67,11 +71,18 @@ fn texts_declare_their_nodes(rt: HostRuntime) -> Result<(), Fail> {
         (r#"{"type":"array","items":"bytes"}"#, 2),
         (r#"{"type":"map","values":["null","string"]}"#, 4),
         (r#"{"type":"fixed","name":"F","size":0}"#, 1),
-        (r#"{"type":"enum","name":"E","symbols":["A","B"],"default":"B"}"#, 1),
+        (
+            r#"{"type":"enum","name":"E","symbols":["A","B"],"default":"B"}"#,
+            1,
+        ),
         (r#"[{"type":"fixed","name":"record","size":1},"long"]"#, 3),
         (r#"{"type":"record","name":"R","fields":[]}"#, 1),
     ] {
-        assert_eq!(rt; read_schema(rt.alloc(), text.as_bytes())?.len(), nodes, "{text}");
+        assert_eq!(rt;
+            read_schema(rt.alloc(), text.as_bytes())?.len(),
+            nodes,
+            "{text}"
+        );
     }
     Ok(())
 }

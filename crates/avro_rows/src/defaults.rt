@@ -6,7 +6,9 @@ use std::test::Fail;
 
 /// A record with one field of a type, and a default of it.
 fn record_with_default(alloc: Global, node: &str, default: &str) -> Result<String, AllocError> {
-    format!(in alloc; "{{\"type\":\"record\",\"name\":\"R\",\"fields\":[{{\"name\":\"f\",\"type\":{node},\"default\":{default}}}]}}")
+    format!(in alloc;
+        "{{\"type\":\"record\",\"name\":\"R\",\"fields\":[{{\"name\":\"f\",\"type\":{node},\"default\":{default}}}]}}"
+    )
 }
 
 #[test]
@@ -20,13 +22,41 @@ fn defaults_of_each_type_are_read(rt: HostRuntime) -> Result<(), Fail> {
         ("\"boolean\"", "true", Datum::Bool(true)),
         ("\"int\"", "-2147483648", Datum::Int(i32::MIN)),
         ("\"long\"", "9223372036854775807", Datum::Long(i64::MAX)),
-        ("\"bytes\"", "\"\\u00ff\\u0000A\"", Datum::Bytes(Vec::from_slice(alloc, &[255, 0, 65])?)),
-        (r#"{"type":"fixed","name":"F","size":2}"#, "\"\\u0080z\"", Datum::Fixed(Vec::from_slice(alloc, &[128, 122])?)),
-        ("\"string\"", "\"\\u20ac\"", Datum::Str(String::from_str(alloc, "\u{20ac}")?)),
-        (r#"{"type":"enum","name":"E","symbols":["A","B"]}"#, "\"B\"", Datum::Enum(1)),
-        (r#"{"type":"array","items":"int"}"#, "[1]", Datum::Array(vec![in alloc; one]?)),
-        (r#"{"type":"map","values":"int"}"#, r#"{"b":1,"a":2}"#, Datum::Map(vec![in alloc; entry, other]?)),
-        (r#"["int","null"]"#, "7", Datum::Union(0, Box::new(alloc, Datum::Int(7))?)),
+        (
+            "\"bytes\"",
+            "\"\\u00ff\\u0000A\"",
+            Datum::Bytes(Vec::from_slice(alloc, &[255, 0, 65])?)
+        ),
+        (
+            r#"{"type":"fixed","name":"F","size":2}"#,
+            "\"\\u0080z\"",
+            Datum::Fixed(Vec::from_slice(alloc, &[128, 122])?)
+        ),
+        (
+            "\"string\"",
+            "\"\\u20ac\"",
+            Datum::Str(String::from_str(alloc, "\u{20ac}")?)
+        ),
+        (
+            r#"{"type":"enum","name":"E","symbols":["A","B"]}"#,
+            "\"B\"",
+            Datum::Enum(1)
+        ),
+        (
+            r#"{"type":"array","items":"int"}"#,
+            "[1]",
+            Datum::Array(vec![in alloc; one]?)
+        ),
+        (
+            r#"{"type":"map","values":"int"}"#,
+            r#"{"b":1,"a":2}"#,
+            Datum::Map(vec![in alloc; entry, other]?)
+        ),
+        (
+            r#"["int","null"]"#,
+            "7",
+            Datum::Union(0, Box::new(alloc, Datum::Int(7))?)
+        ),
         (
             r#"{"type":"record","name":"S","fields":[{"name":"z","type":"int"},{"name":"a","type":"null"}]}"#,
             r#"{"a":null,"z":5}"#,
@@ -55,8 +85,14 @@ fn other_defaults_are_refused(rt: HostRuntime) -> Result<(), Fail> {
         (r#"{"type":"enum","name":"E","symbols":["A"]}"#, "\"B\""),
         (r#"{"type":"array","items":"int"}"#, r#"[1,"a"]"#),
         (r#"{"type":"map","values":"int"}"#, "[]"),
-        (r#"{"type":"record","name":"S","fields":[{"name":"z","type":"int"}]}"#, "{}"),
-        (r#"{"type":"record","name":"S","fields":[{"name":"z","type":"int"}]}"#, r#"{"y":1,"z":1}"#),
+        (
+            r#"{"type":"record","name":"S","fields":[{"name":"z","type":"int"}]}"#,
+            "{}",
+        ),
+        (
+            r#"{"type":"record","name":"S","fields":[{"name":"z","type":"int"}]}"#,
+            r#"{"y":1,"z":1}"#,
+        ),
     ] {
         let text = record_with_default(rt.alloc(), node, default)?;
         let refused = read_schema(rt.alloc(), text.as_bytes()).err();

@@ -42,7 +42,11 @@ fn data_of_worked_rows_are_shown(rt: HostRuntime) -> Result<(), Fail> {
             Datum::Array(vec![in alloc; zero]?),
             r#"[{"a":0}]"#,
         ),
-        ("\"string\"", text_datum(alloc, "\"\u{1}\u{20ac}")?, "\"\\\"\\u0001\u{20ac}\""),
+        (
+            "\"string\"",
+            text_datum(alloc, "\"\u{1}\u{20ac}")?,
+            "\"\\\"\\u0001\u{20ac}\""
+        ),
     ]? {
         let schema = read_schema(alloc, schema.as_bytes())?;
         let shown = display(alloc, &schema, &datum)?.ok_or("no datum of the schema")?;
@@ -70,7 +74,10 @@ fn keys_are_shown_in_byte_order(rt: HostRuntime) -> Result<(), Fail> {
     let schema = read_schema(alloc, text.as_bytes())?;
     let datum = Datum::Union(1, Box::new(alloc, map_of_bytes(alloc)?)?);
     let shown = display(alloc, &schema, &datum)?.ok_or("no datum of the schema")?;
-    assert_eq!(rt; shown.as_str(), "{\"map\":{\"a\":[],\"b\":[\"A\u{ff}\",\"\"]}}");
+    assert_eq!(rt;
+        shown.as_str(),
+        "{\"map\":{\"a\":[],\"b\":[\"A\u{ff}\",\"\"]}}"
+    );
     let null = Datum::Union(0, Box::new(alloc, Datum::Null)?);
     let shown = display(alloc, &schema, &null)?.ok_or("no datum of the schema")?;
     assert_eq!(rt; shown.as_str(), "null");

@@ -15,7 +15,10 @@ pub(crate) struct Outcome {
 }
 
 /// A run of the program over its words.
-pub(crate) fn outcome_of<R: Files + AllocGlobal>(rt: &R, words: &[&str]) -> Result<Outcome, AllocError> {
+pub(crate) fn outcome_of<R: Files + AllocGlobal>(
+    rt: &R,
+    words: &[&str],
+) -> Result<Outcome, AllocError> {
     let mut out = Vec::new(rt.alloc());
     let mut err = Vec::new(rt.alloc());
     let words = words_of(rt, words)?;

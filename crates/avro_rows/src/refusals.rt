@@ -6,7 +6,10 @@ fn types_and_names_are_refused(rt: HostRuntime) -> Result<(), Fail> {
     for (text, error) in [
         ("", SchemaError::NotJson),
         (r#""float""#, SchemaError::UnsupportedType),
-        (r#"{"type":"error","name":"E","fields":[]}"#, SchemaError::UnsupportedType),
+        (
+            r#"{"type":"error","name":"E","fields":[]}"#,
+            SchemaError::UnsupportedType,
+        ),
         (r#""Foo""#, SchemaError::UnknownName),
         (
             r#"{"type":"record","name":"R","namespace":"a","fields":[{"name":"e","type":{"type":"enum","name":"E","symbols":["X"]}},{"name":"g","type":"b.E"}]}"#,
@@ -16,9 +19,18 @@ fn types_and_names_are_refused(rt: HostRuntime) -> Result<(), Fail> {
             r#"[{"type":"fixed","name":"F","size":1},{"type":"array","items":{"type":"fixed","name":"F","size":1}}]"#,
             SchemaError::DuplicateName,
         ),
-        (r#"{"type":"enum","name":"int","symbols":["A"]}"#, SchemaError::InvalidName),
-        (r#"{"type":"enum","name":"E","symbols":["1"]}"#, SchemaError::InvalidName),
-        (r#"{"type":"fixed","name":"F","aliases":["a.b-c"],"size":1}"#, SchemaError::InvalidName),
+        (
+            r#"{"type":"enum","name":"int","symbols":["A"]}"#,
+            SchemaError::InvalidName,
+        ),
+        (
+            r#"{"type":"enum","name":"E","symbols":["1"]}"#,
+            SchemaError::InvalidName,
+        ),
+        (
+            r#"{"type":"fixed","name":"F","aliases":["a.b-c"],"size":1}"#,
+            SchemaError::InvalidName,
+        ),
     ] {
         let refused = read_schema(rt.alloc(), text.as_bytes()).err();
         assert_eq!(rt; refused, Some(error), "{text}");
@@ -52,8 +64,14 @@ fn rules_of_nodes_are_kept(rt: HostRuntime) -> Result<(), Fail> {
         ("[]", SchemaError::InvalidUnion),
         (r#"["int","int"]"#, SchemaError::InvalidUnion),
         (r#"["int",["null"]]"#, SchemaError::InvalidUnion),
-        (r#"{"type":"enum","name":"E","symbols":[]}"#, SchemaError::InvalidSymbols),
-        (r#"{"type":"enum","name":"E","symbols":["A","A"]}"#, SchemaError::InvalidSymbols),
+        (
+            r#"{"type":"enum","name":"E","symbols":[]}"#,
+            SchemaError::InvalidSymbols,
+        ),
+        (
+            r#"{"type":"enum","name":"E","symbols":["A","A"]}"#,
+            SchemaError::InvalidSymbols,
+        ),
         (
             r#"{"type":"enum","name":"E","symbols":["A"],"default":"B"}"#,
             SchemaError::InvalidSymbols,

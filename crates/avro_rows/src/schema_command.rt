@@ -8,7 +8,10 @@ use std::test::Fail;
 fn schemas_of_files_are_counted(rt: HostRuntime) -> Result<(), Fail> {
     for (text, out) in [
         ("\"int\"", "ok 1\n"),
-        (r#"{"type":"record","name":"b.R","namespace":7,"fields":[]}"#, "ok 1\n"),
+        (
+            r#"{"type":"record","name":"b.R","namespace":7,"fields":[]}"#,
+            "ok 1\n",
+        ),
         (
             r#"{"type":"record","name":"R","namespace":"a","aliases":["S","b.T"],"fields":[{"name":"e","type":{"type":"enum","name":"E","symbols":["X"]}},{"name":"f","type":"E"},{"name":"g","type":"a.E"}]}"#,
             "ok 2\n",
@@ -28,10 +31,19 @@ fn refused_schemas_of_files_are_told(rt: HostRuntime) -> Result<(), Fail> {
     for (text, err) in [
         ("", "avro: refused.avsc: S1\n"),
         (r#""Foo""#, "avro: refused.avsc: S2\n"),
-        (r#"{"type":"enum","name":"int","symbols":["A"]}"#, "avro: refused.avsc: S4\n"),
-        (r#"{"type":"fixed","name":"F","size":"16"}"#, "avro: refused.avsc: S5\n"),
+        (
+            r#"{"type":"enum","name":"int","symbols":["A"]}"#,
+            "avro: refused.avsc: S4\n",
+        ),
+        (
+            r#"{"type":"fixed","name":"F","size":"16"}"#,
+            "avro: refused.avsc: S5\n",
+        ),
         (r#"["int",["null"]]"#, "avro: refused.avsc: S6\n"),
-        (r#"{"type":"enum","name":"E","symbols":["A","A"]}"#, "avro: refused.avsc: S7\n"),
+        (
+            r#"{"type":"enum","name":"E","symbols":["A","A"]}"#,
+            "avro: refused.avsc: S7\n",
+        ),
         (
             r#"{"type":"record","name":"R","fields":[{"name":"x","type":"int","aliases":["x"]}]}"#,
             "avro: refused.avsc: S8\n",
@@ -42,7 +54,10 @@ fn refused_schemas_of_files_are_told(rt: HostRuntime) -> Result<(), Fail> {
         ),
         (r#""float""#, "avro: refused.avsc: S10\n"),
         (r#"{"type":"int","x":1.0}"#, "avro: refused.avsc: S11\n"),
-        (r#"{"type":"fixed","name":"F","size":1048577}"#, "avro: refused.avsc: S12\n"),
+        (
+            r#"{"type":"fixed","name":"F","size":1048577}"#,
+            "avro: refused.avsc: S12\n",
+        ),
     ] {
         fs::write(&rt, "refused.avsc", text)?;
         let ran = outcome_of(&rt, &["schema", "refused.avsc"])?;
@@ -58,9 +73,19 @@ fn schema_files_are_read_up_to_the_limits(rt: HostRuntime) -> Result<(), Fail> {
     let alloc = rt.alloc();
     for (text, status, out, err) in vec![in alloc;
         (padded_int(alloc, 1_048_576)?, 0, "ok 1\n", ""),
-        (padded_int(alloc, 1_048_577)?, 3, "", "avro: limit.avsc: S12\n"),
+        (
+            padded_int(alloc, 1_048_577)?,
+            3,
+            "",
+            "avro: limit.avsc: S12\n"
+        ),
         (record_of_ints(alloc, 4095)?, 0, "ok 4096\n", ""),
-        (record_of_ints(alloc, 4096)?, 3, "", "avro: limit.avsc: S12\n"),
+        (
+            record_of_ints(alloc, 4096)?,
+            3,
+            "",
+            "avro: limit.avsc: S12\n"
+        ),
     ]? {
         fs::write(&rt, "limit.avsc", &text)?;
         let ran = outcome_of(&rt, &["schema", "limit.avsc"])?;
@@ -70,6 +95,9 @@ fn schema_files_are_read_up_to_the_limits(rt: HostRuntime) -> Result<(), Fail> {
     }
     let ran = outcome_of(&rt, &["schema", "none.avsc"])?;
     assert_eq!(rt; ran.status, 4);
-    assert_eq!(rt; ran.err.as_slice(), "avro: none.avsc: cannot read\n".as_bytes());
+    assert_eq!(rt;
+        ran.err.as_slice(),
+        "avro: none.avsc: cannot read\n".as_bytes()
+    );
     Ok(())
 }

@@ -172,8 +172,8 @@ above-sound next node faults parts placed clean s =
     let below = s.placed in record {
       placed = rw (placed, below) refl;
       clean = both is_of_tree (unless (nat_lt next max_nodes) SchemaError.LimitExceeded ++ faults) parts.faults
-      (both is_of_tree (unless (nat_lt next max_nodes) SchemaError.LimitExceeded) faults (unless-of_tree (nat_lt next max_nodes) SchemaError.LimitExceeded refl) clean)
-      s.clean;
+          (both is_of_tree (unless (nat_lt next max_nodes) SchemaError.LimitExceeded) faults (unless-of_tree (nat_lt next max_nodes) SchemaError.LimitExceeded refl) clean)
+          s.clean;
     }
 
 alone-sound : (known : Known) → IsSound (alone known)
@@ -208,15 +208,19 @@ word-sound word = by_word (word_of word) refl
     by_word type_name h = rw h (reference-sound word)
 
 union-sound : (branches : List (Meaning ℕ)) → AreSound branches → IsSoundMeaning (union_of branches)
-union-sound branches s = record { at = λ enclosing known next.
-    above-sound next (λ places. RawNode.plain (Node.union places)) [] (in_turn branches enclosing known (suc next)) refl refl
-    (in_turn-sound branches s enclosing known (suc next)) }
+union-sound branches s = record {
+  at = λ enclosing known next.
+      above-sound next (λ places. RawNode.plain (Node.union places)) [] (in_turn branches enclosing known (suc next)) refl refl
+      (in_turn-sound branches s enclosing known (suc next));
+}
 
 container-sound : (node : ℕ → Node) (part : Option (Meaning ℕ)) → ((place : ℕ) → is_placed (node place) ≡ true) → IfSound part → IsSoundMeaning (container_of node part)
 container-sound node None placed s = faulty-sound 0 SchemaError.InvalidDeclaration refl
-container-sound node (Some part) placed s = record { at = λ enclosing known next.
-    above-sound next (λ place. RawNode.plain (node place)) [] (part enclosing known (suc next)) (placed (part enclosing known (suc next)).result) refl
-    (s.at enclosing known (suc next)) }
+container-sound node (Some part) placed s = record {
+  at = λ enclosing known next.
+      above-sound next (λ place. RawNode.plain (node place)) [] (part enclosing known (suc next)) (placed (part enclosing known (suc next)).result) refl
+      (s.at enclosing known (suc next));
+}
 
 -- ---- definitions
 
@@ -255,8 +259,10 @@ fixed-sound ms known next name =
 
 definition-sound : (ms : Members) (named : Known → ℕ → Name → Made ℕ) → ((known : Known) (next : ℕ) (name : Name) → IsSound (named known next name))
     → IsSoundMeaning (definition_of ms named)
-definition-sound ms named s = record { at = λ enclosing known next.
-    by_name enclosing known next (name_in enclosing ms) refl (name-of_tree enclosing (get_member (codes "namespace") ms) (text_in (codes "name") ms)) }
+definition-sound ms named s = record {
+  at = λ enclosing known next.
+      by_name enclosing known next (name_in enclosing ms) refl (name-of_tree enclosing (get_member (codes "namespace") ms) (text_in (codes "name") ms));
+}
   where
     by_name : (enclosing : List ℕ) (known : Known) (next : ℕ) (r : Result Name SchemaError) → name_in enclosing ms ≡ r
         → is_of_tree_or_ok (name_in enclosing ms) ≡ true → IsSound (definition_of ms named enclosing known next)
@@ -275,18 +281,22 @@ form-sound ms items values fields (word_form word) i v f = word-sound word
 form-sound ms items values fields no_form i v f = faulty-sound 0 SchemaError.InvalidDeclaration refl
 
 typed-sound : (ms : Members) (type : Option (Meaning ℕ)) → IfSound type → IsSoundMeaning (field_of ms type)
-typed-sound ms None s = record { at = λ enclosing known next. record {
-  placed = refl;
-  clean = both is_of_tree ((needed [] (text_in (codes "name") ms)).faults ++ (alias_texts_in ms).faults) (SchemaError.InvalidDeclaration ∷ [])
-  (both is_of_tree (needed [] (text_in (codes "name") ms)).faults (alias_texts_in ms).faults (needed-of_tree [] (text_in (codes "name") ms))
-  (alias_texts-of_tree (get_member (codes "aliases") ms))) refl;
-} }
-typed-sound ms (Some meaning) s = record { at = λ enclosing known next. record {
-  placed = (s.at enclosing known next).placed;
-  clean = both is_of_tree ((needed [] (text_in (codes "name") ms)).faults ++ (alias_texts_in ms).faults) (meaning enclosing known next).faults
-  (both is_of_tree (needed [] (text_in (codes "name") ms)).faults (alias_texts_in ms).faults (needed-of_tree [] (text_in (codes "name") ms))
-  (alias_texts-of_tree (get_member (codes "aliases") ms))) (s.at enclosing known next).clean;
-} }
+typed-sound ms None s = record {
+  at = λ enclosing known next. record {
+    placed = refl;
+    clean = both is_of_tree ((needed [] (text_in (codes "name") ms)).faults ++ (alias_texts_in ms).faults) (SchemaError.InvalidDeclaration ∷ [])
+        (both is_of_tree (needed [] (text_in (codes "name") ms)).faults (alias_texts_in ms).faults (needed-of_tree [] (text_in (codes "name") ms))
+        (alias_texts-of_tree (get_member (codes "aliases") ms))) refl;
+  };
+}
+typed-sound ms (Some meaning) s = record {
+  at = λ enclosing known next. record {
+    placed = (s.at enclosing known next).placed;
+    clean = both is_of_tree ((needed [] (text_in (codes "name") ms)).faults ++ (alias_texts_in ms).faults) (meaning enclosing known next).faults
+        (both is_of_tree (needed [] (text_in (codes "name") ms)).faults (alias_texts_in ms).faults (needed-of_tree [] (text_in (codes "name") ms))
+        (alias_texts-of_tree (get_member (codes "aliases") ms))) (s.at enclosing known next).clean;
+  };
+}
 
 no_field-sound : IsSoundMeaning no_field
 no_field-sound = faulty-sound (record { name = []; aliases = []; node = 0; default = None }) SchemaError.InvalidDeclaration refl

@@ -42,11 +42,7 @@ pub(crate) fn default_of(
 }
 
 /// The node at a place, or the given node, that of null, where there is none.
-fn raw_at<'a>(
-    raws: &'a [RawNode<'a>],
-    null: &'a RawNode<'a>,
-    place: NodeId,
-) -> &'a RawNode<'a>
+fn raw_at<'a>(raws: &'a [RawNode<'a>], null: &'a RawNode<'a>, place: NodeId) -> &'a RawNode<'a>
     requires { bare_of null.now ≡ SeenNode.null }
     ensures { bare_of result.now ≡ node_at (bares_of raws.now) place.0 }
 {

@@ -77,11 +77,7 @@ fn defaults_of_fields(
 }
 
 /// The defaults of a node.
-fn defaults_of_node(
-    alloc: Global,
-    raws: &[RawNode],
-    raw: &RawNode,
-) -> Result<NodeDefaults, Memory>
+fn defaults_of_node(alloc: Global, raws: &[RawNode], raw: &RawNode) -> Result<NodeDefaults, Memory>
     ensures data { IfOk result (λ defaults. data_seen defaults.of_fields.items ≡ node_defaults_by (bares_of raws.now) (raw_node_of raw.now)) }
     ensures read { IfOk result (λ defaults. defaults.are_read ≡ are_defaults_read (bares_of raws.now) (raw_node_of raw.now)) }
 {
@@ -127,10 +123,7 @@ fn next_default(defaults: &mut IntoIter<Option<Datum>>) -> Option<Datum>
 }
 
 /// The next list of defaults, or an empty one where there is none.
-fn next_list(
-    alloc: Global,
-    defaults: &mut IntoIter<Vec<Option<Datum>>>,
-) -> Vec<Option<Datum>>
+fn next_list(alloc: Global, defaults: &mut IntoIter<Vec<Option<Datum>>>) -> Vec<Option<Datum>>
     ensures first { data_seen result.items ≡ first_or [] (lists_seen (into_iter_items defaults.old)) }
     ensures others { lists_seen (into_iter_items defaults.new) ≡ others_of (lists_seen (into_iter_items defaults.old)) }
 {
@@ -166,20 +159,18 @@ fn whole_fields(
 }
 
 /// The node with these defaults.
-fn whole_node(
-    alloc: Global,
-    raw: RawNode<'_>,
-    defaults: Vec<Option<Datum>>,
-) -> Result<Node, Memory>
+fn whole_node(alloc: Global, raw: RawNode<'_>, defaults: Vec<Option<Datum>>) -> Result<Node, Memory>
     ensures { IfOk result (λ node. node_of node ≡ filled_node (raw_node_of raw.entry) (data_seen defaults.items)) }
 {
     match raw {
         RawNode::Plain(node) => Ok(node),
-        RawNode::Record(RawRecord {
-            name,
-            aliases,
-            fields,
-        }) => {
+        RawNode::Record(
+            RawRecord {
+                name,
+                aliases,
+                fields,
+            },
+        ) => {
             let fields = whole_fields(alloc, fields, defaults)?;
             Ok(Node::Record(RecordNode {
                 name,
