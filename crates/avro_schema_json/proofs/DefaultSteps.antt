@@ -1,13 +1,13 @@
 -- One step of reading the defaults of items, of entries and of fields.
-use Rattle.std.proofs.Common.{◌≡◌, ℕ, zero, suc, ◌+◌, ◌<◌, ◌≤◌, List, [], ◌∷◌, ◌++◌, length, Option, Some, None, option_map, option_and_then, get_or, map, drop, refl, ap, ◌∙◌, sym, arith, add-one}
+use Rattle.std.proofs.Common.{◌≡◌, ℕ, zero, suc, ◌+◌, ◌<◌, ◌≤◌, List, [], ◌∷◌, ◌++◌, length, Option, Some, None, option_map, option_and_then, get_or, drop, refl, ap, ◌∙◌, sym, arith, add-one}
 use Rattle.std.specs.Prelude.{String, string_bytes, slice_get}
 use Rattle.std.specs.declared.alloc.Global.{Global}
 use Rattle.std.proofs.lemmas.List.{drop_more}
 use Rattle.avro_schema.specs.Node.{Node, FieldNode, node_at}
-use Rattle.avro_schema.specs.Seen.{value_of, values_of, entries_of}
-use Rattle.avro_schema.specs.Value.{Value, Values, no_values, Entries}
+use Rattle.avro_schema.specs.Seen.{value_of, values_of}
+use Rattle.avro_schema.specs.Value.{Value, Values, Entries}
 use Rattle.avro_schema.specs.declared.datum.Datum.{Datum}
-use Rattle.serde_json.specs.Data.{Data, Members}
+use Rattle.serde_json.specs.Data.{Data}
 use Rattle.serde_json.specs.Find.{get_member}
 use Rattle.serde_json.specs.View.{view, items_view, members_view}
 use Rattle.serde_json.specs.declared.value.Value.{Value as Tree}
@@ -15,7 +15,7 @@ use Rattle.serde_json.proofs.Views.{Entry}
 use Rattle.avro_schema_json.specs.DeclaredDefaults.{default_of, default_under, each_default, entries_default, fields_default}
 use Rattle.avro_schema_json.proofs.RawSeen.{name_and_node}
 use Rattle.avro_schema_json.proofs.RowsLaws.{default_under-found}
-use Rattle.avro_schema_json.proofs.DefaultsSeen.{after_values, after_entries, value_step, value_stop, values_end, entry_step, entry_stop, entries_end}
+use Rattle.avro_schema_json.proofs.DefaultsSeen.{after_values, after_entries, value_step, value_stop, values_end, entry_step}
 
 pub drop_past : {A : Type 0} (xs : List A) (i : ℕ) → length xs ≤ i → drop i xs ≡ []
 drop_past [] zero h = refl

@@ -1,21 +1,21 @@
 -- A fault that a draft names is one of its nodes.
-use Rattle.std.proofs.Common.{◌≡◌, ℕ, zero, suc, ◌+◌, ◌<◌, Bool, true, false, not, ◌&&◌, inl, inr, List, [], ◌∷◌, ◌++◌, length, refl, sym, subst, ap, ◌∙◌, arith, nat_lt, nat_le}
+use Rattle.std.proofs.Common.{◌≡◌, ℕ, zero, suc, ◌+◌, ◌<◌, Bool, true, false, not, ◌&&◌, inl, inr, List, [], ◌∷◌, ◌++◌, length, refl, subst, ap, arith, nat_lt, nat_le}
 use Rattle.std.specs.Prelude.{Option, bytes_eq, filter_map, flat_map, Contains, ◌||◌, map}
 use Rattle.std.specs.List.{list_all}
 use Rattle.std.proofs.lemmas.Bool.{and_parts}
 use Rattle.std.proofs.lemmas.List.Elements.{Contains-append_left, Contains-append_right}
 use Rattle.avro_name.specs.Name.{is_simple_name, same_name}
-use Rattle.avro_schema.specs.Node.{Node, FieldNode, node_at, node_name, edges_of}
+use Rattle.avro_schema.specs.Node.{Node, node_at, node_name, edges_of}
 use Rattle.avro_schema.specs.Distinct.{are_distinct}
 use Rattle.avro_schema.specs.WellFormed.{max_nodes, max_count, is_edge, is_union, is_enum, is_default, field_names, has_good_default, has_good_names}
-use Rattle.avro_schema.specs.Faulty.{IsBroken, SomeIsBroken, IsThere, has_unknown_node, has_invalid_name, has_invalid_union, has_invalid_symbols, has_duplicate_field, has_invalid_default, exceeds_limit}
+use Rattle.avro_schema.specs.Faulty.{IsBroken, SomeIsBroken, IsThere, has_invalid_name, has_invalid_union, has_invalid_symbols, has_duplicate_field, has_invalid_default, exceeds_limit}
 use Rattle.avro_schema.specs.declared.fault.DraftError.{DraftError}
 use Rattle.avro_schema_json.specs.declared.error.SchemaError.{SchemaError}
 use Rattle.avro_schema_json.specs.DeclaredAttributes.{unless}
-use Rattle.avro_schema_json.specs.DeclaredFaults.{enum_faults, field_faults, faults_of_kind, node_faults, faults_of_nodes}
-use Rattle.avro_schema_json.specs.DeclaredSchema.{whole_node, whole_nodes}
+use Rattle.avro_schema_json.specs.DeclaredFaults.{faults_of_kind, node_faults, faults_of_nodes}
+use Rattle.avro_schema_json.specs.DeclaredSchema.{whole_node}
 use Rattle.avro_schema_json.specs.Declares.{RawNode}
-use Rattle.avro_schema_json.specs.Placed.{is_placed, is_raw_placed, are_placed}
+use Rattle.avro_schema_json.specs.Placed.{is_placed, are_placed}
 use Rattle.avro_schema_json.specs.Refusals.{refusal_of}
 
 record Has (xs : List SchemaError) (e : SchemaError) : Type 0 where

@@ -1,7 +1,7 @@
 -- What is true of all that a tree makes: the default of an enum is the place of a symbol, and no fault says that the
 -- text is no JSON.
-use Rattle.std.proofs.Common.{◌≡◌, ℕ, zero, suc, ◌+◌, ◌<◌, ◌≤◌, Bool, true, false, not, ◌&&◌, List, [], ◌∷◌, ◌++◌, Option, Some, None, Result, Ok, Err, length, refl, ap, sym, ◌∙◌, arith, nat_lt, nat_le, subst, Ordering}
-use Rattle.std.specs.Prelude.{Contains, slice_index_or, codes, bytes_eq, is_some, option_map, option_and_then, ok_or, filter_map, if◌then◌else◌}
+use Rattle.std.proofs.Common.{◌≡◌, ℕ, zero, suc, ◌+◌, ◌<◌, Bool, true, false, not, List, [], ◌∷◌, ◌++◌, Option, Some, None, Result, Ok, Err, length, refl, ap, arith, nat_lt, nat_le, subst, Ordering}
+use Rattle.std.specs.Prelude.{Contains, slice_index_or, codes, bytes_eq, is_some, option_map, option_and_then, ok_or, if◌then◌else◌}
 use Rattle.std.specs.List.{list_all}
 use Rattle.std.specs.Ordering.{nat_cmp, match_ordering}
 use Rattle.std.specs.Cmp.Lexicographic.{slice_cmp}
@@ -12,10 +12,10 @@ use Rattle.avro_name.specs.Name.{Name, is_namespace, has_dot, name_of}
 use Rattle.avro_schema.specs.Node.{Node}
 use Rattle.avro_schema.specs.WellFormed.{max_nodes, max_count, is_default}
 use Rattle.serde_json.specs.Data.{Data, Items, no_items, item, Members, no_members, member}
-use Rattle.serde_json.specs.Find.{get_member, as_str, as_array, as_number, as_u64}
+use Rattle.serde_json.specs.Find.{get_member, as_str, as_number, as_u64}
 use Rattle.avro_schema_json.specs.declared.error.SchemaError.{SchemaError}
 use Rattle.avro_schema_json.specs.DeclaredAttributes.{Attribute, unless, needed, text_in, as_texts, namespace_from, name_from, name_in, alias_texts_from, alias_texts_in, aliases_in, symbol_place, default_symbol_from, symbols_in, size_in}
-use Rattle.avro_schema_json.specs.Declares.{RawField, RawNode, Known, Made, Meaning, faulty, joined, followed_by, in_turn, above, alone, use_of, place_of, reference, Word, null_word, boolean_word, int_word, long_word, bytes_word, string_word, unsupported_word, type_name, word_of, type_of_word, union_of, container_of, defining, name_faults, record_named, enum_named, fixed_named, definition_of, Form, record_form, enum_form, fixed_form, array_form, map_form, error_form, word_form, no_form, form_of, type_of_form, field_of, no_field, meaning_of, branches_of, meaning_under, fields_under, fields_from, field_meanings, field_meaning, made_of}
+use Rattle.avro_schema_json.specs.Declares.{RawField, RawNode, Known, Made, Meaning, faulty, joined, in_turn, above, alone, use_of, place_of, reference, Word, null_word, boolean_word, int_word, long_word, bytes_word, string_word, unsupported_word, type_name, word_of, type_of_word, union_of, container_of, defining, name_faults, record_named, enum_named, fixed_named, definition_of, Form, record_form, enum_form, fixed_form, array_form, map_form, error_form, word_form, no_form, form_of, type_of_form, field_of, no_field, meaning_of, branches_of, meaning_under, fields_under, fields_from, field_meanings, field_meaning, made_of}
 use Rattle.avro_schema_json.specs.Placed.{is_placed, is_raw_placed, are_placed}
 
 -- a fault that a tree can have

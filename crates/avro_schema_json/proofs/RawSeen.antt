@@ -1,11 +1,8 @@
 -- How the program's nodes and fields are seen before their defaults are read.
-use Rattle.std.proofs.Common.{◌≡◌, ℕ, Bool, List, [], ◌∷◌, ◌++◌, Option, Some, None, zero, suc, option_map, map, refl, ap, ◌∙◌, sym, arith, ◌+◌}
-use Rattle.std.specs.Prelude.{slice_get, string_bytes, bytes_eq, ◌||◌}
-use Rattle.std.specs.List.{list_any}
+use Rattle.std.proofs.Common.{◌≡◌, ℕ, List, Option, Some, None, option_map, map, refl, ap, ◌∙◌, sym}
+use Rattle.std.specs.Prelude.{slice_get, string_bytes}
 use Rattle.std.proofs.lemmas.Option.{slice_get-map}
 use Rattle.avro_schema.specs.Node.{FieldNode}
-use Rattle.avro_schema.specs.Seen.{seen_fields}
-use Rattle.avro_schema.specs.declared.schema.Field.{Field}
 use Rattle.avro_schema_json.specs.DeclaredSchema.{bare_field}
 use Rattle.avro_schema_json.specs.SeenRaw.{raw_field_of, raw_fields_of}
 use Rattle.avro_schema_json.specs.declared.raw.RawField.{RawField}

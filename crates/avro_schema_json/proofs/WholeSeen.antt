@@ -1,7 +1,6 @@
 -- Nodes filled with their defaults are the whole nodes, and what is said of those.
-use Rattle.std.proofs.Common.{◌≡◌, ℕ, suc, ◌+◌, ◌<◌, ◌≤◌, Bool, true, false, inl, inr, List, [], ◌∷◌, ◌++◌, length, map, refl, ap, sym, ◌∙◌, arith, nat_le, nat_lt}
+use Rattle.std.proofs.Common.{◌≡◌, ◌<◌, Bool, false, List, [], ◌∷◌, ◌++◌, length, map, refl, ap, arith, nat_le, nat_lt}
 use Rattle.std.specs.Prelude.{Contains, filter_map}
-use Rattle.std.proofs.lemmas.List.{length-map}
 use Rattle.std.proofs.lemmas.List.Elements.{Contains-append_left, Contains-append_right}
 use Rattle.std.proofs.lemmas.Bool.Decides.{nat_tests}
 use Rattle.avro_name.specs.Name.{same_name}
@@ -12,7 +11,7 @@ use Rattle.avro_schema_json.specs.declared.error.SchemaError.{SchemaError}
 use Rattle.avro_schema_json.specs.Declares.{RawField, RawNode}
 use Rattle.avro_schema_json.specs.DeclaredAttributes.{unless}
 use Rattle.avro_schema_json.specs.DeclaredFaults.{faults_of_nodes, node_faults, or_else}
-use Rattle.avro_schema_json.specs.DeclaredSchema.{field_default, whole_field, whole_node, whole_nodes}
+use Rattle.avro_schema_json.specs.DeclaredSchema.{field_default, whole_field, whole_node}
 use Rattle.avro_schema_json.specs.SeenDefaults.{defaults_of_node, filled_fields, filled_nodes}
 
 filled-fields : (nodes : List Node) (fields : List RawField) → filled_fields fields (map (field_default nodes) fields) ≡ map (whole_field nodes) fields

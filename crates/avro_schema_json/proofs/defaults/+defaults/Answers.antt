@@ -1,6 +1,6 @@
-use Rattle.std.proofs.Common.{◌≡◌, Some, None, drop, option_map, sym, ap, ◌∙◌, arith}
-use Rattle.avro_schema.specs.Node.{Node, node_at}
-use Rattle.avro_schema.specs.Seen.{value_of, node_of}
+use Rattle.std.proofs.Common.{option_map, sym, ap, ◌∙◌, arith}
+use Rattle.avro_schema.specs.Node.{node_at}
+use Rattle.avro_schema.specs.Seen.{value_of}
 use Rattle.avro_schema.specs.Value.{Value}
 use Rattle.avro_schema.proofs.DatumViews.{value_of-Map}
 use Rattle.serde_json.specs.View.{view, items_view, members_view}

@@ -1,4 +1,4 @@
-use Rattle.std.proofs.Common.{◌≡◌, ℕ, List, ap, ◌∙◌}
+use Rattle.std.proofs.Common.{ℕ, List, ap, ◌∙◌}
 use Rattle.std.specs.List.{list_any}
 use Rattle.avro_schema_json.specs.DeclaredDefaults.{member_keys, names_only}
 use Rattle.avro_schema_json.specs.OwnDefaults.{fields_seen}

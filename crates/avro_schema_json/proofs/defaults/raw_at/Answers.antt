@@ -1,4 +1,4 @@
-use Rattle.std.proofs.Common.{◌≡◌, get_or, Option, Some, None, Bor, refl, ap, sym, ◌∙◌, arith}
+use Rattle.std.proofs.Common.{◌≡◌, Option, Some, None, Bor, refl, ap, ◌∙◌, arith}
 use Rattle.std.specs.Prelude.{unwrap_or, option_map}
 use Rattle.avro_schema_json.specs.OwnDefaults.{bare_of}
 use Rattle.avro_schema_json.specs.declared.raw.RawNode.{RawNode}

@@ -1,4 +1,4 @@
-use Rattle.std.proofs.Common.{◌≡◌, ◌<◌, ◌⊎◌, inl, inr, true, false, Bool, List, length, map, refl, sym, ap, subst, ◌∙◌, arith}
+use Rattle.std.proofs.Common.{◌≡◌, ◌<◌, ◌⊎◌, inl, inr, true, false, List, length, map, refl, sym, ap, subst, ◌∙◌}
 use Rattle.std.specs.Prelude.{Contains, Option}
 use Rattle.std.proofs.lemmas.List.{length-map}
 use Rattle.avro_schema.specs.Node.{Node}
@@ -12,12 +12,12 @@ use Rattle.avro_schema_json.specs.declared.raw.RawNode.{RawNode as KeptNode}
 use Rattle.avro_schema_json.specs.Declares.{RawNode}
 use Rattle.avro_schema_json.specs.DeclaredAttributes.{unless}
 use Rattle.avro_schema_json.specs.DeclaredFaults.{faults_of_nodes, or_else}
-use Rattle.avro_schema_json.specs.DeclaredSchema.{bare_nodes, whole_node, whole_nodes, are_all_defaults_read}
+use Rattle.avro_schema_json.specs.DeclaredSchema.{bare_nodes, whole_nodes, are_all_defaults_read}
 use Rattle.avro_schema_json.specs.OwnDefaults.{bares_of}
 use Rattle.avro_schema_json.specs.Placed.{are_placed}
 use Rattle.avro_schema_json.specs.Refusals.{refusal_of}
 use Rattle.avro_schema_json.specs.SeenDefaults.{lists_seen, defaults_of_node, filled_nodes}
-use Rattle.avro_schema_json.specs.SeenRaw.{raw_node_of, raw_nodes_of}
+use Rattle.avro_schema_json.specs.SeenRaw.{raw_nodes_of}
 use Rattle.avro_schema_json.proofs.FaultsThere.{there-contains, placed_whole}
 use Rattle.avro_schema_json.proofs.RowsLaws.{no_faults-from_is_schema}
 use Rattle.avro_schema_json.proofs.WholeSeen.{filled-whole, or_else-first, or_else-unread, too_many-contains}
