@@ -1,13 +1,12 @@
 -- A call that reads the blocks of an array or a map: the blocks so far, one more, and one that breaks.
-use Rattle.std.proofs.Common.{◌≡◌, ℕ, zero, suc, ◌+◌, ◌-◌, ◌^◌, ◌<◌, ◌≤◌, ℤ, pos, true, List, [], ◌∷◌, ◌++◌, length, Result, Ok, Err, Option, Some, None, refl, sym, ap, ◌∙◌, subst, append_assoc, append-nil, length-append, arith}
+use Rattle.std.proofs.Common.{◌≡◌, ℕ, ◌+◌, ◌<◌, pos, List, [], ◌++◌, length, Result, Ok, Err, Option, Some, None, refl, sym, ap, ◌∙◌, subst, append_assoc, arith}
 use Rattle.std.specs.Prelude.{neg_ℤ}
 use Rattle.std.specs.List.{concat}
 use Rattle.avro_zigzag.specs.Number.{SpellsNumber}
-use Rattle.avro_binary.specs.Blocks.{IsInBlocks, no_more, counted as counted_block, sized as sized_block}
+use Rattle.avro_binary.specs.Blocks.{IsInBlocks, counted as counted_block, sized as sized_block}
 use Rattle.avro_binary.specs.Fault.{ReadFault, end_of_input, invalid_number, invalid_boolean, invalid_text, unknown_index, invalid_length, wrong_block_size, duplicate_key, limit_exceeded, behind}
-use Rattle.avro_binary.specs.Breaks.{BlocksBreak, item_fails, size_differs, later_breaks, BreaksAfter, Head, counted, sized, head_count, head_bytes, IsHead, HasSize, Left}
+use Rattle.avro_binary.specs.Breaks.{BlocksBreak, item_fails, size_differs, later_breaks, Head, counted, sized, head_count, head_bytes, IsHead, HasSize, Left}
 use Rattle.avro_binary.specs.BlockHeads.{HeadBreaks, IsHeadOrEnd, IsBlock, IsBlockOrEnd, EndsBlock}
-use Rattle.avro_binary.specs.Seen.{read_fault}
 use Rattle.avro_binary.specs.CursorValue.{CursorValue, Passes}
 use Rattle.avro_binary.specs.CursorReads.{Moves, ReportsFault, left_at, FindsRun, RunBreaks}
 use Rattle.avro_binary.specs.Elements.{Refuses}
@@ -16,7 +15,7 @@ use Rattle.avro_binary.specs.declared.error.ReadError.{ReadError}
 use Rattle.avro_binary.proofs.HeadLaws.{blocks_break}
 use Rattle.avro_binary.proofs.OneFaultParts.{behind-append}
 use Rattle.avro_binary.proofs.RunLaws.{IsRun}
-use Rattle.avro_binary.proofs.RunSteps.{moves-none, moves-passed, moves-join, report_moved, report_same}
+use Rattle.avro_binary.proofs.RunSteps.{moves-none, moves-passed, moves-join, report_moved}
 
 -- ---- Heads
 

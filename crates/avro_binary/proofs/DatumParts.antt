@@ -1,5 +1,5 @@
 -- How data with parts are seen.
-use Rattle.std.proofs.Common.{◌≡◌, ℕ, List, map, refl, sym, ap, ◌∙◌}
+use Rattle.std.proofs.Common.{◌≡◌, ℕ, map, sym, ap, ◌∙◌}
 use Rattle.std.specs.Global.{Vec, Box}
 use Rattle.avro_schema.specs.Value.{Value}
 use Rattle.avro_schema.specs.Seen.{value_of, values_from, view_step}

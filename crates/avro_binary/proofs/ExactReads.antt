@@ -1,5 +1,5 @@
 -- Bytes that were read through a cursor were read exactly.
-use Rattle.std.proofs.Common.{◌≡◌, ℕ, ◌+◌, ◌≤◌, true, ◌&&◌, List, ◌++◌, length, take, Result, Ok, Err, Option, Some, None, refl, sym, ap, ◌∙◌, subst, arith, rules, tests, length-append}
+use Rattle.std.proofs.Common.{◌≡◌, ℕ, ◌≤◌, true, List, ◌++◌, length, take, Result, Ok, Err, Option, Some, None, refl, sym, ap, ◌∙◌, subst, arith, rules, tests, length-append}
 use Rattle.std.specs.Prelude.{nat_le}
 use Rattle.std.specs.Option.{IfSome}
 use Rattle.std.proofs.Math.Seq.{take-append_seam}
@@ -11,11 +11,11 @@ use Rattle.avro_schema.specs.WellFormed.{is_schema}
 use Rattle.avro_schema.specs.declared.datum.Datum.{Datum}
 use Rattle.avro_binary.specs.Encoding.{Encodes}
 use Rattle.avro_binary.specs.Fault.{ReadFault, limit_exceeded, behind}
-use Rattle.avro_binary.specs.Breaks.{Breaks, BreaksWithin}
+use Rattle.avro_binary.specs.Breaks.{Breaks}
 use Rattle.avro_binary.specs.Seen.{read_fault, UnlessOutOfMemory}
 use Rattle.avro_binary.specs.Reading.{ReadsExactly, WalksExactly}
 use Rattle.avro_binary.specs.CursorValue.{CursorValue}
-use Rattle.avro_binary.specs.CursorReads.{FindsValue, ReportsFault, ReadsNode}
+use Rattle.avro_binary.specs.CursorReads.{FindsValue, ReadsNode}
 use Rattle.avro_binary.specs.declared.error.ReadError.{ReadError}
 use Rattle.avro_binary.proofs.BlockSteps.{behind-none}
 use Rattle.avro_binary.proofs.KeySteps.{as_error, unless_reported}

@@ -1,32 +1,32 @@
 -- What reading a datum of a node answers, from what reading its parts does.
-use Rattle.std.proofs.Common.{◌≡◌, ◌⊎◌, inl, inr, ℕ, zero, suc, ◌+◌, ◌-◌, ◌^◌, ◌<◌, ◌≤◌, ℤ, pos, Bool, true, ◌&&◌, List, [], ◌∷◌, ◌++◌, length, take, drop, get_or, Result, Ok, Err, Option, Some, None, refl, sym, ap, ◌∙◌, subst, append_assoc, append-nil, length-append, arith}
+use Rattle.std.proofs.Common.{◌≡◌, ◌⊎◌, inl, inr, ℕ, zero, suc, ◌+◌, ◌-◌, ◌^◌, ◌<◌, ◌≤◌, pos, true, List, [], ◌∷◌, ◌++◌, length, take, drop, get_or, Result, Ok, Err, Some, refl, sym, ap, ◌∙◌, subst, append-nil, arith}
 use Rattle.std.specs.Prelude.{slice_get, bytes_eq, String}
-use Rattle.std.specs.List.{concat, list_all}
+use Rattle.std.specs.List.{concat}
 use Rattle.std.proofs.lemmas.List.Folds.{concat-append}
 use Rattle.avro_name.specs.Name.{Name}
 use Rattle.avro_zigzag.specs.Number.{SpellsNumber}
-use Rattle.avro_schema.specs.Value.{Value, Values, Entries, size, depth, longest_blob, values_size, values_depth, values_longest_blob, values_count, entries_count, keys_of}
+use Rattle.avro_schema.specs.Value.{Value, values_size, values_depth, values_longest_blob, values_count, entries_count, keys_of}
 use Rattle.avro_schema.specs.Node.{Node, FieldNode, node_at, field_places}
-use Rattle.avro_schema.specs.Fits.{fits, each_fits, entries_fit, fields_fit, is_count, is_text, LimitValues}
+use Rattle.avro_schema.specs.Fits.{fields_fit, is_count}
 use Rattle.avro_schema.specs.Seen.{values_from, entries_from, seen_fields, places_of, texts_of}
 use Rattle.avro_schema.specs.declared.schema.Field.{Field}
 use Rattle.avro_schema.specs.declared.schema.NodeId.{NodeId}
 use Rattle.std.specs.declared.alloc.Global.{Global}
 use Rattle.avro_schema.specs.Distinct.{are_distinct}
 use Rattle.avro_binary.specs.Blocks.{IsInBlocks, no_more}
-use Rattle.avro_binary.specs.Encoding.{Encodes, EachSpelled, Spells}
-use Rattle.avro_binary.specs.Fault.{ReadFault, limit_exceeded, behind}
-use Rattle.avro_binary.specs.Breaks.{BreaksWithin, NodeBreaks, BlocksBreak, ItemsAreWhole, EntriesAreWhole, BranchBreaks, FieldsBreak, IndexBreaks, Left, head_bytes, HasSize}
+use Rattle.avro_binary.specs.Encoding.{EachSpelled}
+use Rattle.avro_binary.specs.Fault.{limit_exceeded}
+use Rattle.avro_binary.specs.Breaks.{BreaksWithin, NodeBreaks, BlocksBreak, ItemsAreWhole, EntriesAreWhole, FieldsBreak, IndexBreaks, head_bytes, HasSize}
 use Rattle.avro_binary.specs.Seen.{read_fault}
-use Rattle.avro_binary.specs.CursorValue.{CursorValue, Passes, Enters}
+use Rattle.avro_binary.specs.CursorValue.{CursorValue, Enters}
 use Rattle.avro_binary.specs.Elements.{Refuses, Finds, IsIndex}
 use Rattle.avro_binary.specs.BlockHeads.{HeadBreaks, EndsBlock}
 use Rattle.avro_binary.specs.declared.block.Block.{Block}
 use Rattle.avro_binary.specs.CursorReads.{Moves, FindsValue, FindsRun, RunBreaks, ReportsFault, ReadsNode, outside, left_node, left_at, limits_at, ValuesRun, EntriesRun, value_breaks, entry_breaks, child_breaks}
 use Rattle.avro_binary.specs.declared.error.ReadError.{ReadError}
 use Rattle.avro_binary.proofs.ElementLaws.{is_count-from_below}
-use Rattle.avro_binary.proofs.RunLaws.{IsRun, values_run, entries_run, values_count-from, entries_count-from, values_size-append, values_depth-append, values_blob-append, EachSpelled-append, fields_fit-push}
-use Rattle.avro_binary.proofs.RunSteps.{moves-none, moves-passed, moves-join, moves-same, report_moved, report_same, breaks_within-same}
+use Rattle.avro_binary.proofs.RunLaws.{values_run, entries_run, values_count-from, entries_count-from, values_size-append, values_depth-append, values_blob-append, EachSpelled-append, fields_fit-push}
+use Rattle.avro_binary.proofs.RunSteps.{moves-none, moves-passed, moves-join, moves-same, report_moved, breaks_within-same}
 use Rattle.avro_binary.proofs.BlockSteps.{BlocksDone, EndRead, HeadRead, some-head, as_error, blocks_none, blocks_push, head_refused, item_refused, size_refused}
 
 -- ---- Entering and leaving

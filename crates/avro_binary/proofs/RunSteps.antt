@@ -1,23 +1,22 @@
 -- A call that reads items one by one: one more item, and one that breaks.
-use Rattle.std.proofs.Common.{◌≡◌, ℕ, suc, ◌+◌, ◌-◌, ◌<◌, ◌≤◌, true, false, ◌&&◌, List, [], ◌∷◌, ◌++◌, length, Option, Some, None, refl, sym, ap, ◌∙◌, subst, append_assoc, append-nil, length-append, arith}
+use Rattle.std.proofs.Common.{◌≡◌, ℕ, ◌<◌, true, List, [], ◌∷◌, ◌++◌, length, Option, Some, None, refl, sym, ap, ◌∙◌, subst, append_assoc, append-nil, length-append, arith}
 use Rattle.std.specs.Prelude.{bytes_eq}
 use Rattle.std.specs.Option.{IfSome}
-use Rattle.std.specs.List.{concat, list_any, list_all}
+use Rattle.std.specs.List.{concat}
 use Rattle.std.proofs.lemmas.List.Folds.{concat-append}
-use Rattle.avro_schema.specs.Value.{Value, size, depth, longest_blob}
+use Rattle.avro_schema.specs.Value.{Value}
 use Rattle.avro_schema.specs.Node.{Node}
-use Rattle.avro_schema.specs.Fits.{fits, is_text, LimitValues}
+use Rattle.avro_schema.specs.Fits.{LimitValues}
 use Rattle.avro_schema.specs.Distinct.{are_distinct}
-use Rattle.avro_binary.specs.Encoding.{Encodes}
 use Rattle.avro_binary.specs.Fault.{ReadFault, behind}
-use Rattle.avro_binary.specs.Breaks.{BreaksWithin, BreaksAfter, KeyBreaks, EntryBreaks, key_breaks, value_breaks as value_of_entry_breaks, Left}
+use Rattle.avro_binary.specs.Breaks.{BreaksWithin, KeyBreaks, key_breaks, value_breaks as value_of_entry_breaks, Left}
 use Rattle.avro_binary.specs.Seen.{read_fault}
 use Rattle.avro_binary.specs.CursorValue.{CursorValue, Passes}
 use Rattle.avro_binary.specs.Elements.{IsKey}
-use Rattle.avro_binary.specs.CursorReads.{Moves, FindsValue, ReportsFault, left_at, ValuesRun, EntriesRun, value_breaks, entry_breaks, child_breaks, FindsRun, RunBreaks}
+use Rattle.avro_binary.specs.CursorReads.{Moves, FindsValue, ReportsFault, left_at, ValuesRun, EntriesRun, value_breaks, entry_breaks, FindsRun, RunBreaks}
 use Rattle.avro_binary.specs.declared.error.ReadError.{ReadError}
 use Rattle.avro_binary.proofs.ElementLaws.{is_text-from_string}
-use Rattle.avro_binary.proofs.OneFaultParts.{behind-add, behind-append}
+use Rattle.avro_binary.proofs.OneFaultParts.{behind-add}
 use Rattle.avro_binary.proofs.RunLaws.{IsRun, distinct-push}
 
 -- ---- Moves

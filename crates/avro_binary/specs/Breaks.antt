@@ -1,14 +1,14 @@
 -- The first fault of bytes, read from left to right as an encoding of a node within limits: finished parts stand at
 -- the front, each within what is left for it, and the next part fails (Avro 1.11, "Binary Encoding").
-use Rattle.std.specs.Prelude.{◌≡◌, ◌≢◌, ◌⊎◌, ℕ, zero, suc, ◌+◌, ◌-◌, ◌^◌, ◌<◌, ◌≤◌, ℤ, pos, negsuc, neg_ℤ, nat_abs, Bool, true, false, List, [], ◌∷◌, ◌++◌, length, take, nat_lt, bytes_eq}
+use Rattle.std.specs.Prelude.{◌≡◌, ◌≢◌, ◌⊎◌, ℕ, zero, suc, ◌-◌, ◌^◌, ◌<◌, ◌≤◌, ℤ, pos, negsuc, neg_ℤ, nat_abs, Bool, true, false, List, [], ◌∷◌, ◌++◌, length, take, nat_lt, bytes_eq}
 use Rattle.std.specs.List.{concat, list_any, list_all}
 use Rattle.std.specs.Str.{is_utf8}
 use Rattle.avro_zigzag.specs.Number.{SpellsNumber}
 use Rattle.avro_zigzag.specs.NumberFault.{IntFails, LongFails}
 use Rattle.avro_zigzag.specs.declared.VarError.{VarError}
 use Rattle.avro_zigzag.specs.declared.VarError.TheVariants.{EndOfInput, NotShortest, OutOfRange}
-use Rattle.avro_schema.specs.Value.{Value, Values, Entries, values_size, values_depth, values_longest_blob, values_count, entries_size, entries_depth, entries_longest_blob, entries_count, keys_of}
-use Rattle.avro_schema.specs.Node.{Node, FieldNode, node_at, field_places}
+use Rattle.avro_schema.specs.Value.{Values, Entries, values_size, values_depth, values_longest_blob, values_count, entries_size, entries_depth, entries_longest_blob, entries_count, keys_of}
+use Rattle.avro_schema.specs.Node.{Node, node_at, field_places}
 use Rattle.avro_schema.specs.Fits.{is_int, is_long, is_text, each_fits, entries_fit, fields_fit, LimitValues}
 use Rattle.avro_schema.specs.Distinct.{are_distinct}
 use Rattle.avro_binary.specs.Encoding.{SpellsBytes, EachSpelled, EntriesSpelled}

@@ -1,5 +1,5 @@
 -- What reading data through a cursor answers: data whose encodings were passed, or a fault of the bytes that are left.
-use Rattle.std.specs.Prelude.{◌≡◌, ℕ, suc, ◌+◌, ◌<◌, ◌≤◌, true, List, [], ◌++◌, length, Result, IfOk, bytes_eq}
+use Rattle.std.specs.Prelude.{◌≡◌, ℕ, suc, ◌+◌, ◌<◌, ◌≤◌, true, List, ◌++◌, length, Result, IfOk, bytes_eq}
 use Rattle.std.specs.Result.{IfErr}
 use Rattle.std.specs.Option.{IfSome}
 use Rattle.std.specs.List.{concat, list_all}

@@ -1,5 +1,5 @@
 -- What reading a datum from the front of bytes answers.
-use Rattle.std.specs.Prelude.{◌≡◌, ◌≢◌, ℕ, ◌≤◌, true, List, ◌++◌, length, take, Result, Ok, IfOk, IsOkAnd, Some}
+use Rattle.std.specs.Prelude.{◌≡◌, ◌≢◌, ℕ, ◌≤◌, true, List, ◌++◌, length, take, Result, Ok, IfOk, IsOkAnd}
 use Rattle.std.specs.Result.{IfErr}
 use Rattle.std.specs.Option.{IfSome}
 use Rattle.avro_schema.specs.Value.{Value}

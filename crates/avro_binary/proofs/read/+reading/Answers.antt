@@ -1,4 +1,4 @@
-use Rattle.std.proofs.Common.{map, suc, get_or, ◌+◌, drop, Bool, false, nat_lt, rules, tests, ◌≡◌, refl, sym, ap, ◌∙◌, subst, ℕ, List, [], ◌∷◌, ◌++◌, ◌<◌, ◌≤◌, length, take, Option, None, Some, Result, arith, bytes_eq, true, Ok, Err, add-one, length-append, append_assoc}
+use Rattle.std.proofs.Common.{map, suc, get_or, ◌+◌, drop, Bool, false, nat_lt, rules, tests, ◌≡◌, refl, sym, ap, ◌∙◌, subst, ℕ, List, [], ◌∷◌, ◌++◌, ◌<◌, ◌≤◌, length, take, arith, bytes_eq, true, length-append, append_assoc}
 use Rattle.std.specs.Prelude.{IsTrue, string_bytes}
 use Rattle.std.specs.List.{concat}
 use Rattle.std.proofs.lemmas.Bool.{false≢true}
@@ -8,17 +8,13 @@ use Rattle.avro_schema.specs.declared.datum.Datum.{Datum}
 use Rattle.std.proofs.lemmas.Result.{err_from_is_err_and}
 use Rattle.avro_schema.specs.Distinct.{are_distinct}
 use Rattle.avro_schema.specs.Value.{Value}
-use Rattle.avro_schema.specs.Fits.{LimitValues}
 use Rattle.avro_schema.specs.Node.{Node, node_at, field_places}
 use Rattle.avro_schema.specs.Seen.{value_of, pair_of, node_of, places_of, seen_fields, texts_of}
 use Rattle.avro_schema.specs.SeenSchema.{schema_nodes}
-use Rattle.avro_binary.specs.Breaks.{ItemsAreWhole, EntriesAreWhole, Head, head_bytes}
-use Rattle.avro_binary.specs.BlockHeads.{IsHeadOrEnd, IsBlockOrEnd}
-use Rattle.avro_binary.specs.CursorValue.{Passes}
+use Rattle.avro_binary.specs.Breaks.{ItemsAreWhole, EntriesAreWhole}
 use Rattle.avro_binary.specs.Elements.{Finds, IsIndex}
-use Rattle.avro_binary.specs.CursorReads.{IsSeenAs, ReadsNode, ReadsRun, ValuesRun, EntriesRun, value_breaks, entry_breaks, limits_at, outside, left_node}
-use Rattle.avro_binary.specs.declared.block.Block.{Block}
-use Rattle.avro_binary.proofs.BlockSteps.{HeadRead, head_read, EndRead, end_read, has_size}
+use Rattle.avro_binary.specs.CursorReads.{IsSeenAs, ValuesRun, EntriesRun, value_breaks, entry_breaks, limits_at}
+use Rattle.avro_binary.proofs.BlockSteps.{head_read, end_read, has_size}
 use Rattle.avro_schema.proofs.DatumViews.{value_of-Null, value_of-Map}
 use Rattle.avro_binary.proofs.DatumParts.{value_of-Array, value_of-Record, value_of-Union}
 use Rattle.avro_binary.proofs.LeafReads.{null_found}

@@ -1,4 +1,4 @@
-use Rattle.std.proofs.Common.{◌<◌, ◌^◌, get_or, arith}
+use Rattle.std.proofs.Common.{arith}
 use Rattle.avro_binary.proofs.read.copy_of.Goals as goal
 
 pub returns-clause-in_range : goal.returns-clause-in_range

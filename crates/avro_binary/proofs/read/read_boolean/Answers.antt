@@ -1,6 +1,3 @@
-use Rattle.std.proofs.Common.{rules, FitsSigned, w32, w64, ap, ◌∙◌}
-use Rattle.std.proofs.lemmas.Int.{to_z-of_z}
-use Rattle.avro_schema.specs.Value.{Value}
 use Rattle.avro_schema.proofs.DatumViews.{value_of-Bool}
 use Rattle.avro_binary.specs.CursorReads.{IsSeenAs}
 use Rattle.avro_binary.proofs.LeafReads.{boolean_found, boolean_refused}

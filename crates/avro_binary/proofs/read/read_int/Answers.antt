@@ -1,4 +1,4 @@
-use Rattle.std.proofs.Common.{rules, FitsSigned, w32, w64, ap, ◌∙◌}
+use Rattle.std.proofs.Common.{rules, FitsSigned, w32, ap, ◌∙◌}
 use Rattle.std.proofs.lemmas.Int.{to_z-of_z}
 use Rattle.avro_schema.specs.Value.{Value}
 use Rattle.avro_schema.proofs.DatumViews.{value_of-Int}

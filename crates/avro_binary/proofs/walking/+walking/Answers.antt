@@ -1,4 +1,4 @@
-use Rattle.std.proofs.Common.{suc, get_or, ◌+◌, drop, Bool, false, nat_lt, rules, tests, ◌≡◌, refl, sym, ap, ◌∙◌, subst, ℕ, List, [], ◌∷◌, ◌++◌, ◌<◌, ◌≤◌, length, take, Option, None, Some, Result, arith, bytes_eq, true, Ok, Err, add-one, length-append}
+use Rattle.std.proofs.Common.{suc, get_or, ◌+◌, drop, Bool, false, nat_lt, rules, tests, ◌≡◌, refl, sym, ap, ◌∙◌, subst, ℕ, List, [], ◌∷◌, ◌++◌, ◌<◌, ◌≤◌, length, take, arith, bytes_eq, true, length-append}
 use Rattle.std.specs.Prelude.{IsTrue}
 use Rattle.std.specs.List.{concat}
 use Rattle.std.proofs.lemmas.Bool.{false≢true}
@@ -6,17 +6,13 @@ use Rattle.avro_schema.specs.declared.schema.Field.{Field}
 use Rattle.std.proofs.lemmas.Result.{err_from_is_err_and}
 use Rattle.avro_schema.specs.Distinct.{are_distinct}
 use Rattle.avro_schema.specs.Value.{Value}
-use Rattle.avro_schema.specs.Fits.{LimitValues}
 use Rattle.avro_schema.specs.Node.{Node, node_at, field_places}
 use Rattle.avro_schema.specs.Seen.{node_of, places_of, seen_fields, texts_of}
 use Rattle.avro_schema.specs.SeenSchema.{schema_nodes}
-use Rattle.avro_binary.specs.Breaks.{ItemsAreWhole, EntriesAreWhole, Head, head_bytes}
-use Rattle.avro_binary.specs.BlockHeads.{IsHeadOrEnd, IsBlockOrEnd}
-use Rattle.avro_binary.specs.CursorValue.{Passes}
+use Rattle.avro_binary.specs.Breaks.{ItemsAreWhole, EntriesAreWhole}
 use Rattle.avro_binary.specs.Elements.{Finds, IsIndex}
-use Rattle.avro_binary.specs.CursorReads.{ReadsNode, ReadsRun, ValuesRun, EntriesRun, value_breaks, entry_breaks, limits_at, outside, left_node}
-use Rattle.avro_binary.specs.declared.block.Block.{Block}
-use Rattle.avro_binary.proofs.BlockSteps.{HeadRead, head_read, EndRead, end_read, has_size}
+use Rattle.avro_binary.specs.CursorReads.{ValuesRun, EntriesRun, value_breaks, entry_breaks, limits_at}
+use Rattle.avro_binary.proofs.BlockSteps.{head_read, end_read, has_size}
 use Rattle.avro_binary.proofs.LeafReads.{null_found}
 use Rattle.avro_binary.proofs.NodeSteps.{node_refused, enter_refused, array_none, map_none, array_head_refused, array_item_refused, array_size_refused, array_push, array_place, array_smaller, map_smaller, FieldsDone, array_found, depth_kept, blob_kept, map_head_refused, map_item_refused, map_size_refused, map_push, map_place, map_found, map_depth_kept, map_blob_kept, map_distinct, union_read, branch_at, places-length, texts-length, null_past, fields_push, field_breaks, record_found, record_refused, places_split, places_next, places_all}
 use Rattle.avro_binary.proofs.RunLaws.{values_run, entries_run}

@@ -1,4 +1,4 @@
-use Rattle.std.proofs.Common.{◌<◌, ◌^◌, get_or, arith}
+use Rattle.std.proofs.Common.{arith}
 use Rattle.avro_binary.proofs.walking.drop_content.Goals as goal
 
 pub returns : goal.returns
