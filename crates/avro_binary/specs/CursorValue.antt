@@ -1,5 +1,5 @@
 -- How contracts see a cursor, and how it moves.
-use Rattle.std.specs.Prelude.{◌≡◌, ℕ, ◌+◌, List, ◌++◌, length}
+use Rattle.std.specs.Prelude.{◌≡◌, ℕ, ◌+◌, ◌<◌, List, ◌++◌, length}
 
 -- the bytes that are left, the offset of the first of them, and what is left of the limits
 pub record CursorValue : Type 0 where
@@ -21,6 +21,15 @@ pub record Passes (before : CursorValue) (front : List ℕ) (after : CursorValue
 pub record Enters (before after : CursorValue) : Type 0 where
   pub depth : before.depth ≡ after.depth + 1
   pub nodes : before.nodes ≡ after.nodes + 1
+  pub bytes : after.bytes ≡ before.bytes
+  pub place : after.place ≡ before.place
+  pub blob : after.blob ≡ before.blob
+
+-- A node without parts was entered and left: it takes one of the nodes left, and nothing else has changed.
+pub record Counts (before after : CursorValue) : Type 0 where
+  pub some : 0 < before.depth
+  pub nodes : before.nodes ≡ after.nodes + 1
+  pub depth : after.depth ≡ before.depth
   pub bytes : after.bytes ≡ before.bytes
   pub place : after.place ≡ before.place
   pub blob : after.blob ≡ before.blob

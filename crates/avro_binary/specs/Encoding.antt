@@ -1,5 +1,5 @@
 -- The encodings of a datum, and the plain one (Avro 1.11, "Binary Encoding").
-use Rattle.std.specs.Prelude.{◌≡◌, ℕ, zero, suc, ℤ, pos, Bool, true, false, List, [], ◌∷◌, ◌++◌, length, if◌then◌else◌}
+use Rattle.std.specs.Prelude.{◌≡◌, ℕ, zero, suc, pos, true, List, [], ◌∷◌, ◌++◌, length, if◌then◌else◌}
 use Rattle.std.specs.List.{concat}
 use Rattle.avro_zigzag.specs.Number.{SpellsNumber, number_bytes}
 use Rattle.avro_schema.specs.Value.{Value, Values, Entries, no_values, value, no_entries, entry, values_count, entries_count}

@@ -5,7 +5,7 @@ ghost use Rattle.avro_zigzag.specs.Number.{SpellsNumber, zigzag, is_int, is_long
 ghost use Rattle.avro_zigzag.specs.NumberFault.{IntFails, LongFails};
 ghost use Rattle.avro_binary.specs.BlockHeads.{HeadBreaks, IsBlock, ReadsHead, EndsBlock, signed_count};
 ghost use Rattle.avro_binary.specs.Breaks.{Head, head_bytes, StartsWithLong, ContentBreaks, BytesBreaks, StringBreaks, BooleanBreaks, IntBreaks, LongBreaks, FixedBreaks, IndexBreaks, is_index, number_fault};
-ghost use Rattle.avro_binary.specs.CursorValue.{Passes, Enters};
+ghost use Rattle.avro_binary.specs.CursorValue.{Passes, Enters, Counts};
 ghost use Rattle.avro_binary.specs.Elements.{ReadsElement, ReadsKey, Refuses, ContentStands, IsBoolean, IsInt, IsLong, IsBytes, IsString, IsFixed, IsIndex};
 ghost use Rattle.avro_binary.specs.Fault.{behind, limit_exceeded};
 ghost use Rattle.avro_binary.specs.KeySet.{key_set};
@@ -442,6 +442,24 @@ impl<'a> Cursor<'a> {
         }
     }
 
+    /// Counts a node that has no parts, as entering and leaving it would: it takes one of the nodes left.
+    ///
+    /// # Errors
+    ///
+    /// `LimitExceeded` where there is none, or no depth.
+    pub fn count(&mut self) -> Result<(), ReadError>
+        ensures counted { OnOk result (Counts self.old self.new) }
+        ensures shallow { self.old.depth ≤ 256 }
+        ensures refused { IfErr result (λ e. (read_fault e ≡ Some limit_exceeded) × ((self.old.depth ≡ 0) ⊎ (self.old.nodes ≡ 0))) }
+        ensures unchanged { OnErr result (self.new ≡ self.old) }
+    {
+        if self.depth == 0 || self.nodes == 0 {
+            return Err(ReadError::LimitExceeded);
+        }
+        self.nodes -= 1;
+        Ok(())
+    }
+
     /// Enters a node: it takes one of the nodes left and one of the depth.
     ///
     /// # Errors
@@ -453,11 +471,8 @@ impl<'a> Cursor<'a> {
         ensures refused { IfErr result (λ e. (read_fault e ≡ Some limit_exceeded) × ((self.old.depth ≡ 0) ⊎ (self.old.nodes ≡ 0))) }
         ensures unchanged { OnErr result (self.new ≡ self.old) }
     {
-        if self.depth == 0 || self.nodes == 0 {
-            return Err(ReadError::LimitExceeded);
-        }
+        self.count()?;
         self.depth -= 1;
-        self.nodes -= 1;
         Ok(())
     }
 

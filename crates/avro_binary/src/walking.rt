@@ -37,7 +37,7 @@ pub fn walk(
     Ok(cursor.place())
 }
 
-/// Walks over a datum of the node at a place.
+/// Walks over a datum of the node at a place. A place without a node is that of null.
 #[cycle(walking)]
 fn walk_place(
     alloc: Global,
@@ -47,27 +47,11 @@ fn walk_place(
 ) -> Result<(), ReadError>
     ensures { ReadsNode AnyValue (schema_nodes schema.now) (node_at (schema_nodes schema.now) place.0) cursor.old cursor.new result }
 {
-    cursor.enter()?;
-    walk_node(alloc, schema, place, cursor)?;
-    cursor.leave();
-    Ok(())
-}
-
-/// Walks over a datum of the node at a place, which was entered. A place without a node is that of null.
-#[cycle(walking)]
-fn walk_node(
-    alloc: Global,
-    schema: &Schema,
-    place: NodeId,
-    cursor: &mut Cursor<'_>,
-) -> Result<(), ReadError>
-    ensures { ReadsNode AnyValue (schema_nodes schema.now) (node_at (schema_nodes schema.now) place.0) (outside cursor.old) (left_node cursor.new) result }
-{
     if !schema.has(place) {
-        return Ok(());
+        return cursor.count();
     }
     match schema.node(place) {
-        Node::Null => Ok(()),
+        Node::Null => cursor.count(),
         Node::Boolean => walk_boolean(cursor),
         Node::Int => walk_int(cursor),
         Node::Long => walk_long(cursor),
@@ -84,8 +68,9 @@ fn walk_node(
 
 /// Walks over a boolean.
 fn walk_boolean(cursor: &mut Cursor<'_>) -> Result<(), ReadError>
-    ensures { (nodes : List SeenNode) → ReadsNode AnyValue nodes SeenNode.boolean (outside cursor.old) (left_node cursor.new) result }
+    ensures { (nodes : List SeenNode) → ReadsNode AnyValue nodes SeenNode.boolean cursor.old cursor.new result }
 {
+    cursor.count()?;
     match cursor.boolean() {
         Ok(_) => Ok(()),
         Err(error) => Err(error),
@@ -94,8 +79,9 @@ fn walk_boolean(cursor: &mut Cursor<'_>) -> Result<(), ReadError>
 
 /// Walks over an int.
 fn walk_int(cursor: &mut Cursor<'_>) -> Result<(), ReadError>
-    ensures { (nodes : List SeenNode) → ReadsNode AnyValue nodes SeenNode.int (outside cursor.old) (left_node cursor.new) result }
+    ensures { (nodes : List SeenNode) → ReadsNode AnyValue nodes SeenNode.int cursor.old cursor.new result }
 {
+    cursor.count()?;
     match cursor.int() {
         Ok(_) => Ok(()),
         Err(error) => Err(error),
@@ -104,8 +90,9 @@ fn walk_int(cursor: &mut Cursor<'_>) -> Result<(), ReadError>
 
 /// Walks over a long.
 fn walk_long(cursor: &mut Cursor<'_>) -> Result<(), ReadError>
-    ensures { (nodes : List SeenNode) → ReadsNode AnyValue nodes SeenNode.long (outside cursor.old) (left_node cursor.new) result }
+    ensures { (nodes : List SeenNode) → ReadsNode AnyValue nodes SeenNode.long cursor.old cursor.new result }
 {
+    cursor.count()?;
     match cursor.long() {
         Ok(_) => Ok(()),
         Err(error) => Err(error),
@@ -114,8 +101,9 @@ fn walk_long(cursor: &mut Cursor<'_>) -> Result<(), ReadError>
 
 /// Walks over bytes.
 fn walk_bytes(cursor: &mut Cursor<'_>) -> Result<(), ReadError>
-    ensures { (nodes : List SeenNode) → ReadsNode AnyValue nodes SeenNode.bytes (outside cursor.old) (left_node cursor.new) result }
+    ensures { (nodes : List SeenNode) → ReadsNode AnyValue nodes SeenNode.bytes cursor.old cursor.new result }
 {
+    cursor.count()?;
     match cursor.bytes() {
         Ok(content) => Ok(drop_content(content)),
         Err(error) => Err(error),
@@ -130,8 +118,9 @@ fn drop_content(_content: &[u8])
 
 /// Walks over a text.
 fn walk_text(cursor: &mut Cursor<'_>) -> Result<(), ReadError>
-    ensures { (nodes : List SeenNode) → ReadsNode AnyValue nodes SeenNode.string (outside cursor.old) (left_node cursor.new) result }
+    ensures { (nodes : List SeenNode) → ReadsNode AnyValue nodes SeenNode.string cursor.old cursor.new result }
 {
+    cursor.count()?;
     match cursor.string() {
         Ok(_) => Ok(()),
         Err(error) => Err(error),
@@ -141,8 +130,9 @@ fn walk_text(cursor: &mut Cursor<'_>) -> Result<(), ReadError>
 /// Walks over the place of a symbol, of so many.
 fn walk_symbol(symbols: usize, cursor: &mut Cursor<'_>) -> Result<(), ReadError>
     ensures { (nodes : List SeenNode) (name : Name) (aliases : List Name) (texts : List (List ℕ)) (default : Option ℕ) → symbols ≡ length texts
-        → ReadsNode AnyValue nodes (SeenNode.enum name aliases texts default) (outside cursor.old) (left_node cursor.new) result }
+        → ReadsNode AnyValue nodes (SeenNode.enum name aliases texts default) cursor.old cursor.new result }
 {
+    cursor.count()?;
     match cursor.index(symbols) {
         Ok(_) => Ok(()),
         Err(error) => Err(error),
@@ -151,18 +141,36 @@ fn walk_symbol(symbols: usize, cursor: &mut Cursor<'_>) -> Result<(), ReadError>
 
 /// Walks over a fixed of so many bytes.
 fn walk_fixed(size: u32, cursor: &mut Cursor<'_>) -> Result<(), ReadError>
-    ensures { (nodes : List SeenNode) (name : Name) (aliases : List Name) → ReadsNode AnyValue nodes (SeenNode.fixed name aliases size) (outside cursor.old) (left_node cursor.new) result }
+    ensures { (nodes : List SeenNode) (name : Name) (aliases : List Name) → ReadsNode AnyValue nodes (SeenNode.fixed name aliases size) cursor.old cursor.new result }
 {
+    cursor.count()?;
     match cursor.fixed(size) {
         Ok(content) => Ok(drop_content(content)),
         Err(error) => Err(error),
     }
 }
 
-/// Walks over the blocks of an array.
+/// Walks over an array.
 #[cycle(walking)]
 #[inline(never)]
 fn walk_array(
+    alloc: Global,
+    schema: &Schema,
+    place: NodeId,
+    cursor: &mut Cursor<'_>,
+) -> Result<(), ReadError>
+    ensures { ReadsNode AnyValue (schema_nodes schema.now) (SeenNode.array place.0) cursor.old cursor.new result }
+{
+    cursor.enter()?;
+    walk_item_blocks(alloc, schema, place, cursor)?;
+    cursor.leave();
+    Ok(())
+}
+
+/// Walks over the blocks of an array.
+#[cycle(walking)]
+#[inline(always)]
+fn walk_item_blocks(
     alloc: Global,
     schema: &Schema,
     place: NodeId,
@@ -196,10 +204,27 @@ fn walk_items(
     Ok(())
 }
 
-/// Walks over the blocks of a map.
+/// Walks over a map.
 #[cycle(walking)]
 #[inline(never)]
 fn walk_map(
+    alloc: Global,
+    schema: &Schema,
+    place: NodeId,
+    cursor: &mut Cursor<'_>,
+) -> Result<(), ReadError>
+    ensures { ReadsNode AnyValue (schema_nodes schema.now) (SeenNode.map_of place.0) cursor.old cursor.new result }
+{
+    cursor.enter()?;
+    walk_entry_blocks(alloc, schema, place, cursor)?;
+    cursor.leave();
+    Ok(())
+}
+
+/// Walks over the blocks of a map.
+#[cycle(walking)]
+#[inline(always)]
+fn walk_entry_blocks(
     alloc: Global,
     schema: &Schema,
     place: NodeId,
@@ -237,10 +262,27 @@ fn walk_entries<'a>(
     Ok(())
 }
 
-/// Walks over the place of a branch and a datum of the branch.
+/// Walks over a union.
 #[cycle(walking)]
 #[inline(never)]
 fn walk_union(
+    alloc: Global,
+    schema: &Schema,
+    branches: &[NodeId],
+    cursor: &mut Cursor<'_>,
+) -> Result<(), ReadError>
+    ensures { ReadsNode AnyValue (schema_nodes schema.now) (SeenNode.union (places_of branches.now)) cursor.old cursor.new result }
+{
+    cursor.enter()?;
+    walk_branch(alloc, schema, branches, cursor)?;
+    cursor.leave();
+    Ok(())
+}
+
+/// Walks over the place of a branch and a datum of the branch.
+#[cycle(walking)]
+#[inline(always)]
+fn walk_branch(
     alloc: Global,
     schema: &Schema,
     branches: &[NodeId],
@@ -252,10 +294,27 @@ fn walk_union(
     walk_place(alloc, schema, branches[branch], cursor)
 }
 
-/// Walks over a datum for each field.
+/// Walks over a record.
 #[cycle(walking)]
 #[inline(never)]
 fn walk_record(
+    alloc: Global,
+    schema: &Schema,
+    fields: &[Field],
+    cursor: &mut Cursor<'_>,
+) -> Result<(), ReadError>
+    ensures { (name : Name) (aliases : List Name) → ReadsNode AnyValue (schema_nodes schema.now) (SeenNode.record_of name aliases (seen_fields fields.now)) cursor.old cursor.new result }
+{
+    cursor.enter()?;
+    walk_fields(alloc, schema, fields, cursor)?;
+    cursor.leave();
+    Ok(())
+}
+
+/// Walks over a datum for each field.
+#[cycle(walking)]
+#[inline(always)]
+fn walk_fields(
     alloc: Global,
     schema: &Schema,
     fields: &[Field],

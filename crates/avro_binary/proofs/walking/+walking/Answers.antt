@@ -13,8 +13,8 @@ use Rattle.avro_binary.specs.Breaks.{ItemsAreWhole, EntriesAreWhole}
 use Rattle.avro_binary.specs.Elements.{Finds, IsIndex}
 use Rattle.avro_binary.specs.CursorReads.{ValuesRun, EntriesRun, value_breaks, entry_breaks, limits_at}
 use Rattle.avro_binary.proofs.BlockSteps.{head_read, end_read, has_size}
-use Rattle.avro_binary.proofs.LeafReads.{null_found}
-use Rattle.avro_binary.proofs.NodeSteps.{node_refused, enter_refused, array_none, map_none, array_head_refused, array_item_refused, array_size_refused, array_push, array_place, array_smaller, map_smaller, FieldsDone, array_found, depth_kept, blob_kept, map_head_refused, map_item_refused, map_size_refused, map_push, map_place, map_found, map_depth_kept, map_blob_kept, map_distinct, union_read, branch_at, places-length, texts-length, null_past, fields_push, field_breaks, record_found, record_refused, places_split, places_next, places_all}
+use Rattle.avro_binary.proofs.CountSteps.{null_counted}
+use Rattle.avro_binary.proofs.NodeSteps.{node_left, node_refused, enter_refused, array_none, map_none, array_head_refused, array_item_refused, array_size_refused, array_push, array_place, array_smaller, map_smaller, FieldsDone, array_found, depth_kept, blob_kept, map_head_refused, map_item_refused, map_size_refused, map_push, map_place, map_found, map_depth_kept, map_blob_kept, map_distinct, union_read, branch_at, places-length, texts-length, null_past, fields_push, field_breaks, record_found, record_refused, places_split, places_next, places_all}
 use Rattle.avro_binary.proofs.RunLaws.{values_run, entries_run}
 use Rattle.avro_binary.proofs.RunSteps.{run_push, run_breaks, value_run, value_report, entry_run, entry_report, key_report, moves-join, moves-passed}
 use Rattle.avro_binary.proofs.walking.+walking.Goals as goal
@@ -33,18 +33,18 @@ not-below k n false h f = elim (nat_lt k n) as (λ x. nat_lt k n ≡ x → n ≤
 
 -- ---- Arrays
 
-pub walk_array-loop-block-init : goal.walk_array-loop-block-init
-walk_array-loop-block-init t c = ([], array_none none_kept (schema_nodes c.args.schema.now) c.args.place.0 c.args.cursor.now)
+pub walk_item_blocks-loop-block-init : goal.walk_item_blocks-loop-block-init
+walk_item_blocks-loop-block-init t c = ([], array_none none_kept (schema_nodes c.args.schema.now) c.args.place.0 c.args.cursor.now)
 
-pub walk_array-returns-in_err-block : goal.walk_array-returns-in_err-block
-walk_array-returns-in_err-block t c =
+pub walk_item_blocks-returns-in_err-block : goal.walk_item_blocks-returns-in_err-block
+walk_item_blocks-returns-in_err-block t c =
     let p = err_from_is_err_and c.from_residual.result c.from_residual.ensures.1 in
     let done = c.loop-block.invariant in
     rw (p.1, p.2) (array_head_refused none_kept (schema_nodes c.args.schema.now) c.args.place.0 c.args.cursor.now c.loop-block.cursor done.0 done.1 c.block.new.self
     c.in_err-block.field-0.0 c.in_err-block.ensures.refused)
 
-pub walk_array-returns-in_err-walk_items : goal.walk_array-returns-in_err-walk_items
-walk_array-returns-in_err-walk_items t c =
+pub walk_item_blocks-returns-in_err-walk_items : goal.walk_item_blocks-returns-in_err-walk_items
+walk_item_blocks-returns-in_err-walk_items t c =
     let done = c.loop-block.invariant in
     let nodes = schema_nodes c.args.schema.now in
     let place = c.args.place.0 in
@@ -59,8 +59,8 @@ walk_array-returns-in_err-walk_items t c =
     let read = c.in_err-walk_items.ensures (limits_at start) d b in
     rw (p.1, p.2) (array_item_refused none_kept nodes place start now done.0 done.1 mid block head c.walk_items.new.cursor c.count.result c.in_err-walk_items.field-0.0 c.count.ensures read.refused)
 
-pub walk_array-loop-block-smaller : goal.walk_array-loop-block-smaller
-walk_array-loop-block-smaller t c =
+pub walk_item_blocks-loop-block-smaller : goal.walk_item_blocks-loop-block-smaller
+walk_item_blocks-loop-block-smaller t c =
     let done = c.loop-block.invariant in
     let nodes = schema_nodes c.args.schema.now in
     let place = c.args.place.0 in
@@ -78,8 +78,8 @@ walk_array-loop-block-smaller t c =
     let after = c.walk_items.new.cursor in
     array_smaller none_kept nodes place start now done.0 done.1 mid block head after read.found.1 ys found counted
 
-pub walk_array-loop-block-preserved : goal.walk_array-loop-block-preserved
-walk_array-loop-block-preserved t c =
+pub walk_item_blocks-loop-block-preserved : goal.walk_item_blocks-loop-block-preserved
+walk_item_blocks-loop-block-preserved t c =
     let done = c.loop-block.invariant in
     let nodes = schema_nodes c.args.schema.now in
     let place = c.args.place.0 in
@@ -99,8 +99,8 @@ walk_array-loop-block-preserved t c =
     let ends = c.in_ok-end_block.ensures now.place size head.head head.is_block (array_place none_kept nodes place start now done.0 done.1 mid block head after read.found.1 ys found counted) in
     (done.0 ++ ys, array_push none_kept nodes place start now done.0 done.1 mid block head after read.found.1 ys found counted (has_size tt now.place head.head size ends))
 
-pub walk_array-returns-in_err-end_block : goal.walk_array-returns-in_err-end_block
-walk_array-returns-in_err-end_block t c =
+pub walk_item_blocks-returns-in_err-end_block : goal.walk_item_blocks-returns-in_err-end_block
+walk_item_blocks-returns-in_err-end_block t c =
     let done = c.loop-block.invariant in
     let nodes = schema_nodes c.args.schema.now in
     let place = c.args.place.0 in
@@ -121,8 +121,8 @@ walk_array-returns-in_err-end_block t c =
     let ends = c.in_err-end_block.ensures now.place size head.head head.is_block (array_place none_kept nodes place start now done.0 done.1 mid block head after read.found.1 ys found counted) in
     rw (p.1, p.2) (array_size_refused none_kept nodes place start now done.0 done.1 mid block head after read.found.1 ys found counted (Unit {0}) c.in_err-end_block.field-0.0 ends)
 
-pub walk_array-returns : goal.walk_array-returns
-walk_array-returns t c =
+pub walk_item_blocks-returns : goal.walk_item_blocks-returns
+walk_item_blocks-returns t c =
     let done = c.loop-block.invariant in
     let nodes = schema_nodes c.args.schema.now in
     let start = c.args.cursor.now in
@@ -131,24 +131,24 @@ walk_array-returns t c =
 
 -- ---- Maps
 
-pub walk_map-loop-keys-init : goal.walk_map-loop-keys-init
-walk_map-loop-keys-init t c = ([], [], c.new-keys.ensures, map_none none_kept (schema_nodes c.args.schema.now) c.args.place.0 c.args.cursor.now)
+pub walk_entry_blocks-loop-keys-init : goal.walk_entry_blocks-loop-keys-init
+walk_entry_blocks-loop-keys-init t c = ([], [], c.new-keys.ensures, map_none none_kept (schema_nodes c.args.schema.now) c.args.place.0 c.args.cursor.now)
 
-pub walk_map-returns-in_err-block : goal.walk_map-returns-in_err-block
-walk_map-returns-in_err-block t c =
+pub walk_entry_blocks-returns-in_err-block : goal.walk_entry_blocks-returns-in_err-block
+walk_entry_blocks-returns-in_err-block t c =
     let p = err_from_is_err_and c.from_residual.result c.from_residual.ensures.1 in
     let done = c.loop-keys.invariant in
     rw (p.1, p.2) (map_head_refused none_kept (schema_nodes c.args.schema.now) c.args.place.0 c.args.cursor.now c.loop-keys.cursor done.1 done.0 done.3 c.block.new.self
     c.in_err-block.field-0.0 c.in_err-block.ensures.refused)
 
-pub walk_map-returns : goal.walk_map-returns
-walk_map-returns t c =
+pub walk_entry_blocks-returns : goal.walk_entry_blocks-returns
+walk_entry_blocks-returns t c =
     let done = c.loop-keys.invariant in
     let end = end_read c.loop-keys.cursor c.block.new.self (rw c.in_default.is at c.in_ok-block.ensures.found) in
     map_found none_kept (schema_nodes c.args.schema.now) c.args.place.0 c.args.cursor.now c.loop-keys.cursor c.block.new.self done.1 done.0 tt done.3 end c.nodes-nodes.ensures.in_range tt
 
-pub walk_map-returns-in_err-walk_entries : goal.walk_map-returns-in_err-walk_entries
-walk_map-returns-in_err-walk_entries t c =
+pub walk_entry_blocks-returns-in_err-walk_entries : goal.walk_entry_blocks-returns-in_err-walk_entries
+walk_entry_blocks-returns-in_err-walk_entries t c =
     let done = c.loop-keys.invariant in
     let nodes = schema_nodes c.args.schema.now in
     let place = c.args.place.0 in
@@ -164,8 +164,8 @@ walk_map-returns-in_err-walk_entries t c =
     let read = c.in_err-walk_entries.ensures (limits_at start) done.1 d b done.2 distinct in
     rw (p.1, p.2) (map_item_refused none_kept nodes place start now done.1 done.0 done.3 mid block head c.walk_entries.new.cursor c.count.result c.in_err-walk_entries.field-0.0 c.count.ensures read.refused)
 
-pub walk_map-loop-keys-smaller : goal.walk_map-loop-keys-smaller
-walk_map-loop-keys-smaller t c =
+pub walk_entry_blocks-loop-keys-smaller : goal.walk_entry_blocks-loop-keys-smaller
+walk_entry_blocks-loop-keys-smaller t c =
     let done = c.loop-keys.invariant in
     let nodes = schema_nodes c.args.schema.now in
     let place = c.args.place.0 in
@@ -184,8 +184,8 @@ walk_map-loop-keys-smaller t c =
     let after = c.walk_entries.new.cursor in
     map_smaller none_kept nodes place start now done.1 done.0 done.3 mid block head after read.found.1 ys found counted
 
-pub walk_map-loop-keys-preserved : goal.walk_map-loop-keys-preserved
-walk_map-loop-keys-preserved t c =
+pub walk_entry_blocks-loop-keys-preserved : goal.walk_entry_blocks-loop-keys-preserved
+walk_entry_blocks-loop-keys-preserved t c =
     let done = c.loop-keys.invariant in
     let nodes = schema_nodes c.args.schema.now in
     let place = c.args.place.0 in
@@ -206,8 +206,8 @@ walk_map-loop-keys-preserved t c =
     let ends = c.in_ok-end_block.ensures now.place size head.head head.is_block (map_place none_kept nodes place start now done.1 done.0 done.3 mid block head after read.found.1 ys found counted) in
     (done.0 ++ ys, read.found.1, read.found.4, map_push none_kept nodes place start now done.1 done.0 done.3 mid block head after read.found.1 ys found counted (has_size tt now.place head.head size ends))
 
-pub walk_map-returns-in_err-end_block : goal.walk_map-returns-in_err-end_block
-walk_map-returns-in_err-end_block t c =
+pub walk_entry_blocks-returns-in_err-end_block : goal.walk_entry_blocks-returns-in_err-end_block
+walk_entry_blocks-returns-in_err-end_block t c =
     let done = c.loop-keys.invariant in
     let nodes = schema_nodes c.args.schema.now in
     let place = c.args.place.0 in
@@ -378,89 +378,136 @@ walk_items-returns t c = λ limits d b.
 
 -- ---- Nodes
 
-pub walk_node-returns-then-not-has : goal.walk_node-returns-then-not-has
-walk_node-returns-then-not-has t c =
+pub walk_place-returns-then-not-has : goal.walk_place-returns-then-not-has
+walk_place-returns-then-not-has t c =
     let nodes = schema_nodes c.args.schema.now in
     let none = c.if-not-has.true in
     let has = c.has.ensures in
     let past : length nodes ≤ c.args.place.0 = not-below c.args.place.0 (length nodes) c.has.result none has.1 in
-    rw (null_past nodes c.args.place.0 past) (null_found none_kept nodes c.args.cursor.now tt tt)
+    rw (null_past nodes c.args.place.0 past) (null_counted none_kept nodes c.args.cursor.now c.count.new.self tt c.count.result c.count.ensures.counted c.count.ensures.refused (λ x. tt))
 
-pub walk_node-returns-in-Null : goal.walk_node-returns-in-Null
-walk_node-returns-in-Null t c =
+pub walk_place-returns-in-Null : goal.walk_place-returns-in-Null
+walk_place-returns-in-Null t c =
     let nodes = schema_nodes c.args.schema.now in
     let is : node_at nodes c.args.place.0 ≡ Node.null = sym c.node.ensures ∙ ap node_of c.in-Null.is in
-    rw is (null_found none_kept nodes c.args.cursor.now tt tt)
+    rw is (null_counted none_kept nodes c.args.cursor.now c.count-in-Null.new.self tt c.count-in-Null.result c.count-in-Null.ensures.counted c.count-in-Null.ensures.refused (λ x. tt))
 
-pub walk_node-returns-in-Boolean : goal.walk_node-returns-in-Boolean
-walk_node-returns-in-Boolean t c =
+pub walk_place-returns-in-Boolean : goal.walk_place-returns-in-Boolean
+walk_place-returns-in-Boolean t c =
     let nodes = schema_nodes c.args.schema.now in
     let is : node_at nodes c.args.place.0 ≡ Node.boolean = sym c.node.ensures ∙ ap node_of c.in-Boolean.is in
     rw is (c.walk_boolean.ensures nodes)
 
-pub walk_node-returns-in-Int : goal.walk_node-returns-in-Int
-walk_node-returns-in-Int t c =
+pub walk_place-returns-in-Int : goal.walk_place-returns-in-Int
+walk_place-returns-in-Int t c =
     let nodes = schema_nodes c.args.schema.now in
     let is : node_at nodes c.args.place.0 ≡ Node.int = sym c.node.ensures ∙ ap node_of c.in-Int.is in
     rw is (c.walk_int.ensures nodes)
 
-pub walk_node-returns-in-Long : goal.walk_node-returns-in-Long
-walk_node-returns-in-Long t c =
+pub walk_place-returns-in-Long : goal.walk_place-returns-in-Long
+walk_place-returns-in-Long t c =
     let nodes = schema_nodes c.args.schema.now in
     let is : node_at nodes c.args.place.0 ≡ Node.long = sym c.node.ensures ∙ ap node_of c.in-Long.is in
     rw is (c.walk_long.ensures nodes)
 
-pub walk_node-returns-in-Bytes : goal.walk_node-returns-in-Bytes
-walk_node-returns-in-Bytes t c =
+pub walk_place-returns-in-Bytes : goal.walk_place-returns-in-Bytes
+walk_place-returns-in-Bytes t c =
     let nodes = schema_nodes c.args.schema.now in
     let is : node_at nodes c.args.place.0 ≡ Node.bytes = sym c.node.ensures ∙ ap node_of c.in-Bytes.is in
     rw is (c.walk_bytes.ensures nodes)
 
-pub walk_node-returns-in-Str : goal.walk_node-returns-in-Str
-walk_node-returns-in-Str t c =
+pub walk_place-returns-in-Str : goal.walk_place-returns-in-Str
+walk_place-returns-in-Str t c =
     let nodes = schema_nodes c.args.schema.now in
     let is : node_at nodes c.args.place.0 ≡ Node.string = sym c.node.ensures ∙ ap node_of c.in-Str.is in
     rw is (c.walk_text.ensures nodes)
 
-pub walk_node-returns-in-Record : goal.walk_node-returns-in-Record
-walk_node-returns-in-Record t c =
+pub walk_place-returns-in-Record : goal.walk_place-returns-in-Record
+walk_place-returns-in-Record t c =
     let nodes = schema_nodes c.args.schema.now in
     let record_is = c.in-Record.record in
     let is : node_at nodes c.args.place.0 ≡ Node.record_of record_is.name record_is.aliases.items (seen_fields record_is.fields.items) = sym c.node.ensures ∙ ap node_of c.in-Record.is in
     rw (is, ← c.deref-in-Record.ensures.value) (c.walk_record.ensures record_is.name record_is.aliases.items)
 
-pub walk_node-returns-in-Enum : goal.walk_node-returns-in-Enum
-walk_node-returns-in-Enum t c =
+pub walk_place-returns-in-Enum : goal.walk_place-returns-in-Enum
+walk_place-returns-in-Enum t c =
     let nodes = schema_nodes c.args.schema.now in
     let enum_is = c.in-Enum.enumeration in
     let is : node_at nodes c.args.place.0 ≡ Node.enum enum_is.name enum_is.aliases.items (texts_of enum_is.symbols.items) enum_is.default = sym c.node.ensures ∙ ap node_of c.in-Enum.is in
     let l = c.len.ensures in
     rw is (c.walk_symbol.ensures nodes enum_is.name enum_is.aliases.items (texts_of enum_is.symbols.items) enum_is.default (l ∙ enum_is.symbols.ok.0 ∙ sym (texts-length enum_is.symbols.items)))
 
-pub walk_node-returns-in-Fixed : goal.walk_node-returns-in-Fixed
-walk_node-returns-in-Fixed t c =
+pub walk_place-returns-in-Fixed : goal.walk_place-returns-in-Fixed
+walk_place-returns-in-Fixed t c =
     let nodes = schema_nodes c.args.schema.now in
     let fixed_is = c.in-Fixed.fixed in
     let is : node_at nodes c.args.place.0 ≡ Node.fixed fixed_is.name fixed_is.aliases.items fixed_is.size = sym c.node.ensures ∙ ap node_of c.in-Fixed.is in
     rw is (c.walk_fixed.ensures nodes fixed_is.name fixed_is.aliases.items)
 
-pub walk_place-returns-in_err-enter : goal.walk_place-returns-in_err-enter
-walk_place-returns-in_err-enter t c =
-    let p = err_from_is_err_and c.from_residual.result c.from_residual.ensures.1 in
-    let nodes = schema_nodes c.args.schema.now in
-    rw (p.1, p.2) (enter_refused none_kept nodes (node_at nodes c.args.place.0) c.args.cursor.now c.enter.new.self c.in_err-enter.field-0.0 c.in_err-enter.ensures.refused)
+-- ---- Nodes with parts
 
-pub walk_place-returns-in_err-walk_node : goal.walk_place-returns-in_err-walk_node
-walk_place-returns-in_err-walk_node t c =
-    let p = err_from_is_err_and c.from_residual-in_err-walk_node.result c.from_residual-in_err-walk_node.ensures.1 in
-    let nodes = schema_nodes c.args.schema.now in
-    rw (p.1, p.2) (node_refused none_kept nodes (node_at nodes c.args.place.0) none_kept c.args.cursor.now c.enter.new.self c.walk_node.new.cursor c.walk_node.new.cursor
-    c.in_err-walk_node.field-0.0 c.in_ok-enter.ensures.entered c.in_err-walk_node.ensures)
+pub walk_array-returns-in_err-enter : goal.walk_array-returns-in_err-enter
+walk_array-returns-in_err-enter t c =
+    let p = err_from_is_err_and c.from_residual.result c.from_residual.ensures.1 in
+    rw (p.1, p.2) (enter_refused none_kept (schema_nodes c.args.schema.now) (Node.array c.args.place.0) c.args.cursor.now c.enter.new.self c.in_err-enter.field-0.0 c.in_err-enter.ensures.refused)
+
+pub walk_array-returns-in_err-walk_item_blocks : goal.walk_array-returns-in_err-walk_item_blocks
+walk_array-returns-in_err-walk_item_blocks t c =
+    let p = err_from_is_err_and c.from_residual-in_err-walk_item_blocks.result c.from_residual-in_err-walk_item_blocks.ensures.1 in
+    rw (p.1, p.2) (node_refused none_kept (schema_nodes c.args.schema.now) (Node.array c.args.place.0) none_kept c.args.cursor.now c.enter.new.self c.walk_item_blocks.new.cursor c.walk_item_blocks.new.cursor
+    c.in_err-walk_item_blocks.field-0.0 c.in_ok-enter.ensures.entered c.in_err-walk_item_blocks.ensures)
+
+pub walk_map-returns-in_err-enter : goal.walk_map-returns-in_err-enter
+walk_map-returns-in_err-enter t c =
+    let p = err_from_is_err_and c.from_residual.result c.from_residual.ensures.1 in
+    rw (p.1, p.2) (enter_refused none_kept (schema_nodes c.args.schema.now) (Node.map_of c.args.place.0) c.args.cursor.now c.enter.new.self c.in_err-enter.field-0.0 c.in_err-enter.ensures.refused)
+
+pub walk_map-returns-in_err-walk_entry_blocks : goal.walk_map-returns-in_err-walk_entry_blocks
+walk_map-returns-in_err-walk_entry_blocks t c =
+    let p = err_from_is_err_and c.from_residual-in_err-walk_entry_blocks.result c.from_residual-in_err-walk_entry_blocks.ensures.1 in
+    rw (p.1, p.2) (node_refused none_kept (schema_nodes c.args.schema.now) (Node.map_of c.args.place.0) none_kept c.args.cursor.now c.enter.new.self c.walk_entry_blocks.new.cursor c.walk_entry_blocks.new.cursor
+    c.in_err-walk_entry_blocks.field-0.0 c.in_ok-enter.ensures.entered c.in_err-walk_entry_blocks.ensures)
+
+pub walk_union-returns-in_err-enter : goal.walk_union-returns-in_err-enter
+walk_union-returns-in_err-enter t c =
+    let p = err_from_is_err_and c.from_residual.result c.from_residual.ensures.1 in
+    rw (p.1, p.2) (enter_refused none_kept (schema_nodes c.args.schema.now) (Node.union (places_of c.args.branches.now)) c.args.cursor.now c.enter.new.self c.in_err-enter.field-0.0 c.in_err-enter.ensures.refused)
+
+pub walk_union-returns-in_err-walk_branch : goal.walk_union-returns-in_err-walk_branch
+walk_union-returns-in_err-walk_branch t c =
+    let p = err_from_is_err_and c.from_residual-in_err-walk_branch.result c.from_residual-in_err-walk_branch.ensures.1 in
+    rw (p.1, p.2) (node_refused none_kept (schema_nodes c.args.schema.now) (Node.union (places_of c.args.branches.now)) none_kept c.args.cursor.now c.enter.new.self c.walk_branch.new.cursor c.walk_branch.new.cursor
+    c.in_err-walk_branch.field-0.0 c.in_ok-enter.ensures.entered c.in_err-walk_branch.ensures)
+
+pub walk_record-returns-in_err-enter : goal.walk_record-returns-in_err-enter
+walk_record-returns-in_err-enter t c = λ name aliases.
+    let p = err_from_is_err_and c.from_residual.result c.from_residual.ensures.1 in
+    rw (p.1, p.2) (enter_refused none_kept (schema_nodes c.args.schema.now) (Node.record_of name aliases (seen_fields c.args.fields.now)) c.args.cursor.now c.enter.new.self c.in_err-enter.field-0.0 c.in_err-enter.ensures.refused)
+
+pub walk_record-returns-in_err-walk_fields : goal.walk_record-returns-in_err-walk_fields
+walk_record-returns-in_err-walk_fields t c = λ name aliases.
+    let p = err_from_is_err_and c.from_residual-in_err-walk_fields.result c.from_residual-in_err-walk_fields.ensures.1 in
+    rw (p.1, p.2) (node_refused none_kept (schema_nodes c.args.schema.now) (Node.record_of name aliases (seen_fields c.args.fields.now)) none_kept c.args.cursor.now c.enter.new.self c.walk_fields.new.cursor c.walk_fields.new.cursor
+    c.in_err-walk_fields.field-0.0 c.in_ok-enter.ensures.entered (c.in_err-walk_fields.ensures name aliases))
+
+-- the depth that a record leaves
+pub walk_record-leave-requires : goal.walk_record-leave-requires
+walk_record-leave-requires t c =
+    let read = c.in_ok-walk_fields.ensures (record { namespace = []; simple = [] }) [] in
+    let same = read.found.1.moves.depth in
+    let entered = c.in_ok-enter.ensures.entered.depth in
+    let shallow = c.in_ok-enter.ensures.shallow in
+    omega arith
+
+pub walk_record-returns : goal.walk_record-returns
+walk_record-returns t c = λ name aliases.
+    node_left none_kept (schema_nodes c.args.schema.now) (Node.record_of name aliases (seen_fields c.args.fields.now)) c.args.cursor.now c.enter.new.self
+    c.walk_fields.new.cursor c.leave.new.self tt c.in_ok-enter.ensures.entered (c.in_ok-walk_fields.ensures name aliases) c.leave.ensures
 
 -- ---- Records
 
-pub walk_record-returns-in_err-walk_place : goal.walk_record-returns-in_err-walk_place
-walk_record-returns-in_err-walk_place t c = λ name aliases.
+pub walk_fields-returns-in_err-walk_place : goal.walk_fields-returns-in_err-walk_place
+walk_fields-returns-in_err-walk_place t c = λ name aliases.
     let p = err_from_is_err_and c.from_residual.result c.from_residual.ensures.1 in
     let nodes = schema_nodes c.args.schema.now in
     let fields = c.args.fields.now in
@@ -474,8 +521,8 @@ walk_record-returns-in_err-walk_place t c = λ name aliases.
     rw (p.1, p.2) (record_refused none_kept nodes name aliases (seen_fields fields) c.args.cursor.now c.walk_place.new.cursor e
     (field_breaks nodes (take i places) c.args.cursor.now c.loop-field.cursor so_far.0 so_far.1 places (drop (suc i) places) field.node.0 are e c.in_err-walk_place.ensures.refused))
 
-pub walk_record-loop-field-preserved : goal.walk_record-loop-field-preserved
-walk_record-loop-field-preserved t c =
+pub walk_fields-loop-field-preserved : goal.walk_fields-loop-field-preserved
+walk_fields-loop-field-preserved t c =
     let nodes = schema_nodes c.args.schema.now in
     let fields = c.args.fields.now in
     let places = field_places (seen_fields fields) in
@@ -492,8 +539,8 @@ walk_record-loop-field-preserved t c =
           (fields_push nodes (take i places) c.args.cursor.now c.loop-field.cursor so_far.0 so_far.1 field.node.0 c.walk_place.new.cursor found.0 found.1),
     )
 
-pub walk_record-returns : goal.walk_record-returns
-walk_record-returns t c = λ name aliases.
+pub walk_fields-returns : goal.walk_fields-returns
+walk_fields-returns t c = λ name aliases.
     let nodes = schema_nodes c.args.schema.now in
     let fields = c.args.fields.now in
     let places = field_places (seen_fields fields) in
@@ -505,8 +552,8 @@ walk_record-returns t c = λ name aliases.
 
 -- ---- Unions
 
-pub walk_union-returns : goal.walk_union-returns
-walk_union-returns t c =
+pub walk_branch-returns : goal.walk_branch-returns
+walk_branch-returns t c =
     let nodes = schema_nodes c.args.schema.now in
     let branches = c.args.branches.now in
     let start = c.args.cursor.now in

@@ -11,42 +11,51 @@ use Rattle.avro_binary.proofs.NodeSteps.{ArrayDone, MapDone, FieldsDone}
 use Rattle.avro_binary.proofs.walking.+walking.Given as goal
 
 abbrev pub decreases-walk_place : goal.decreases-walk_place
-decreases-walk_place l = 4 * l.cursor.now.depth
-
-abbrev pub decreases-walk_node : goal.decreases-walk_node
-decreases-walk_node l = 4 * l.cursor.now.depth + 3
+decreases-walk_place l = 4 * l.cursor.now.depth + 1
 
 abbrev pub decreases-walk_array : goal.decreases-walk_array
-decreases-walk_array l = 4 * l.cursor.now.depth + 2
+decreases-walk_array l = 4 * l.cursor.now.depth
 
 abbrev pub decreases-walk_map : goal.decreases-walk_map
-decreases-walk_map l = 4 * l.cursor.now.depth + 2
+decreases-walk_map l = 4 * l.cursor.now.depth
 
 abbrev pub decreases-walk_union : goal.decreases-walk_union
-decreases-walk_union l = 4 * l.cursor.now.depth + 2
+decreases-walk_union l = 4 * l.cursor.now.depth
 
 abbrev pub decreases-walk_record : goal.decreases-walk_record
-decreases-walk_record l = 4 * l.cursor.now.depth + 2
+decreases-walk_record l = 4 * l.cursor.now.depth
+
+abbrev pub decreases-walk_item_blocks : goal.decreases-walk_item_blocks
+decreases-walk_item_blocks l = 4 * l.cursor.now.depth + 3
+
+abbrev pub decreases-walk_entry_blocks : goal.decreases-walk_entry_blocks
+decreases-walk_entry_blocks l = 4 * l.cursor.now.depth + 3
+
+abbrev pub decreases-walk_branch : goal.decreases-walk_branch
+decreases-walk_branch l = 4 * l.cursor.now.depth + 3
+
+abbrev pub decreases-walk_fields : goal.decreases-walk_fields
+decreases-walk_fields l = 4 * l.cursor.now.depth + 3
 
 abbrev pub decreases-walk_items : goal.decreases-walk_items
-decreases-walk_items l = 4 * l.cursor.now.depth + 1
+decreases-walk_items l = 4 * l.cursor.now.depth + 2
 
 abbrev pub decreases-walk_entries : goal.decreases-walk_entries
-decreases-walk_entries l = 4 * l.cursor.now.depth + 1
+decreases-walk_entries l = 4 * l.cursor.now.depth + 2
 
 -- the blocks so far, which are of some items
-abbrev pub invariant-walk_array-loop-block : goal.invariant-walk_array-loop-block
-invariant-walk_array-loop-block l = (xs : List Value) × ArrayDone (schema_nodes l.schema) l.place.0 l.initial.cursor l.cursor [] xs
+abbrev pub invariant-walk_item_blocks-loop-block : goal.invariant-walk_item_blocks-loop-block
+invariant-walk_item_blocks-loop-block l = (xs : List Value) × ArrayDone (schema_nodes l.schema) l.place.0 l.initial.cursor l.cursor [] xs
 
-abbrev pub decreases-walk_array-loop-block : goal.decreases-walk_array-loop-block
-decreases-walk_array-loop-block l = l.cursor.nodes
+abbrev pub decreases-walk_item_blocks-loop-block : goal.decreases-walk_item_blocks-loop-block
+decreases-walk_item_blocks-loop-block l = l.cursor.nodes
 
-abbrev pub invariant-walk_map-loop-keys : goal.invariant-walk_map-loop-keys
-invariant-walk_map-loop-keys l =
+abbrev pub invariant-walk_entry_blocks-loop-keys : goal.invariant-walk_entry_blocks-loop-keys
+invariant-walk_entry_blocks-loop-keys l =
     (xs : List (List ℕ × Value)) × (keys : List (List ℕ)) × (l.keys ≡ key_set keys) × MapDone (schema_nodes l.schema) l.place.0 l.initial.cursor l.cursor keys xs
 
-abbrev pub decreases-walk_map-loop-keys : goal.decreases-walk_map-loop-keys
-decreases-walk_map-loop-keys l = l.cursor.nodes
+abbrev pub decreases-walk_entry_blocks-loop-keys : goal.decreases-walk_entry_blocks-loop-keys
+decreases-walk_entry_blocks-loop-keys l = l.cursor.nodes
 
 -- so many items so far
 abbrev pub invariant-walk_items-loop-done : goal.invariant-walk_items-loop-done
@@ -63,6 +72,6 @@ invariant-walk_entries-loop-done l =
     × FindsRun (EntriesRun (schema_nodes l.schema) limits (node_at (schema_nodes l.schema) l.place.0)) l.initial.cursor l.cursor before keys xs)
 
 -- the values of the fields before one
-abbrev pub invariant-walk_record-loop-field : goal.invariant-walk_record-loop-field
-invariant-walk_record-loop-field l =
+abbrev pub invariant-walk_fields-loop-field : goal.invariant-walk_fields-loop-field
+invariant-walk_fields-loop-field l =
     (xs : List Value) × FieldsDone (schema_nodes l.schema) (take l.field-index (field_places (seen_fields l.fields))) l.initial.cursor l.cursor xs

@@ -1,10 +1,29 @@
+use Rattle.std.proofs.Common.{ℕ}
+use Rattle.std.proofs.lemmas.Result.{err_from_is_err_and}
+use Rattle.avro_schema.specs.Node.{Node}
+use Rattle.avro_binary.specs.CursorReads.{left_node}
+use Rattle.avro_binary.specs.Elements.{IsIndex}
+use Rattle.avro_binary.proofs.CountSteps.{inside_of, finds_inside, counted_found, counted_refused}
 use Rattle.avro_binary.proofs.LeafReads.{symbol_found, symbol_refused}
+use Rattle.avro_binary.proofs.NodeSteps.{enter_refused}
 use Rattle.avro_binary.proofs.walking.walk_symbol.Goals as goal
+
+pub returns-in_err-count : goal.returns-in_err-count
+returns-in_err-count c = λ nodes name aliases texts default same.
+    let p = err_from_is_err_and c.from_residual.result c.from_residual.ensures.1 in
+    rw (p.1, p.2) (enter_refused (λ _ v. Unit {0}) nodes (Node.enum name aliases texts default) c.args.cursor.now c.count.new.self c.in_err-count.field-0.0 c.in_err-count.ensures.refused)
 
 pub returns-in-Ok : goal.returns-in-Ok
 returns-in-Ok c = λ nodes name aliases texts default same.
-    symbol_found (λ _ v. Unit {0}) nodes c.args.cursor.now c.index.new.self tt name aliases texts default c.args.symbols c.in-Ok.field-0 same c.in-Ok.ensures.found tt
+    let counted = c.count.new.self in
+    let after = c.index.new.self in
+    let found = c.in-Ok.ensures.found in
+    counted_found (λ _ v. Unit {0}) nodes (Node.enum name aliases texts default) c.args.cursor.now counted after tt c.in_ok-count.ensures.counted found.2.depth
+    (symbol_found (λ _ v. Unit {0}) nodes (inside_of counted) (inside_of after) tt name aliases texts default c.args.symbols c.in-Ok.field-0 same (finds_inside (λ (x : ℕ). x) (IsIndex c.args.symbols) counted after c.in-Ok.field-0 found) tt)
 
 pub returns-in-Err : goal.returns-in-Err
 returns-in-Err c = λ nodes name aliases texts default same.
-    symbol_refused (λ _ v. Unit {0}) nodes c.args.cursor.now c.index.new.self c.in-Err.error name aliases texts default c.args.symbols same c.in-Err.ensures.refused
+    let counted = c.count.new.self in
+    let after = c.index.new.self in
+    counted_refused (λ _ v. Unit {0}) nodes (Node.enum name aliases texts default) c.args.cursor.now counted (left_node (inside_of after)) after c.in-Err.error c.in_ok-count.ensures.counted
+    (symbol_refused (λ _ v. Unit {0}) nodes (inside_of counted) (inside_of after) c.in-Err.error name aliases texts default c.args.symbols same c.in-Err.ensures.refused)

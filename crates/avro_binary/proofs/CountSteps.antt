@@ -1,0 +1,57 @@
+-- What counting a node without parts answers, and reading it then.
+use Rattle.std.proofs.Common.{◌≡◌, ◌⊎◌, ℕ, suc, ◌-◌, List, Result, Ok, Err, Some, refl, ap, subst, arith}
+use Rattle.std.specs.Prelude.{OnOk}
+use Rattle.std.specs.Result.{IfErr}
+use Rattle.avro_schema.specs.Value.{Value}
+use Rattle.avro_schema.specs.Node.{Node}
+use Rattle.avro_binary.specs.Fault.{limit_exceeded}
+use Rattle.avro_binary.specs.Seen.{read_fault}
+use Rattle.avro_binary.specs.CursorValue.{CursorValue, Passes, Counts}
+use Rattle.avro_binary.specs.CursorReads.{ReadsNode, outside, left_node}
+use Rattle.avro_binary.specs.Elements.{Finds}
+use Rattle.avro_binary.specs.declared.error.ReadError.{ReadError}
+use Rattle.avro_binary.proofs.LeafReads.{null_found}
+use Rattle.avro_binary.proofs.NodeSteps.{enter_refused}
+
+-- a cursor in the node that it counts, of one that counted it
+abbrev pub inside_of : CursorValue → CursorValue
+inside_of c = record c { depth = c.depth - 1 }
+
+pub passes_inside : (counted after : CursorValue) (front : List ℕ) → Passes counted front after → Passes (inside_of counted) front (inside_of after)
+passes_inside counted after front p =
+    record { split = p.split; place = p.place; depth = ap (λ (n : ℕ). n - 1) p.depth; nodes = p.nodes; blob = p.blob }
+
+pub finds_inside : {A R : Type 0} (seen : R → A) (IsElement : A → List ℕ → Type 0) (counted after : CursorValue) (r : R) → Finds seen IsElement counted after r
+    → Finds seen IsElement (inside_of counted) (inside_of after) r
+finds_inside seen IsElement counted after r found = (found.0, found.1, passes_inside counted after found.0 found.2)
+
+-- the cursor before it counted
+outside-inside : (before counted : CursorValue) → Counts before counted → outside (inside_of counted) ≡ before
+outside-inside before counted c =
+    let deep : suc (counted.depth - 1) ≡ before.depth = let d = c.depth in let some = c.some in omega arith in
+    let many : suc counted.nodes ≡ before.nodes = let n = c.nodes in omega arith in
+    λ i. record { bytes = c.bytes i; place = c.place i; depth = deep i; nodes = many i; blob = c.blob i }
+
+left-inside : (before counted after : CursorValue) → Counts before counted → after.depth ≡ counted.depth → left_node (inside_of after) ≡ after
+left-inside before counted after c same =
+    let deep : suc (after.depth - 1) ≡ after.depth = let d = c.depth in let some = c.some in omega arith in
+    λ i. record after { depth = deep i }
+
+module _ {R : Type 0} (stands : R → Value → Type 0) (nodes : List Node) where
+  pub counted_found : (n : Node) (before counted after : CursorValue) (r : R) → Counts before counted → after.depth ≡ counted.depth
+      → ReadsNode stands nodes n (outside (inside_of counted)) (left_node (inside_of after)) (Ok r) → ReadsNode stands nodes n before after (Ok r)
+  counted_found n before counted after r c same reads =
+      subst (λ (a : CursorValue). ReadsNode stands nodes n before a (Ok r)) (left-inside before counted after c same)
+      (subst (λ (b : CursorValue). ReadsNode stands nodes n b (left_node (inside_of after)) (Ok r)) (outside-inside before counted c) reads)
+
+  pub counted_refused : (n : Node) (before counted elsewhere after : CursorValue) (error : ReadError) → Counts before counted
+      → ReadsNode stands nodes n (outside (inside_of counted)) elsewhere (Err error) → ReadsNode stands nodes n before after (Err error)
+  counted_refused n before counted elsewhere after error c reads =
+      subst (λ (b : CursorValue). ReadsNode stands nodes n b after (Err error)) (outside-inside before counted c) (record { found = tt; refused = reads.refused })
+
+  -- null takes no bytes
+  pub null_counted : (before after : CursorValue) (r : R) (result : Result R ReadError) → OnOk result (Counts before after)
+      → IfErr result (λ e. (read_fault e ≡ Some limit_exceeded) × ((before.depth ≡ 0) ⊎ (before.nodes ≡ 0)))
+      → ((x : R) → stands x Value.null) → ReadsNode stands nodes Node.null before after result
+  null_counted before after r (Ok x) counted refused all = counted_found Node.null before after after x counted refl (null_found stands nodes (inside_of after) x (all x))
+  null_counted before after r (Err e) counted refused all = enter_refused stands nodes Node.null before after e refused
