@@ -1,16 +1,16 @@
 """Writes a file that holds one Avro datum in binary again and again, for the walkers to read.
 
-    generate.py records|strings FILE [MEGABYTES]
+    generate.py records|strings|keys FILE [MEGABYTES]
 
 The datum of `records` is an array of 250,000 records {a long, b int, c string}, that of `strings` an array of
-1,000,000 strings: 1,000,001 nodes. Items stand in blocks of 1,000, and each fourth block has its size. The same
+1,000,000 strings, that of `keys` a map of nulls with 1,000,000 keys: 1,000,001 nodes. Items stand in blocks of 1,000, and each fourth block has its size. The same
 words write the same bytes.
 """
 
 import random
 import sys
 
-ITEMS = {"records": 250_000, "strings": 1_000_000}
+ITEMS = {"records": 250_000, "strings": 1_000_000, "keys": 1_000_000}
 BLOCK = 1_000
 LETTERS = "abcdefghijklmnopqrstuvwxyz0123456789 _-."
 WIDE = "éüß€漢字😀"
@@ -42,8 +42,13 @@ def record(choose):
     return number(long) + number(choose.randrange(-1_000, 1_000)) + string(choose)
 
 
+def key(choose):
+    """A key of 16 digits, with null behind it."""
+    return number(16) + b"%016x" % choose.getrandbits(64)
+
+
 def array(choose, item, count):
-    """An array in blocks."""
+    """An array, or a map, in blocks."""
     parts = []
     for block in range(count // BLOCK):
         items = b"".join(item(choose) for _ in range(BLOCK))
@@ -57,7 +62,7 @@ def array(choose, item, count):
 
 def main(kind, path, megabytes="100"):
     choose = random.Random(1)
-    datum = array(choose, {"records": record, "strings": string}[kind], ITEMS[kind])
+    datum = array(choose, {"records": record, "strings": string, "keys": key}[kind], ITEMS[kind])
     with open(path, "wb") as file:
         for _ in range(int(megabytes) * 1_000_000 // len(datum) + 1):
             file.write(datum)

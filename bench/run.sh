@@ -1,7 +1,7 @@
 #!/usr/bin/env bash
-# Walks a file of 100 MB by the C walker and, where it is built, by `avro_bench walk`:
+# Walks a file of 100 MB by the C walker, but for keys, and, where it is built, by `avro_bench walk`:
 #
-#     bench/run.sh records|strings
+#     bench/run.sh records|strings|keys
 #
 # It prints what each found and its least processor time of five runs, reading the file included.
 set -euo pipefail
@@ -23,8 +23,10 @@ measure() {
     done | awk '{ time = $1 + $2 } NR == 1 || time < least { least = time } END { printf "%.3f seconds\n", least }'
 }
 
-echo "C:"
-measure "$work/walk" "$work/$kind" "$kind"
+if [ "$kind" != keys ]; then
+    echo "C:"
+    measure "$work/walk" "$work/$kind" "$kind"
+fi
 if [ -x "$ours" ]; then
     echo "avro_bench:"
     measure "$ours" walk "$work/$kind" "$kind"

@@ -37,7 +37,7 @@ fn run(rt: &HostRuntime, word: &str) -> anyhow::Result<()> {
 
 /// Says which words there are.
 fn usage() -> anyhow::Result<()> {
-    bail!("avro_bench check | draft | schema | walk FILE records|strings")
+    bail!("avro_bench check | draft | schema | walk FILE records|strings|keys")
 }
 
 /// Makes a small schema and reads another, and prints their numbers of nodes.

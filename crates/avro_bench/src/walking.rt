@@ -33,20 +33,28 @@ fn count_data(alloc: Global, schema: &Schema, bytes: &[u8]) -> anyhow::Result<us
     Ok(data)
 }
 
-/// The schema of the data of a kind: an array of records {a long, b int, c string}, or of strings.
+/// The schema of the data of a kind: an array of records {a long, b int, c string}, an array of
+/// strings, or a map of nulls, which is a map for its keys alone.
 fn schema_of(alloc: Global, kind: &str) -> anyhow::Result<Schema> {
     let mut draft = Draft::new(alloc);
-    draft.add(Node::Array(NodeId(1)))?;
     match kind {
         "records" => {
+            draft.add(Node::Array(NodeId(1)))?;
             draft.add(record(alloc)?)?;
             draft.add(Node::Long)?;
             draft.add(Node::Int)?;
+            draft.add(Node::Str)?;
         }
-        "strings" => {}
-        _ => bail!("avro_bench walk FILE records|strings"),
+        "strings" => {
+            draft.add(Node::Array(NodeId(1)))?;
+            draft.add(Node::Str)?;
+        }
+        "keys" => {
+            draft.add(Node::Map(NodeId(1)))?;
+            draft.add(Node::Null)?;
+        }
+        _ => bail!("avro_bench walk FILE records|strings|keys"),
     }
-    draft.add(Node::Str)?;
     Ok(draft.finish()?)
 }
 

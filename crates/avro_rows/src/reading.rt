@@ -145,6 +145,22 @@ fn counts_are_limited(rt: HostRuntime) -> Result<(), Fail> {
 }
 
 #[test]
+fn announced_bytes_are_waited_for(rt: HostRuntime) -> Result<(), Fail> {
+    let alloc = rt.alloc();
+    let limits = Limits::default();
+    // A count of 1,048,575 items and a length of 16,777,216 bytes, with one byte behind each.
+    let counts: [(&[u8], &str, &str); 1] = [(b"\xfe\xff\x7f\x02", "B1 at 4", "B1 at 4")];
+    let schema = array_of(alloc, Node::Int)?;
+    assert_eq!(rt; wrong_row(alloc, &schema, &limits, &counts)?, None);
+    let lengths: [(&[u8], &str, &str); 1] = [(b"\x80\x80\x80\x10a", "B1 at 4", "B1 at 4")];
+    let schema = schema_of(alloc, Node::Str)?;
+    assert_eq!(rt; wrong_row(alloc, &schema, &limits, &lengths)?, None);
+    let schema = schema_of(alloc, Node::Bytes)?;
+    assert_eq!(rt; wrong_row(alloc, &schema, &limits, &lengths)?, None);
+    Ok(())
+}
+
+#[test]
 fn maps_are_read(rt: HostRuntime) -> Result<(), Fail> {
     let alloc = rt.alloc();
     let rows: [(&[u8], &str, &str); 5] = [
