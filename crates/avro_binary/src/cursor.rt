@@ -65,7 +65,7 @@ impl<'a> Cursor<'a> {
     }
 
     /// How many nodes are left of the limit.
-    pub fn nodes(&self) -> u32
+    pub(crate) fn nodes(&self) -> u32
         ensures count { result ≡ self.now.nodes }
         ensures in_range { self.now.nodes < 2 ^ 32 }
     {
