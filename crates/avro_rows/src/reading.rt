@@ -183,13 +183,26 @@ fn maps_are_read(rt: HostRuntime) -> Result<(), Fail> {
 #[test]
 fn records_are_read(rt: HostRuntime) -> Result<(), Fail> {
     let alloc = rt.alloc();
-    let rows: [(&[u8], &str, &str); 2] = [
+    let rows: [(&[u8], &str, &str); 6] = [
         (b"\x36\x06foo!", "{\"a\":27,\"b\":\"foo\"} 5", "5"),
+        (b"", "B1 at 0", "B1 at 0"),
+        (b"\x36", "B1 at 1", "B1 at 1"),
+        (b"\x36\x06", "B1 at 2", "B1 at 2"),
+        (b"\x36\x06f", "B1 at 2", "B1 at 2"),
         (b"\x36\x06fo", "B1 at 2", "B1 at 2"),
     ];
     let fields = vec![in alloc; field(alloc, "a", 1, None)?, field(alloc, "b", 2, None)?]?;
     let nodes = vec![in alloc; record(alloc, "R", fields)?, Node::Long, Node::Str]?;
     let schema = finished(alloc, nodes)?;
+    assert_eq!(rt; wrong_row(alloc, &schema, &Limits::default(), &rows)?, None);
+    Ok(())
+}
+
+#[test]
+fn a_record_without_fields_takes_no_bytes(rt: HostRuntime) -> Result<(), Fail> {
+    let alloc = rt.alloc();
+    let rows: [(&[u8], &str, &str); 2] = [(b"", "{} 0", "0"), (b"\xff\xff", "{} 0", "0")];
+    let schema = schema_of(alloc, record(alloc, "R", Vec::new(alloc))?)?;
     assert_eq!(rt; wrong_row(alloc, &schema, &Limits::default(), &rows)?, None);
     Ok(())
 }
