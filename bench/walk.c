@@ -3,9 +3,9 @@
  *     walk FILE records|strings
  *
  * Each datum of `records` is an array of records {a long, b int, c string}, each of `strings` an array of strings.
- * The checks are those of `avro_binary::walk` under the default limits: a number is the shortest of its value and in
- * range, a count is within the nodes that are left, a length is within the limit and the input, a string is UTF-8, and
- * a block's size is that of its items. The depth is that of the type, so it needs no check.
+ * The checks are those of `avro_binary::walk` under the default limits: a number is in range, a count is within the
+ * nodes that are left, a length is within the limit and the input, a string is UTF-8, and a block's size is that of its
+ * items. A number may be padded. The depth is that of the type, so it needs no check.
  */
 
 #include <stdint.h>
@@ -55,9 +55,6 @@ static inline enum fault read_number(struct walk *walk, unsigned most, uint8_t t
             return fail(walk, INVALID_NUMBER, place);
         }
         if (byte < 0x80) {
-            if (byte == 0 && group > 0) {
-                return fail(walk, INVALID_NUMBER, place);
-            }
             break;
         }
     }

@@ -11,7 +11,7 @@ use large::{Shape, draft_of};
 use measure::print_drafts;
 use std::env;
 use texts::{print_texts, small_text};
-use walking::print_walk;
+use walking::{print_decode, print_walk};
 
 fn main(rt: HostRuntime) -> anyhow::Result<()> {
     let words: Vec<String> = env::args(&rt)?.skip(1).collect(rt.alloc())?;
@@ -20,6 +20,9 @@ fn main(rt: HostRuntime) -> anyhow::Result<()> {
         [word] => run(&rt, word.as_str()),
         [word, file, kind] if word.as_str() == "walk" => {
             print_walk(&rt, file.as_str(), kind.as_str())
+        }
+        [word, file, kind] if word.as_str() == "decode" => {
+            print_decode(&rt, file.as_str(), kind.as_str())
         }
         _ => usage(),
     }

@@ -1,7 +1,7 @@
 //! Walking files of data.
 
 use anyhow::{Context, bail, ensure};
-use avro_binary::walk;
+use avro_binary::{decode, walk};
 use avro_name::{FullName, Namespace};
 use avro_schema::{Draft, Field, Limits, Node, NodeId, RecordNode, Schema};
 use std::alloc::{AllocError, Global};
@@ -14,6 +14,32 @@ pub(crate) fn print_walk(rt: &HostRuntime, path: &str, kind: &str) -> anyhow::Re
     let data = count_data(rt.alloc(), &schema, &bytes)?;
     println!(rt; "data {data} bytes {}", bytes.len())?;
     Ok(())
+}
+
+/// Decodes a file that holds data of a kind one after another, and prints how many there are.
+pub(crate) fn print_decode(rt: &HostRuntime, path: &str, kind: &str) -> anyhow::Result<()> {
+    let schema = schema_of(rt.alloc(), kind)?;
+    let bytes = fs::read(rt, path)?;
+    let data = decode_data(rt.alloc(), &schema, &bytes)?;
+    println!(rt; "data {data} bytes {}", bytes.len())?;
+    Ok(())
+}
+
+/// How many data of a schema's root stand one after another in bytes.
+fn decode_data(alloc: Global, schema: &Schema, bytes: &[u8]) -> anyhow::Result<usize> {
+    let limits = Limits::default();
+    let mut rest = bytes;
+    let mut data = 0;
+    while !rest.is_empty() {
+        let (_datum, len) = decode(alloc, schema, schema.root(), rest, &limits).context(
+            format_args!("datum {data}"),
+        )?;
+        ensure!(len > 0, "datum {data} has no bytes");
+        let (_, others) = rest.split_at(len);
+        rest = others;
+        data += 1;
+    }
+    Ok(data)
 }
 
 /// How many data of a schema's root stand one after another in bytes.

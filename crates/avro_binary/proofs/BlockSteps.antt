@@ -2,17 +2,16 @@
 use Rattle.std.proofs.Common.{◌≡◌, ℕ, ◌+◌, ◌<◌, pos, List, [], ◌++◌, length, Result, Ok, Err, Option, Some, None, refl, sym, ap, ◌∙◌, subst, append_assoc, arith}
 use Rattle.std.specs.Prelude.{neg_ℤ}
 use Rattle.std.specs.List.{concat}
-use Rattle.avro_zigzag.specs.Number.{SpellsNumber}
+use Rattle.avro_zigzag.specs.Number.{SpellsLong}
 use Rattle.avro_binary.specs.Blocks.{IsInBlocks, counted as counted_block, sized as sized_block}
 use Rattle.avro_binary.specs.Fault.{ReadFault, end_of_input, invalid_number, invalid_boolean, invalid_text, unknown_index, invalid_length, wrong_block_size, duplicate_key, limit_exceeded, behind}
-use Rattle.avro_binary.specs.Breaks.{BlocksBreak, item_fails, size_differs, later_breaks, Head, counted, sized, head_count, head_bytes, IsHead, HasSize, Left}
-use Rattle.avro_binary.specs.BlockHeads.{HeadBreaks, IsHeadOrEnd, IsBlock, IsBlockOrEnd, EndsBlock}
+use Rattle.avro_binary.specs.Breaks.{HeadBreaks, BlocksBreak, head_breaks, item_fails, size_differs, later_breaks, Head, counted, sized, head_count, head_bytes, IsHead, HasSize, Left}
+use Rattle.avro_binary.specs.BlockHeads.{IsHeadOrEnd, IsBlock, IsBlockOrEnd, EndsBlock}
 use Rattle.avro_binary.specs.CursorValue.{CursorValue, Passes}
 use Rattle.avro_binary.specs.CursorReads.{Moves, ReportsFault, left_at, FindsRun, RunBreaks}
 use Rattle.avro_binary.specs.Elements.{Refuses}
 use Rattle.avro_binary.specs.declared.block.Block.{Block}
 use Rattle.avro_binary.specs.declared.error.ReadError.{ReadError}
-use Rattle.avro_binary.proofs.HeadLaws.{blocks_break}
 use Rattle.avro_binary.proofs.OneFaultParts.{behind-append}
 use Rattle.avro_binary.proofs.RunLaws.{IsRun}
 use Rattle.avro_binary.proofs.RunSteps.{moves-none, moves-passed, moves-join, report_moved}
@@ -51,7 +50,7 @@ head_read before after block (None, front, is, passes, answer) = absurd answer
 -- the end that was read
 pub record EndRead (before after : CursorValue) : Type 0 where
   pub front : List ℕ
-  pub spelled : SpellsNumber (pos 0) front
+  pub spelled : SpellsLong (pos 0) front
   pub passes : Passes before front after
 
 pub end_read : (before after : CursorValue)
@@ -87,13 +86,13 @@ pub block_first : (left : ℕ) (head : Head) (block later : List (List ℕ)) (re
 block_first left (counted count count_bytes) block later rest is same size blocks =
     let some = is.0 in
     let few = is.1 in
-    counted_block block later count_bytes rest refl (omega arith) (omega arith) (subst (λ (n : ℕ). SpellsNumber (pos n) count_bytes) (sym same) is.3) refl blocks
+    counted_block block later count_bytes rest refl (omega arith) (omega arith) (subst (λ (n : ℕ). SpellsLong (pos n) count_bytes) (sym same) is.3) refl blocks
 block_first left (sized count size count_bytes size_bytes) block later rest is same has blocks =
     let some = is.0 in
     let few = is.1 in
     let short = is.3 in
     sized_block block later count_bytes size_bytes rest refl (omega arith) (omega arith) (let s : size ≡ length (concat block) = has in omega arith)
-    (subst (λ (n : ℕ). SpellsNumber (neg_ℤ (pos n)) count_bytes) (sym same) is.4) (subst (λ (n : ℕ). SpellsNumber (pos n) size_bytes) has is.5) refl blocks
+    (subst (λ (n : ℕ). SpellsLong (neg_ℤ (pos n)) count_bytes) (sym same) is.4) (subst (λ (n : ℕ). SpellsLong (pos n) size_bytes) has is.5) refl blocks
 
 -- ---- The blocks so far
 
@@ -204,4 +203,4 @@ module _ {E : Type 0} (run : Left → List E → List (List ℕ) → Left → Ty
       → Refuses (HeadBreaks now.nodes) now e → ReportsFault (BlocksBreak are_whole item_breaks (left_at start [])) start e
   head_refused start now keys xs done e refused =
       report_moved start now done.front e (HeadBreaks now.nodes) (BlocksBreak are_whole item_breaks (left_at start [])) done.moves
-      (λ f h. done.breaks f (blocks_break are_whole item_breaks (left_at now keys) now.bytes f h)) (rw (refused.2) (refused.0, refused.1, refl))
+      (λ f h. done.breaks f (head_breaks h)) (rw (refused.2) (refused.0, refused.1, refl))

@@ -3,7 +3,7 @@ use Rattle.std.proofs.Common.{◌≡◌, ◌≢◌, ℕ, zero, suc, ◌-◌, ◌
 use Rattle.std.specs.Prelude.{neg_ℤ, nat_abs}
 use Rattle.std.specs.List.{concat}
 use Rattle.std.proofs.lemmas.Bool.Decides.{nat_tests}
-use Rattle.avro_zigzag.specs.Number.{SpellsNumber, is_long}
+use Rattle.avro_zigzag.specs.Number.{SpellsLong, is_long}
 use Rattle.avro_zigzag.proofs.Spelling.{one_spelling_lem}
 use Rattle.avro_binary.specs.Blocks.{IsInBlocks}
 use Rattle.avro_binary.specs.Breaks.{Head, head_count, head_bytes, IsHead, HasSize}
@@ -34,7 +34,7 @@ pub record FirstNumber (items : List (List ℕ)) (front : List ℕ) : Type 0 whe
   pub v : ℤ
   pub number : List ℕ
   pub rest : List ℕ
-  pub spelled : SpellsNumber v number
+  pub spelled : SpellsLong v number
   pub split : front ≡ number ++ rest
   pub in_range : is_long v ≡ true
   pub not_least : v ≢ negsuc (2 ^ 63 - 1)
@@ -81,11 +81,11 @@ pub record FirstSize (bytes : List ℕ) : Type 0 where
   pub size : ℕ
   pub number : List ℕ
   pub rest : List ℕ
-  pub spelled : SpellsNumber (pos size) number
+  pub spelled : SpellsLong (pos size) number
   pub split : bytes ≡ number ++ rest
   pub short : size < 2 ^ 63
 
-pub first_size : (items : List (List ℕ)) (front count x y : List ℕ) (n : ℕ) → IsInBlocks items front → SpellsNumber (negsuc n) count → front ++ y ≡ count ++ x → FirstSize x
+pub first_size : (items : List (List ℕ)) (front count x y : List ℕ) (n : ℕ) → IsInBlocks items front → SpellsLong (negsuc n) count → front ++ y ≡ count ++ x → FirstSize x
 first_size _ front count x y n (IsInBlocks.no_more s) t e = let same = (one_spelling_lem (pos 0) (negsuc n) front count y x s t e).1 in absurd cc
 first_size items front count x y n (IsInBlocks.counted block later count' rest e' some few s split blocks) t e =
     let joined : count' ++ (concat block ++ (rest ++ y)) ≡ count ++ x = sym (joined_three count' (concat block) rest y) ∙ ap (λ (f : List ℕ). f ++ y) (sym split) ∙ e in

@@ -37,7 +37,7 @@ left-inside before counted after c same =
     let deep : suc (after.depth - 1) ≡ after.depth = let d = c.depth in let some = c.some in omega arith in
     λ i. record after { depth = deep i }
 
-module _ {R : Type 0} (stands : R → Value → Type 0) (nodes : List Node) where
+module _ {R : Type 0} {stands : R → Value → Type 0} (nodes : List Node) where
   pub counted_found : (n : Node) (before counted after : CursorValue) (r : R) → Counts before counted → after.depth ≡ counted.depth
       → ReadsNode stands nodes n (outside (inside_of counted)) (left_node (inside_of after)) (Ok r) → ReadsNode stands nodes n before after (Ok r)
   counted_found n before counted after r c same reads =
@@ -48,10 +48,3 @@ module _ {R : Type 0} (stands : R → Value → Type 0) (nodes : List Node) wher
       → ReadsNode stands nodes n (outside (inside_of counted)) elsewhere (Err error) → ReadsNode stands nodes n before after (Err error)
   counted_refused n before counted elsewhere after error c reads =
       subst (λ (b : CursorValue). ReadsNode stands nodes n b after (Err error)) (outside-inside before counted c) (record { found = tt; refused = reads.refused })
-
-  -- null takes no bytes
-  pub null_counted : (before after : CursorValue) (r : R) (result : Result R ReadError) → OnOk result (Counts before after)
-      → IfErr result (λ e. (read_fault e ≡ Some limit_exceeded) × ((before.depth ≡ 0) ⊎ (before.nodes ≡ 0)))
-      → ((x : R) → stands x Value.null) → ReadsNode stands nodes Node.null before after result
-  null_counted before after r (Ok x) counted refused all = counted_found Node.null before after after x counted refl (null_found stands nodes (inside_of after) x (all x))
-  null_counted before after r (Err e) counted refused all = enter_refused stands nodes Node.null before after e refused

@@ -5,7 +5,7 @@ use Rattle.std.proofs.lemmas.Int.{ints}
 use Rattle.std.proofs.Math.Seq.{take-append_seam}
 use Rattle.std.specs.Str.{is_utf8, IsUtf8}
 use Rattle.std.proofs.lemmas.Str.{IsUtf8-from_is_utf8}
-use Rattle.avro_zigzag.specs.Number.{SpellsNumber}
+use Rattle.avro_zigzag.specs.Number.{SpellsInt, SpellsLong}
 use Rattle.avro_zigzag.specs.NumberFault.{LongFails, IntFails}
 use Rattle.avro_zigzag.specs.declared.VarError.{VarError}
 use Rattle.avro_zigzag.proofs.Spelling.{is_long-zigzag}
@@ -19,7 +19,7 @@ use Rattle.avro_binary.specs.declared.error.ReadError.{ReadError}
 use Rattle.avro_binary.proofs.ElementLaws.{element_found, element_refused, int_part, long_part, boolean_part, index_part}
 
 pub int_found : (before after : CursorValue) (bytes : List ℕ) (value answer : ℤ) (len : ℕ) → bytes ≡ before.bytes → answer ≡ value
-    → SpellsNumber value (take len bytes) → is_int value ≡ true → Passes before (take len before.bytes) after
+    → SpellsInt value (take len bytes) → is_int value ≡ true → Passes before (take len before.bytes) after
     → ReadsElement (λ v. v) IsInt IntBreaks before after (Ok answer)
 int_found before after bytes value answer len same is spelled in_range passes =
     element_found (λ v. v) IsInt IntBreaks int_part before after answer (take len before.bytes)
@@ -33,7 +33,7 @@ int_refused before bytes e error place same at fails reports =
     (e, subst (λ (b : List ℕ). IntFails b e) same fails, refl) (reports ∙ ap (λ (n : ℕ). Some (behind n (number_fault e))) at) refl
 
 pub long_found : (before after : CursorValue) (bytes : List ℕ) (value answer : ℤ) (len : ℕ) → bytes ≡ before.bytes → answer ≡ value
-    → SpellsNumber value (take len bytes) → is_long value ≡ true → Passes before (take len before.bytes) after
+    → SpellsLong value (take len bytes) → is_long value ≡ true → Passes before (take len before.bytes) after
     → ReadsElement (λ v. v) IsLong LongBreaks before after (Ok answer)
 long_found before after bytes value answer len same is spelled in_range passes =
     element_found (λ v. v) IsLong LongBreaks long_part before after answer (take len before.bytes)
@@ -71,7 +71,7 @@ boolean_refused before bytes x place same at some high =
     (boolean-high before.bytes x (rw (← same) some) high) (from_front invalid_boolean before.place place at) refl
 
 pub index_unknown : (before : CursorValue) (bytes : List ℕ) (choices : ℕ) (value : ℤ) (len place : ℕ) → bytes ≡ before.bytes → place ≡ before.place
-    → SpellsNumber value (take len bytes) → is_int value ≡ true → is_index choices value ≡ false
+    → SpellsInt value (take len bytes) → is_int value ≡ true → is_index choices value ≡ false
     → ReadsElement (λ n. n) (IsIndex choices) (IndexBreaks choices) before before (Err (ReadError.UnknownIndex place))
 index_unknown before bytes choices value len place same at spelled in_range none =
     element_refused (λ n. n) (IsIndex choices) (IndexBreaks choices) (index_part choices) before before (ReadError.UnknownIndex place) (unknown_index 0)
@@ -79,11 +79,11 @@ index_unknown before bytes choices value len place same at spelled in_range none
     (from_front unknown_index before.place place at) refl
 
 pub index_found : (before after : CursorValue) (bytes : List ℕ) (choices : ℕ) (value : ℤ) (answer len : ℕ) → bytes ≡ before.bytes → value ≡ pos answer
-    → answer < choices → SpellsNumber value (take len bytes) → is_int value ≡ true → Passes before (take len before.bytes) after
+    → answer < choices → SpellsInt value (take len bytes) → is_int value ≡ true → Passes before (take len before.bytes) after
     → ReadsElement (λ n. n) (IsIndex choices) (IndexBreaks choices) before after (Ok answer)
 index_found before after bytes choices value answer len same is small spelled in_range passes =
     element_found (λ n. n) (IsIndex choices) (IndexBreaks choices) (index_part choices) before after answer (take len before.bytes)
-    (small, (subst (λ (v : ℤ). is_int v ≡ true) is in_range, subst (λ (v : ℤ). SpellsNumber v (take len before.bytes)) is (rw (← same) spelled))) passes
+    (small, (subst (λ (v : ℤ). is_int v ≡ true) is in_range, subst (λ (v : ℤ). SpellsInt v (take len before.bytes)) is (rw (← same) spelled))) passes
 
 pub index_refused : (before : CursorValue) (bytes : List ℕ) (choices : ℕ) (e : VarError) (error : ReadError) (place : ℕ) → bytes ≡ before.bytes → place ≡ before.place
     → IntFails bytes e → read_fault error ≡ Some (behind place (number_fault e))
@@ -93,7 +93,7 @@ index_refused before bytes choices e error place same at fails reports =
     (number_breaks (e, subst (λ (b : List ℕ). IntFails b e) same fails, refl)) (reports ∙ ap (λ (n : ℕ). Some (behind n (number_fault e))) at) refl
 
 -- a number that was read stands at the front
-pub starts_with_long : (v : ℤ) (bytes : List ℕ) (len : ℕ) → SpellsNumber v (take len bytes) → is_long v ≡ true → StartsWithLong v bytes (take len bytes) (drop len bytes)
+pub starts_with_long : (v : ℤ) (bytes : List ℕ) (len : ℕ) → SpellsLong v (take len bytes) → is_long v ≡ true → StartsWithLong v bytes (take len bytes) (drop len bytes)
 starts_with_long v bytes len spelled in_range = record { spelled = spelled; in_range = in_range; split = sym (take-append-drop len bytes) }
 
 module _ (is_content : List ℕ → Bool) (blob : ℕ) (bytes : List ℕ) where

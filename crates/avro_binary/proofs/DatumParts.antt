@@ -1,6 +1,6 @@
--- How data with parts are seen.
-use Rattle.std.proofs.Common.{◌≡◌, ℕ, map, sym, ap, ◌∙◌}
-use Rattle.std.specs.Global.{Vec, Box}
+-- How a record is seen.
+use Rattle.std.proofs.Common.{◌≡◌, map, sym, ap, ◌∙◌}
+use Rattle.std.specs.Global.{Vec}
 use Rattle.avro_schema.specs.Value.{Value}
 use Rattle.avro_schema.specs.Seen.{value_of, values_from, view_step}
 use Rattle.avro_schema.specs.declared.datum.Datum.{Datum}
@@ -9,11 +9,5 @@ use Rattle.avro_schema.specs.declared.datum.Datum.TheViews as view
 use Rattle.avro_schema.specs.declared.datum.Datum.TheVariants as variants
 use Rattle.avro_schema.specs.declared.datum.Datum.TheFolds.{fold-roll-Datum}
 
-pub value_of-Array : (v : Vec Datum) → value_of (view.Array v) ≡ Value.array (values_from (map value_of v.items))
-value_of-Array v = ap value_of (sym (variants.rolls-Array v)) ∙ fold-roll-Datum Value view_step (Datum-F.Array v)
-
 pub value_of-Record : (v : Vec Datum) → value_of (view.Record v) ≡ Value.record_of (values_from (map value_of v.items))
 value_of-Record v = ap value_of (sym (variants.rolls-Record v)) ∙ fold-roll-Datum Value view_step (Datum-F.Record v)
-
-pub value_of-Union : (k : ℕ) (b : Box Datum) → value_of (view.Union k b) ≡ Value.union k (value_of b.value)
-value_of-Union k b = ap value_of (sym (variants.rolls-Union k b)) ∙ fold-roll-Datum Value view_step (Datum-F.Union k b)

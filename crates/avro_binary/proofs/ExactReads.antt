@@ -13,9 +13,9 @@ use Rattle.avro_binary.specs.Encoding.{Encodes}
 use Rattle.avro_binary.specs.Fault.{ReadFault, limit_exceeded, behind}
 use Rattle.avro_binary.specs.Breaks.{Breaks}
 use Rattle.avro_binary.specs.Seen.{read_fault, UnlessOutOfMemory}
-use Rattle.avro_binary.specs.Reading.{ReadsExactly, WalksExactly}
+use Rattle.avro_binary.specs.Reading.{BuildsExactly, ReadsExactly, WalksExactly}
 use Rattle.avro_binary.specs.CursorValue.{CursorValue}
-use Rattle.avro_binary.specs.CursorReads.{FindsValue, ReadsNode}
+use Rattle.avro_binary.specs.CursorReads.{FindsValue, ReadsNode, IsSeenAs}
 use Rattle.avro_binary.specs.declared.error.ReadError.{ReadError}
 use Rattle.avro_binary.proofs.BlockSteps.{behind-none}
 use Rattle.avro_binary.proofs.KeySteps.{as_error, unless_reported}
@@ -27,15 +27,12 @@ use Rattle.avro_binary.proofs.OneFaults.{one_fault_lem}
 abbrev pub front_of : List ℕ → LimitValues → CursorValue
 front_of bytes limits = record { bytes = bytes; place = 0; depth = limits.depth; nodes = limits.nodes; blob = limits.blob }
 
-within-from : (limits : LimitValues) (v : Value) → depth v ≤ limits.depth → size v ≤ limits.nodes → longest_blob v ≤ limits.blob → is_within limits v ≡ true
+pub within-from : (limits : LimitValues) (v : Value) → depth v ≤ limits.depth → size v ≤ limits.nodes → longest_blob v ≤ limits.blob → is_within limits v ≡ true
 within-from limits v d n b =
     let deep : nat_le (depth v) limits.depth ≡ true = search (rules, tests) in
     let many : nat_le (size v) limits.nodes ≡ true = search (rules, tests) in
     let long : nat_le (longest_blob v) limits.blob ≡ true = search (rules, tests) in
     rw (deep, many, long) refl
-
-abbrev as_length : ℕ → Result ℕ ReadError
-as_length n = Ok n
 
 module _ (nodes : List Node) (formed : is_schema nodes ≡ true) (place : ℕ) (limits : LimitValues) (bytes : List ℕ) where
   -- the front that was passed
@@ -72,32 +69,6 @@ module _ (nodes : List Node) (formed : is_schema nodes ≡ true) (place : ℕ) (
   front-whole : (v : Value) (len : ℕ) → FrontIs v len → (f : ReadFault) → Breaks nodes limits (node_at nodes place) bytes f → ⊥
   front-whole v len is f b = no_front_within nodes limits place bytes f v is.front is.rest formed b is.encoded is.within is.split
 
-  pub walked : (v : Value) (len : ℕ) → FrontIs v len → WalksExactly nodes (node_at nodes place) limits bytes (Ok len)
-  walked v len is = record {
-    found = (v, front-inside v len is, subst (Encodes nodes (node_at nodes place) v) (sym (front-taken v len is)) is.encoded, is.within);
-    begins = λ w front rest encoded within split.
-        let same = front-only v len is w front rest encoded split in
-        ap as_length (is.length_is ∙ ap (λ (q : List ℕ). length q) same.0);
-    refused = tt;
-    breaks = λ f b. front-whole v len is f b;
-    no_front = tt;
-  }
-
-  pub decoded : (datum : Datum) (v : Value) (len : ℕ) → FrontIs v len → value_of datum ≡ v → ReadsExactly nodes (node_at nodes place) limits bytes (Ok (datum, len))
-  decoded datum v len is seen = record {
-    found = (
-      front-inside v len is,
-      subst (λ (w : Value). Encodes nodes (node_at nodes place) w (take len bytes)) (sym seen) (subst (Encodes nodes (node_at nodes place) v) (sym (front-taken v len is)) is.encoded),
-      subst (λ (w : Value). is_within limits w ≡ true) (sym seen) is.within,
-    );
-    begins = λ w front rest encoded within split.
-        let same = front-only v len is w front rest encoded split in
-        (seen ∙ same.1, is.length_is ∙ ap (λ (q : List ℕ). length q) same.0);
-    refused = tt;
-    breaks = λ f b. front-whole v len is f b;
-    no_front = tt;
-  }
-
   -- what an error tells of the bytes
   abbrev pub Told : Option ReadFault → Type 0
   Told fault = IfSome fault (λ g. (f : ReadFault) × Breaks nodes limits (node_at nodes place) bytes f × (g ≡ behind 0 f))
@@ -132,45 +103,81 @@ module _ (nodes : List Node) (formed : is_schema nodes ≡ true) (place : ℕ) (
   stays_out A P e (Some g) is t v front rest encoded within split =
       absurd (no_front_within nodes limits place bytes g v front rest formed (told-breaks (Some g) t) encoded within split)
 
-  pub walk_refused : (e : ReadError) → Told (read_fault e) → WalksExactly nodes (node_at nodes place) limits bytes (Err e)
-  walk_refused e t = record {
-    found = tt;
-    begins = λ v front rest encoded within split. stays_out ℕ (as_error {A = ℕ} e ≡ Ok (length front)) e (read_fault e) refl t v front rest encoded within split;
-    refused = told-breaks (read_fault e) t;
-    breaks = λ f b. reported ℕ e (read_fault e) refl t f b;
-    no_front = told-none (read_fault e) t;
-  }
-
-  pub decode_refused : (e : ReadError) → Told (read_fault e) → ReadsExactly nodes (node_at nodes place) limits bytes (Err e)
-  decode_refused e t = record {
-    found = tt;
-    begins = λ v front rest encoded within split. stays_out (Datum × ℕ) ⊥ e (read_fault e) refl t v front rest encoded within split;
-    refused = told-breaks (read_fault e) t;
-    breaks = λ f b. reported (Datum × ℕ) e (read_fault e) refl t f b;
-    no_front = told-none (read_fault e) t;
-  }
-
   -- ---- From the cursor's call
 
-  module _ {R : Type 0} (stands : R → Value → Type 0) (before after : CursorValue) (at_front : before ≡ front_of bytes limits) where
+  module _ {R : Type 0} {stands : R → Value → Type 0} (before after : CursorValue) (at_front : before ≡ front_of bytes limits) where
     moved_front : (result : Result R ReadError) → ReadsNode stands nodes (node_at nodes place) before after result
         → ReadsNode stands nodes (node_at nodes place) (front_of bytes limits) after result
     moved_front result reads = subst (λ (b : CursorValue). ReadsNode stands nodes (node_at nodes place) b after result) at_front reads
 
-    pub walk_exact : (r : R) (len : ℕ) → len ≡ after.place → ReadsNode stands nodes (node_at nodes place) before after (Ok r)
-        → WalksExactly nodes (node_at nodes place) limits bytes (Ok len)
-    walk_exact r len is reads =
+    pub built : {others : R → Value → Type 0} (r : R) (len : ℕ) → len ≡ after.place → ((v : Value) → stands r v → others r v)
+        → ReadsNode stands nodes (node_at nodes place) before after (Ok r) → BuildsExactly others nodes (node_at nodes place) limits bytes (Ok (r, len))
+    built {others = others} r len at_end weaker reads =
         let found = (moved_front (Ok r) reads).found in
-        walked found.0 len (subst (λ (n : ℕ). FrontIs found.0 n) (sym is) (front_is found.0 after found.1))
+        let v = found.0 in
+        let is = subst (λ (n : ℕ). FrontIs v n) (sym at_end) (front_is v after found.1) in
+        let stands_so = weaker v found.2 in record {
+          found = (v, stands_so, front-inside v len is, subst (Encodes nodes (node_at nodes place) v) (sym (front-taken v len is)) is.encoded, is.within);
+          begins = λ w front rest encoded within split.
+              let same = front-only v len is w front rest encoded split in
+              (subst (others r) same.1 stands_so, is.length_is ∙ ap (λ (q : List ℕ). length q) same.0);
+          refused = tt;
+          breaks = λ f b. front-whole v len is f b;
+          no_front = tt;
+        }
 
-    pub walk_fails : (e : ReadError) → ReadsNode stands nodes (node_at nodes place) before after (Err e) → WalksExactly nodes (node_at nodes place) limits bytes (Err e)
-    walk_fails e reads = walk_refused e (moved_front (Err e) reads).refused
+    pub build_refused : {others : R → Value → Type 0} (e : ReadError) → ReadsNode stands nodes (node_at nodes place) before after (Err e)
+        → BuildsExactly others nodes (node_at nodes place) limits bytes (Err e)
+    build_refused e reads =
+        let t = (moved_front (Err e) reads).refused in record {
+          found = tt;
+          begins = λ v front rest encoded within split. stays_out (R × ℕ) ⊥ e (read_fault e) refl t v front rest encoded within split;
+          refused = told-breaks (read_fault e) t;
+          breaks = λ f b. reported (R × ℕ) e (read_fault e) refl t f b;
+          no_front = told-none (read_fault e) t;
+        }
 
-    pub decode_exact : (datum : Datum) (r : R) (len : ℕ) → len ≡ after.place → ((v : Value) → stands r v → value_of datum ≡ v)
-        → ReadsNode stands nodes (node_at nodes place) before after (Ok r) → ReadsExactly nodes (node_at nodes place) limits bytes (Ok (datum, len))
-    decode_exact datum r len is seen reads =
-        let found = (moved_front (Ok r) reads).found in
-        decoded datum found.0 len (subst (λ (n : ℕ). FrontIs found.0 n) (sym is) (front_is found.0 after found.1)) (seen found.0 found.2)
+-- ---- An answer that is the datum, and one that is a length alone
 
-    pub decode_fails : (e : ReadError) → ReadsNode stands nodes (node_at nodes place) before after (Err e) → ReadsExactly nodes (node_at nodes place) limits bytes (Err e)
-    decode_fails e reads = decode_refused e (moved_front (Err e) reads).refused
+abbrev as_length : ℕ → Result ℕ ReadError
+as_length n = Ok n
+
+-- an error is one of any answer
+other_answer : (A B : Type 0) (e : ReadError) (P Q : Type 0) → (P → Q) → UnlessOutOfMemory (as_error {A = A} e) P → UnlessOutOfMemory (as_error {A = B} e) Q
+other_answer A B ReadError.OutOfMemory P Q step h = tt
+other_answer A B _ P Q step h = step h
+
+module _ (nodes : List Node) (n : Node) (limits : LimitValues) (bytes : List ℕ) where
+  pub decoded : (result : Result (Datum × ℕ) ReadError) → BuildsExactly IsSeenAs nodes n limits bytes result → ReadsExactly nodes n limits bytes result
+  decoded (Ok r) b =
+      let seen = b.found.1 in record {
+        found = (
+          b.found.2,
+          subst (λ (v : Value). Encodes nodes n v (take r.1 bytes)) (sym seen) b.found.3,
+          subst (λ (v : Value). is_within limits v ≡ true) (sym seen) b.found.4,
+        );
+        begins = b.begins;
+        refused = tt;
+        breaks = b.breaks;
+        no_front = tt;
+      }
+  decoded (Err e) b = record { found = tt; begins = b.begins; refused = b.refused; breaks = b.breaks; no_front = b.no_front }
+
+  module _ {R : Type 0} {stands : R → Value → Type 0} where
+    pub walked : (r : R) (len : ℕ) → BuildsExactly stands nodes n limits bytes (Ok (r, len)) → WalksExactly nodes n limits bytes (Ok len)
+    walked r len b = record {
+      found = (b.found.0, b.found.2, b.found.3, b.found.4);
+      begins = λ v front rest encoded within split. ap (λ (k : ℕ). as_length k) (b.begins v front rest encoded within split).1;
+      refused = tt;
+      breaks = b.breaks;
+      no_front = tt;
+    }
+
+    pub walk_refused : (e : ReadError) → BuildsExactly stands nodes n limits bytes (Err e) → WalksExactly nodes n limits bytes (Err e)
+    walk_refused e b = record {
+      found = tt;
+      begins = λ v front rest encoded within split. other_answer (R × ℕ) ℕ e ⊥ (as_error {A = ℕ} e ≡ as_length (length front)) absurd (b.begins v front rest encoded within split);
+      refused = b.refused;
+      breaks = λ f h. other_answer (R × ℕ) ℕ e (read_fault e ≡ Some f) (read_fault e ≡ Some f) (λ is. is) (b.breaks f h);
+      no_front = b.no_front;
+    }

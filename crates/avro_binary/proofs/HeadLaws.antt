@@ -3,14 +3,14 @@ use Rattle.std.proofs.Common.{◌≡◌, ◌≢◌, ℕ, zero, suc, ◌+◌, ◌
 use Rattle.std.proofs.lemmas.Int.{ints}
 use Rattle.std.proofs.lemmas.List.{take-append-drop}
 use Rattle.std.proofs.Math.Seq.{take-add}
-use Rattle.avro_zigzag.specs.Number.{SpellsNumber}
+use Rattle.avro_zigzag.specs.Number.{SpellsLong}
 use Rattle.avro_zigzag.proofs.Spelling.{one_spelling_lem, is_long-zigzag}
 use Rattle.avro_schema.specs.Fits.{is_long}
 use Rattle.avro_binary.specs.Fault.{ReadFault, invalid_length, limit_exceeded, behind}
-use Rattle.avro_binary.specs.Breaks.{LongBreaks, StartsWithLong, Head, counted, sized, Left, BlocksBreak, count_breaks, least_count as least_number, too_many, size_breaks, negative_size}
+use Rattle.avro_binary.specs.Breaks.{LongBreaks, StartsWithLong, Head, counted, sized, HeadBreaks, count_fails, count_least, count_over, size_fails, size_negative}
 use Rattle.avro_binary.specs.Seen.{read_fault}
 use Rattle.avro_binary.specs.CursorValue.{CursorValue, Passes}
-use Rattle.avro_binary.specs.BlockHeads.{IsHeadOrEnd, HeadBreaks, count_fails, count_least, count_over, size_fails, size_negative, IsBlockOrEnd, ReadsHead}
+use Rattle.avro_binary.specs.BlockHeads.{IsHeadOrEnd, IsBlockOrEnd, ReadsHead}
 use Rattle.avro_binary.specs.declared.block.Block.{Block}
 use Rattle.avro_binary.specs.declared.error.ReadError.{ReadError}
 use Rattle.avro_binary.proofs.ElementLaws.{IsPart, long_part, head_same, no_long_fault}
@@ -36,7 +36,7 @@ data BehindCount (nodes : ℕ) (v : ℤ) (number rest : List ℕ) (f : ReadFault
   is_over : v ≢ negsuc (2 ^ 63 - 1) → nodes < nat_abs v → f ≡ limit_exceeded → BehindCount nodes v number rest f
   is_size : (n : ℕ) (g : ReadFault) → v ≡ negsuc n → suc n < 2 ^ 63 → n < nodes → SizeBreaks rest g → f ≡ behind (length number) g → BehindCount nodes v number rest f
 
-spelled-starts : (n : ℕ) (bytes number rest : List ℕ) → SpellsNumber (negsuc n) number → suc n < 2 ^ 63 → bytes ≡ number ++ rest → StartsWithLong (negsuc n) bytes number rest
+spelled-starts : (n : ℕ) (bytes number rest : List ℕ) → SpellsLong (negsuc n) number → suc n < 2 ^ 63 → bytes ≡ number ++ rest → StartsWithLong (negsuc n) bytes number rest
 spelled-starts n bytes number rest s small split = record { spelled = s; in_range = long_below n small; split = split }
   where
     long_below : (m : ℕ) → suc m < 2 ^ 63 → is_long (negsuc m) ≡ true
@@ -237,22 +237,13 @@ module _ (nodes : ℕ) (bytes : List ℕ) where
   least_count v number rest s is = count_least number rest (subst (λ (w : ℤ). StartsWithLong w bytes number rest) is s)
 
   -- a size below 0, behind a count
-  pub size_below : (n len : ℕ) (v : ℤ) (size rest : List ℕ) → SpellsNumber (negsuc n) (take len bytes) → suc n < 2 ^ 63 → n < nodes
+  pub size_below : (n len : ℕ) (v : ℤ) (size rest : List ℕ) → SpellsLong (negsuc n) (take len bytes) → suc n < 2 ^ 63 → n < nodes
       → StartsWithLong v (drop len bytes) size rest → v <ℤ pos 0 → HeadBreaks nodes bytes (invalid_length (length (take len bytes)))
   size_below n len (negsuc m) size rest s small few starts h = size_negative n m (take len bytes) size (drop len bytes) rest s small few (sym (take-append-drop len bytes)) starts
   size_below n len (pos m) size rest s small few starts h = absurd (omega (arith, ints))
 
   -- a size that fails, behind a count
-  pub size_failed : (n len : ℕ) (f : ReadFault) → SpellsNumber (negsuc n) (take len bytes) → suc n < 2 ^ 63 → n < nodes → LongBreaks (drop len bytes) f
+  pub size_failed : (n len : ℕ) (f : ReadFault) → SpellsLong (negsuc n) (take len bytes) → suc n < 2 ^ 63 → n < nodes → LongBreaks (drop len bytes) f
       → HeadBreaks nodes bytes (behind (length (take len bytes)) f)
   size_failed n len f s small few b =
       size_fails n (take len bytes) s small few (record { rest = drop len bytes; fault = f; split = sym (take-append-drop len bytes); breaks = b; moved = refl })
-
--- the fault of a head is one of the blocks that it begins, whatever their items are
-pub blocks_break : (are_whole : Left → ℕ → List ℕ → Left → Type 0) (item_breaks : Left → List ℕ → ReadFault → Type 0) (left : Left) (bytes : List ℕ) (f : ReadFault)
-    → HeadBreaks left.nodes bytes f → BlocksBreak are_whole item_breaks left bytes f
-blocks_break are_whole item_breaks left bytes f (count_fails b) = count_breaks b
-blocks_break are_whole item_breaks left bytes f (count_least m r t) = least_number m r t
-blocks_break are_whole item_breaks left bytes f (count_over w m r t other over) = too_many w m r t other over
-blocks_break are_whole item_breaks left bytes f (size_fails n m t small few b) = size_breaks n m t small few b
-blocks_break are_whole item_breaks left bytes f (size_negative n k m size after more t small few split u) = negative_size n k m size after more t small few split u

@@ -31,7 +31,7 @@ eq-same m n h = grind (arith, nat_tests)
 index-below : (n choices : ℕ) → n < choices → nat_lt n choices ≡ true
 index-below n choices h = grind (arith, nat_tests)
 
-module _ {R : Type 0} (stands : R → Value → Type 0) (nodes : List Node) where
+module _ {R : Type 0} {stands : R → Value → Type 0} (nodes : List Node) where
   -- a datum of one node that was passed
   pub leaf_found : (n : Node) (before after : CursorValue) (v : Value) (front : List ℕ) (r : R) → Encodes nodes n v front → size v ≡ 1 → depth v ≡ 1
       → longest_blob v ≤ before.blob → Passes before front after → stands r v → ReadsNode stands nodes n (outside before) (left_node after) (Ok r)

@@ -1,12 +1,12 @@
 -- Bytes that break begin with no encoding of a datum within limits, and where no limit is passed, of any datum.
 use Rattle.std.proofs.Common.{◌≡◌, ◌≢◌, ◌⊎◌, inl, inr, ℕ, zero, suc, ◌+◌, ◌-◌, ◌^◌, ◌<◌, ◌≤◌, pos, Bool, true, false, Some, List, [], ◌∷◌, ◌++◌, length, refl, sym, ap, ◌∙◌, subst, append_assoc, length-append, arith, slice_get, if◌then◌else◌}
-use Rattle.std.specs.Prelude.{◌==◌, nat_lt, nat_le, ◌&&◌}
+use Rattle.std.specs.Prelude.{◌==◌, nat_le, ◌&&◌}
 use Rattle.std.specs.List.{concat}
 use Rattle.std.specs.Str.{is_utf8}
 use Rattle.std.proofs.lemmas.Bool.{and_parts, false≢true}
 use Rattle.std.proofs.lemmas.Bool.Decides.{nat_tests}
 use Rattle.std.proofs.lemmas.Option.{slice_get_within}
-use Rattle.avro_zigzag.specs.Number.{SpellsNumber}
+use Rattle.avro_zigzag.specs.Number.{SpellsInt}
 use Rattle.avro_zigzag.proofs.Faults.{long-excludes_fault, int-excludes_fault}
 use Rattle.avro_zigzag.proofs.Spelling.{one_spelling_lem}
 use Rattle.avro_schema.specs.Value.{Value, Values, no_values, value, size, depth, longest_blob, values_size}
@@ -25,7 +25,7 @@ use Rattle.avro_binary.proofs.KindOf.{bytes_value, string_value, array_value, ma
 use Rattle.avro_binary.proofs.Choices.{HasFewChoices, HasFewChoices-from_is_schema}
 use Rattle.avro_binary.proofs.NoFrontBlocks.{behind_limit, blocks_none}
 use Rattle.avro_binary.proofs.NoFrontItems.{IsSmall, AreSmall, AreSmall-first, AreSmall-others, NoneAt, ValuesFollow, values_follow, EntriesFollow, entries_follow, is_text-short, is_text-valid}
-use Rattle.avro_binary.proofs.NoFrontParts.{content_none, index_none}
+use Rattle.avro_binary.proofs.NoFrontParts.{below-from_test, content_none, index_none}
 
 -- ---- Kinds without parts
 
@@ -43,9 +43,6 @@ fixed_none W count blob bytes f content rest (inr b) limit small h e =
 are_bytes-short : (b : List ℕ) → are_bytes b ≡ true → length b < 2 ^ 63
 are_bytes-short b h = is_count-below (length b) (and_parts (is_count (length b)) _ h).0
 
-below-from_test : (k n : ℕ) → nat_lt k n ≡ true → k < n
-below-from_test k n h = grind (arith, nat_tests)
-
 -- ---- Unions
 
 pub slice_get-middle : (before : List ℕ) (x : ℕ) (after : List ℕ) → slice_get (before ++ x ∷ after) (length before) ≡ Some x
@@ -56,7 +53,7 @@ union_none : (W : Type 0) (nodes : List Node) (left : LimitValues) (child : Chil
     (k place : ℕ) (v : Value) (number first rest : List ℕ)
     → ((p : ℕ) → NoneAt W nodes (node_at nodes p) left.depth left.blob (λ c. child c (node_at nodes p))) → length places ≤ 2 ^ 31
     → IndexBreaks (length places) bytes f ⊎ BranchBreaks nodes left child places bytes f → (f ≡ limit_exceeded → W) → slice_get places k ≡ Some place
-    → fits nodes (node_at nodes place) v ≡ true → SpellsNumber (pos k) number → Spells v first → (W → IsSmall left.depth left.nodes left.blob v)
+    → fits nodes (node_at nodes place) v ≡ true → SpellsInt (pos k) number → Spells v first → (W → IsSmall left.depth left.nodes left.blob v)
     → bytes ≡ number ++ (first ++ rest) → ⊥
 union_none W nodes left child places bytes f k place v number first rest none few (inl b) limit at h s t small e =
     index_none (length places) bytes f k number (first ++ rest) b (slice_get_within places k place at) few s e

@@ -6,7 +6,7 @@ use Rattle.avro_zigzag.proofs.Faults.{long-excludes_fault}
 use Rattle.avro_zigzag.proofs.Spelling.{one_spelling_lem}
 use Rattle.avro_binary.specs.Blocks.{IsInBlocks}
 use Rattle.avro_binary.specs.Fault.{ReadFault, limit_exceeded, behind}
-use Rattle.avro_binary.specs.Breaks.{Left, LongBreaks, StartsWithLong, Head, head_bytes, BlocksBreak}
+use Rattle.avro_binary.specs.Breaks.{Left, LongBreaks, StartsWithLong, Head, head_bytes, HeadBreaks, BlocksBreak}
 use Rattle.avro_binary.proofs.BlockViews.{first_number, first_size, first_block, pos-long}
 
 -- no long in range begins bytes that break as a long
@@ -63,29 +63,34 @@ module _ (W : Type 0) (are_whole : Left → ℕ → List ℕ → Left → Type 0
         subst (λ (a : List (List ℕ)). Follows left (a ++ later)) empty cut.follows,
       )
 
-  pub blocks_none : {left : Left} {bytes : List ℕ} {f : ReadFault} → BlocksBreak are_whole item_breaks left bytes f → (f ≡ limit_exceeded → W)
+  head_none : (left : Left) (bytes : List ℕ) (f : ReadFault) → HeadBreaks left.nodes bytes f → (f ≡ limit_exceeded → W)
       → (items : List (List ℕ)) (front y : List ℕ) → Follows left items → IsInBlocks items front → bytes ≡ front ++ y → ⊥
-  blocks_none (BlocksBreak.count_breaks {left = left} {bytes = bytes} {f = f} b) limit items front y follows blocks e =
+  head_none left bytes f (HeadBreaks.count_fails b) limit items front y follows blocks e =
       let first = first_number items front blocks in
       let split : bytes ≡ first.number ++ (first.rest ++ y) = e ∙ ap (λ (g : List ℕ). g ++ y) first.split ∙ append_assoc first.number first.rest y in
       long-excludes_fault first.v bytes first.number (first.rest ++ y) b.0 first.in_range first.spelled split b.1
-  blocks_none (BlocksBreak.least_count {left = left} {bytes = bytes} number rest s) limit items front y follows blocks e =
+  head_none left bytes _ (HeadBreaks.count_least number rest s) limit items front y follows blocks e =
       let first = first_number items front blocks in
       let split : number ++ rest ≡ first.number ++ (first.rest ++ y) = sym s.split ∙ e ∙ ap (λ (g : List ℕ). g ++ y) first.split ∙ append_assoc first.number first.rest y in
       first.not_least (sym (one_spelling_lem (negsuc (2 ^ 63 - 1)) first.v number first.number rest (first.rest ++ y) s.spelled first.spelled split).1)
-  blocks_none (BlocksBreak.too_many {left = left} {bytes = bytes} v number rest s not_least many) limit items front y follows blocks e =
+  head_none left bytes _ (HeadBreaks.count_over v number rest s not_least many) limit items front y follows blocks e =
       let first = first_number items front blocks in
       let split : number ++ rest ≡ first.number ++ (first.rest ++ y) = sym s.split ∙ e ∙ ap (λ (g : List ℕ). g ++ y) first.split ∙ append_assoc first.number first.rest y in
       let same = (one_spelling_lem v first.v number first.number rest (first.rest ++ y) s.spelled first.spelled split).1 in
       omega (arith, many, ap nat_abs same, first.few, kind.few left items follows (limit refl))
-  blocks_none (BlocksBreak.size_breaks {left = left} {bytes = bytes} {f = f} n number s few less after) limit items front y follows blocks e =
+  head_none left bytes f (HeadBreaks.size_fails n number s few less after) limit items front y follows blocks e =
       let first = first_size items front number after.rest y n blocks s (sym e ∙ after.split) in
       let starts : StartsWithLong (pos first.size) after.rest first.number first.rest = record { spelled = first.spelled; in_range = pos-long first.size first.short; split = first.split } in
       long_none (pos first.size) after.rest first.number first.rest after.fault starts after.breaks
-  blocks_none (BlocksBreak.negative_size {left = left} {bytes = bytes} n m number size behind_count rest s few less split t) limit items front y follows blocks e =
+  head_none left bytes _ (HeadBreaks.size_negative n m number size behind_count rest s few less split t) limit items front y follows blocks e =
       let first = first_size items front number behind_count y n blocks s (sym e ∙ split) in
       let same = (one_spelling_lem (pos first.size) (negsuc m) first.number size first.rest rest first.spelled t.spelled (sym first.split ∙ t.split)).1 in
       cc
+
+  pub blocks_none : {left : Left} {bytes : List ℕ} {f : ReadFault} → BlocksBreak are_whole item_breaks left bytes f → (f ≡ limit_exceeded → W)
+      → (items : List (List ℕ)) (front y : List ℕ) → Follows left items → IsInBlocks items front → bytes ≡ front ++ y → ⊥
+  blocks_none (BlocksBreak.head_breaks {left = left} {bytes = bytes} {f = f} b) limit items front y follows blocks e =
+      head_none left bytes f b limit items front y follows blocks e
   blocks_none (BlocksBreak.item_fails {left = left} {bytes = bytes} {f = f} head done whole then_left is more are after) limit items front y follows blocks e =
       let first = first_block left.nodes head items front (whole ++ after.rest) y is blocks (sym e ∙ after.split ∙ append_assoc (head_bytes head) whole after.rest) in
       let at_block = kind.cut left then_left done whole first.block first.later (first.rest ++ y) after.rest are (subst (Follows left) first.items_are follows)

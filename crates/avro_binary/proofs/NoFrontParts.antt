@@ -6,7 +6,7 @@ use Rattle.std.proofs.Math.Seq.{take-append_seam}
 use Rattle.std.proofs.lemmas.Bool.{and_parts, false≢true, or_cases, or_left, or_right, not-true}
 use Rattle.std.proofs.lemmas.Bool.Decides.{nat_tests}
 use Rattle.std.proofs.lemmas.Slice.Eq.{bytes_eq-Decides}
-use Rattle.avro_zigzag.specs.Number.{SpellsNumber}
+use Rattle.avro_zigzag.specs.Number.{SpellsInt}
 use Rattle.avro_zigzag.proofs.Faults.{long-excludes_fault, int-excludes_fault}
 use Rattle.avro_zigzag.proofs.Spelling.{one_spelling_lem}
 use Rattle.avro_schema.specs.Fits.{is_int}
@@ -53,11 +53,14 @@ content_none W is_content blob bytes _ content front rest (ContentBreaks.invalid
 pub pos-int : (k choices : ℕ) → k < choices → choices ≤ 2 ^ 31 → is_int (pos k) ≡ true
 pos-int k choices below few = grind (arith, nat_tests)
 
+pub below-from_test : (k n : ℕ) → nat_lt k n ≡ true → k < n
+below-from_test k n h = grind (arith, nat_tests)
+
 pub is_index-below : (k choices : ℕ) → k < choices → nat_lt k choices ≡ true
 is_index-below k choices h = grind (arith, nat_tests)
 
 pub index_none : (choices : ℕ) (bytes : List ℕ) (f : ReadFault) (k : ℕ) (front rest : List ℕ) → IndexBreaks choices bytes f → k < choices → choices ≤ 2 ^ 31
-    → SpellsNumber (pos k) front → bytes ≡ front ++ rest → ⊥
+    → SpellsInt (pos k) front → bytes ≡ front ++ rest → ⊥
 index_none choices bytes f k front rest (IndexBreaks.number_breaks b) below few s e =
     int-excludes_fault (pos k) bytes front rest b.0 (pos-int k choices below few) s e b.1
 index_none choices bytes _ k front rest (IndexBreaks.unknown v number x t in_range split bad) below few s e =

@@ -4,7 +4,7 @@ use Rattle.std.specs.Prelude.{slice_get, bytes_eq, String}
 use Rattle.std.specs.List.{concat}
 use Rattle.std.proofs.lemmas.List.Folds.{concat-append}
 use Rattle.avro_name.specs.Name.{Name}
-use Rattle.avro_zigzag.specs.Number.{SpellsNumber}
+use Rattle.avro_zigzag.specs.Number.{SpellsInt, SpellsLong}
 use Rattle.avro_schema.specs.Value.{Value, values_size, values_depth, values_longest_blob, values_count, entries_count, keys_of}
 use Rattle.avro_schema.specs.Node.{Node, FieldNode, node_at, field_places}
 use Rattle.avro_schema.specs.Fits.{fields_fit, is_count}
@@ -16,11 +16,11 @@ use Rattle.avro_schema.specs.Distinct.{are_distinct}
 use Rattle.avro_binary.specs.Blocks.{IsInBlocks, no_more}
 use Rattle.avro_binary.specs.Encoding.{EachSpelled}
 use Rattle.avro_binary.specs.Fault.{limit_exceeded}
-use Rattle.avro_binary.specs.Breaks.{BreaksWithin, NodeBreaks, BlocksBreak, ItemsAreWhole, EntriesAreWhole, FieldsBreak, IndexBreaks, head_bytes, HasSize}
+use Rattle.avro_binary.specs.Breaks.{BreaksWithin, NodeBreaks, HeadBreaks, BlocksBreak, ItemsAreWhole, EntriesAreWhole, FieldsBreak, IndexBreaks, head_bytes, HasSize}
 use Rattle.avro_binary.specs.Seen.{read_fault}
 use Rattle.avro_binary.specs.CursorValue.{CursorValue, Enters}
 use Rattle.avro_binary.specs.Elements.{Refuses, Finds, IsIndex}
-use Rattle.avro_binary.specs.BlockHeads.{HeadBreaks, EndsBlock}
+use Rattle.avro_binary.specs.BlockHeads.{EndsBlock}
 use Rattle.avro_binary.specs.declared.block.Block.{Block}
 use Rattle.avro_binary.specs.CursorReads.{Moves, FindsValue, FindsRun, RunBreaks, ReportsFault, ReadsNode, outside, left_node, left_at, limits_at, ValuesRun, EntriesRun, value_breaks, entry_breaks, child_breaks}
 use Rattle.avro_binary.specs.declared.error.ReadError.{ReadError}
@@ -43,34 +43,29 @@ left-from inside after is =
     let deep : suc inside.depth ≡ inside.depth + 1 = omega arith in
     (λ i. record inside { depth = deep i }) ∙ sym is
 
-module _ {R : Type 0} (stands : R → Value → Type 0) (nodes : List Node) (n : Node) where
+limit-breaks : (nodes : List Node) (n : Node) (depth_left nodes_left blob : ℕ) (bytes : List ℕ) → (depth_left ≡ 0) ⊎ (nodes_left ≡ 0) → BreaksWithin nodes depth_left nodes_left blob n bytes limit_exceeded
+limit-breaks nodes n zero nodes_left blob bytes h = refl
+limit-breaks nodes n (suc depth_left) zero blob bytes h = refl
+limit-breaks nodes n (suc depth_left) (suc nodes_left) blob bytes (inl h) = absurd (omega arith)
+limit-breaks nodes n (suc depth_left) (suc nodes_left) blob bytes (inr h) = absurd (omega arith)
+
+module _ {R : Type 0} {stands : R → Value → Type 0} (nodes : List Node) (n : Node) where
   pub node_left : (before mid inside after : CursorValue) (r : R) → Enters before mid → ReadsNode stands nodes n (outside mid) (left_node inside) (Ok r)
       → after ≡ record inside { depth = inside.depth + 1 } → ReadsNode stands nodes n before after (Ok r)
   node_left before mid inside after r e reads is =
       subst (λ (a : CursorValue). ReadsNode stands nodes n before a (Ok r)) (left-from inside after is)
       (subst (λ (b : CursorValue). ReadsNode stands nodes n b (left_node inside) (Ok r)) (entered-from before mid e) reads)
 
-  -- a refusal doesn't say where the cursor is
-  pub refused_anywhere : {S : Type 0} (others : S → Value → Type 0) (before after elsewhere : CursorValue) (error : ReadError)
-      → ReadsNode others nodes n before after (Err error) → ReadsNode stands nodes n before elsewhere (Err error)
-  refused_anywhere others before after elsewhere error reads = record { found = tt; refused = reads.refused }
-
-  pub node_refused : {S : Type 0} (others : S → Value → Type 0) (before mid inside after : CursorValue) (error : ReadError) → Enters before mid
+  pub node_refused : {S : Type 0} {others : S → Value → Type 0} (before mid inside after : CursorValue) (error : ReadError) → Enters before mid
       → ReadsNode others nodes n (outside mid) (left_node inside) (Err error) → ReadsNode stands nodes n before after (Err error)
-  node_refused others before mid inside after error e reads =
+  node_refused before mid inside after error e reads =
       subst (λ (b : CursorValue). ReadsNode stands nodes n b after (Err error)) (entered-from before mid e) (record { found = tt; refused = reads.refused })
-
-  limit-breaks : (depth_left nodes_left blob : ℕ) (bytes : List ℕ) → (depth_left ≡ 0) ⊎ (nodes_left ≡ 0) → BreaksWithin nodes depth_left nodes_left blob n bytes limit_exceeded
-  limit-breaks zero nodes_left blob bytes h = refl
-  limit-breaks (suc depth_left) zero blob bytes h = refl
-  limit-breaks (suc depth_left) (suc nodes_left) blob bytes (inl h) = absurd (omega arith)
-  limit-breaks (suc depth_left) (suc nodes_left) blob bytes (inr h) = absurd (omega arith)
 
   pub enter_refused : (before after : CursorValue) (error : ReadError) → (read_fault error ≡ Some limit_exceeded) × ((before.depth ≡ 0) ⊎ (before.nodes ≡ 0))
       → ReadsNode stands nodes n before after (Err error)
   enter_refused before after error refused = record {
     found = tt;
-    refused = rw (refused.0) (limit_exceeded, limit-breaks before.depth before.nodes before.blob before.bytes refused.1, refl);
+    refused = rw (refused.0) (limit_exceeded, limit-breaks nodes n before.depth before.nodes before.blob before.bytes refused.1, refl);
   }
 
 -- ---- Arrays and maps
@@ -89,10 +84,12 @@ MapDone nodes place start now keys xs =
     let limits = limits_at start in
     BlocksDone (EntriesRun nodes limits n) (EntriesAreWhole nodes limits n) (entry_breaks nodes limits n) start now keys xs
 
-module _ {R : Type 0} (stands : R → Value → Type 0) (nodes : List Node) (place : ℕ) (start now after : CursorValue) (keys : List (List ℕ)) where
-  array-spelled : (xs : List Value) (done : ArrayDone nodes place start now keys xs) (end : List ℕ) → SpellsNumber (pos 0) end → IsInBlocks done.items (done.front ++ end)
-  array-spelled xs done end s = subst (λ (is : List (List ℕ)). IsInBlocks is (done.front ++ end)) (append-nil done.items) (done.ends [] end (no_more s))
+-- blocks that no more come behind
+ended : (items : List (List ℕ)) (front end : List ℕ) → ((later : List (List ℕ)) (bytes : List ℕ) → IsInBlocks later bytes → IsInBlocks (items ++ later) (front ++ bytes))
+    → SpellsLong (pos 0) end → IsInBlocks items (front ++ end)
+ended items front end ends s = subst (λ (is : List (List ℕ)). IsInBlocks is (front ++ end)) (append-nil items) (ends [] end (no_more s))
 
+module _ {R : Type 0} {stands : R → Value → Type 0} (nodes : List Node) (place : ℕ) (start now after : CursorValue) (keys : List (List ℕ)) where
   pub array_found : (xs : List Value) (r : R) → ArrayDone nodes place start now keys xs → EndRead now after → start.nodes < 2 ^ 32 → stands r (Value.array (values_from xs))
       → ReadsNode stands nodes (Node.array place) (outside start) (left_node after) (Ok r)
   array_found xs r done end small s =
@@ -108,7 +105,7 @@ module _ {R : Type 0} (stands : R → Value → Type 0) (nodes : List Node) (pla
             front = done.front ++ end.front;
             encoded = record {
               fitting = rw (counted, done.stand.fitting) refl;
-              spelled = (done.items, done.stand.spelled, array-spelled xs done end.front end.spelled);
+              spelled = (done.items, done.stand.spelled, ended done.items done.front end.front done.ends end.spelled);
             };
             deep = let d = done.stand.deep in omega arith;
             many = let m = done.stand.many in let p = end.passes.nodes in omega arith;
@@ -119,9 +116,6 @@ module _ {R : Type 0} (stands : R → Value → Type 0) (nodes : List Node) (pla
         );
         refused = tt;
       }
-
-  map-spelled : (xs : List (List ℕ × Value)) (done : MapDone nodes place start now keys xs) (end : List ℕ) → SpellsNumber (pos 0) end → IsInBlocks done.items (done.front ++ end)
-  map-spelled xs done end s = subst (λ (is : List (List ℕ)). IsInBlocks is (done.front ++ end)) (append-nil done.items) (done.ends [] end (no_more s))
 
   pub map_found : (xs : List (List ℕ × Value)) (r : R) → MapDone nodes place start now keys xs → EndRead now after → start.nodes < 2 ^ 32 → stands r (Value.map_of (entries_from xs))
       → ReadsNode stands nodes (Node.map_of place) (outside start) (left_node after) (Ok r)
@@ -139,7 +133,7 @@ module _ {R : Type 0} (stands : R → Value → Type 0) (nodes : List Node) (pla
             front = done.front ++ end.front;
             encoded = record {
               fitting = rw (counted, done.stand.texts, distinct, done.stand.fitting) refl;
-              spelled = (done.items, done.stand.spelled, map-spelled xs done end.front end.spelled);
+              spelled = (done.items, done.stand.spelled, ended done.items done.front end.front done.ends end.spelled);
             };
             deep = let d = done.stand.deep in omega arith;
             many = let m = done.stand.many in let p = end.passes.nodes in omega arith;
@@ -162,7 +156,7 @@ module _ {R : Type 0} (stands : R → Value → Type 0) (nodes : List Node) (pla
       → ReadsNode stands nodes (Node.map_of place) (outside start) (left_node after) (Err e)
   map_refused e reported = record { found = tt; refused = reported }
 
-module _ {R : Type 0} (stands : R → Value → Type 0) (nodes : List Node) (place : ℕ) (start : CursorValue) where
+module _ (nodes : List Node) (place : ℕ) (start : CursorValue) where
   -- an array of which nothing was read
   pub array_none : ArrayDone nodes place start start [] []
   array_none =
@@ -177,11 +171,11 @@ module _ {R : Type 0} (stands : R → Value → Type 0) (nodes : List Node) (pla
       blocks_none (EntriesRun nodes limits n) (EntriesAreWhole nodes limits n) (λ left. are_distinct bytes_eq left.keys ≡ true) (entries_run nodes limits n) (entry_breaks nodes limits n) start refl
 
   module _ (now : CursorValue) (xs : List Value) (done : ArrayDone nodes place start now [] xs) where
-    pub array_head_refused : (after : CursorValue) (e : ReadError) → Refuses (HeadBreaks now.nodes) now e → ReadsNode stands nodes (Node.array place) (outside start) (left_node after) (Err e)
+    pub array_head_refused : {R : Type 0} {stands : R → Value → Type 0} (after : CursorValue) (e : ReadError) → Refuses (HeadBreaks now.nodes) now e → ReadsNode stands nodes (Node.array place) (outside start) (left_node after) (Err e)
     array_head_refused after e refused =
         let n = node_at nodes place in
         let limits = limits_at start in
-        array_refused stands nodes place start now after [] e
+        array_refused nodes place start now after [] e
         (head_refused (ValuesRun nodes limits n) (ItemsAreWhole nodes limits n) (λ left. Unit {0}) (values_run nodes limits n) (value_breaks nodes limits n) start now [] xs done e refused)
 
     module _ (mid : CursorValue) (block : Block) (head : HeadRead now mid block) where
@@ -192,13 +186,13 @@ module _ {R : Type 0} (stands : R → Value → Type 0) (nodes : List Node) (pla
       pub blob_kept : start.blob ≡ mid.blob
       blob_kept = sym (head.passes.blob ∙ done.moves.blob)
 
-      pub array_item_refused : (after : CursorValue) (count : ℕ) (e : ReadError) → count ≡ block.count
+      pub array_item_refused : {R : Type 0} {stands : R → Value → Type 0} (after : CursorValue) (count : ℕ) (e : ReadError) → count ≡ block.count
           → ReportsFault (RunBreaks (ValuesRun nodes (limits_at start) (node_at nodes place)) (value_breaks nodes (limits_at start) (node_at nodes place)) (left_at mid []) count) mid e
           → ReadsNode stands nodes (Node.array place) (outside start) (left_node after) (Err e)
       array_item_refused after count e same reported =
           let n = node_at nodes place in
           let limits = limits_at start in
-          array_refused stands nodes place start now after [] e
+          array_refused nodes place start now after [] e
           (item_refused (ValuesRun nodes limits n) (ItemsAreWhole nodes limits n) (λ left. Unit {0}) (values_run nodes limits n) (value_breaks nodes limits n) start now mid [] xs done block head e
           (subst (λ (k : ℕ). ReportsFault (RunBreaks (ValuesRun nodes limits n) (value_breaks nodes limits n) (left_at mid []) k) mid e) same reported))
 
@@ -215,12 +209,12 @@ module _ {R : Type 0} (stands : R → Value → Type 0) (nodes : List Node) (pla
             let k = head.counted in
             omega arith
 
-        pub array_size_refused : (A : Type 0) (e : ReadError) → EndsBlock now.place head.head (length (concat found.items)) (as_error A e)
+        pub array_size_refused : {R : Type 0} {stands : R → Value → Type 0} (A : Type 0) (e : ReadError) → EndsBlock now.place head.head (length (concat found.items)) (as_error A e)
             → ReadsNode stands nodes (Node.array place) (outside start) (left_node after) (Err e)
         array_size_refused A e ends =
             let n = node_at nodes place in
             let limits = limits_at start in
-            array_refused stands nodes place start now after [] e
+            array_refused nodes place start now after [] e
             (size_refused (ValuesRun nodes limits n) (ItemsAreWhole nodes limits n) (λ left. Unit {0}) (values_run nodes limits n) (value_breaks nodes limits n) start now mid [] xs done block head
             after then_keys ys found counted A e ends)
 
@@ -233,11 +227,11 @@ module _ {R : Type 0} (stands : R → Value → Type 0) (nodes : List Node) (pla
             after then_keys ys found counted has)
 
   module _ (now : CursorValue) (keys : List (List ℕ)) (xs : List (List ℕ × Value)) (done : MapDone nodes place start now keys xs) where
-    pub map_head_refused : (after : CursorValue) (e : ReadError) → Refuses (HeadBreaks now.nodes) now e → ReadsNode stands nodes (Node.map_of place) (outside start) (left_node after) (Err e)
+    pub map_head_refused : {R : Type 0} {stands : R → Value → Type 0} (after : CursorValue) (e : ReadError) → Refuses (HeadBreaks now.nodes) now e → ReadsNode stands nodes (Node.map_of place) (outside start) (left_node after) (Err e)
     map_head_refused after e refused =
         let n = node_at nodes place in
         let limits = limits_at start in
-        map_refused stands nodes place start now after keys e
+        map_refused nodes place start now after keys e
         (head_refused (EntriesRun nodes limits n) (EntriesAreWhole nodes limits n) (λ left. are_distinct bytes_eq left.keys ≡ true) (entries_run nodes limits n) (entry_breaks nodes limits n)
         start now keys xs done e refused)
 
@@ -251,13 +245,13 @@ module _ {R : Type 0} (stands : R → Value → Type 0) (nodes : List Node) (pla
       pub map_blob_kept : start.blob ≡ mid.blob
       map_blob_kept = sym (head.passes.blob ∙ done.moves.blob)
 
-      pub map_item_refused : (after : CursorValue) (count : ℕ) (e : ReadError) → count ≡ block.count
+      pub map_item_refused : {R : Type 0} {stands : R → Value → Type 0} (after : CursorValue) (count : ℕ) (e : ReadError) → count ≡ block.count
           → ReportsFault (RunBreaks (EntriesRun nodes (limits_at start) (node_at nodes place)) (entry_breaks nodes (limits_at start) (node_at nodes place)) (left_at mid keys) count) mid e
           → ReadsNode stands nodes (Node.map_of place) (outside start) (left_node after) (Err e)
       map_item_refused after count e same reported =
           let n = node_at nodes place in
           let limits = limits_at start in
-          map_refused stands nodes place start now after keys e
+          map_refused nodes place start now after keys e
           (item_refused (EntriesRun nodes limits n) (EntriesAreWhole nodes limits n) (λ left. are_distinct bytes_eq left.keys ≡ true) (entries_run nodes limits n) (entry_breaks nodes limits n)
           start now mid keys xs done block head e
           (subst (λ (k : ℕ). ReportsFault (RunBreaks (EntriesRun nodes limits n) (entry_breaks nodes limits n) (left_at mid keys) k) mid e) same reported))
@@ -274,12 +268,12 @@ module _ {R : Type 0} (stands : R → Value → Type 0) (nodes : List Node) (pla
             let k = head.counted in
             omega arith
 
-        pub map_size_refused : (A : Type 0) (e : ReadError) → EndsBlock now.place head.head (length (concat found.items)) (as_error A e)
+        pub map_size_refused : {R : Type 0} {stands : R → Value → Type 0} (A : Type 0) (e : ReadError) → EndsBlock now.place head.head (length (concat found.items)) (as_error A e)
             → ReadsNode stands nodes (Node.map_of place) (outside start) (left_node after) (Err e)
         map_size_refused A e ends =
             let n = node_at nodes place in
             let limits = limits_at start in
-            map_refused stands nodes place start now after keys e
+            map_refused nodes place start now after keys e
             (size_refused (EntriesRun nodes limits n) (EntriesAreWhole nodes limits n) (λ left. are_distinct bytes_eq left.keys ≡ true) (entries_run nodes limits n) (entry_breaks nodes limits n)
             start now mid keys xs done block head after then_keys ys found counted A e ends)
 
@@ -306,16 +300,16 @@ is_at (p ∷ places) (suc k) place h =
     let rest = is_at places k place h in
     record { before = p ∷ rest.before; after = rest.after; places_are = ap (λ (ps : List ℕ). p ∷ ps) rest.places_are; length_is = ap suc rest.length_is }
 
-module _ {R : Type 0} (stands : R → Value → Type 0) (nodes : List Node) (places : List ℕ) (start mid : CursorValue) where
+module _ {R : Type 0} {stands : R → Value → Type 0} (nodes : List Node) (places : List ℕ) (start mid : CursorValue) where
   -- no place of a branch
   pub branch_unread : (after : CursorValue) (e : ReadError) → Refuses (IndexBreaks (length places)) start e
       → ReadsNode stands nodes (Node.union places) (outside start) (left_node after) (Err e)
   branch_unread after e refused = record { found = tt; refused = rw (refused.2) (refused.0, inl refused.1, refl) }
 
   module _ (k place : ℕ) (at : slice_get places k ≡ Some place) (found : Finds (λ (x : ℕ). x) (IsIndex (length places)) start mid k) where
-    pub union_found : {S : Type 0} (gives : S → Value → Type 0) (after : CursorValue) (s : S) (r : R) → ReadsNode gives nodes (node_at nodes place) mid after (Ok s)
+    pub union_found : {S : Type 0} {gives : S → Value → Type 0} (after : CursorValue) (s : S) (r : R) → ReadsNode gives nodes (node_at nodes place) mid after (Ok s)
         → ((v : Value) → gives s v → stands r (Value.union k v)) → ReadsNode stands nodes (Node.union places) (outside start) (left_node after) (Ok r)
-    union_found gives after s r reads step =
+    union_found after s r reads step =
         let v = reads.found.0 in
         let value = reads.found.1 in
         let passes = found.2 in
@@ -340,9 +334,9 @@ module _ {R : Type 0} (stands : R → Value → Type 0) (nodes : List Node) (pla
         }
 
     -- the branch breaks
-    pub branch_refused : {S : Type 0} (gives : S → Value → Type 0) (after elsewhere : CursorValue) (e : ReadError) → ReadsNode gives nodes (node_at nodes place) mid elsewhere (Err e)
+    pub branch_refused : {S : Type 0} {gives : S → Value → Type 0} (after elsewhere : CursorValue) (e : ReadError) → ReadsNode gives nodes (node_at nodes place) mid elsewhere (Err e)
         → ReadsNode stands nodes (Node.union places) (outside start) (left_node after) (Err e)
-    branch_refused gives after elsewhere e reads =
+    branch_refused after elsewhere e reads =
         let where_is = is_at places k place at in
         let passes = found.2 in
         record {
@@ -355,7 +349,7 @@ module _ {R : Type 0} (stands : R → Value → Type 0) (nodes : List Node) (pla
                 after = where_is.after;
                 places_are = where_is.places_are;
                 number = found.0;
-                spelled = subst (λ (q : ℕ). SpellsNumber (pos q) found.0) (sym where_is.length_is) found.1.1.1;
+                spelled = subst (λ (q : ℕ). SpellsInt (pos q) found.0) (sym where_is.length_is) found.1.1.1;
                 breaks = record {
                   rest = mid.bytes;
                   fault = f;
@@ -366,12 +360,6 @@ module _ {R : Type 0} (stands : R → Value → Type 0) (nodes : List Node) (pla
                 };
               })) reads.refused;
         }
-
-    -- what reading the branch answers is the answer
-    pub union_read : (after : CursorValue) (result : Result R ReadError) (gives : R → Value → Type 0) → ((r : R) (v : Value) → gives r v → stands r (Value.union k v))
-        → ReadsNode gives nodes (node_at nodes place) mid after result → ReadsNode stands nodes (Node.union places) (outside start) (left_node after) result
-    union_read after (Ok r) gives step reads = union_found gives after r r reads (step r)
-    union_read after (Err e) gives step reads = branch_refused gives after after e reads
 
 -- ---- Records
 
@@ -483,7 +471,7 @@ module _ (nodes : List Node) (places : List ℕ) (start now : CursorValue) (vs :
         };
       }) reported
 
-module _ {R : Type 0} (stands : R → Value → Type 0) (nodes : List Node) (name : Name) (aliases : List Name) (fields : List FieldNode) (start now : CursorValue) where
+module _ {R : Type 0} {stands : R → Value → Type 0} (nodes : List Node) (name : Name) (aliases : List Name) (fields : List FieldNode) (start now : CursorValue) where
   pub record_found : (vs : List Value) (r : R) → FieldsDone nodes (field_places fields) start now vs → stands r (Value.record_of (values_from vs))
       → ReadsNode stands nodes (Node.record_of name aliases fields) (outside start) (left_node now) (Ok r)
   record_found vs r done s = record {

@@ -2,10 +2,10 @@
 use Rattle.std.proofs.Common.{◌≡◌, ◌≢◌, ◌⊎◌, inl, inr, ℕ, zero, suc, ◌+◌, ◌-◌, ◌^◌, ◌<◌, ◌≤◌, ℤ, pos, negsuc, List, ◌++◌, length, refl, sym, ap, ◌∙◌, subst, append_assoc, length-append, arith}
 use Rattle.std.specs.Prelude.{nat_abs}
 use Rattle.std.proofs.lemmas.Bool.{cases_lt}
-use Rattle.avro_zigzag.specs.Number.{SpellsNumber}
+use Rattle.avro_zigzag.specs.Number.{SpellsLong}
 use Rattle.avro_zigzag.proofs.Spelling.{spelling-some}
 use Rattle.avro_binary.specs.Fault.{ReadFault, invalid_length, wrong_block_size, limit_exceeded, behind}
-use Rattle.avro_binary.specs.Breaks.{Left, LongBreaks, StartsWithLong, BreaksAfter, Head, IsHead, BlocksBreak}
+use Rattle.avro_binary.specs.Breaks.{Left, LongBreaks, StartsWithLong, BreaksAfter, Head, IsHead, HeadBreaks, BlocksBreak}
 use Rattle.avro_binary.proofs.FrontBlocks.{same_behind}
 use Rattle.avro_binary.proofs.BlockViews.{pos-long, neg-long}
 use Rattle.avro_binary.proofs.NoFrontBlocks.{long_none}
@@ -52,10 +52,10 @@ pub data BlocksView (are_whole : Left → ℕ → List ℕ → Left → Type 0) 
   stands : (v : ℤ) (number rest : List ℕ) → StartsWithLong v bytes number rest → CountBreaks are_whole item_breaks left v number rest f → BlocksView are_whole item_breaks left bytes f
 
 module _ (are_whole : Left → ℕ → List ℕ → Left → Type 0) (item_breaks : Left → List ℕ → ReadFault → Type 0) where
-  negative_at : (n : ℕ) (bytes number rest : List ℕ) → SpellsNumber (negsuc n) number → suc n < 2 ^ 63 → bytes ≡ number ++ rest → StartsWithLong (negsuc n) bytes number rest
+  negative_at : (n : ℕ) (bytes number rest : List ℕ) → SpellsLong (negsuc n) number → suc n < 2 ^ 63 → bytes ≡ number ++ rest → StartsWithLong (negsuc n) bytes number rest
   negative_at n bytes number rest s few e = record { spelled = s; in_range = neg-long (suc n) few; split = e }
 
-  positive_at : (n : ℕ) (bytes number rest : List ℕ) → SpellsNumber (pos n) number → n < 2 ^ 63 → bytes ≡ number ++ rest → StartsWithLong (pos n) bytes number rest
+  positive_at : (n : ℕ) (bytes number rest : List ℕ) → SpellsLong (pos n) number → n < 2 ^ 63 → bytes ≡ number ++ rest → StartsWithLong (pos n) bytes number rest
   positive_at n bytes number rest s few e = record { spelled = s; in_range = pos-long n few; split = e }
 
   counted_view : (left : Left) (count : ℕ) (number rest bytes : List ℕ) (f fault : ReadFault) → IsHead left.nodes (Head.counted count number) → bytes ≡ number ++ rest
@@ -75,16 +75,19 @@ module _ (are_whole : Left → ℕ → List ℕ → Left → Type 0) (item_break
   at_start : (n : ℕ) → n ≡ n + 0
   at_start n = omega arith
 
-  blocks_view : (left : Left) (bytes : List ℕ) (f : ReadFault) → BlocksBreak are_whole item_breaks left bytes f → BlocksView are_whole item_breaks left bytes f
-  blocks_view left bytes f (BlocksBreak.count_breaks b) = BlocksView.fails b
-  blocks_view left bytes _ (BlocksBreak.least_count number rest s) = BlocksView.stands (negsuc (2 ^ 63 - 1)) number rest s (CountBreaks.least refl refl)
-  blocks_view left bytes _ (BlocksBreak.too_many v number rest s not_least many) = BlocksView.stands v number rest s (CountBreaks.too_many not_least many refl)
-  blocks_view left bytes f (BlocksBreak.size_breaks n number s few less after) =
+  head_view : (left : Left) (bytes : List ℕ) (f : ReadFault) → HeadBreaks left.nodes bytes f → BlocksView are_whole item_breaks left bytes f
+  head_view left bytes f (HeadBreaks.count_fails b) = BlocksView.fails b
+  head_view left bytes _ (HeadBreaks.count_least number rest s) = BlocksView.stands (negsuc (2 ^ 63 - 1)) number rest s (CountBreaks.least refl refl)
+  head_view left bytes _ (HeadBreaks.count_over v number rest s not_least many) = BlocksView.stands v number rest s (CountBreaks.too_many not_least many refl)
+  head_view left bytes f (HeadBreaks.size_fails n number s few less after) =
       BlocksView.stands (negsuc n) number after.rest (negative_at n bytes number after.rest s few after.split)
       (CountBreaks.negative n after.fault refl few less (SizeBreaks.fails after.breaks) after.moved)
-  blocks_view left bytes _ (BlocksBreak.negative_size n m number size behind_count rest s few less split t) =
+  head_view left bytes _ (HeadBreaks.size_negative n m number size behind_count rest s few less split t) =
       BlocksView.stands (negsuc n) number behind_count (negative_at n bytes number behind_count s few split)
       (CountBreaks.negative n (invalid_length 0) refl few less (SizeBreaks.negative m size rest t refl) (ap invalid_length (at_start (length number))))
+
+  blocks_view : (left : Left) (bytes : List ℕ) (f : ReadFault) → BlocksBreak are_whole item_breaks left bytes f → BlocksView are_whole item_breaks left bytes f
+  blocks_view left bytes f (BlocksBreak.head_breaks b) = head_view left bytes f b
   blocks_view left bytes f (BlocksBreak.item_fails (Head.counted count number) done front then_left is more are after) =
       counted_view left count number (front ++ after.rest) bytes f (behind (length front) after.fault) is (after.split ∙ append_assoc number front after.rest)
       (ItemsBreak.fails done front then_left more are (record { rest = after.rest; fault = after.fault; split = refl; breaks = after.breaks; moved = refl }))

@@ -1,16 +1,22 @@
 -- The plain encoding is an encoding.
-use Rattle.std.proofs.Common.{◌≡◌, ℕ, zero, suc, pos, true, List, [], ◌∷◌, ◌++◌, length, refl, sym, ap, ◌∙◌, arith}
-use Rattle.std.specs.List.{concat}
+use Rattle.std.proofs.Common.{◌≡◌, ℕ, zero, suc, pos, true, Some, List, [], ◌∷◌, ◌++◌, length, refl, sym, ap, ◌∙◌, subst, arith, slice_get}
+use Rattle.std.specs.Prelude.{nat_lt}
+use Rattle.std.specs.List.{concat, list_all}
 use Rattle.std.proofs.lemmas.Bool.{and_parts, false≢true}
+use Rattle.std.proofs.lemmas.Bool.Decides.{nat_tests}
+use Rattle.std.proofs.lemmas.Option.{slice_get_within}
 use Rattle.std.proofs.lemmas.List.{append-nil}
 use Rattle.avro_zigzag.specs.Number.{number_bytes}
-use Rattle.avro_zigzag.proofs.Spelling.{SpellsNumber-number_bytes}
-use Rattle.avro_schema.specs.Value.{Value, Values, Entries, no_values, value, no_entries, entry, values_count, entries_count}
-use Rattle.avro_schema.specs.Node.{Node, node_at, field_places}
-use Rattle.avro_schema.specs.Fits.{fits, each_fits, entries_fit, fields_fit, is_count}
+use Rattle.avro_zigzag.proofs.Spelling.{SpellsInt-number_bytes, SpellsLong-number_bytes}
+use Rattle.avro_schema.specs.Value.{Value, Values, Entries, no_values, value, no_entries, entry, values_count, entries_count, keys_of}
+use Rattle.avro_schema.specs.Node.{Node, node_at, symbols_of, field_places}
+use Rattle.avro_schema.specs.Fits.{fits, each_fits, entries_fit, fields_fit, is_int, is_long, is_count, are_bytes, is_text, is_some_and, is_int_node, is_long_node, is_bytes_node, is_string_node}
+use Rattle.avro_schema.specs.WellFormed.{is_schema}
 use Rattle.avro_schema.proofs.FitsParts.{is_count-below, ArrayFits-from_fits, MapFits-from_fits, UnionFits-from_fits, RecordFits-from_fits}
 use Rattle.avro_binary.specs.Blocks.{IsInBlocks, no_more, counted}
 use Rattle.avro_binary.specs.Encoding.{SpellsBytes, Spells, EachSpelled, EntriesSpelled, Encodes, plain_bytes, plain_blocks, plain, plain_values, plain_entries}
+use Rattle.avro_binary.proofs.Choices.{HasFewChoices, HasFewChoices-from_is_schema}
+use Rattle.avro_binary.proofs.NoFrontParts.{pos-int, below-from_test}
 
 -- the plain encodings of values, one by one
 abbrev pub plain_items : Values → List (List ℕ)
@@ -38,14 +44,18 @@ pub concat-plain_entry_items : (es : Entries) → concat (plain_entry_items es) 
 concat-plain_entry_items no_entries = refl
 concat-plain_entry_items (entry k v es) = ap (λ rest. plain_bytes k ++ plain v ++ rest) (concat-plain_entry_items es)
 
+count-long : (n : ℕ) → is_count n ≡ true → is_long (pos n) ≡ true
+count-long n h = grind (arith, nat_tests)
+
 -- a length and its bytes
-pub SpellsBytes-plain_bytes : (content : List ℕ) → SpellsBytes content (plain_bytes content)
-SpellsBytes-plain_bytes content = (number_bytes (pos (length content)), SpellsNumber-number_bytes (pos (length content)), refl)
+pub SpellsBytes-plain_bytes : (content : List ℕ) → is_count (length content) ≡ true → SpellsBytes content (plain_bytes content)
+SpellsBytes-plain_bytes content h =
+    (number_bytes (pos (length content)), SpellsLong-number_bytes (pos (length content)) (count-long (length content) h), refl)
 
 -- one block holds all the items
 pub IsInBlocks-plain_blocks : (items : List (List ℕ)) (count : ℕ) (bytes : List ℕ) → length items ≡ count → concat items ≡ bytes
     → is_count count ≡ true → IsInBlocks items (plain_blocks count bytes)
-IsInBlocks-plain_blocks [] zero bytes counts joins h = no_more (SpellsNumber-number_bytes (pos 0))
+IsInBlocks-plain_blocks [] zero bytes counts joins h = no_more (SpellsLong-number_bytes (pos 0) refl)
 IsInBlocks-plain_blocks [] (suc count) bytes counts joins h = absurd (omega arith)
 IsInBlocks-plain_blocks (item ∷ items) zero bytes counts joins h = absurd (omega arith)
 IsInBlocks-plain_blocks (item ∷ items) (suc count) bytes counts joins h =
@@ -53,59 +63,86 @@ IsInBlocks-plain_blocks (item ∷ items) (suc count) bytes counts joins h =
     let number = number_bytes (pos (length (item ∷ items))) in
     let same : number_bytes (pos (suc count)) ≡ number = ap (λ n. number_bytes (pos n)) (sym counts) in
     counted (item ∷ items) [] number (0 ∷ []) (sym (append-nil (item ∷ items))) (omega arith) (omega arith)
-    (SpellsNumber-number_bytes (pos (length (item ∷ items))))
+    (SpellsLong-number_bytes (pos (length (item ∷ items))) (count-long (length (item ∷ items)) (ap (λ (n : ℕ). is_count n) counts ∙ h)))
     (ap (λ front. front ++ bytes ++ 0 ∷ []) same ∙ ap (λ joined. number ++ joined ++ 0 ∷ []) (sym joins))
-    (no_more (SpellsNumber-number_bytes (pos 0)))
+    (no_more (SpellsLong-number_bytes (pos 0) refl))
 
--- the plain encoding of a datum that fits spells it
-mutual
-  pub Spells-plain : (nodes : List Node) (n : Node) (v : Value) → fits nodes n v ≡ true → Spells v (plain v)
-  Spells-plain nodes n Value.null h = refl
-  Spells-plain nodes n (Value.boolean b) h = refl
-  Spells-plain nodes n (Value.int i) h = SpellsNumber-number_bytes i
-  Spells-plain nodes n (Value.long i) h = SpellsNumber-number_bytes i
-  Spells-plain nodes n (Value.bytes b) h = SpellsBytes-plain_bytes b
-  Spells-plain nodes n (Value.string t) h = SpellsBytes-plain_bytes t
-  Spells-plain nodes n (Value.array vs) h =
-      let parts = ArrayFits-from_fits nodes n vs h in (
-        plain_items vs,
-        EachSpelled-plain nodes (node_at nodes parts.place) vs parts.fitting,
-        IsInBlocks-plain_blocks (plain_items vs) (values_count vs) (plain_values vs) (length-plain_items vs) (concat-plain_items vs) parts.counted,
-      )
-  Spells-plain nodes n (Value.map_of es) h =
-      let parts = MapFits-from_fits nodes n es h in (
-        plain_entry_items es,
-        EntriesSpelled-plain nodes (node_at nodes parts.place) es parts.fitting,
-        IsInBlocks-plain_blocks (plain_entry_items es) (entries_count es) (plain_entries es) (length-plain_entry_items es) (concat-plain_entry_items es) parts.counted,
-      )
-  Spells-plain nodes n (Value.union k v) h =
-      let parts = UnionFits-from_fits nodes n k v h in
-      (number_bytes (pos k), plain v, SpellsNumber-number_bytes (pos k), Spells-plain nodes (node_at nodes parts.place) v parts.fitting, refl)
-  Spells-plain nodes n (Value.record_of vs) h =
-      let parts = RecordFits-from_fits nodes n vs h in
-      (plain_items vs, FieldsSpelled-plain nodes (field_places parts.fields) vs parts.fitting, sym (concat-plain_items vs))
-  Spells-plain nodes n (Value.enum k) h = SpellsNumber-number_bytes (pos k)
-  Spells-plain nodes n (Value.fixed b) h = refl
+-- the plain encoding of a datum that fits spells it, at a node of few choices
+module _ (nodes : List Node) (few : (place : ℕ) → HasFewChoices (node_at nodes place)) where
+  branch-int : (n : Node) (places : List ℕ) (k place : ℕ) → HasFewChoices n → n ≡ Node.union places → slice_get places k ≡ Some place → is_int (pos k) ≡ true
+  branch-int n places k place few is at =
+      pos-int k (length places) (slice_get_within places k place at) (subst HasFewChoices is few)
 
-  pub EachSpelled-plain : (nodes : List Node) (n : Node) (vs : Values) → each_fits nodes n vs ≡ true → EachSpelled vs (plain_items vs)
-  EachSpelled-plain nodes n no_values h = refl
-  EachSpelled-plain nodes n (value v vs) h =
-      let parts = and_parts (fits nodes n v) (each_fits nodes n vs) h in
-      (plain v, plain_items vs, Spells-plain nodes n v parts.0, EachSpelled-plain nodes n vs parts.1, refl)
+  symbol-int : (n : Node) (k : ℕ) → HasFewChoices n → is_some_and (λ symbols. nat_lt k (length symbols)) (symbols_of n) ≡ true → is_int (pos k) ≡ true
+  symbol-int (Node.enum name aliases symbols default) k few h = pos-int k (length symbols) (below-from_test k (length symbols) h) few
+  symbol-int Node.null k few h = absurd (false≢true h)
+  symbol-int Node.boolean k few h = absurd (false≢true h)
+  symbol-int Node.int k few h = absurd (false≢true h)
+  symbol-int Node.long k few h = absurd (false≢true h)
+  symbol-int Node.bytes k few h = absurd (false≢true h)
+  symbol-int Node.string k few h = absurd (false≢true h)
+  symbol-int (Node.array place) k few h = absurd (false≢true h)
+  symbol-int (Node.map_of place) k few h = absurd (false≢true h)
+  symbol-int (Node.union places) k few h = absurd (false≢true h)
+  symbol-int (Node.record_of name aliases fields) k few h = absurd (false≢true h)
+  symbol-int (Node.fixed name aliases count) k few h = absurd (false≢true h)
 
-  pub EntriesSpelled-plain : (nodes : List Node) (n : Node) (es : Entries) → entries_fit nodes n es ≡ true → EntriesSpelled es (plain_entry_items es)
-  EntriesSpelled-plain nodes n no_entries h = refl
-  EntriesSpelled-plain nodes n (entry k v es) h =
-      let parts = and_parts (fits nodes n v) (entries_fit nodes n es) h in
-      (plain_bytes k, plain v, plain_entry_items es, SpellsBytes-plain_bytes k, Spells-plain nodes n v parts.0, EntriesSpelled-plain nodes n es parts.1, refl)
+  mutual
+    pub Spells-plain : (place : ℕ) (v : Value) → fits nodes (node_at nodes place) v ≡ true → Spells v (plain v)
+    Spells-plain place Value.null h = refl
+    Spells-plain place (Value.boolean b) h = refl
+    Spells-plain place (Value.int i) h = SpellsInt-number_bytes i (and_parts (is_int_node (node_at nodes place)) (is_int i) h).1
+    Spells-plain place (Value.long i) h = SpellsLong-number_bytes i (and_parts (is_long_node (node_at nodes place)) (is_long i) h).1
+    Spells-plain place (Value.bytes b) h =
+        SpellsBytes-plain_bytes b (and_parts (is_count (length b)) _ (and_parts (is_bytes_node (node_at nodes place)) (are_bytes b) h).1).0
+    Spells-plain place (Value.string t) h =
+        SpellsBytes-plain_bytes t (and_parts (is_count (length t)) _ (and_parts (is_string_node (node_at nodes place)) (is_text t) h).1).0
+    Spells-plain place (Value.array vs) h =
+        let parts = ArrayFits-from_fits nodes (node_at nodes place) vs h in (
+          plain_items vs,
+          EachSpelled-plain parts.place vs parts.fitting,
+          IsInBlocks-plain_blocks (plain_items vs) (values_count vs) (plain_values vs) (length-plain_items vs) (concat-plain_items vs) parts.counted,
+        )
+    Spells-plain place (Value.map_of es) h =
+        let parts = MapFits-from_fits nodes (node_at nodes place) es h in (
+          plain_entry_items es,
+          EntriesSpelled-plain parts.place es parts.texts parts.fitting,
+          IsInBlocks-plain_blocks (plain_entry_items es) (entries_count es) (plain_entries es) (length-plain_entry_items es) (concat-plain_entry_items es) parts.counted,
+        )
+    Spells-plain place (Value.union k v) h =
+        let parts = UnionFits-from_fits nodes (node_at nodes place) k v h in
+        let number = SpellsInt-number_bytes (pos k) (branch-int (node_at nodes place) parts.places k parts.place (few place) parts.is_union parts.is_branch) in
+        (number_bytes (pos k), plain v, number, Spells-plain parts.place v parts.fitting, refl)
+    Spells-plain place (Value.record_of vs) h =
+        let parts = RecordFits-from_fits nodes (node_at nodes place) vs h in
+        (plain_items vs, FieldsSpelled-plain (field_places parts.fields) vs parts.fitting, sym (concat-plain_items vs))
+    Spells-plain place (Value.enum k) h = SpellsInt-number_bytes (pos k) (symbol-int (node_at nodes place) k (few place) h)
+    Spells-plain place (Value.fixed b) h = refl
 
-  pub FieldsSpelled-plain : (nodes : List Node) (places : List ℕ) (vs : Values) → fields_fit nodes places vs ≡ true → EachSpelled vs (plain_items vs)
-  FieldsSpelled-plain nodes places no_values h = refl
-  FieldsSpelled-plain nodes [] (value v vs) h = absurd (false≢true h)
-  FieldsSpelled-plain nodes (place ∷ places) (value v vs) h =
-      let parts = and_parts (fits nodes (node_at nodes place) v) (fields_fit nodes places vs) h in
-      (plain v, plain_items vs, Spells-plain nodes (node_at nodes place) v parts.0, FieldsSpelled-plain nodes places vs parts.1, refl)
+    EachSpelled-plain : (place : ℕ) (vs : Values) → each_fits nodes (node_at nodes place) vs ≡ true → EachSpelled vs (plain_items vs)
+    EachSpelled-plain place no_values h = refl
+    EachSpelled-plain place (value v vs) h =
+        let parts = and_parts (fits nodes (node_at nodes place) v) (each_fits nodes (node_at nodes place) vs) h in
+        (plain v, plain_items vs, Spells-plain place v parts.0, EachSpelled-plain place vs parts.1, refl)
+
+    EntriesSpelled-plain : (place : ℕ) (es : Entries) → list_all is_text (keys_of es) ≡ true → entries_fit nodes (node_at nodes place) es ≡ true
+        → EntriesSpelled es (plain_entry_items es)
+    EntriesSpelled-plain place no_entries t h = refl
+    EntriesSpelled-plain place (entry k v es) t h =
+        let texts = and_parts (is_text k) (list_all is_text (keys_of es)) t in
+        let parts = and_parts (fits nodes (node_at nodes place) v) (entries_fit nodes (node_at nodes place) es) h in
+        let key = SpellsBytes-plain_bytes k (and_parts (is_count (length k)) _ texts.0).0 in
+        (plain_bytes k, plain v, plain_entry_items es, key, Spells-plain place v parts.0, EntriesSpelled-plain place es texts.1 parts.1, refl)
+
+    FieldsSpelled-plain : (places : List ℕ) (vs : Values) → fields_fit nodes places vs ≡ true → EachSpelled vs (plain_items vs)
+    FieldsSpelled-plain places no_values h = refl
+    FieldsSpelled-plain [] (value v vs) h = absurd (false≢true h)
+    FieldsSpelled-plain (place ∷ places) (value v vs) h =
+        let parts = and_parts (fits nodes (node_at nodes place) v) (fields_fit nodes places vs) h in
+        (plain v, plain_items vs, Spells-plain place v parts.0, FieldsSpelled-plain places vs parts.1, refl)
 
 -- and so it is an encoding
-pub Encodes-plain : (nodes : List Node) (n : Node) (v : Value) → fits nodes n v ≡ true → Encodes nodes n v (plain v)
-Encodes-plain nodes n v h = record { fitting = h; spelled = Spells-plain nodes n v h }
+pub Encodes-plain : (nodes : List Node) (place : ℕ) (v : Value) → is_schema nodes ≡ true → fits nodes (node_at nodes place) v ≡ true
+    → Encodes nodes (node_at nodes place) v (plain v)
+Encodes-plain nodes place v s h =
+    record { fitting = h; spelled = Spells-plain nodes (HasFewChoices-from_is_schema nodes s) place v h }

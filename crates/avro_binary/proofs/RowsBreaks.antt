@@ -2,14 +2,14 @@
 use Rattle.std.proofs.Common.{inl, inr, refl, ℕ, zero, suc, ◌^◌, ◌-◌, pos, negsuc, List, [], ◌∷◌, codes, arith}
 use Rattle.std.specs.Str.{is_utf8, chars}
 use lib.Utf8.{encode}
-use Rattle.avro_zigzag.specs.NumberFault.{ends, too_large, not_shortest}
-use Rattle.avro_zigzag.specs.declared.VarError.TheVariants.{EndOfInput, NotShortest, OutOfRange}
+use Rattle.avro_zigzag.specs.NumberFault.{ends, too_large}
+use Rattle.avro_zigzag.specs.declared.VarError.TheVariants.{EndOfInput, OutOfRange}
 use Rattle.avro_schema.specs.Value.{Value, no_values, no_entries, entry}
 use Rattle.avro_schema.specs.Node.{Node, root_of}
 use Rattle.avro_schema.specs.Fits.{LimitValues}
 use Rattle.avro_schema.proofs.RowsSchemas.{simply, one_value, two_values, array_of_long, array_of_null, map_of_int, long_or_int, long_and_string, three_symbols, record_of_itself}
 use Rattle.avro_binary.specs.Fault.{ReadFault, end_of_input, invalid_number, invalid_boolean, invalid_text, unknown_index, invalid_length, wrong_block_size, duplicate_key, limit_exceeded}
-use Rattle.avro_binary.specs.Breaks.{Breaks, BreaksWithin, length_breaks, negative, too_long, cut, invalid, unknown, twice, string_breaks, key_breaks, value_breaks, counted, sized, count_breaks, least_count, too_many, size_breaks, negative_size, item_fails, size_differs, later_breaks}
+use Rattle.avro_binary.specs.Breaks.{Breaks, BreaksWithin, length_breaks, negative, too_long, cut, invalid, unknown, twice, string_breaks, key_breaks, value_breaks, counted, sized, count_fails, count_least, count_over, size_fails, size_negative, head_breaks, item_fails, size_differs, later_breaks}
 use Rattle.avro_binary.proofs.RowsNumbers.{spells, starts_with}
 
 -- limits of common use
@@ -33,9 +33,6 @@ int_of_no_byte = (EndOfInput, ends refl (omega arith), refl)
 
 int_goes_on : RootBreaks (Node.int ∷ []) (0x80 ∷ []) (end_of_input 0)
 int_goes_on = (EndOfInput, ends refl (omega arith), refl)
-
-int_not_shortest : RootBreaks (Node.int ∷ []) (0x80 ∷ 0 ∷ 5 ∷ []) (invalid_number 0)
-int_not_shortest = (NotShortest, not_shortest (0x80 ∷ []) (5 ∷ []) refl refl (omega arith) (omega arith), refl)
 
 int_too_large : RootBreaks (Node.int ∷ []) (0xff ∷ 0xff ∷ 0xff ∷ 0xff ∷ 0x10 ∷ []) (invalid_number 0)
 int_too_large = (OutOfRange, too_large (0xff ∷ 0xff ∷ 0xff ∷ 0xff ∷ []) [] 0x10 refl refl refl (omega arith), refl)
@@ -141,28 +138,28 @@ great_power = 0x80 ∷ 0x80 ∷ 0x80 ∷ 0x80 ∷ 0x80 ∷ 0x80 ∷ 0x80 ∷ 0x8
 
 -- the head of a block: its count, the count's limit, and only then its size
 count_of_no_byte : RootBreaks array_of_long [] (end_of_input 0)
-count_of_no_byte = count_breaks (EndOfInput, ends refl (omega arith), refl)
+count_of_no_byte = head_breaks (count_fails (EndOfInput, ends refl (omega arith), refl))
 
 least_count_of_all : RootBreaks array_of_null least_long (invalid_length 0)
-least_count_of_all = least_count least_long [] (starts_with (negsuc (2 ^ 63 - 1)) least_long [] refl refl)
+least_count_of_all = head_breaks (count_least least_long [] (starts_with (negsuc (2 ^ 63 - 1)) least_long [] refl refl))
 
 great_count : RootBreaks array_of_null great_power limit_exceeded
-great_count = too_many (pos (2 ^ 62)) great_power [] (starts_with (pos (2 ^ 62)) great_power [] refl refl) (λ e. cc) (omega arith)
+great_count = head_breaks (count_over (pos (2 ^ 62)) great_power [] (starts_with (pos (2 ^ 62)) great_power [] refl refl) (λ e. cc) (omega arith))
 
 -- the array is a node too, so that of three nodes two are left
 three_items_of_two_left : Breaks array_of_null (record { depth = 2; nodes = 3; blob = 1 }) (root_of array_of_null) (6 ∷ 0 ∷ []) limit_exceeded
-three_items_of_two_left = too_many (pos 3) (6 ∷ []) (0 ∷ []) (starts_with (pos 3) _ _ refl refl) (λ e. cc) (omega arith)
+three_items_of_two_left = head_breaks (count_over (pos 3) (6 ∷ []) (0 ∷ []) (starts_with (pos 3) _ _ refl refl) (λ e. cc) (omega arith))
 
 limit_before_size : Breaks array_of_null (record { depth = 2; nodes = 3; blob = 1 }) (root_of array_of_null) (5 ∷ []) limit_exceeded
-limit_before_size = too_many (negsuc 2) (5 ∷ []) [] (starts_with (negsuc 2) _ _ refl refl) (λ e. cc) (omega arith)
+limit_before_size = head_breaks (count_over (negsuc 2) (5 ∷ []) [] (starts_with (negsuc 2) _ _ refl refl) (λ e. cc) (omega arith))
 
 size_of_no_byte : RootBreaks array_of_long (3 ∷ []) (end_of_input 1)
-size_of_no_byte = size_breaks 1 (3 ∷ []) (spells (negsuc 1) _ refl) (omega arith) (omega arith)
-    (record { rest = []; fault = end_of_input 0; split = refl; breaks = (EndOfInput, ends refl (omega arith), refl); moved = refl })
+size_of_no_byte = head_breaks (size_fails 1 (3 ∷ []) (spells (negsuc 1) _ refl) (omega arith) (omega arith)
+    (record { rest = []; fault = end_of_input 0; split = refl; breaks = (EndOfInput, ends refl (omega arith), refl); moved = refl }))
 
 size_below_zero : RootBreaks array_of_long (3 ∷ 1 ∷ 6 ∷ []) (invalid_length 1)
-size_below_zero = negative_size 1 0 (3 ∷ []) (1 ∷ []) (1 ∷ 6 ∷ []) (6 ∷ []) (spells (negsuc 1) _ refl) (omega arith) (omega arith) refl
-    (starts_with (negsuc 0) _ _ refl refl)
+size_below_zero = head_breaks (size_negative 1 0 (3 ∷ []) (1 ∷ []) (1 ∷ 6 ∷ []) (6 ∷ []) (spells (negsuc 1) _ refl) (omega arith) (omega arith) refl
+    (starts_with (negsuc 0) _ _ refl refl))
 
 -- the items stand there, in fewer bytes than the block says
 size_too_large : RootBreaks array_of_long (3 ∷ 6 ∷ 6 ∷ 0x36 ∷ 0 ∷ []) (wrong_block_size 1)
@@ -252,7 +249,7 @@ second_block_past_limit = later_breaks (counted 1 (2 ∷ [])) [] (4 ∷ 0 ∷ []
       leaves = refl;
     })
     tt refl
-    (too_many (pos 2) (4 ∷ []) (0 ∷ []) (starts_with (pos 2) _ _ refl refl) (λ e. cc) (omega arith))
+    (head_breaks (count_over (pos 2) (4 ∷ []) (0 ∷ []) (starts_with (pos 2) _ _ refl refl) (λ e. cc) (omega arith)))
     refl
 
 -- where one level is left for the array, none is for an item

@@ -1,9 +1,9 @@
 -- The heads of blocks, and what reading one answers (Avro 1.11, "Binary Encoding", "Complex Types").
-use Rattle.std.specs.Prelude.{◌≡◌, ◌≢◌, ℕ, suc, ◌+◌, ◌-◌, ◌^◌, ◌<◌, ℤ, pos, negsuc, neg_ℤ, nat_abs, Bool, true, false, List, ◌++◌, length, Option, Some, None, Result, IfOk, IsOk, IsOkAnd, OnErr}
+use Rattle.std.specs.Prelude.{◌≡◌, ◌≢◌, ℕ, ◌+◌, ℤ, pos, neg_ℤ, Bool, true, false, List, ◌++◌, length, Option, Some, None, Result, IfOk, IsOk, IsOkAnd, OnErr}
 use Rattle.std.specs.Result.{IfErr, MatchResult}
-use Rattle.avro_zigzag.specs.Number.{SpellsNumber}
-use Rattle.avro_binary.specs.Fault.{ReadFault, invalid_length, wrong_block_size, limit_exceeded, behind}
-use Rattle.avro_binary.specs.Breaks.{LongBreaks, StartsWithLong, BreaksAfter, Head, counted, sized, head_bytes, IsHead}
+use Rattle.avro_zigzag.specs.Number.{SpellsLong}
+use Rattle.avro_binary.specs.Fault.{ReadFault, wrong_block_size, behind}
+use Rattle.avro_binary.specs.Breaks.{HeadBreaks, Head, counted, sized, head_bytes, IsHead}
 use Rattle.avro_binary.specs.Seen.{read_fault, Reports}
 use Rattle.avro_binary.specs.CursorValue.{CursorValue, Passes}
 use Rattle.avro_binary.specs.Elements.{Refuses}
@@ -18,18 +18,7 @@ signed_count false n = pos n
 -- a head, where so many nodes are left, or the 0 that ends the blocks
 abbrev pub IsHeadOrEnd : ℕ → Option Head → List ℕ → Type 0
 IsHeadOrEnd nodes (Some head) bytes = IsHead nodes head × (bytes ≡ head_bytes head)
-IsHeadOrEnd nodes None bytes = SpellsNumber (pos 0) bytes
-
--- the fault of a head, where so many nodes are left: the first five of those of blocks
-pub data HeadBreaks (nodes : ℕ) (bytes : List ℕ) : ReadFault → Type 0 where
-  count_fails : {f : ReadFault} → LongBreaks bytes f → HeadBreaks nodes bytes f
-  count_least : (number rest : List ℕ) → StartsWithLong (negsuc (2 ^ 63 - 1)) bytes number rest → HeadBreaks nodes bytes (invalid_length 0)
-  count_over : (v : ℤ) (number rest : List ℕ) → StartsWithLong v bytes number rest → v ≢ negsuc (2 ^ 63 - 1) → nodes < nat_abs v
-      → HeadBreaks nodes bytes limit_exceeded
-  size_fails : {f : ReadFault} (n : ℕ) (number : List ℕ) → SpellsNumber (negsuc n) number → suc n < 2 ^ 63 → n < nodes
-      → BreaksAfter LongBreaks number bytes f → HeadBreaks nodes bytes f
-  size_negative : (n m : ℕ) (number size behind_count rest : List ℕ) → SpellsNumber (negsuc n) number → suc n < 2 ^ 63 → n < nodes
-      → bytes ≡ number ++ behind_count → StartsWithLong (negsuc m) behind_count size rest → HeadBreaks nodes bytes (invalid_length (length number))
+IsHeadOrEnd nodes None bytes = SpellsLong (pos 0) bytes
 
 -- the block is of a head that stands at a place
 abbrev pub IsBlock : ℕ → Head → Block → Type 0

@@ -3,7 +3,7 @@
 use Rattle.std.specs.Prelude.{◌≡◌, ◌≢◌, ◌⊎◌, ℕ, zero, suc, ◌-◌, ◌^◌, ◌<◌, ◌≤◌, ℤ, pos, negsuc, neg_ℤ, nat_abs, Bool, true, false, List, [], ◌∷◌, ◌++◌, length, take, nat_lt, bytes_eq}
 use Rattle.std.specs.List.{concat, list_any, list_all}
 use Rattle.std.specs.Str.{is_utf8}
-use Rattle.avro_zigzag.specs.Number.{SpellsNumber}
+use Rattle.avro_zigzag.specs.Number.{SpellsInt, SpellsLong}
 use Rattle.avro_zigzag.specs.NumberFault.{IntFails, LongFails}
 use Rattle.avro_zigzag.specs.declared.VarError.{VarError}
 use Rattle.avro_zigzag.specs.declared.VarError.TheVariants.{EndOfInput, NotShortest, OutOfRange}
@@ -14,7 +14,7 @@ use Rattle.avro_schema.specs.Distinct.{are_distinct}
 use Rattle.avro_binary.specs.Encoding.{SpellsBytes, EachSpelled, EntriesSpelled}
 use Rattle.avro_binary.specs.Fault.{ReadFault, end_of_input, invalid_number, invalid_boolean, invalid_text, unknown_index, invalid_length, wrong_block_size, duplicate_key, limit_exceeded, behind}
 
--- what the fault of a number is: the input ends in it, or it is none
+-- what the fault of a number is: the input ends in it, or it is too large; a long spelling is no fault
 abbrev pub number_fault : VarError → ReadFault
 number_fault EndOfInput = end_of_input 0
 number_fault NotShortest = invalid_number 0
@@ -37,7 +37,7 @@ FixedBreaks count blob bytes f =
 
 -- The long v stands at the front, before the rest.
 pub record StartsWithLong (v : ℤ) (bytes number rest : List ℕ) : Type 0 where
-  pub spelled : SpellsNumber v number
+  pub spelled : SpellsLong v number
   pub in_range : is_long v ≡ true
   pub split : bytes ≡ number ++ rest
 
@@ -67,7 +67,7 @@ is_index choices (negsuc n) = false
 -- the place of a branch or a symbol, of so many
 pub data IndexBreaks (choices : ℕ) (bytes : List ℕ) : ReadFault → Type 0 where
   number_breaks : {f : ReadFault} → IntBreaks bytes f → IndexBreaks choices bytes f
-  unknown : (v : ℤ) (number rest : List ℕ) → SpellsNumber v number → is_int v ≡ true → bytes ≡ number ++ rest
+  unknown : (v : ℤ) (number rest : List ℕ) → SpellsInt v number → is_int v ≡ true → bytes ≡ number ++ rest
       → is_index choices v ≡ false → IndexBreaks choices bytes (unknown_index 0)
 
 -- A relation for the children of a node: the nodes left for one, its node, the bytes, and the fault.
@@ -89,7 +89,7 @@ pub record BranchBreaks (nodes : List Node) (left : LimitValues) (child : ChildB
   pub after : List ℕ
   pub places_are : places ≡ before ++ branch ∷ after
   pub number : List ℕ
-  pub spelled : SpellsNumber (pos (length before)) number
+  pub spelled : SpellsInt (pos (length before)) number
   pub breaks : BreaksAfter (child left.nodes (node_at nodes branch)) number bytes f
 
 -- the fields before one are whole, and that one breaks
@@ -168,33 +168,36 @@ head_bytes (sized count size count_bytes size_bytes) = count_bytes ++ size_bytes
 
 -- a head that passes its tests, where so many nodes are left; the count 0 is the end, and no head
 abbrev pub IsHead : ℕ → Head → Type 0
-IsHead left (counted count count_bytes) = (0 < count) × (count < 2 ^ 63) × (count ≤ left) × SpellsNumber (pos count) count_bytes
+IsHead left (counted count count_bytes) = (0 < count) × (count < 2 ^ 63) × (count ≤ left) × SpellsLong (pos count) count_bytes
 IsHead left (sized count size count_bytes size_bytes) =
-    (0 < count) × (count < 2 ^ 63) × (count ≤ left) × (size < 2 ^ 63) × SpellsNumber (neg_ℤ (pos count)) count_bytes
-    × SpellsNumber (pos size) size_bytes
+    (0 < count) × (count < 2 ^ 63) × (count ≤ left) × (size < 2 ^ 63) × SpellsLong (neg_ℤ (pos count)) count_bytes
+    × SpellsLong (pos size) size_bytes
 
 -- the size, where there is one, is this
 abbrev pub HasSize : Head → ℕ → Type 0
 HasSize (counted count count_bytes) n = Unit {0}
 HasSize (sized count size count_bytes size_bytes) n = size ≡ n
 
+-- the fault of a head, where so many nodes are left
+pub data HeadBreaks (nodes : ℕ) (bytes : List ℕ) : ReadFault → Type 0 where
+  -- the count fails
+  count_fails : {f : ReadFault} → LongBreaks bytes f → HeadBreaks nodes bytes f
+  -- it is -2^63
+  count_least : (number rest : List ℕ) → StartsWithLong (negsuc (2 ^ 63 - 1)) bytes number rest → HeadBreaks nodes bytes (invalid_length 0)
+  -- it is more than the nodes left
+  count_over : (v : ℤ) (number rest : List ℕ) → StartsWithLong v bytes number rest → v ≢ negsuc (2 ^ 63 - 1) → nodes < nat_abs v
+      → HeadBreaks nodes bytes limit_exceeded
+  -- the size fails
+  size_fails : {f : ReadFault} (n : ℕ) (number : List ℕ) → SpellsLong (negsuc n) number → suc n < 2 ^ 63 → n < nodes
+      → BreaksAfter LongBreaks number bytes f → HeadBreaks nodes bytes f
+  -- it is negative
+  size_negative : (n m : ℕ) (number size behind_count rest : List ℕ) → SpellsLong (negsuc n) number → suc n < 2 ^ 63 → n < nodes
+      → bytes ≡ number ++ behind_count → StartsWithLong (negsuc m) behind_count size rest → HeadBreaks nodes bytes (invalid_length (length number))
+
 -- The blocks of an array or a map: how whole items go and how one breaks is handed in.
 pub data BlocksBreak (are_whole : Left → ℕ → List ℕ → Left → Type 0) (item_breaks : Left → List ℕ → ReadFault → Type 0) : Left → List ℕ → ReadFault → Type 0 where
-  -- the count fails
-  count_breaks : {left : Left} {bytes : List ℕ} {f : ReadFault} → LongBreaks bytes f → BlocksBreak are_whole item_breaks left bytes f
-  -- it is -2^63
-  least_count : {left : Left} {bytes : List ℕ} (number rest : List ℕ) → StartsWithLong (negsuc (2 ^ 63 - 1)) bytes number rest
-      → BlocksBreak are_whole item_breaks left bytes (invalid_length 0)
-  -- it is more than the nodes left
-  too_many : {left : Left} {bytes : List ℕ} (v : ℤ) (number rest : List ℕ) → StartsWithLong v bytes number rest
-      → v ≢ negsuc (2 ^ 63 - 1) → left.nodes < nat_abs v → BlocksBreak are_whole item_breaks left bytes limit_exceeded
-  -- the size fails
-  size_breaks : {left : Left} {bytes : List ℕ} {f : ReadFault} (n : ℕ) (number : List ℕ) → SpellsNumber (negsuc n) number
-      → suc n < 2 ^ 63 → n < left.nodes → BreaksAfter LongBreaks number bytes f → BlocksBreak are_whole item_breaks left bytes f
-  -- it is negative
-  negative_size : {left : Left} {bytes : List ℕ} (n m : ℕ) (number size behind_count rest : List ℕ) → SpellsNumber (negsuc n) number
-      → suc n < 2 ^ 63 → n < left.nodes → bytes ≡ number ++ behind_count → StartsWithLong (negsuc m) behind_count size rest
-      → BlocksBreak are_whole item_breaks left bytes (invalid_length (length number))
+  -- the head of the first block breaks
+  head_breaks : {left : Left} {bytes : List ℕ} {f : ReadFault} → HeadBreaks left.nodes bytes f → BlocksBreak are_whole item_breaks left bytes f
   -- items of the block are whole, and the next breaks
   item_fails : {left : Left} {bytes : List ℕ} {f : ReadFault} (head : Head) (done : ℕ) (front : List ℕ) (then_left : Left)
       → IsHead left.nodes head → done < head_count head → are_whole left done front then_left

@@ -41,10 +41,7 @@ pub record ReadsNode {R : Type 0} (stands : R → Value → Type 0) (nodes : Lis
   pub found : IfOk result (λ r. (v : Value) × FindsValue nodes n before after v × stands r v)
   pub refused : IfErr result (ReportsFault (BreaksWithin nodes before.depth before.nodes before.blob n) before)
 
--- a walk answers for any datum, and a datum of the program is seen as its value
-abbrev pub AnyValue : Unit {0} → Value → Type 0
-AnyValue answer v = Unit {0}
-
+-- a datum of the program is seen as its value
 abbrev pub IsSeenAs : Datum → Value → Type 0
 IsSeenAs datum v = value_of datum ≡ v
 

@@ -4,7 +4,7 @@ use Rattle.std.specs.Result.{IfErr}
 use Rattle.std.specs.Option.{IfSome}
 use Rattle.std.specs.List.{list_any}
 use Rattle.std.specs.Str.{is_utf8}
-use Rattle.avro_zigzag.specs.Number.{SpellsNumber}
+use Rattle.avro_zigzag.specs.Number.{SpellsInt, SpellsLong}
 use Rattle.avro_schema.specs.Fits.{is_int, is_long}
 use Rattle.avro_binary.specs.Encoding.{SpellsBytes}
 use Rattle.avro_binary.specs.Fault.{ReadFault, behind}
@@ -18,10 +18,10 @@ abbrev pub IsBoolean : Bool → List ℕ → Type 0
 IsBoolean b bytes = bytes ≡ (if b then 1 else 0) ∷ []
 
 abbrev pub IsInt : ℤ → List ℕ → Type 0
-IsInt v bytes = (is_int v ≡ true) × SpellsNumber v bytes
+IsInt v bytes = (is_int v ≡ true) × SpellsInt v bytes
 
 abbrev pub IsLong : ℤ → List ℕ → Type 0
-IsLong v bytes = (is_long v ≡ true) × SpellsNumber v bytes
+IsLong v bytes = (is_long v ≡ true) × SpellsLong v bytes
 
 -- content of some kind, of a length within a limit, behind that length
 pub record IsContent (is_content : List ℕ → Bool) (blob : ℕ) (content bytes : List ℕ) : Type 0 where
@@ -70,7 +70,7 @@ pub record ReadsElement {A R : Type 0} (seen : R → A) (IsElement : A → List 
 pub record ContentStands (blob : ℕ) (bytes content : List ℕ) (len : ℕ) : Type 0 where
   pub number : List ℕ
   pub rest : List ℕ
-  pub spelled : SpellsNumber (pos (length content)) number
+  pub spelled : SpellsLong (pos (length content)) number
   pub countable : length content < 2 ^ 63
   pub within : length content ≤ blob
   pub split : bytes ≡ number ++ content ++ rest

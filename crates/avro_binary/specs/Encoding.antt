@@ -1,7 +1,7 @@
 -- The encodings of a datum, and the plain one (Avro 1.11, "Binary Encoding").
 use Rattle.std.specs.Prelude.{◌≡◌, ℕ, zero, suc, pos, true, List, [], ◌∷◌, ◌++◌, length, if◌then◌else◌}
 use Rattle.std.specs.List.{concat}
-use Rattle.avro_zigzag.specs.Number.{SpellsNumber, number_bytes}
+use Rattle.avro_zigzag.specs.Number.{SpellsInt, SpellsLong, number_bytes}
 use Rattle.avro_schema.specs.Value.{Value, Values, Entries, no_values, value, no_entries, entry, values_count, entries_count}
 use Rattle.avro_schema.specs.Node.{Node}
 use Rattle.avro_schema.specs.Fits.{fits}
@@ -9,24 +9,24 @@ use Rattle.avro_binary.specs.Blocks.{IsInBlocks}
 
 -- a length, and that many bytes
 abbrev pub SpellsBytes : List ℕ → List ℕ → Type 0
-SpellsBytes content bytes = (count : List ℕ) × SpellsNumber (pos (length content)) count × (bytes ≡ count ++ content)
+SpellsBytes content bytes = (count : List ℕ) × SpellsLong (pos (length content)) count × (bytes ≡ count ++ content)
 
--- The bytes spell the datum. An array or a map may be cut into blocks in many ways, so that one datum has many
--- spellings.
+-- The bytes spell the datum. An array or a map may be cut into blocks in many ways, and numbers may be padded, so that one
+-- datum has many spellings.
 abbrev mutual
   pub Spells : Value → List ℕ → Type 0
   Spells Value.null bytes = bytes ≡ []
   Spells (Value.boolean b) bytes = bytes ≡ (if b then 1 else 0) ∷ []
-  Spells (Value.int i) bytes = SpellsNumber i bytes
-  Spells (Value.long i) bytes = SpellsNumber i bytes
+  Spells (Value.int i) bytes = SpellsInt i bytes
+  Spells (Value.long i) bytes = SpellsLong i bytes
   Spells (Value.bytes b) bytes = SpellsBytes b bytes
   Spells (Value.string t) bytes = SpellsBytes t bytes
   Spells (Value.array vs) bytes = (items : List (List ℕ)) × EachSpelled vs items × IsInBlocks items bytes
   Spells (Value.map_of es) bytes = (items : List (List ℕ)) × EntriesSpelled es items × IsInBlocks items bytes
   Spells (Value.union k v) bytes =
-      (place rest : List ℕ) × SpellsNumber (pos k) place × Spells v rest × (bytes ≡ place ++ rest)
+      (place rest : List ℕ) × SpellsInt (pos k) place × Spells v rest × (bytes ≡ place ++ rest)
   Spells (Value.record_of vs) bytes = (items : List (List ℕ)) × EachSpelled vs items × (bytes ≡ concat items)
-  Spells (Value.enum k) bytes = SpellsNumber (pos k) bytes
+  Spells (Value.enum k) bytes = SpellsInt (pos k) bytes
   Spells (Value.fixed b) bytes = bytes ≡ b
 
   -- one spelling for each value
@@ -56,7 +56,7 @@ abbrev pub plain_blocks : ℕ → List ℕ → List ℕ
 plain_blocks zero items = 0 ∷ []
 plain_blocks (suc count) items = number_bytes (pos (suc count)) ++ items ++ 0 ∷ []
 
--- the plain encoding: one block of positive count for each array or map that isn't empty
+-- the plain encoding: one block of positive count for each array or map that isn't empty, and shortest numbers
 abbrev mutual
   pub plain : Value → List ℕ
   plain Value.null = []

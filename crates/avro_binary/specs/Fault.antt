@@ -6,7 +6,7 @@ use Rattle.std.specs.Prelude.{ℕ, ◌+◌}
 pub data ReadFault : Type 0 where
   -- the input ends in the part
   end_of_input : (place : ℕ) → ReadFault
-  -- a number that is not the shortest, or is too large
+  -- a number that is too large
   invalid_number : (place : ℕ) → ReadFault
   -- a boolean's byte over 1
   invalid_boolean : (place : ℕ) → ReadFault

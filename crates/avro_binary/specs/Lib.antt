@@ -4,6 +4,7 @@ pub mod Encoded
 pub mod Fault
 pub mod Breaks
 pub mod Seen
+pub mod Making
 pub mod Reading
 pub mod KeySet
 pub mod CursorValue

@@ -13,7 +13,22 @@ use Rattle.avro_binary.specs.Breaks.{Breaks}
 use Rattle.avro_binary.specs.Seen.{read_fault, UnlessOutOfMemory, Reports}
 use Rattle.avro_binary.specs.declared.error.ReadError.{ReadError}
 
--- Bytes are read exactly: as the datum whose encoding within limits they begin with, and that encoding's length, or by
+-- Bytes are read exactly, where `stands` says which datum an answer stands for: as the datum whose encoding within limits
+-- they begin with, and that encoding's length, or by their first fault.
+pub record BuildsExactly {R : Type 0} (stands : R → Value → Type 0) (nodes : List Node) (n : Node) (limits : LimitValues) (bytes : List ℕ) (result : Result (R × ℕ) ReadError) : Type 0 where
+  -- what is answered stands for what stands there
+  pub found : IfOk result (λ r. (v : Value) × stands r.0 v × (r.1 ≤ length bytes) × Encodes nodes n v (take r.1 bytes) × (is_within limits v ≡ true))
+  -- what stands there is answered, whatever follows it
+  pub begins : (v : Value) (front rest : List ℕ) → Encodes nodes n v front → is_within limits v ≡ true → bytes ≡ front ++ rest
+      → UnlessOutOfMemory result (IsOkAnd result (λ r. stands r.0 v × (r.1 ≡ length front)))
+  -- what is refused has the fault that is reported, and what has a fault is refused
+  pub refused : IfErr result (λ e. IfSome (read_fault e) (Breaks nodes limits n bytes))
+  pub breaks : (fault : ReadFault) → Breaks nodes limits n bytes fault → UnlessOutOfMemory result (Reports result fault)
+  -- a fault that is no limit leaves no front of the bytes that encodes any datum
+  pub no_front : IfErr result (λ e. IfSome (read_fault e) (λ fault.
+      fault ≢ limit_exceeded → (v : Value) (front rest : List ℕ) → Encodes nodes n v front → bytes ≡ front ++ rest → ⊥))
+
+-- The same of an answer that is the datum: bytes are read as the datum whose encoding within limits they begin with, and that encoding's length, or by
 -- their first fault.
 pub record ReadsExactly (nodes : List Node) (n : Node) (limits : LimitValues) (bytes : List ℕ) (result : Result (Datum × ℕ) ReadError) : Type 0 where
   -- what is answered stands there

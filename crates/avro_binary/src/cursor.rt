@@ -1,10 +1,9 @@
 ghost use Rattle.std.specs.Prelude.{◌≡◌, ◌⊎◌, ◌+◌, ◌-◌, ◌^◌, ◌≤◌, ◌<◌, List, ℕ, Bool, length, take, drop, pos, negsuc, neg_ℤ, Some, IfSome, IfNone, IfOk, OnOk, OnErr, false, true};
 ghost use Rattle.std.specs.Result.{IfErr};
 ghost use Rattle.std.specs.Str.{is_utf8};
-ghost use Rattle.avro_zigzag.specs.Number.{SpellsNumber, zigzag, is_int, is_long};
-ghost use Rattle.avro_zigzag.specs.NumberFault.{IntFails, LongFails};
-ghost use Rattle.avro_binary.specs.BlockHeads.{HeadBreaks, IsBlock, ReadsHead, EndsBlock, signed_count};
-ghost use Rattle.avro_binary.specs.Breaks.{Head, head_bytes, StartsWithLong, ContentBreaks, BytesBreaks, StringBreaks, BooleanBreaks, IntBreaks, LongBreaks, FixedBreaks, IndexBreaks, is_index, number_fault};
+ghost use Rattle.avro_zigzag.specs.Number.{SpellsLong};
+ghost use Rattle.avro_binary.specs.BlockHeads.{IsBlock, ReadsHead, EndsBlock, signed_count};
+ghost use Rattle.avro_binary.specs.Breaks.{Head, HeadBreaks, head_bytes, StartsWithLong, ContentBreaks, BytesBreaks, StringBreaks, BooleanBreaks, IntBreaks, LongBreaks, FixedBreaks, IndexBreaks, is_index, number_fault};
 ghost use Rattle.avro_binary.specs.CursorValue.{Passes, Enters, Counts};
 ghost use Rattle.avro_binary.specs.Elements.{ReadsElement, ReadsKey, Refuses, ContentStands, IsBoolean, IsInt, IsLong, IsBytes, IsString, IsFixed, IsIndex};
 ghost use Rattle.avro_binary.specs.Fault.{behind, limit_exceeded};
@@ -129,10 +128,11 @@ impl<'a> Cursor<'a> {
     /// # Errors
     ///
     /// `EndOfInput`, `InvalidNumber`.
+    #[inline(always)]
     pub fn int(&mut self) -> Result<i32, ReadError>
         ensures { ReadsElement (λ v. v) IsInt IntBreaks self.old self.new result }
     {
-        match front_int(self.rest()) {
+        match read_int(self.rest()) {
             Ok((value, len)) => {
                 self.pass(len);
                 Ok(value)
@@ -146,10 +146,11 @@ impl<'a> Cursor<'a> {
     /// # Errors
     ///
     /// `EndOfInput`, `InvalidNumber`.
+    #[inline(always)]
     pub fn long(&mut self) -> Result<i64, ReadError>
         ensures { ReadsElement (λ v. v) IsLong LongBreaks self.old self.new result }
     {
-        match front_long(self.rest()) {
+        match read_long(self.rest()) {
             Ok((number, len)) => {
                 self.pass(len);
                 Ok(number)
@@ -186,7 +187,7 @@ impl<'a> Cursor<'a> {
     pub fn index(&mut self, choices: usize) -> Result<usize, ReadError>
         ensures { ReadsElement (λ n. n) (IsIndex choices) (IndexBreaks choices) self.old self.new result }
     {
-        match front_int(self.rest()) {
+        match read_int(self.rest()) {
             Ok((value, len)) => match place_of(value, choices) {
                 Some(index) => {
                     self.pass(len);
@@ -201,13 +202,14 @@ impl<'a> Cursor<'a> {
     }
 
     /// The length of a content at the front, after its tests, and how many bytes it takes.
+    #[inline(always)]
     fn content_length(&self) -> Result<(usize, usize), ReadError>
         ensures inside { IfOk result (λ r. r.1 ≤ length self.now.bytes) }
         ensures within { IfOk result (λ r. r.0 ≤ self.now.blob) }
         ensures stands { IfOk result (λ r. StartsWithLong (pos r.0) self.now.bytes (take r.1 self.now.bytes) (drop r.1 self.now.bytes)) }
         ensures refused { (is_content : List ℕ → Bool) → IfErr result (Refuses (ContentBreaks is_content self.now.blob) self.now) }
     {
-        match front_long(self.rest()) {
+        match read_long(self.rest()) {
             Ok((count, len)) => {
                 if count < 0 {
                     return Err(ReadError::InvalidLength {
@@ -224,6 +226,7 @@ impl<'a> Cursor<'a> {
     }
 
     /// The content at the front behind its length, and how many bytes the two are.
+    #[inline(always)]
     fn content(&self) -> Result<(&'a [u8], usize), ReadError>
         ensures stands { IfOk result (λ r. ContentStands self.now.blob self.now.bytes r.0.now r.1) }
         ensures refused { (is_content : List ℕ → Bool) → IfErr result (Refuses (ContentBreaks is_content self.now.blob) self.now) }
@@ -244,6 +247,7 @@ impl<'a> Cursor<'a> {
     }
 
     /// The text at the front behind its length, and how many bytes the two are.
+    #[inline(always)]
     fn text(&self) -> Result<(&'a str, usize), ReadError>
         ensures stands { IfOk result (λ r. ContentStands self.now.blob self.now.bytes r.0.now r.1) }
         ensures valid { IfOk result (λ r. is_utf8 r.0.now ≡ true) }
@@ -283,6 +287,7 @@ impl<'a> Cursor<'a> {
     /// # Errors
     ///
     /// As for bytes, and then `InvalidText`.
+    #[inline(always)]
     pub fn string(&mut self) -> Result<&'a str, ReadError>
         ensures { ReadsElement (λ text. text.now) (IsString self.old.blob) (StringBreaks self.old.blob) self.old self.new result }
     {
@@ -329,7 +334,7 @@ impl<'a> Cursor<'a> {
         ensures stands { IfOk result (λ r. StartsWithLong (signed_count r.0 r.1) self.now.bytes (take r.2 self.now.bytes) (drop r.2 self.now.bytes)) }
         ensures refused { IfErr result (Refuses (HeadBreaks self.now.nodes) self.now) }
     {
-        match front_long(self.rest()) {
+        match read_long(self.rest()) {
             Ok((count, len)) => {
                 if count == i64::MIN {
                     return Err(ReadError::InvalidLength {
@@ -351,10 +356,10 @@ impl<'a> Cursor<'a> {
         requires { len ≤ length self.now.bytes }
         ensures inside { IfOk result (λ r. (len ≤ r.1) × (r.1 ≤ length self.now.bytes)) }
         ensures stands { IfOk result (λ r. StartsWithLong (pos r.0) (drop len self.now.bytes) (take (r.1 - len) (drop len self.now.bytes)) (drop (r.1 - len) (drop len self.now.bytes))) }
-        ensures refused { (n : ℕ) → SpellsNumber (negsuc n) (take len self.now.bytes) → n + 1 < 2 ^ 63 → n < self.now.nodes → IfErr result (Refuses (HeadBreaks self.now.nodes) self.now) }
+        ensures refused { (n : ℕ) → SpellsLong (negsuc n) (take len self.now.bytes) → n + 1 < 2 ^ 63 → n < self.now.nodes → IfErr result (Refuses (HeadBreaks self.now.nodes) self.now) }
     {
         let (_, behind) = self.rest().split_at(len);
-        match front_long(behind) {
+        match read_long(behind) {
             Ok((size, more)) => {
                 if size < 0 {
                     return Err(ReadError::InvalidLength {
@@ -398,7 +403,7 @@ impl<'a> Cursor<'a> {
         requires some { 0 < count }
         requires within { count ≤ self.old.nodes }
         requires small { count < 2 ^ 63 }
-        requires spelled { SpellsNumber (neg_ℤ (pos count)) (take len self.old.bytes) }
+        requires spelled { SpellsLong (neg_ℤ (pos count)) (take len self.old.bytes) }
         ensures { ReadsHead self.old self.new result }
     {
         match self.block_size(len) {
@@ -476,12 +481,14 @@ impl<'a> Cursor<'a> {
         Ok(())
     }
 
-    /// Leaves a node, whose depth is free again.
+    /// Leaves a node, whose depth is free again. No limit is over 256, and there the depth stays.
     pub fn leave(&mut self)
-        requires { self.old.depth < 256 }
-        ensures { self.new ≡ record self.old { depth = self.old.depth + 1 } }
+        ensures freed { self.old.depth < 256 → self.new ≡ record self.old { depth = self.old.depth + 1 } }
+        ensures whole { 256 ≤ self.old.depth → self.new ≡ self.old }
     {
-        self.depth += 1;
+        if self.depth < 256 {
+            self.depth += 1;
+        }
     }
 }
 
@@ -505,40 +512,4 @@ fn place_of(value: i32, choices: usize) -> Option<usize>
     }
     let index = value as usize;
     if index < choices { Some(index) } else { None }
-}
-
-/// The number whose zig-zag number is one byte.
-#[inline(always)]
-fn small_number(byte: u8) -> i32
-    ensures { zigzag result ≡ byte }
-{
-    let half = i32::from(byte / 2);
-    if byte % 2 == 0 { half } else { -half - 1 }
-}
-
-/// The long at the front, and how many bytes it takes. Most numbers are one byte: that case is here,
-/// where a caller has it without a call.
-#[inline(always)]
-fn front_long(bytes: &[u8]) -> Result<(i64, usize), VarError>
-    ensures found { IfOk result (λ r. (r.1 ≤ length bytes.now) × SpellsNumber r.0 (take r.1 bytes.now)) }
-    ensures in_range { IfOk result (λ r. is_long r.0 ≡ true) }
-    ensures refused { IfErr result (λ e. LongFails bytes.now e) }
-{
-    if !bytes.is_empty() && bytes[0] < 128 {
-        return Ok((i64::from(small_number(bytes[0])), 1));
-    }
-    read_long(bytes)
-}
-
-/// The int at the front, and how many bytes it takes.
-#[inline(always)]
-fn front_int(bytes: &[u8]) -> Result<(i32, usize), VarError>
-    ensures found { IfOk result (λ r. (r.1 ≤ length bytes.now) × SpellsNumber r.0 (take r.1 bytes.now)) }
-    ensures in_range { IfOk result (λ r. is_int r.0 ≡ true) }
-    ensures refused { IfErr result (λ e. IntFails bytes.now e) }
-{
-    if !bytes.is_empty() && bytes[0] < 128 {
-        return Ok((small_number(bytes[0]), 1));
-    }
-    read_int(bytes)
 }

@@ -6,7 +6,7 @@ pub enum ReadError {
     /// The input ends in a number, a boolean or a content.
     #[error("B1 at {place}")]
     EndOfInput { place: usize },
-    /// A number is not the shortest of its value, or is too large.
+    /// A number is too large: it has more than 32 bits where it is an int, or more than 64 where it is a long.
     #[error("B2 at {place}")]
     InvalidNumber { place: usize },
     /// A boolean's byte is over 1.

@@ -1,6 +1,7 @@
 //! Laws of encodings.
 
-ghost use Rattle.std.specs.Prelude.{◌≡◌, ◌≢◌, ℕ, true, List, ◌++◌};
+ghost use Rattle.std.specs.Prelude.{◌≡◌, ◌≢◌, ◌⊎◌, ℕ, ◌<◌, ◌^◌, true, List, ◌++◌, nat_lt};
+ghost use Rattle.std.specs.List.{list_all};
 ghost use Rattle.avro_schema.specs.Value.{Value};
 ghost use Rattle.avro_schema.specs.Node.{Node, node_at};
 ghost use Rattle.avro_schema.specs.Fits.{fits, LimitValues, is_within};
@@ -9,9 +10,9 @@ ghost use Rattle.avro_binary.specs.Encoding.{Encodes, plain};
 ghost use Rattle.avro_binary.specs.Fault.{ReadFault, limit_exceeded};
 ghost use Rattle.avro_binary.specs.Breaks.{Breaks};
 
-/// The plain encoding of a datum that fits is an encoding of it.
+/// The plain encoding of a datum that fits a schema's node is an encoding of it.
 pub fn plain_encodes()
-    ensures { (nodes : List Node) (n : Node) (v : Value) → fits nodes n v ≡ true → Encodes nodes n v (plain v) }
+    ensures { (nodes : List Node) (place : ℕ) (v : Value) → is_schema nodes ≡ true → fits nodes (node_at nodes place) v ≡ true → Encodes nodes (node_at nodes place) v (plain v) }
 {}
 
 /// No encoding at a node begins another: the bytes tell where a datum ends and which one it is.
@@ -35,4 +36,12 @@ pub fn fault_or_within()
 pub fn one_fault()
     ensures { (nodes : List Node) (limits : LimitValues) (place : ℕ) (bytes : List ℕ) (f g : ReadFault) → is_schema nodes ≡ true
         → Breaks nodes limits (node_at nodes place) bytes f → Breaks nodes limits (node_at nodes place) bytes g → f ≡ g }
+{}
+
+/// Bytes begin with an encoding of a datum of the node within limits, or have a fault: no case is missing among the faults.
+/// The limit of nodes is below 2^32 and that of a blob below 2^63, as those of each `Limits` are: without them a count or
+/// a length may be too large for an encoding.
+pub fn encoding_or_fault()
+    ensures { (nodes : List Node) (n : Node) (limits : LimitValues) (bytes : List ℕ) → list_all (λ b. nat_lt b 256) bytes ≡ true → limits.nodes < 2 ^ 32 → limits.blob < 2 ^ 63
+        → ((v : Value) × (front rest : List ℕ) × Encodes nodes n v front × (is_within limits v ≡ true) × (bytes ≡ front ++ rest)) ⊎ ((f : ReadFault) × Breaks nodes limits n bytes f) }
 {}

@@ -11,20 +11,32 @@
 #![tactic(auto)]
 
 mod block;
+mod build;
 mod cursor;
 mod encode_error;
 mod error;
 mod keys;
 pub mod laws;
+mod make;
+mod nothing;
+mod own;
 mod read;
+mod reading;
+mod tree;
 mod walking;
 mod write;
 
 pub use block::Block;
+pub use build::Build;
 pub use cursor::Cursor;
 pub use encode_error::EncodeError;
 pub use error::ReadError;
 pub use keys::Keys;
-pub use read::decode;
+pub use make::Make;
+pub use nothing::Nothing;
+pub use own::Own;
+pub use read::{decode, read_own};
+pub use reading::read_place;
+pub use tree::Tree;
 pub use walking::walk;
 pub use write::encode;

@@ -1,6 +1,6 @@
 //! Writing data.
 
-ghost use Rattle.std.specs.Prelude.{◌≡◌, ◌<◌, ◌^◌, ◌++◌, [], ◌∷◌, length, take, pos, negsuc, ◌≤ℤ◌, ◌<ℤ◌, OnOk, OnErr};
+ghost use Rattle.std.specs.Prelude.{◌≡◌, ◌<◌, ◌^◌, ◌++◌, [], ◌∷◌, length, take, pos, OnOk, OnErr};
 ghost use Rattle.std.specs.Result.{IsOkUnless};
 ghost use Rattle.avro_schema.specs.Node.{node_at};
 ghost use Rattle.avro_schema.specs.Seen.{value_of, values_of, entries_of};
@@ -16,7 +16,7 @@ use avro_zigzag::write_long;
 use std::alloc::{AllocError, Global};
 
 /// Appends the plain encoding of a datum of a node: each array or map that is not empty is one block
-/// of positive count (Avro 1.11, "Binary Encoding").
+/// of positive count, and each number has its shortest spelling (Avro 1.11, "Binary Encoding").
 ///
 /// # Errors
 ///
@@ -102,10 +102,6 @@ fn write_number(value: i64, out: &mut Vec<u8>) -> Result<(), AllocError>
     ensures appended { OnOk result (out.new.items ≡ out.old.items ++ number_bytes value) }
     ensures kept { take (length out.old.items) out.new.items ≡ out.old.items }
 {
-    if (-64..64).contains(&value) {
-        out.push(small_number(value))?;
-        return Ok(());
-    }
     let (bytes, len) = write_long(value);
     push_each(&bytes[..len], out)
 }
@@ -136,19 +132,6 @@ fn write_place(place: u32, out: &mut Vec<u8>) -> Result<(), AllocError>
     ensures kept { take (length out.old.items) out.new.items ≡ out.old.items }
 {
     write_number(i64::from(place), out)
-}
-
-/// The byte of a number that takes one.
-fn small_number(value: i64) -> u8
-    requires low { negsuc 63 ≤ℤ value }
-    requires high { value <ℤ pos 64 }
-    ensures { number_bytes value ≡ result ∷ [] }
-{
-    if value >= 0 {
-        2 * value as u8
-    } else {
-        2 * (-(value + 1) as u8) + 1
-    }
 }
 
 /// Appends a length and the bytes.

@@ -115,14 +115,14 @@ union_into writer reader dead pairs v k w r (Node.union places) q h s each = tak
 union_into writer reader dead pairs v k w r _ q h s each = absurd (false≢true h)
 
 -- what stands at a place begins the rest from there on
-slice_get_of_drop : {A : Type 0} (xs ys : List A) (n : ℕ) (x : A) → drop n xs ≡ x ∷ ys → slice_get xs n ≡ Some x
+pub slice_get_of_drop : {A : Type 0} (xs ys : List A) (n : ℕ) (x : A) → drop n xs ≡ x ∷ ys → slice_get xs n ≡ Some x
 slice_get_of_drop [] ys zero x e = absurd (grind arith)
 slice_get_of_drop [] ys (suc n) x e = absurd (grind arith)
 slice_get_of_drop (z ∷ zs) ys zero x e = grind arith
 slice_get_of_drop (z ∷ zs) ys (suc n) x e = slice_get_of_drop zs ys n x e
 
 -- and the others follow
-drop_more : {A : Type 0} (xs ys : List A) (n : ℕ) (x : A) → drop n xs ≡ x ∷ ys → drop (suc n) xs ≡ ys
+pub drop_more : {A : Type 0} (xs ys : List A) (n : ℕ) (x : A) → drop n xs ≡ x ∷ ys → drop (suc n) xs ≡ ys
 drop_more [] ys zero x e = absurd (grind arith)
 drop_more [] ys (suc n) x e = absurd (grind arith)
 drop_more (z ∷ zs) ys zero x e = grind arith

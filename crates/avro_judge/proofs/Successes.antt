@@ -73,7 +73,7 @@ succeeds_string t Node.bytes = tt
 succeeds_string t _ = tt
 
 -- equality of texts is symmetric
-bytes_eq-sym : (a b : List ℕ) → bytes_eq a b ≡ bytes_eq b a
+pub bytes_eq-sym : (a b : List ℕ) → bytes_eq a b ≡ bytes_eq b a
 bytes_eq-sym a b = same (bytes_eq a b) (bytes_eq b a)
     (λ h. (bytes_eq-Decides b a).1 (sym ((bytes_eq-Decides a b).0 h))) (λ h. (bytes_eq-Decides a b).1 (sym ((bytes_eq-Decides b a).0 h)))
   where

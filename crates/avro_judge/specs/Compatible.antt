@@ -2,7 +2,6 @@
 use Rattle.std.specs.Prelude.{◌≡◌, ℕ, ◌<◌, ◌≤◌, true, List, Err}
 use Rattle.avro_schema.specs.Value.{Value, size, depth}
 use Rattle.avro_schema.specs.Node.{Node, root_of}
-use Rattle.avro_schema.specs.FirstKinds.{is_first_kind}
 use Rattle.avro_schema.specs.Fits.{fits}
 use Rattle.avro_resolve.specs.Fault.{ResolutionFault}
 use Rattle.avro_resolve.specs.Resolve.{resolve_root}
@@ -18,12 +17,6 @@ Errs writer reader v = (fault : ResolutionFault) × ErrsWith writer reader v fau
 -- no datum errs, of any size
 abbrev pub AreCompatible : List Node → List Node → Type 0
 AreCompatible writer reader = (v : Value) (fault : ResolutionFault) → ErrsWith writer reader v fault → ⊥
-
--- they are compatible, and their roots are of the first kinds
-pub record AreApproved (writer reader : List Node) : Type 0 where
-  pub compatible : AreCompatible writer reader
-  pub first_kind_of_writer : is_first_kind (root_of writer) ≡ true
-  pub first_kind_of_reader : is_first_kind (root_of reader) ≡ true
 
 -- the datum errs, and none that errs has fewer nodes
 pub record IsLeastToErr (writer reader : List Node) (v : Value) : Type 0 where

@@ -4,8 +4,7 @@ use avro_schema::{Datum, Limits, Schema};
 use std::alloc::Global;
 use std::marker::Model;
 
-/// Two schemas of which every datum of the first resolves into the second, and whose roots are null,
-/// booleans, ints or longs. Contracts see the two schemas.
+/// Two schemas of which every datum of the first resolves into the second. Contracts see the two schemas.
 #[derive(Drop)]
 pub struct Approved<'a> {
     writer: &'a Schema,
@@ -17,7 +16,7 @@ impl<'a> Model for Approved<'a> {
     ghost use Rattle.avro_schema.specs.contracts.datum.Datum as datum;
     ghost use Rattle.avro_schema.specs.declared.schema.Schema.{Schema};
     ghost use Rattle.avro_schema.specs.SeenSchema.{schema_nodes};
-    ghost use Rattle.avro_judge.specs.Compatible.{AreApproved};
+    ghost use Rattle.avro_judge.specs.Compatible.{AreCompatible};
 
     ghost Value = { Schema × Schema };
 
@@ -25,7 +24,7 @@ impl<'a> Model for Approved<'a> {
 
     ghost view = { λ a. (a.writer.now, a.reader.now) };
 
-    ghost invariant = { λ a. AreApproved (schema_nodes a.writer.now) (schema_nodes a.reader.now) };
+    ghost invariant = { λ a. AreCompatible (schema_nodes a.writer.now) (schema_nodes a.reader.now) };
 }
 
 impl<'a> Approved<'a> {
@@ -43,11 +42,11 @@ impl<'a> Approved<'a> {
     ghost use Rattle.avro_binary.specs.Seen.{read_fault, UnlessOutOfMemory, Reports};
     ghost use Rattle.avro_resolve.specs.Reading.{StandsFor};
     ghost use Rattle.avro_resolve.specs.Resolve.{resolve_root};
-    ghost use Rattle.avro_judge.specs.Compatible.{AreApproved};
+    ghost use Rattle.avro_judge.specs.Compatible.{AreCompatible};
 
-    /// The approval of two schemas that are compatible, of roots of the first kinds.
+    /// The approval of two schemas that are compatible.
     pub(crate) fn of(writer: &'a Schema, reader: &'a Schema) -> Approved<'a>
-        requires { AreApproved (schema_nodes writer.now) (schema_nodes reader.now) }
+        requires { AreCompatible (schema_nodes writer.now) (schema_nodes reader.now) }
         ensures { result ≡ (writer.now, reader.now) }
     {
         Approved { writer, reader }

@@ -1,32 +1,53 @@
-ghost use Rattle.std.specs.Prelude.{◌≡◌, ◌↔◌, ◌<◌, ◌≤◌, ◌*◌, true, List, length, IfOk};
-ghost use Rattle.avro_schema.specs.FirstKinds.{is_first_kind};
-ghost use Rattle.avro_schema.specs.Seen.{node_of, value_of};
+ghost use Rattle.std.specs.Prelude.{◌≡◌, ◌↔◌, ◌<◌, ◌≤◌, ◌*◌, length, IfOk};
+ghost use Rattle.avro_schema.specs.Node.{root_of};
+ghost use Rattle.avro_schema.specs.Seen.{value_of};
 ghost use Rattle.avro_schema.specs.Fits.{fits};
-ghost use Rattle.avro_schema.specs.Node.{Node as SeenNode, root_of};
 ghost use Rattle.avro_schema.specs.SeenSchema.{schema_nodes};
 ghost use Rattle.avro_schema.specs.Value.{Value, size, depth};
 ghost use Rattle.avro_resolve.specs.Fault.{ResolutionFault};
 ghost use Rattle.avro_resolve.specs.Seen.{fault_of};
 ghost use Rattle.avro_judge.specs.Answered.{IsApproved, IfApproved, IfRefuted, IsUndecided};
-ghost use Rattle.avro_judge.specs.Compatible.{AreCompatible, ErrsWith, ErrsOnlyAbove, ErrsLeastDeep};
+ghost use Rattle.avro_judge.specs.Compatible.{AreCompatible, Errs, ErrsWith, ErrsOnlyAbove, ErrsLeastDeep};
 
 use crate::approval::Approved;
+use crate::deciding::{Judged, decide};
 use crate::limits::JudgeLimits;
 use crate::verdict::{Cause, Refutation, Verdict};
-use avro_resolve::{ResolveError, matches, resolve};
-use avro_schema::{Datum, Memory, Node, Schema};
+use avro_resolve::{Fault, ResolveError, resolve};
+use avro_schema::{Datum, Memory, Schema};
 use std::alloc::Global;
+
+/// The fault of a datum of the writer's that errs.
+///
+/// # Errors
+///
+/// Memory ran out.
+fn fault_of_datum(
+    alloc: Global,
+    writer: &Schema,
+    reader: &Schema,
+    datum: &Datum,
+) -> Result<Fault, Memory>
+    requires { Errs (schema_nodes writer.now) (schema_nodes reader.now) (value_of datum.now) }
+    ensures { IfOk result (λ f. ErrsWith (schema_nodes writer.now) (schema_nodes reader.now) (value_of datum.now) (fault_of f)) }
+{
+    match resolve(alloc, writer, reader, datum) {
+        Err(ResolveError::Fault(fault)) => Ok(fault),
+        Err(ResolveError::Memory) => Err(Memory),
+        Ok(_) => unreachable!(),
+    }
+}
 
 /// Whether every datum of the writer's schema resolves into the reader's, of any size.
 ///
 /// Up to the pair limit the two schemas are approved exactly where they are compatible; else a least
 /// datum that fails is answered, within the size and the depth limit, or the limit that bars it.
-/// This holds where the root of each schema is null, a boolean, an int or a long. Up to the pair limit,
-/// others are answered `Cause::Size`: an interim answer, which says nothing of their data.
+/// Among least data the choice is by depth, then the first branch, symbol or field.
 ///
 /// # Errors
 ///
 /// Memory ran out.
+#[tactic(auto, using(crate::proofs::Exclusive::not_above, crate::proofs::Exclusive::not_deep, crate::proofs::Exclusive::not_both, crate::proofs::Exclusive::least_not_above, crate::proofs::Exclusive::least_not_deep))]
 pub fn judge<'a>(
     alloc: Global,
     writer: &'a Schema,
@@ -40,9 +61,7 @@ pub fn judge<'a>(
     // An approval is of these two schemas, and no datum of the writer's fails, of any size.
     ensures of_these { IfOk result (λ v. IfApproved v (λ a. a ≡ (writer.now, reader.now))) }
     ensures sound { IfOk result (λ v. IfApproved v (λ _. AreCompatible (schema_nodes writer.now) (schema_nodes reader.now))) }
-    ensures complete { IfOk result (λ v. is_first_kind (root_of (schema_nodes writer.now)) ≡ true
-        → is_first_kind (root_of (schema_nodes reader.now)) ≡ true
-        → length (schema_nodes writer.now) * length (schema_nodes reader.now) ≤ limits.now.pairs
+    ensures complete { IfOk result (λ v. length (schema_nodes writer.now) * length (schema_nodes reader.now) ≤ limits.now.pairs
         → AreCompatible (schema_nodes writer.now) (schema_nodes reader.now) → IsApproved v) }
 
     // The datum of a refutation is the writer's, and resolution gives it the stated fault.
@@ -55,14 +74,10 @@ pub fn judge<'a>(
         (size (value_of r.datum) ≤ limits.now.size) × (depth (value_of r.datum) ≤ limits.now.limits.depth))) }
 
     // The other two causes, up to the pair limit and not past it.
-    ensures size { IfOk result (λ v. is_first_kind (root_of (schema_nodes writer.now)) ≡ true
-        → is_first_kind (root_of (schema_nodes reader.now)) ≡ true
-        → (IsUndecided v Cause.Size
+    ensures size { IfOk result (λ v. (IsUndecided v Cause.Size
         ↔ ((length (schema_nodes writer.now) * length (schema_nodes reader.now) ≤ limits.now.pairs)
         × ErrsOnlyAbove (schema_nodes writer.now) (schema_nodes reader.now) limits.now.size))) }
-    ensures depth { IfOk result (λ v. is_first_kind (root_of (schema_nodes writer.now)) ≡ true
-        → is_first_kind (root_of (schema_nodes reader.now)) ≡ true
-        → (IsUndecided v Cause.Depth
+    ensures depth { IfOk result (λ v. (IsUndecided v Cause.Depth
         ↔ ((length (schema_nodes writer.now) * length (schema_nodes reader.now) ≤ limits.now.pairs)
         × ErrsLeastDeep (schema_nodes writer.now) (schema_nodes reader.now) limits.now.size limits.now.limits.depth))) }
 {
@@ -70,42 +85,15 @@ pub fn judge<'a>(
     if pairs > u64::from(limits.pairs()) {
         return Ok(Verdict::Undecided(Cause::Pairs));
     }
-    if !has_first_kind(writer) || !has_first_kind(reader) {
-        return Ok(Verdict::Undecided(Cause::Size));
-    }
-    if matches(writer, writer.root(), reader, reader.root()) {
-        return Ok(Verdict::Approved(Approved::of(writer, reader)));
-    }
-    let datum = least_datum(writer.node(writer.root()));
-    match resolve(alloc, writer, reader, &datum) {
-        Err(ResolveError::Fault(fault)) => Ok(Verdict::Refuted(Refutation { datum, fault })),
-        Err(ResolveError::Memory) => Err(Memory),
-        Ok(_) => unreachable!(),
-    }
-}
-
-/// Whether the root of a schema is null, a boolean, an int or a long.
-fn has_first_kind(schema: &Schema) -> bool
-    ensures { result ≡ is_first_kind (root_of (schema_nodes schema.now)) }
-{
-    matches!(
-        schema.node(schema.root()),
-        Node::Null | Node::Boolean | Node::Int | Node::Long
-    )
-}
-
-/// A datum with the fewest nodes, of a node of the first kinds.
-fn least_datum(node: &Node) -> Datum
-    requires { is_first_kind (node_of node.now) ≡ true }
-    ensures fitting { (nodes : List SeenNode) → fits nodes (node_of node.now) (value_of result) ≡ true }
-    ensures one_node { size (value_of result) ≡ 1 }
-    ensures one_deep { depth (value_of result) ≡ 1 }
-{
-    match node {
-        Node::Null => Datum::Null,
-        Node::Boolean => Datum::Bool(false),
-        Node::Int => Datum::Int(0),
-        Node::Long => Datum::Long(0),
-        _ => unreachable!(),
+    let depth = limits.limits().depth();
+    match decide(alloc, writer, reader, limits.size(), depth) {
+        Err(e) => Err(e),
+        Ok(Judged::Compatible) => Ok(Verdict::Approved(Approved::of(writer, reader))),
+        Ok(Judged::Size) => Ok(Verdict::Undecided(Cause::Size)),
+        Ok(Judged::Depth) => Ok(Verdict::Undecided(Cause::Depth)),
+        Ok(Judged::Erring(datum)) => {
+            let fault = fault_of_datum(alloc, writer, reader, &datum)?;
+            Ok(Verdict::Refuted(Refutation { datum, fault }))
+        }
     }
 }

@@ -27,8 +27,7 @@ pub struct Refutation {
 pub enum Cause {
     /// The product of the two numbers of nodes is over the pair limit.
     Pairs,
-    /// Data fail, and each that does has more nodes than the size limit; or a root is not null, a
-    /// boolean, an int or a long, and nothing is said of the data.
+    /// Data fail, and each that does has more nodes than the size limit.
     Size,
     /// Data fail, and each least one that does is deeper than the depth limit.
     Depth,

@@ -1,3 +1,4 @@
 pub mod Name
 pub mod NameFault
 pub mod Scan
+pub mod Shared

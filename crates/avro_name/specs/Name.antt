@@ -51,7 +51,7 @@ is_full_name name = is_namespace name.namespace && is_simple_name name.simple &&
 
 -- names are compared by case
 abbrev pub same_name : Name → Name → Bool
-same_name a b = bytes_eq a.namespace b.namespace && bytes_eq a.simple b.simple
+same_name a b = bytes_eq a.simple b.simple && bytes_eq a.namespace b.namespace
 
 abbrev pub has_dot : List ℕ → Bool
 has_dot text = list_any (λ c. c == 46) text

@@ -1,7 +1,8 @@
 //! The tests of a text's characters.
 
 ghost use Rattle.std.specs.Prelude.{◌≡◌, true, OnOk, IsOk, IfErr};
-ghost use Rattle.avro_name.specs.Name.{is_name_start, is_name_character, is_dotted_name, is_primitive_word};
+ghost use Rattle.std.specs.List.{list_all};
+ghost use Rattle.avro_name.specs.Name.{is_name_start, is_name_character, is_simple_name, is_dotted_name, is_primitive_word};
 ghost use Rattle.avro_name.specs.NameFault.{IsNamespaceFault};
 ghost use Rattle.avro_name.specs.Scan.{first_fault};
 
@@ -19,6 +20,29 @@ fn is_name_character(byte: u8) -> bool
     ensures { result ≡ is_name_character byte }
 {
     matches!(byte, b'A'..=b'Z' | b'a'..=b'z' | b'_' | b'0'..=b'9')
+}
+
+/// Whether bytes may follow in a simple name.
+fn are_name_characters(bytes: &[u8]) -> bool
+    ensures { result ≡ list_all is_name_character bytes.now }
+{
+    for byte in bytes {
+        if !is_name_character(*byte) {
+            return false;
+        }
+    }
+    true
+}
+
+/// Whether a text is a simple name: a name without dots, which a field, an alias of one, or a symbol
+/// has (Avro 1.11, "Names"). A simple name may be that of a primitive type.
+pub fn is_simple_name(text: &str) -> bool
+    ensures { result ≡ is_simple_name text.now }
+{
+    match text.as_bytes().split_first() {
+        Some((first, rest)) => is_name_start(*first) && are_name_characters(rest),
+        None => false,
+    }
 }
 
 /// The first fault of a text that is to be simple names joined by dots.

@@ -1,11 +1,11 @@
-ghost use Rattle.std.specs.Prelude.{◌≡◌, ◌&&◌, ◌++◌, true};
+ghost use Rattle.std.specs.Prelude.{◌≡◌, ◌++◌, true, IfOk, IfErr};
 ghost use Rattle.std.proofs.Common.{rules};
 ghost use Rattle.std.specs.Hash as fed;
 ghost use Rattle.std.specs.Ordering.{nat_cmp, on, then_cmp, as_partial_cmp};
 ghost use Rattle.std.specs.Cmp.{partial_order_from_own_ties};
 ghost use Rattle.std.specs.Cmp.Lexicographic.{slice_cmp};
 ghost use Rattle.std.specs.Cmp.Rules.{comparing, hashing};
-ghost use Rattle.avro_name.specs.Name.{is_dotted_name, is_namespace, is_simple_name, same_name, split_name};
+ghost use Rattle.avro_name.specs.Name.{is_dotted_name, is_simple_name, same_name, split_name};
 
 use crate::check::{check_dotted_name, is_primitive_word};
 use crate::error::NameError;
@@ -15,10 +15,11 @@ use std::cmp::Ordering;
 use std::hash::{Hash, Hasher};
 use std::marker::Model;
 
-/// A fullname: a namespace, and a simple name that is none of a primitive type.
+/// A fullname: a namespace, and a simple name that is none of a primitive type. Names are compared by
+/// their simple parts first, so that names of one long namespace are told apart without it.
 #[derive(Debug, Drop)]
 pub struct FullName {
-    namespace: String,
+    namespace: Namespace,
     simple: String,
 }
 
@@ -28,19 +29,26 @@ impl Model for FullName {
 
     ghost Value = { Name };
 
-    ghost view = { λ n. record { namespace = string_bytes n.namespace; simple = string_bytes n.simple } };
+    ghost view = { λ n. record { namespace = n.namespace; simple = string_bytes n.simple } };
 
-    ghost invariant = { λ n. is_full_name (record { namespace = string_bytes n.namespace; simple = string_bytes n.simple }) ≡ true };
+    ghost invariant = { λ n. is_full_name (record { namespace = n.namespace; simple = string_bytes n.simple }) ≡ true };
 }
 
-/// The namespace and the simple part that a text means where a namespace encloses it.
-fn split<'a>(text: &'a str, enclosing: &'a str) -> (&'a str, &'a str)
-    ensures parts { split_name text.now enclosing.now ≡ record { namespace = result.0.now; simple = result.1.now } }
-    ensures good { is_dotted_name text.now ≡ true → is_namespace enclosing.now ≡ true → (is_namespace result.0.now && is_simple_name result.1.now) ≡ true }
+/// The namespace and the simple part that a text means where a namespace encloses it. A text without
+/// a dot shares the enclosing namespace.
+fn split<'a>(
+    alloc: Global,
+    text: &'a str,
+    enclosing: &Namespace,
+) -> Result<(Namespace, &'a str), NameError>
+    requires { is_dotted_name text.now ≡ true }
+    ensures parts { IfOk result (λ parts. split_name text.now enclosing.now ≡ record { namespace = parts.0; simple = parts.1.now }) }
+    ensures good { IfOk result (λ parts. is_simple_name parts.1.now ≡ true) }
+    ensures refused { IfErr result (λ e. e ≡ NameError.OutOfMemory) }
 {
     match text.rsplit_once('.') {
-        Some(parts) => parts,
-        None => (enclosing, text),
+        Some((namespace, simple)) => Ok((Namespace::of_text(alloc, namespace)?, simple)),
+        None => Ok((enclosing.clone()?, text)),
     }
 }
 
@@ -56,7 +64,7 @@ impl FullName {
         ensures refused { IfErr result (IsNameFault text.now enclosing.now) }
     {
         check_dotted_name(text.as_bytes())?;
-        let (namespace, simple) = split(text, enclosing.as_str());
+        let (namespace, simple) = split(alloc, text, enclosing)?;
         if is_primitive_word(simple) {
             return Err(NameError::PrimitiveName);
         }
@@ -71,7 +79,7 @@ impl FullName {
         self.simple.as_str()
     }
 
-    /// The namespace, which is empty for the null namespace.
+    /// The text of the namespace, which is empty for the null namespace.
     pub fn namespace(&self) -> &str
         ensures part { result.now ≡ self.now.namespace }
         ensures full_name { is_full_name self.now ≡ true }
@@ -79,13 +87,20 @@ impl FullName {
         self.namespace.as_str()
     }
 
+    /// The namespace, which encloses what a record of this name holds.
+    pub fn space(&self) -> &Namespace
+        ensures { result.now ≡ self.now.namespace }
+    {
+        &self.namespace
+    }
+
     /// The fullname of two parts that make one.
-    fn from_parts(alloc: Global, namespace: &str, simple: &str) -> Result<FullName, NameError>
-        requires { is_full_name (record { namespace = namespace.now; simple = simple.now }) ≡ true }
-        ensures { IsErrOf result NameError.OutOfMemory ⊎ (result ≡ Ok (record { namespace = namespace.now; simple = simple.now })) }
+    fn from_parts(alloc: Global, namespace: Namespace, simple: &str) -> Result<FullName, NameError>
+        requires { is_full_name (record { namespace = namespace; simple = simple.now }) ≡ true }
+        ensures { IsErrOf result NameError.OutOfMemory ⊎ (result ≡ Ok (record { namespace = namespace; simple = simple.now })) }
     {
         Ok(FullName {
-            namespace: String::from_str(alloc, namespace)?,
+            namespace,
             simple: String::from_str(alloc, simple)?,
         })
     }
@@ -108,7 +123,7 @@ impl PartialEq for FullName {
     ghost laws = { Prim.search (comparing, rules) };
 
     fn eq(&self, other: &FullName) -> bool {
-        self.namespace() == other.namespace() && self.simple() == other.simple()
+        self.simple() == other.simple() && self.namespace() == other.namespace()
     }
 }
 
@@ -117,7 +132,7 @@ impl Eq for FullName {
 }
 
 impl PartialOrd for FullName {
-    ghost partial_cmp = { as_partial_cmp (then_cmp (on (λ n. n.namespace) (slice_cmp nat_cmp)) (on (λ n. n.simple) (slice_cmp nat_cmp))) };
+    ghost partial_cmp = { as_partial_cmp (then_cmp (on (λ n. n.simple) (slice_cmp nat_cmp)) (on (λ n. n.namespace) (slice_cmp nat_cmp))) };
 
     ghost laws = { partial_order_from_own_ties (Prim.search (comparing, rules)) (Prim.search (comparing, rules)) };
 
@@ -127,7 +142,7 @@ impl PartialOrd for FullName {
 }
 
 impl Ord for FullName {
-    ghost cmp = { then_cmp (on (λ n. n.namespace) (slice_cmp nat_cmp)) (on (λ n. n.simple) (slice_cmp nat_cmp)) };
+    ghost cmp = { then_cmp (on (λ n. n.simple) (slice_cmp nat_cmp)) (on (λ n. n.namespace) (slice_cmp nat_cmp)) };
 
     ghost total = { Prim.search (comparing, rules) };
 
@@ -136,19 +151,20 @@ impl Ord for FullName {
     ghost matches_eq = { Prim.search (comparing, rules) };
 
     fn cmp(&self, other: &FullName) -> Ordering {
-        self.namespace()
-            .cmp(other.namespace())
-            .then(self.simple().cmp(other.simple()))
+        match self.simple().cmp(other.simple()) {
+            Ordering::Equal => self.namespace().cmp(other.namespace()),
+            unequal => unequal,
+        }
     }
 }
 
 impl Hash for FullName {
-    ghost hash_input = { λ n. fed.str n.namespace ++ fed.str n.simple };
+    ghost hash_input = { λ n. fed.str n.simple ++ fed.str n.namespace };
 
     ghost respects_eq = { Prim.search (hashing, rules) };
 
     fn hash<H: Hasher>(&self, state: &mut H) {
-        self.namespace().hash(state);
         self.simple().hash(state);
+        self.namespace().hash(state);
     }
 }

@@ -9,6 +9,7 @@ mod full_name;
 pub mod laws;
 mod namespace;
 
+pub use check::is_simple_name;
 pub use error::NameError;
 pub use full_name::FullName;
 pub use namespace::Namespace;

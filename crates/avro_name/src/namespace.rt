@@ -12,22 +12,26 @@ use std::alloc::{AllocError, Global};
 use std::cmp::Ordering;
 use std::hash::{Hash, Hasher};
 use std::marker::Model;
+use std::rc::RcStr;
 
-/// A namespace: simple names joined by dots, or the empty text, which is the null namespace.
+/// A namespace: simple names joined by dots, or the empty text, which is the null namespace. Its
+/// clones share one text.
 #[derive(Debug, Drop)]
 pub struct Namespace {
-    text: String,
+    /// The null namespace has no text.
+    text: Option<RcStr>,
 }
 
 impl Model for Namespace {
-    ghost use Rattle.std.specs.Prelude.{◌≡◌, ℕ, List, true, string_bytes};
+    ghost use Rattle.std.specs.Prelude.{◌≡◌, ℕ, List, true};
     ghost use Rattle.avro_name.specs.Name.{is_namespace};
+    ghost use Rattle.avro_name.specs.Shared.{shared_text};
 
     ghost Value = { List ℕ };
 
-    ghost view = { λ n. string_bytes n.text };
+    ghost view = { λ n. shared_text n.text };
 
-    ghost invariant = { λ n. is_namespace (string_bytes n.text) ≡ true };
+    ghost invariant = { λ n. is_namespace (shared_text n.text) ≡ true };
 }
 
 impl Namespace {
@@ -36,12 +40,10 @@ impl Namespace {
     ghost use Rattle.avro_name.specs.NameFault.{IsNamespaceFault};
 
     /// The null namespace, which takes no memory.
-    pub fn null(alloc: Global) -> Namespace
+    pub fn null(_alloc: Global) -> Namespace
         ensures { result ≡ [] }
     {
-        Namespace {
-            text: String::new(alloc),
-        }
+        Namespace { text: None }
     }
 
     /// The namespace that a text spells.
@@ -55,8 +57,17 @@ impl Namespace {
             return Ok(Namespace::null(alloc));
         }
         check_dotted_name(text.as_bytes())?;
+        Namespace::of_text(alloc, text)
+    }
+
+    /// The namespace of a text that spells one.
+    pub(crate) fn of_text(alloc: Global, text: &str) -> Result<Namespace, NameError>
+        requires { is_namespace text.now ≡ true }
+        ensures spelled { IfOk result (λ namespace. namespace ≡ text.now) }
+        ensures refused { IfErr result (λ e. e ≡ NameError.OutOfMemory) }
+    {
         Ok(Namespace {
-            text: String::from_str(alloc, text)?,
+            text: Some(RcStr::from_str(alloc, text)?),
         })
     }
 
@@ -65,7 +76,10 @@ impl Namespace {
         ensures text { result.now ≡ self.now }
         ensures good { is_namespace self.now ≡ true }
     {
-        self.text.as_str()
+        match &self.text {
+            Some(text) => text.as_str(),
+            None => "",
+        }
     }
 }
 

@@ -11,3 +11,7 @@ mod RowsSource
 pub mod Rules
 pub mod Sources
 pub mod TextBytes
+pub mod Pairing
+pub mod InOrder
+pub mod TextRead
+pub mod Slots

@@ -8,11 +8,12 @@ use Rattle.avro_schema.specs.Value.{Value}
 use Rattle.avro_schema.specs.Node.{Node, FieldNode, node_at, field_places}
 use Rattle.avro_schema.specs.Distinct.{are_distinct}
 use Rattle.avro_schema.specs.Fits.{fits, fields_fit}
-use Rattle.avro_schema.specs.WellFormed.{field_names, has_good_default, are_fields, takes_first_branches}
+use Rattle.avro_schema.specs.WellFormed.{field_names, has_good_default, are_fields}
 use Rattle.avro_resolve.specs.Source.{source_of, reader_field, missing_field, missing_field_from}
 use Rattle.avro_resolve.specs.Fault.{ResolutionFault}
 use Rattle.avro_resolve.specs.Resolve.{Resolved, Sourced, inside, with_sourced, sourced_at, field_value, field_values}
-use Rattle.avro_resolve.proofs.Sources.{IsField, here, later, first_place-named, reader_field-source}
+use Rattle.avro_resolve.specs.Ends.{IsField, here, later}
+use Rattle.avro_resolve.proofs.Sources.{first_place-named, reader_field-source}
 use Rattle.avro_resolve.proofs.Outcomes.{IfOk-inside, IfOk-both}
 use Rattle.avro_resolve.proofs.AtMatch.{FitsAt}
 
@@ -103,9 +104,7 @@ value-default reader g good there = from_default g.default refl
   where
     from_default : (default : Option Value) → g.default ≡ default → FitsAt reader (node_at reader g.node) (unwrap_or default Value.null)
     from_default None e = absurd (cc)
-    from_default (Some v) e =
-        let fit : (fits reader (node_at reader g.node) v && takes_first_branches v) ≡ true = rw e at good in
-        (and_parts (fits reader (node_at reader g.node) v) (takes_first_branches v) fit).0
+    from_default (Some v) e = rw e at good
 
 value-fits : (reader : List Node) (ws rs : List FieldNode) (found : Sourced) (g : FieldNode) → missing_field ws rs ≡ None → are_fields reader rs ≡ true
     → AreSourced reader ws rs 0 (length ws) found → IsField g rs → FitsAt reader (node_at reader g.node) (field_value ws found g)

@@ -9,12 +9,8 @@ use Rattle.std.proofs.lemmas.List.Quantifiers.{position-Some}
 use Rattle.avro_schema.specs.Node.{FieldNode}
 use Rattle.avro_schema.specs.Distinct.{are_distinct}
 use Rattle.avro_schema.specs.WellFormed.{field_names}
+use Rattle.avro_resolve.specs.Ends.{IsField, here, later}
 use Rattle.avro_resolve.specs.Source.{field_place, or_else, first_place, source_of, is_place, reader_field}
-
--- a field is one of some fields
-pub data IsField : FieldNode → List FieldNode → Type 0 where
-  here : {f : FieldNode} {fs : List FieldNode} → IsField f (f ∷ fs)
-  later : {f g : FieldNode} {fs : List FieldNode} → IsField f fs → IsField f (g ∷ fs)
 
 -- the place is that of a field, whose name is one of the names
 abbrev pub IsNamed : List FieldNode → FieldNode → List (List ℕ) → ℕ → Type 0
@@ -74,7 +70,7 @@ is_place-equal : (o : Option ℕ) (k : ℕ) → is_place o k ≡ true → o ≡ 
 is_place-equal None k h = absurd (both_ways false refl h)
 is_place-equal (Some j) k h = ap Some (eqb-true j k h)
 
-is_place-same : (o : Option ℕ) (k : ℕ) → o ≡ Some k → is_place o k ≡ true
+pub is_place-same : (o : Option ℕ) (k : ℕ) → o ≡ Some k → is_place o k ≡ true
 is_place-same None k e = absurd (cc)
 is_place-same (Some j) k e = eq-eqb j k (cc)
 
@@ -90,7 +86,7 @@ read_later ws fs k f g other more =
     (more.0, cond-false (is_place (source_of ws f) k) (Some f) (reader_field ws fs k) (false_from_ne_true (is_place (source_of ws f) k) other) ∙ more.1, more.2)
 
 -- two fields that stand apart in a record have no source in common
-two_readers : (ws fs : List FieldNode) (k : ℕ) (f g : FieldNode) → IsField g fs → are_distinct bytes_eq (field_names f ++ flat_map field_names fs) ≡ true
+pub two_readers : (ws fs : List FieldNode) (k : ℕ) (f g : FieldNode) → IsField g fs → are_distinct bytes_eq (field_names f ++ flat_map field_names fs) ≡ true
     → source_of ws g ≡ Some k → is_place (source_of ws f) k ≡ true → ⊥
 two_readers ws fs k f g is distinct e same =
     let a = first_place-named ws f (field_names f) k (is_place-equal (source_of ws f) k same) in

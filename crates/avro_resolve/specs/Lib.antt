@@ -4,3 +4,5 @@ pub mod Fault
 pub mod Resolve
 pub mod Seen
 pub mod Reading
+pub mod Pairs
+pub mod Ends

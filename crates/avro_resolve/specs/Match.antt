@@ -1,8 +1,8 @@
 -- Which nodes of a writer's schema match which of a reader's (Avro 1.11, "Schema Resolution").
-use Rattle.std.specs.Prelude.{◌≡◌, ℕ, zero, suc, Bool, true, false, cond, ◌&&◌, ◌||◌, List, [], ◌∷◌, Option, Some, None, length, ◌==◌, bytes_eq}
+use Rattle.std.specs.Prelude.{◌≡◌, ℕ, suc, Bool, true, false, cond, ◌&&◌, ◌||◌, List, [], ◌∷◌, Option, Some, None, length, ◌==◌, bytes_eq, option_and_then}
 use Rattle.std.specs.List.{list_any}
 use Rattle.avro_name.specs.Name.{Name, same_name}
-use Rattle.avro_schema.specs.Node.{Node, FieldNode, node_at, node_name, node_aliases}
+use Rattle.avro_schema.specs.Node.{Node, FieldNode, node_at, branches_of}
 
 -- A writer's type and a reader's are named alike: their simple names are equal, or the writer's fullname is an alias
 -- of the reader's.
@@ -63,3 +63,7 @@ first_match_from place writer reader w (b ∷ bs) =
 
 abbrev pub first_match : List Node → List Node → Node → List ℕ → Option ℕ
 first_match writer reader w places = first_match_from 0 writer reader w places
+
+-- the same of a reader's node; only a union has branches
+abbrev pub first_match_at : List Node → List Node → Node → Node → Option ℕ
+first_match_at writer reader w r = option_and_then (first_match writer reader w) (branches_of r)

@@ -1,12 +1,11 @@
 -- What a writer's datum is for a reader (Avro 1.11, "Schema Resolution"): a datum of the reader's, or the first fault.
-use Rattle.std.specs.Prelude.{◌≡◌, ℕ, suc, ℤ, Bool, true, false, cond, List, [], ◌∷◌, Option, Some, None, Result, Ok, Err, slice_get, unwrap_or, option_and_then, position, bytes_eq, map, ◌==◌}
+use Rattle.std.specs.Prelude.{ℕ, suc, ℤ, cond, List, [], ◌∷◌, Option, Some, None, Result, Ok, Err, slice_get, unwrap_or, option_and_then, position, bytes_eq, map, ◌==◌}
 use Rattle.std.specs.Str.{is_utf8}
-use Rattle.avro_name.specs.Name.{Name}
 use Rattle.avro_schema.specs.Value.{Value, Values, Entries, no_values, value, no_entries, entry}
 use Rattle.avro_schema.specs.Node.{Node, FieldNode, node_at, root_of, items_node, values_node, branches_of, fields_of, symbols_of}
 use Rattle.avro_resolve.specs.Match.{is_match, first_match}
 use Rattle.avro_resolve.specs.Source.{source_of, reader_field, missing_field}
-use Rattle.avro_resolve.specs.Fault.{FaultCause, no_match, no_branch, missing_field_at, no_symbol, not_utf8, ResolutionFault, fault_here, fault_in}
+use Rattle.avro_resolve.specs.Fault.{no_match, no_branch, missing_field_at, no_symbol, not_utf8, ResolutionFault, fault_here, fault_in}
 
 abbrev pub Resolved : Type 0
 Resolved = Result Value ResolutionFault

@@ -1,25 +1,121 @@
-ghost use Rattle.std.specs.Prelude.{◌≡◌, ◌<◌, true, length};
-ghost use Rattle.avro_schema.specs.FirstKinds.{is_first_kind};
-ghost use Rattle.avro_schema.specs.Node.{node_at};
+ghost use Rattle.std.specs.Prelude.{◌≡◌, ◌↔◌, IsTrue, List};
+ghost use Rattle.avro_schema.specs.Node.{Node as SeenNode, node_at};
+ghost use Rattle.avro_schema.specs.Seen.{node_of};
 ghost use Rattle.avro_schema.specs.SeenSchema.{schema_nodes};
-ghost use Rattle.avro_resolve.specs.Match.{is_match};
+ghost use Rattle.avro_resolve.specs.Match.{Matches, is_match, are_alike as alike, match_within as within};
+ghost use Rattle.avro_resolve.specs.Pairs.{IsStep};
 
+use crate::guided::Step;
+use avro_name::FullName;
 use avro_schema::{Node, NodeId, Schema};
 
-/// Whether a writer's node and a reader's match, each of them null, a boolean, an int or a long.
+/// Whether a writer's node and a reader's match (Avro 1.11, "Schema Resolution"): whether data of the
+/// one may resolve into the other, as far as the two nodes and the items or values under them say.
+/// A place without a node is that of null.
 pub fn matches(writer: &Schema, w: NodeId, reader: &Schema, r: NodeId) -> bool
-    requires in_writer { w.0 < length (schema_nodes writer.now) }
-    requires in_reader { r.0 < length (schema_nodes reader.now) }
-    requires first_kind_of_writer { is_first_kind (node_at (schema_nodes writer.now) w.0) ≡ true }
-    requires first_kind_of_reader { is_first_kind (node_at (schema_nodes reader.now) r.0) ≡ true }
-    ensures { result ≡ is_match (schema_nodes writer.now) (schema_nodes reader.now)
+    ensures test { result ≡ is_match (schema_nodes writer.now) (schema_nodes reader.now)
+        (node_at (schema_nodes writer.now) w.0) (node_at (schema_nodes reader.now) r.0) }
+    ensures relation { IsTrue result ↔ Matches (schema_nodes writer.now) (schema_nodes reader.now)
         (node_at (schema_nodes writer.now) w.0) (node_at (schema_nodes reader.now) r.0) }
 {
-    match writer.node(w) {
-        Node::Null => matches!(reader.node(r), Node::Null),
-        Node::Boolean => matches!(reader.node(r), Node::Boolean),
-        Node::Int => matches!(reader.node(r), Node::Int | Node::Long),
-        Node::Long => matches!(reader.node(r), Node::Long),
-        _ => unreachable!(),
+    match_within(writer.len(), writer, w, reader, r)
+}
+
+/// The same, where arrays and maps are looked into at most so deep.
+fn match_within(steps: usize, writer: &Schema, w: NodeId, reader: &Schema, r: NodeId) -> bool
+    ensures { result ≡ within steps (schema_nodes writer.now) (schema_nodes reader.now)
+        (node_at (schema_nodes writer.now) w.0) (node_at (schema_nodes reader.now) r.0) }
+{
+    let mut a = w;
+    let mut b = r;
+    for _done in 0..steps {
+        match step(writer, a, reader, b) {
+            Step::Known(answer) => return answer,
+            Step::Parts(x, y) => {
+                a = x;
+                b = y;
+            }
+        }
     }
+    match step(writer, a, reader, b) {
+        Step::Known(answer) => answer,
+        Step::Parts(_, _) => false,
+    }
+}
+
+/// What two nodes at places say of their match.
+fn step(writer: &Schema, w: NodeId, reader: &Schema, r: NodeId) -> Step
+    ensures { IsStep (schema_nodes writer.now) (schema_nodes reader.now)
+        (node_at (schema_nodes writer.now) w.0) (node_at (schema_nodes reader.now) r.0) result }
+{
+    if writer.has(w) {
+        step_to(writer.node(w), reader, r)
+    } else {
+        step_to(&Node::Null, reader, r)
+    }
+}
+
+/// What a node and one at a place say of their match.
+fn step_to(a: &Node, reader: &Schema, r: NodeId) -> Step
+    ensures { (writer : List SeenNode) → IsStep writer (schema_nodes reader.now)
+        (node_of a.now) (node_at (schema_nodes reader.now) r.0) result }
+{
+    if reader.has(r) {
+        step_of(a, reader.node(r))
+    } else {
+        step_of(a, &Node::Null)
+    }
+}
+
+/// What two nodes say of their match.
+fn step_of(a: &Node, b: &Node) -> Step
+    ensures { (writer reader : List SeenNode) → IsStep writer reader (node_of a.now) (node_of b.now) result }
+{
+    match a {
+        Node::Null => Step::Known(matches!(b, Node::Null | Node::Union(_))),
+        Node::Boolean => Step::Known(matches!(b, Node::Boolean | Node::Union(_))),
+        Node::Int => Step::Known(matches!(b, Node::Int | Node::Long | Node::Union(_))),
+        Node::Long => Step::Known(matches!(b, Node::Long | Node::Union(_))),
+        Node::Bytes => Step::Known(matches!(b, Node::Bytes | Node::Str | Node::Union(_))),
+        Node::Str => Step::Known(matches!(b, Node::Bytes | Node::Str | Node::Union(_))),
+        Node::Array(x) => match b {
+            Node::Array(y) => Step::Parts(*x, *y),
+            _ => Step::Known(matches!(b, Node::Union(_))),
+        },
+        Node::Map(x) => match b {
+            Node::Map(y) => Step::Parts(*x, *y),
+            _ => Step::Known(matches!(b, Node::Union(_))),
+        },
+        Node::Union(_) => Step::Known(true),
+        Node::Record(x) => match b {
+            Node::Record(y) => Step::Known(are_alike(&x.name, &y.name, &y.aliases)),
+            _ => Step::Known(matches!(b, Node::Union(_))),
+        },
+        Node::Enum(x) => match b {
+            Node::Enum(y) => Step::Known(are_alike(&x.name, &y.name, &y.aliases)),
+            _ => Step::Known(matches!(b, Node::Union(_))),
+        },
+        Node::Fixed(x) => match b {
+            Node::Fixed(y) => {
+                Step::Known(are_alike(&x.name, &y.name, &y.aliases) && x.size == y.size)
+            }
+            _ => Step::Known(matches!(b, Node::Union(_))),
+        },
+    }
+}
+
+/// Whether two types are named alike: their simple names are equal, or the writer's fullname is an
+/// alias of the reader's.
+fn are_alike(writer: &FullName, reader: &FullName, aliases: &[FullName]) -> bool
+    ensures { result ≡ alike writer.now reader.now aliases.now }
+{
+    if writer.simple() == reader.simple() {
+        return true;
+    }
+    for alias in aliases {
+        if writer == alias {
+            return true;
+        }
+    }
+    false
 }

@@ -1,6 +1,3 @@
-ghost use Rattle.std.specs.Prelude.{◌≡◌, true};
-ghost use Rattle.avro_schema.specs.FirstKinds.{is_first_kind};
-ghost use Rattle.avro_schema.specs.Node.{root_of};
 ghost use Rattle.avro_schema.specs.SeenSchema.{schema_nodes};
 ghost use Rattle.avro_resolve.specs.Reading.{ReadsResolved};
 
@@ -11,7 +8,7 @@ use avro_schema::{Datum, Limits, Schema};
 use std::alloc::Global;
 
 /// Reads a writer's datum from the front of bytes, and answers what it is for the reader, with the
-/// length of its encoding. The root of each schema is null, a boolean, an int or a long.
+/// length of its encoding (Avro 1.11, "Schema Resolution").
 ///
 /// # Errors
 ///
@@ -23,8 +20,6 @@ pub fn read_resolved(
     bytes: &[u8],
     limits: &Limits,
 ) -> Result<(Datum, usize), ReadResolveError>
-    requires first_kind_of_writer { is_first_kind (root_of (schema_nodes writer.now)) ≡ true }
-    requires first_kind_of_reader { is_first_kind (root_of (schema_nodes reader.now)) ≡ true }
     ensures { ReadsResolved (schema_nodes writer.now) (schema_nodes reader.now) limits.now bytes.now result }
 {
     match decode(alloc, writer, writer.root(), bytes, limits) {

@@ -1,23 +1,29 @@
-ghost use Rattle.std.specs.Prelude.{◌≡◌, true, Ok, IfOk};
-ghost use Rattle.avro_schema.specs.FirstKinds.{is_first_kind};
+ghost use Rattle.std.specs.Prelude.{◌≡◌, ◌++◌, [], ◌∷◌, IfOk, true, map, string_bytes};
 ghost use Rattle.avro_schema.specs.Fits.{fits};
-ghost use Rattle.avro_schema.specs.Node.{root_of};
-ghost use Rattle.avro_schema.specs.Seen.{node_of, value_of};
+ghost use Rattle.avro_schema.specs.Node.{node_at, root_of};
+ghost use Rattle.avro_schema.specs.Seen.{value_of, values_of as values_seen, entries_of as entries_seen, seen_fields, pair_of};
 ghost use Rattle.avro_schema.specs.SeenSchema.{schema_nodes};
-ghost use Rattle.avro_resolve.specs.Resolve.{resolve_root, int_as as kept_int};
+ghost use Rattle.avro_schema.specs.Value.{Value};
+ghost use Rattle.avro_resolve.specs.Resolve.{through, resolve as resolve_value, resolve_root, resolve_items, resolve_entries, resolve_sources};
 ghost use Rattle.avro_resolve.specs.Seen.{Answers};
+ghost use Rattle.avro_resolve.specs.Ends.{Ends, EndsFound, EndsSlot, field_step, taken_as};
 
 use crate::error::{Fault, FaultKind, ResolveError};
-use crate::matching::matches;
-use avro_schema::{Datum, Node, Schema};
-use std::alloc::Global;
+use crate::failing::{fault_here, fault_in};
+use crate::filling::fill;
+use crate::guided::{Aim, At};
+use crate::leaves::{leaf, wrapped};
+use crate::pairs::aim;
+use crate::parts::{branch_of, items_of, values_of};
+use crate::sourcing::{fields_of, missing, part_for};
+use avro_schema::{Datum, Field, NodeId, Schema};
+use std::alloc::{AllocError, Global};
 
-/// What a datum of the writer's schema is for the reader's schema. The root of each is null, a boolean,
-/// an int or a long.
+/// What a datum of the writer's schema is for the reader's schema (Avro 1.11, "Schema Resolution").
 ///
 /// # Errors
 ///
-/// The first fault, with its place in the datum.
+/// The first fault, with its place in the datum, or want of memory.
 pub fn resolve(
     alloc: Global,
     writer: &Schema,
@@ -25,35 +31,258 @@ pub fn resolve(
     datum: &Datum,
 ) -> Result<Datum, ResolveError>
     requires fitting { fits (schema_nodes writer.now) (root_of (schema_nodes writer.now)) (value_of datum.now) ≡ true }
-    requires first_kind_of_writer { is_first_kind (root_of (schema_nodes writer.now)) ≡ true }
-    requires first_kind_of_reader { is_first_kind (root_of (schema_nodes reader.now)) ≡ true }
     ensures answers { Answers result (resolve_root (schema_nodes writer.now) (schema_nodes reader.now) (value_of datum.now)) }
     ensures fitting { IfOk result (λ u. fits (schema_nodes reader.now) (root_of (schema_nodes reader.now)) (value_of u) ≡ true) }
 {
-    if !matches(writer, writer.root(), reader, reader.root()) {
-        return Err(ResolveError::Fault(Fault {
-            kind: FaultKind::NoMatch,
-            path: Vec::new(alloc),
-        }));
-    }
-    let to = reader.node(reader.root());
-    match datum {
-        Datum::Null => Ok(Datum::Null),
-        Datum::Bool(value) => Ok(Datum::Bool(*value)),
-        Datum::Int(value) => Ok(int_as(to, value)),
-        Datum::Long(value) => Ok(Datum::Long(*value)),
-        _ => unreachable!(),
+    let w = writer.root();
+    let r = reader.root();
+    match resolve_at(alloc, writer, w, reader, r, datum) {
+        Ok(resolved) => Ok(resolved),
+        Err(ResolveError::Fault(fault)) => {
+            let kind = fault.kind;
+            let mut path = fault.path;
+            path.reverse();
+            Err(ResolveError::Fault(Fault { kind, path }))
+        }
+        Err(ResolveError::Memory) => Err(ResolveError::Memory),
     }
 }
 
-/// An int, or the long of its value where the reader has a long.
-fn int_as(reader: &Node, value: &i32) -> Datum
-    ensures { kept_int value.now (node_of reader.now) ≡ Ok (value_of result) }
+/// What a datum of a writer's node is for a reader's node.
+#[cycle(resolution)]
+fn resolve_at(
+    alloc: Global,
+    writer: &Schema,
+    w: NodeId,
+    reader: &Schema,
+    r: NodeId,
+    datum: &Datum,
+) -> Result<Datum, ResolveError>
+    ensures { Ends value_of result (resolve_value (schema_nodes writer.now) (schema_nodes reader.now)
+        (node_at (schema_nodes writer.now) w.0) (node_at (schema_nodes reader.now) r.0) (value_of datum.now)) }
 {
-    let value = *value;
-    if matches!(reader, Node::Long) {
-        Datum::Long(i64::from(value))
-    } else {
-        Datum::Int(value)
+    match datum {
+        Datum::Union(branch, value) => {
+            let part = branch_of(writer, w, *branch);
+            match resolve_at(alloc, writer, part, reader, r, value) {
+                Ok(resolved) => Ok(resolved),
+                Err(error) => Err(fault_in(0, error)),
+            }
+        }
+        Datum::Null => resolve_through(alloc, writer, w, reader, r, datum),
+        Datum::Bool(_) => resolve_through(alloc, writer, w, reader, r, datum),
+        Datum::Int(_) => resolve_through(alloc, writer, w, reader, r, datum),
+        Datum::Long(_) => resolve_through(alloc, writer, w, reader, r, datum),
+        Datum::Bytes(_) => resolve_through(alloc, writer, w, reader, r, datum),
+        Datum::Str(_) => resolve_through(alloc, writer, w, reader, r, datum),
+        Datum::Array(_) => resolve_through(alloc, writer, w, reader, r, datum),
+        Datum::Record(_) => resolve_through(alloc, writer, w, reader, r, datum),
+        Datum::Enum(_) => resolve_through(alloc, writer, w, reader, r, datum),
+        Datum::Fixed(_) => resolve_through(alloc, writer, w, reader, r, datum),
+        Datum::Map(_) => resolve_through(alloc, writer, w, reader, r, datum),
+    }
+}
+
+/// The same of a datum that is in no union.
+#[cycle(resolution)]
+fn resolve_through(
+    alloc: Global,
+    writer: &Schema,
+    w: NodeId,
+    reader: &Schema,
+    r: NodeId,
+    datum: &Datum,
+) -> Result<Datum, ResolveError>
+    ensures { Ends value_of result (through (schema_nodes writer.now) (schema_nodes reader.now)
+        (node_at (schema_nodes writer.now) w.0) (node_at (schema_nodes reader.now) r.0)
+        (taken_as (schema_nodes writer.now) (schema_nodes reader.now) (node_at (schema_nodes writer.now) w.0) (value_of datum.now))) }
+{
+    match aim(writer, w, reader, r) {
+        Aim::Fault(kind) => Err(fault_here(alloc, kind)),
+        Aim::To(branch, q) => {
+            let taken = take(alloc, writer, w, reader, q, datum);
+            wrapped(alloc, branch, taken)
+        }
+    }
+}
+
+/// What a reader's node that is no union takes of a datum that is in no union.
+#[cycle(resolution)]
+fn take(
+    alloc: Global,
+    writer: &Schema,
+    w: NodeId,
+    reader: &Schema,
+    q: NodeId,
+    datum: &Datum,
+) -> Result<Datum, ResolveError>
+    ensures { Ends value_of result (taken_as (schema_nodes writer.now) (schema_nodes reader.now)
+        (node_at (schema_nodes writer.now) w.0) (value_of datum.now) (node_at (schema_nodes reader.now) q.0)) }
+{
+    match datum {
+        Datum::Array(items) => {
+            let a = items_of(writer, w);
+            let b = items_of(reader, q);
+            match resolve_each(alloc, writer, a, reader, b, items) {
+                Ok(resolved) => Ok(Datum::Array(resolved)),
+                Err(error) => Err(error),
+            }
+        }
+        Datum::Map(entries) => {
+            let a = values_of(writer, w);
+            let b = values_of(reader, q);
+            match resolve_values(alloc, writer, a, reader, b, entries) {
+                Ok(resolved) => Ok(Datum::Map(resolved)),
+                Err(error) => Err(error),
+            }
+        }
+        Datum::Record(values) => resolve_record(alloc, writer, w, reader, q, values),
+        Datum::Null
+        | Datum::Bool(_)
+        | Datum::Int(_)
+        | Datum::Long(_)
+        | Datum::Bytes(_)
+        | Datum::Str(_)
+        | Datum::Union(_, _)
+        | Datum::Enum(_)
+        | Datum::Fixed(_) => leaf(alloc, writer, w, reader, q, datum),
+    }
+}
+
+/// What the items of an array are for a reader.
+#[cycle(resolution)]
+fn resolve_each(
+    alloc: Global,
+    writer: &Schema,
+    w: NodeId,
+    reader: &Schema,
+    r: NodeId,
+    items: &[Datum],
+) -> Result<Vec<Datum>, ResolveError>
+    ensures { Ends (λ v. values_seen v.items) result (resolve_items (schema_nodes writer.now) (schema_nodes reader.now)
+        (node_at (schema_nodes writer.now) w.0) (node_at (schema_nodes reader.now) r.0) 0 (values_seen items.now)) }
+{
+    let mut resolved = Vec::new(alloc);
+    for place in 0..items.len() {
+        match resolve_at(alloc, writer, w, reader, r, &items[place]) {
+            Ok(item) => match resolved.push(item) {
+                Ok(()) => {}
+                Err(_) => return Err(ResolveError::Memory),
+            },
+            Err(error) => return Err(fault_in(place, error)),
+        }
+    }
+    Ok(resolved)
+}
+
+/// What the values of a map are for a reader, with their keys.
+#[cycle(resolution)]
+fn resolve_values(
+    alloc: Global,
+    writer: &Schema,
+    w: NodeId,
+    reader: &Schema,
+    r: NodeId,
+    entries: &[(String, Datum)],
+) -> Result<Vec<(String, Datum)>, ResolveError>
+    ensures { Ends (λ v. entries_seen v.items) result (resolve_entries (schema_nodes writer.now) (schema_nodes reader.now)
+        (node_at (schema_nodes writer.now) w.0) (node_at (schema_nodes reader.now) r.0) 0 (entries_seen entries.now)) }
+{
+    let mut resolved = Vec::new(alloc);
+    for place in 0..entries.len() {
+        match resolve_at(alloc, writer, w, reader, r, &entries[place].1) {
+            Ok(value) => match keep(&mut resolved, &entries[place].0, value) {
+                Ok(()) => {}
+                Err(_) => return Err(ResolveError::Memory),
+            },
+            Err(error) => return Err(fault_in(place, error)),
+        }
+    }
+    Ok(resolved)
+}
+
+/// Keeps a value below its key.
+fn keep(entries: &mut Vec<(String, Datum)>, key: &String, value: Datum) -> Result<(), AllocError>
+    ensures { IfOk result (λ done. map pair_of entries.new.items ≡ map pair_of entries.old.items ++ (string_bytes key.now, value_of value) ∷ []) }
+{
+    entries.push((key.clone()?, value))?;
+    Ok(())
+}
+
+/// What the values of a record are for a reader's node.
+#[cycle(resolution)]
+fn resolve_record(
+    alloc: Global,
+    writer: &Schema,
+    w: NodeId,
+    reader: &Schema,
+    q: NodeId,
+    values: &[Datum],
+) -> Result<Datum, ResolveError>
+    ensures { Ends value_of result (taken_as (schema_nodes writer.now) (schema_nodes reader.now)
+        (node_at (schema_nodes writer.now) w.0) (Value.record_of (values_seen values.now)) (node_at (schema_nodes reader.now) q.0)) }
+{
+    let writes = fields_of(writer, w);
+    let reads = fields_of(reader, q);
+    match missing(writes, reads) {
+        Some(place) => Err(fault_here(alloc, FaultKind::MissingField(place))),
+        None => match resolve_fields(alloc, writer, writes, reader, reads, values) {
+            Ok(slots) => match fill(alloc, writes, reads, slots) {
+                Ok(filled) => Ok(Datum::Record(filled)),
+                Err(_) => Err(ResolveError::Memory),
+            },
+            Err(error) => Err(error),
+        },
+    }
+}
+
+/// What the values of the writer's fields are for the reader's fields, each in the slot of its place.
+/// The slot of an ignored field is empty.
+#[cycle(resolution)]
+fn resolve_fields(
+    alloc: Global,
+    writer: &Schema,
+    writes: &[Field],
+    reader: &Schema,
+    reads: &[Field],
+    values: &[Datum],
+) -> Result<Vec<Option<Datum>>, ResolveError>
+    ensures { EndsFound result (resolve_sources (schema_nodes writer.now) (schema_nodes reader.now)
+        (seen_fields writes.now) (seen_fields reads.now) 0 (values_seen values.now)) }
+{
+    let mut slots = Vec::new(alloc);
+    for place in 0..values.len() {
+        match resolve_field(alloc, writer, writes, reader, reads, place, &values[place]) {
+            Ok(slot) => match slots.push(slot) {
+                Ok(()) => {}
+                Err(_) => return Err(ResolveError::Memory),
+            },
+            Err(error) => return Err(error),
+        }
+    }
+    Ok(slots)
+}
+
+/// What the value of the writer's field at a place is for the reader's field whose source it is, where
+/// there is one.
+#[cycle(resolution)]
+fn resolve_field(
+    alloc: Global,
+    writer: &Schema,
+    writes: &[Field],
+    reader: &Schema,
+    reads: &[Field],
+    place: usize,
+    value: &Datum,
+) -> Result<Option<Datum>, ResolveError>
+    ensures { EndsSlot place result (field_step (schema_nodes writer.now) (schema_nodes reader.now)
+        (seen_fields writes.now) (seen_fields reads.now) place (value_of value.now)) }
+{
+    match part_for(writes, reads, place) {
+        At::Ignored => Ok(None),
+        At::Pair(a, b) => match resolve_at(alloc, writer, a, reader, b, value) {
+            Ok(resolved) => Ok(Some(resolved)),
+            Err(error) => Err(fault_in(place, error)),
+        },
     }
 }

@@ -1,5 +1,5 @@
+use avro_display::show;
 use avro_schema::{Datum, Draft, DraftError, Limits, Node, Schema, depth, fits, size};
-use avro_schema_json::show;
 use std::alloc::Global;
 use std::test::Fail;
 

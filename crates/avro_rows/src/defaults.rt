@@ -75,8 +75,6 @@ fn defaults_of_each_type_are_read(rt: HostRuntime) -> Result<(), Fail> {
 #[test]
 fn other_defaults_are_refused(rt: HostRuntime) -> Result<(), Fail> {
     for (node, default) in [
-        (r#"["null","int"]"#, "3"),
-        (r#"["int","null"]"#, "null"),
         ("\"int\"", "2147483648"),
         ("\"long\"", "9223372036854775808"),
         ("\"string\"", "1"),

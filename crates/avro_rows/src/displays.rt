@@ -1,5 +1,6 @@
+use avro_display::show;
 use avro_schema::{Datum, Memory, Schema, fits};
-use avro_schema_json::{read_schema, show};
+use avro_schema_json::read_schema;
 use std::alloc::{AllocError, Global};
 use std::test::Fail;
 

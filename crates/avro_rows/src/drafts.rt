@@ -237,6 +237,15 @@ fn defaults_fit_their_field(rt: HostRuntime) -> Result<(), Fail> {
         Node::Null,
         Node::Int,
     ]?;
+    assert!(rt; finished(alloc, nodes).is_ok());
+    let three = Box::new(alloc, Datum::Int(3))?;
+    let first = vec![in alloc; field(alloc, "f", 1, Some(Datum::Union(0, three)))?]?;
+    let nodes = vec![in alloc;
+        record(alloc, "R", first)?,
+        union(alloc, &[2, 3])?,
+        Node::Null,
+        Node::Int,
+    ]?;
     assert_eq!(rt; finished(alloc, nodes).err(), invalid);
     let long = Datum::Array(vec![in alloc; Datum::Long(1)]?);
     let deep = Datum::Record(vec![in alloc; long]?);

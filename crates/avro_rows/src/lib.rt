@@ -3,6 +3,12 @@
 #![tactic(auto)]
 
 #[cfg(test)]
+mod builders;
+#[cfg(test)]
+mod canonical;
+#[cfg(test)]
+mod certificates;
+#[cfg(test)]
 mod data;
 #[cfg(test)]
 mod declared;
@@ -17,11 +23,17 @@ mod edges;
 #[cfg(test)]
 mod encoding;
 #[cfg(test)]
+mod first_fitting_defaults;
+#[cfg(test)]
 mod judging;
+#[cfg(test)]
+mod judging_all_kinds;
 #[cfg(test)]
 mod names;
 #[cfg(test)]
 mod numbers;
+#[cfg(test)]
+mod padded_numbers;
 #[cfg(test)]
 mod program;
 #[cfg(test)]

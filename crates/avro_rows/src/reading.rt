@@ -1,8 +1,8 @@
 use crate::data::schema_of;
 use crate::drafts::{enumeration, field, finished, fixed, record, union};
 use avro_binary::{decode, walk};
+use avro_display::show;
 use avro_schema::{Limits, Node, NodeId, Schema};
-use avro_schema_json::show;
 use std::alloc::{AllocError, Global};
 use std::test::Fail;
 
@@ -30,7 +30,7 @@ fn answers(
 
 /// The first row, if any, that the two readers answer otherwise. A row is bytes, what is to be
 /// decoded of them, and what is to be walked.
-fn wrong_row(
+pub(crate) fn wrong_row(
     alloc: Global,
     schema: &Schema,
     limits: &Limits,
@@ -46,7 +46,7 @@ fn wrong_row(
 }
 
 /// An array of items of a node.
-fn array_of(alloc: Global, items: Node) -> Result<Schema, Fail> {
+pub(crate) fn array_of(alloc: Global, items: Node) -> Result<Schema, Fail> {
     let nodes = vec![in alloc; Node::Array(NodeId(1)), items]?;
     Ok(finished(alloc, nodes)?)
 }
@@ -64,7 +64,7 @@ fn contents_are_read(rt: HostRuntime) -> Result<(), Fail> {
         (b"\x0a", "B9", "B9"),
         (b"\x01", "B6 at 0", "B6 at 0"),
         (b"\x02\xff", "B4 at 1", "B4 at 1"),
-        (b"\x80\x00", "B2 at 0", "B2 at 0"),
+        (b"\x80\x00", "\"\" 2", "2"),
     ];
     let schema = schema_of(alloc, Node::Str)?;
     assert_eq!(rt; wrong_row(alloc, &schema, &limits, &texts)?, None);

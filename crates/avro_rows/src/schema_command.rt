@@ -49,7 +49,7 @@ fn refused_schemas_of_files_are_told(rt: HostRuntime) -> Result<(), Fail> {
             "avro: refused.avsc: S8\n",
         ),
         (
-            r#"{"type":"record","name":"R","fields":[{"name":"f","type":["null","int"],"default":3}]}"#,
+            r#"{"type":"record","name":"R","fields":[{"name":"f","type":["null","int"],"default":"x"}]}"#,
             "avro: refused.avsc: S9\n",
         ),
         (r#""float""#, "avro: refused.avsc: S10\n"),

@@ -16,10 +16,10 @@ is_eq-then Less b = refl
 is_eq-then Equal b = refl
 is_eq-then Greater b = refl
 
-pub is_eq-names : (a b : Name) → is_eq (then_cmp (on (λ (n : Name). n.namespace) (slice_cmp nat_cmp)) (on (λ (n : Name). n.simple) (slice_cmp nat_cmp)) a b) ≡ same_name a b
+pub is_eq-names : (a b : Name) → is_eq (then_cmp (on (λ (n : Name). n.simple) (slice_cmp nat_cmp)) (on (λ (n : Name). n.namespace) (slice_cmp nat_cmp)) a b) ≡ same_name a b
 is_eq-names a b =
-    is_eq-then (slice_cmp nat_cmp a.namespace b.namespace) (slice_cmp nat_cmp a.simple b.simple)
-    ∙ rw (is_eq-slice_cmp a.namespace b.namespace, is_eq-slice_cmp a.simple b.simple) refl
+    is_eq-then (slice_cmp nat_cmp a.simple b.simple) (slice_cmp nat_cmp a.namespace b.namespace)
+    ∙ rw (is_eq-slice_cmp a.simple b.simple, is_eq-slice_cmp a.namespace b.namespace) refl
 
 pub kind_eq : (a b : Kind) → is_eq (cmp-value.it a b) ≡ same_kind (kind_of a) (kind_of b)
 kind_eq Kind.Null Kind.Null = refl

@@ -137,8 +137,14 @@ default_out_of_range = refl
 default_of_first_branch : is_schema (one_default (Node.union (2 ∷ 3 ∷ [])) (Value.union 0 Value.null)) ≡ true
 default_of_first_branch = refl
 
-default_of_second_branch : is_schema (one_default (Node.union (2 ∷ 3 ∷ [])) (Value.union 1 (Value.int (pos 3)))) ≡ false
+default_of_second_branch : is_schema (one_default (Node.union (2 ∷ 3 ∷ [])) (Value.union 1 (Value.int (pos 3)))) ≡ true
 default_of_second_branch = refl
+
+default_of_another_branch : is_schema (one_default (Node.union (2 ∷ 3 ∷ [])) (Value.union 0 (Value.int (pos 3)))) ≡ false
+default_of_another_branch = refl
+
+default_of_no_branch : is_schema (one_default (Node.union (2 ∷ 3 ∷ [])) (Value.union 2 Value.null)) ≡ false
+default_of_no_branch = refl
 
 -- a record's default is again a record of all its fields
 default_of_itself : is_schema

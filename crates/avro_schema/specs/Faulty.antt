@@ -31,7 +31,7 @@ abbrev pub has_duplicate_field : Node → Bool
 has_duplicate_field (Node.record_of name aliases fields) = not (are_distinct bytes_eq (flat_map field_names fields))
 has_duplicate_field _ = false
 
--- a default that is no datum of its field, or takes another than the first branch of a union
+-- a default that is no datum of its field
 abbrev pub has_invalid_default : List Node → Node → Bool
 has_invalid_default nodes (Node.record_of name aliases fields) = not (list_all (has_good_default nodes) fields)
 has_invalid_default nodes _ = false

@@ -6,6 +6,5 @@ pub mod WellFormed
 pub mod Seen
 pub mod SeenSchema
 pub mod Ranges
-pub mod FirstKinds
 pub mod Faulty
 pub mod SeenKind

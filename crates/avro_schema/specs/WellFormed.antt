@@ -2,7 +2,7 @@
 use Rattle.std.specs.Prelude.{ℕ, suc, Bool, true, false, ◌&&◌, ◌||◌, List, [], ◌∷◌, Option, Some, None, length, nat_lt, nat_le, ◌==◌, bytes_eq, is_some, filter_map, flat_map}
 use Rattle.std.specs.List.{list_all}
 use Rattle.avro_name.specs.Name.{Name, is_full_name, is_simple_name, same_name}
-use Rattle.avro_schema.specs.Value.{Value, Values, Entries, no_values, value, no_entries, entry}
+use Rattle.avro_schema.specs.Value.{Value}
 use Rattle.avro_schema.specs.Node.{Node, FieldNode, node_at, node_name, node_aliases, edges_of}
 use Rattle.avro_schema.specs.Fits.{fits}
 use Rattle.avro_schema.specs.Distinct.{are_distinct}
@@ -60,37 +60,13 @@ is_enum symbols default =
     nat_lt 0 (length symbols) && nat_le (length symbols) max_count && list_all is_simple_name symbols
     && are_distinct bytes_eq symbols && is_default symbols default
 
--- each union in the datum, at any depth, is its first branch
-abbrev mutual
-  pub takes_first_branches : Value → Bool
-  takes_first_branches Value.null = true
-  takes_first_branches (Value.boolean b) = true
-  takes_first_branches (Value.int i) = true
-  takes_first_branches (Value.long i) = true
-  takes_first_branches (Value.bytes b) = true
-  takes_first_branches (Value.string t) = true
-  takes_first_branches (Value.array vs) = values_take_first_branches vs
-  takes_first_branches (Value.map_of es) = entries_take_first_branches es
-  takes_first_branches (Value.union k v) = k == 0 && takes_first_branches v
-  takes_first_branches (Value.record_of vs) = values_take_first_branches vs
-  takes_first_branches (Value.enum k) = true
-  takes_first_branches (Value.fixed b) = true
-
-  pub values_take_first_branches : Values → Bool
-  values_take_first_branches no_values = true
-  values_take_first_branches (value v vs) = takes_first_branches v && values_take_first_branches vs
-
-  pub entries_take_first_branches : Entries → Bool
-  entries_take_first_branches no_entries = true
-  entries_take_first_branches (entry k v es) = takes_first_branches v && entries_take_first_branches es
-
 -- a default fits the node of its field
 abbrev pub has_good_default : List Node → FieldNode → Bool
 has_good_default nodes f = is_good f.default
   where
     is_good : Option Value → Bool
     is_good None = true
-    is_good (Some v) = fits nodes (node_at nodes f.node) v && takes_first_branches v
+    is_good (Some v) = fits nodes (node_at nodes f.node) v
 
 -- all the names of a field
 abbrev pub field_names : FieldNode → List (List ℕ)

@@ -1,6 +1,7 @@
 //! The branches of unions.
 
 ghost use Rattle.std.specs.Prelude.{◌≡◌, map, IfOk, option_map};
+ghost use Rattle.std.specs.Ordering.{eq_by_cmp, nat_cmp};
 ghost use Rattle.avro_schema.specs.Distinct.{are_distinct};
 ghost use Rattle.avro_schema.specs.Node.{node_at};
 ghost use Rattle.avro_schema.specs.Seen.{node_of, nodes_of, places_of};
@@ -78,11 +79,29 @@ fn kinds<'a>(
     Ok(Some(kinds))
 }
 
+/// Whether no node stands twice. It looks at the numbers alone, so that long names that are used many
+/// times are not compared.
+fn are_unique_places(alloc: Global, branches: &[NodeId]) -> Result<bool, Memory>
+    ensures { IfOk result (λ answer. answer ≡ are_distinct (eq_by_cmp nat_cmp) (places_of branches.now)) }
+{
+    let mut places: Vec<u32> = Vec::new(alloc);
+    for branch in branches {
+        match places.push(branch.0) {
+            Ok(()) => {}
+            Err(_) => return Err(Memory),
+        }
+    }
+    are_unique(places)
+}
+
 /// Whether branches make a union.
 pub(crate) fn is_union(alloc: Global, nodes: &[Node], branches: &[NodeId]) -> Result<bool, Memory>
     ensures { IfOk result (λ answer. answer ≡ is_good_union (nodes_of nodes.now) (places_of branches.now)) }
 {
     if branches.is_empty() {
+        return Ok(false);
+    }
+    if !are_unique_places(alloc, branches)? {
         return Ok(false);
     }
     match kinds(alloc, nodes, branches)? {

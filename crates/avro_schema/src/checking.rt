@@ -4,8 +4,8 @@ ghost use Rattle.std.specs.Prelude.{◌≡◌, ℕ, ◌<◌, true, length, IfOk,
 ghost use Rattle.std.specs.List.{list_all};
 ghost use Rattle.avro_schema.specs.Faulty.{IsBroken, SomeIsBroken, IsThere};
 ghost use Rattle.avro_schema.specs.Node.{Node as SeenNode, node_at, field_places};
-ghost use Rattle.avro_schema.specs.Seen.{value_of, values_of, entries_of, field_of, node_of, nodes_of, places_of, seen_fields};
-ghost use Rattle.avro_schema.specs.WellFormed.{is_edge as is_good_edge, is_good_node, are_good_nodes, is_schema, takes_first_branches as takes_first, values_take_first_branches, entries_take_first_branches, has_good_default as is_good_default};
+ghost use Rattle.avro_schema.specs.Seen.{field_of, node_of, nodes_of, places_of, seen_fields};
+ghost use Rattle.avro_schema.specs.WellFormed.{is_edge as is_good_edge, is_good_node, are_good_nodes, is_schema, has_good_default as is_good_default};
 ghost use Rattle.avro_schema.specs.declared.schema.Node.TheVariants as kept;
 
 use crate::branches::is_union;
@@ -241,65 +241,12 @@ fn are_good_defaults(alloc: Global, nodes: &[Node], fields: &[Field]) -> Result<
     Ok(true)
 }
 
-/// Whether a field has no default, or one that is a datum of its node and takes the first branch of
-/// each union.
+/// Whether a field has no default, or one that is a datum of its node.
 fn has_good_default(alloc: Global, nodes: &[Node], field: &Field) -> Result<bool, Memory>
     ensures { IfOk result (λ answer. answer ≡ is_good_default (nodes_of nodes.now) (field_of field.now)) }
 {
     match &field.default {
         None => Ok(true),
-        Some(datum) => {
-            if !fits_place(alloc, nodes, field.node, datum)? {
-                return Ok(false);
-            }
-            Ok(takes_first_branches(datum))
-        }
+        Some(datum) => fits_place(alloc, nodes, field.node, datum),
     }
-}
-
-/// Whether each union in a datum, at any depth, is its first branch.
-#[cycle(first_branches)]
-fn takes_first_branches(datum: &Datum) -> bool
-    ensures { result ≡ takes_first (value_of datum.now) }
-{
-    match datum {
-        Datum::Null
-        | Datum::Bool(_)
-        | Datum::Int(_)
-        | Datum::Long(_)
-        | Datum::Bytes(_)
-        | Datum::Str(_)
-        | Datum::Enum(_)
-        | Datum::Fixed(_) => true,
-        Datum::Array(items) => items_take_first_branches(items),
-        Datum::Map(entries) => values_of_map_take_first_branches(entries),
-        Datum::Union(branch, value) => *branch == 0 && takes_first_branches(value),
-        Datum::Record(values) => items_take_first_branches(values),
-    }
-}
-
-/// Whether each union in some data is its first branch.
-#[cycle(first_branches)]
-fn items_take_first_branches(items: &[Datum]) -> bool
-    ensures { result ≡ values_take_first_branches (values_of items.now) }
-{
-    for item in items {
-        if !takes_first_branches(item) {
-            return false;
-        }
-    }
-    true
-}
-
-/// Whether each union in the values of a map is its first branch.
-#[cycle(first_branches)]
-fn values_of_map_take_first_branches(entries: &[(String, Datum)]) -> bool
-    ensures { result ≡ entries_take_first_branches (entries_of entries.now) }
-{
-    for entry in entries {
-        if !takes_first_branches(&entry.1) {
-            return false;
-        }
-    }
-    true
 }

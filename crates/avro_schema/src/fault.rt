@@ -26,7 +26,7 @@ pub enum DraftError {
     /// A name or alias stands twice among the fields of a record.
     #[error("S8")]
     DuplicateField,
-    /// A default is no datum of its field, or takes another than the first branch of a union.
+    /// A default is no datum of its field.
     #[error("S9")]
     InvalidDefault,
     /// There is no node or there are more than 4,096; or an enum has more than 1,048,576 symbols,

@@ -2,7 +2,7 @@
 
 ghost use Rattle.std.specs.Prelude.{◌≡◌, ◌++◌, true, map, IfOk, option_map, filter_map, flat_map, string_bytes};
 ghost use Rattle.std.specs.List.{list_all};
-ghost use Rattle.avro_name.specs.Name.{is_name_start, is_name_character, is_simple_name, is_full_name, same_name};
+ghost use Rattle.avro_name.specs.Name.{is_simple_name, is_full_name, same_name};
 ghost use Rattle.avro_schema.specs.Distinct.{are_distinct};
 ghost use Rattle.avro_schema.specs.Node.{node_name};
 ghost use Rattle.avro_schema.specs.Seen.{node_of, nodes_of, seen_fields, texts_of};
@@ -11,44 +11,8 @@ ghost use Rattle.avro_schema.specs.WellFormed.{field_names};
 use crate::datum::Memory;
 use crate::schema::{Field, Node};
 use crate::uniqueness::are_unique;
-use avro_name::FullName;
+use avro_name::{FullName, is_simple_name};
 use std::alloc::Global;
-
-/// Whether a byte may begin a name.
-fn begins_name(byte: u8) -> bool
-    ensures { result ≡ is_name_start byte }
-{
-    matches!(byte, b'A'..=b'Z' | b'a'..=b'z' | b'_')
-}
-
-/// Whether a byte may follow in a name.
-fn continues_name(byte: u8) -> bool
-    ensures { result ≡ is_name_character byte }
-{
-    matches!(byte, b'A'..=b'Z' | b'a'..=b'z' | b'_' | b'0'..=b'9')
-}
-
-/// Whether bytes may follow in a name.
-fn continue_name(bytes: &[u8]) -> bool
-    ensures { result ≡ list_all is_name_character bytes.now }
-{
-    for byte in bytes {
-        if !continues_name(*byte) {
-            return false;
-        }
-    }
-    true
-}
-
-/// Whether a text is a name without dots.
-fn is_simple_name(text: &str) -> bool
-    ensures { result ≡ is_simple_name text.now }
-{
-    match text.as_bytes().split_first() {
-        Some((first, rest)) => begins_name(*first) && continue_name(rest),
-        None => false,
-    }
-}
 
 /// Whether texts are names without dots.
 pub(crate) fn are_simple_names(texts: &[&str]) -> bool

@@ -14,14 +14,8 @@ use Rattle.serde_json.specs.declared.value.Value.{Value as Tree}
 use Rattle.serde_json.proofs.Views.{Entry}
 use Rattle.avro_schema_json.specs.DeclaredDefaults.{default_of, default_under, each_default, entries_default, fields_default}
 use Rattle.avro_schema_json.proofs.RawSeen.{name_and_node}
-use Rattle.avro_schema_json.proofs.RowsLaws.{default_under-found}
-use Rattle.avro_schema_json.proofs.DefaultsSeen.{after_values, after_entries, value_step, value_stop, values_end, entry_step}
-
-pub drop_past : {A : Type 0} (xs : List A) (i : ℕ) → length xs ≤ i → drop i xs ≡ []
-drop_past [] zero h = refl
-drop_past [] (suc i) h = refl
-drop_past (x ∷ xs) zero h = absurd (omega arith)
-drop_past (x ∷ xs) (suc i) h = drop_past xs i (omega arith)
+use Rattle.avro_schema_json.proofs.DeclarationLaws.{default_under-found}
+use Rattle.avro_schema_json.proofs.DefaultsSeen.{drop_past, after_values, after_entries, value_step, value_stop, values_end, entry_step}
 
 -- ---- items
 

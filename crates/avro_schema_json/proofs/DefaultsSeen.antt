@@ -1,14 +1,15 @@
 -- Defaults as they are read part by part.
-use Rattle.std.proofs.Common.{◌≡◌, ℕ, zero, suc, List, [], ◌∷◌, ◌++◌, Option, Some, None, option_map, option_and_then, get_or, refl, ap, ◌∙◌, sym}
+use Rattle.std.proofs.Common.{◌≡◌, ℕ, zero, suc, ◌+◌, ◌<◌, ◌≤◌, List, [], ◌∷◌, ◌++◌, length, drop, arith, add-one, Option, Some, None, option_map, option_and_then, get_or, refl, ap, ◌∙◌, sym}
 use Rattle.std.specs.Prelude.{String, string_bytes, slice_get}
 use Rattle.std.specs.declared.alloc.Global.{Global}
+use Rattle.std.proofs.lemmas.List.{drop_more}
 use Rattle.avro_schema.specs.Node.{Node, node_at, branches_of}
 use Rattle.avro_schema.specs.Seen.{value_of, values_of, entries_of, places_of}
 use Rattle.avro_schema.specs.Value.{Value, Values, no_values, value, Entries, no_entries, entry}
 use Rattle.avro_schema.specs.declared.datum.Datum.{Datum}
 use Rattle.avro_schema.specs.declared.schema.NodeId.{NodeId}
 use Rattle.serde_json.specs.Data.{Data}
-use Rattle.avro_schema_json.specs.DeclaredDefaults.{by_first_branch, default_of}
+use Rattle.avro_schema_json.specs.DeclaredDefaults.{by_first_fit, first_fit, default_of}
 use Rattle.avro_schema_json.specs.OwnDefaults.{own_default, bare_of, bares_of}
 use Rattle.avro_schema_json.specs.declared.raw.RawNode.{RawNode}
 
@@ -18,8 +19,8 @@ node_at-raws [] i null h = h
 node_at-raws (r ∷ raws) zero null h = refl
 node_at-raws (r ∷ raws) (suc i) null h = node_at-raws raws i null h
 
--- a default is that of the node itself, or of the first branch
-default_of-own : (nodes : List Node) (d : Data) (n : Node) → default_of nodes d n ≡ by_first_branch nodes n (own_default nodes d)
+-- a default is that of the node itself, or of a branch
+default_of-own : (nodes : List Node) (d : Data) (n : Node) → default_of nodes d n ≡ by_first_fit nodes n (own_default nodes d)
 default_of-own nodes Data.null n = refl
 default_of-own nodes (Data.boolean b) n = refl
 default_of-own nodes (Data.number x) n = refl
@@ -30,17 +31,48 @@ default_of-own nodes (Data.object ms) n = refl
 pub default-no_union : (nodes : List Node) (d : Data) (n : Node) → branches_of n ≡ None → default_of nodes d n ≡ own_default nodes d n
 default-no_union nodes d n h = default_of-own nodes d n ∙ rw h refl
 
-pub default-no_branch : (nodes : List Node) (d : Data) (n : Node) (ids : List NodeId) → branches_of n ≡ Some (places_of ids) → slice_get ids 0 ≡ None
-    → default_of nodes d n ≡ None
-default-no_branch nodes d n [] h none = default_of-own nodes d n ∙ rw h refl
-default-no_branch nodes d n (id ∷ ids) h none = cc
+pub default-union : (nodes : List Node) (d : Data) (n : Node) (places : List ℕ) → branches_of n ≡ Some places
+    → default_of nodes d n ≡ first_fit nodes (own_default nodes d) 0 places
+default-union nodes d n places h = default_of-own nodes d n ∙ rw h refl
 
-pub default-first_branch : (nodes : List Node) (d : Data) (n : Node) (ids : List NodeId) (first : NodeId) → branches_of n ≡ Some (places_of ids)
-    → slice_get ids 0 ≡ Some first → default_of nodes d n ≡ option_map (Value.union 0) (own_default nodes d (node_at nodes first.0))
-default-first_branch nodes d n [] first h some = cc
-default-first_branch nodes d n (id ∷ ids) first h some =
-    let same : id ≡ first = cc in
-    default_of-own nodes d n ∙ rw (h, same) refl
+-- the first branch, wherever the JSON is a default of it
+pub default-first_branch : (nodes : List Node) (d : Data) (n : Node) (place : ℕ) (others : List ℕ) (v : Value) → branches_of n ≡ Some (place ∷ others)
+    → branches_of (node_at nodes place) ≡ None → default_of nodes d (node_at nodes place) ≡ Some v → default_of nodes d n ≡ Some (Value.union 0 v)
+default-first_branch nodes d n place others v has plain is =
+    let own : own_default nodes d (node_at nodes place) ≡ Some v = sym (default-no_union nodes d (node_at nodes place) plain) ∙ is in
+    default-union nodes d n (place ∷ others) has ∙ rw own refl
+
+-- ---- branches in turn
+
+pub drop_past : {A : Type 0} (xs : List A) (i : ℕ) → length xs ≤ i → drop i xs ≡ []
+drop_past [] zero h = refl
+drop_past [] (suc i) h = refl
+drop_past (x ∷ xs) zero h = absurd (omega arith)
+drop_past (x ∷ xs) (suc i) h = drop_past xs i (omega arith)
+
+drop_places : (ids : List NodeId) (i : ℕ) (id : NodeId) → i < length ids → id ≡ get_or ids i id → places_of (drop i ids) ≡ id.0 ∷ places_of (drop (suc i) ids)
+drop_places ids i id below at =
+    let here : drop i ids ≡ id ∷ drop (i + 1) ids = drop_more ids i id below ∙ ap (λ y. y ∷ drop (i + 1) ids) (sym at) in
+    ap places_of (rw add-one at here)
+
+-- a branch that the JSON does not fit
+pub branch_next : (nodes : List Node) (d : Data) (ids : List NodeId) (i : ℕ) (id : NodeId) (all : Option Value) → i < length ids → id ≡ get_or ids i id
+    → first_fit nodes (own_default nodes d) i (places_of (drop i ids)) ≡ all → own_default nodes d (node_at nodes id.0) ≡ None
+    → first_fit nodes (own_default nodes d) (i + 1) (places_of (drop (i + 1) ids)) ≡ all
+branch_next nodes d ids i id all below at whole none =
+    let w = rw (drop_places ids i id below at, none) at whole in
+    rw add-one w
+
+-- the first branch that it fits
+pub branch_found : (nodes : List Node) (d : Data) (ids : List NodeId) (i : ℕ) (id : NodeId) (v : Value) (all : Option Value) → i < length ids
+    → id ≡ get_or ids i id → first_fit nodes (own_default nodes d) i (places_of (drop i ids)) ≡ all → own_default nodes d (node_at nodes id.0) ≡ Some v
+    → Some (Value.union i v) ≡ all
+branch_found nodes d ids i id v all below at whole some = rw (drop_places ids i id below at, some) at whole
+
+-- no branch is left
+pub branches_end : (nodes : List Node) (d : Data) (ids : List NodeId) (i : ℕ) (all : Option Value) → length ids ≤ i
+    → first_fit nodes (own_default nodes d) i (places_of (drop i ids)) ≡ all → None ≡ all
+branches_end nodes d ids i all past whole = let none : drop i ids ≡ [] = drop_past ids i past in rw none at whole
 
 -- values behind others
 abbrev pub after_values : List Datum → Values → Values

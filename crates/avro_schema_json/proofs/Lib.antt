@@ -1,20 +1,21 @@
 pub mod RowsDeclared
 mod RowsDefaults
-mod RowsDisplays
 mod RowsFaults
-pub mod RowsLaws
+pub mod DeclarationLaws
 pub mod RawSeen
 pub mod DefaultsSeen
 pub mod WholeSeen
 pub mod FaultsThere
 pub mod DefaultSteps
 pub mod NamesSeen
+pub mod SymbolsFound
 pub mod PartsRead
 pub mod TypesRead
 pub mod DefinitionsRead
 pub mod ObjectsRead
 mod RowsLimits
 pub mod ReadSeen
+mod KnownFound
 pub mod MadeSound
-pub mod NoFloats
-pub mod DisplaySeen
+pub mod MisfitsSeen
+pub mod DefaultsFit

@@ -10,9 +10,10 @@ use Rattle.serde_json.specs.declared.value.Value.{Value as Tree}
 use Rattle.serde_json.proofs.Views.{Entry}
 use Rattle.avro_schema_json.specs.DeclaredDefaults.{member_keys, names_only}
 use Rattle.avro_schema_json.proofs.RawSeen.{name_and_node}
-use Rattle.avro_schema_json.proofs.DefaultSteps.{drop_past, drop_at, field_at-found}
+use Rattle.avro_schema_json.proofs.DefaultSteps.{drop_at, field_at-found}
+use Rattle.avro_schema_json.proofs.DefaultsSeen.{drop_past}
 
-bytes_eq-comm : (xs ys : List ℕ) → bytes_eq xs ys ≡ bytes_eq ys xs
+pub bytes_eq-comm : (xs ys : List ℕ) → bytes_eq xs ys ≡ bytes_eq ys xs
 bytes_eq-comm xs ys = by_cases (bytes_eq xs ys) (bytes_eq ys xs) refl refl
   where
     by_cases : (a b : Bool) → bytes_eq xs ys ≡ a → bytes_eq ys xs ≡ b → a ≡ b

@@ -12,7 +12,7 @@ use Rattle.avro_schema_json.specs.declared.error.SchemaError.{SchemaError}
 use Rattle.avro_schema_json.specs.DeclaredAttributes.{needed, text_in, alias_texts_in}
 use Rattle.avro_schema_json.specs.Declares.{RawField, Meaning, faulty, container_of, meaning_of, fields_under, fields_from, field_meaning, field_of, form_of, array_form, map_form}
 use Rattle.avro_schema_json.specs.Reading.{State, Reads, Refuses, IsAttribute}
-use Rattle.avro_schema_json.proofs.RowsLaws.{meaning_under-found, fields_under-found}
+use Rattle.avro_schema_json.proofs.DeclarationLaws.{meaning_under-found, fields_under-found}
 use Rattle.avro_schema_json.proofs.TypesRead.{second-refused}
 
 -- ---- members that a map finds

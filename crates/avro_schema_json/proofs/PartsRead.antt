@@ -1,10 +1,6 @@
 -- How the parts of a declaration are read.
 use Rattle.std.proofs.Common.{◌≡◌, ℕ, suc, ◌+◌, ◌<◌, true, false, List, [], ◌∷◌, Option, Some, None, refl, length, get_or, arith, sym, ap, ◌∙◌, inr, drop, drop-cons, add-one}
 use Rattle.std.specs.Prelude.{◌⊎◌, IsErrOf, is_some, ok_or, String, string_bytes, option_map, bytes_eq, Result, Ok, Contains}
-use Rattle.std.specs.Map.{lookup}
-use Rattle.std.specs.HashMap.{HashMap, get}
-use Rattle.indexmap.specs.IndexMap.{insert_entry}
-use Rattle.indexmap.proofs.CallerLemmas.{insert_entry-new}
 use Rattle.std.proofs.lemmas.List.{append-nil}
 use Rattle.std.proofs.lemmas.List.Elements.{Contains-append_right}
 use Rattle.avro_name.specs.Name.{Name, same_name, name_of}
@@ -14,13 +10,6 @@ use Rattle.avro_schema_json.specs.declared.error.SchemaError.{SchemaError}
 use Rattle.avro_schema_json.specs.DeclaredAttributes.{symbol_place}
 use Rattle.avro_schema_json.specs.Declares.{name_faults, defining, Known, place_of, reference}
 use Rattle.avro_schema_json.specs.Reading.{State, made_at, IsRead, IsRefusal, limit_faults, beginning_faults}
-
--- ---- names that are known
-
--- the place of a name is what a map of the names finds
-pub place_of-lookup : (name : Name) (known : Known) → lookup (same_name name) known ≡ place_of name known
-place_of-lookup name [] = refl
-place_of-lookup name (definition ∷ known) = rw (place_of-lookup name known) refl
 
 -- ---- references
 
@@ -46,58 +35,16 @@ pub not_some : {A : Type 0} (o : Option A) → is_some o ≡ false → o ≡ Non
 not_some None h = refl
 not_some (Some x) h = cc
 
--- ---- the places of symbols
-
--- of the place of a word, the symbols before n are none
-abbrev pub IsPast : List ℕ → List (String Global) → ℕ → Type 0
-IsPast word symbols n = symbol_place word (texts_of symbols) ≡ option_map (λ place. place + n) (symbol_place word (texts_of (drop n symbols)))
-
-none-past : (o : Option ℕ) → o ≡ option_map (λ place. place + 0) o
-none-past None = refl
-none-past (Some place) = ap Some (omega arith)
-
-pub symbols-start : (word : List ℕ) (symbols : List (String Global)) → IsPast word symbols 0
-symbols-start word symbols = none-past (symbol_place word (texts_of symbols))
-
-one-later : (o : Option ℕ) (n : ℕ) → option_map (λ place. place + n) (option_map suc o) ≡ option_map (λ place. place + suc n) o
-one-later None n = refl
-one-later (Some place) n = ap Some (omega arith)
-
-next-symbols : (symbols : List (String Global)) (n : ℕ) (symbol : String Global) → n < length symbols → symbol ≡ get_or symbols n symbol
-    → drop n symbols ≡ symbol ∷ drop (suc n) symbols
-next-symbols symbols n symbol within is = drop-cons symbols n symbol within ∙ ap (λ s. s ∷ drop (suc n) symbols) (sym is)
-
-pub symbol-here : (word text : List ℕ) (symbols : List (String Global)) (n : ℕ) (symbol : String Global) → n < length symbols
-    → IsPast word symbols n → symbol ≡ get_or symbols n symbol → text ≡ string_bytes symbol → bytes_eq word text ≡ true
-    → Some n ≡ symbol_place word (texts_of symbols)
-symbol-here word text symbols n symbol within past at is same =
-    let here : bytes_eq word (string_bytes symbol) ≡ true = ap (bytes_eq word) (sym is) ∙ same in
-    sym (past ∙ rw (next-symbols symbols n symbol within at, here) (ap Some (omega arith)))
-
-pub symbol-later : (word text : List ℕ) (symbols : List (String Global)) (n : ℕ) (symbol : String Global) → n < length symbols
-    → IsPast word symbols n → symbol ≡ get_or symbols n symbol → text ≡ string_bytes symbol → bytes_eq word text ≡ false
-    → IsPast word symbols (n + 1)
-symbol-later word text symbols n symbol within past at is other =
-    let here : bytes_eq word (string_bytes symbol) ≡ false = ap (bytes_eq word) (sym is) ∙ other in
-    past ∙ rw (next-symbols symbols n symbol within at, here, add-one n) (one-later (symbol_place word (texts_of (drop (suc n) symbols))) n)
-
 -- ---- beginnings of definitions
 
-pub name_faults-new : (name : Name) (known : Known) → is_some (lookup (same_name name) known) ≡ false → name_faults name known ≡ []
-name_faults-new name known h = rw (← place_of-lookup name known, h) refl
+pub name_faults-new : (name : Name) (known : Known) → place_of name known ≡ None → name_faults name known ≡ []
+name_faults-new name known h = rw h refl
 
-pub name_faults-known : (name : Name) (known : Known) → is_some (lookup (same_name name) known) ≡ true
+pub name_faults-known : (name : Name) (known : Known) → is_some (place_of name known) ≡ true
     → Contains (name_faults name known) SchemaError.DuplicateName
-name_faults-known name known h = rw (← place_of-lookup name known, h) (0, omega arith, refl)
+name_faults-known name known h = rw h (0, omega arith, refl)
 
 pub beginning-known : (before : State) (named : Result Name SchemaError) (name : Name) → named ≡ Ok name
-    → is_some (lookup (same_name name) before.known) ≡ true → IsRefusal (beginning_faults before named) SchemaError.DuplicateName
+    → is_some (place_of name before.known) ≡ true → IsRefusal (beginning_faults before named) SchemaError.DuplicateName
 beginning-known before named name is h =
     inr (rw is (Contains-append_right (limit_faults before) (name_faults name before.known) SchemaError.DuplicateName (name_faults-known name before.known h)))
-
--- the name of a definition is put after those that are known
-pub begun-known : {S : Type 0} (names : HashMap Name ℕ S) (known : Known) (name key : Name) (place number : ℕ) → names.entries ≡ known → key ≡ name → number ≡ place
-    → is_some (lookup (same_name name) known) ≡ false → insert_entry same_name names.entries key number ≡ defining name place known
-begun-known names known name key place number is copy at absent =
-    let none : get same_name names key ≡ None = rw (copy, is) (not_some _ absent) in
-    insert_entry-new same_name names key number none ∙ rw (is, copy, at) refl

@@ -36,13 +36,51 @@ default_of_a_record : declared_by (codes "{\"type\":\"record\",\"name\":\"R\",\"
 unfolding serde_json_on_literals is_utf8 chars encode
 default_of_a_record = refl
 
--- a default of a union is one of its first branch
+-- a default of a union is one of the first branch that the JSON fits
 default_of_a_union : declared_by (codes "{\"type\":\"record\",\"name\":\"R\",\"fields\":[{\"name\":\"f\",\"type\":[\"null\",\"int\"],\"default\":null},{\"name\":\"g\",\"type\":{\"type\":\"array\",\"items\":[\"int\",\"null\"]},\"default\":[7]}]}")
     ≡ Some (Node.record_of (simply (codes "R")) [] (default_field (codes "f") 1 (Value.union 0 Value.null)
     ∷ default_field (codes "g") 4 (Value.array (one_value (Value.union 0 (Value.int (pos 7))))) ∷ [])
     ∷ Node.union (2 ∷ 3 ∷ []) ∷ Node.null ∷ Node.int ∷ Node.array 5 ∷ Node.union (6 ∷ 7 ∷ []) ∷ Node.int ∷ Node.null ∷ [])
 unfolding serde_json_on_literals is_utf8 chars encode
 default_of_a_union = refl
+
+default_of_second_branch : declared_by (codes "{\"type\":\"record\",\"name\":\"R\",\"fields\":[{\"name\":\"u\",\"type\":[\"null\",\"int\"],\"default\":3}]}")
+    ≡ Some (Node.record_of (simply (codes "R")) [] (default_field (codes "u") 1 (Value.union 1 (Value.int (pos 3))) ∷ [])
+    ∷ Node.union (2 ∷ 3 ∷ []) ∷ Node.null ∷ Node.int ∷ [])
+unfolding serde_json_on_literals is_utf8 chars encode
+default_of_second_branch = refl
+
+null_for_second_branch : declared_by (codes "{\"type\":\"record\",\"name\":\"R\",\"fields\":[{\"name\":\"f\",\"type\":[\"int\",\"null\"],\"default\":null}]}")
+    ≡ Some (Node.record_of (simply (codes "R")) [] (default_field (codes "f") 1 (Value.union 1 Value.null) ∷ [])
+    ∷ Node.union (2 ∷ 3 ∷ []) ∷ Node.int ∷ Node.null ∷ [])
+unfolding serde_json_on_literals is_utf8 chars encode
+null_for_second_branch = refl
+
+-- both branches take the first text, and one the second; a number that is past an int is a long
+default_of_bytes_or_string : declared_by (codes "{\"type\":\"record\",\"name\":\"R\",\"fields\":[{\"name\":\"a\",\"type\":[\"bytes\",\"string\"],\"default\":\"a\"},{\"name\":\"b\",\"type\":[\"bytes\",\"string\"],\"default\":\"\\u20ac\"},{\"name\":\"c\",\"type\":[\"int\",\"long\"],\"default\":3000000000}]}")
+    ≡ Some (Node.record_of (simply (codes "R")) []
+    (default_field (codes "a") 1 (Value.union 0 (Value.bytes (97 ∷ [])))
+    ∷ default_field (codes "b") 4 (Value.union 1 (Value.string (226 ∷ 130 ∷ 172 ∷ [])))
+    ∷ default_field (codes "c") 7 (Value.union 1 (Value.long (pos 3000000000)))
+    ∷ [])
+    ∷ Node.union (2 ∷ 3 ∷ []) ∷ Node.bytes ∷ Node.string ∷ Node.union (5 ∷ 6 ∷ []) ∷ Node.bytes ∷ Node.string
+    ∷ Node.union (8 ∷ 9 ∷ []) ∷ Node.int ∷ Node.long ∷ [])
+unfolding serde_json_on_literals is_utf8 chars encode
+default_of_bytes_or_string = refl
+
+-- unions in an array, in a map, and in a record that is a branch itself
+default_of_nested_unions : declared_by (codes "{\"type\":\"record\",\"name\":\"R\",\"fields\":[{\"name\":\"a\",\"type\":{\"type\":\"array\",\"items\":[\"null\",\"int\"]},\"default\":[5,null]},{\"name\":\"m\",\"type\":{\"type\":\"map\",\"values\":[\"null\",\"int\"]},\"default\":{\"k\":5}},{\"name\":\"r\",\"type\":[\"null\",{\"type\":\"record\",\"name\":\"S\",\"fields\":[{\"name\":\"u\",\"type\":[\"null\",\"int\"]}]}],\"default\":{\"u\":5}}]}")
+    ≡ Some (Node.record_of (simply (codes "R")) []
+    (default_field (codes "a") 1 (Value.array (two_values (Value.union 1 (Value.int (pos 5))) (Value.union 0 Value.null)))
+    ∷ default_field (codes "m") 5 (Value.map_of (entry (codes "k") (Value.union 1 (Value.int (pos 5))) no_entries))
+    ∷ default_field (codes "r") 9 (Value.union 1 (Value.record_of (one_value (Value.union 1 (Value.int (pos 5))))))
+    ∷ [])
+    ∷ Node.array 2 ∷ Node.union (3 ∷ 4 ∷ []) ∷ Node.null ∷ Node.int
+    ∷ Node.map_of 6 ∷ Node.union (7 ∷ 8 ∷ []) ∷ Node.null ∷ Node.int
+    ∷ Node.union (10 ∷ 11 ∷ []) ∷ Node.null ∷ Node.record_of (simply (codes "S")) [] (plain_field (codes "u") 12 ∷ [])
+    ∷ Node.union (13 ∷ 14 ∷ []) ∷ Node.null ∷ Node.int ∷ [])
+unfolding serde_json_on_literals is_utf8 chars encode
+default_of_nested_unions = refl
 
 -- a default of a type whose definition comes to its end after it
 default_of_the_record_itself : declared_by (codes "{\"type\":\"record\",\"name\":\"R\",\"fields\":[{\"name\":\"f\",\"type\":{\"type\":\"map\",\"values\":\"R\"},\"default\":{\"k\":{\"f\":{}}}}]}")
@@ -59,15 +97,15 @@ unfolding serde_json_on_literals is_utf8 chars encode
 second_field_by_default = refl
 
 -- no defaults of their types
-default_of_second_branch : faults_by (codes "{\"type\":\"record\",\"name\":\"R\",\"fields\":[{\"name\":\"f\",\"type\":[\"null\",\"int\"],\"default\":3}]}")
+no_branch_fits : faults_by (codes "{\"type\":\"record\",\"name\":\"R\",\"fields\":[{\"name\":\"f\",\"type\":[\"null\",\"int\"],\"default\":\"x\"}]}")
     ≡ Some (SchemaError.InvalidDefault ∷ [])
 unfolding serde_json_on_literals is_utf8 chars encode
-default_of_second_branch = refl
+no_branch_fits = refl
 
-null_for_second_branch : faults_by (codes "{\"type\":\"record\",\"name\":\"R\",\"fields\":[{\"name\":\"f\",\"type\":[\"int\",\"null\"],\"default\":null}]}")
+no_branch_fits_an_item : faults_by (codes "{\"type\":\"record\",\"name\":\"R\",\"fields\":[{\"name\":\"f\",\"type\":{\"type\":\"array\",\"items\":[\"null\",\"int\"]},\"default\":[1,\"a\"]}]}")
     ≡ Some (SchemaError.InvalidDefault ∷ [])
 unfolding serde_json_on_literals is_utf8 chars encode
-null_for_second_branch = refl
+no_branch_fits_an_item = refl
 
 null_for_int : faults_by (codes "{\"type\":\"record\",\"name\":\"R\",\"fields\":[{\"name\":\"f\",\"type\":\"int\",\"default\":null}]}")
     ≡ Some (SchemaError.InvalidDefault ∷ [])

@@ -1,6 +1,7 @@
 -- Defaults of fields: which datum their JSON is (Avro 1.11, "Complex Types", "Records"). They are read once the nodes
 -- of the whole schema are known.
-use Rattle.std.specs.Prelude.{ℕ, ◌==◌, Bool, true, false, List, [], ◌∷◌, length, chars, bytes_eq, nat_lt, Option, Some, None, option_map, option_and_then}
+use Rattle.std.specs.Prelude.{ℕ, suc, ◌==◌, Bool, true, false, List, [], ◌∷◌, length, chars, bytes_eq, nat_lt, Option, Some, None, option_map, option_and_then}
+use Rattle.std.specs.Option.{option_or}
 use Rattle.std.specs.Ordering.{nat_cmp, match_ordering}
 use Rattle.std.specs.Cmp.Lexicographic.{slice_cmp}
 use Rattle.std.specs.List.{list_all, list_any}
@@ -16,14 +17,18 @@ abbrev pub only_if : {A : Type 0} → Bool → A → Option A
 only_if true x = Some x
 only_if false x = None
 
--- A default of a union is one of its first branch.
-abbrev pub by_first_branch : List Node → Node → (Node → Option Value) → Option Value
-by_first_branch nodes n read = by_branches (branches_of n)
+-- Branches from number k on: the first of which there is a datum.
+abbrev pub first_fit : List Node → (Node → Option Value) → ℕ → List ℕ → Option Value
+first_fit nodes read k [] = None
+first_fit nodes read k (place ∷ places) = option_or (option_map (Value.union k) (read (node_at nodes place))) (first_fit nodes read (suc k) places)
+
+-- A default of a union is one of the first branch that the JSON fits.
+abbrev pub by_first_fit : List Node → Node → (Node → Option Value) → Option Value
+by_first_fit nodes n read = by_branches (branches_of n)
   where
     by_branches : Option (List ℕ) → Option Value
     by_branches None = read n
-    by_branches (Some []) = None
-    by_branches (Some (place ∷ places)) = option_map (Value.union 0) (read (node_at nodes place))
+    by_branches (Some places) = first_fit nodes read 0 places
 
 abbrev pub null_default : Node → Option Value
 null_default Node.null = Some Value.null
@@ -80,13 +85,13 @@ object_default nodes entries under keys _ = None
 -- by cases on the JSON
 abbrev mutual
   pub default_of : List Node → Data → Node → Option Value
-  default_of nodes Data.null n = by_first_branch nodes n null_default
-  default_of nodes (Data.boolean b) n = by_first_branch nodes n (boolean_default b)
-  default_of nodes (Data.number x) n = by_first_branch nodes n (number_default x)
-  default_of nodes (Data.string text) n = by_first_branch nodes n (text_default text)
-  default_of nodes (Data.array ds) n = by_first_branch nodes n (items_default nodes (λ m. each_default nodes ds m))
+  default_of nodes Data.null n = by_first_fit nodes n null_default
+  default_of nodes (Data.boolean b) n = by_first_fit nodes n (boolean_default b)
+  default_of nodes (Data.number x) n = by_first_fit nodes n (number_default x)
+  default_of nodes (Data.string text) n = by_first_fit nodes n (text_default text)
+  default_of nodes (Data.array ds) n = by_first_fit nodes n (items_default nodes (λ m. each_default nodes ds m))
   default_of nodes (Data.object ms) n =
-      by_first_branch nodes n (object_default nodes (λ m. entries_default nodes ms m) (λ key. default_under nodes key ms) (member_keys ms))
+      by_first_fit nodes n (object_default nodes (λ m. entries_default nodes ms m) (λ key. default_under nodes key ms) (member_keys ms))
 
   pub each_default : List Node → Items → Node → Option Values
   each_default nodes no_items n = Some no_values

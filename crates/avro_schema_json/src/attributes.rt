@@ -4,7 +4,7 @@ ghost use Rattle.std.specs.Prelude.{◌≡◌, ℕ, ◌⊎◌, ◌∷◌, [], tr
 ghost use Rattle.std.specs.List.{list_all};
 ghost use Rattle.avro_name.specs.Name.{has_dot, name_of};
 ghost use Rattle.avro_schema.specs.Seen.{texts_of};
-ghost use Rattle.avro_schema_json.specs.DeclaredAttributes.{text_in, needed, name_in, alias_texts_in, aliases_in, default_symbol_from, symbols_in, symbol_place, size_in, as_texts, texts_of as texts_in};
+ghost use Rattle.avro_schema_json.specs.DeclaredAttributes.{text_in, needed, name_in, alias_texts_in, aliases_in, default_symbol_from, symbols_in, size_in, as_texts, texts_of as texts_in};
 ghost use Rattle.avro_schema_json.specs.Declares.{form_of as form_of_text};
 ghost use Rattle.avro_schema_json.specs.Reading.{IsAttribute, IsRefusal};
 ghost use Rattle.avro_schema_json.specs.ReadingSeen.{form_seen};
@@ -12,6 +12,7 @@ ghost use Rattle.serde_json.specs.Find.{get_member};
 ghost use Rattle.serde_json.specs.View.{view, items_view, members_view};
 
 use crate::error::SchemaError;
+use crate::symbol_places::symbol_places;
 use crate::words::{Form, form_of};
 use avro_name::{FullName, Namespace};
 use serde_json::{Map, Value};
@@ -180,12 +181,16 @@ pub(crate) fn symbols(
         return Err(SchemaError::InvalidDeclaration);
     };
     let symbols = texts(alloc, value)?;
-    let default = default_symbol(members, &symbols)?;
+    let default = default_symbol(alloc, members, &symbols)?;
     Ok((symbols, default))
 }
 
 /// The place of an enum's default among its symbols.
-fn default_symbol(members: &Members, symbols: &[String]) -> Result<Option<u32>, SchemaError>
+fn default_symbol(
+    alloc: Global,
+    members: &Members,
+    symbols: &[String],
+) -> Result<Option<u32>, SchemaError>
     ensures found { IfOk result (IsAttribute (default_symbol_from (texts_of symbols.now) (get_member (codes "default") (members_view members.now.entries)))) }
     ensures refused { IfErr result (IsRefusal (default_symbol_from (texts_of symbols.now) (get_member (codes "default") (members_view members.now.entries))).faults) }
 {
@@ -193,28 +198,15 @@ fn default_symbol(members: &Members, symbols: &[String]) -> Result<Option<u32>, 
         return Ok(None);
     };
     match value.as_str() {
-        Some(word) => match symbol_place(symbols, word) {
-            // No text holds 2^32 symbols.
-            Some(place) => match u32::try_from(place) {
-                Ok(place) => Ok(Some(place)),
-                Err(_) => Err(SchemaError::OutOfMemory),
+        Some(word) => match symbol_places(alloc, symbols) {
+            Ok(places) => match places.get(word) {
+                Some(place) => Ok(Some(*place)),
+                None => Err(SchemaError::InvalidSymbols),
             },
-            None => Err(SchemaError::InvalidSymbols),
+            Err(_) => Err(SchemaError::OutOfMemory),
         },
         None => Err(SchemaError::InvalidDeclaration),
     }
-}
-
-/// The place of a symbol.
-fn symbol_place(symbols: &[String], word: &str) -> Option<usize>
-    ensures { result ≡ symbol_place word.now (texts_of symbols.now) }
-{
-    for (place, symbol) in symbols.iter().enumerate() {
-        if word == symbol.as_str() {
-            return Some(place);
-        }
-    }
-    None
 }
 
 /// The number of bytes of a fixed.

@@ -1,23 +1,29 @@
 //! Defaults of fields.
 
-ghost use Rattle.std.specs.Prelude.{◌≡◌, true, length, option_map, IfOk};
+ghost use Rattle.std.specs.Prelude.{◌≡◌, true, length, Some, option_map, IfOk};
 ghost use Rattle.avro_schema.specs.Node.{Node as SeenNode, node_at, branches_of as branches_in};
 ghost use Rattle.avro_schema.specs.Seen.{value_of, values_of, entries_of, node_of, places_of};
 ghost use Rattle.avro_schema.specs.Value.{Value as SeenValue};
-ghost use Rattle.avro_schema_json.specs.DeclaredDefaults.{default_of as default_by, each_default, entries_default as each_entry, default_under, fields_default as each_field, object_default as default_of_object, items_default as default_of_items, member_keys, names_only};
+ghost use Rattle.avro_schema_json.specs.DeclaredDefaults.{default_of as default_by, each_default, entries_default as each_entry, default_under, fields_default as each_field, object_default as default_of_object, items_default as default_of_items, member_keys, names_only, first_fit};
+ghost use Rattle.avro_schema_json.specs.Misfits.{AreMisfits};
 ghost use Rattle.avro_schema_json.specs.OwnDefaults.{own_default as own_default_by, default_of_fields, bare_of, bares_of, fields_seen};
 ghost use Rattle.serde_json.specs.View.{view, items_view, members_view};
 
 use crate::fields::Fields;
-use crate::labels::copy_of_text;
-use crate::plain_defaults::{boolean_default, null_default, number_default, text_default};
+use crate::misfit::has;
+use crate::misfits::misfits_of;
+use crate::plain_defaults::{
+    boolean_default, enum_default, null_default, number_default, text_default,
+};
 use crate::raw::RawNode;
+use crate::texts::copy_of_text;
 use avro_schema::{Datum, Memory, Node, NodeId};
 use serde_json::{Map, Value};
 use std::alloc::Global;
+use std::collections::BTreeSet;
 
 /// The default that JSON is for the node at a place, or nothing where it is none. A union takes it
-/// as one of its first branch.
+/// as one of the first branch that it fits.
 #[cycle(defaults)]
 pub(crate) fn default_of(
     alloc: Global,
@@ -28,21 +34,64 @@ pub(crate) fn default_of(
     ensures { IfOk result (λ datum. option_map value_of datum ≡ default_by (bares_of raws.now) (view tree.now) (node_at (bares_of raws.now) place.0)) }
 {
     let null = RawNode::Plain(Node::Null);
-    let node = raw_at(raws, &null, place);
+    let node = raw_at(&*raws, &null, place);
     match branches(node) {
         None => own_default(alloc, raws, tree, node),
-        Some(places) => match places.first() {
-            Some(first) => {
-                let branch = raw_at(raws, &null, *first);
-                in_first_branch(alloc, own_default(alloc, raws, tree, branch)?)
-            }
-            None => Ok(None),
-        },
+        Some(places) => {
+            let misfits = misfits_of(alloc, raws, tree, places)?;
+            branch_default(alloc, raws, tree, places, &misfits)
+        }
     }
 }
 
+/// The default that JSON is for the first of some branches that it fits. Those that are known not to
+/// fit are not tried.
+#[cycle(defaults)]
+fn branch_default(
+    alloc: Global,
+    raws: &[RawNode],
+    tree: &Value,
+    places: &[NodeId],
+    misfits: &BTreeSet<u32>,
+) -> Result<Option<Datum>, Memory>
+    requires { AreMisfits (bares_of raws.now) (view tree.now) misfits.now }
+    ensures { IfOk result (λ datum. option_map value_of datum
+        ≡ first_fit (bares_of raws.now) (own_default_by (bares_of raws.now) (view tree.now)) 0 (places_of places.now)) }
+{
+    for i in 0..places.len() {
+        let place = places[i];
+        if has(misfits, place) {
+            continue;
+        }
+        match default_at(alloc, raws, tree, place)? {
+            Some(datum) => return in_branch(alloc, i, datum),
+            None => {}
+        }
+    }
+    Ok(None)
+}
+
+/// The default that JSON is for the node at a place itself.
+#[cycle(defaults)]
+fn default_at(
+    alloc: Global,
+    raws: &[RawNode],
+    tree: &Value,
+    place: NodeId,
+) -> Result<Option<Datum>, Memory>
+    ensures { IfOk result (λ datum. option_map value_of datum ≡ own_default_by (bares_of raws.now) (view tree.now) (node_at (bares_of raws.now) place.0)) }
+{
+    let null = RawNode::Plain(Node::Null);
+    let node = raw_at(&*raws, &null, place);
+    own_default(alloc, raws, tree, node)
+}
+
 /// The node at a place, or the given node, that of null, where there is none.
-fn raw_at<'a>(raws: &'a [RawNode<'a>], null: &'a RawNode<'a>, place: NodeId) -> &'a RawNode<'a>
+pub(crate) fn raw_at<'a>(
+    raws: &'a [RawNode<'a>],
+    null: &'a RawNode<'a>,
+    place: NodeId,
+) -> &'a RawNode<'a>
     requires { bare_of null.now ≡ SeenNode.null }
     ensures { bare_of result.now ≡ node_at (bares_of raws.now) place.0 }
 {
@@ -50,7 +99,7 @@ fn raw_at<'a>(raws: &'a [RawNode<'a>], null: &'a RawNode<'a>, place: NodeId) -> 
 }
 
 /// The branches of a union.
-fn branches<'a>(node: &'a RawNode<'_>) -> Option<&'a [NodeId]>
+pub(crate) fn branches<'a>(node: &'a RawNode<'_>) -> Option<&'a [NodeId]>
     ensures { option_map (λ ids. places_of ids.now) result ≡ branches_in (bare_of node.now) }
 {
     match node {
@@ -58,20 +107,22 @@ fn branches<'a>(node: &'a RawNode<'_>) -> Option<&'a [NodeId]>
             Node::Union(places) => Some(places),
             _ => None,
         },
+        RawNode::Enum(_) => None,
         RawNode::Record(_) => None,
     }
 }
 
-/// A datum as one of a union's first branch.
-fn in_first_branch(alloc: Global, datum: Option<Datum>) -> Result<Option<Datum>, Memory>
-    ensures { IfOk result (λ whole. option_map value_of whole ≡ option_map (SeenValue.union 0) (option_map value_of datum)) }
+/// A datum as one of a union, of this branch. A branch past the range of numbers would be past any
+/// memory.
+fn in_branch(alloc: Global, branch: usize, datum: Datum) -> Result<Option<Datum>, Memory>
+    ensures { IfOk result (λ whole. option_map value_of whole ≡ Some (SeenValue.union branch (value_of datum))) }
 {
-    match datum {
-        Some(datum) => match Box::new(alloc, datum) {
-            Ok(boxed) => Ok(Some(Datum::Union(0, boxed))),
+    match u32::try_from(branch) {
+        Ok(branch) => match Box::new(alloc, datum) {
+            Ok(boxed) => Ok(Some(Datum::Union(branch, boxed))),
             Err(_) => Err(Memory),
         },
-        None => Ok(None),
+        Err(_) => Err(Memory),
     }
 }
 
@@ -87,6 +138,7 @@ fn own_default(
 {
     match node {
         RawNode::Plain(node) => plain_default(alloc, raws, tree, node),
+        RawNode::Enum(raw) => Ok(enum_default(tree, raw)),
         RawNode::Record(record) => match tree {
             Value::Object(members) => {
                 record_default(alloc, raws, members, Fields::Raw(&record.fields))
@@ -230,7 +282,7 @@ fn record_default(
 }
 
 /// Whether each key is the name of a field.
-fn names_fields(
+pub(crate) fn names_fields(
     alloc: Global,
     members: &Map<String, Value>,
     fields: Fields<'_>,

@@ -9,7 +9,8 @@ ghost use Rattle.serde_json.specs.View.{members_view};
 use crate::attributes::{Members, aliases, size, symbols};
 use crate::error::SchemaError;
 use crate::progress::{Definition, Progress};
-use crate::raw::RawNode;
+use crate::raw::{RawEnum, RawNode};
+use crate::symbol_places::symbol_places;
 use crate::words::{Word, word_of};
 use avro_name::Namespace;
 use avro_schema::{EnumNode, FixedNode, Node, NodeId};
@@ -50,15 +51,17 @@ impl Progress<'_> {
         } = self.begin(alloc, enclosing, members)?;
         let aliases = aliases(alloc, &namespace, members)?;
         let (symbols, default) = symbols(alloc, members)?;
-        self.put(
-            id,
-            RawNode::Plain(Node::Enum(EnumNode {
-                name,
-                aliases,
-                symbols,
-                default,
-            })),
-        );
+        let places = match symbol_places(alloc, &symbols) {
+            Ok(places) => places,
+            Err(_) => return Err(SchemaError::OutOfMemory),
+        };
+        let node = EnumNode {
+            name,
+            aliases,
+            symbols,
+            default,
+        };
+        self.put(id, RawNode::Enum(RawEnum { node, places }));
         Ok(id)
     }
 

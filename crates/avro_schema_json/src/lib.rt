@@ -1,27 +1,30 @@
-//! Avro schemas as JSON texts, and the display of data.
+//! Avro schemas as JSON texts.
 //!
 //! Contracts speak of the tree that `serde_json` reads in a text.
 #![tactic(auto)]
 
+mod asks;
 mod attributes;
 mod declarations;
 mod defaults;
-mod display;
 mod error;
 mod fields;
 mod floats;
-mod labels;
+pub mod laws;
 mod leaves;
-mod places;
+mod misfit;
+mod misfits;
+mod name_table;
 mod plain_defaults;
 mod progress;
 mod raw;
 mod read;
 mod reader_text;
+mod symbol_places;
+mod texts;
 mod whole;
 mod words;
 
-pub use display::show;
 pub use error::SchemaError;
 pub use read::read_schema;
 pub use reader_text::ReaderText;

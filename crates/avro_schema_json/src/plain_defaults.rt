@@ -1,18 +1,22 @@
 //! Defaults of types that hold no other type.
 
-ghost use Rattle.std.specs.Prelude.{◌≡◌, ◌==◌, length, nat_lt, option_map, IfOk};
+ghost use Rattle.std.specs.Prelude.{◌≡◌, ◌==◌, List, length, nat_lt, option_map, IfOk};
 ghost use Rattle.std.specs.List.{list_all};
 ghost use Rattle.std.specs.Str.{chars};
 ghost use Rattle.avro_schema.specs.Fits.{is_int};
-ghost use Rattle.avro_schema.specs.Seen.{value_of, node_of, texts_of};
+ghost use Rattle.avro_schema.specs.Node.{Node as SeenNode};
+ghost use Rattle.avro_schema.specs.Seen.{value_of, node_of};
 ghost use Rattle.avro_schema.specs.Value.{Value};
-ghost use Rattle.avro_schema_json.specs.DeclaredAttributes.{symbol_place};
 ghost use Rattle.avro_schema_json.specs.DeclaredDefaults.{null_default as default_of_null, boolean_default as default_of_boolean, number_default as default_of_number, text_default as default_of_text, bytes_of_text as bytes_in, only_if};
-ghost use Rattle.serde_json.specs.View.{number_view};
+ghost use Rattle.avro_schema_json.specs.OwnDefaults.{own_default as own_default_by};
+ghost use Rattle.avro_schema_json.specs.SeenRaw.{enum_of};
+ghost use Rattle.serde_json.specs.View.{number_view, view};
 
-use crate::labels::copy_of_text;
+use crate::raw::RawEnum;
+use crate::symbol_places::{symbol_default, symbol_places};
+use crate::texts::copy_of_text;
 use avro_schema::{Datum, Memory, Node};
-use serde_json::Number;
+use serde_json::{Number, Value as Json};
 use std::alloc::Global;
 
 /// The default that null is.
@@ -76,11 +80,25 @@ pub(crate) fn text_default(alloc: Global, text: &str, node: &Node) -> Result<Opt
             Some(bytes) => Ok(fixed_datum(bytes, fixed.size)),
             None => Ok(None),
         },
-        Node::Enum(enumeration) => match place_of_symbol(&enumeration.symbols, text)? {
-            Some(place) => Ok(Some(Datum::Enum(place))),
-            None => Ok(None),
-        },
+        Node::Enum(enumeration) => {
+            let places = symbol_places(alloc, &enumeration.symbols)?;
+            Ok(symbol_default(&places, text))
+        }
         _ => Ok(None),
+    }
+}
+
+/// The default that JSON is for an enum.
+pub(crate) fn enum_default(tree: &Json, raw: &RawEnum) -> Option<Datum>
+    ensures { (nodes : List SeenNode) → option_map value_of result ≡ own_default_by nodes (view tree.now) (enum_of raw.now) }
+{
+    match tree {
+        Json::Null => None,
+        Json::Bool(_) => None,
+        Json::Number(_) => None,
+        Json::String(word) => symbol_default(&raw.places, word.as_str()),
+        Json::Array(_) => None,
+        Json::Object(_) => None,
     }
 }
 
@@ -93,21 +111,6 @@ fn fixed_datum(bytes: Vec<u8>, size: u32) -> Option<Datum>
     } else {
         None
     }
-}
-
-/// The place of a symbol. One that is past the range of places would be past any memory.
-fn place_of_symbol(symbols: &[String], word: &str) -> Result<Option<u32>, Memory>
-    ensures { IfOk result (λ place. place ≡ symbol_place word.now (texts_of symbols.now)) }
-{
-    for i in 0..symbols.len() {
-        if word == symbols[i].as_str() {
-            return match u32::try_from(i) {
-                Ok(place) => Ok(Some(place)),
-                Err(_) => Err(Memory),
-            };
-        }
-    }
-    Ok(None)
 }
 
 /// One byte for each character of a text, whose code is the byte's value.

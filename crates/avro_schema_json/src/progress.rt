@@ -10,10 +10,10 @@ ghost use Rattle.serde_json.specs.View.{members_view};
 
 use crate::attributes::{Members, full_name, name};
 use crate::error::SchemaError;
+use crate::name_table::NameTable;
 use crate::raw::RawNode;
 use avro_name::{FullName, Namespace};
 use avro_schema::{Node, NodeId};
-use indexmap::IndexMap;
 use std::alloc::Global;
 
 /// The greatest number of nodes.
@@ -24,7 +24,7 @@ const MAX_NODES: usize = 4096;
 #[derive(Drop)]
 pub(crate) struct Progress<'a> {
     pub nodes: Vec<RawNode<'a>>,
-    pub names: IndexMap<FullName, u32>,
+    pub names: NameTable,
 }
 
 /// A definition that is begun.
@@ -43,7 +43,7 @@ impl<'a> Progress<'a> {
     {
         Progress {
             nodes: Vec::new(alloc),
-            names: IndexMap::new(alloc),
+            names: NameTable::new(alloc),
         }
     }
 
@@ -88,8 +88,8 @@ impl<'a> Progress<'a> {
         ensures refused { IfErr result (IsRefusal (made_at (reference word.now) enclosing.now (state_of self.now)).faults) }
     {
         let name = full_name(alloc, word, enclosing)?;
-        match self.names.get(&name) {
-            Some(place) => Ok(NodeId(*place)),
+        match self.names.place(&name) {
+            Some(place) => Ok(NodeId(place)),
             None => Err(SchemaError::UnknownName),
         }
     }
@@ -106,12 +106,12 @@ impl<'a> Progress<'a> {
         ensures refused { IfErr result (IsRefusal (beginning_faults (state_of self.old) (name_in enclosing.now (members_view members.now.entries)))) }
     {
         let name = name(alloc, enclosing, members)?;
-        if self.names.contains_key(&name) {
+        if self.names.place(&name).is_some() {
             return Err(SchemaError::DuplicateName);
         }
-        let namespace = Namespace::read(alloc, name.namespace())?;
+        let namespace = name.space().clone()?;
         let id = self.reserve()?;
-        self.names.insert(name.clone()?, id.0)?;
+        self.names.add(&name, id.0)?;
         Ok(Definition {
             id,
             name,

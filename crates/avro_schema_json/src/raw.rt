@@ -1,6 +1,10 @@
+ghost use Rattle.avro_schema.specs.Seen.{texts_of};
+ghost use Rattle.avro_schema_json.specs.SymbolPlaces.{FindsSymbols};
+
 use avro_name::FullName;
-use avro_schema::{Node, NodeId};
+use avro_schema::{EnumNode, Node, NodeId};
 use serde_json::Value;
+use std::collections::BTreeMap;
 
 /// A field whose default is still JSON.
 #[derive(Drop)]
@@ -14,10 +18,20 @@ pub(crate) struct RawField<'a> {
 /// A node before its defaults are read; only a record has any.
 #[derive(Drop)]
 pub(crate) enum RawNode<'a> {
-    /// A node that is no record.
+    /// A node that is neither an enum nor a record.
     Plain(Node),
+    /// An enum.
+    Enum(RawEnum),
     /// A record.
     Record(RawRecord<'a>),
+}
+
+/// An enum, and the first place of each of its symbols.
+#[derive(Drop)]
+pub(crate) struct RawEnum {
+    pub node: EnumNode,
+    pub places: BTreeMap<String, u32>,
+    ghost agree: { FindsSymbols (texts_of node.symbols.items) places },
 }
 
 /// A record whose defaults are still JSON.

@@ -18,7 +18,7 @@ ghost use Rattle.avro_schema_json.specs.declared.error.SchemaError.TheVariants.{
 
 use crate::defaults::default_of;
 use crate::error::SchemaError;
-use crate::raw::{RawField, RawNode, RawRecord};
+use crate::raw::{RawEnum, RawField, RawNode, RawRecord};
 use avro_schema::{Datum, Draft, DraftError, Field, Memory, Node, RecordNode, Schema};
 use std::alloc::Global;
 use std::vec::IntoIter;
@@ -83,6 +83,10 @@ fn defaults_of_node(alloc: Global, raws: &[RawNode], raw: &RawNode) -> Result<No
 {
     match raw {
         RawNode::Plain(_) => Ok(NodeDefaults {
+            of_fields: Vec::new(alloc),
+            are_read: true,
+        }),
+        RawNode::Enum(_) => Ok(NodeDefaults {
             of_fields: Vec::new(alloc),
             are_read: true,
         }),
@@ -164,6 +168,7 @@ fn whole_node(alloc: Global, raw: RawNode<'_>, defaults: Vec<Option<Datum>>) -> 
 {
     match raw {
         RawNode::Plain(node) => Ok(node),
+        RawNode::Enum(RawEnum { node, places: _ }) => Ok(Node::Enum(node)),
         RawNode::Record(
             RawRecord {
                 name,

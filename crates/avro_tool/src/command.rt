@@ -7,9 +7,32 @@ use std::alloc::{AllocError, Global};
 #[derive(Clone, Copy, Debug)]
 pub(crate) enum Request<'a> {
     /// Whether the reader's schema takes all data of the writer's.
-    Judge { writer: &'a str, reader: &'a str },
-    /// Whether a text declares a schema, and how many nodes it has.
-    Schema { file: &'a str },
+    Judge {
+        writer: &'a str,
+        reader: &'a str,
+    },
+    /// Whether a certificate shows that a reader's schema takes all data of the writer's.
+    Confirm {
+        writer: &'a str,
+        reader: &'a str,
+        certificate: &'a str,
+    },
+    /// Whether a text declares a schema, and what is asked of it.
+    Schema {
+        file: &'a str,
+        shown: Shown,
+    },
+}
+
+/// What is shown of a schema.
+#[derive(Clone, Copy, Debug)]
+pub(crate) enum Shown {
+    /// Its number of nodes.
+    Count,
+    /// Its canonical form.
+    Canonical,
+    /// The digits of its fingerprint.
+    Fingerprint,
 }
 
 /// The request that the words are.
@@ -32,7 +55,20 @@ pub(crate) fn request_of<'a>(
 fn request_in<'a>(matches: &ArgMatches<'a>) -> Option<Request<'a>> {
     if let Some(schema) = matches.subcommand_matches("schema") {
         let file = schema.get_str("file")?;
-        return Some(Request::Schema { file });
+        return Some(Request::Schema {
+            file,
+            shown: shown_in(schema),
+        });
+    }
+    if let Some(confirm) = matches.subcommand_matches("confirm") {
+        let writer = confirm.get_str("writer")?;
+        let reader = confirm.get_str("reader")?;
+        let certificate = confirm.get_str("certificate")?;
+        return Some(Request::Confirm {
+            writer,
+            reader,
+            certificate,
+        });
     }
     let judge = matches.subcommand_matches("judge")?;
     let writer = judge.get_str("writer")?;
@@ -40,33 +76,68 @@ fn request_in<'a>(matches: &ArgMatches<'a>) -> Option<Request<'a>> {
     Some(Request::Judge { writer, reader })
 }
 
+/// What is to be shown of a schema.
+fn shown_in(matches: &ArgMatches<'_>) -> Shown {
+    if matches.get_flag("canonical") {
+        return Shown::Canonical;
+    }
+    if matches.get_flag("fingerprint") {
+        return Shown::Fingerprint;
+    }
+    Shown::Count
+}
+
 /// The commands and their arguments.
 fn program<'a>(alloc: Global) -> Result<Command<'a>, AllocError> {
-    let writer = schema_file(alloc, "writer", "WRITER").help(
-        "File of the schema that data were written with",
-    );
-    let reader = schema_file(alloc, "reader", "READER").help(
-        "File of the schema that they are to be read with",
-    );
     let judge = Command::new(alloc, "judge")
         .about("Tells whether a reader's schema takes all data of a writer's")
-        .arg(writer)?
-        .arg(reader)?;
-    let file = schema_file(alloc, "file", "FILE").help("File of the schema");
+        .arg(writer_file(alloc))?
+        .arg(reader_file(alloc))?;
+    let certificate = named_file(alloc, "certificate", "CERT").help("File of the certificate");
+    let confirm = Command::new(alloc, "confirm")
+        .about(
+            "Tells whether a certificate shows that a reader's schema takes all data of a writer's",
+        )
+        .arg(writer_file(alloc))?
+        .arg(reader_file(alloc))?
+        .arg(certificate)?;
+    let file = named_file(alloc, "file", "FILE").help("File of the schema");
+    let canonical = Arg::new(alloc, "canonical")
+        .long("canonical")
+        .action(ArgAction::SetTrue)
+        .help("Shows the canonical form in place of the number of nodes")
+        .conflicts_with("fingerprint")?;
+    let fingerprint = Arg::new(alloc, "fingerprint")
+        .long("fingerprint")
+        .action(ArgAction::SetTrue)
+        .help("Shows the fingerprint in place of the number of nodes");
     let schema = Command::new(alloc, "schema")
         .about("Tells whether a text is a schema, and its number of nodes")
-        .arg(file)?;
+        .arg(file)?
+        .arg(canonical)?
+        .arg(fingerprint)?;
     Command::new(alloc, "avro")
         .about("Checks Avro schemas")
         .no_binary_name(true)
         .bin_name("avro")?
         .subcommand_required(true)
         .subcommand(judge)?
+        .subcommand(confirm)?
         .subcommand(schema)
 }
 
-/// A required argument that names the file of a schema.
-fn schema_file<'a>(alloc: Global, id: &'a str, name: &'a str) -> Arg<'a> {
+/// The argument for the writer's schema.
+fn writer_file<'a>(alloc: Global) -> Arg<'a> {
+    named_file(alloc, "writer", "WRITER").help("File of the schema that data were written with")
+}
+
+/// The argument for the reader's schema.
+fn reader_file<'a>(alloc: Global) -> Arg<'a> {
+    named_file(alloc, "reader", "READER").help("File of the schema that they are to be read with")
+}
+
+/// A required argument that names a file.
+fn named_file<'a>(alloc: Global, id: &'a str, name: &'a str) -> Arg<'a> {
     Arg::new(alloc, id)
         .value_name(name)
         .required(true)

@@ -1,3 +1,4 @@
+use avro_judge::CertError;
 use avro_schema::Memory;
 use avro_schema_json::SchemaError;
 use clap::error::ErrorKind;
@@ -10,6 +11,8 @@ use std::io::Write;
 pub(crate) enum Failure<'a> {
     /// A schema's text was refused.
     Schema(&'a str, SchemaError),
+    /// A certificate's text was refused.
+    Certificate(&'a str, CertError),
     /// A file could not be opened or read.
     CannotRead(&'a str),
     /// The standard output could not be written.
@@ -50,10 +53,19 @@ impl<'a> Failure<'a> {
         }
     }
 
+    /// The failure of reading a certificate's text.
+    pub(crate) fn of_certificate(word: &'a str, error: CertError) -> Failure<'a> {
+        if error == CertError::OutOfMemory {
+            Failure::OutOfMemory
+        } else {
+            Failure::Certificate(word, error)
+        }
+    }
+
     /// The status that the program ends with.
     pub(crate) fn status(&self) -> u8 {
         match self {
-            Failure::Schema(..) => 3,
+            Failure::Schema(..) | Failure::Certificate(..) => 3,
             Failure::CannotRead(_) | Failure::CannotPrint => 4,
             Failure::OutOfMemory => 5,
             Failure::Usage(_) | Failure::NotText => 64,
@@ -64,6 +76,7 @@ impl<'a> Failure<'a> {
     pub(crate) fn write_to<E: Write>(&self, err: &mut E) -> io::Result<()> {
         match self {
             Failure::Schema(word, error) => writeln!(err, "avro: {word}: {error}"),
+            Failure::Certificate(word, error) => writeln!(err, "avro: {word}: {error}"),
             Failure::CannotRead(word) => writeln!(err, "avro: {word}: cannot read"),
             Failure::CannotPrint => writeln!(err, "avro: output: cannot write"),
             Failure::OutOfMemory => writeln!(err, "avro: out of memory"),

@@ -1,9 +1,9 @@
 use crate::Finding;
 use crate::failure::Failure;
 use crate::schema_file::read_schema_file;
+use avro_display::show;
 use avro_judge::{Cause, JudgeLimits, Refutation, Verdict, judge};
 use avro_schema::size;
-use avro_schema_json::show;
 use std::io;
 use std::io::Write;
 use std::rt::Files;

@@ -2,6 +2,7 @@
 #![tactic(auto)]
 
 mod command;
+mod confirming;
 mod failure;
 mod judging;
 mod schema_file;
@@ -67,6 +68,11 @@ fn answer<'a, R: Files + AllocGlobal, O: Write>(
 ) -> Result<Finding, Failure<'a>> {
     match request_of(rt.alloc(), words)? {
         Request::Judge { writer, reader } => judging::judge_files(rt, writer, reader, out),
-        Request::Schema { file } => showing::show_schema(rt, file, out),
+        Request::Confirm {
+            writer,
+            reader,
+            certificate,
+        } => confirming::confirm_files(rt, writer, reader, certificate, out),
+        Request::Schema { file, shown } => showing::show_schema(rt, file, shown, out),
     }
 }

@@ -13,7 +13,7 @@ pub(crate) fn read_schema_file<'a, R: Files + AllocGlobal>(
     rt: &R,
     word: &'a str,
 ) -> Result<Schema, Failure<'a>> {
-    match bytes_of(rt, word) {
+    match bytes_of(rt, word, MAX_TEXT) {
         Ok(bytes) => match read_schema(rt.alloc(), &bytes) {
             Ok(schema) => Ok(schema),
             Err(e) => Err(Failure::of_schema(word, e)),
@@ -23,10 +23,14 @@ pub(crate) fn read_schema_file<'a, R: Files + AllocGlobal>(
 }
 
 /// The bytes of a file, up to one more than a text may have.
-fn bytes_of<R: Files + AllocGlobal>(rt: &R, path: &str) -> io::Result<Vec<u8>> {
+pub(crate) fn bytes_of<R: Files + AllocGlobal>(
+    rt: &R,
+    path: &str,
+    limit: u64,
+) -> io::Result<Vec<u8>> {
     let mut bytes = Vec::new(rt.alloc());
     fs::open(rt, path)?
-        .take(MAX_TEXT + 1)
+        .take(limit.saturating_add(1))
         .read_to_end(&mut bytes)?;
     Ok(bytes)
 }

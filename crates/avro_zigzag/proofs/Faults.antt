@@ -1,14 +1,14 @@
 -- What stands at the front of bytes: a number or one fault.
-use Rattle.std.proofs.Common.{◌≡◌, ℕ, suc, ◌+◌, ◌*◌, ◌/◌, ◌%◌, ◌-◌, ◌^◌, ◌<◌, ◌≤◌, ℤ, true, List, [], ◌∷◌, ◌++◌, length, refl, sym, ap, ◌∙◌, subst, add-one, arith, length-append, append_assoc, append-nil, ◌⊎◌, inl, inr}
+use Rattle.std.proofs.Common.{◌≡◌, ℕ, suc, ◌+◌, ◌*◌, ◌%◌, ◌-◌, ◌^◌, ◌<◌, ◌≤◌, ℤ, true, List, [], ◌∷◌, ◌++◌, length, refl, sym, ap, ◌∙◌, subst, add-one, arith, length-append, append_assoc, append-nil, ◌⊎◌, inl, inr}
 use Rattle.std.proofs.lemmas.Bool.Decides.{nat_tests}
 use Rattle.std.specs.List.{All}
 use Rattle.std.proofs.lemmas.List.Elements.{All-head, All-tail}
 use Rattle.std.proofs.lemmas.Bool.{cases_lt}
 use Rattle.std.proofs.Math.Nat.{mul-le-mul_right}
 use Rattle.avro_zigzag.specs.declared.VarError.{VarError}
-use Rattle.avro_zigzag.specs.Number.{zigzag, are_groups, groups_value, AreLeastGroups, SpellsNumber, is_int, is_long}
-use Rattle.avro_zigzag.specs.NumberFault.{go_on, NumberFails, ends, too_large, not_shortest, LongFails, IntFails}
-use Rattle.avro_zigzag.proofs.Spelling.{are_groups-last, are_groups-more, are_groups-some, least-last, least-more, least-length, power-more, is_long-zigzag, is_int-zigzag}
+use Rattle.avro_zigzag.specs.Number.{zigzag, are_groups, groups_value, AreGroups, SpellsInt, SpellsLong, is_int, is_long}
+use Rattle.avro_zigzag.specs.NumberFault.{go_on, NumberFails, ends, too_large, LongFails, IntFails}
+use Rattle.avro_zigzag.proofs.Spelling.{are_groups-last, are_groups-from_last, are_groups-from_front, are_groups-more, are_groups-some, power-more, is_long-zigzag, is_int-zigzag}
 
 -- the first of bytes that go on
 pub go_on-first : (b : ℕ) (bytes : List ℕ) → go_on (b ∷ bytes) ≡ true → (128 ≤ b) × (go_on bytes ≡ true)
@@ -35,23 +35,13 @@ pub groups_value-push : (front : List ℕ) (b : ℕ) → groups_value (front ++ 
 groups_value-push [] b = omega arith
 groups_value-push (x ∷ front) b = omega (arith, groups_value-push front b, ap (λ q. b % 128 * q) (power-suc (length front)))
 
-value-some : (front : List ℕ) (b : ℕ) → 0 < b → b < 128 → 0 < groups_value (front ++ b ∷ [])
-value-some [] b some low = omega arith
-value-some (x ∷ front) b some low = omega (arith, value-some front b some low)
-
--- bytes that go on and a last byte are the least groups, unless that byte is 00 after others
-pub least-from_front : (front : List ℕ) (b n : ℕ) → go_on front ≡ true → All (λ x. x < 256) front → b < 128 → (0 < length front → 0 < b)
-    → n ≡ groups_value (front ++ b ∷ []) → AreLeastGroups n (front ++ b ∷ [])
-least-from_front [] b n go bytes low some e = let same : n ≡ b = omega arith in rw same (least-last b low)
-least-from_front (x ∷ front) b n go bytes low some e =
+-- bytes that go on and a last byte are groups
+pub groups-from_front : (front : List ℕ) (b : ℕ) → go_on front ≡ true → All (λ x. x < 256) front → b < 128 → are_groups (front ++ b ∷ []) ≡ true
+groups-from_front [] b go bytes low = are_groups-from_last b low
+groups-from_front (x ∷ front) b go bytes low =
     let parts = go_on-first x front go in
-    let high = All-head (λ y. y < 256) x front bytes in
-    let above : 0 < b = some (omega arith) in
-    let upper : n / 128 ≡ groups_value (front ++ b ∷ []) = omega arith in
-    let rest = least-from_front front b (n / 128) parts.1 (All-tail (λ y. y < 256) x front bytes) low (λ _. above) upper in
-    let first : 128 + n % 128 ≡ x = omega arith in
-    subst (λ (c : ℕ). AreLeastGroups n (c ∷ (front ++ b ∷ []))) first
-    (least-more n (front ++ b ∷ []) (omega (arith, value-some front b above low)) rest)
+    are_groups-from_front x (front ++ b ∷ []) parts.0 (All-head (λ y. y < 256) x front bytes)
+    (groups-from_front front b parts.1 (All-tail (λ y. y < 256) x front bytes) low)
 
 -- ---- Where groups end
 
@@ -78,31 +68,10 @@ groups-end (g ∷ go) (c ∷ d ∷ front) rest more b h low p e =
     let tail : (d ∷ front) ++ rest ≡ go ++ b ∷ more = cc in
     let same = groups-end go (d ∷ front) rest more b (go_on-first g go h).1 low (are_groups-more c d front p).2 tail in cc
 
--- bytes that go on end before a byte below 128
-pub go_on-within : (go other rest more : List ℕ) (b : ℕ) → go_on other ≡ true → b < 128 → other ++ more ≡ go ++ b ∷ rest → length other ≤ length go
-go_on-within go [] rest more b h low e = omega arith
-go_on-within [] (c ∷ other) rest more b h low e = let same : c ≡ b = cc in absurd (omega (arith, go_on-first c other h))
-go_on-within (g ∷ go) (c ∷ other) rest more b h low e =
-    let tail : other ++ more ≡ go ++ b ∷ rest = cc in omega (arith, go_on-within go other rest more b (go_on-first c other h).1 low tail)
-
--- the byte behind fronts of one length
-same_next : (a b x y : List ℕ) (c d : ℕ) → length a ≡ length b → a ++ c ∷ x ≡ b ++ d ∷ y → c ≡ d
-same_next [] [] x y c d l e = cc
-same_next [] (j ∷ b) x y c d l e = absurd (omega arith)
-same_next (i ∷ a) [] x y c d l e = absurd (omega arith)
-same_next (i ∷ a) (j ∷ b) x y c d l e = let tail : a ++ c ∷ x ≡ b ++ d ∷ y = cc in same_next a b x y c d (omega arith) tail
-
 -- ---- Numbers and faults exclude each other
 
--- a last byte 00 after others is not shortest
-not_least : (go : List ℕ) (n : ℕ) → 0 < length go → AreLeastGroups n (go ++ 0 ∷ []) → ⊥
-not_least go n some least =
-    let value = groups_value-push go 0 in
-    let below : n < 128 ^ length go = omega (arith, least.value, value, groups_value-below go) in
-    omega (arith, least-length n (length go) (go ++ 0 ∷ []) least some below, length-append go (0 ∷ []))
-
 -- the last possible byte is too large for a number below the bound
-not_below : (top n b : ℕ) (go front rest more : List ℕ) → top < 128 → n < (top + 1) * 128 ^ length go → AreLeastGroups n front
+not_below : (top n b : ℕ) (go front rest more : List ℕ) → top < 128 → n < (top + 1) * 128 ^ length go → AreGroups (length go + 1) n front
     → front ++ rest ≡ go ++ b ∷ more → go_on go ≡ true → top < b → (b < 128) ⊎ (128 ≤ b) → ⊥
 not_below top n b go front rest more low below least e h above (inl small) =
     let same = groups-end go front rest more b h small least.groups e in
@@ -112,58 +81,31 @@ not_below top n b go front rest more low below least e h above (inl small) =
     omega arith
 not_below top n b go front rest more low below least e h above (inr large) =
     let longer = groups-longer (go ++ b ∷ []) front rest more (go_on-push go b h large) least.groups (e ∙ sym (append_assoc go (b ∷ []) more)) in
-    let cap : (top + 1) * 128 ^ length go ≤ 128 * 128 ^ length go = mul-le-mul_right (128 ^ length go) (omega arith) in
-    let short = least-length n (length go + 1) front least (omega arith) (omega (arith, power-more (length go))) in
-    omega (arith, length-append go (b ∷ []))
+    omega (arith, least.few, length-append go (b ∷ []))
 
 -- no number in range stands at the front of bytes with a fault
 pub number-excludes_fault : (most top n : ℕ) (bytes front rest : List ℕ) (fault : VarError) → top < 128 → n < (top + 1) * 128 ^ (most - 1)
-    → AreLeastGroups n front → bytes ≡ front ++ rest → NumberFails most top bytes fault → ⊥
+    → AreGroups most n front → bytes ≡ front ++ rest → NumberFails most top bytes fault → ⊥
 number-excludes_fault most top n bytes front rest _ low below least e (ends go short) =
     let longer = groups-longer bytes front rest [] go least.groups (sym e ∙ sym (append-nil bytes)) in
     omega (arith, ap length e, length-append front rest)
 number-excludes_fault most top n bytes front rest _ low below least e (too_large go more b is h last above) =
     let count : most - 1 ≡ length go = omega arith in
     let bound : n < (top + 1) * 128 ^ length go = subst (λ (k : ℕ). n < (top + 1) * 128 ^ k) count below in
-    not_below top n b go front rest more low bound least (sym e ∙ is) h above (cases_lt b 128)
-number-excludes_fault most top n bytes front rest _ low below least e (not_shortest go more is h some short) =
-    let same = groups-end go front rest more 0 h (omega arith) least.groups (sym e ∙ is) in
-    not_least go n some (subst (λ (f : List ℕ). AreLeastGroups n f) same least)
+    not_below top n b go front rest more low bound (subst (λ (k : ℕ). AreGroups k n front) (sym last) least) (sym e ∙ is) h above (cases_lt b 128)
 
 -- the same, for a long and an int
-pub long-excludes_fault : (v : ℤ) (bytes front rest : List ℕ) (fault : VarError) → is_long v ≡ true → SpellsNumber v front → bytes ≡ front ++ rest → LongFails bytes fault → ⊥
+pub long-excludes_fault : (v : ℤ) (bytes front rest : List ℕ) (fault : VarError) → is_long v ≡ true → SpellsLong v front → bytes ≡ front ++ rest → LongFails bytes fault → ⊥
 long-excludes_fault v bytes front rest fault h s e fails =
     number-excludes_fault 10 1 (zigzag v) bytes front rest fault (omega arith) (is_long-zigzag v h) s e fails
 
-pub int-excludes_fault : (v : ℤ) (bytes front rest : List ℕ) (fault : VarError) → is_int v ≡ true → SpellsNumber v front → bytes ≡ front ++ rest → IntFails bytes fault → ⊥
+pub int-excludes_fault : (v : ℤ) (bytes front rest : List ℕ) (fault : VarError) → is_int v ≡ true → SpellsInt v front → bytes ≡ front ++ rest → IntFails bytes fault → ⊥
 int-excludes_fault v bytes front rest fault h s e fails =
     number-excludes_fault 5 15 (zigzag v) bytes front rest fault (omega arith) (is_int-zigzag v h) s e fails
-
--- bytes that end too early have no byte below 128
-ends-apart : (bytes go rest : List ℕ) (b : ℕ) → go_on bytes ≡ true → b < 128 → bytes ≡ go ++ b ∷ rest → ⊥
-ends-apart bytes go rest b h low e =
-    let within = go_on-within go bytes rest [] b h low (append-nil bytes ∙ e) in
-    omega (arith, ap length e, length-append go (b ∷ rest))
-
--- a byte below 128 before the last possible place
-early-apart : (top b : ℕ) (bytes go rest go' rest' : List ℕ) → top < b → bytes ≡ go ++ b ∷ rest → go_on go ≡ true
-    → bytes ≡ go' ++ 0 ∷ rest' → go_on go' ≡ true → length go' < length go + 1 → ⊥
-early-apart top b bytes go rest go' rest' above e h e' h' short =
-    let joined : go ++ b ∷ rest ≡ go' ++ 0 ∷ rest' = sym e ∙ e' in
-    let within = go_on-within go' go rest' (b ∷ rest) 0 h (omega arith) joined in
-    let same = same_next go go' rest rest' b 0 (omega arith) joined in
-    omega arith
 
 -- at most one fault holds
 pub one_fault : (most top : ℕ) (bytes : List ℕ) (e f : VarError) → NumberFails most top bytes e → NumberFails most top bytes f → e ≡ f
 one_fault most top bytes _ _ (ends g s) (ends h t) = refl
 one_fault most top bytes _ _ (ends g s) (too_large go rest b is h last above) = absurd (omega (arith, ap length is, length-append go (b ∷ rest)))
-one_fault most top bytes _ _ (ends g s) (not_shortest go rest is h some short) = absurd (ends-apart bytes go rest 0 g (omega arith) is)
 one_fault most top bytes _ _ (too_large go rest b is h last above) (ends g s) = absurd (omega (arith, ap length is, length-append go (b ∷ rest)))
 one_fault most top bytes _ _ (too_large go rest b is h last above) (too_large go' rest' b' is' h' last' above') = refl
-one_fault most top bytes _ _ (too_large go rest b is h last above) (not_shortest go' rest' is' h' some' short') =
-    absurd (early-apart top b bytes go rest go' rest' above is h is' h' (omega arith))
-one_fault most top bytes _ _ (not_shortest go rest is h some short) (ends g s) = absurd (ends-apart bytes go rest 0 g (omega arith) is)
-one_fault most top bytes _ _ (not_shortest go rest is h some short) (too_large go' rest' b is' h' last above) =
-    absurd (early-apart top b bytes go' rest' go rest above is' h' is h (omega arith))
-one_fault most top bytes _ _ (not_shortest go rest is h some short) (not_shortest go' rest' is' h' some' short') = refl

@@ -2,3 +2,4 @@ pub mod Faults
 mod Rows
 pub mod Spelling
 mod Steps
+pub mod NumberOrFault

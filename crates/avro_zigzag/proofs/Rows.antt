@@ -1,9 +1,9 @@
 -- Spellings and faults, computed.
 use Rattle.std.proofs.Common.{◌≡◌, ◌-◌, ◌^◌, pos, negsuc, true, [], ◌∷◌, refl, arith}
-use Rattle.avro_zigzag.specs.declared.VarError.TheVariants.{EndOfInput, NotShortest, OutOfRange}
-use Rattle.avro_zigzag.specs.Number.{SpellsNumber, number_bytes, is_int, is_long}
-use Rattle.avro_zigzag.specs.NumberFault.{LongFails, IntFails, ends, too_large, not_shortest}
-use Rattle.avro_zigzag.proofs.Spelling.{SpellsNumber-number_bytes}
+use Rattle.avro_zigzag.specs.declared.VarError.TheVariants.{EndOfInput, OutOfRange}
+use Rattle.avro_zigzag.specs.Number.{SpellsLong, SpellsInt, IsShortest, number_bytes, is_int, is_long}
+use Rattle.avro_zigzag.specs.NumberFault.{LongFails, IntFails, ends, too_large}
+use Rattle.avro_zigzag.proofs.Spelling.{IsShortest-number_bytes}
 
 -- 0 is 00
 zero_row : number_bytes (pos 0) ≡ 0 ∷ []
@@ -53,9 +53,36 @@ greatest_long_row = refl
 least_long_row : number_bytes (negsuc (2 ^ 63 - 1)) ≡ 255 ∷ 255 ∷ 255 ∷ 255 ∷ 255 ∷ 255 ∷ 255 ∷ 255 ∷ 255 ∷ 1 ∷ []
 least_long_row = refl
 
--- 64 is spelled 80 01
-spelled_row : SpellsNumber (pos 64) (128 ∷ 1 ∷ [])
-spelled_row = SpellsNumber-number_bytes (pos 64)
+-- 64 is written 80 01
+shortest_row : IsShortest (pos 64) (128 ∷ 1 ∷ [])
+shortest_row = IsShortest-number_bytes (pos 64)
+
+-- and read from 80 01 and from 80 81 00
+spelled_row : SpellsLong (pos 64) (128 ∷ 1 ∷ [])
+spelled_row = record { groups = refl; value = refl; few = omega arith }
+
+padded_row : SpellsLong (pos 64) (128 ∷ 129 ∷ 0 ∷ [])
+padded_row = record { groups = refl; value = refl; few = omega arith }
+
+-- 80 00 is 0, which is written 00
+padded_zero_row : SpellsLong (pos 0) (128 ∷ 0 ∷ [])
+padded_zero_row = record { groups = refl; value = refl; few = omega arith }
+
+-- and so are 80 nine times and 00
+ten_bytes_zero_row : SpellsLong (pos 0) (128 ∷ 128 ∷ 128 ∷ 128 ∷ 128 ∷ 128 ∷ 128 ∷ 128 ∷ 128 ∷ 0 ∷ [])
+ten_bytes_zero_row = record { groups = refl; value = refl; few = omega arith }
+
+-- an eleventh byte is none of a long's
+eleven_bytes_row : SpellsLong (pos 0) (128 ∷ 128 ∷ 128 ∷ 128 ∷ 128 ∷ 128 ∷ 128 ∷ 128 ∷ 128 ∷ 128 ∷ 0 ∷ []) → ⊥
+eleven_bytes_row s = omega (arith, s.few)
+
+-- 8a 80 80 80 00 is the int 5
+padded_int_row : SpellsInt (pos 5) (138 ∷ 128 ∷ 128 ∷ 128 ∷ 0 ∷ [])
+padded_int_row = record { groups = refl; value = refl; few = omega arith }
+
+-- and one byte more is none of an int's
+six_bytes_row : SpellsInt (pos 5) (138 ∷ 128 ∷ 128 ∷ 128 ∷ 128 ∷ 0 ∷ []) → ⊥
+six_bytes_row s = omega (arith, s.few)
 
 -- where the ranges end
 least_int_in_range_row : is_int (negsuc 2147483647) ≡ true
@@ -72,13 +99,13 @@ no_bytes_row = ends refl (omega arith)
 one_more_row : IntFails (128 ∷ []) EndOfInput
 one_more_row = ends refl (omega arith)
 
--- 80 00 is longer than 00
-longer_zero_row : LongFails (128 ∷ 0 ∷ []) NotShortest
-longer_zero_row = not_shortest (128 ∷ []) [] refl refl (omega arith) (omega arith)
+-- 80 nine times and 02 have a 65th bit
+padded_two_row : LongFails (128 ∷ 128 ∷ 128 ∷ 128 ∷ 128 ∷ 128 ∷ 128 ∷ 128 ∷ 128 ∷ 2 ∷ []) OutOfRange
+padded_two_row = too_large (128 ∷ 128 ∷ 128 ∷ 128 ∷ 128 ∷ 128 ∷ 128 ∷ 128 ∷ 128 ∷ []) [] 2 refl refl (omega arith) (omega arith)
 
--- a tenth byte 00 is one too many
-tenth_zero_row : LongFails (255 ∷ 255 ∷ 255 ∷ 255 ∷ 255 ∷ 255 ∷ 255 ∷ 255 ∷ 255 ∷ 0 ∷ []) NotShortest
-tenth_zero_row = not_shortest (255 ∷ 255 ∷ 255 ∷ 255 ∷ 255 ∷ 255 ∷ 255 ∷ 255 ∷ 255 ∷ []) [] refl refl (omega arith) (omega arith)
+-- 8a 80 80 80 80 goes on past the five bytes of an int
+sixth_byte_row : IntFails (138 ∷ 128 ∷ 128 ∷ 128 ∷ 128 ∷ 0 ∷ []) OutOfRange
+sixth_byte_row = too_large (138 ∷ 128 ∷ 128 ∷ 128 ∷ []) (0 ∷ []) 128 refl refl (omega arith) (omega arith)
 
 -- a tenth byte 02 has a 65th bit
 tenth_two_row : LongFails (255 ∷ 255 ∷ 255 ∷ 255 ∷ 255 ∷ 255 ∷ 255 ∷ 255 ∷ 255 ∷ 2 ∷ []) OutOfRange

@@ -5,7 +5,7 @@ use Rattle.std.specs.Prelude.{nat_lt}
 use Rattle.std.specs.List.{All}
 use Rattle.std.proofs.lemmas.List.Elements.{All-nil, All-cons}
 use Rattle.std.proofs.Math.Nat.{pow-suc}
-use Rattle.avro_zigzag.specs.Number.{zigzag, are_groups, groups_value, AreLeastGroups, SpellsNumber, groups_within, number_bytes, is_int, is_long}
+use Rattle.avro_zigzag.specs.Number.{zigzag, are_groups, groups_value, AreGroups, AreLeastGroups, SpellsInt, SpellsLong, IsShortest, groups_within, number_bytes, is_int, is_long}
 
 -- a last group
 pub are_groups-last : (b : ℕ) → are_groups (b ∷ []) ≡ true → b < 128
@@ -74,9 +74,9 @@ least-groups_within zero n h = least-last n (omega arith)
 least-groups_within (suc more) n h =
     within_more (nat_lt n 128) n (groups_within more (n / 128)) refl (λ low. least-groups_within more (n / 128) (omega arith))
 
--- `number_bytes` spells each number
-pub SpellsNumber-number_bytes : (v : ℤ) → SpellsNumber v (number_bytes v)
-SpellsNumber-number_bytes v = least-groups_within (zigzag v) (zigzag v) (omega arith)
+-- `number_bytes` is the shortest spelling of each number
+pub IsShortest-number_bytes : (v : ℤ) → IsShortest v (number_bytes v)
+IsShortest-number_bytes v = least-groups_within (zigzag v) (zigzag v) (omega arith)
 
 -- no groups begin others
 pub groups-prefix : (a b x y : List ℕ) → are_groups a ≡ true → are_groups b ≡ true → a ++ x ≡ b ++ y → a ≡ b
@@ -99,7 +99,7 @@ same_from_zigzag (negsuc m) (pos n) e = absurd (omega arith)
 same_from_zigzag (negsuc m) (negsuc n) e = ap negsuc (omega arith)
 
 -- no spelling begins another
-pub one_spelling_lem : (v w : ℤ) (a b x y : List ℕ) → SpellsNumber v a → SpellsNumber w b → a ++ x ≡ b ++ y → (a ≡ b) × (v ≡ w)
+pub one_spelling_lem : {most more : ℕ} (v w : ℤ) (a b x y : List ℕ) → AreGroups most (zigzag v) a → AreGroups more (zigzag w) b → a ++ x ≡ b ++ y → (a ≡ b) × (v ≡ w)
 one_spelling_lem v w a b x y s t e =
     let same = groups-prefix a b x y s.groups t.groups e in
     (same, same_from_zigzag v w (sym s.value ∙ ap groups_value same ∙ t.value))
@@ -117,17 +117,21 @@ groups-same (c ∷ j ∷ a) (d ∷ k ∷ b) p q l e =
     let first : c ≡ d = omega (arith, left, right) in
     let rest = groups-same (j ∷ a) (k ∷ b) left.2 right.2 (omega arith) (omega arith) in cc
 
--- each number has one spelling, the computed one
-pub same_spelling : (v : ℤ) (a b : List ℕ) → SpellsNumber v a → SpellsNumber v b → a ≡ b
+-- each number has one shortest spelling, the computed one
+pub same_spelling : (v : ℤ) (a b : List ℕ) → IsShortest v a → IsShortest v b → a ≡ b
 same_spelling v a b s t =
     groups-same a b s.groups t.groups (omega (arith, s.shortest b t.groups t.value, t.shortest a s.groups s.value)) (s.value ∙ sym t.value)
 
-pub number_bytes-from_spelling : (v : ℤ) (a : List ℕ) → SpellsNumber v a → a ≡ number_bytes v
-number_bytes-from_spelling v a s = same_spelling v a (number_bytes v) s (SpellsNumber-number_bytes v)
+pub number_bytes-from_spelling : (v : ℤ) (a : List ℕ) → IsShortest v a → a ≡ number_bytes v
+number_bytes-from_spelling v a s = same_spelling v a (number_bytes v) s (IsShortest-number_bytes v)
+
+-- no spelling is shorter than the shortest
+pub none_shorter_lem : (most : ℕ) (v : ℤ) (short bytes : List ℕ) → IsShortest v short → AreGroups most (zigzag v) bytes → length short ≤ length bytes
+none_shorter_lem most v short bytes s t = s.shortest bytes t.groups t.value
 
 -- ---- How long a spelling is
 
-pub spelling-some : (v : ℤ) (a : List ℕ) → SpellsNumber v a → 1 ≤ length a
+pub spelling-some : {most : ℕ} (v : ℤ) (a : List ℕ) → AreGroups most (zigzag v) a → 1 ≤ length a
 spelling-some v a s = are_groups-some a s.groups
 
 -- one power of 128 more
@@ -172,11 +176,23 @@ pub is_int-from_zigzag : (v : ℤ) → zigzag v < 2 ^ 32 → is_int v ≡ true
 is_int-from_zigzag (pos n) h = grind (arith, nat_tests)
 is_int-from_zigzag (negsuc n) h = grind (arith, nat_tests)
 
-pub spelling-long_length : (v : ℤ) (a : List ℕ) → is_long v ≡ true → SpellsNumber v a → length a ≤ 10
-spelling-long_length v a h s = let below = is_long-zigzag v h in least-length (zigzag v) 10 a s (omega arith) (omega arith)
+-- the shortest spelling is a spelling
 
-pub spelling-int_length : (v : ℤ) (a : List ℕ) → is_int v ≡ true → SpellsNumber v a → length a ≤ 5
-spelling-int_length v a h s = let below = is_int-zigzag v h in least-length (zigzag v) 5 a s (omega arith) (omega arith)
+pub SpellsLong-from_shortest : (v : ℤ) (a : List ℕ) → is_long v ≡ true → IsShortest v a → SpellsLong v a
+SpellsLong-from_shortest v a h s =
+    let below = is_long-zigzag v h in
+    record { groups = s.groups; value = s.value; few = least-length (zigzag v) 10 a s (omega arith) (omega arith) }
+
+pub SpellsInt-from_shortest : (v : ℤ) (a : List ℕ) → is_int v ≡ true → IsShortest v a → SpellsInt v a
+SpellsInt-from_shortest v a h s =
+    let below = is_int-zigzag v h in
+    record { groups = s.groups; value = s.value; few = least-length (zigzag v) 5 a s (omega arith) (omega arith) }
+
+pub SpellsLong-number_bytes : (v : ℤ) → is_long v ≡ true → SpellsLong v (number_bytes v)
+SpellsLong-number_bytes v h = SpellsLong-from_shortest v (number_bytes v) h (IsShortest-number_bytes v)
+
+pub SpellsInt-number_bytes : (v : ℤ) → is_int v ≡ true → SpellsInt v (number_bytes v)
+SpellsInt-number_bytes v h = SpellsInt-from_shortest v (number_bytes v) h (IsShortest-number_bytes v)
 
 -- ---- Bytes
 
@@ -187,5 +203,5 @@ are_groups-bytes (b ∷ []) h = let low = are_groups-last b h in All-cons (λ x.
 are_groups-bytes (b ∷ c ∷ bytes) h =
     let parts = are_groups-more b c bytes h in All-cons (λ x. x < 256) b (c ∷ bytes) parts.1 (are_groups-bytes (c ∷ bytes) parts.2)
 
-pub spelling-bytes : (v : ℤ) (a : List ℕ) → SpellsNumber v a → All (λ b. b < 256) a
+pub spelling-bytes : {most : ℕ} (v : ℤ) (a : List ℕ) → AreGroups most (zigzag v) a → All (λ b. b < 256) a
 spelling-bytes v a s = are_groups-bytes a s.groups

@@ -1,19 +1,17 @@
 -- The steps of the loops that write and read groups.
-use Rattle.std.proofs.Common.{◌≡◌, ℕ, zero, suc, ◌+◌, ◌*◌, ◌/◌, ◌%◌, ◌-◌, ◌^◌, ◌<◌, ◌≤◌, ℤ, pos, negsuc, Bool, true, List, [], ◌∷◌, ◌++◌, length, take, drop, get_or, set, refl, sym, ap, ◌∙◌, subst, arith, append_assoc, length-take, drop-cons, ◌⊎◌, inl, inr, to_z, of_z, w32, w64}
+use Rattle.std.proofs.Common.{◌≡◌, ℕ, zero, suc, ◌+◌, ◌*◌, ◌/◌, ◌%◌, ◌-◌, ◌^◌, ◌<◌, ◌≤◌, ℤ, pos, negsuc, true, List, [], ◌∷◌, ◌++◌, length, take, drop, get_or, set, refl, sym, ap, ◌∙◌, subst, arith, append_assoc, length-append, length-take, drop-cons, ◌⊎◌, inl, inr, to_z, of_z, w32, w64}
 use Rattle.std.specs.List.{All}
-use Rattle.std.specs.Prelude.{◌==◌}
-use Rattle.std.proofs.lemmas.Bool.Decides.{nat_tests}
 use Rattle.std.proofs.lemmas.List.{take-append-drop, take_more, take_more_set, get_or-set_other}
 use Rattle.std.proofs.lemmas.List.Elements.{All-take}
 use Rattle.std.proofs.lemmas.Bool.{cases_lt}
 use Rattle.std.proofs.lemmas.Nat.{pow-add}
 use Rattle.std.proofs.lemmas.Int.{to_z-of_z}
 use Rattle.std.proofs.Math.Nat.{mul-le-mul_right, pow-le-pow_right, pow-suc}
-use Rattle.avro_zigzag.specs.declared.VarError.TheVariants.{NotShortest, OutOfRange}
-use Rattle.avro_zigzag.specs.Number.{zigzag, groups_value, AreLeastGroups, SpellsNumber}
-use Rattle.avro_zigzag.specs.NumberFault.{go_on, NumberFails, too_large, not_shortest}
+use Rattle.avro_zigzag.specs.declared.VarError.TheVariants.{OutOfRange}
+use Rattle.avro_zigzag.specs.Number.{zigzag, groups_value, AreGroups, AreLeastGroups}
+use Rattle.avro_zigzag.specs.NumberFault.{go_on, NumberFails, too_large}
 use Rattle.avro_zigzag.proofs.Spelling.{least-last, least-more, one_spelling_lem, power-more}
-use Rattle.avro_zigzag.proofs.Faults.{go_on-push, groups_value-below, groups_value-push, least-from_front}
+use Rattle.avro_zigzag.proofs.Faults.{go_on-push, groups_value-below, groups_value-push, groups-from_front}
 
 -- ---- Writing
 
@@ -53,15 +51,6 @@ written_all n rest len bytes short low so_far = rw (take_more_set bytes len rest
 
 -- ---- Reading
 
--- bytes with an index are not empty
-pub not_empty : (i : ℕ) (xs : List ℕ) (test : Bool) → i < length xs → test ≡ (length xs == 0) → test ≡ true → ⊥
-not_empty i xs test h e is = absurd (grind (arith, nat_tests))
-
--- a byte 00 is not the first where that one goes on
-pub past-first : (xs : List ℕ) (i : ℕ) → 128 ≤ get_or xs 0 0 → get_or xs i 0 ≡ 0 → 0 < i
-past-first xs zero large none = absurd (omega arith)
-past-first xs (suc i) large none = omega arith
-
 split_here : (xs : List ℕ) (i : ℕ) → i < length xs → xs ≡ take i xs ++ get_or xs i 0 ∷ drop (suc i) xs
 split_here xs i h = sym (take-append-drop i xs) ∙ ap (λ ys. take i xs ++ ys) (drop-cons xs i 0 h)
 
@@ -72,12 +61,6 @@ pub fault-too_large : (most top i : ℕ) (xs : List ℕ) → i < length xs → g
     → NumberFails most top xs OutOfRange
 fault-too_large most top i xs h go last above =
     too_large (take i xs) (drop (suc i) xs) (get_or xs i 0) (split_here xs i h) go (omega (arith, front-length xs i h)) above
-
-pub fault-not_shortest : (most top i : ℕ) (xs : List ℕ) → i < length xs → go_on (take i xs) ≡ true → get_or xs i 0 ≡ 0 → 0 < i → i < most
-    → NumberFails most top xs NotShortest
-fault-not_shortest most top i xs h go none some short =
-    let front = front-length xs i h in
-    not_shortest (take i xs) (drop (suc i) xs) (split_here xs i h ∙ ap (λ b. take i xs ++ b ∷ drop (suc i) xs) none) go (omega arith) (omega arith)
 
 pub power-shift : (i : ℕ) → 2 ^ (7 * i) ≡ 128 ^ i
 power-shift zero = refl
@@ -134,18 +117,15 @@ value_pushed xs i b group h e =
     omega (arith, groups_value-push (take i xs) b)
 
 -- the groups that are read
-pub read_last : (xs : List ℕ) (i value : ℕ) → i < length xs → All (λ x. x < 256) xs → go_on (take i xs) ≡ true → value ≡ groups_value (take i xs)
-    → get_or xs i 0 < 128 → (0 < i → 0 < get_or xs i 0) → AreLeastGroups (value + get_or xs i 0 * 128 ^ i) (take (i + 1) xs)
-read_last xs i value h bytes go so_far low some =
+pub read_last : (most : ℕ) (xs : List ℕ) (i value : ℕ) → i < most → i < length xs → All (λ x. x < 256) xs → go_on (take i xs) ≡ true
+    → value ≡ groups_value (take i xs) → get_or xs i 0 < 128 → AreGroups most (value + get_or xs i 0 * 128 ^ i) (take (i + 1) xs)
+read_last most xs i value within h bytes go so_far low =
     let b = get_or xs i 0 in
-    let front = front-length xs i h in
-    subst (λ (ys : List ℕ). AreLeastGroups (value + b * 128 ^ i) ys) (sym (take_more xs i 0 h))
-    (least-from_front (take i xs) b (value + b * 128 ^ i) go (All-take (λ x. x < 256) i xs bytes) low (λ q. some (omega arith)) (value_last xs i value h so_far low))
-  where
-    value_last : (xs : List ℕ) (i value : ℕ) → i < length xs → value ≡ groups_value (take i xs) → get_or xs i 0 < 128
-        → value + get_or xs i 0 * 128 ^ i ≡ groups_value (take i xs ++ get_or xs i 0 ∷ [])
-    value_last xs i value h so_far low =
-        let power = value_pushed xs i (get_or xs i 0) (get_or xs i 0) h (omega arith) in omega arith
+    subst (λ (ys : List ℕ). AreGroups most (value + b * 128 ^ i) ys) (sym (take_more xs i 0 h)) (record {
+      groups = groups-from_front (take i xs) b go (All-take (λ x. x < 256) i xs bytes) low;
+      value = let power = value_pushed xs i b b h (omega arith) in omega arith;
+      few = omega (arith, length-append (take i xs) (b ∷ []), front-length xs i h);
+    })
 
 -- the number goes on
 pub read_more : (xs : List ℕ) (i value : ℕ) → i < length xs → go_on (take i xs) ≡ true → value ≡ groups_value (take i xs)
@@ -163,10 +143,10 @@ so_far-below xs i value h so_far =
 
 -- ---- What is read is the only number
 
-pub only_read : (v w : ℤ) (n len : ℕ) (bytes front rest : List ℕ) → zigzag w ≡ n → AreLeastGroups n (take len bytes) → len ≤ length bytes
-    → SpellsNumber v front → bytes ≡ front ++ rest → (w ≡ v) × (len ≡ length front)
-only_read v w n len bytes front rest e least within s f =
-    let found : SpellsNumber w (take len bytes) = subst (λ (k : ℕ). AreLeastGroups k (take len bytes)) (sym e) least in
+pub only_read : {most : ℕ} (v w : ℤ) (n len : ℕ) (bytes front rest : List ℕ) → zigzag w ≡ n → AreGroups most n (take len bytes) → len ≤ length bytes
+    → AreGroups most (zigzag v) front → bytes ≡ front ++ rest → (w ≡ v) × (len ≡ length front)
+only_read {most = most} v w n len bytes front rest e groups within s f =
+    let found : AreGroups most (zigzag w) (take len bytes) = subst (λ (k : ℕ). AreGroups most k (take len bytes)) (sym e) groups in
     let same = one_spelling_lem w v (take len bytes) front (drop len bytes) rest found s (take-append-drop len bytes ∙ f) in
     (same.1, omega (arith, ap length same.0, length-take len bytes))
 

@@ -17,15 +17,28 @@ abbrev pub groups_value : List ℕ → ℕ
 groups_value [] = 0
 groups_value (b ∷ bytes) = b % 128 + 128 * groups_value bytes
 
+-- groups of n, and not too many
+pub record AreGroups (most n : ℕ) (bytes : List ℕ) : Type 0 where
+  pub groups : are_groups bytes ≡ true
+  pub value : groups_value bytes ≡ n
+  pub few : length bytes ≤ most
+
+-- the bytes spell the number v as a long, in at most 10 of them, or as an int, in at most 5; the last groups may be 0
+abbrev pub SpellsLong : ℤ → List ℕ → Type 0
+SpellsLong v bytes = AreGroups 10 (zigzag v) bytes
+
+abbrev pub SpellsInt : ℤ → List ℕ → Type 0
+SpellsInt v bytes = AreGroups 5 (zigzag v) bytes
+
 -- the groups of n, and no fewer groups have that value
 pub record AreLeastGroups (n : ℕ) (bytes : List ℕ) : Type 0 where
   pub groups : are_groups bytes ≡ true
   pub value : groups_value bytes ≡ n
   pub shortest : (others : List ℕ) → are_groups others ≡ true → groups_value others ≡ n → length bytes ≤ length others
 
--- the bytes spell the number v
-abbrev pub SpellsNumber : ℤ → List ℕ → Type 0
-SpellsNumber v bytes = AreLeastGroups (zigzag v) bytes
+-- the shortest spelling of the number v, which is the one that is written
+abbrev pub IsShortest : ℤ → List ℕ → Type 0
+IsShortest v bytes = AreLeastGroups (zigzag v) bytes
 
 -- the groups of n, where `more` is at least the number of groups after the first; n itself is always enough
 abbrev pub groups_within : ℕ → ℕ → List ℕ
@@ -35,7 +48,7 @@ groups_within (suc more) n = elim (nat_lt n 128) [
   | false ↦ (128 + n % 128) ∷ groups_within more (n / 128)
 ]
 
--- the spelling of a number, computed
+-- the shortest spelling of a number, computed
 abbrev pub number_bytes : ℤ → List ℕ
 number_bytes v = groups_within (zigzag v) (zigzag v)
 

@@ -2,7 +2,7 @@
 use Rattle.std.specs.Prelude.{◌≡◌, ℕ, ◌+◌, ◌<◌, Bool, true, List, ◌∷◌, ◌++◌, length, nat_le}
 use Rattle.std.specs.List.{list_all}
 use Rattle.avro_zigzag.specs.declared.VarError.{VarError}
-use Rattle.avro_zigzag.specs.declared.VarError.TheVariants.{EndOfInput, NotShortest, OutOfRange}
+use Rattle.avro_zigzag.specs.declared.VarError.TheVariants.{EndOfInput, OutOfRange}
 
 -- bytes after each of which a number goes on
 abbrev pub go_on : List ℕ → Bool
@@ -12,12 +12,9 @@ go_on bytes = list_all (nat_le 128) bytes
 pub data NumberFails (most top : ℕ) : List ℕ → VarError → Type 0 where
   -- no byte is left where one is looked for
   ends : {bytes : List ℕ} → go_on bytes ≡ true → length bytes < most → NumberFails most top bytes EndOfInput
-  -- the last possible byte has a value that is too large
+  -- the last possible byte has a value that is too large, or a number goes on after it
   too_large : {bytes : List ℕ} (front rest : List ℕ) (b : ℕ) → bytes ≡ front ++ b ∷ rest → go_on front ≡ true
       → length front + 1 ≡ most → top < b → NumberFails most top bytes OutOfRange
-  -- a last byte 00 stands after other bytes, so that fewer would do
-  not_shortest : {bytes : List ℕ} (front rest : List ℕ) → bytes ≡ front ++ 0 ∷ rest → go_on front ≡ true
-      → 0 < length front → length front < most → NumberFails most top bytes NotShortest
 
 -- a long has at most 10 bytes, and 64 bits leave 01 for the tenth
 abbrev pub LongFails : List ℕ → VarError → Type 0

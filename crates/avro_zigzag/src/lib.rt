@@ -15,7 +15,7 @@ pub enum VarError {
     /// No byte is left where the number goes on.
     #[error("Z1")]
     EndOfInput,
-    /// A last byte `00` stands after other bytes, so that fewer would do.
+    /// A number is not in its shortest spelling. It is never answered: each spelling is read.
     #[error("Z2")]
     NotShortest,
     /// The number has more than 32 bits where it is an int, or more than 64 where it is a long.

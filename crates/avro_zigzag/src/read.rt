@@ -3,12 +3,13 @@
 ghost use Rattle.std.specs.Prelude.{◌≡◌, ℕ, ◌+◌, ◌-◌, ◌*◌, ◌^◌, ◌<◌, ◌≤◌, ℤ, true, List, ◌++◌, length, take, IfOk};
 ghost use Rattle.std.specs.Result.{IfErr};
 ghost use Rattle.avro_zigzag.specs.declared.VarError.{VarError};
-ghost use Rattle.avro_zigzag.specs.Number.{zigzag, AreLeastGroups, SpellsNumber, is_int, is_long};
+ghost use Rattle.avro_zigzag.specs.Number.{zigzag, AreGroups, SpellsInt, SpellsLong, is_int, is_long};
 ghost use Rattle.avro_zigzag.specs.NumberFault.{NumberFails, IntFails, LongFails};
 
 use crate::VarError;
 
 /// The number whose zig-zag number is `number`.
+#[inline(always)]
 fn from_zigzag(number: u64) -> i64
     ensures { zigzag result ≡ number }
 {
@@ -17,33 +18,40 @@ fn from_zigzag(number: u64) -> i64
 }
 
 /// What the groups at the front of `bytes` stand for, and how many there are: at most `most`, and if as many, a last one of at most `top`.
+///
+/// Most numbers are one byte: that case is here, where a caller has it without a call.
 #[inline(always)]
 fn read_groups(bytes: &[u8], most: usize, top: u8) -> Result<(u64, usize), VarError>
     requires several { 2 ≤ most }
     requires low { top < 128 }
     requires fits { (top + 1) * 128 ^ (most - 1) ≤ 2 ^ 64 }
-    ensures found { IfOk result (λ r. (1 ≤ r.1) × (r.1 ≤ length bytes.now) × AreLeastGroups r.0 (take r.1 bytes.now)) }
+    ensures found { IfOk result (λ r. (1 ≤ r.1) × (r.1 ≤ length bytes.now) × AreGroups most r.0 (take r.1 bytes.now)) }
     ensures below { IfOk result (λ r. r.0 < (top + 1) * 128 ^ (most - 1)) }
     ensures refused { IfErr result (λ e. NumberFails most top bytes.now e) }
 {
     if !bytes.is_empty() && bytes[0] < 128 {
         return Ok((u64::from(bytes[0]), 1));
     }
+    read_each_group(bytes, most, top)
+}
+
+/// The same, group by group.
+fn read_each_group(bytes: &[u8], most: usize, top: u8) -> Result<(u64, usize), VarError>
+    requires several { 2 ≤ most }
+    requires low { top < 128 }
+    requires fits { (top + 1) * 128 ^ (most - 1) ≤ 2 ^ 64 }
+    ensures found { IfOk result (λ r. (1 ≤ r.1) × (r.1 ≤ length bytes.now) × AreGroups most r.0 (take r.1 bytes.now)) }
+    ensures below { IfOk result (λ r. r.0 < (top + 1) * 128 ^ (most - 1)) }
+    ensures refused { IfErr result (λ e. NumberFails most top bytes.now e) }
+{
     let mut value = 0;
     for (index, byte) in bytes.iter().enumerate() {
         let byte = *byte;
-        if byte < 128 {
-            if index + 1 == most && byte > top {
-                return Err(VarError::OutOfRange);
-            }
-            // Others stand before it: a number of one byte was found above.
-            if byte == 0 {
-                return Err(VarError::NotShortest);
-            }
-            return Ok((value + (u64::from(byte) << (7 * index)), index + 1));
-        }
-        if index + 1 == most {
+        if index + 1 == most && byte > top {
             return Err(VarError::OutOfRange);
+        }
+        if byte < 128 {
+            return Ok((value + (u64::from(byte) << (7 * index)), index + 1));
         }
         value += u64::from(byte - 128) << (7 * index);
     }
@@ -52,17 +60,18 @@ fn read_groups(bytes: &[u8], most: usize, top: u8) -> Result<(u64, usize), VarEr
 
 /// The long that the front of `bytes` spells, and in how many of them.
 ///
-/// Avro 1.11, "Binary Encoding", "Primitive Types": zig-zag, and then groups of seven bits, the least first.
+/// Avro 1.11, "Binary Encoding", "Primitive Types": zig-zag, and then groups of seven bits, the least first. The number may be padded: its
+/// last groups may be 0, as far as ten bytes go.
 ///
 /// # Errors
 ///
-/// The first of these that the bytes show, looked at in turn: `EndOfInput` where no byte is left, `OutOfRange` for a tenth byte above `01`,
-/// `NotShortest` for a last byte `00` after others.
+/// The first of these that the bytes show, looked at in turn: `EndOfInput` where no byte is left, `OutOfRange` for a tenth byte above `01`.
+#[inline(always)]
 pub fn read_long(bytes: &[u8]) -> Result<(i64, usize), VarError>
-    ensures found { IfOk result (λ r. (r.1 ≤ length bytes.now) × SpellsNumber r.0 (take r.1 bytes.now)) }
+    ensures found { IfOk result (λ r. (r.1 ≤ length bytes.now) × SpellsLong r.0 (take r.1 bytes.now)) }
     ensures nonempty { IfOk result (λ r. 1 ≤ r.1) }
     ensures in_range { IfOk result (λ r. is_long r.0 ≡ true) }
-    ensures only { (v : ℤ) (front rest : List ℕ) → is_long v ≡ true → SpellsNumber v front → bytes.now ≡ front ++ rest → result ≡ Ok (v, length front) }
+    ensures only { (v : ℤ) (front rest : List ℕ) → is_long v ≡ true → SpellsLong v front → bytes.now ≡ front ++ rest → result ≡ Ok (v, length front) }
     ensures refused { IfErr result (λ e. LongFails bytes.now e) }
     ensures fails { (e : VarError) → LongFails bytes.now e → result ≡ Err e }
 {
@@ -74,17 +83,18 @@ pub fn read_long(bytes: &[u8]) -> Result<(i64, usize), VarError>
 
 /// The int that the front of `bytes` spells, and in how many of them.
 ///
-/// Avro 1.11, "Binary Encoding", "Primitive Types": zig-zag, and then groups of seven bits, the least first.
+/// Avro 1.11, "Binary Encoding", "Primitive Types": zig-zag, and then groups of seven bits, the least first. The number may be padded: its
+/// last groups may be 0, as far as five bytes go.
 ///
 /// # Errors
 ///
-/// The first of these that the bytes show, looked at in turn: `EndOfInput` where no byte is left, `OutOfRange` for a fifth byte above `0f`,
-/// `NotShortest` for a last byte `00` after others.
+/// The first of these that the bytes show, looked at in turn: `EndOfInput` where no byte is left, `OutOfRange` for a fifth byte above `0f`.
+#[inline(always)]
 pub fn read_int(bytes: &[u8]) -> Result<(i32, usize), VarError>
-    ensures found { IfOk result (λ r. (r.1 ≤ length bytes.now) × SpellsNumber r.0 (take r.1 bytes.now)) }
+    ensures found { IfOk result (λ r. (r.1 ≤ length bytes.now) × SpellsInt r.0 (take r.1 bytes.now)) }
     ensures nonempty { IfOk result (λ r. 1 ≤ r.1) }
     ensures in_range { IfOk result (λ r. is_int r.0 ≡ true) }
-    ensures only { (v : ℤ) (front rest : List ℕ) → is_int v ≡ true → SpellsNumber v front → bytes.now ≡ front ++ rest → result ≡ Ok (v, length front) }
+    ensures only { (v : ℤ) (front rest : List ℕ) → is_int v ≡ true → SpellsInt v front → bytes.now ≡ front ++ rest → result ≡ Ok (v, length front) }
     ensures refused { IfErr result (λ e. IntFails bytes.now e) }
     ensures fails { (e : VarError) → IntFails bytes.now e → result ≡ Err e }
 {

@@ -1,9 +1,10 @@
 //! Writing a number (Avro 1.11, "Binary Encoding").
 
 ghost use Rattle.std.specs.Prelude.{◌≡◌, ℕ, ◌≤◌, take, slice_index};
-ghost use Rattle.avro_zigzag.specs.Number.{zigzag, SpellsNumber};
+ghost use Rattle.avro_zigzag.specs.Number.{zigzag, AreLeastGroups, IsShortest};
 
 /// The zig-zag number of `value`: small for a value near 0 on either side.
+#[inline(always)]
 fn to_zigzag(value: i64) -> u64
     ensures { result ≡ zigzag value }
 {
@@ -14,16 +15,14 @@ fn to_zigzag(value: i64) -> u64
     }
 }
 
-/// The bytes that spell `value` as an int or a long, and how many of the ten they are. The rest are zero.
-///
-/// Avro 1.11, "Binary Encoding", "Primitive Types": zig-zag, and then groups of seven bits, the least first.
-pub fn write_long(value: i64) -> ([u8; 10], usize)
+/// The groups of `number`, no fewer than it takes, and how many of the ten bytes they are. The rest are zero.
+fn write_groups(number: u64) -> ([u8; 10], usize)
     ensures length { (1 ≤ result.1) × (result.1 ≤ 10) }
-    ensures spelled { SpellsNumber value (take result.1 result.0) }
+    ensures spelled { AreLeastGroups number (take result.1 result.0) }
     ensures rest_zero { (k : ℕ) → result.1 ≤ k → slice_index result.0 k ≡ 0 }
 {
     let mut bytes = [0; 10];
-    let mut rest = to_zigzag(value);
+    let mut rest = number;
     let mut len = 0;
     while rest >= 128 {
         bytes[len] = 128 + (rest % 128) as u8;
@@ -32,4 +31,21 @@ pub fn write_long(value: i64) -> ([u8; 10], usize)
     }
     bytes[len] = rest as u8;
     (bytes, len + 1)
+}
+
+/// The shortest bytes that spell `value` as an int or a long, and how many of the ten they are. The rest are zero.
+///
+/// Avro 1.11, "Binary Encoding", "Primitive Types": zig-zag, and then groups of seven bits, the least first.
+#[inline(always)]
+pub fn write_long(value: i64) -> ([u8; 10], usize)
+    ensures length { (1 ≤ result.1) × (result.1 ≤ 10) }
+    ensures spelled { IsShortest value (take result.1 result.0) }
+    ensures rest_zero { (k : ℕ) → result.1 ≤ k → slice_index result.0 k ≡ 0 }
+{
+    let number = to_zigzag(value);
+    // Most numbers are one byte: a caller has that case without a call.
+    if number < 128 {
+        return ([number as u8, 0, 0, 0, 0, 0, 0, 0, 0, 0], 1);
+    }
+    write_groups(number)
 }

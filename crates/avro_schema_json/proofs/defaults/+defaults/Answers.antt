@@ -1,15 +1,29 @@
-use Rattle.std.proofs.Common.{option_map, sym, ap, ◌∙◌, arith}
-use Rattle.avro_schema.specs.Node.{node_at}
-use Rattle.avro_schema.specs.Seen.{value_of}
+use Rattle.std.proofs.Common.{◌≡◌, Some, option_map, sym, ap, ◌∙◌, arith}
+use Rattle.avro_schema.specs.Node.{node_at, branches_of}
+use Rattle.avro_schema.specs.Seen.{value_of, places_of}
 use Rattle.avro_schema.specs.Value.{Value}
 use Rattle.avro_schema.proofs.DatumViews.{value_of-Map}
 use Rattle.serde_json.specs.View.{view, items_view, members_view}
 use Rattle.serde_json.proofs.Views.{view-lookup}
 use Rattle.avro_schema_json.specs.DeclaredDefaults.{each_default, entries_default}
 use Rattle.avro_schema_json.specs.OwnDefaults.{bares_of, fields_seen}
-use Rattle.avro_schema_json.proofs.DefaultsSeen.{entries_end}
+use Rattle.avro_schema_json.proofs.DefaultsSeen.{default-union, entries_end}
 use Rattle.avro_schema_json.proofs.DefaultSteps.{item_next, items_end, entry_next, fields_left, field_next, field_stop, field_missing, fields_end, field_absent}
+use Rattle.avro_schema_json.proofs.MisfitsSeen.{branch-skip}
 use Rattle.avro_schema_json.proofs.defaults.+defaults.Goals as goal
+
+pub default_of-returns : goal.default_of-returns
+default_of-returns t c =
+    let nodes = bares_of c.args.raws.now in
+    let n = node_at nodes c.args.place.0 in
+    let places = places_of c.in-Some.places.now in
+    let here : branches_of n ≡ Some places = ap branches_of (sym c.raw_at-node.ensures) ∙ sym c.in-Some.ensures in
+    rw (default-union nodes (view c.args.tree.now) n places here) c.branch_default.ensures
+
+pub branch_default-loop-i-preserved-then-has : goal.branch_default-loop-i-preserved-then-has
+branch_default-loop-i-preserved-then-has t c =
+    branch-skip (bares_of c.args.raws.now) (view c.args.tree.now) c.args.places.now c.loop-i.i _ c.args.misfits.now c.has.result _ c.loop-i-test.true
+    c.has.ensures c.if-has.true c.requires c.loop-i.invariant
 
 pub item_defaults-loop-item-preserved : goal.item_defaults-loop-item-preserved
 item_defaults-loop-item-preserved t c =

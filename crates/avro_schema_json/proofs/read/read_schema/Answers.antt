@@ -8,7 +8,7 @@ use Rattle.avro_schema_json.specs.declared.error.SchemaError.{SchemaError}
 use Rattle.avro_schema_json.specs.Declaration.{HasTree}
 use Rattle.avro_schema_json.specs.DeclaredFaults.{HasFault}
 use Rattle.avro_schema_json.specs.DeclaredSchema.{declared, DeclaresSchema}
-use Rattle.avro_schema_json.proofs.RowsLaws.{none_declared-from_fault}
+use Rattle.avro_schema_json.proofs.DeclarationLaws.{none_declared-from_fault}
 use Rattle.avro_schema_json.proofs.read.read_schema.Goals as goal
 
 -- of a tree that declares a schema no fault is there

@@ -19,7 +19,7 @@ use Rattle.avro_schema_json.specs.Refusals.{refusal_of}
 use Rattle.avro_schema_json.specs.SeenDefaults.{lists_seen, defaults_of_node, filled_nodes}
 use Rattle.avro_schema_json.specs.SeenRaw.{raw_nodes_of}
 use Rattle.avro_schema_json.proofs.FaultsThere.{there-contains, placed_whole}
-use Rattle.avro_schema_json.proofs.RowsLaws.{no_faults-from_is_schema}
+use Rattle.avro_schema_json.proofs.DeclarationLaws.{no_faults-from_is_schema}
 use Rattle.avro_schema_json.proofs.WholeSeen.{filled-whole, or_else-first, or_else-unread, too_many-contains}
 use Rattle.avro_schema_json.proofs.whole.schema_of.Goals as goal
 

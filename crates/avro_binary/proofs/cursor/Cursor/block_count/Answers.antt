@@ -1,8 +1,7 @@
 use Rattle.std.proofs.Common.{◌≡◌, ◌≢◌, ◌<◌, ◌^◌, ◌-◌, ℕ, ap, sym, ◌∙◌, refl, rules, w64, FitsSigned, to_z, of_z, negsuc, nat_abs, Some, subst, List, take, drop}
 use Rattle.std.proofs.lemmas.Int.{to_z-of_z}
 use Rattle.avro_zigzag.specs.NumberFault.{LongFails}
-use Rattle.avro_binary.specs.Breaks.{StartsWithLong, number_fault}
-use Rattle.avro_binary.specs.BlockHeads.{count_fails, count_over}
+use Rattle.avro_binary.specs.Breaks.{StartsWithLong, number_fault, count_fails, count_over}
 use Rattle.avro_binary.specs.CursorValue.{CursorValue}
 use Rattle.avro_binary.specs.Fault.{invalid_length, limit_exceeded, behind}
 use Rattle.avro_binary.proofs.CursorSteps.{starts_with_long, from_front}

@@ -1,5 +1,5 @@
 use Rattle.std.proofs.Common.{◌≡◌, ◌+◌, ◌-◌, ℕ, ℤ, ◌++◌, length, take, drop, refl, sym, ap, ◌∙◌, subst, arith, Some, length-take-le, length-drop}
-use Rattle.avro_zigzag.specs.Number.{SpellsNumber}
+use Rattle.avro_zigzag.specs.Number.{SpellsLong}
 use Rattle.avro_binary.specs.Breaks.{sized}
 use Rattle.avro_binary.proofs.HeadLaws.{head_found, head_refused, negated, take_both, long-below}
 use Rattle.avro_binary.proofs.cursor.Cursor.sized_block.Goals as goal
@@ -11,7 +11,7 @@ returns-in-Err c =
     let count = k.1 in
     let within = c.requires.within in
     let small = c.requires.small in
-    let refused = c.in-Err.ensures.refused k.0 (subst (λ (v : ℤ). SpellsNumber v (take c.args.len now.bytes)) k.2 c.requires.spelled) (omega arith) (omega arith) in
+    let refused = c.in-Err.ensures.refused k.0 (subst (λ (v : ℤ). SpellsLong v (take c.args.len now.bytes)) k.2 c.requires.spelled) (omega arith) (omega arith) in
     head_refused now c.in-Err.error refused.0 refused.1 refused.2
 
 pub returns-in-Ok : goal.returns-in-Ok

@@ -1,4 +1,4 @@
-use Rattle.std.proofs.Common.{◌≡◌, ℕ, Result, Err}
+use Rattle.std.proofs.Common.{ℕ, Result, Err}
 use Rattle.avro_schema.specs.declared.datum.Datum.{Datum}
 use Rattle.avro_binary.specs.Seen.{UnlessOutOfMemory}
 use Rattle.avro_binary.specs.declared.error.ReadError.{ReadError}

@@ -7,6 +7,7 @@ use Rattle.serde_json.specs.View.{view, items_view, members_view}
 use Rattle.serde_json.proofs.Views.{view-Array, view-Object}
 use Rattle.avro_schema_json.specs.declared.error.SchemaError.{SchemaError}
 use Rattle.avro_schema_json.specs.Declares.{RawNode, RawField, Meaning, meaning_of, in_turn, field_meaning, field_meanings, fields_under}
+use Rattle.avro_schema_json.specs.KnownSeen.{known_of}
 use Rattle.avro_schema_json.specs.Reading.{made_at, Reads, Refuses, fields_meaning}
 use Rattle.avro_schema_json.specs.ReadingSeen.{state_of}
 use Rattle.avro_schema_json.specs.SeenRaw.{raw_field_of, raw_fields_of}
@@ -20,14 +21,14 @@ read_array-returns-in_err-place-clause-refused t c =
     let p = err_from_is_err_and c.from_residual-in_err-place.result c.from_residual-in_err-place.ensures.1 in
     let added = c.in_ok-id.ensures.added in
     rw (p.1, p.2) (above-part (meaning_of (view c.args.items.now)) c.args.enclosing.now (state_of c.args.self.now) (state_of c.reserve.new.self) (RawNode.plain Node.null)
-    (λ place. RawNode.plain (Node.array place)) [] c.args.self.now.names.entries c.in_err-place.field-0.0 added.nodes_are added.known_are c.in_err-place.ensures.refused)
+    (λ place. RawNode.plain (Node.array place)) [] (known_of c.args.self.now.names) c.in_err-place.field-0.0 added.nodes_are added.known_are c.in_err-place.ensures.refused)
 
 pub read_array-returns-clause-read : goal.read_array-returns-clause-read
 read_array-returns-clause-read t c =
     let added = c.in_ok-id.ensures.added in
     above-read (meaning_of (view c.args.items.now)) c.args.enclosing.now (state_of c.args.self.now) (state_of c.reserve.new.self)
     (state_of c.read_type.new.self) (state_of c.put.new.self) (RawNode.plain Node.null) (RawNode.plain (Node.array c.in_ok-place.place.0))
-    (λ place. RawNode.plain (Node.array place)) [] c.args.self.now.names.entries c.in_ok-place.place.0 c.in_ok-id.id.0
+    (λ place. RawNode.plain (Node.array place)) [] (known_of c.args.self.now.names) c.in_ok-place.place.0 c.in_ok-id.id.0
     added.place_is added.within refl added.nodes_are added.known_are c.in_ok-place.ensures.read refl c.put.ensures.nodes c.put.ensures.names
 
 pub read_map-returns-in_err-place-clause-refused : goal.read_map-returns-in_err-place-clause-refused
@@ -35,14 +36,14 @@ read_map-returns-in_err-place-clause-refused t c =
     let p = err_from_is_err_and c.from_residual-in_err-place.result c.from_residual-in_err-place.ensures.1 in
     let added = c.in_ok-id.ensures.added in
     rw (p.1, p.2) (above-part (meaning_of (view c.args.values.now)) c.args.enclosing.now (state_of c.args.self.now) (state_of c.reserve.new.self) (RawNode.plain Node.null)
-    (λ place. RawNode.plain (Node.map_of place)) [] c.args.self.now.names.entries c.in_err-place.field-0.0 added.nodes_are added.known_are c.in_err-place.ensures.refused)
+    (λ place. RawNode.plain (Node.map_of place)) [] (known_of c.args.self.now.names) c.in_err-place.field-0.0 added.nodes_are added.known_are c.in_err-place.ensures.refused)
 
 pub read_map-returns-clause-read : goal.read_map-returns-clause-read
 read_map-returns-clause-read t c =
     let added = c.in_ok-id.ensures.added in
     above-read (meaning_of (view c.args.values.now)) c.args.enclosing.now (state_of c.args.self.now) (state_of c.reserve.new.self)
     (state_of c.read_type.new.self) (state_of c.put.new.self) (RawNode.plain Node.null) (RawNode.plain (Node.map_of c.in_ok-place.place.0))
-    (λ place. RawNode.plain (Node.map_of place)) [] c.args.self.now.names.entries c.in_ok-place.place.0 c.in_ok-id.id.0
+    (λ place. RawNode.plain (Node.map_of place)) [] (known_of c.args.self.now.names) c.in_ok-place.place.0 c.in_ok-id.id.0
     added.place_is added.within refl added.nodes_are added.known_are c.in_ok-place.ensures.read refl c.put.ensures.nodes c.put.ensures.names
 
 pub read_field-returns-in_err-node-in-Some-clause-refused : goal.read_field-returns-in_err-node-in-Some-clause-refused
@@ -200,7 +201,7 @@ read_union-returns-in_err-read_type-clause-refused t c =
     (state_of c.loop-branch.self) (places_of c.loop-branch.places.items) items c.loop-branch.branch-index c.branch-item.result c.in_err-read_type.field-0.0
     c.loop-branch-test.true c.branch-item.is c.loop-branch.invariant c.in_err-read_type.ensures.refused in
     rw (p.1, p.2) (above-part (in_turn (branch_meanings items)) c.args.enclosing.now (state_of c.args.self.now) inside (RawNode.plain Node.null)
-    (λ places. RawNode.plain (Node.union places)) [] c.args.self.now.names.entries c.in_err-read_type.field-0.0 added.nodes_are added.known_are refused)
+    (λ places. RawNode.plain (Node.union places)) [] (known_of c.args.self.now.names) c.in_err-read_type.field-0.0 added.nodes_are added.known_are refused)
 
 pub read_union-returns-clause-read : goal.read_union-returns-clause-read
 read_union-returns-clause-read t c =
@@ -212,5 +213,5 @@ read_union-returns-clause-read t c =
     (state_of c.loop-branch.self) (places_of c.loop-branch.places.items) items c.loop-branch.branch-index c.loop-branch-test.false c.loop-branch.invariant in
     above-read (in_turn (branch_meanings items)) c.args.enclosing.now (state_of c.args.self.now) inside (state_of c.loop-branch.self) (state_of c.put.new.self)
     (RawNode.plain Node.null) (RawNode.plain (Node.union (places_of c.loop-branch.places.items))) (λ places. RawNode.plain (Node.union places)) []
-    c.args.self.now.names.entries (places_of c.loop-branch.places.items) c.in_ok-id.id.0
+    (known_of c.args.self.now.names) (places_of c.loop-branch.places.items) c.in_ok-id.id.0
     added.place_is added.within refl added.nodes_are added.known_are read refl c.put.ensures.nodes c.put.ensures.names

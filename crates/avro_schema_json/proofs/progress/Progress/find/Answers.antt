@@ -2,7 +2,7 @@ use Rattle.std.proofs.Common.{sym, ◌∙◌, inr}
 use Rattle.avro_name.specs.Name.{name_of}
 use Rattle.avro_schema_json.specs.ReadingSeen.{state_of}
 use Rattle.avro_schema_json.specs.declared.error.SchemaError.{SchemaError}
-use Rattle.avro_schema_json.proofs.PartsRead.{reference-read, reference-unknown, ok-or_memory, some-from_ok_or, place_of-lookup}
+use Rattle.avro_schema_json.proofs.PartsRead.{reference-read, reference-unknown, ok-or_memory, some-from_ok_or}
 use Rattle.avro_schema_json.proofs.progress.Progress.find.Goals as goal
 
 pub returns-in-Some-clause-found : goal.returns-in-Some-clause-found
@@ -10,8 +10,8 @@ returns-in-Some-clause-found c =
     let name = c.in_ok-name.name in
     let s = state_of c.args.self.now in
     let named = some-from_ok_or (name_of c.args.word.now c.args.enclosing.now) name SchemaError.InvalidName (ok-or_memory name _ c.in_ok-name.ensures) in
-    reference-read c.args.word.now c.args.enclosing.now s name c.in-Some.place.now named
-    (sym (place_of-lookup name s.known) ∙ sym c.in-Some.ensures.value)
+    reference-read c.args.word.now c.args.enclosing.now s name c.in-Some.place named
+    (sym c.place.ensures ∙ c.in-Some.is)
 
 pub returns-clause-refused : goal.returns-clause-refused
 returns-clause-refused c =
@@ -19,4 +19,4 @@ returns-clause-refused c =
     let s = state_of c.args.self.now in
     let named = some-from_ok_or (name_of c.args.word.now c.args.enclosing.now) name SchemaError.InvalidName (ok-or_memory name _ c.in_ok-name.ensures) in
     inr (reference-unknown c.args.word.now c.args.enclosing.now s name named
-    (sym (place_of-lookup name s.known) ∙ sym c.in-None.ensures.value))
+    (sym c.place.ensures ∙ c.in-None.is))

@@ -1,0 +1,203 @@
+#!/usr/bin/env python3
+"""Writes texts of schemas that are made to cost more than their length.
+
+    hostile.py KIND SIZE FILE     writes the text of a kind, at most SIZE bytes long
+    hostile.py measure PROGRAM    prints the time and the peak memory of `PROGRAM schema FILE` for each kind and size
+"""
+import json
+import os
+import random
+import resource
+import subprocess
+import sys
+import tempfile
+import time
+
+SIZES = [131072, 262144, 524288, 1048576]
+SECONDS = 60
+MEMORY = 4 << 30
+
+
+def fixed(name, space=None):
+    text = {"type": "fixed", "name": name, "size": 1}
+    if space is not None:
+        text["namespace"] = space
+    return text
+
+
+def written(schema):
+    return json.dumps(schema, separators=(",", ":"))
+
+
+def aliases(size):
+    """One record in a long namespace, and the alias "a" as often as it fits."""
+    space = "n" * (size // 2)
+    record = {"type": "record", "name": "R", "namespace": space, "aliases": [], "fields": []}
+    count = (size - len(written(record))) // len('"a",')
+    record["aliases"] = ["a"] * count
+    return written(record)
+
+
+def definitions(size):
+    """Fixeds in a union, all in one long namespace: of a record around them."""
+    def text(space, count):
+        branches = [fixed("F%d" % k) for k in range(count)]
+        field = {"name": "f", "type": branches}
+        return written({"type": "record", "name": "R", "namespace": "n" * space, "fields": [field]})
+    count = min(4094, (size * 3 // 4) // len('{"type":"fixed","name":"F1234","size":1},'))
+    return text(size - len(text(0, count)), count)
+
+
+def references(size):
+    """A thousand fixeds, and a union of as many references to them as fit; a branch stands twice, which is refused."""
+    names = ["F%d" % k for k in range(1000)]
+    def text(count):
+        fields = [{"name": "x%d" % k, "type": fixed(name)} for k, name in enumerate(names)]
+        fields.append({"name": "y", "type": [names[k % 1000] for k in range(count)]})
+        return written({"type": "record", "name": "R", "fields": fields})
+    return text(longest(size, text))
+
+
+def long_references(size):
+    """The same with a long namespace around it."""
+    names = ["F%d" % k for k in range(1000)]
+    space = "n" * (size // 4)
+    def text(count):
+        fields = [{"name": "x%d" % k, "type": fixed(name)} for k, name in enumerate(names)]
+        fields.append({"name": "y", "type": [names[k % 1000] for k in range(count)]})
+        return written({"type": "record", "name": "R", "namespace": space, "fields": fields})
+    return text(longest(size, text))
+
+
+def unions(size):
+    """A thousand fixeds, and many unions of a thousand references each, shuffled, under a long namespace."""
+    names = ["F%d" % k for k in range(1000)]
+    space = "n" * (size // 4)
+    def text(count):
+        fields = [{"name": "x%d" % k, "type": fixed(name)} for k, name in enumerate(names)]
+        chance = random.Random(7)
+        for k in range(count):
+            shuffled = list(names)
+            chance.shuffle(shuffled)
+            fields.append({"name": "y%d" % k, "type": shuffled})
+        return written({"type": "record", "name": "R", "namespace": space, "fields": fields})
+    return text(longest(size, text))
+
+
+def repeated(size):
+    """One definition, and a union of references to it, as many as fit, under a long namespace: it is refused."""
+    space = "n" * (size // 2)
+    def text(count):
+        fields = [{"name": "x", "type": fixed("B")}, {"name": "y", "type": ["B"] * count}]
+        return written({"type": "record", "name": "R", "namespace": space, "fields": fields})
+    return text(longest(size, text))
+
+
+def fields(size):
+    """Fields of one type under a long namespace."""
+    space = "n" * (size // 2)
+    def text(count):
+        of_one = [{"name": "x", "type": fixed("B")}]
+        of_one += [{"name": "y%d" % k, "type": "B"} for k in range(count)]
+        return written({"type": "record", "name": "R", "namespace": space, "fields": of_one})
+    return text(longest(size, text))
+
+
+def qualified(size):
+    """Fixeds of one simple name in long namespaces that differ at their ends, and fields of them."""
+    count = 64
+    space = "n" * (size // (3 * count))
+    of_all = [{"name": "x%d" % k, "type": fixed("F", space + str(k))} for k in range(count)]
+    of_all += [{"name": "y%d" % k, "type": space + str(k) + ".F"} for k in range(count)]
+    return written({"type": "record", "name": "R", "fields": of_all})
+
+
+def plain(size):
+    """Enums of their own in the fields of a record, and nothing unusual."""
+    def text(count):
+        of_all = [{"name": "f%d" % k, "doc": "A field.", "type": {"type": "enum", "name": "E%d" % k, "symbols": ["a", "b"],
+                   "doc": "d" * (size // 4096)}} for k in range(count)]
+        return written({"type": "record", "name": "R", "fields": of_all})
+    return text(min(4000, longest(size, text)))
+
+
+def nested(depth):
+    """Objects in one another, this many, as a default: two records and the empty one are tried for each."""
+    def text(size):
+        default = "{}"
+        for _ in range(depth):
+            default = '{"a":' + default + "}"
+        empty = {"type": "record", "name": "E", "fields": []}
+        second = {"type": "record", "name": "B", "fields": [{"name": "a", "type": ["A", "B", "E"]}]}
+        first = {"type": "record", "name": "A", "fields": [{"name": "a", "type": ["A", second, empty]}]}
+        whole = {"type": "record", "name": "R", "fields": [{"name": "f", "type": [first], "default": 0}]}
+        return written(whole).replace('"default":0', '"default":' + default)
+    return text
+
+
+def choices(size):
+    """An array of items that are of the last branch of a union, as many as fit."""
+    branches = ["null", "boolean", "bytes", "int"]
+    field = {"name": "f", "type": {"type": "array", "items": branches}, "default": []}
+    schema = {"type": "record", "name": "R", "fields": [field]}
+    field["default"] = [7] * ((size - len(written(schema))) // 2)
+    return written(schema)
+
+
+def symbols(size):
+    """An enum of many symbols, and an array of its last symbol as its default."""
+    names = ["S%04x" % k for k in range(size * 7 // 100)] + ["z"]
+    enum = {"type": "enum", "name": "E", "symbols": names}
+    field = {"name": "f", "type": {"type": "array", "items": enum}, "default": []}
+    schema = {"type": "record", "name": "R", "fields": [field]}
+    field["default"] = ["z"] * ((size - len(written(schema))) // len('"z",'))
+    return written(schema)
+
+
+def longest(size, text):
+    """The greatest count whose text fits, where each count more adds the same or more."""
+    one, many = len(text(0)), len(text(16))
+    low = max(0, (size - one) * 16 // max(1, many - one) - 8)
+    while low > 0 and len(text(low)) > size:
+        low = low * 15 // 16
+    return low
+
+
+KINDS = {
+    "plain": plain, "aliases": aliases, "definitions": definitions, "references": references,
+    "long references": long_references, "unions": unions, "repeated": repeated, "fields": fields, "qualified": qualified,
+    "nested 60": nested(60), "nested 120": nested(120), "choices": choices, "symbols": symbols,
+}
+
+
+def run(program, path):
+    """The seconds, the peak of memory in MB, and the answer of one run."""
+    began = time.monotonic()
+    def limits():
+        resource.setrlimit(resource.RLIMIT_CPU, (SECONDS, SECONDS))
+        resource.setrlimit(resource.RLIMIT_AS, (MEMORY, MEMORY))
+    child = subprocess.Popen([program, "schema", path], stdout=subprocess.PIPE, stderr=subprocess.STDOUT, preexec_fn=limits)
+    answer = child.stdout.read().decode(errors="replace").strip()
+    _, _, usage = os.wait4(child.pid, 0)
+    return usage.ru_utime + usage.ru_stime, time.monotonic() - began, usage.ru_maxrss // 1024, answer[-16:]
+
+
+def main():
+    if sys.argv[1] != "measure":
+        with open(sys.argv[3], "w") as out:
+            out.write(KINDS[sys.argv[1]](int(sys.argv[2])))
+        return
+    with tempfile.TemporaryDirectory() as folder:
+        for kind, text in KINDS.items():
+            for size in SIZES:
+                path = os.path.join(folder, "schema.avsc")
+                with open(path, "w") as out:
+                    out.write(text(size))
+                length = os.path.getsize(path)
+                processor, clock, peak, answer = run(sys.argv[2], path)
+                print("| %s | %d | %.2f | %.2f | %d | %s |" % (kind, length, processor, clock, peak, answer), flush=True)
+                if processor > SECONDS - 5:
+                    break
+
+
+main()

@@ -1,0 +1,644 @@
+use Rattle.std.proofs.Common.{zero, suc, get_or, ◌+◌, drop, Bool, false, nat_lt, rules, tests, ◌≡◌, refl, sym, ap, ◌∙◌, subst, ℕ, List, [], ◌∷◌, ◌++◌, ◌<◌, ◌≤◌, length, take, arith, bytes_eq, true, length-append, append_assoc, append-nil}
+use Rattle.std.specs.Prelude.{IsTrue, Some, slice_get}
+use Rattle.std.specs.List.{concat}
+use Rattle.std.proofs.lemmas.Bool.{false≢true}
+use Rattle.avro_schema.specs.declared.schema.Field.{Field}
+use Rattle.std.proofs.lemmas.Result.{err_from_is_err_and}
+use Rattle.avro_schema.specs.Distinct.{are_distinct}
+use Rattle.avro_schema.specs.Value.{Value}
+use Rattle.avro_schema.specs.Node.{Node, node_at, field_places}
+use Rattle.avro_schema.specs.Seen.{node_of, places_of, seen_fields, texts_of}
+use Rattle.avro_schema.specs.SeenSchema.{schema_nodes}
+use Rattle.avro_binary.specs.Breaks.{ItemsAreWhole, EntriesAreWhole}
+use Rattle.avro_binary.specs.Elements.{Finds, IsIndex}
+use Rattle.avro_binary.specs.Making.{Made}
+use Rattle.avro_binary.specs.CursorReads.{ValuesRun, EntriesRun, value_breaks, entry_breaks, limits_at}
+use Rattle.avro_binary.proofs.BlockSteps.{head_read, end_read, has_size}
+use Rattle.avro_binary.proofs.NodeSteps.{node_left, node_refused, enter_refused, array_none, map_none, array_head_refused, array_item_refused, array_size_refused, array_push, array_place, array_smaller, map_smaller, FieldsDone, fields_none, array_found, depth_kept, blob_kept, map_head_refused, map_item_refused, map_size_refused, map_push, map_place, map_found, map_depth_kept, map_blob_kept, map_distinct, branch_refused, union_found, branch_at, places-length, texts-length, null_past, fields_push, field_breaks, record_found, record_refused, places_split, places_next, places_all}
+use Rattle.avro_binary.proofs.RunLaws.{values_run, entries_run}
+use Rattle.avro_binary.proofs.RunSteps.{run_none, run_push, run_breaks, value_run, value_report, entry_run, entry_report, key_report, moves-join, moves-passed}
+use Rattle.avro_binary.proofs.reading.+reading.Goals as goal
+
+-- a place that a test finds past the end
+not-below : (k n : ℕ) (b : Bool) → b ≡ false → (k < n → IsTrue b) → n ≤ k
+not-below k n true h f = absurd cc
+not-below k n false h f = elim (nat_lt k n) as (λ x. nat_lt k n ≡ x → n ≤ k) [
+  | true ↦ λ e. let below : k < n = search (rules, tests) in absurd (false≢true (f below))
+  | false ↦ λ e. search (rules, tests)
+] refl
+
+-- the place of a field
+field_place_at : (fields : List Field) (k : ℕ) (d : Field) → k < length fields → slice_get (field_places (seen_fields fields)) k ≡ Some (get_or fields k d).node.0
+field_place_at [] k d h = absurd (omega arith)
+field_place_at (f ∷ fields) zero d h = refl
+field_place_at (f ∷ fields) (suc k) d h = field_place_at fields k d (omega arith)
+
+-- ---- Arrays
+
+pub read_item_blocks-loop-items-init : goal.read_item_blocks-loop-items-init
+read_item_blocks-loop-items-init g t c = ([], array_none (schema_nodes c.args.schema.now) c.args.place.0 c.args.cursor.now, c.in-Ok.ensures.kept, c.in-Ok.ensures.stands (schema_nodes c.args.schema.now) c.args.place.0)
+
+pub read_item_blocks-returns-in_err-block : goal.read_item_blocks-returns-in_err-block
+read_item_blocks-returns-in_err-block g t c =
+    let p = err_from_is_err_and c.from_residual.result c.from_residual.ensures.1 in
+    let done = c.loop-items.invariant in
+    rw (p.1, p.2) (array_head_refused (schema_nodes c.args.schema.now) c.args.place.0 c.args.cursor.now c.loop-items.cursor done.0 done.1 c.block.new.self
+    c.in_err-block.field-0.0 c.in_err-block.ensures.refused)
+
+pub read_item_blocks-returns-in_err-read_items : goal.read_item_blocks-returns-in_err-read_items
+read_item_blocks-returns-in_err-read_items g t c =
+    let done = c.loop-items.invariant in
+    let nodes = schema_nodes c.args.schema.now in
+    let place = c.args.place.0 in
+    let start = c.args.cursor.now in
+    let now = c.loop-items.cursor in
+    let mid = c.block.new.self in
+    let block = c.in-Some.block in
+    let head = head_read now mid block (rw c.in-Some.is at c.in_ok-block.ensures.found) in
+    let d = depth_kept nodes place start now done.0 done.1 mid block head in
+    let b = blob_kept nodes place start now done.0 done.1 mid block head in
+    let p = err_from_is_err_and c.from_residual-in_err-read_items.result c.from_residual-in_err-read_items.ensures.1 in
+    let read = c.in_err-read_items.ensures (limits_at start) d b in
+    rw (p.1, p.2) (array_item_refused nodes place start now done.0 done.1 mid block head c.read_items.new.cursor c.count.result c.in_err-read_items.field-0.0 c.count.ensures read.refused)
+
+pub read_item_blocks-loop-items-smaller : goal.read_item_blocks-loop-items-smaller
+read_item_blocks-loop-items-smaller g t c =
+    let done = c.loop-items.invariant in
+    let nodes = schema_nodes c.args.schema.now in
+    let place = c.args.place.0 in
+    let start = c.args.cursor.now in
+    let now = c.loop-items.cursor in
+    let mid = c.block.new.self in
+    let block = c.in-Some.block in
+    let head = head_read now mid block (rw c.in-Some.is at c.in_ok-block.ensures.found) in
+    let d = depth_kept nodes place start now done.0 done.1 mid block head in
+    let b = blob_kept nodes place start now done.0 done.1 mid block head in
+    let read = c.in_ok-read_items.ensures (limits_at start) d b in
+    let ys = read.found.0 in
+    let found = read.found.3 in
+    let counted = read.found.2 ∙ c.count.ensures in
+    let after = c.read_items.new.cursor in
+    array_smaller nodes place start now done.0 done.1 mid block head after read.found.1 ys found counted
+
+pub read_item_blocks-loop-items-preserved : goal.read_item_blocks-loop-items-preserved
+read_item_blocks-loop-items-preserved g t c =
+    let done = c.loop-items.invariant in
+    let nodes = schema_nodes c.args.schema.now in
+    let place = c.args.place.0 in
+    let start = c.args.cursor.now in
+    let now = c.loop-items.cursor in
+    let mid = c.block.new.self in
+    let block = c.in-Some.block in
+    let head = head_read now mid block (rw c.in-Some.is at c.in_ok-block.ensures.found) in
+    let d = depth_kept nodes place start now done.0 done.1 mid block head in
+    let b = blob_kept nodes place start now done.0 done.1 mid block head in
+    let read = c.in_ok-read_items.ensures (limits_at start) d b in
+    let ys = read.found.0 in
+    let found = read.found.3 in
+    let counted = read.found.2 ∙ c.count.ensures in
+    let after = c.read_items.new.cursor in
+    let size = length (concat found.items) in
+    let ends = c.in_ok-end_block.ensures now.place size head.head head.is_block (array_place nodes place start now done.0 done.1 mid block head after read.found.1 ys found counted) in
+    (done.0 ++ ys, array_push nodes place start now done.0 done.1 mid block head after read.found.1 ys found counted (has_size tt now.place head.head size ends), g.met.M.Make.keeps_on c.args.maker.now c.loop-items.maker c.read_items.new.maker done.2 read.found.4.0, read.found.4.1 c.args.at done.0 done.3)
+
+pub read_item_blocks-returns-in_err-end_block : goal.read_item_blocks-returns-in_err-end_block
+read_item_blocks-returns-in_err-end_block g t c =
+    let done = c.loop-items.invariant in
+    let nodes = schema_nodes c.args.schema.now in
+    let place = c.args.place.0 in
+    let start = c.args.cursor.now in
+    let now = c.loop-items.cursor in
+    let mid = c.block.new.self in
+    let block = c.in-Some.block in
+    let head = head_read now mid block (rw c.in-Some.is at c.in_ok-block.ensures.found) in
+    let d = depth_kept nodes place start now done.0 done.1 mid block head in
+    let b = blob_kept nodes place start now done.0 done.1 mid block head in
+    let read = c.in_ok-read_items.ensures (limits_at start) d b in
+    let ys = read.found.0 in
+    let found = read.found.3 in
+    let counted = read.found.2 ∙ c.count.ensures in
+    let after = c.read_items.new.cursor in
+    let p = err_from_is_err_and c.from_residual-in_err-end_block.result c.from_residual-in_err-end_block.ensures.1 in
+    let size = length (concat found.items) in
+    let ends = c.in_err-end_block.ensures now.place size head.head head.is_block (array_place nodes place start now done.0 done.1 mid block head after read.found.1 ys found counted) in
+    rw (p.1, p.2) (array_size_refused nodes place start now done.0 done.1 mid block head after read.found.1 ys found counted (Unit {0}) c.in_err-end_block.field-0.0 ends)
+
+pub read_item_blocks-returns-in-Ok-array : goal.read_item_blocks-returns-in-Ok-array
+read_item_blocks-returns-in-Ok-array g t c =
+    let done = c.loop-items.invariant in
+    let nodes = schema_nodes c.args.schema.now in
+    let start = c.args.cursor.now in
+    let end = end_read c.loop-items.cursor c.block.new.self (rw c.in_default.is at c.in_ok-block.ensures.found) in
+    array_found nodes c.args.place.0 start c.loop-items.cursor c.block.new.self [] done.0 c.in-Ok-array.out done.1 end c.nodes-nodes.ensures.in_range (g.met.M.Make.keeps_on c.args.maker.now c.loop-items.maker c.array.new.self done.2 c.in-Ok-array.ensures.kept, c.in-Ok-array.ensures.stands nodes c.args.place.0 c.args.at done.0 done.3)
+
+-- ---- Maps
+
+pub read_entry_blocks-loop-entries-init : goal.read_entry_blocks-loop-entries-init
+read_entry_blocks-loop-entries-init g t c = ([], [], c.new-keys.ensures, map_none (schema_nodes c.args.schema.now) c.args.place.0 c.args.cursor.now, c.in-Ok.ensures.kept, c.in-Ok.ensures.stands (schema_nodes c.args.schema.now) c.args.place.0)
+
+pub read_entry_blocks-returns-in_err-head : goal.read_entry_blocks-returns-in_err-head
+read_entry_blocks-returns-in_err-head g t c =
+    let p = err_from_is_err_and c.from_residual.result c.from_residual.ensures.1 in
+    let done = c.loop-entries.invariant in
+    rw (p.1, p.2) (map_head_refused (schema_nodes c.args.schema.now) c.args.place.0 c.args.cursor.now c.loop-entries.cursor done.1 done.0 done.3 c.block.new.self
+    c.in_err-head.field-0.0 c.in_err-head.ensures.refused)
+
+pub read_entry_blocks-returns-in-Ok-map : goal.read_entry_blocks-returns-in-Ok-map
+read_entry_blocks-returns-in-Ok-map g t c =
+    let done = c.loop-entries.invariant in
+    let end = end_read c.loop-entries.cursor c.block.new.self (rw c.in_default.is at c.in_ok-head.ensures.found) in
+    map_found (schema_nodes c.args.schema.now) c.args.place.0 c.args.cursor.now c.loop-entries.cursor c.block.new.self done.1 done.0 c.in-Ok-map.out done.3 end c.nodes-nodes.ensures.in_range (g.met.M.Make.keeps_on c.args.maker.now c.loop-entries.maker c.map.new.self done.4 c.in-Ok-map.ensures.kept, c.in-Ok-map.ensures.stands (schema_nodes c.args.schema.now) c.args.place.0 c.args.at done.0 done.5)
+
+pub read_entry_blocks-returns-in_err-read_entries : goal.read_entry_blocks-returns-in_err-read_entries
+read_entry_blocks-returns-in_err-read_entries g t c =
+    let done = c.loop-entries.invariant in
+    let nodes = schema_nodes c.args.schema.now in
+    let place = c.args.place.0 in
+    let start = c.args.cursor.now in
+    let now = c.loop-entries.cursor in
+    let mid = c.block.new.self in
+    let block = c.in-Some.head in
+    let head = head_read now mid block (rw c.in-Some.is at c.in_ok-head.ensures.found) in
+    let d = map_depth_kept nodes place start now done.1 done.0 done.3 mid block head in
+    let b = map_blob_kept nodes place start now done.1 done.0 done.3 mid block head in
+    let distinct = map_distinct nodes place start now done.1 done.0 done.3 in
+    let p = err_from_is_err_and c.from_residual-in_err-read_entries.result c.from_residual-in_err-read_entries.ensures.1 in
+    let read = c.in_err-read_entries.ensures (limits_at start) done.1 d b done.2 distinct in
+    rw (p.1, p.2) (map_item_refused nodes place start now done.1 done.0 done.3 mid block head c.read_entries.new.cursor c.count-count.result c.in_err-read_entries.field-0.0 c.count-count.ensures read.refused)
+
+pub read_entry_blocks-loop-entries-smaller : goal.read_entry_blocks-loop-entries-smaller
+read_entry_blocks-loop-entries-smaller g t c =
+    let done = c.loop-entries.invariant in
+    let nodes = schema_nodes c.args.schema.now in
+    let place = c.args.place.0 in
+    let start = c.args.cursor.now in
+    let now = c.loop-entries.cursor in
+    let mid = c.block.new.self in
+    let block = c.in-Some.head in
+    let head = head_read now mid block (rw c.in-Some.is at c.in_ok-head.ensures.found) in
+    let d = map_depth_kept nodes place start now done.1 done.0 done.3 mid block head in
+    let b = map_blob_kept nodes place start now done.1 done.0 done.3 mid block head in
+    let distinct = map_distinct nodes place start now done.1 done.0 done.3 in
+    let read = c.in_ok-read_entries.ensures (limits_at start) done.1 d b done.2 distinct in
+    let ys = read.found.0 in
+    let found = read.found.3 in
+    let counted = read.found.2 ∙ c.count-count.ensures in
+    let after = c.read_entries.new.cursor in
+    map_smaller nodes place start now done.1 done.0 done.3 mid block head after read.found.1 ys found counted
+
+pub read_entry_blocks-loop-entries-preserved : goal.read_entry_blocks-loop-entries-preserved
+read_entry_blocks-loop-entries-preserved g t c =
+    let done = c.loop-entries.invariant in
+    let nodes = schema_nodes c.args.schema.now in
+    let place = c.args.place.0 in
+    let start = c.args.cursor.now in
+    let now = c.loop-entries.cursor in
+    let mid = c.block.new.self in
+    let block = c.in-Some.head in
+    let head = head_read now mid block (rw c.in-Some.is at c.in_ok-head.ensures.found) in
+    let d = map_depth_kept nodes place start now done.1 done.0 done.3 mid block head in
+    let b = map_blob_kept nodes place start now done.1 done.0 done.3 mid block head in
+    let distinct = map_distinct nodes place start now done.1 done.0 done.3 in
+    let read = c.in_ok-read_entries.ensures (limits_at start) done.1 d b done.2 distinct in
+    let ys = read.found.0 in
+    let found = read.found.3 in
+    let counted = read.found.2 ∙ c.count-count.ensures in
+    let after = c.read_entries.new.cursor in
+    let size = length (concat found.items) in
+    let ends = c.in_ok-end_block.ensures now.place size head.head head.is_block (map_place nodes place start now done.1 done.0 done.3 mid block head after read.found.1 ys found counted) in
+    (done.0 ++ ys, read.found.1, read.found.4.0, map_push nodes place start now done.1 done.0 done.3 mid block head after read.found.1 ys found counted (has_size tt now.place head.head size ends), g.met.M.Make.keeps_on c.args.maker.now c.loop-entries.maker c.read_entries.new.maker done.4 read.found.4.1, read.found.4.2 c.args.at done.0 done.5)
+
+pub read_entry_blocks-returns-in_err-end_block : goal.read_entry_blocks-returns-in_err-end_block
+read_entry_blocks-returns-in_err-end_block g t c =
+    let done = c.loop-entries.invariant in
+    let nodes = schema_nodes c.args.schema.now in
+    let place = c.args.place.0 in
+    let start = c.args.cursor.now in
+    let now = c.loop-entries.cursor in
+    let mid = c.block.new.self in
+    let block = c.in-Some.head in
+    let head = head_read now mid block (rw c.in-Some.is at c.in_ok-head.ensures.found) in
+    let d = map_depth_kept nodes place start now done.1 done.0 done.3 mid block head in
+    let b = map_blob_kept nodes place start now done.1 done.0 done.3 mid block head in
+    let distinct = map_distinct nodes place start now done.1 done.0 done.3 in
+    let read = c.in_ok-read_entries.ensures (limits_at start) done.1 d b done.2 distinct in
+    let ys = read.found.0 in
+    let found = read.found.3 in
+    let counted = read.found.2 ∙ c.count-count.ensures in
+    let after = c.read_entries.new.cursor in
+    let p = err_from_is_err_and c.from_residual-in_err-end_block.result c.from_residual-in_err-end_block.ensures.1 in
+    let size = length (concat found.items) in
+    let ends = c.in_err-end_block.ensures now.place size head.head head.is_block (map_place nodes place start now done.1 done.0 done.3 mid block head after read.found.1 ys found counted) in
+    rw (p.1, p.2) (map_size_refused nodes place start now done.1 done.0 done.3 mid block head after read.found.1 ys found counted (Unit {0}) c.in_err-end_block.field-0.0 ends)
+
+-- ---- Entries
+
+pub read_entries-returns-in_err-key : goal.read_entries-returns-in_err-key
+read_entries-returns-in_err-key g t c = λ limits before d b are distinct.
+    let nodes = schema_nodes c.args.schema.now in
+    let n = node_at nodes c.args.place.0 in
+    let start = c.args.cursor.now in
+    let now = c.loop-done.cursor in
+    let so_far = c.loop-done.invariant.1 limits before d b are distinct in
+    let xs = so_far.0 in
+    let keys = so_far.1 in
+    let run = so_far.4 in
+    let deep = d ∙ sym run.moves.depth in
+    let long = b ∙ sym run.moves.blob in
+    let counted = so_far.2 in
+    let before_end = c.loop-done-test.true in
+    let few : length xs < c.args.count = omega arith in
+    let p = err_from_is_err_and c.from_residual.result c.from_residual.ensures.1 in
+    let e = c.in_err-key.field-0.0 in
+    let read = c.in_err-key.ensures.read keys so_far.3 in
+    let refused = run_breaks (EntriesRun nodes limits n) (EntriesAreWhole nodes limits n) (λ left. are_distinct bytes_eq left.keys ≡ true) (entries_run nodes limits n) (entry_breaks nodes limits n) start now before keys xs c.args.count e run few (key_report nodes limits n now keys e long read.refused) in
+    rw (p.1, p.2) (record { found = tt; refused = refused })
+
+pub read_entries-returns-in_err-value : goal.read_entries-returns-in_err-value
+read_entries-returns-in_err-value g t c = λ limits before d b are distinct.
+    let nodes = schema_nodes c.args.schema.now in
+    let n = node_at nodes c.args.place.0 in
+    let start = c.args.cursor.now in
+    let now = c.loop-done.cursor in
+    let so_far = c.loop-done.invariant.1 limits before d b are distinct in
+    let xs = so_far.0 in
+    let keys = so_far.1 in
+    let run = so_far.4 in
+    let deep = d ∙ sym run.moves.depth in
+    let long = b ∙ sym run.moves.blob in
+    let counted = so_far.2 in
+    let before_end = c.loop-done-test.true in
+    let few : length xs < c.args.count = omega arith in
+    let mid = c.key.new.self in
+    let read = c.in_ok-key.ensures.read keys so_far.3 in
+    let key = c.in_ok-key.key.now in
+    let front = read.found.0 in
+    let is = read.found.1 in
+    let passes = read.found.2 in
+    let p = err_from_is_err_and c.from_residual-in_err-value.result c.from_residual-in_err-value.ensures.1 in
+    let e = c.in_err-value.field-0.0 in
+    let refused = run_breaks (EntriesRun nodes limits n) (EntriesAreWhole nodes limits n) (λ left. are_distinct bytes_eq left.keys ≡ true) (entries_run nodes limits n) (entry_breaks nodes limits n) start now before keys xs c.args.count e run few
+    (entry_report nodes limits n now mid keys key front e is passes deep long c.in_err-value.ensures.refused) in
+    rw (p.1, p.2) (record { found = tt; refused = refused })
+
+pub read_entries-loop-done-preserved : goal.read_entries-loop-done-preserved
+read_entries-loop-done-preserved g t c = (
+  let found = c.in_ok-value.ensures.found in found.1.moves.depth ∙ c.in_ok-key.ensures.depth ∙ c.loop-done.invariant.0,
+  λ limits before d b are distinct.
+      let nodes = schema_nodes c.args.schema.now in
+      let n = node_at nodes c.args.place.0 in
+      let start = c.args.cursor.now in
+      let now = c.loop-done.cursor in
+      let so_far = c.loop-done.invariant.1 limits before d b are distinct in
+      let xs = so_far.0 in
+      let keys = so_far.1 in
+      let run = so_far.4 in
+      let deep = d ∙ sym run.moves.depth in
+      let long = b ∙ sym run.moves.blob in
+      let mid = c.key.new.self in
+      let read = c.in_ok-key.ensures.read keys so_far.3 in
+      let key = c.in_ok-key.key.now in
+      let front = read.found.0 in
+      let is = read.found.1 in
+      let passes = read.found.2 in
+      let found = c.in_ok-value.ensures.found in
+      let after = c.read_place.new.cursor in
+      let v = found.0 in
+      let value = found.1 in
+      let one = entry_run nodes limits n now mid after keys key front v value ((entries_run nodes limits n).prepared _ _ xs run.items run.stand) is passes deep long in
+      let moved = moves-join now mid after front value.front (moves-passed now mid front passes) value.moves in
+      let more = run_push (EntriesRun nodes limits n) (EntriesAreWhole nodes limits n) (λ left. are_distinct bytes_eq left.keys ≡ true) (entries_run nodes limits n) start now after before keys (keys ++ key ∷ []) xs (key, v) (front ++ value.front) run one moved in
+      let counted = so_far.2 in
+      let maker = c.loop-done.maker in
+      let made = c.read_place.new.maker in
+      let entries = c.loop-done.entries in
+      let is_for = subst (λ (a : g.row.M-At.Denot). g.M.Make.stands_for made nodes n a c.in_ok-value.value v) (c.entry_at-at.ensures ∙ g.met.M.Make.entry_at_kept maker made entries found.2.0) found.2.1 in
+      let kept = g.met.M.Make.keeps_on c.args.maker.now maker c.entry.new.self so_far.5 (g.met.M.Make.keeps_on maker made c.entry.new.self found.2.0 c.in-Ok.ensures.kept) in
+      let stand = λ (at : g.row.M-At.Denot) (fs : List (List ℕ × Value)) (h : g.M.Make.entries_stand_for c.args.maker.now nodes c.args.place.0 at c.args.entries.now fs).
+      subst (λ (es : List (List ℕ × Value)). g.M.Make.entries_stand_for c.entry.new.self nodes c.args.place.0 at c.entry.new.entries es) (append_assoc fs xs ((key, v) ∷ []))
+      (c.in-Ok.ensures.stands nodes c.args.place.0 at (fs ++ xs) v (g.met.M.Make.entries_kept maker made nodes c.args.place.0 at entries (fs ++ xs) found.2.0 (so_far.6 at fs h)) is_for) in
+      (xs ++ (key, v) ∷ [], keys ++ key ∷ [], omega (arith, length-append xs ((key, v) ∷ [])), read.added, more, kept, stand),
+)
+
+pub read_entries-returns : goal.read_entries-returns
+read_entries-returns g t c = λ limits before d b are distinct.
+    let nodes = schema_nodes c.args.schema.now in
+    let n = node_at nodes c.args.place.0 in
+    let start = c.args.cursor.now in
+    let now = c.loop-done.cursor in
+    let so_far = c.loop-done.invariant.1 limits before d b are distinct in
+    let xs = so_far.0 in
+    let keys = so_far.1 in
+    let run = so_far.4 in
+    let deep = d ∙ sym run.moves.depth in
+    let long = b ∙ sym run.moves.blob in
+    let counted = so_far.2 in
+    let ended = c.loop-done-test.false in
+    let inside = c.loop-done.auto._done-end in
+    let all : length xs ≡ c.args.count = omega arith in
+    record { found = (xs, keys, all, run, (so_far.3, so_far.5, so_far.6)); refused = tt }
+
+-- ---- Items
+
+pub read_items-returns-in_err-value : goal.read_items-returns-in_err-value
+read_items-returns-in_err-value g t c = λ limits d b.
+    let p = err_from_is_err_and c.from_residual.result c.from_residual.ensures.1 in
+    let nodes = schema_nodes c.args.schema.now in
+    let n = node_at nodes c.args.place.0 in
+    let start = c.args.cursor.now in
+    let now = c.loop-done.cursor in
+    let so_far = c.loop-done.invariant.1 limits d b in
+    let counted = so_far.1 in
+    let before_end = c.loop-done-test.true in
+    let few : length so_far.0 < c.args.count = omega arith in
+    let e = c.in_err-value.field-0.0 in
+    let reported = value_report nodes limits n now [] e (d ∙ sym so_far.2.moves.depth) (b ∙ sym so_far.2.moves.blob) c.in_err-value.ensures.refused in
+    let refused = run_breaks (ValuesRun nodes limits n) (ItemsAreWhole nodes limits n) (λ left. Unit {0}) (values_run nodes limits n) (value_breaks nodes limits n) start now [] [] so_far.0
+    c.args.count e so_far.2 few reported in
+    rw (p.1, p.2) (record { found = tt; refused = refused })
+
+pub read_items-loop-done-preserved : goal.read_items-loop-done-preserved
+read_items-loop-done-preserved g t c =
+    let found = c.in_ok-value.ensures.found in
+    let nodes = schema_nodes c.args.schema.now in
+    let n = node_at nodes c.args.place.0 in
+    let start = c.args.cursor.now in
+    let now = c.loop-done.cursor in
+    let after = c.read_place.new.cursor in
+    let v = found.0 in
+    let value = found.1 in (
+      value.moves.depth ∙ c.loop-done.invariant.0,
+      λ limits d b.
+          let so_far = c.loop-done.invariant.1 limits d b in
+          let xs = so_far.0 in
+          let counted = so_far.1 in
+          let one = value_run nodes limits n now after [] v value (d ∙ sym so_far.2.moves.depth) (b ∙ sym so_far.2.moves.blob) in
+          let more = run_push (ValuesRun nodes limits n) (ItemsAreWhole nodes limits n) (λ left. Unit {0}) (values_run nodes limits n) start now after [] [] [] xs v value.front so_far.2 one value.moves in
+          let maker = c.loop-done.maker in
+          let made = c.read_place.new.maker in
+          let items = c.loop-done.items in
+          let is_for = subst (λ (a : g.row.M-At.Denot). g.M.Make.stands_for made nodes n a c.in_ok-value.value v) (c.item_at-at.ensures ∙ g.met.M.Make.item_at_kept maker made items found.2.0) found.2.1 in
+          let kept = g.met.M.Make.keeps_on c.args.maker.now maker c.item.new.self so_far.3 (g.met.M.Make.keeps_on maker made c.item.new.self found.2.0 c.in-Ok.ensures.kept) in
+          let stand = λ (at : g.row.M-At.Denot) (us : List Value) (h : g.M.Make.items_stand_for c.args.maker.now nodes c.args.place.0 at c.args.items.now us).
+          subst (λ (vs : List Value). g.M.Make.items_stand_for c.item.new.self nodes c.args.place.0 at c.item.new.items vs) (append_assoc us xs (v ∷ []))
+          (c.in-Ok.ensures.stands nodes c.args.place.0 at (us ++ xs) v (g.met.M.Make.items_kept maker made nodes c.args.place.0 at items (us ++ xs) found.2.0 (so_far.4 at us h)) is_for) in
+          (xs ++ v ∷ [], omega (arith, length-append xs (v ∷ [])), more, kept, stand),
+    )
+
+pub read_items-returns : goal.read_items-returns
+read_items-returns g t c = λ limits d b.
+    let so_far = c.loop-done.invariant.1 limits d b in
+    let counted = so_far.1 in
+    let ended = c.loop-done-test.false in
+    let inside = c.loop-done.auto._done-end in
+    let all : length so_far.0 ≡ c.args.count = omega arith in
+    record { found = (so_far.0, [], all, so_far.2, (so_far.3, so_far.4)); refused = tt }
+
+-- ---- Nodes
+
+pub read_place-returns-then-not-has : goal.read_place-returns-then-not-has
+read_place-returns-then-not-has g t c =
+    let nodes = schema_nodes c.args.schema.now in
+    let none = c.if-not-has.true in
+    let has = c.has.ensures in
+    let past : length nodes ≤ c.args.place.0 = not-below c.args.place.0 (length nodes) c.has.result none has.1 in
+    rw (null_past nodes c.args.place.0 past) (c.read_null.ensures nodes)
+
+pub read_place-returns-in-Null : goal.read_place-returns-in-Null
+read_place-returns-in-Null g t c =
+    let nodes = schema_nodes c.args.schema.now in
+    let is : node_at nodes c.args.place.0 ≡ Node.null = sym c.node.ensures ∙ ap node_of c.in-Null.is in
+    rw is (c.read_null-in-Null.ensures nodes)
+
+pub read_place-returns-in-Boolean : goal.read_place-returns-in-Boolean
+read_place-returns-in-Boolean g t c =
+    let nodes = schema_nodes c.args.schema.now in
+    let is : node_at nodes c.args.place.0 ≡ Node.boolean = sym c.node.ensures ∙ ap node_of c.in-Boolean.is in
+    rw is (c.read_boolean.ensures nodes)
+
+pub read_place-returns-in-Int : goal.read_place-returns-in-Int
+read_place-returns-in-Int g t c =
+    let nodes = schema_nodes c.args.schema.now in
+    let is : node_at nodes c.args.place.0 ≡ Node.int = sym c.node.ensures ∙ ap node_of c.in-Int.is in
+    rw is (c.read_int.ensures nodes)
+
+pub read_place-returns-in-Long : goal.read_place-returns-in-Long
+read_place-returns-in-Long g t c =
+    let nodes = schema_nodes c.args.schema.now in
+    let is : node_at nodes c.args.place.0 ≡ Node.long = sym c.node.ensures ∙ ap node_of c.in-Long.is in
+    rw is (c.read_long.ensures nodes)
+
+pub read_place-returns-in-Bytes : goal.read_place-returns-in-Bytes
+read_place-returns-in-Bytes g t c =
+    let nodes = schema_nodes c.args.schema.now in
+    let is : node_at nodes c.args.place.0 ≡ Node.bytes = sym c.node.ensures ∙ ap node_of c.in-Bytes.is in
+    rw is (c.read_bytes.ensures nodes)
+
+pub read_place-returns-in-Str : goal.read_place-returns-in-Str
+read_place-returns-in-Str g t c =
+    let nodes = schema_nodes c.args.schema.now in
+    let is : node_at nodes c.args.place.0 ≡ Node.string = sym c.node.ensures ∙ ap node_of c.in-Str.is in
+    rw is (c.read_text.ensures nodes)
+
+pub read_place-returns-in-Record : goal.read_place-returns-in-Record
+read_place-returns-in-Record g t c =
+    let nodes = schema_nodes c.args.schema.now in
+    let record_is = c.in-Record.record in
+    let is : node_at nodes c.args.place.0 ≡ Node.record_of record_is.name record_is.aliases.items (seen_fields record_is.fields.items) = sym c.node.ensures ∙ ap node_of c.in-Record.is in
+    rw (is, ← c.deref-in-Record.ensures.value) (c.read_record.ensures record_is.name record_is.aliases.items)
+
+pub read_place-returns-in-Enum : goal.read_place-returns-in-Enum
+read_place-returns-in-Enum g t c =
+    let nodes = schema_nodes c.args.schema.now in
+    let enum_is = c.in-Enum.enumeration in
+    let is : node_at nodes c.args.place.0 ≡ Node.enum enum_is.name enum_is.aliases.items (texts_of enum_is.symbols.items) enum_is.default = sym c.node.ensures ∙ ap node_of c.in-Enum.is in
+    let l = c.len.ensures in
+    rw is (c.read_symbol.ensures nodes enum_is.name enum_is.aliases.items (texts_of enum_is.symbols.items) enum_is.default (l ∙ enum_is.symbols.ok.0 ∙ sym (texts-length enum_is.symbols.items)))
+
+pub read_place-returns-in-Fixed : goal.read_place-returns-in-Fixed
+read_place-returns-in-Fixed g t c =
+    let nodes = schema_nodes c.args.schema.now in
+    let fixed_is = c.in-Fixed.fixed in
+    let is : node_at nodes c.args.place.0 ≡ Node.fixed fixed_is.name fixed_is.aliases.items fixed_is.size = sym c.node.ensures ∙ ap node_of c.in-Fixed.is in
+    rw is (c.read_fixed.ensures nodes fixed_is.name fixed_is.aliases.items)
+
+-- ---- Nodes with parts
+
+pub read_array-returns-in_err-enter : goal.read_array-returns-in_err-enter
+read_array-returns-in_err-enter g t c =
+    let p = err_from_is_err_and c.from_residual.result c.from_residual.ensures.1 in
+    rw (p.1, p.2) (enter_refused (schema_nodes c.args.schema.now) (Node.array c.args.place.0) c.args.cursor.now c.enter.new.self c.in_err-enter.field-0.0 c.in_err-enter.ensures.refused)
+
+pub read_array-returns-in_err-out : goal.read_array-returns-in_err-out
+read_array-returns-in_err-out g t c =
+    let p = err_from_is_err_and c.from_residual-in_err-out.result c.from_residual-in_err-out.ensures.1 in
+    rw (p.1, p.2) (node_refused (schema_nodes c.args.schema.now) (Node.array c.args.place.0) c.args.cursor.now c.enter.new.self c.read_item_blocks.new.cursor c.read_item_blocks.new.cursor
+    c.in_err-out.field-0.0 c.in_ok-enter.ensures.entered c.in_err-out.ensures)
+
+pub read_map-returns-in_err-enter : goal.read_map-returns-in_err-enter
+read_map-returns-in_err-enter g t c =
+    let p = err_from_is_err_and c.from_residual.result c.from_residual.ensures.1 in
+    rw (p.1, p.2) (enter_refused (schema_nodes c.args.schema.now) (Node.map_of c.args.place.0) c.args.cursor.now c.enter.new.self c.in_err-enter.field-0.0 c.in_err-enter.ensures.refused)
+
+pub read_map-returns-in_err-out : goal.read_map-returns-in_err-out
+read_map-returns-in_err-out g t c =
+    let p = err_from_is_err_and c.from_residual-in_err-out.result c.from_residual-in_err-out.ensures.1 in
+    rw (p.1, p.2) (node_refused (schema_nodes c.args.schema.now) (Node.map_of c.args.place.0) c.args.cursor.now c.enter.new.self c.read_entry_blocks.new.cursor c.read_entry_blocks.new.cursor
+    c.in_err-out.field-0.0 c.in_ok-enter.ensures.entered c.in_err-out.ensures)
+
+pub read_union-returns-in_err-enter : goal.read_union-returns-in_err-enter
+read_union-returns-in_err-enter g t c =
+    let p = err_from_is_err_and c.from_residual.result c.from_residual.ensures.1 in
+    rw (p.1, p.2) (enter_refused (schema_nodes c.args.schema.now) (Node.union (places_of c.args.branches.now)) c.args.cursor.now c.enter.new.self c.in_err-enter.field-0.0 c.in_err-enter.ensures.refused)
+
+pub read_union-returns-in_err-out : goal.read_union-returns-in_err-out
+read_union-returns-in_err-out g t c =
+    let p = err_from_is_err_and c.from_residual-in_err-out.result c.from_residual-in_err-out.ensures.1 in
+    rw (p.1, p.2) (node_refused (schema_nodes c.args.schema.now) (Node.union (places_of c.args.branches.now)) c.args.cursor.now c.enter.new.self c.read_branch.new.cursor c.read_branch.new.cursor
+    c.in_err-out.field-0.0 c.in_ok-enter.ensures.entered c.in_err-out.ensures)
+
+pub read_record-returns-in_err-enter : goal.read_record-returns-in_err-enter
+read_record-returns-in_err-enter g t c = λ name aliases.
+    let p = err_from_is_err_and c.from_residual.result c.from_residual.ensures.1 in
+    rw (p.1, p.2) (enter_refused (schema_nodes c.args.schema.now) (Node.record_of name aliases (seen_fields c.args.fields.now)) c.args.cursor.now c.enter.new.self c.in_err-enter.field-0.0 c.in_err-enter.ensures.refused)
+
+pub read_record-returns-in_err-out : goal.read_record-returns-in_err-out
+read_record-returns-in_err-out g t c = λ name aliases.
+    let p = err_from_is_err_and c.from_residual-in_err-out.result c.from_residual-in_err-out.ensures.1 in
+    rw (p.1, p.2) (node_refused (schema_nodes c.args.schema.now) (Node.record_of name aliases (seen_fields c.args.fields.now)) c.args.cursor.now c.enter.new.self c.read_fields.new.cursor c.read_fields.new.cursor
+    c.in_err-out.field-0.0 c.in_ok-enter.ensures.entered (c.in_err-out.ensures name aliases))
+
+pub read_record-returns : goal.read_record-returns
+read_record-returns g t c = λ name aliases.
+    let read = c.in_ok-out.ensures name aliases in
+    let same = read.found.1.moves.depth in
+    let entered = c.in_ok-enter.ensures.entered.depth in
+    let shallow = c.in_ok-enter.ensures.shallow in
+    let deep : c.read_fields.new.cursor.depth < 256 = omega arith in
+    node_left (schema_nodes c.args.schema.now) (Node.record_of name aliases (seen_fields c.args.fields.now)) c.args.cursor.now c.enter.new.self
+    c.read_fields.new.cursor c.leave.new.self c.in_ok-out.out c.in_ok-enter.ensures.entered read (c.leave.ensures.freed deep)
+
+-- ---- Records
+
+pub read_fields-returns-in_err-value : goal.read_fields-returns-in_err-value
+read_fields-returns-in_err-value g t c = λ name aliases.
+    let p = err_from_is_err_and c.from_residual.result c.from_residual.ensures.1 in
+    let nodes = schema_nodes c.args.schema.now in
+    let fields = c.args.fields.now in
+    let places = field_places (seen_fields fields) in
+    let i = c.loop-field.field-index in
+    let so_far = c.loop-field.invariant in
+    let field = c.field-item.result in
+    let below : i < length fields = c.loop-field-test.true in
+    let e = c.in_err-value.field-0.0 in
+    let are = places_split fields i field below ∙ ap (λ (f : Field). take i places ++ f.node.0 ∷ drop (suc i) places) (sym c.field-item.is) in
+    rw (p.1, p.2) (record_refused nodes name aliases (seen_fields fields) c.args.cursor.now c.read_place.new.cursor e
+    (field_breaks nodes (take i places) c.args.cursor.now c.loop-field.cursor so_far.0 so_far.1 places (drop (suc i) places) field.node.0 are e c.in_err-value.ensures.refused))
+
+pub read_fields-loop-field-preserved : goal.read_fields-loop-field-preserved
+read_fields-loop-field-preserved g t c =
+    let nodes = schema_nodes c.args.schema.now in
+    let fields = c.args.fields.now in
+    let places = field_places (seen_fields fields) in
+    let i = c.loop-field.field-index in
+    let so_far = c.loop-field.invariant in
+    let field = c.field-item.result in
+    let below : i < length fields = c.loop-field-test.true in
+    let found = c.in_ok-value.ensures.found in
+    let next : i + 1 ≡ suc i = omega arith in
+    let maker = c.loop-field.maker in
+    let made = c.read_place.new.maker in
+    let values = c.loop-field.values in
+    let counted : length so_far.0 ≡ i = so_far.2 in
+    let at_field : slice_get places (length so_far.0) ≡ Some field.node.0 = ap (λ (k : ℕ). slice_get places k) counted ∙ field_place_at fields i field below ∙ ap (λ (f : Field). Some f.node.0) (sym c.field-item.is) in
+    let are : take i places ++ field.node.0 ∷ [] ≡ take (i + 1) places =
+    ap (λ (f : Field). take i places ++ f.node.0 ∷ []) c.field-item.is ∙ sym (places_next fields i field below) ∙ ap (λ (m : ℕ). take m places) (sym next) in (
+      so_far.0 ++ found.0 ∷ [],
+      subst (λ (ps : List ℕ). FieldsDone nodes ps c.args.cursor.now c.read_place.new.cursor (so_far.0 ++ found.0 ∷ [])) are
+          (fields_push nodes (take i places) c.args.cursor.now c.loop-field.cursor so_far.0 so_far.1 field.node.0 c.read_place.new.cursor found.0 found.1),
+      omega (arith, length-append so_far.0 (found.0 ∷ [])),
+      g.met.M.Make.keeps_on c.args.maker.now maker c.field.new.self so_far.3 (g.met.M.Make.keeps_on maker made c.field.new.self found.2.0 c.in-Ok-field.ensures.kept),
+      c.in-Ok-field.ensures.stands nodes (seen_fields fields) field.node.0 c.args.at so_far.0 found.0 (g.met.M.Make.fields_kept maker made nodes (seen_fields fields) c.args.at values so_far.0 found.2.0 so_far.4) at_field
+          (subst (λ (a : g.row.M-At.Denot). g.M.Make.stands_for made nodes (node_at nodes field.node.0) a c.in_ok-value.value found.0) (c.field_at-part.ensures ∙ g.met.M.Make.field_at_kept maker made values found.2.0) found.2.1),
+    )
+
+pub read_fields-returns-in-Ok-record : goal.read_fields-returns-in-Ok-record
+read_fields-returns-in-Ok-record g t c = λ name aliases.
+    let nodes = schema_nodes c.args.schema.now in
+    let fields = c.args.fields.now in
+    let places = field_places (seen_fields fields) in
+    let i = c.loop-field.field-index in
+    let so_far = c.loop-field.invariant in
+    let past : length fields ≤ i = c.loop-field-test.false in
+    let done = subst (λ (ps : List ℕ). FieldsDone nodes ps c.args.cursor.now c.loop-field.cursor so_far.0) (places_all fields i past) so_far.1 in
+    record_found nodes name aliases (seen_fields fields) c.args.cursor.now c.loop-field.cursor so_far.0 c.in-Ok-record.out
+    (subst (λ (ps : List ℕ). FieldsDone nodes ps c.args.cursor.now c.loop-field.cursor so_far.0) (places_all fields i past) so_far.1)
+    (g.met.M.Make.keeps_on c.args.maker.now c.loop-field.maker c.record.new.self so_far.3 c.in-Ok-record.ensures.kept, c.in-Ok-record.ensures.stands nodes name aliases (seen_fields fields) c.args.at so_far.0 so_far.4 done.fitting)
+
+-- ---- Unions
+
+pub read_branch-returns-in_err-value : goal.read_branch-returns-in_err-value
+read_branch-returns-in_err-value g t c =
+    let nodes = schema_nodes c.args.schema.now in
+    let branches = c.args.branches.now in
+    let start = c.args.cursor.now in
+    let mid = c.index.new.self in
+    let after = c.read_place.new.cursor in
+    let k = c.in_ok-branch.branch in
+    let found = c.in_ok-branch.ensures.found in
+    let among = subst (λ (n : ℕ). Finds (λ (x : ℕ). x) (IsIndex n) start mid k) (sym (places-length branches)) found in
+    let branch = get_or branches k (record { 0 = 0 }) in
+    let at = branch_at branches k (record { 0 = 0 }) found.1.0 in
+    let p = err_from_is_err_and c.from_residual-in_err-value.result c.from_residual-in_err-value.ensures.1 in
+    rw (p.1, p.2) (branch_refused nodes (places_of branches) start mid k branch.0 at among after after c.in_err-value.field-0.0 c.in_err-value.ensures)
+
+pub read_branch-returns-in_Ok-out : goal.read_branch-returns-in_Ok-out
+read_branch-returns-in_Ok-out g t c =
+    let nodes = schema_nodes c.args.schema.now in
+    let branches = c.args.branches.now in
+    let start = c.args.cursor.now in
+    let mid = c.index.new.self in
+    let after = c.read_place.new.cursor in
+    let k = c.in_ok-branch.branch in
+    let found = c.in_ok-branch.ensures.found in
+    let among = subst (λ (n : ℕ). Finds (λ (x : ℕ). x) (IsIndex n) start mid k) (sym (places-length branches)) found in
+    let branch = get_or branches k (record { 0 = 0 }) in
+    let at = branch_at branches k (record { 0 = 0 }) found.1.0 in
+    let maker = c.args.maker.now in
+    let made = c.read_place.new.maker in
+    let step = λ (v : Value) (is : Made g.M.Make.keeps (λ m. g.M.Make.stands_for m nodes (node_at nodes branch.0) c.branch_at-part.result) maker made c.in_ok-value.value v).
+    let part = c.branch_at-part.ensures ∙ g.met.M.Make.branch_at_kept maker made c.args.at k is.0 in
+    let whole : Made g.M.Make.keeps (λ m. g.M.Make.stands_for m nodes (Node.union (places_of branches)) c.args.at) maker c.branch-out.new.self c.in_Ok-out.out (Value.union k v) = (
+      g.met.M.Make.keeps_on maker made c.branch-out.new.self is.0 c.in_Ok-out.ensures.kept,
+      c.in_Ok-out.ensures.stands nodes (places_of branches) branch.0 v at (subst (λ (a : g.row.M-At.Denot). g.M.Make.stands_for made nodes (node_at nodes branch.0) a c.in_ok-value.value v) part is.1),
+    ) in whole in
+    union_found nodes (places_of branches) start mid k branch.0 at among after c.in_ok-value.value c.in_Ok-out.out c.in_ok-value.ensures step
+
+-- ---- Loops that start
+
+pub read_items-loop-done-init : goal.read_items-loop-done-init
+read_items-loop-done-init g t c = (
+  refl,
+  λ limits d b.
+      let nodes = schema_nodes c.args.schema.now in
+      let n = node_at nodes c.args.place.0 in
+      let none = run_none (ValuesRun nodes limits n) (ItemsAreWhole nodes limits n) (λ left. Unit {0}) (values_run nodes limits n) c.args.cursor.now [] tt in
+      let kept = λ (at : g.row.M-At.Denot) (us : List Value) (h : g.M.Make.items_stand_for c.args.maker.now nodes c.args.place.0 at c.args.items.now us). subst (λ (vs : List Value). g.M.Make.items_stand_for c.args.maker.now nodes c.args.place.0 at c.args.items.now vs) (sym (append-nil us)) h in
+      ([], refl, none, g.met.M.Make.keeps_itself c.args.maker.now, kept),
+)
+
+pub read_entries-loop-done-init : goal.read_entries-loop-done-init
+read_entries-loop-done-init g t c = (
+  refl,
+  λ limits before d b are distinct.
+      let nodes = schema_nodes c.args.schema.now in
+      let n = node_at nodes c.args.place.0 in
+      let none = run_none (EntriesRun nodes limits n) (EntriesAreWhole nodes limits n) (λ left. are_distinct bytes_eq left.keys ≡ true) (entries_run nodes limits n) c.args.cursor.now before distinct in
+      let kept = λ (at : g.row.M-At.Denot) (fs : List (List ℕ × Value)) (h : g.M.Make.entries_stand_for c.args.maker.now nodes c.args.place.0 at c.args.entries.now fs).
+      subst (λ (es : List (List ℕ × Value)). g.M.Make.entries_stand_for c.args.maker.now nodes c.args.place.0 at c.args.entries.now es) (sym (append-nil fs)) h in
+      ([], before, refl, are, none, g.met.M.Make.keeps_itself c.args.maker.now, kept),
+)
+
+pub read_fields-loop-field-init : goal.read_fields-loop-field-init
+read_fields-loop-field-init g t c =
+    ([], fields_none (schema_nodes c.args.schema.now) c.args.cursor.now, refl, c.in-Ok.ensures.kept, c.in-Ok.ensures.stands (schema_nodes c.args.schema.now) (seen_fields c.args.fields.now))

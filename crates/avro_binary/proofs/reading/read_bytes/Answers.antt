@@ -1,0 +1,27 @@
+use Rattle.std.proofs.lemmas.Result.{err_from_is_err_and}
+use Rattle.avro_schema.specs.Node.{Node}
+use Rattle.avro_binary.specs.CursorReads.{left_node}
+use Rattle.avro_binary.proofs.CountSteps.{inside_of, passes_inside, counted_found, counted_refused}
+use Rattle.avro_binary.proofs.LeafReads.{bytes_found, bytes_refused}
+use Rattle.avro_binary.proofs.NodeSteps.{enter_refused}
+use Rattle.avro_binary.proofs.reading.read_bytes.Goals as goal
+
+pub returns-in_err-count : goal.returns-in_err-count
+returns-in_err-count g c = λ nodes.
+    let p = err_from_is_err_and c.from_residual.result c.from_residual.ensures.1 in
+    rw (p.1, p.2) (enter_refused nodes (Node.bytes) c.args.cursor.now c.count.new.self c.in_err-count.field-0.0 c.in_err-count.ensures.refused)
+
+pub returns-in-Ok-bytes : goal.returns-in-Ok-bytes
+returns-in-Ok-bytes g c = λ nodes.
+    let counted = c.count.new.self in
+    let after = c.bytes.new.self in
+    let found = c.in-Ok.ensures.found in
+    counted_found nodes (Node.bytes) c.args.cursor.now counted after c.in-Ok-bytes.out c.in_ok-count.ensures.counted found.2.depth
+    (bytes_found nodes (inside_of counted) (inside_of after) c.in-Ok-bytes.out c.in-Ok.content.now found.0 found.1 (passes_inside counted after found.0 found.2) c.drop_content.ensures (c.in-Ok-bytes.ensures.kept, c.in-Ok-bytes.ensures.stands nodes))
+
+pub returns-in-Err : goal.returns-in-Err
+returns-in-Err g c = λ nodes.
+    let counted = c.count.new.self in
+    let after = c.bytes.new.self in
+    counted_refused nodes (Node.bytes) c.args.cursor.now counted (left_node (inside_of after)) after c.in-Err.error c.in_ok-count.ensures.counted
+    (bytes_refused nodes (inside_of counted) (inside_of after) c.in-Err.error c.in-Err.ensures.refused)

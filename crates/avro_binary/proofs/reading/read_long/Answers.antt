@@ -1,0 +1,33 @@
+use Rattle.std.proofs.Common.{ℤ, rules, subst, FitsSigned, w64}
+use Rattle.std.proofs.lemmas.Int.{to_z-of_z}
+use Rattle.avro_schema.specs.Value.{Value}
+use Rattle.std.proofs.lemmas.Result.{err_from_is_err_and}
+use Rattle.avro_schema.specs.Node.{Node}
+use Rattle.avro_binary.specs.CursorReads.{left_node}
+use Rattle.avro_binary.specs.Elements.{IsLong}
+use Rattle.avro_binary.proofs.CountSteps.{inside_of, finds_inside, counted_found, counted_refused}
+use Rattle.avro_binary.proofs.LeafReads.{long_found, long_refused}
+use Rattle.avro_binary.proofs.NodeSteps.{enter_refused}
+use Rattle.avro_binary.proofs.reading.read_long.Goals as goal
+
+pub returns-in_err-count : goal.returns-in_err-count
+returns-in_err-count g c = λ nodes.
+    let p = err_from_is_err_and c.from_residual.result c.from_residual.ensures.1 in
+    rw (p.1, p.2) (enter_refused nodes (Node.long) c.args.cursor.now c.count.new.self c.in_err-count.field-0.0 c.in_err-count.ensures.refused)
+
+pub returns-in-Ok-long : goal.returns-in-Ok-long
+returns-in-Ok-long g c = λ nodes.
+    let counted = c.count.new.self in
+    let after = c.long.new.self in
+    let found = c.in-Ok.ensures.found in
+    let fits : FitsSigned w64 c.in-Ok.value = search rules in
+    let stands = subst (λ (v : ℤ). g.M.Make.stands_for c.long-in-Ok.new.self nodes Node.long c.args.at c.in-Ok-long.out (Value.long v)) (to_z-of_z w64 c.in-Ok.value fits) (c.in-Ok-long.ensures.stands nodes) in
+    counted_found nodes (Node.long) c.args.cursor.now counted after c.in-Ok-long.out c.in_ok-count.ensures.counted found.2.depth
+    (long_found nodes (inside_of counted) (inside_of after) c.in-Ok-long.out c.in-Ok.value (finds_inside (λ (x : ℤ). x) IsLong counted after c.in-Ok.value found) (c.in-Ok-long.ensures.kept, stands))
+
+pub returns-in-Err : goal.returns-in-Err
+returns-in-Err g c = λ nodes.
+    let counted = c.count.new.self in
+    let after = c.long.new.self in
+    counted_refused nodes (Node.long) c.args.cursor.now counted (left_node (inside_of after)) after c.in-Err.error c.in_ok-count.ensures.counted
+    (long_refused nodes (inside_of counted) (inside_of after) c.in-Err.error c.in-Err.ensures.refused)

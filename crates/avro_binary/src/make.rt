@@ -1,0 +1,235 @@
+ghost use Rattle.std.specs.Prelude.{◌≡◌, ◌<◌, ℕ, List, [], ◌∷◌, ◌++◌, Option, Some, true, length, slice_get, IfOk, OnOk};
+ghost use Rattle.avro_name.specs.Name.{Name};
+ghost use Rattle.avro_schema.specs.Fits.{fields_fit};
+ghost use Rattle.avro_schema.specs.Node.{Node, FieldNode, node_at, field_places};
+ghost use Rattle.avro_schema.specs.Seen.{values_from, entries_from};
+ghost use Rattle.avro_schema.specs.Value.{Value};
+
+use std::alloc::{AllocError, Global};
+
+/// What is made of a datum of a node that is read, and of each of its parts, where the maker says what each part is for.
+///
+/// A call fails only for want of memory. What an answer stands for is said at the maker as it then is; it stays so at
+/// every later one that keeps it.
+pub trait Make {
+    /// What a part is for.
+    type At: Copy;
+
+    /// What is made of a datum.
+    type Out: Drop;
+
+    /// What is made of the items of an array, so far.
+    type Items: Drop;
+
+    /// What is made of the entries of a map, so far.
+    type Entries: Drop;
+
+    /// What is made of the fields of a record, so far.
+    type Fields: Drop;
+
+    /// Which later makers keep what one has made.
+    ghost keeps: { Self → Self → Type 0 };
+
+    /// Which datum of a node an answer stands for, by what it is for.
+    ghost stands_for: { Self → List Node → Node → Self.At → Self.Out → Value → Type 0 };
+
+    /// Which data the items of an array stand for, by the place of their node and what the array is for.
+    ghost items_stand_for: { Self → List Node → ℕ → Self.At → Self.Items → List Value → Type 0 };
+
+    /// Which keys and data the entries of a map stand for, by the place of their node and what the map is for.
+    ghost entries_stand_for: { Self → List Node → ℕ → Self.At → Self.Entries → List (List ℕ × Value) → Type 0 };
+
+    /// Which data the first fields of a record stand for, by what the record is for.
+    ghost fields_stand_for: { Self → List Node → List FieldNode → Self.At → Self.Fields → List Value → Type 0 };
+
+    /// What the value of a branch is for.
+    ghost branch_at: { Self → Self.At → ℕ → Self.At };
+
+    /// What the next item is for.
+    ghost item_at: { Self → Self.Items → Self.At };
+
+    /// What the value of the next entry is for.
+    ghost entry_at: { Self → Self.Entries → Self.At };
+
+    /// What the value of the next field is for.
+    ghost field_at: { Self → Self.Fields → Self.At };
+
+    /// Makes null.
+    fn null(&mut self, alloc: Global, at: Self::At) -> Result<Self::Out, AllocError>
+        ensures kept { OnOk result (keeps self.old self.new) }
+        ensures stands { (nodes : List Node) → IfOk result (λ out. stands_for self.new nodes Node.null at out Value.null) };
+
+    /// Makes a boolean.
+    fn boolean(&mut self, alloc: Global, at: Self::At, value: bool) -> Result<Self::Out, AllocError>
+        ensures kept { OnOk result (keeps self.old self.new) }
+        ensures stands { (nodes : List Node) → IfOk result (λ out. stands_for self.new nodes Node.boolean at out (Value.boolean value)) };
+
+    /// Makes an int.
+    fn int(&mut self, alloc: Global, at: Self::At, value: i32) -> Result<Self::Out, AllocError>
+        ensures kept { OnOk result (keeps self.old self.new) }
+        ensures stands { (nodes : List Node) → IfOk result (λ out. stands_for self.new nodes Node.int at out (Value.int value)) };
+
+    /// Makes a long.
+    fn long(&mut self, alloc: Global, at: Self::At, value: i64) -> Result<Self::Out, AllocError>
+        ensures kept { OnOk result (keeps self.old self.new) }
+        ensures stands { (nodes : List Node) → IfOk result (λ out. stands_for self.new nodes Node.long at out (Value.long value)) };
+
+    /// Makes bytes.
+    fn bytes(
+        &mut self,
+        alloc: Global,
+        at: Self::At,
+        content: &[u8],
+    ) -> Result<Self::Out, AllocError>
+        ensures kept { OnOk result (keeps self.old self.new) }
+        ensures stands { (nodes : List Node) → IfOk result (λ out. stands_for self.new nodes Node.bytes at out (Value.bytes content.now)) };
+
+    /// Makes a string.
+    fn string(&mut self, alloc: Global, at: Self::At, text: &str) -> Result<Self::Out, AllocError>
+        ensures kept { OnOk result (keeps self.old self.new) }
+        ensures stands { (nodes : List Node) → IfOk result (λ out. stands_for self.new nodes Node.string at out (Value.string text.now)) };
+
+    /// Makes a fixed.
+    fn fixed(
+        &mut self,
+        alloc: Global,
+        at: Self::At,
+        content: &[u8],
+    ) -> Result<Self::Out, AllocError>
+        ensures kept { OnOk result (keeps self.old self.new) }
+        ensures stands { (nodes : List Node) (name : Name) (aliases : List Name) (size : ℕ) → IfOk result (λ out. stands_for self.new nodes (Node.fixed name aliases size) at out (Value.fixed content.now)) };
+
+    /// Makes an enum, of the place of its symbol.
+    fn symbol(&mut self, alloc: Global, at: Self::At, place: u32) -> Result<Self::Out, AllocError>
+        ensures kept { OnOk result (keeps self.old self.new) }
+        ensures stands { (nodes : List Node) (name : Name) (aliases : List Name) (texts : List (List ℕ)) (default : Option ℕ) → place < length texts → IfOk result (λ out. stands_for self.new nodes (Node.enum name aliases texts default) at out (Value.enum place)) };
+
+    /// What the value of a branch is for.
+    fn branch_at(&self, at: Self::At, branch: u32) -> Self::At
+        ensures { result ≡ branch_at self.now at branch };
+
+    /// Makes a union, of the place of its branch and what was made of its value.
+    fn branch(
+        &mut self,
+        alloc: Global,
+        at: Self::At,
+        branch: u32,
+        value: Self::Out,
+    ) -> Result<Self::Out, AllocError>
+        ensures kept { OnOk result (keeps self.old self.new) }
+        ensures stands { (nodes : List Node) (places : List ℕ) (place : ℕ) (v : Value) → slice_get places branch ≡ Some place
+            → stands_for self.old nodes (node_at nodes place) (branch_at self.old at branch) value v
+            → IfOk result (λ out. stands_for self.new nodes (Node.union places) at out (Value.union branch v)) };
+
+    /// No items of an array.
+    fn items(&mut self, alloc: Global, at: Self::At) -> Result<Self::Items, AllocError>
+        ensures kept { OnOk result (keeps self.old self.new) }
+        ensures stands { (nodes : List Node) (place : ℕ) → IfOk result (λ items. items_stand_for self.new nodes place at items []) };
+
+    /// What the next item is for.
+    fn item_at(&self, items: &Self::Items) -> Self::At
+        ensures { result ≡ item_at self.now items.now };
+
+    /// Adds an item behind those before.
+    fn item(
+        &mut self,
+        alloc: Global,
+        items: &mut Self::Items,
+        value: Self::Out,
+    ) -> Result<(), AllocError>
+        ensures kept { OnOk result (keeps self.old self.new) }
+        ensures stands { (nodes : List Node) (place : ℕ) (at : Self.At) (vs : List Value) (v : Value) → items_stand_for self.old nodes place at items.old vs
+            → stands_for self.old nodes (node_at nodes place) (item_at self.old items.old) value v
+            → OnOk result (items_stand_for self.new nodes place at items.new (vs ++ v ∷ [])) };
+
+    /// Makes an array, of its items.
+    fn array(&mut self, alloc: Global, items: Self::Items) -> Result<Self::Out, AllocError>
+        ensures kept { OnOk result (keeps self.old self.new) }
+        ensures stands { (nodes : List Node) (place : ℕ) (at : Self.At) (vs : List Value) → items_stand_for self.old nodes place at items vs
+            → IfOk result (λ out. stands_for self.new nodes (Node.array place) at out (Value.array (values_from vs))) };
+
+    /// No entries of a map.
+    fn entries(&mut self, alloc: Global, at: Self::At) -> Result<Self::Entries, AllocError>
+        ensures kept { OnOk result (keeps self.old self.new) }
+        ensures stands { (nodes : List Node) (place : ℕ) → IfOk result (λ entries. entries_stand_for self.new nodes place at entries []) };
+
+    /// What the value of the next entry is for.
+    fn entry_at(&self, entries: &Self::Entries) -> Self::At
+        ensures { result ≡ entry_at self.now entries.now };
+
+    /// Adds an entry behind those before.
+    fn entry(
+        &mut self,
+        alloc: Global,
+        entries: &mut Self::Entries,
+        key: &str,
+        value: Self::Out,
+    ) -> Result<(), AllocError>
+        ensures kept { OnOk result (keeps self.old self.new) }
+        ensures stands { (nodes : List Node) (place : ℕ) (at : Self.At) (es : List (List ℕ × Value)) (v : Value) → entries_stand_for self.old nodes place at entries.old es
+            → stands_for self.old nodes (node_at nodes place) (entry_at self.old entries.old) value v
+            → OnOk result (entries_stand_for self.new nodes place at entries.new (es ++ (key.now, v) ∷ [])) };
+
+    /// Makes a map, of its entries.
+    fn map(&mut self, alloc: Global, entries: Self::Entries) -> Result<Self::Out, AllocError>
+        ensures kept { OnOk result (keeps self.old self.new) }
+        ensures stands { (nodes : List Node) (place : ℕ) (at : Self.At) (es : List (List ℕ × Value)) → entries_stand_for self.old nodes place at entries es
+            → IfOk result (λ out. stands_for self.new nodes (Node.map_of place) at out (Value.map_of (entries_from es))) };
+
+    /// No fields of a record.
+    fn fields(&mut self, alloc: Global, at: Self::At) -> Result<Self::Fields, AllocError>
+        ensures kept { OnOk result (keeps self.old self.new) }
+        ensures stands { (nodes : List Node) (fs : List FieldNode) → IfOk result (λ fields. fields_stand_for self.new nodes fs at fields []) };
+
+    /// What the value of the next field is for.
+    fn field_at(&self, fields: &Self::Fields) -> Self::At
+        ensures { result ≡ field_at self.now fields.now };
+
+    /// Adds the value of the next field behind those before.
+    fn field(
+        &mut self,
+        alloc: Global,
+        fields: &mut Self::Fields,
+        value: Self::Out,
+    ) -> Result<(), AllocError>
+        ensures kept { OnOk result (keeps self.old self.new) }
+        ensures stands { (nodes : List Node) (fs : List FieldNode) (place : ℕ) (at : Self.At) (vs : List Value) (v : Value) → fields_stand_for self.old nodes fs at fields.old vs
+            → slice_get (field_places fs) (length vs) ≡ Some place → stands_for self.old nodes (node_at nodes place) (field_at self.old fields.old) value v
+            → OnOk result (fields_stand_for self.new nodes fs at fields.new (vs ++ v ∷ [])) };
+
+    /// Makes a record, of the values of its fields.
+    fn record(&mut self, alloc: Global, fields: Self::Fields) -> Result<Self::Out, AllocError>
+        ensures kept { OnOk result (keeps self.old self.new) }
+        ensures stands { (nodes : List Node) (name : Name) (aliases : List Name) (fs : List FieldNode) (at : Self.At) (vs : List Value) → fields_stand_for self.old nodes fs at fields vs
+            → fields_fit nodes (field_places fs) (values_from vs) ≡ true → IfOk result (λ out. stands_for self.new nodes (Node.record_of name aliases fs) at out (Value.record_of (values_from vs))) };
+
+    /// A maker keeps what it has made.
+    ghost keeps_itself: { (s : Self) → keeps s s };
+
+    /// What is kept is kept on.
+    ghost keeps_on: { (s t u : Self) → keeps s t → keeps t u → keeps s u };
+
+    /// Items stand for the same data at a later maker.
+    ghost items_kept: { (s t : Self) (nodes : List Node) (place : ℕ) (at : Self.At) (items : Self.Items) (vs : List Value) → keeps s t
+        → items_stand_for s nodes place at items vs → items_stand_for t nodes place at items vs };
+
+    /// Entries stand for the same keys and data at a later maker.
+    ghost entries_kept: { (s t : Self) (nodes : List Node) (place : ℕ) (at : Self.At) (entries : Self.Entries) (es : List (List ℕ × Value)) → keeps s t
+        → entries_stand_for s nodes place at entries es → entries_stand_for t nodes place at entries es };
+
+    /// Fields stand for the same data at a later maker.
+    ghost fields_kept: { (s t : Self) (nodes : List Node) (fs : List FieldNode) (at : Self.At) (fields : Self.Fields) (vs : List Value) → keeps s t
+        → fields_stand_for s nodes fs at fields vs → fields_stand_for t nodes fs at fields vs };
+
+    /// The parts are for the same at a later maker.
+    ghost branch_at_kept: { (s t : Self) (at : Self.At) (branch : ℕ) → keeps s t → branch_at s at branch ≡ branch_at t at branch };
+
+    /// The next item is for the same.
+    ghost item_at_kept: { (s t : Self) (items : Self.Items) → keeps s t → item_at s items ≡ item_at t items };
+
+    /// The next entry is for the same.
+    ghost entry_at_kept: { (s t : Self) (entries : Self.Entries) → keeps s t → entry_at s entries ≡ entry_at t entries };
+
+    /// The next field is for the same.
+    ghost field_at_kept: { (s t : Self) (fields : Self.Fields) → keeps s t → field_at s fields ≡ field_at t fields };
+}

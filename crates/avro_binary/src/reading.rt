@@ -1,0 +1,492 @@
+ghost use Rattle.std.specs.Prelude.{◌≡◌, ◌<◌, ◌^◌, ℕ, slice_index, List, [], ◌++◌, Option, true, length, bytes_eq, OnOk, IfOk};
+ghost use Rattle.avro_name.specs.Name.{Name};
+ghost use Rattle.avro_schema.specs.Distinct.{are_distinct};
+ghost use Rattle.avro_schema.specs.Fits.{LimitValues};
+ghost use Rattle.avro_schema.specs.Node.{Node as SeenNode, node_at};
+ghost use Rattle.avro_schema.specs.Seen.{places_of, seen_fields};
+ghost use Rattle.avro_schema.specs.SeenSchema.{schema_nodes};
+ghost use Rattle.avro_schema.specs.Value.{Value};
+ghost use Rattle.avro_binary.specs.CursorReads.{ReadsNode, ReadsRun, ValuesRun, EntriesRun, value_breaks, entry_breaks, outside, left_node};
+ghost use Rattle.avro_binary.specs.KeySet.{key_set};
+ghost use Rattle.avro_binary.specs.Making.{Made};
+
+use crate::cursor::Cursor;
+use crate::error::ReadError;
+use crate::keys::Keys;
+use crate::make::Make;
+use avro_schema::{Field, Node, NodeId, Schema};
+use std::alloc::{AllocError, Global};
+
+/// Reads a datum of the node at a place. A place without a node is that of null.
+#[cycle(reading)]
+#[inline(always)]
+pub fn read_place<M: Make>(
+    alloc: Global,
+    schema: &Schema,
+    place: NodeId,
+    cursor: &mut Cursor<'_>,
+    maker: &mut M,
+    at: M::At,
+) -> Result<M::Out, ReadError>
+    ensures { ReadsNode (Made M.keeps (λ m. M.stands_for m (schema_nodes schema.now) (node_at (schema_nodes schema.now) place.0) at) maker.old maker.new) (schema_nodes schema.now) (node_at (schema_nodes schema.now) place.0) cursor.old cursor.new result }
+{
+    if !schema.has(place) {
+        return read_null(alloc, cursor, maker, at);
+    }
+    match schema.node(place) {
+        Node::Null => read_null(alloc, cursor, maker, at),
+        Node::Boolean => read_boolean(alloc, cursor, maker, at),
+        Node::Int => read_int(alloc, cursor, maker, at),
+        Node::Long => read_long(alloc, cursor, maker, at),
+        Node::Bytes => read_bytes(alloc, cursor, maker, at),
+        Node::Str => read_text(alloc, cursor, maker, at),
+        Node::Array(items) => read_array(alloc, schema, *items, cursor, maker, at),
+        Node::Map(values) => read_map(alloc, schema, *values, cursor, maker, at),
+        Node::Union(branches) => read_union(alloc, schema, branches, cursor, maker, at),
+        Node::Record(record) => read_record(alloc, schema, &record.fields, cursor, maker, at),
+        Node::Enum(enumeration) => read_symbol(alloc, enumeration.symbols.len(), cursor, maker, at),
+        Node::Fixed(fixed) => read_fixed(alloc, fixed.size, cursor, maker, at),
+    }
+}
+
+/// Reads null.
+#[inline(always)]
+fn read_null<M: Make>(
+    alloc: Global,
+    cursor: &mut Cursor<'_>,
+    maker: &mut M,
+    at: M::At,
+) -> Result<M::Out, ReadError>
+    ensures { (nodes : List SeenNode) → ReadsNode (Made M.keeps (λ m. M.stands_for m nodes SeenNode.null at) maker.old maker.new) nodes SeenNode.null cursor.old cursor.new result }
+{
+    cursor.count()?;
+    match maker.null(alloc, at) {
+        Ok(out) => Ok(out),
+        Err(_) => Err(ReadError::OutOfMemory),
+    }
+}
+
+/// Reads a boolean.
+#[inline(always)]
+fn read_boolean<M: Make>(
+    alloc: Global,
+    cursor: &mut Cursor<'_>,
+    maker: &mut M,
+    at: M::At,
+) -> Result<M::Out, ReadError>
+    ensures { (nodes : List SeenNode) → ReadsNode (Made M.keeps (λ m. M.stands_for m nodes SeenNode.boolean at) maker.old maker.new) nodes SeenNode.boolean cursor.old cursor.new result }
+{
+    cursor.count()?;
+    match cursor.boolean() {
+        Ok(value) => {
+            match maker.boolean(alloc, at, value) {
+                Ok(out) => Ok(out),
+                Err(_) => Err(ReadError::OutOfMemory),
+            }
+        }
+        Err(error) => Err(error),
+    }
+}
+
+/// Reads an int.
+#[inline(always)]
+fn read_int<M: Make>(
+    alloc: Global,
+    cursor: &mut Cursor<'_>,
+    maker: &mut M,
+    at: M::At,
+) -> Result<M::Out, ReadError>
+    ensures { (nodes : List SeenNode) → ReadsNode (Made M.keeps (λ m. M.stands_for m nodes SeenNode.int at) maker.old maker.new) nodes SeenNode.int cursor.old cursor.new result }
+{
+    cursor.count()?;
+    match cursor.int() {
+        Ok(value) => {
+            match maker.int(alloc, at, value) {
+                Ok(out) => Ok(out),
+                Err(_) => Err(ReadError::OutOfMemory),
+            }
+        }
+        Err(error) => Err(error),
+    }
+}
+
+/// Reads a long.
+#[inline(always)]
+fn read_long<M: Make>(
+    alloc: Global,
+    cursor: &mut Cursor<'_>,
+    maker: &mut M,
+    at: M::At,
+) -> Result<M::Out, ReadError>
+    ensures { (nodes : List SeenNode) → ReadsNode (Made M.keeps (λ m. M.stands_for m nodes SeenNode.long at) maker.old maker.new) nodes SeenNode.long cursor.old cursor.new result }
+{
+    cursor.count()?;
+    match cursor.long() {
+        Ok(value) => {
+            match maker.long(alloc, at, value) {
+                Ok(out) => Ok(out),
+                Err(_) => Err(ReadError::OutOfMemory),
+            }
+        }
+        Err(error) => Err(error),
+    }
+}
+
+/// Reads bytes.
+#[inline(always)]
+fn read_bytes<M: Make>(
+    alloc: Global,
+    cursor: &mut Cursor<'_>,
+    maker: &mut M,
+    at: M::At,
+) -> Result<M::Out, ReadError>
+    ensures { (nodes : List SeenNode) → ReadsNode (Made M.keeps (λ m. M.stands_for m nodes SeenNode.bytes at) maker.old maker.new) nodes SeenNode.bytes cursor.old cursor.new result }
+{
+    cursor.count()?;
+    match cursor.bytes() {
+        Ok(content) => {
+            drop_content(content);
+            match maker.bytes(alloc, at, content) {
+                Ok(out) => Ok(out),
+                Err(_) => Err(ReadError::OutOfMemory),
+            }
+        }
+        Err(error) => Err(error),
+    }
+}
+
+/// Reads a text.
+#[inline(always)]
+fn read_text<M: Make>(
+    alloc: Global,
+    cursor: &mut Cursor<'_>,
+    maker: &mut M,
+    at: M::At,
+) -> Result<M::Out, ReadError>
+    ensures { (nodes : List SeenNode) → ReadsNode (Made M.keeps (λ m. M.stands_for m nodes SeenNode.string at) maker.old maker.new) nodes SeenNode.string cursor.old cursor.new result }
+{
+    cursor.count()?;
+    match cursor.string() {
+        Ok(text) => {
+            match maker.string(alloc, at, text) {
+                Ok(out) => Ok(out),
+                Err(_) => Err(ReadError::OutOfMemory),
+            }
+        }
+        Err(error) => Err(error),
+    }
+}
+
+/// Reads the place of a symbol, of so many.
+#[inline(always)]
+fn read_symbol<M: Make>(
+    alloc: Global,
+    symbols: usize,
+    cursor: &mut Cursor<'_>,
+    maker: &mut M,
+    at: M::At,
+) -> Result<M::Out, ReadError>
+    ensures { (nodes : List SeenNode) (name : Name) (aliases : List Name) (texts : List (List ℕ)) (default : Option ℕ) → symbols ≡ length texts
+        → ReadsNode (Made M.keeps (λ m. M.stands_for m nodes (SeenNode.enum name aliases texts default) at) maker.old maker.new) nodes (SeenNode.enum name aliases texts default) cursor.old cursor.new result }
+{
+    cursor.count()?;
+    match cursor.index(symbols) {
+        Ok(symbol) => {
+            match maker.symbol(alloc, at, symbol as u32) {
+                Ok(out) => Ok(out),
+                Err(_) => Err(ReadError::OutOfMemory),
+            }
+        }
+        Err(error) => Err(error),
+    }
+}
+
+/// Reads a fixed of so many bytes.
+#[inline(always)]
+fn read_fixed<M: Make>(
+    alloc: Global,
+    size: u32,
+    cursor: &mut Cursor<'_>,
+    maker: &mut M,
+    at: M::At,
+) -> Result<M::Out, ReadError>
+    ensures { (nodes : List SeenNode) (name : Name) (aliases : List Name) → ReadsNode (Made M.keeps (λ m. M.stands_for m nodes (SeenNode.fixed name aliases size) at) maker.old maker.new) nodes (SeenNode.fixed name aliases size) cursor.old cursor.new result }
+{
+    cursor.count()?;
+    match cursor.fixed(size) {
+        Ok(content) => {
+            drop_content(content);
+            match maker.fixed(alloc, at, content) {
+                Ok(out) => Ok(out),
+                Err(_) => Err(ReadError::OutOfMemory),
+            }
+        }
+        Err(error) => Err(error),
+    }
+}
+
+/// Keeps nothing of a content, of which its type says that it is bytes.
+#[inline(always)]
+fn drop_content(_content: &[u8])
+    ensures { (i : ℕ) → slice_index _content.now i < 2 ^ 8 }
+{}
+
+/// Reads an array.
+#[cycle(reading)]
+#[inline(never)]
+fn read_array<M: Make>(
+    alloc: Global,
+    schema: &Schema,
+    place: NodeId,
+    cursor: &mut Cursor<'_>,
+    maker: &mut M,
+    at: M::At,
+) -> Result<M::Out, ReadError>
+    ensures { ReadsNode (Made M.keeps (λ m. M.stands_for m (schema_nodes schema.now) (SeenNode.array place.0) at) maker.old maker.new) (schema_nodes schema.now) (SeenNode.array place.0) cursor.old cursor.new result }
+{
+    cursor.enter()?;
+    let out = read_item_blocks(alloc, schema, place, cursor, maker, at)?;
+    cursor.leave();
+    Ok(out)
+}
+
+/// Reads the blocks of an array. A count makes no room: items are kept one by one.
+#[cycle(reading)]
+#[inline(always)]
+fn read_item_blocks<M: Make>(
+    alloc: Global,
+    schema: &Schema,
+    place: NodeId,
+    cursor: &mut Cursor<'_>,
+    maker: &mut M,
+    at: M::At,
+) -> Result<M::Out, ReadError>
+    ensures { ReadsNode (Made M.keeps (λ m. M.stands_for m (schema_nodes schema.now) (SeenNode.array place.0) at) maker.old maker.new) (schema_nodes schema.now) (SeenNode.array place.0) (outside cursor.old) (left_node cursor.new) result }
+{
+    let _nodes = cursor.nodes();
+    let mut items = match maker.items(alloc, at) {
+        Ok(items) => items,
+        Err(_) => return Err(ReadError::OutOfMemory),
+    };
+    while let Some(block) = cursor.block()? {
+        read_items(
+            alloc,
+            schema,
+            place,
+            block.count(),
+            cursor,
+            maker,
+            &mut items,
+        )?;
+        cursor.end_block(&block)?;
+    }
+    match maker.array(alloc, items) {
+        Ok(out) => Ok(out),
+        Err(_) => Err(ReadError::OutOfMemory),
+    }
+}
+
+/// Reads so many items, and adds them to those before.
+#[cycle(reading)]
+fn read_items<M: Make>(
+    alloc: Global,
+    schema: &Schema,
+    place: NodeId,
+    count: u32,
+    cursor: &mut Cursor<'_>,
+    maker: &mut M,
+    items: &mut M::Items,
+) -> Result<(), ReadError>
+    ensures { (limits : LimitValues) → limits.depth ≡ cursor.old.depth → limits.blob ≡ cursor.old.blob → (let nodes = schema_nodes schema.now in let n = node_at nodes place.0 in
+        ReadsRun (ValuesRun nodes limits n) (value_breaks nodes limits n)
+        (λ vs after. M.keeps maker.old maker.new × ((at : M.At) (us : List Value) → M.items_stand_for maker.old nodes place.0 at items.old us → M.items_stand_for maker.new nodes place.0 at items.new (us ++ vs))) count [] cursor.old cursor.new result) }
+{
+    for _done in 0..count {
+        let at = maker.item_at(items);
+        let value = read_place(alloc, schema, place, cursor, maker, at)?;
+        match maker.item(alloc, items, value) {
+            Ok(()) => {}
+            Err(_) => return Err(ReadError::OutOfMemory),
+        }
+    }
+    Ok(())
+}
+
+/// Reads a map.
+#[cycle(reading)]
+#[inline(never)]
+fn read_map<M: Make>(
+    alloc: Global,
+    schema: &Schema,
+    place: NodeId,
+    cursor: &mut Cursor<'_>,
+    maker: &mut M,
+    at: M::At,
+) -> Result<M::Out, ReadError>
+    ensures { ReadsNode (Made M.keeps (λ m. M.stands_for m (schema_nodes schema.now) (SeenNode.map_of place.0) at) maker.old maker.new) (schema_nodes schema.now) (SeenNode.map_of place.0) cursor.old cursor.new result }
+{
+    cursor.enter()?;
+    let out = read_entry_blocks(alloc, schema, place, cursor, maker, at)?;
+    cursor.leave();
+    Ok(out)
+}
+
+/// Reads the blocks of a map. A count makes no room: entries are kept one by one.
+#[cycle(reading)]
+#[inline(always)]
+fn read_entry_blocks<M: Make>(
+    alloc: Global,
+    schema: &Schema,
+    place: NodeId,
+    cursor: &mut Cursor<'_>,
+    maker: &mut M,
+    at: M::At,
+) -> Result<M::Out, ReadError>
+    ensures { ReadsNode (Made M.keeps (λ m. M.stands_for m (schema_nodes schema.now) (SeenNode.map_of place.0) at) maker.old maker.new) (schema_nodes schema.now) (SeenNode.map_of place.0) (outside cursor.old) (left_node cursor.new) result }
+{
+    let _nodes = cursor.nodes();
+    let mut keys = Keys::new(alloc);
+    let mut entries = match maker.entries(alloc, at) {
+        Ok(entries) => entries,
+        Err(_) => return Err(ReadError::OutOfMemory),
+    };
+    while let Some(head) = cursor.block()? {
+        let count = head.count();
+        read_entries(
+            alloc,
+            schema,
+            place,
+            count,
+            cursor,
+            &mut keys,
+            maker,
+            &mut entries,
+        )?;
+        cursor.end_block(&head)?;
+    }
+    match maker.map(alloc, entries) {
+        Ok(out) => Ok(out),
+        Err(_) => Err(ReadError::OutOfMemory),
+    }
+}
+
+/// Reads so many entries, none of whose keys is among those before it, and adds them to those before.
+#[cycle(reading)]
+fn read_entries<'a, M: Make>(
+    alloc: Global,
+    schema: &Schema,
+    place: NodeId,
+    count: u32,
+    cursor: &mut Cursor<'a>,
+    keys: &mut Keys<'a>,
+    maker: &mut M,
+    entries: &mut M::Entries,
+) -> Result<(), ReadError>
+    ensures { (limits : LimitValues) (before : List (List ℕ)) → limits.depth ≡ cursor.old.depth → limits.blob ≡ cursor.old.blob → keys.old ≡ key_set before
+        → are_distinct bytes_eq before ≡ true → (let nodes = schema_nodes schema.now in let n = node_at nodes place.0 in
+        ReadsRun (EntriesRun nodes limits n) (entry_breaks nodes limits n)
+        (λ es after. (keys.new ≡ key_set after) × M.keeps maker.old maker.new × ((at : M.At) (fs : List (List ℕ × Value)) → M.entries_stand_for maker.old nodes place.0 at entries.old fs → M.entries_stand_for maker.new nodes place.0 at entries.new (fs ++ es)))
+        count before cursor.old cursor.new result) }
+{
+    for _done in 0..count {
+        let key = cursor.key(keys)?;
+        let at = maker.entry_at(entries);
+        let value = read_place(alloc, schema, place, cursor, maker, at)?;
+        match maker.entry(alloc, entries, key, value) {
+            Ok(()) => {}
+            Err(_) => return Err(ReadError::OutOfMemory),
+        }
+    }
+    Ok(())
+}
+
+/// Reads a union.
+#[cycle(reading)]
+#[inline(never)]
+fn read_union<M: Make>(
+    alloc: Global,
+    schema: &Schema,
+    branches: &[NodeId],
+    cursor: &mut Cursor<'_>,
+    maker: &mut M,
+    at: M::At,
+) -> Result<M::Out, ReadError>
+    ensures { ReadsNode (Made M.keeps (λ m. M.stands_for m (schema_nodes schema.now) (SeenNode.union (places_of branches.now)) at) maker.old maker.new) (schema_nodes schema.now) (SeenNode.union (places_of branches.now)) cursor.old cursor.new result }
+{
+    cursor.enter()?;
+    let out = read_branch(alloc, schema, branches, cursor, maker, at)?;
+    cursor.leave();
+    Ok(out)
+}
+
+/// Reads the place of a branch and a datum of the branch.
+#[cycle(reading)]
+#[inline(always)]
+fn read_branch<M: Make>(
+    alloc: Global,
+    schema: &Schema,
+    branches: &[NodeId],
+    cursor: &mut Cursor<'_>,
+    maker: &mut M,
+    at: M::At,
+) -> Result<M::Out, ReadError>
+    ensures { ReadsNode (Made M.keeps (λ m. M.stands_for m (schema_nodes schema.now) (SeenNode.union (places_of branches.now)) at) maker.old maker.new) (schema_nodes schema.now) (SeenNode.union (places_of branches.now)) (outside cursor.old) (left_node cursor.new) result }
+{
+    let branch = cursor.index(branches.len())?;
+    let part = maker.branch_at(at, branch as u32);
+    let value = read_place(alloc, schema, branches[branch], cursor, maker, part)?;
+    match maker.branch(alloc, at, branch as u32, value) {
+        Ok(out) => Ok(out),
+        Err(_) => Err(ReadError::OutOfMemory),
+    }
+}
+
+/// Reads a record.
+#[cycle(reading)]
+#[inline(never)]
+fn read_record<M: Make>(
+    alloc: Global,
+    schema: &Schema,
+    fields: &[Field],
+    cursor: &mut Cursor<'_>,
+    maker: &mut M,
+    at: M::At,
+) -> Result<M::Out, ReadError>
+    ensures { (name : Name) (aliases : List Name) → ReadsNode (Made M.keeps (λ m. M.stands_for m (schema_nodes schema.now) (SeenNode.record_of name aliases (seen_fields fields.now)) at) maker.old maker.new) (schema_nodes schema.now) (SeenNode.record_of name aliases (seen_fields fields.now)) cursor.old cursor.new result }
+{
+    cursor.enter()?;
+    let out = read_fields(alloc, schema, fields, cursor, maker, at)?;
+    cursor.leave();
+    Ok(out)
+}
+
+/// Reads a datum for each field.
+#[cycle(reading)]
+#[inline(always)]
+fn read_fields<M: Make>(
+    alloc: Global,
+    schema: &Schema,
+    fields: &[Field],
+    cursor: &mut Cursor<'_>,
+    maker: &mut M,
+    at: M::At,
+) -> Result<M::Out, ReadError>
+    ensures { (name : Name) (aliases : List Name) → ReadsNode (Made M.keeps (λ m. M.stands_for m (schema_nodes schema.now) (SeenNode.record_of name aliases (seen_fields fields.now)) at) maker.old maker.new) (schema_nodes schema.now) (SeenNode.record_of name aliases (seen_fields fields.now)) (outside cursor.old) (left_node cursor.new) result }
+{
+    let mut values = match maker.fields(alloc, at) {
+        Ok(values) => values,
+        Err(_) => return Err(ReadError::OutOfMemory),
+    };
+    for field in fields {
+        let part = maker.field_at(&values);
+        let value = read_place(alloc, schema, field.node, cursor, maker, part)?;
+        match maker.field(alloc, &mut values, value) {
+            Ok(()) => {}
+            Err(_) => return Err(ReadError::OutOfMemory),
+        }
+    }
+    match maker.record(alloc, values) {
+        Ok(out) => Ok(out),
+        Err(_) => Err(ReadError::OutOfMemory),
+    }
+}

@@ -1,0 +1,5 @@
+mod Steps
+mod NamesWritten
+mod StepsTaken
+mod OneText
+mod Rows

@@ -1,0 +1,136 @@
+-- Each step of writing: what is left then, behind the text then, is what was left, behind the text that was.
+use Rattle.std.proofs.Common.{subst, arith, zero, suc, ◌≡◌, ◌≤◌, ℕ, List, [], ◌∷◌, ◌++◌, refl, ap, ◌∙◌, sym, true, false, Bool, ◌&&◌, Some, None, Option, map, filter_map, codes, slice_set, slice_get, option_map, unwrap_or, length, nat_lt, nat_le}
+use Rattle.std.specs.Prelude.{Result, Ok, Err, OnOk, IsTrue, ◌↔◌, ◌<◌}
+use Rattle.std.proofs.lemmas.Bool.{and_parts, false≢true}
+use Rattle.std.proofs.lemmas.Option.{slice_get-map, slice_get_past, none-some}
+use Rattle.std.proofs.lemmas.List.{append_assoc, append-nil}
+use Rattle.avro_name.specs.Name.{Name, same_name}
+use Rattle.avro_schema.specs.Node.{Node, FieldNode, node_at, node_name, root_of}
+use Rattle.avro_schema.specs.Distinct.{are_distinct}
+use Rattle.avro_schema.specs.WellFormed.{is_schema, are_good_nodes, max_nodes}
+use Rattle.avro_canonical.specs.Form.{Form, full_text, form_text}
+use Rattle.avro_canonical.specs.Canonical.{IsForm, IsCanonical, is_among}
+use Rattle.avro_canonical.specs.Pending.{Pending, place, branches, fields, end, IsLeft, IsStep, is_written, is_name_written, marks_of, opening_of, opening_of_first, parts_of, before_branch, next_branch, before_field, following_fields}
+use Rattle.avro_canonical.proofs.NamesWritten.{marked, marks-seen}
+use Rattle.avro_canonical.proofs.Steps.{begun, begun_name, opened, passed_end, passed_branches, passed_branch, passed_fields, passed_field}
+
+found-name : (name : Name) (o : Option Node) → node_name (unwrap_or o Node.null) ≡ Some name → option_map node_name o ≡ Some (Some name)
+found-name name None h = absurd (none-some name h)
+found-name name (Some n) h = ap (λ it. Some it) h
+
+-- a type stands in the list
+named-at : (nodes : List Node) (p : ℕ) (name : Name) → node_name (node_at nodes p) ≡ Some name → slice_get (map node_name nodes) p ≡ Some (Some name)
+named-at nodes p name h = slice_get-map node_name nodes p ∙ found-name name (slice_get nodes p) h
+
+-- its mark says whether its name is written
+mark-at : (written : List Name) (nodes : List Node) (p : ℕ) (name : Name) → slice_get (map node_name nodes) p ≡ Some (Some name)
+    → unwrap_or (slice_get (marks_of written nodes) p) false ≡ is_among name written
+mark-at written nodes p name at =
+    rw (marks-seen written nodes, slice_get-map (is_name_written written) (map node_name nodes) p, at) refl
+
+pub step-out : (nodes : List Node) (marks : List Bool) (p : ℕ) (ps : List Pending) (old : List ℕ) → slice_get nodes p ≡ None
+    → IsStep nodes marks (place p ∷ ps) old marks ps (old ++ codes "\"null\"")
+step-out nodes marks p ps old past written seen = (
+  written,
+  seen,
+  λ rest left. (
+    codes "\"null\"" ++ rest,
+    (Form.primitive (codes "null"), rest, IsForm.primitive (rw past refl), left, refl),
+    sym (append_assoc old (codes "\"null\"") rest),
+  ),
+)
+
+pub step-unnamed : (nodes : List Node) (marks : List Bool) (p : ℕ) (n : Node) (ps : List Pending) (old : List ℕ) → n ≡ node_at nodes p → node_name n ≡ None
+    → IsStep nodes marks (place p ∷ ps) old marks (parts_of n ++ ps) (old ++ opening_of n)
+step-unnamed nodes marks p n ps old here none written seen = (
+  written,
+  seen,
+  λ rest left.
+      let o = opened nodes written n ps rest (rw none refl) (subst (λ name. IsLeft nodes (begun_name written name) (parts_of n ++ ps) rest) (sym none) left) in
+      (opening_of n ++ rest, (o.0, o.1, subst (λ m. IsForm nodes written m o.0) here o.2, o.3, o.4), sym (append_assoc old (opening_of n) rest)),
+)
+
+pub step-again : (nodes : List Node) (marks : List Bool) (p : ℕ) (n : Node) (name : Name) (ps : List Pending) (old : List ℕ) → n ≡ node_at nodes p → node_name n ≡ Some name
+    → unwrap_or (slice_get marks p) false ≡ true → IsStep nodes marks (place p ∷ ps) old marks ps (old ++ full_text name)
+step-again nodes marks p n name ps old here named set written seen =
+    let there : node_name (node_at nodes p) ≡ Some name = subst (λ m. node_name m ≡ Some name) here named in
+    let among : is_among name written ≡ true = sym (mark-at written nodes p name (named-at nodes p name there)) ∙ subst (λ ms. unwrap_or (slice_get ms p) false ≡ true) seen set in
+    (written, seen, λ rest left. (full_text name ++ rest, (Form.reference name, rest, IsForm.again there among, left, refl), sym (append_assoc old (full_text name) rest)))
+
+distinct-names : (nodes : List Node) → is_schema nodes ≡ true → are_distinct same_name (filter_map node_name nodes) ≡ true
+distinct-names nodes h =
+    (and_parts (nat_lt 0 (length nodes) && nat_le (length nodes) max_nodes && are_good_nodes nodes 0 nodes) (are_distinct same_name (filter_map node_name nodes)) h).1
+
+pub step-new : (nodes : List Node) (marks : List Bool) (p : ℕ) (n : Node) (name : Name) (ps : List Pending) (old : List ℕ) → is_schema nodes ≡ true → n ≡ node_at nodes p
+    → node_name n ≡ Some name → unwrap_or (slice_get marks p) false ≡ false → IsStep nodes marks (place p ∷ ps) old (slice_set marks p true) (parts_of n ++ ps) (old ++ opening_of n)
+step-new nodes marks p n name ps old formed here named clear written seen =
+    let there : node_name (node_at nodes p) ≡ Some name = subst (λ m. node_name m ≡ Some name) here named in
+    let at : slice_get (map node_name nodes) p ≡ Some (Some name) = named-at nodes p name there in
+    let new : is_among name written ≡ false = sym (mark-at written nodes p name at) ∙ subst (λ ms. unwrap_or (slice_get ms p) false ≡ false) seen clear in (
+      name ∷ written,
+      subst (λ ms. slice_set ms p true ≡ marks_of (name ∷ written) nodes) (sym seen) (marked written name nodes p (distinct-names nodes formed) at),
+      λ rest left.
+          let o = opened nodes written n ps rest (rw named new) (subst (λ it. IsLeft nodes (begun_name written it) (parts_of n ++ ps) rest) (sym named) left) in
+          (opening_of n ++ rest, (o.0, o.1, subst (λ m. IsForm nodes written m o.0) here o.2, o.3, o.4), sym (append_assoc old (opening_of n) rest)),
+    )
+
+pub step-branches : (nodes : List Node) (marks : List Bool) (qs : List ℕ) (ps : List Pending) (old : List ℕ)
+    → IsStep nodes marks (branches qs ∷ ps) old marks (next_branch qs ++ ps) (old ++ before_branch qs)
+step-branches nodes marks [] ps old written seen =
+    (written, seen, λ rest left. (codes "]" ++ rest, passed_branches nodes written ps rest left, sym (append_assoc old (codes "]") rest)))
+step-branches nodes marks (q ∷ qs) ps old written seen =
+    (written, seen, λ rest left. (codes "," ++ rest, passed_branch nodes written q qs ps rest left, sym (append_assoc old (codes ",") rest)))
+
+pub step-fields : (nodes : List Node) (marks : List Bool) (xs : List FieldNode) (ps : List Pending) (old : List ℕ)
+    → IsStep nodes marks (fields xs ∷ ps) old marks (following_fields xs ++ ps) (old ++ before_field xs)
+step-fields nodes marks [] ps old written seen =
+    (written, seen, λ rest left. (codes "]}" ++ rest, passed_fields nodes written ps rest left, sym (append_assoc old (codes "]}") rest)))
+step-fields nodes marks (x ∷ xs) ps old written seen =
+    (written, seen, λ rest left. (before_field (x ∷ xs) ++ rest, passed_field nodes written x xs ps rest left, sym (append_assoc old (before_field (x ∷ xs)) rest)))
+
+pub step-end : (nodes : List Node) (marks : List Bool) (ps : List Pending) (old : List ℕ) → IsStep nodes marks (end ∷ ps) old marks ps (old ++ codes "}")
+step-end nodes marks ps old written seen =
+    (written, seen, λ rest left. (codes "}" ++ rest, passed_end nodes written ps rest left, sym (append_assoc old (codes "}") rest)))
+
+-- what is written so far stands before the rest of a canonical text
+abbrev pub Begins : List Node → List Bool → List Pending → List ℕ → Type 0
+Begins nodes marks ps text =
+    (written : List Name) × (marks ≡ marks_of written nodes) × ((rest : List ℕ) → IsLeft nodes written ps rest → IsCanonical nodes (text ++ rest))
+
+pub begins_first : (nodes : List Node) (marks : List Bool) → marks ≡ marks_of [] nodes → Begins nodes marks (place 0 ∷ []) []
+begins_first nodes marks seen = (
+  [],
+  seen,
+  λ rest left.
+      record { form = left.0; formed = left.2; spelled = left.4 ∙ ap (λ t. form_text left.0 ++ t) left.3 ∙ append-nil (form_text left.0) },
+)
+
+pub begins_then : (nodes : List Node) (marks : List Bool) (ps : List Pending) (text : List ℕ) (marks-then : List Bool) (then : List Pending) (text-then : List ℕ)
+    → Begins nodes marks ps text → IsStep nodes marks ps text marks-then then text-then → Begins nodes marks-then then text-then
+begins_then nodes marks ps text marks-then then text-then (written, seen, begins) step =
+    let s = step written seen in
+    (s.0, s.1, λ rest left. let m = s.2 rest left in subst (λ t. IsCanonical nodes t) m.2 (begins m.0 m.1))
+
+pub begins_last : (nodes : List Node) (marks : List Bool) (ps : List Pending) (text : List ℕ) → ps ≡ [] → Begins nodes marks ps text → IsCanonical nodes text
+begins_last nodes marks ps text none (written, seen, begins) =
+    subst (λ t. IsCanonical nodes t) (append-nil text) (begins [] (subst (λ qs. IsLeft nodes written qs []) (sym none) refl))
+
+-- a step where the call that it ends with went well
+pub ok-step : {E : Type 0} (r : Result (Unit {0}) E) (nodes : List Node) (marks marks-then : List Bool) (before then then-is : List Pending) (old new new-is : List ℕ)
+    → OnOk r (new ≡ new-is) → OnOk r (then ≡ then-is) → IsStep nodes marks before old marks-then then-is new-is → OnOk r (IsStep nodes marks before old marks-then then new)
+ok-step (Ok x) nodes marks marks-then before then then-is old new new-is text left step =
+    subst (λ ps. IsStep nodes marks before old marks-then ps new) (sym left) (subst (λ t. IsStep nodes marks before old marks-then then-is t) (sym text) step)
+ok-step (Err e) nodes marks marks-then before then then-is old new new-is text left step = tt
+
+pub ok-text : {E : Type 0} (r : Result (Unit {0}) E) (nodes : List Node) (marks marks-then : List Bool) (before then : List Pending) (old new new-is : List ℕ)
+    → OnOk r (new ≡ new-is) → IsStep nodes marks before old marks-then then new-is → OnOk r (IsStep nodes marks before old marks-then then new)
+ok-text (Ok x) nodes marks marks-then before then old new new-is text step = subst (λ t. IsStep nodes marks before old marks-then then t) (sym text) step
+ok-text (Err e) nodes marks marks-then before then old new new-is text step = tt
+
+not-below : (p n : ℕ) → (p < n → ⊥) → n ≤ p
+not-below p zero h = omega arith
+not-below zero (suc n) h = absurd (h (omega arith))
+not-below (suc p) (suc n) h = let r : n ≤ p = not-below p n (λ below. h (omega arith)) in omega arith
+
+pub past-end : {X : Type 0} (xs : List X) (p : ℕ) (b : Bool) → IsTrue b ↔ (p < length xs) → b ≡ false → slice_get xs p ≡ None
+past-end xs p b tested failed = slice_get_past xs p (not-below p (length xs) (λ below. false≢true (sym failed ∙ tested.1 below)))

@@ -1,0 +1,4 @@
+pub mod Form
+pub mod Canonical
+pub mod Fingerprint
+pub mod Pending

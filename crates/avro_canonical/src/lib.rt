@@ -1,0 +1,16 @@
+//! The canonical form of a schema and its fingerprint (Avro 1.11, "Parsing Canonical Form for
+//! Schemas", "Schema Fingerprints").
+#![tactic(auto)]
+
+mod digest;
+pub mod laws;
+mod marks;
+mod opening;
+mod part;
+mod parts;
+mod spelling;
+mod text;
+mod writing;
+
+pub use digest::{fingerprint, fingerprint_text};
+pub use text::canonical;

@@ -1,0 +1,51 @@
+ghost use Rattle.std.specs.Prelude.{◌≡◌, true, false, slice_get, slice_set, unwrap_or, IfOk, MatchOption, None, Some, []};
+ghost use Rattle.avro_schema.specs.Node.{node_name};
+ghost use Rattle.avro_schema.specs.Seen.{node_of};
+ghost use Rattle.avro_schema.specs.SeenSchema.{schema_nodes};
+ghost use Rattle.avro_canonical.specs.Pending.{marks_of};
+
+use avro_name::FullName;
+use avro_schema::{Memory, Node, NodeId, Schema};
+use std::alloc::Global;
+
+/// The name of a record, an enum or a fixed.
+pub(crate) fn name_of(node: &Node) -> Option<&FullName>
+    ensures { MatchOption result (node_name (node_of node.now) ≡ None) (λ name. node_name (node_of node.now) ≡ Some name.now) }
+{
+    match node {
+        Node::Record(record) => Some(&record.name),
+        Node::Enum(enumeration) => Some(&enumeration.name),
+        Node::Fixed(fixed) => Some(&fixed.name),
+        _ => None,
+    }
+}
+
+/// A mark for each node of a schema, none of which is set.
+pub(crate) fn no_marks(alloc: Global, schema: &Schema) -> Result<Vec<bool>, Memory>
+    ensures { IfOk result (λ marks. marks.items ≡ marks_of [] (schema_nodes schema.now)) }
+{
+    let mut marks: Vec<bool> = Vec::new(alloc);
+    for place in 0..schema.len() {
+        match marks.push(false) {
+            Ok(()) => {}
+            Err(_) => return Err(Memory),
+        }
+    }
+    Ok(marks)
+}
+
+/// Whether the mark of a node is set.
+pub(crate) fn is_marked(marks: &[bool], id: NodeId) -> bool
+    ensures { result ≡ unwrap_or (slice_get marks.now id.0) false }
+{
+    marks.get(id.0 as usize).copied().unwrap_or(false)
+}
+
+/// Sets the mark of a node.
+pub(crate) fn mark(marks: &mut [bool], id: NodeId)
+    ensures { marks.new ≡ slice_set marks.old id.0 true }
+{
+    if (id.0 as usize) < marks.len() {
+        marks[id.0 as usize] = true;
+    }
+}

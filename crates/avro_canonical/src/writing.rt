@@ -1,0 +1,94 @@
+ghost use Rattle.std.specs.Prelude.{◌≡◌, ◌++◌, ◌∷◌, true, OnOk, string_bytes};
+ghost use Rattle.avro_schema.specs.Seen.{seen_fields, places_of};
+ghost use Rattle.avro_schema.specs.SeenSchema.{schema_nodes};
+ghost use Rattle.avro_schema.specs.WellFormed.{is_schema};
+ghost use Rattle.avro_canonical.specs.Pending.{pending_of, pendings_of, place, before_branch, next_branch as branches_next, before_field, following_fields, IsStep};
+
+use crate::marks::{is_marked, mark, name_of};
+use crate::opening::{open_branches, open_fields, open_node};
+use crate::part::Part;
+use crate::spelling::{put, put_name};
+use avro_schema::{Field, Memory, NodeId, Schema};
+use std::alloc::Global;
+
+/// Writes a node's form: its name alone where that is written, else what it begins with.
+fn write_place<'a>(
+    alloc: Global,
+    schema: &'a Schema,
+    id: NodeId,
+    out: &mut String,
+    parts: &mut Vec<Part<'a>>,
+    marks: &mut [bool],
+) -> Result<(), Memory>
+    requires { is_schema (schema_nodes schema.now) ≡ true }
+    ensures { OnOk result (IsStep (schema_nodes schema.now) marks.old (place id.0 ∷ pendings_of parts.old.items) (string_bytes out.old)
+        marks.new (pendings_of parts.new.items) (string_bytes out.new)) }
+{
+    if !schema.has(id) {
+        return put(out, "\"null\"");
+    }
+    let node = schema.node(id);
+    match name_of(node) {
+        None => open_node(alloc, out, parts, node),
+        Some(name) => {
+            if is_marked(marks, id) {
+                return put_name(out, name);
+            }
+            mark(marks, id);
+            open_node(alloc, out, parts, node)
+        }
+    }
+}
+
+/// Writes a comma and leaves the next branch, or writes the end of the union.
+fn next_branch<'a>(
+    out: &mut String,
+    parts: &mut Vec<Part<'a>>,
+    branches: &'a [NodeId],
+) -> Result<(), Memory>
+    ensures text { OnOk result (string_bytes out.new ≡ string_bytes out.old ++ before_branch (places_of branches.now)) }
+    ensures left { OnOk result (pendings_of parts.new.items ≡ branches_next (places_of branches.now) ++ pendings_of parts.old.items) }
+{
+    if branches.is_empty() {
+        return put(out, "]");
+    }
+    put(out, ",")?;
+    open_branches(parts, branches)
+}
+
+/// Writes a comma and what the next field begins with, or the end of the record.
+fn next_field<'a>(
+    out: &mut String,
+    parts: &mut Vec<Part<'a>>,
+    fields: &'a [Field],
+) -> Result<(), Memory>
+    ensures text { OnOk result (string_bytes out.new ≡ string_bytes out.old ++ before_field (seen_fields fields.now)) }
+    ensures left { OnOk result (pendings_of parts.new.items ≡ following_fields (seen_fields fields.now) ++ pendings_of parts.old.items) }
+{
+    if fields.is_empty() {
+        return put(out, "]}");
+    }
+    put(out, ",")?;
+    open_fields(out, parts, fields)
+}
+
+/// Writes the beginning of a part, and leaves the rest of it.
+pub(crate) fn write_part<'a>(
+    alloc: Global,
+    schema: &'a Schema,
+    part: Part<'a>,
+    out: &mut String,
+    parts: &mut Vec<Part<'a>>,
+    marks: &mut [bool],
+) -> Result<(), Memory>
+    requires { is_schema (schema_nodes schema.now) ≡ true }
+    ensures { OnOk result (IsStep (schema_nodes schema.now) marks.old (pending_of part.entry ∷ pendings_of parts.old.items) (string_bytes out.old)
+        marks.new (pendings_of parts.new.items) (string_bytes out.new)) }
+{
+    match part {
+        Part::Place(id) => write_place(alloc, schema, id, out, parts, marks),
+        Part::Branches(branches) => next_branch(out, parts, branches),
+        Part::Fields(fields) => next_field(out, parts, fields),
+        Part::End => put(out, "}"),
+    }
+}

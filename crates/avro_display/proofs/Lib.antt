@@ -1,0 +1,3 @@
+mod RowsDisplays
+pub mod NoFloats
+pub mod DisplaySeen

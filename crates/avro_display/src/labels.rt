@@ -1,0 +1,125 @@
+ghost use Rattle.std.specs.Prelude.{◌≡◌, IfOk, OnOk, string_bytes, encode_utf8_all};
+ghost use Rattle.avro_schema.specs.Fits.{is_null_node};
+ghost use Rattle.avro_schema.specs.Seen.{node_of};
+ghost use Rattle.avro_display.specs.DisplayTree.{name_text, branch_key as key_of_branch, branch_tree, symbol_at};
+ghost use Rattle.serde_json.specs.Data.{put};
+ghost use Rattle.serde_json.specs.View.{view, members_view};
+
+use avro_name::FullName;
+use avro_schema::{Memory, Node};
+use serde_json::{Map, Value};
+use std::alloc::Global;
+
+/// A copy of a text.
+pub(crate) fn copy_of_text(alloc: Global, text: &str) -> Result<String, Memory>
+    ensures { IfOk result (λ copy. string_bytes copy ≡ text.now) }
+{
+    match String::from_str(alloc, text) {
+        Ok(copy) => Ok(copy),
+        Err(_) => Err(Memory),
+    }
+}
+
+/// A text of one character for each byte, whose code is the byte's value.
+pub(crate) fn bytes_text(alloc: Global, bytes: &[u8]) -> Result<String, Memory>
+    ensures { IfOk result (λ text. string_bytes text ≡ encode_utf8_all bytes.now) }
+{
+    let mut text = String::new(alloc);
+    for byte in bytes {
+        match text.push(char::from(*byte)) {
+            Ok(()) => {}
+            Err(_) => return Err(Memory),
+        }
+    }
+    Ok(text)
+}
+
+/// The symbol of an enum at a place, or the empty text where there is none.
+pub(crate) fn symbol_text(alloc: Global, node: &Node, place: u32) -> Result<String, Memory>
+    ensures { IfOk result (λ text. string_bytes text ≡ symbol_at (node_of node.now) place) }
+{
+    match node {
+        Node::Enum(enumeration) => match enumeration.symbols.get(place as usize) {
+            Some(symbol) => copy_of_text(alloc, symbol.as_str()),
+            None => Ok(String::new(alloc)),
+        },
+        _ => Ok(String::new(alloc)),
+    }
+}
+
+/// A fullname as a text.
+fn full_text(alloc: Global, name: &FullName) -> Result<String, Memory>
+    ensures { IfOk result (λ text. string_bytes text ≡ name_text name.now) }
+{
+    let namespace = name.namespace();
+    if namespace.is_empty() {
+        return copy_of_text(alloc, name.simple());
+    }
+    let mut text = copy_of_text(alloc, namespace)?;
+    match text.push('.') {
+        Ok(()) => {}
+        Err(_) => return Err(Memory),
+    }
+    match text.push_str(name.simple()) {
+        Ok(()) => Ok(text),
+        Err(_) => Err(Memory),
+    }
+}
+
+/// The key of a union's branch.
+fn branch_key(alloc: Global, node: &Node) -> Result<String, Memory>
+    ensures { IfOk result (λ text. string_bytes text ≡ key_of_branch (node_of node.now)) }
+{
+    match node {
+        Node::Null => copy_of_text(alloc, "null"),
+        Node::Boolean => copy_of_text(alloc, "boolean"),
+        Node::Int => copy_of_text(alloc, "int"),
+        Node::Long => copy_of_text(alloc, "long"),
+        Node::Bytes => copy_of_text(alloc, "bytes"),
+        Node::Str => copy_of_text(alloc, "string"),
+        Node::Array(_) => copy_of_text(alloc, "array"),
+        Node::Map(_) => copy_of_text(alloc, "map"),
+        Node::Union(_) => Ok(String::new(alloc)),
+        Node::Record(record) => full_text(alloc, &record.name),
+        Node::Enum(enumeration) => full_text(alloc, &enumeration.name),
+        Node::Fixed(fixed) => full_text(alloc, &fixed.name),
+    }
+}
+
+/// Puts a value among members at a key.
+pub(crate) fn put_member(
+    alloc: Global,
+    members: &mut Map<String, Value>,
+    key: &str,
+    tree: Value,
+) -> Result<(), Memory>
+    ensures { OnOk result (members_view members.new.entries ≡ put key.now (view tree) (members_view members.old.entries)) }
+{
+    let copy = copy_of_text(alloc, key)?;
+    match members.insert(copy, tree) {
+        Ok(_) => Ok(()),
+        Err(_) => Err(Memory),
+    }
+}
+
+/// Whether a node is that of null.
+fn is_null(node: &Node) -> bool
+    ensures { result ≡ is_null_node (node_of node.now) }
+{
+    matches!(node, Node::Null)
+}
+
+/// The value of a branch under the branch's key; null stands by itself.
+pub(crate) fn labelled(alloc: Global, node: &Node, tree: Value) -> Result<Value, Memory>
+    ensures { IfOk result (λ labelled. view labelled ≡ branch_tree (node_of node.now) (view tree)) }
+{
+    if is_null(node) {
+        return Ok(Value::Null);
+    }
+    let key = branch_key(alloc, node)?;
+    let mut members: Map<String, Value> = Map::new(alloc);
+    match members.insert(key, tree) {
+        Ok(_) => Ok(Value::Object(members)),
+        Err(_) => Err(Memory),
+    }
+}

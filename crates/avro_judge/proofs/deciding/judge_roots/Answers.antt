@@ -1,0 +1,44 @@
+use Rattle.std.proofs.Common.{◌≡◌, ◌*◌, ℕ, true, List, Option, length, ◌∙◌, ap, subst, arith}
+use Rattle.std.specs.Prelude.{nat_lt}
+use Rattle.std.specs.List.{list_all}
+use Rattle.indexmap.specs.IndexSet.{keys}
+use Rattle.avro_schema.specs.Node.{Node}
+use Rattle.avro_schema.specs.Seen.{value_of}
+use Rattle.avro_schema.specs.SeenSchema.{schema_nodes}
+use Rattle.avro_judge.specs.inside.Asked.{ArePairsShown, steps_at}
+use Rattle.avro_judge.specs.inside.BuiltErrors.{BuildsError}
+use Rattle.avro_judge.specs.inside.Judged.{AreTables}
+use Rattle.avro_judge.specs.inside.Least.{Least, LeastTable, AreDataShown, AreLow, erring_of}
+use Rattle.avro_judge.specs.inside.Reached.{is_key, AreFollowed}
+use Rattle.avro_judge.specs.inside.SeenLeast.{seen_all, table_of}
+use Rattle.avro_judge.proofs.RootJudged.{compatible, above, deep, refuting}
+use Rattle.avro_judge.proofs.deciding.judge_roots.Goals as goal
+
+found : (writer reader : List Node) (limit : ℕ) (table : LeastTable) (keys : List ℕ) (entries : List (Option Least)) → AreDataShown writer limit table
+    → AreLow writer reader limit table (erring_of (length reader) table keys entries) → ArePairsShown writer reader limit table keys entries → is_key keys 0 ≡ true
+    → list_all (λ k. nat_lt k (length writer * length reader)) keys ≡ true → AreFollowed (steps_at writer reader table) keys (length keys)
+    → AreTables writer reader limit table keys entries
+found writer reader limit table keys entries d l s r b c = record { has_data = d; low = l; shown = s; root = r; below = b; closed = c }
+
+pub returns-in-None : goal.returns-in-None
+returns-in-None c = compatible (schema_nodes c.args.writer.now) (schema_nodes c.args.reader.now) c.args.limit (table_of c.args.table.now) (keys c.args.reached.now.known) (seen_all c.args.entries.now) c.count.ensures.formed c.count-count.ensures.formed (found (schema_nodes c.args.writer.now) (schema_nodes c.args.reader.now) c.args.limit (table_of c.args.table.now) (keys c.args.reached.now.known) (seen_all c.args.entries.now) c.requires.has_data c.requires.low c.requires.shown c.requires.root c.requires.below c.requires.closed)
+    (c.in-None.ensures ∙ ap (λ (n : ℕ). erring_of n (table_of c.args.table.now) (keys c.args.reached.now.known) (seen_all c.args.entries.now) 0 0) c.count-count.ensures.count)
+
+pub returns-then-least-limit : goal.returns-then-least-limit
+returns-then-least-limit c = above (schema_nodes c.args.writer.now) (schema_nodes c.args.reader.now) c.args.limit (table_of c.args.table.now) (keys c.args.reached.now.known) (seen_all c.args.entries.now) c.count.ensures.formed c.count-count.ensures.formed (found (schema_nodes c.args.writer.now) (schema_nodes c.args.reader.now) c.args.limit (table_of c.args.table.now) (keys c.args.reached.now.known) (seen_all c.args.entries.now) c.requires.has_data c.requires.low c.requires.shown c.requires.root c.requires.below c.requires.closed)
+    (record { nodes = c.in-Some.least.nodes; depth = c.in-Some.least.depth })
+    (c.in-Some.ensures ∙ ap (λ (n : ℕ). erring_of n (table_of c.args.table.now) (keys c.args.reached.now.known) (seen_all c.args.entries.now) 0 0) c.count-count.ensures.count)
+    c.if-least-limit.true
+
+pub returns-then-least-deepest : goal.returns-then-least-deepest
+returns-then-least-deepest c = deep (schema_nodes c.args.writer.now) (schema_nodes c.args.reader.now) c.args.limit (table_of c.args.table.now) (keys c.args.reached.now.known) (seen_all c.args.entries.now) c.count.ensures.formed c.count-count.ensures.formed (found (schema_nodes c.args.writer.now) (schema_nodes c.args.reader.now) c.args.limit (table_of c.args.table.now) (keys c.args.reached.now.known) (seen_all c.args.entries.now) c.requires.has_data c.requires.low c.requires.shown c.requires.root c.requires.below c.requires.closed)
+    (record { nodes = c.in-Some.least.nodes; depth = c.in-Some.least.depth }) c.args.deepest
+    (c.in-Some.ensures ∙ ap (λ (n : ℕ). erring_of n (table_of c.args.table.now) (keys c.args.reached.now.known) (seen_all c.args.entries.now) 0 0) c.count-count.ensures.count)
+    (omega (arith, c.if-least-limit.false)) c.if-least-deepest.true
+
+pub returns-in_ok-datum-in-Some : goal.returns-in_ok-datum-in-Some
+returns-in_ok-datum-in-Some c = refuting (schema_nodes c.args.writer.now) (schema_nodes c.args.reader.now) c.args.limit (table_of c.args.table.now) (keys c.args.reached.now.known) (seen_all c.args.entries.now) c.count.ensures.formed c.count-count.ensures.formed (found (schema_nodes c.args.writer.now) (schema_nodes c.args.reader.now) c.args.limit (table_of c.args.table.now) (keys c.args.reached.now.known) (seen_all c.args.entries.now) c.requires.has_data c.requires.low c.requires.shown c.requires.root c.requires.below c.requires.closed)
+    (record { nodes = c.in-Some.least.nodes; depth = c.in-Some.least.depth }) c.args.deepest (value_of c.in_ok-datum-in-Some.datum)
+    (c.in-Some.ensures ∙ ap (λ (n : ℕ). erring_of n (table_of c.args.table.now) (keys c.args.reached.now.known) (seen_all c.args.entries.now) 0 0) c.count-count.ensures.count)
+    (omega (arith, c.if-least-limit.false)) (omega (arith, c.if-least-deepest.false))
+    (subst (λ (n : ℕ). BuildsError (schema_nodes c.args.writer.now) (schema_nodes c.args.reader.now) c.args.limit (table_of c.args.table.now) (erring_of n (table_of c.args.table.now) (keys c.args.reached.now.known) (seen_all c.args.entries.now)) c.in-Some.least.nodes 0 0 (value_of c.in_ok-datum-in-Some.datum)) c.count-count.ensures.count c.in_ok-datum-in-Some.ensures)

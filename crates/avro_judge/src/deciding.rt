@@ -1,0 +1,102 @@
+//! What the tables decide of two schemas.
+
+ghost use Rattle.std.specs.Prelude.{◌≡◌, ◌≤◌, ◌*◌, true, length, nat_lt, IfOk};
+ghost use Rattle.std.specs.List.{list_all};
+ghost use Rattle.indexmap.specs.IndexSet.{keys};
+ghost use Rattle.avro_schema.specs.SeenSchema.{schema_nodes};
+ghost use Rattle.avro_judge.specs.inside.Asked.{ArePairsShown, steps_at};
+ghost use Rattle.avro_judge.specs.inside.Judged.{IsJudged};
+ghost use Rattle.avro_judge.specs.inside.Least.{AreDataShown, AreLow, erring_of};
+ghost use Rattle.avro_judge.specs.inside.Reached.{AreFollowed, is_key};
+ghost use Rattle.avro_judge.specs.inside.SeenLeast.{seen_all, table_of};
+
+use crate::build_error::build_error;
+use crate::erring::{least_errors, pair_entry};
+use crate::kept::Least;
+use crate::least::{count, least_data};
+use crate::reach::{Reached, reach};
+use avro_schema::{Datum, Memory, NodeId, Schema};
+use std::alloc::Global;
+
+/// What is decided of two schemas.
+#[derive(Debug, Drop)]
+pub(crate) enum Judged {
+    /// No datum errs.
+    Compatible,
+    /// Each datum that errs has more nodes than the limit.
+    Size,
+    /// Each least datum that errs is too deep.
+    Depth,
+    /// A least datum that errs, within both limits.
+    Erring(Datum),
+}
+
+/// What the entry of the roots says.
+fn judge_roots(
+    alloc: Global,
+    writer: &Schema,
+    reader: &Schema,
+    limit: u32,
+    deepest: u32,
+    table: &[Option<Least>],
+    reached: &Reached,
+    entries: &[Option<Least>],
+) -> Result<Judged, Memory>
+    requires range { limit ≤ 16777216 }
+    requires has_data { AreDataShown (schema_nodes writer.now) limit (table_of table.now) }
+    requires low { AreLow (schema_nodes writer.now) (schema_nodes reader.now) limit (table_of table.now)
+        (erring_of (length (schema_nodes reader.now)) (table_of table.now) (keys reached.now.known) (seen_all entries.now)) }
+    requires shown { ArePairsShown (schema_nodes writer.now) (schema_nodes reader.now) limit (table_of table.now) (keys reached.now.known) (seen_all entries.now) }
+    requires root { is_key (keys reached.now.known) 0 ≡ true }
+    requires below { list_all (λ k. nat_lt k (length (schema_nodes writer.now) * length (schema_nodes reader.now))) (keys reached.now.known) ≡ true }
+    requires closed { AreFollowed (steps_at (schema_nodes writer.now) (schema_nodes reader.now) (table_of table.now)) (keys reached.now.known) (length (keys reached.now.known)) }
+    ensures { IfOk result (λ j. IsJudged (schema_nodes writer.now) (schema_nodes reader.now) limit deepest j) }
+{
+    let _ = count(writer);
+    let count = count(reader);
+    let root = NodeId(0);
+    match pair_entry(table, count, &reached.known, entries, root, root) {
+        None => Ok(Judged::Compatible),
+        Some(least) => {
+            if least.nodes > limit {
+                return Ok(Judged::Size);
+            }
+            if least.depth > deepest {
+                return Ok(Judged::Depth);
+            }
+            let datum = build_error(
+                alloc,
+                writer,
+                reader,
+                limit,
+                table,
+                count,
+                reached,
+                entries,
+                root,
+                root,
+                least.nodes,
+            )?;
+            Ok(Judged::Erring(datum))
+        }
+    }
+}
+
+/// Decides whether some datum of the writer's errs, and finds a least one that does.
+pub(crate) fn decide(
+    alloc: Global,
+    writer: &Schema,
+    reader: &Schema,
+    limit: u32,
+    deepest: u32,
+) -> Result<Judged, Memory>
+    requires range { limit ≤ 16777216 }
+    ensures { IfOk result (λ j. IsJudged (schema_nodes writer.now) (schema_nodes reader.now) limit deepest j) }
+{
+    let table = least_data(alloc, writer, limit)?;
+    let reached = reach(alloc, writer, reader, &table)?;
+    let entries = least_errors(alloc, writer, reader, limit, &table, &reached)?;
+    judge_roots(
+        alloc, writer, reader, limit, deepest, &table, &reached, &entries,
+    )
+}

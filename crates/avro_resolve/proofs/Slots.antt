@@ -1,0 +1,290 @@
+-- What stands in the slots of a record.
+use Rattle.std.proofs.Common.{◌≡◌, ℕ, zero, suc, ◌+◌, ◌<◌, ◌≤◌, true, List, [], ◌∷◌, ◌++◌, drop, length, Option, Some, None, Result, Ok, Err, refl, sym, ap, ◌∙◌, subst, arith, ⊎_elim}
+use Rattle.std.specs.Prelude.{slice_index_or, slice_get, unwrap_or, map, bytes_eq, cond, ◌==◌}
+use Rattle.std.specs.List.{flat_map}
+use Rattle.std.specs.Global.{Vec}
+use Rattle.std.proofs.lemmas.Bool.{cases_lt, cases_eq, cond-true, cond-false, eq-eqb, ne_eqb}
+use Rattle.std.proofs.lemmas.List.{append_assoc}
+use Rattle.avro_schema.specs.Distinct.{are_distinct}
+use Rattle.avro_schema.specs.WellFormed.{is_schema, field_names, are_fields}
+use Rattle.avro_schema.specs.Value.{Value, value}
+use Rattle.avro_schema.specs.Node.{Node, FieldNode, node_at}
+use Rattle.avro_schema.specs.Seen.{value_of, values_of, values_from, seen_fields, field_of}
+use Rattle.avro_schema.specs.declared.datum.Datum.{Datum}
+use Rattle.avro_schema.specs.declared.schema.Field.{Field}
+use Rattle.avro_resolve.specs.Fault.{ResolutionFault}
+use Rattle.avro_resolve.specs.Source.{source_of}
+use Rattle.avro_resolve.specs.Resolve.{Sourced, sourced_at, resolve_sources, result_map, field_value, field_values, fields_at}
+use Rattle.avro_resolve.specs.Ends.{Slotted, SlotsAre, SlotsFor, IsField, here, later, IsSeen, slot_out, EndsSlot, EndsFound, field_step, Fails}
+use Rattle.avro_resolve.specs.declared.error.ResolveError.{ResolveError}
+use Rattle.avro_resolve.proofs.InOrder.{next_in, none_from, fails_mapped}
+use Rattle.avro_resolve.proofs.Resolved.{good-fields}
+use Rattle.avro_resolve.proofs.Rules.{MeetRules-from_is_schema}
+use Rattle.avro_resolve.proofs.Sources.{is_place-same, two_readers, are_distinct-back}
+
+-- names of a node's fields are distinct
+pub distinct_fields : (nodes : List Node) (place : ℕ) → is_schema nodes ≡ true → are_distinct bytes_eq (flat_map field_names (fields_at (node_at nodes place))) ≡ true
+distinct_fields nodes place formed = of_fields (fields_at (node_at nodes place)) (good-fields nodes (node_at nodes place) (MeetRules-from_is_schema nodes formed place))
+  where
+    of_fields : (fs : List FieldNode) → are_fields nodes fs ≡ true → are_distinct bytes_eq (flat_map field_names fs) ≡ true
+    of_fields fs h = grind arith
+
+-- ---- What a field takes
+
+slotted_out : {O : Type 0} (S : O → Value → Type 0) (o : Option (Option O)) (out : O) (v : Value) → slot_out o ≡ Some out → Slotted S o v → S out v
+slotted_out {O = O} S (Some (Some x)) out v e h = let same : x ≡ out = cc in subst (λ (y : O). S y v) same h
+slotted_out S (Some None) out v e h = absurd cc
+slotted_out S None out v e h = absurd cc
+
+slotted_none : {O : Type 0} (S : O → Value → Type 0) (o : Option (Option O)) (v : Value) → slot_out o ≡ None → Slotted S o v → v ≡ Value.null
+slotted_none S (Some (Some x)) v e h = absurd cc
+slotted_none S (Some None) v e h = h
+slotted_none S None v e h = h
+
+module _ {O : Type 0} (S : O → Value → Type 0) (ws : List FieldNode) (found : Sourced) (f : FieldNode) (rest : List FieldNode) where
+  pub rest_kept : (place : ℕ) (old new : List (Option O)) → source_of ws f ≡ Some place → are_distinct bytes_eq (field_names f ++ flat_map field_names rest) ≡ true
+      → ((k : ℕ) → (k ≡ place → ⊥) → slice_get new k ≡ slice_get old k) → SlotsFor S ws (f ∷ rest) found old → SlotsFor S ws rest found new
+  rest_kept place old new e distinct others h = λ g is k src.
+      subst (λ (o : Option (Option O)). Slotted S o (sourced_at found k)) (sym (others k (apart g is k src))) (h g (later is) k src)
+    where
+      apart : (g : FieldNode) → IsField g rest → (k : ℕ) → source_of ws g ≡ Some k → k ≡ place → ⊥
+      apart g is k src same =
+          two_readers ws rest k f g is distinct src (is_place-same (source_of ws f) k (subst (λ (j : ℕ). source_of ws f ≡ Some j) (sym same) e))
+
+  pub rest_same : (slots : List (Option O)) → SlotsFor S ws (f ∷ rest) found slots → SlotsFor S ws rest found slots
+  rest_same slots h = λ g is k src. h g (later is) k src
+
+  value_sourced : (place : ℕ) → source_of ws f ≡ Some place → field_value ws found f ≡ sourced_at found place
+  value_sourced place e = rw e refl
+
+  pub value_default : (d : Option Value) → source_of ws f ≡ None → f.default ≡ d → field_value ws found f ≡ unwrap_or d Value.null
+  value_default d e is = rw (e, is) refl
+
+  pub value_held : (place : ℕ) (slots : List (Option O)) (out : O) → source_of ws f ≡ Some place → slot_out (slice_get slots place) ≡ Some out
+      → SlotsFor S ws (f ∷ rest) found slots → S out (field_value ws found f)
+  value_held place slots out e held h =
+      subst (S out) (sym (value_sourced place e)) (slotted_out S (slice_get slots place) out (sourced_at found place) held (h f here place e))
+
+  pub value_missing : (place : ℕ) (slots : List (Option O)) → source_of ws f ≡ Some place → slot_out (slice_get slots place) ≡ None
+      → SlotsFor S ws (f ∷ rest) found slots → field_value ws found f ≡ Value.null
+  value_missing place slots e held h = value_sourced place e ∙ slotted_none S (slice_get slots place) (sourced_at found place) held (h f here place e)
+
+-- ---- The reader's fields in order
+
+pub seen_next : (fs : List Field) (i : ℕ) (d : Field) → i < length fs → seen_fields (drop i fs) ≡ field_of (slice_index_or fs i d) ∷ seen_fields (drop (i + 1) fs)
+seen_next fs i d low = ap seen_fields (next_in fs i d low)
+
+pub all_slots : {O : Type 0} (S : O → Value → Type 0) (ws rs : List FieldNode) (found : Sourced) (slots : List (Option O)) → SlotsAre S found slots → SlotsFor S ws rs found slots
+all_slots S ws rs found slots h = λ g is k src. h k
+
+pub values_seen : (ws rs : List FieldNode) (found : Sourced) → field_values ws found rs ≡ values_from (map (field_value ws found) rs)
+values_seen ws [] found = refl
+values_seen ws (f ∷ fs) found = ap (value (field_value ws found f)) (values_seen ws fs found)
+
+pub map_snoc : {A B : Type 0} (f : A → B) (xs : List A) (x : A) → map f (xs ++ x ∷ []) ≡ map f xs ++ f x ∷ []
+map_snoc f [] x = refl
+map_snoc {B = B} f (y ∷ xs) x = ap (λ (ys : List B). f y ∷ ys) (map_snoc f xs x)
+
+pub append_none : {A : Type 0} (xs : List A) → xs ++ [] ≡ xs
+append_none [] = refl
+append_none {A = A} (x ∷ xs) = ap (λ (ys : List A). x ∷ ys) (append_none xs)
+
+module _ (ws : List FieldNode) (reads : List Field) (i : ℕ) (f : Field) (low : i < length reads) (is : f ≡ slice_index_or reads i f) where
+  field_next : seen_fields (drop i reads) ≡ field_of f ∷ seen_fields (drop (i + 1) reads)
+  field_next = seen_next reads i f low ∙ ap (λ (g : Field). field_of g ∷ seen_fields (drop (i + 1) reads)) (sym is)
+
+  pub distinct_here : are_distinct bytes_eq (flat_map field_names (seen_fields (drop i reads))) ≡ true
+      → are_distinct bytes_eq (field_names (field_of f) ++ flat_map field_names (seen_fields (drop (i + 1) reads))) ≡ true
+  distinct_here h = subst (λ (fs : List FieldNode). are_distinct bytes_eq (flat_map field_names fs) ≡ true) field_next h
+
+  pub distinct_after : are_distinct bytes_eq (flat_map field_names (seen_fields (drop i reads))) ≡ true → are_distinct bytes_eq (flat_map field_names (seen_fields (drop (i + 1) reads))) ≡ true
+  distinct_after h = are_distinct-back (field_names (field_of f)) (flat_map field_names (seen_fields (drop (i + 1) reads))) (distinct_here h)
+
+  -- the values so far, and those of the fields that are left
+  abbrev pub ValuesSoFar : Sourced → List Datum → List FieldNode → Type 0
+  ValuesSoFar found made fs = map value_of made ++ map (field_value ws found) fs ≡ map (field_value ws found) (seen_fields reads)
+
+  pub slots_here : (found : Sourced) (slots : List (Option Datum)) → SlotsFor IsSeen ws (seen_fields (drop i reads)) found slots → SlotsFor IsSeen ws (field_of f ∷ seen_fields (drop (i + 1) reads)) found slots
+  slots_here found slots h = subst (λ (fs : List FieldNode). SlotsFor IsSeen ws fs found slots) field_next h
+
+  pub values_more : (found : Sourced) (made new : List Datum) (v : Datum) → new ≡ made ++ v ∷ [] → value_of v ≡ field_value ws found (field_of f)
+      → ValuesSoFar found made (seen_fields (drop i reads)) → ValuesSoFar found new (seen_fields (drop (i + 1) reads))
+  values_more found made new v pushed same h =
+      let rest = map (field_value ws found) (seen_fields (drop (i + 1) reads)) in
+      ap (λ (ds : List Datum). map value_of ds ++ rest) pushed ∙ ap (λ (us : List Value). us ++ rest) (map_snoc value_of made v)
+      ∙ ap (λ (u : Value). (map value_of made ++ u ∷ []) ++ rest) same ∙ append_assoc (map value_of made) (field_value ws found (field_of f) ∷ []) rest
+      ∙ ap (λ (fs : List FieldNode). map value_of made ++ map (field_value ws found) fs) (sym field_next) ∙ h
+
+pub values_all : (ws : List FieldNode) (reads : List Field) (i : ℕ) (found : Sourced) (made : List Datum) → length reads ≤ i
+    → map value_of made ++ map (field_value ws found) (seen_fields (drop i reads)) ≡ map (field_value ws found) (seen_fields reads)
+    → values_of made ≡ field_values ws found (seen_fields reads)
+values_all ws reads i found made high h =
+    ap values_from (sym (append_none (map value_of made)) ∙ ap (λ (fs : List Field). map value_of made ++ map (field_value ws found) (seen_fields fs)) (sym (none_from reads i high)) ∙ h)
+    ∙ sym (values_seen ws (seen_fields reads) found)
+
+-- ---- Slots that are kept in the writer's order
+
+length-snoc : {A : Type 0} (xs : List A) (x : A) → length (xs ++ x ∷ []) ≡ length xs + 1
+length-snoc [] x = omega arith
+length-snoc (y ∷ xs) x = omega (arith, length-snoc xs x)
+
+abbrev pub AllBelow : ℕ → Sourced → Type 0
+AllBelow m [] = Unit {0}
+AllBelow m (s ∷ ss) = (s.0 < m) × AllBelow m ss
+
+below_more : (m : ℕ) (found : Sourced) → AllBelow m found → AllBelow (m + 1) found
+below_more m [] h = tt
+below_more m (s ∷ ss) h = (raised s.0 h.0, below_more m ss h.1)
+  where
+    raised : (k : ℕ) → k < m → k < m + 1
+    raised k low = omega (arith, low)
+
+below_last : (m : ℕ) (found : Sourced) (u : Value) → AllBelow m found → AllBelow (m + 1) (found ++ (m, u) ∷ [])
+below_last m [] u h = (omega arith, tt)
+below_last m (s ∷ ss) u h = (raised s.0 h.0, below_last m ss u h.1)
+  where
+    raised : (k : ℕ) → k < m → k < m + 1
+    raised k low = omega (arith, low)
+
+pub none_above : (m k : ℕ) (found : Sourced) → AllBelow m found → m ≤ k → sourced_at found k ≡ Value.null
+none_above m k [] h high = refl
+none_above m k (s ∷ ss) h high = cond-false (s.0 == k) s.1 (sourced_at ss k) (ne_eqb s.0 k (λ e. apart s.0 h.0 e)) ∙ none_above m k ss h.1 high
+  where
+    apart : (j : ℕ) → j < m → j ≡ k → ⊥
+    apart j low e = omega (arith, low, e, high)
+
+others_same : (found : Sourced) (k m : ℕ) (u : Value) → (k ≡ m → ⊥) → sourced_at (found ++ (m, u) ∷ []) k ≡ sourced_at found k
+others_same [] k m u apart = cond-false (m == k) u Value.null (ne_eqb m k (λ e. apart (sym e)))
+others_same (s ∷ ss) k m u apart = ap (cond (s.0 == k) s.1) (others_same ss k m u apart)
+
+last_is : (found : Sourced) (m : ℕ) (u : Value) → AllBelow m found → sourced_at (found ++ (m, u) ∷ []) m ≡ u
+last_is [] m u below = cond-true (m == m) u Value.null (eq-eqb m m refl)
+last_is (s ∷ ss) m u below = cond-false (s.0 == m) s.1 (sourced_at (ss ++ (m, u) ∷ []) m) (ne_eqb s.0 m (λ e. lower s.0 m e below.0)) ∙ last_is ss m u below.1
+  where
+    lower : (a b : ℕ) → a ≡ b → a < b → ⊥
+    lower a b e h = omega (arith, e, h)
+
+get_before : {A : Type 0} (xs : List A) (x : A) (k : ℕ) → k < length xs → slice_get (xs ++ x ∷ []) k ≡ slice_get xs k
+get_before [] x k low = absurd (omega (arith, low))
+get_before (y ∷ xs) x zero low = refl
+get_before (y ∷ xs) x (suc k) low = get_before xs x k (omega (arith, low))
+
+get_last : {A : Type 0} (xs : List A) (x : A) → slice_get (xs ++ x ∷ []) (length xs) ≡ Some x
+get_last [] x = refl
+get_last (y ∷ xs) x = get_last xs x
+
+get_past : {A : Type 0} (xs : List A) (x : A) (k : ℕ) → length xs < k → slice_get (xs ++ x ∷ []) k ≡ None
+get_past [] x zero high = absurd (omega (arith, high))
+get_past [] x (suc k) high = refl
+get_past (y ∷ xs) x zero high = absurd (omega (arith, high))
+get_past (y ∷ xs) x (suc k) high = get_past xs x k (omega (arith, high))
+
+module _ {O : Type 0} (S : O → Value → Type 0) (found : Sourced) (slots : List (Option O)) (m : ℕ) (count : length slots ≡ m) (below : AllBelow m found) (so_far : SlotsAre S found slots) where
+  by_place : (found' : Sourced) (o : Option O) → ((k : ℕ) → (k ≡ m → ⊥) → sourced_at found' k ≡ sourced_at found k) → Slotted S (Some o) (sourced_at found' m) → SlotsAre S found' (slots ++ o ∷ [])
+  by_place found' o others this k =
+      ⊎_elim
+      (λ low. subst (Slotted S (slice_get (slots ++ o ∷ []) k)) (sym (others k (λ e. omega (arith, low, e, count))))
+      (subst (λ (q : Option (Option O)). Slotted S q (sourced_at found k)) (sym (get_before slots o k low)) (so_far k)))
+      (λ high. ⊎_elim (λ e. at_last k e) (λ ne. past k (omega (arith, high, ne, count)) (λ e. ne (count ∙ sym e))) (cases_eq (length slots) k))
+      (cases_lt k (length slots))
+    where
+      at_last : (k : ℕ) → length slots ≡ k → Slotted S (slice_get (slots ++ o ∷ []) k) (sourced_at found' k)
+      at_last k e =
+          subst (λ (j : ℕ). Slotted S (slice_get (slots ++ o ∷ []) j) (sourced_at found' j)) e
+          (subst (λ (q : Option (Option O)). Slotted S q (sourced_at found' (length slots))) (sym (get_last slots o)) (subst (λ (j : ℕ). Slotted S (Some o) (sourced_at found' j)) (sym count) this))
+
+      past : (k : ℕ) → length slots < k → (k ≡ m → ⊥) → Slotted S (slice_get (slots ++ o ∷ []) k) (sourced_at found' k)
+      past k high apart =
+          subst (λ (q : Option (Option O)). Slotted S q (sourced_at found' k)) (sym (get_past slots o k high))
+          (others k apart ∙ none_above m k found below (omega (arith, high, count)))
+
+  pub slots_none : SlotsAre S found (slots ++ None ∷ [])
+  slots_none = by_place found None (λ k apart. refl) (none_above m m found below (omega arith))
+
+  pub slots_some : (out : O) (u : Value) → S out u → SlotsAre S (found ++ (m, u) ∷ []) (slots ++ Some out ∷ [])
+  slots_some out u h = by_place (found ++ (m, u) ∷ []) (Some out) (λ k apart. others_same found k m u apart) (subst (S out) (sym (last_is found m u below)) h)
+
+-- ---- The writer's fields one by one
+
+abbrev pub before : Sourced → Sourced → Sourced
+before found more = found ++ more
+
+-- what was found so far, and all that is left
+pub record FieldsSoFar (writer reader : List Node) (ws rs : List FieldNode) (values : List Datum) (i : ℕ) (slots : List (Option Datum)) : Type 0 where
+  pub found : Sourced
+  pub count : length slots ≡ i
+  pub below : AllBelow i found
+  pub stand : SlotsAre IsSeen found slots
+  pub left : resolve_sources writer reader ws rs 0 (values_of values) ≡ result_map (before found) (resolve_sources writer reader ws rs i (values_of (drop i values)))
+
+module _ (writer reader : List Node) (ws rs : List FieldNode) (values : List Datum) where
+  pub none_so_far : FieldsSoFar writer reader ws rs values 0 []
+  none_so_far = record {
+    found = [];
+    count = refl;
+    below = tt;
+    stand = λ k. empty k;
+    left = unchanged (resolve_sources writer reader ws rs 0 (values_of values));
+  }
+    where
+      nothing : List (Option Datum)
+      nothing = []
+
+      empty : (k : ℕ) → Slotted IsSeen (slice_get nothing k) (sourced_at [] k)
+      empty k = refl
+
+      unchanged : (r : Result Sourced ResolutionFault) → r ≡ result_map (before []) r
+      unchanged (Ok found) = refl
+      unchanged (Err e) = refl
+
+  at_field : (i : ℕ) (d : Datum) → i < length values → resolve_sources writer reader ws rs i (values_of (drop i values))
+      ≡ field_step writer reader ws rs i (value_of (slice_index_or values i d)) (resolve_sources writer reader ws rs (suc i) (values_of (drop (i + 1) values)))
+  at_field i d low = ap (λ (xs : List Datum). resolve_sources writer reader ws rs i (values_of xs)) (next_in values i d low)
+
+  one_on : (i : ℕ) (found : Sourced) → result_map (before found) (resolve_sources writer reader ws rs (suc i) (values_of (drop (i + 1) values)))
+      ≡ result_map (before found) (resolve_sources writer reader ws rs (i + 1) (values_of (drop (i + 1) values)))
+  one_on i found = ap (λ (j : ℕ). result_map (before found) (resolve_sources writer reader ws rs j (values_of (drop (i + 1) values)))) (one i)
+    where
+      one : (i : ℕ) → suc i ≡ i + 1
+      one i = omega arith
+
+  pub field_done : (i : ℕ) (d : Datum) (slots : List (Option Datum)) (slot : Option Datum) → i < length values
+      → EndsSlot i (Ok slot) (field_step writer reader ws rs i (value_of (slice_index_or values i d)))
+      → FieldsSoFar writer reader ws rs values i slots → FieldsSoFar writer reader ws rs values (i + 1) (slots ++ slot ∷ [])
+  field_done i d slots None low step h = record {
+    found = h.found;
+    count = counted;
+    below = below_more i h.found h.below;
+    stand = slots_none IsSeen h.found slots i h.count h.below h.stand;
+    left = h.left ∙ ap (result_map (before h.found)) (at_field i d low ∙ step (resolve_sources writer reader ws rs (suc i) (values_of (drop (i + 1) values)))) ∙ one_on i h.found;
+  }
+    where
+      counted : length (slots ++ None ∷ []) ≡ i + 1
+      counted = omega (arith, length-snoc slots None, h.count)
+  field_done i d slots (Some out) low step h = record {
+    found = h.found ++ (i, value_of out) ∷ [];
+    count = counted;
+    below = below_last i h.found (value_of out) h.below;
+    stand = slots_some IsSeen h.found slots i h.count h.below h.stand out (value_of out) refl;
+    left = h.left ∙ ap (result_map (before h.found)) (at_field i d low ∙ step (resolve_sources writer reader ws rs (suc i) (values_of (drop (i + 1) values))))
+        ∙ moved (resolve_sources writer reader ws rs (suc i) (values_of (drop (i + 1) values))) ∙ one_on i (h.found ++ (i, value_of out) ∷ []);
+  }
+    where
+      counted : length (slots ++ Some out ∷ []) ≡ i + 1
+      counted = omega (arith, length-snoc slots (Some out), h.count)
+
+      moved : (r : Result Sourced ResolutionFault) → result_map (before h.found) (result_map (λ found. (i, value_of out) ∷ found) r) ≡ result_map (before (h.found ++ (i, value_of out) ∷ [])) r
+      moved (Ok more) = ap (λ (zs : Sourced). Ok zs) (sym (append_assoc h.found ((i, value_of out) ∷ []) more))
+      moved (Err e) = refl
+
+  pub field_fails : (i : ℕ) (d : Datum) (slots : List (Option Datum)) (e : ResolveError) → i < length values
+      → EndsSlot i (Err e) (field_step writer reader ws rs i (value_of (slice_index_or values i d)))
+      → FieldsSoFar writer reader ws rs values i slots → Fails e (resolve_sources writer reader ws rs 0 (values_of values))
+  field_fails i d slots e low step h =
+      subst (Fails e) (sym (h.left ∙ ap (result_map (before h.found)) (at_field i d low))) (fails_mapped e (before h.found) (field_step writer reader ws rs i (value_of (slice_index_or values i d)) (resolve_sources writer reader ws rs (suc i) (values_of (drop (i + 1) values))))
+      (step (resolve_sources writer reader ws rs (suc i) (values_of (drop (i + 1) values)))))
+
+  pub fields_done : (i : ℕ) (slots : Vec (Option Datum)) → length values ≤ i → FieldsSoFar writer reader ws rs values i slots.items
+      → EndsFound (Ok slots) (resolve_sources writer reader ws rs 0 (values_of values))
+  fields_done i slots high h =
+      (h.found, h.left ∙ ap (λ (xs : List Datum). result_map (before h.found) (resolve_sources writer reader ws rs i (values_of xs))) (none_from values i high) ∙ ap (λ (zs : Sourced). Ok zs) (append_none h.found), h.stand)

@@ -1,0 +1,24 @@
+use Rattle.std.proofs.Common.{◌+◌, drop}
+use Rattle.avro_schema.specs.Seen.{seen_fields}
+use Rattle.avro_resolve.proofs.Slots.{distinct_here, distinct_after, slots_here, values_more, values_all}
+use Rattle.avro_resolve.proofs.filling.fill.Goals as goal
+
+pub loop-f-preserved : goal.loop-f-preserved
+loop-f-preserved c =
+    let ws = seen_fields c.args.writes.now in
+    let reads = c.args.reads.now in
+    let i = c.loop-f.f-index in
+    let f = c.f-item.result in
+    let low = c.loop-f-test.true in
+    let is = c.f-item.is in
+    let distinct = c.loop-f.invariant.0 in (
+      distinct_after ws reads i f low is distinct,
+      λ found all.
+          let before = c.loop-f.invariant.1 found all in
+          let taken = c.in_ok-value.ensures found (seen_fields (drop (i + 1) reads)) (distinct_here ws reads i f low is distinct) (slots_here ws reads i f low is found _ before.0) in
+          (taken.0, values_more ws reads i f low is found c.loop-f.values.items c.push.new.self.items c.in_ok-value.value c.in_ok-push.ensures.items taken.1 before.1),
+    )
+
+pub returns : goal.returns
+returns c = λ found all.
+    values_all (seen_fields c.args.writes.now) c.args.reads.now c.loop-f.f-index found c.loop-f.values.items c.loop-f-test.false (c.loop-f.invariant.1 found all).1

@@ -1,0 +1,20 @@
+use Rattle.std.proofs.Common.{slice_index_or, sym, ◌∙◌}
+use Rattle.std.proofs.lemmas.Option.{slice_get-get_or}
+use Rattle.avro_schema.specs.Node.{node_at}
+use Rattle.avro_schema.specs.SeenSchema.{schema_nodes}
+use Rattle.avro_resolve.proofs.Pairing.{seen_get, found_here, place_below}
+use Rattle.avro_resolve.proofs.pairs.first_matched.Goals as goal
+
+pub returns-then-matches : goal.returns-then-matches
+returns-then-matches c =
+    let ws = schema_nodes c.args.writer.now in
+    let rs = schema_nodes c.args.reader.now in
+    let ids = c.args.branches.now in
+    let i = c.loop-place.place in
+    let got = slice_get-get_or ids i (record { 0 = 0 }) c.loop-place-test.true in
+    let yes = sym c.matches.ensures.test ∙ c.if-matches.true in (
+      c.loop-place.invariant ∙ found_here ws rs (node_at ws c.args.w.0) i i ids (slice_index_or ids i (record { 0 = 0 })) got yes,
+      seen_get ids i (slice_index_or ids i (record { 0 = 0 })) got,
+      yes,
+      place_below ids i c.loop-place-test.true,
+    )

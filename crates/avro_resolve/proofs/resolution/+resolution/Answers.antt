@@ -1,0 +1,87 @@
+use Rattle.std.proofs.Common.{◌+◌, ◌∙◌, ap, sym, subst, Ok, Err}
+use Rattle.avro_schema.specs.Node.{node_at}
+use Rattle.avro_schema.specs.Seen.{value_of, entries_of, seen_fields}
+use Rattle.avro_schema.specs.SeenSchema.{schema_nodes}
+use Rattle.avro_schema.specs.Value.{Value}
+use Rattle.avro_schema.proofs.DatumViews.{value_of-Map}
+use Rattle.avro_resolve.specs.Resolve.{resolve as resolve_value, resolve_entries, result_map}
+use Rattle.avro_resolve.specs.Ends.{EndsSlot, Fails, field_step}
+use Rattle.avro_resolve.proofs.InOrder.{ItemsSoFar, item_done, items_done, entry_done, entries_done, taken_map, fails_mapped}
+use Rattle.avro_resolve.proofs.Slots.{FieldsSoFar, field_done, field_fails}
+use Rattle.avro_resolve.proofs.resolution.+resolution.Goals as goal
+
+pub resolve_each-loop-place-preserved : goal.resolve_each-loop-place-preserved
+resolve_each-loop-place-preserved t c =
+    let writer = schema_nodes c.args.writer.now in
+    let reader = schema_nodes c.args.reader.now in
+    let w = node_at writer c.args.w.0 in
+    let r = node_at reader c.args.r.0 in
+    subst (λ made. ItemsSoFar writer reader w r c.args.items.now (c.loop-place.place + 1) made) (sym c.in-Ok-push.ensures.items)
+    (item_done writer reader w r c.args.items.now c.loop-place.resolved.items c.loop-place.place c.index-items-place.result c.in-Ok.item c.loop-place-test.true
+    (ap (λ d. resolve_value writer reader w r (value_of d)) (sym c.index-items-place.is) ∙ c.in-Ok.ensures) c.loop-place.invariant)
+
+pub resolve_each-returns : goal.resolve_each-returns
+resolve_each-returns t c =
+    let writer = schema_nodes c.args.writer.now in
+    let reader = schema_nodes c.args.reader.now in
+    items_done writer reader (node_at writer c.args.w.0) (node_at reader c.args.r.0) c.args.items.now c.loop-place.resolved.items c.loop-place.place c.loop-place-test.false c.loop-place.invariant
+
+pub resolve_fields-returns-in-Err : goal.resolve_fields-returns-in-Err
+resolve_fields-returns-in-Err t c =
+    let writer = schema_nodes c.args.writer.now in
+    let reader = schema_nodes c.args.reader.now in
+    let ws = seen_fields c.args.writes.now in
+    let rs = seen_fields c.args.reads.now in
+    let i = c.loop-place.place in
+    field_fails writer reader ws rs c.args.values.now i c.index-values-place.result c.loop-place.slots.items c.in-Err.error c.loop-place-test.true
+    (subst (λ d. EndsSlot i (Err c.in-Err.error) (field_step writer reader ws rs i (value_of d))) c.index-values-place.is c.in-Err.ensures) c.loop-place.invariant
+
+pub resolve_fields-loop-place-preserved : goal.resolve_fields-loop-place-preserved
+resolve_fields-loop-place-preserved t c =
+    let writer = schema_nodes c.args.writer.now in
+    let reader = schema_nodes c.args.reader.now in
+    let ws = seen_fields c.args.writes.now in
+    let rs = seen_fields c.args.reads.now in
+    let i = c.loop-place.place in
+    subst (FieldsSoFar writer reader ws rs c.args.values.now (i + 1)) (sym c.in-Ok-push.ensures.items)
+    (field_done writer reader ws rs c.args.values.now i c.index-values-place.result c.loop-place.slots.items c.in-Ok.slot c.loop-place-test.true
+    (subst (λ d. EndsSlot i (Ok c.in-Ok.slot) (field_step writer reader ws rs i (value_of d))) c.index-values-place.is c.in-Ok.ensures) c.loop-place.invariant)
+
+pub resolve_values-loop-place-preserved : goal.resolve_values-loop-place-preserved
+resolve_values-loop-place-preserved t c =
+    let writer = schema_nodes c.args.writer.now in
+    let reader = schema_nodes c.args.reader.now in
+    let w = node_at writer c.args.w.0 in
+    let r = node_at reader c.args.r.0 in
+    let i = c.loop-place.place in
+    entry_done writer reader w r c.args.entries.now c.loop-place.resolved.items c.keep.new.entries.items i c.index-entries-place.result c.index-entries-place-in-Ok.result c.in-Ok.value c.loop-place-test.true
+    c.in-Ok.ensures c.in-Ok-keep.ensures c.loop-place.invariant
+
+pub resolve_values-returns : goal.resolve_values-returns
+resolve_values-returns t c =
+    let writer = schema_nodes c.args.writer.now in
+    let reader = schema_nodes c.args.reader.now in
+    entries_done writer reader (node_at writer c.args.w.0) (node_at reader c.args.r.0) c.args.entries.now c.loop-place.resolved.items c.loop-place.place c.loop-place-test.false c.loop-place.invariant
+
+pub take-returns-in-Ok-resolve_values : goal.take-returns-in-Ok-resolve_values
+take-returns-in-Ok-resolve_values t c =
+    let writer = schema_nodes c.args.writer.now in
+    let reader = schema_nodes c.args.reader.now in
+    let a = c.values_of-a.result.0 in
+    let b = c.values_of-b.result.0 in
+    taken_map writer reader (node_at writer c.args.w.0) (node_at reader c.args.q.0) a b (value_of c.args.datum.now) (entries_of c.in-Map.entries.items)
+    (ap value_of c.in-Map.is ∙ value_of-Map c.in-Map.entries) c.values_of-a.ensures c.values_of-b.ensures
+    ∙ ap (λ es. result_map Value.map_of (resolve_entries writer reader (node_at writer a) (node_at reader b) 0 (entries_of es))) (sym c.deref-in-Map.ensures.value)
+    ∙ ap (result_map Value.map_of) c.in-Ok-resolve_values.ensures ∙ ap (λ v. Ok v) (sym (value_of-Map c.in-Ok-resolve_values.resolved))
+
+pub take-returns-in-Err-resolve_values : goal.take-returns-in-Err-resolve_values
+take-returns-in-Err-resolve_values t c =
+    let writer = schema_nodes c.args.writer.now in
+    let reader = schema_nodes c.args.reader.now in
+    let a = c.values_of-a.result.0 in
+    let b = c.values_of-b.result.0 in
+    subst (Fails c.in-Err-resolve_values.error)
+    (sym (taken_map writer reader (node_at writer c.args.w.0) (node_at reader c.args.q.0) a b (value_of c.args.datum.now) (entries_of c.in-Map.entries.items)
+    (ap value_of c.in-Map.is ∙ value_of-Map c.in-Map.entries) c.values_of-a.ensures c.values_of-b.ensures
+    ∙ ap (λ es. result_map Value.map_of (resolve_entries writer reader (node_at writer a) (node_at reader b) 0 (entries_of es))) (sym c.deref-in-Map.ensures.value)))
+    (fails_mapped c.in-Err-resolve_values.error Value.map_of _ c.in-Err-resolve_values.ensures)

@@ -1,0 +1,69 @@
+-- What the code says of a pair of nodes.
+use Rattle.std.specs.Prelude.{◌≡◌, ◌<◌, ℕ, suc, Bool, true, false, List, [], Option, Some, None, length, slice_get, unwrap_or, Err, Ok}
+use Rattle.avro_schema.specs.Value.{Value}
+use Rattle.avro_schema.specs.Node.{Node, FieldNode, node_at, field_places, items_node, values_node, branches_of}
+use Rattle.avro_schema.specs.declared.schema.NodeId.{NodeId}
+use Rattle.avro_resolve.specs.Fault.{fault_here, no_symbol}
+use Rattle.avro_resolve.specs.Match.{match_within, is_match, first_match}
+use Rattle.avro_resolve.specs.Resolve.{Resolved, result_map, through}
+use Rattle.avro_resolve.specs.Seen.{cause_of}
+use Rattle.avro_resolve.specs.Source.{reader_field}
+use Rattle.avro_resolve.specs.declared.guided.At.{At}
+use Rattle.avro_resolve.specs.declared.guided.At.TheVariants.{Ignored, Pair}
+use Rattle.avro_resolve.specs.declared.guided.Aim.{Aim}
+use Rattle.avro_resolve.specs.declared.guided.Step.{Step}
+
+-- what two nodes say of their match
+abbrev pub IsStep : List Node → List Node → Node → Node → Step → Type 0
+IsStep writer reader n m (Step.Known answer) = (steps : ℕ) → match_within steps writer reader n m ≡ answer
+IsStep writer reader n m (Step.Parts a b) =
+    ((steps : ℕ) → match_within (suc steps) writer reader n m ≡ match_within steps writer reader (node_at writer a.0) (node_at reader b.0))
+    × (match_within 0 writer reader n m ≡ false)
+
+-- the first branch that matches, with its node
+abbrev pub IsFirst : List Node → List Node → Node → List ℕ → Option (ℕ × NodeId) → Type 0
+IsFirst writer reader w places None = first_match writer reader w places ≡ None
+IsFirst writer reader w places (Some found) =
+    (first_match writer reader w places ≡ Some found.0) × (slice_get places found.0 ≡ Some found.1.0)
+    × (is_match writer reader w (node_at reader found.1.0) ≡ true) × (found.0 < length places)
+
+-- into a branch, where there is one
+abbrev pub wrapped : Option ℕ → Resolved → Resolved
+wrapped None resolved = resolved
+wrapped (Some k) resolved = result_map (Value.union k) resolved
+
+abbrev pub aimed : List Node → Aim → (Node → Resolved) → Resolved
+aimed reader (Aim.Fault kind) resolve = Err (fault_here (cause_of kind))
+aimed reader (Aim.To branch q) resolve = wrapped branch (resolve (node_at reader q.0))
+
+-- a pair leads there, whatever is resolved
+abbrev pub IsAim : List Node → List Node → Node → Node → Aim → Type 0
+IsAim writer reader w r aim = (resolve : Node → Resolved) → through writer reader w r resolve ≡ aimed reader aim resolve
+
+-- the places of the parts of a node that has them
+abbrev pub item_place : Node → ℕ
+item_place n = unwrap_or (items_node n) 0
+
+abbrev pub value_place : Node → ℕ
+value_place n = unwrap_or (values_node n) 0
+
+abbrev pub branch_place : Node → ℕ → ℕ
+branch_place n k = unwrap_or (slice_get (unwrap_or (branches_of n) []) k) 0
+
+-- the reader's symbol, or that there is none
+abbrev pub IsSymbol : Resolved → Option ℕ → Type 0
+IsSymbol resolved (Some place) = resolved ≡ Ok (Value.enum place)
+IsSymbol resolved None = resolved ≡ Err (fault_here no_symbol)
+
+-- what the writer's field at a place is for
+abbrev pub part_to : ℕ → Option FieldNode → At
+part_to j None = Ignored
+part_to j (Some f) = Pair (record { 0 = j }) (record { 0 = f.node })
+
+abbrev pub field_for : List FieldNode → List FieldNode → ℕ → At
+field_for ws rs k = part_to (unwrap_or (slice_get (field_places ws) k) 0) (reader_field ws rs k)
+
+-- the test of a node
+abbrev pub Tells : Bool → Node → Node → Type 0
+Tells true n k = n ≡ k
+Tells false n k = n ≡ k → ⊥

@@ -1,0 +1,83 @@
+ghost use Rattle.std.specs.Prelude.{◌≡◌, ◌≤◌, ◌^◌, length, List};
+ghost use Rattle.avro_schema.specs.Node.{Node as SeenNode, node_at};
+ghost use Rattle.avro_schema.specs.Seen.{node_of, places_of};
+ghost use Rattle.avro_schema.specs.SeenSchema.{schema_nodes};
+ghost use Rattle.avro_resolve.specs.Match.{first_match_at};
+ghost use Rattle.avro_resolve.specs.Pairs.{IsAim, IsFirst};
+ghost use Rattle.avro_binary.proofs.Choices.{HasFewChoices};
+
+use crate::error::FaultKind;
+use crate::guided::Aim;
+use crate::matching::matches;
+use avro_schema::{Node, NodeId, Schema};
+
+/// The first branch of a reader's union that matches a writer's node, by its place among the
+/// branches; none at another reader's node.
+pub fn first_match(writer: &Schema, w: NodeId, reader: &Schema, r: NodeId) -> Option<usize>
+    ensures { result ≡ first_match_at (schema_nodes writer.now) (schema_nodes reader.now)
+        (node_at (schema_nodes writer.now) w.0) (node_at (schema_nodes reader.now) r.0) }
+{
+    if !reader.has(r) {
+        return None;
+    }
+    match reader.node(r) {
+        Node::Union(branches) => match first_matched(writer, w, reader, branches) {
+            Some(found) => Some(found.0),
+            None => None,
+        },
+        _ => None,
+    }
+}
+
+/// The first of a reader's branches that matches a writer's node, with its node.
+fn first_matched(
+    writer: &Schema,
+    w: NodeId,
+    reader: &Schema,
+    branches: &[NodeId],
+) -> Option<(usize, NodeId)>
+    ensures { IsFirst (schema_nodes writer.now) (schema_nodes reader.now)
+        (node_at (schema_nodes writer.now) w.0) (places_of branches.now) result }
+{
+    for place in 0..branches.len() {
+        let branch = branches[place];
+        if matches(writer, w, reader, branch) {
+            return Some((place, branch));
+        }
+    }
+    None
+}
+
+/// Where a pair of nodes leads.
+pub fn aim(writer: &Schema, w: NodeId, reader: &Schema, r: NodeId) -> Aim
+    ensures { IsAim (schema_nodes writer.now) (schema_nodes reader.now)
+        (node_at (schema_nodes writer.now) w.0) (node_at (schema_nodes reader.now) r.0) result }
+{
+    if (r.0 as usize) < reader.len() {
+        aim_at(writer, w, reader, r, reader.node(r))
+    } else {
+        aim_at(writer, w, reader, r, &Node::Null)
+    }
+}
+
+/// Where a pair of nodes leads, the reader's of which is at hand.
+fn aim_at(writer: &Schema, w: NodeId, reader: &Schema, r: NodeId, node: &Node) -> Aim
+    requires there { node_of node.now ≡ node_at (schema_nodes reader.now) r.0 }
+    requires few { HasFewChoices (node_of node.now) }
+    ensures { IsAim (schema_nodes writer.now) (schema_nodes reader.now)
+        (node_at (schema_nodes writer.now) w.0) (node_at (schema_nodes reader.now) r.0) result }
+{
+    match node {
+        Node::Union(branches) => match first_matched(writer, w, reader, branches) {
+            Some(found) => Aim::To(Some(found.0 as u32), found.1),
+            None => Aim::Fault(FaultKind::NoBranch),
+        },
+        _ => {
+            if matches(writer, w, reader, r) {
+                Aim::To(None, r)
+            } else {
+                Aim::Fault(FaultKind::NoMatch)
+            }
+        }
+    }
+}

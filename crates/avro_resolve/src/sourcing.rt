@@ -1,0 +1,106 @@
+ghost use Rattle.std.specs.Prelude.{◌≡◌, true, slice_get, unwrap_or, bytes_eq};
+ghost use Rattle.std.specs.List.{flat_map};
+ghost use Rattle.avro_schema.specs.Distinct.{are_distinct};
+ghost use Rattle.avro_schema.specs.WellFormed.{field_names};
+ghost use Rattle.avro_schema.specs.Node.{node_at, field_places};
+ghost use Rattle.avro_schema.specs.Seen.{seen_fields, field_of};
+ghost use Rattle.avro_schema.specs.SeenSchema.{schema_nodes};
+ghost use Rattle.avro_resolve.specs.Source.{field_place, source_of, missing_field};
+ghost use Rattle.avro_resolve.specs.Resolve.{fields_at};
+ghost use Rattle.avro_resolve.specs.Pairs.{field_for};
+
+use crate::guided::At;
+use avro_schema::{Field, Node, NodeId, RecordNode, Schema};
+
+/// The first place of a field of a name.
+fn place_named(fields: &[Field], name: &str) -> Option<usize>
+    ensures { result ≡ field_place (seen_fields fields.now) name.now }
+{
+    for place in 0..fields.len() {
+        if fields[place].name.as_str() == name {
+            return Some(place);
+        }
+    }
+    None
+}
+
+/// The place of the field of a writer's record that a reader's field takes its value from: the one of
+/// its name, else that of its first alias that names one (Avro 1.11, "Schema Resolution", "Aliases").
+pub fn source(writer: &RecordNode, field: &Field) -> Option<usize>
+    ensures { result ≡ source_of (seen_fields writer.now.fields.items) (field_of field.now) }
+{
+    source_among(&writer.fields, field)
+}
+
+/// The same among some fields.
+pub fn source_among(fields: &[Field], f: &Field) -> Option<usize>
+    ensures { result ≡ source_of (seen_fields fields.now) (field_of f.now) }
+{
+    match place_named(fields, f.name.as_str()) {
+        Some(place) => return Some(place),
+        None => {}
+    }
+    for alias in &f.aliases {
+        match place_named(fields, alias.as_str()) {
+            Some(place) => return Some(place),
+            None => {}
+        }
+    }
+    None
+}
+
+/// The first reader's field without a source and a default.
+pub fn missing(writer: &[Field], reader: &[Field]) -> Option<usize>
+    ensures { result ≡ missing_field (seen_fields writer.now) (seen_fields reader.now) }
+{
+    for place in 0..reader.len() {
+        let field = &reader[place];
+        if source_among(writer, field).is_none() && field.default.is_none() {
+            return Some(place);
+        }
+    }
+    None
+}
+
+/// The fields of a node, and none where it has none.
+pub fn fields_of(schema: &Schema, id: NodeId) -> &[Field]
+    ensures seen { seen_fields result.now ≡ fields_at (node_at (schema_nodes schema.now) id.0) }
+    ensures distinct { are_distinct bytes_eq (flat_map field_names (seen_fields result.now)) ≡ true }
+{
+    if (id.0 as usize) >= schema.len() {
+        return &[];
+    }
+    match schema.node(id) {
+        Node::Record(record) => &record.fields,
+        _ => &[],
+    }
+}
+
+/// The node of the field at a place.
+fn node_of_field(fields: &[Field], place: usize) -> NodeId
+    ensures { result.0 ≡ unwrap_or (slice_get (field_places (seen_fields fields.now)) place) 0 }
+{
+    if place < fields.len() {
+        fields[place].node
+    } else {
+        NodeId(0)
+    }
+}
+
+/// What the writer's field at a place is for.
+pub fn part_for(writer: &[Field], reader: &[Field], place: usize) -> At
+    ensures { result ≡ field_for (seen_fields writer.now) (seen_fields reader.now) place }
+{
+    let node = node_of_field(writer, place);
+    for f in reader {
+        match source_among(writer, f) {
+            Some(k) => {
+                if k == place {
+                    return At::Pair(node, f.node);
+                }
+            }
+            None => {}
+        }
+    }
+    At::Ignored
+}

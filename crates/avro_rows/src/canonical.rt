@@ -1,0 +1,121 @@
+use crate::program::outcome_of;
+use avro_canonical::{canonical, fingerprint, fingerprint_text};
+use avro_schema_json::read_schema;
+use std::fs;
+use std::test::Fail;
+
+const NODE: &str =
+    r#"{"name":"Node","type":"record","fields":[{"name":"value","type":"int"},{"name":"next","type":["null","Node"]}]}"#;
+
+const OWN_NAMESPACE: &str =
+    r#"{"type":"record","name":"a.R","fields":[{"name":"e","type":{"type":"enum","name":"E","namespace":"","symbols":["X"]}}]}"#;
+
+const OWN_NAMESPACE_FORM: &str =
+    r#"{"name":"a.R","type":"record","fields":[{"name":"e","type":{"name":"E","type":"enum","symbols":["X"]}}]}"#;
+
+#[test]
+fn forms_of_worked_rows(rt: HostRuntime) -> Result<(), Fail> {
+    let alloc = rt.alloc();
+    for (text, form) in [
+        (r#"{"type":"int","doc":"x"}"#, "\"int\""),
+        (
+            r#"["null", {"type" : "boolean"}, "long", "bytes", "string"]"#,
+            r#"["null","boolean","long","bytes","string"]"#,
+        ),
+        (
+            r#"{"type":"fixed","name":"F","namespace":"a","size":16,"doc":"x"}"#,
+            r#"{"name":"a.F","type":"fixed","size":16}"#,
+        ),
+        (
+            r#"{"type":"record","name":"Node","aliases":["Old"],"doc":"d","fields":[{"type":"int","name":"value","default":3,"order":"ignore"},{"name":"next","aliases":["n"],"type":["null","Node"],"default":null}]}"#,
+            NODE,
+        ),
+        (OWN_NAMESPACE, OWN_NAMESPACE_FORM),
+        (
+            r#"{"symbols":["A","B"],"default":"B","name":"E","type":"enum","namespace":"x.y"}"#,
+            r#"{"name":"x.y.E","type":"enum","symbols":["A","B"]}"#,
+        ),
+        (
+            r#"["null",{"values":{"size":0,"name":"F","type":"fixed"},"type":"map"},{"items":"F","type":"array"}]"#,
+            r#"["null",{"type":"map","values":{"name":"F","type":"fixed","size":0}},{"type":"array","items":"F"}]"#,
+        ),
+        (
+            r#"{"type":"record","name":"R","namespace":"n","fields":[{"name":"f","type":{"type":"record","name":"S","fields":[{"name":"r","type":"R"},{"name":"s","type":"S"}]}},{"name":"g","type":"n.S"},{"name":"h","type":{"type":"record","name":"T","fields":[]}}]}"#,
+            r#"{"name":"n.R","type":"record","fields":[{"name":"f","type":{"name":"n.S","type":"record","fields":[{"name":"r","type":"n.R"},{"name":"s","type":"n.S"}]}},{"name":"g","type":"n.S"},{"name":"h","type":{"name":"n.T","type":"record","fields":[]}}]}"#,
+        ),
+    ] {
+        let schema = read_schema(alloc, text.as_bytes())?;
+        assert_eq!(rt; canonical(alloc, &schema)?.as_str(), form);
+    }
+    Ok(())
+}
+
+#[test]
+fn forms_read_again_are_the_same(rt: HostRuntime) -> Result<(), Fail> {
+    let alloc = rt.alloc();
+    for form in [
+        "\"int\"",
+        r#"{"name":"a.F","type":"fixed","size":16}"#,
+        NODE,
+        r#"["null",{"type":"map","values":{"name":"F","type":"fixed","size":0}},{"type":"array","items":"F"}]"#,
+        r#"{"name":"n.R","type":"record","fields":[{"name":"f","type":{"name":"n.S","type":"record","fields":[{"name":"r","type":"n.R"}]}},{"name":"g","type":"n.S"}]}"#,
+    ] {
+        let schema = read_schema(alloc, form.as_bytes())?;
+        assert_eq!(rt; canonical(alloc, &schema)?.as_str(), form);
+    }
+    let schema = read_schema(alloc, OWN_NAMESPACE_FORM.as_bytes())?;
+    assert_eq!(rt;
+        canonical(alloc, &schema)?.as_str(),
+        r#"{"name":"a.R","type":"record","fields":[{"name":"e","type":{"name":"a.E","type":"enum","symbols":["X"]}}]}"#
+    );
+    Ok(())
+}
+
+#[test]
+fn fingerprints_are_of_the_canonical_form(rt: HostRuntime) -> Result<(), Fail> {
+    let alloc = rt.alloc();
+    let int = read_schema(alloc, br#"{"type":"int","doc":"x"}"#)?;
+    let digest = fingerprint(alloc, &int)?;
+    assert_eq!(rt; digest[0], 0x3f);
+    assert_eq!(rt; digest[31], 0x45);
+    assert_eq!(rt;
+        fingerprint_text(alloc, &int)?.as_str(),
+        "3f2b87a9fe7cc9b13835598c3981cd45e3e355309e5090aa0933d7becb6fba45"
+    );
+    let node = read_schema(alloc, NODE.as_bytes())?;
+    assert_eq!(rt;
+        fingerprint_text(alloc, &node)?.as_str(),
+        "ae521c2998dc71fdc22f21948a8be1ff6981ada458f93ee7a3916a8565eb9bbf"
+    );
+    Ok(())
+}
+
+#[test]
+fn the_program_shows_forms_and_fingerprints(rt: HostRuntime) -> Result<(), Fail> {
+    fs::write(&rt, "form.avsc", OWN_NAMESPACE)?;
+    let ran = outcome_of(&rt, &["schema", "form.avsc", "--canonical"])?;
+    assert_eq!(rt; ran.status, 0);
+    assert_eq!(rt;
+        ran.out.as_slice(),
+        "{\"name\":\"a.R\",\"type\":\"record\",\"fields\":[{\"name\":\"e\",\"type\":{\"name\":\"E\",\"type\":\"enum\",\"symbols\":[\"X\"]}}]}\n".as_bytes()
+    );
+    assert!(rt; ran.err.is_empty());
+    fs::write(&rt, "form.avsc", r#"{"type":"int","doc":"x"}"#)?;
+    let ran = outcome_of(&rt, &["schema", "--fingerprint", "form.avsc"])?;
+    assert_eq!(rt; ran.status, 0);
+    assert_eq!(rt;
+        ran.out.as_slice(),
+        "3f2b87a9fe7cc9b13835598c3981cd45e3e355309e5090aa0933d7becb6fba45\n".as_bytes()
+    );
+    let ran = outcome_of(
+        &rt,
+        &["schema", "form.avsc", "--canonical", "--fingerprint"],
+    )?;
+    assert_eq!(rt; ran.status, 64);
+    assert!(rt; ran.out.is_empty());
+    fs::write(&rt, "form.avsc", "\"Foo\"")?;
+    let ran = outcome_of(&rt, &["schema", "form.avsc", "--canonical"])?;
+    assert_eq!(rt; ran.status, 3);
+    assert_eq!(rt; ran.err.as_slice(), "avro: form.avsc: S2\n".as_bytes());
+    Ok(())
+}

@@ -1,0 +1,249 @@
+//! Whether one node is among those that a JSON value is no default of.
+
+ghost use Rattle.std.specs.Prelude.{◌≡◌, true, None, List, IfOk};
+ghost use Rattle.std.specs.List.{list_all};
+ghost use Rattle.avro_name.specs.Name.{Name};
+ghost use Rattle.avro_schema.specs.Node.{Node as SeenNode, FieldNode, node_at};
+ghost use Rattle.avro_schema.specs.Seen.{node_of, places_of};
+ghost use Rattle.avro_schema_json.specs.Misfits.{has_place, is_misfit as is_misfit_by, AreItemMisfits, AreMemberMisfits, IsMemberMisfit};
+ghost use Rattle.avro_schema_json.specs.OwnDefaults.{own_default as own_default_by, default_of_fields, fields_seen, bare_of, bares_of};
+ghost use Rattle.avro_schema_json.specs.DeclaredDefaults.{each_default, entries_default};
+ghost use Rattle.serde_json.specs.Data.{Data, Items, Members};
+ghost use Rattle.serde_json.specs.View.{view, members_view};
+
+use crate::defaults::{branches, names_fields, raw_at};
+use crate::fields::Fields;
+use crate::plain_defaults::{
+    boolean_default, enum_default, null_default, number_default, text_default,
+};
+use crate::raw::RawNode;
+use avro_schema::{Memory, Node, NodeId};
+use serde_json::{Map, Value};
+use std::alloc::Global;
+use std::collections::{BTreeMap, BTreeSet};
+
+/// Whether the node at a place is among some, or a union of such nodes.
+pub(crate) fn is_misfit(raws: &[RawNode], places: &BTreeSet<u32>, place: NodeId) -> bool
+    ensures { result ≡ is_misfit_by (bares_of raws.now) places.now place.0 }
+{
+    let null = RawNode::Plain(Node::Null);
+    match branches(raw_at(&*raws, &null, place)) {
+        None => has(places, place),
+        Some(branches) => has_each(places, branches),
+    }
+}
+
+/// Whether a place is among some.
+pub(crate) fn has(places: &BTreeSet<u32>, place: NodeId) -> bool
+    ensures { result ≡ has_place places.now place.0 }
+{
+    places.contains(&place.0)
+}
+
+/// Whether each of these places is among some.
+fn has_each(places: &BTreeSet<u32>, asked: &[NodeId]) -> bool
+    ensures { result ≡ list_all (has_place places.now) (places_of asked.now) }
+{
+    for place in asked {
+        if !has(places, *place) {
+            return false;
+        }
+    }
+    true
+}
+
+/// Whether JSON without parts is no default of the node at a place.
+pub(crate) fn is_leaf_misfit(
+    alloc: Global,
+    raws: &[RawNode],
+    tree: &Value,
+    place: NodeId,
+) -> Result<bool, Memory>
+    ensures { IfOk result (λ answer. answer ≡ true → own_default_by (bares_of raws.now) (view tree.now) (node_at (bares_of raws.now) place.0) ≡ None) }
+{
+    let null = RawNode::Plain(Node::Null);
+    match raw_at(&*raws, &null, place) {
+        RawNode::Plain(node) => is_plain_misfit(alloc, tree, node),
+        RawNode::Enum(raw) => Ok(enum_default(tree, raw).is_none()),
+        RawNode::Record(_) => Ok(is_no_object(tree)),
+    }
+}
+
+/// Whether JSON is no object.
+fn is_no_object(tree: &Value) -> bool
+    ensures { (nodes : List SeenNode) (fields : List FieldNode) (name : Name) (aliases : List Name) → result ≡ true
+        → own_default_by nodes (view tree.now) (SeenNode.record_of name aliases fields) ≡ None }
+{
+    match tree {
+        Value::Null => true,
+        Value::Bool(_) => true,
+        Value::Number(_) => true,
+        Value::String(_) => true,
+        Value::Array(_) => true,
+        Value::Object(_) => false,
+    }
+}
+
+/// Whether JSON without parts is no default of a node.
+fn is_plain_misfit(alloc: Global, tree: &Value, node: &Node) -> Result<bool, Memory>
+    ensures { IfOk result (λ answer. (nodes : List SeenNode) → answer ≡ true → own_default_by nodes (view tree.now) (node_of node.now) ≡ None) }
+{
+    match tree {
+        Value::Null => Ok(null_default(node).is_none()),
+        Value::Bool(value) => Ok(boolean_default(*value, node).is_none()),
+        Value::Number(number) => Ok(number_default(*number, node).is_none()),
+        Value::String(text) => Ok(text_default(alloc, text.as_str(), node)?.is_none()),
+        Value::Array(_) => Ok(false),
+        Value::Object(_) => Ok(false),
+    }
+}
+
+/// Whether an array is no default of the node at a place, by the sets of its items.
+pub(crate) fn is_array_misfit(raws: &[RawNode], parts: &[BTreeSet<u32>], place: NodeId) -> bool
+    ensures { result ≡ true → (ds : Items) → AreItemMisfits (bares_of raws.now) ds parts.now
+        → own_default_by (bares_of raws.now) (Data.array ds) (node_at (bares_of raws.now) place.0) ≡ None }
+{
+    let null = RawNode::Plain(Node::Null);
+    match raw_at(&*raws, &null, place) {
+        RawNode::Plain(node) => match node {
+            Node::Array(items) => is_one_misfit(raws, parts, *items),
+            Node::Null | Node::Boolean | Node::Int | Node::Long | Node::Bytes | Node::Str => true,
+            Node::Map(_) | Node::Enum(_) | Node::Fixed(_) => true,
+            Node::Union(_) | Node::Record(_) => true,
+        },
+        RawNode::Enum(_) => true,
+        RawNode::Record(_) => true,
+    }
+}
+
+/// Whether one of the items is no default of the node at a place.
+fn is_one_misfit(raws: &[RawNode], parts: &[BTreeSet<u32>], place: NodeId) -> bool
+    ensures { result ≡ true → (ds : Items) → AreItemMisfits (bares_of raws.now) ds parts.now
+        → each_default (bares_of raws.now) ds (node_at (bares_of raws.now) place.0) ≡ None }
+{
+    for part in parts {
+        if is_misfit(raws, part, place) {
+            return true;
+        }
+    }
+    false
+}
+
+/// Whether an object is no default of the node at a place, by the sets of its members.
+pub(crate) fn is_object_misfit(
+    alloc: Global,
+    raws: &[RawNode],
+    members: &Map<String, Value>,
+    parts: &BTreeMap<&str, BTreeSet<u32>>,
+    place: NodeId,
+) -> Result<bool, Memory>
+    ensures { IfOk result (λ answer. answer ≡ true → AreMemberMisfits (bares_of raws.now) (members_view members.now.entries) parts.now
+        → own_default_by (bares_of raws.now) (Data.object (members_view members.now.entries)) (node_at (bares_of raws.now) place.0) ≡ None) }
+{
+    let null = RawNode::Plain(Node::Null);
+    match raw_at(&*raws, &null, place) {
+        RawNode::Plain(node) => match node {
+            Node::Map(values) => Ok(is_map_misfit(raws, members, parts, *values)),
+            Node::Null | Node::Boolean | Node::Int | Node::Long | Node::Bytes | Node::Str => Ok(
+                true,
+            ),
+            Node::Array(_) | Node::Enum(_) | Node::Fixed(_) | Node::Union(_) => Ok(true),
+            Node::Record(_) => Ok(false),
+        },
+        RawNode::Enum(_) => Ok(true),
+        RawNode::Record(record) => {
+            is_record_misfit(alloc, raws, members, parts, Fields::Raw(&record.fields))
+        }
+    }
+}
+
+/// Whether one of the members is no default of the node at a place.
+fn is_map_misfit(
+    raws: &[RawNode],
+    members: &Map<String, Value>,
+    parts: &BTreeMap<&str, BTreeSet<u32>>,
+    place: NodeId,
+) -> bool
+    ensures { result ≡ true → AreMemberMisfits (bares_of raws.now) (members_view members.now.entries) parts.now
+        → entries_default (bares_of raws.now) (members_view members.now.entries) (node_at (bares_of raws.now) place.0) ≡ None }
+{
+    for (key, _) in members.iter() {
+        if is_member_misfit(raws, parts, key.as_str(), place) {
+            return true;
+        }
+    }
+    false
+}
+
+/// Whether the member of a key is no default of the node at a place.
+fn is_member_misfit(
+    raws: &[RawNode],
+    parts: &BTreeMap<&str, BTreeSet<u32>>,
+    key: &str,
+    place: NodeId,
+) -> bool
+    ensures { result ≡ true → (ms : Members) → AreMemberMisfits (bares_of raws.now) ms parts.now → IsMemberMisfit (bares_of raws.now) ms key.now place.0 }
+{
+    match parts.get(key) {
+        Some(part) => is_misfit(raws, part, place),
+        None => false,
+    }
+}
+
+/// Whether an object is no record of fields.
+fn is_record_misfit(
+    alloc: Global,
+    raws: &[RawNode],
+    members: &Map<String, Value>,
+    parts: &BTreeMap<&str, BTreeSet<u32>>,
+    fields: Fields<'_>,
+) -> Result<bool, Memory>
+    ensures { IfOk result (λ answer. answer ≡ true → AreMemberMisfits (bares_of raws.now) (members_view members.now.entries) parts.now
+        → default_of_fields (bares_of raws.now) (members_view members.now.entries) (fields_seen fields.entry) ≡ None) }
+{
+    if lacks_field(members, fields) {
+        return Ok(true);
+    }
+    if is_field_misfit(raws, parts, fields) {
+        return Ok(true);
+    }
+    Ok(!names_fields(alloc, members, fields)?)
+}
+
+/// Whether there is no member for one of the fields.
+pub(crate) fn lacks_field(members: &Map<String, Value>, fields: Fields<'_>) -> bool
+    ensures { result ≡ true → (nodes : List SeenNode) → default_of_fields nodes (members_view members.now.entries) (fields_seen fields.entry) ≡ None }
+{
+    for i in 0..fields.len() {
+        let Some((name, place)) = fields.get(i) else {
+            return false;
+        };
+        let _ = place;
+        let Some(_) = members.get(name) else {
+            return true;
+        };
+    }
+    false
+}
+
+/// Whether the member of one of the fields is no default of it.
+fn is_field_misfit(
+    raws: &[RawNode],
+    parts: &BTreeMap<&str, BTreeSet<u32>>,
+    fields: Fields<'_>,
+) -> bool
+    ensures { result ≡ true → (ms : Members) → AreMemberMisfits (bares_of raws.now) ms parts.now
+        → default_of_fields (bares_of raws.now) ms (fields_seen fields.entry) ≡ None }
+{
+    for i in 0..fields.len() {
+        match fields.get(i) {
+            Some((name, place)) => {
+                if is_member_misfit(raws, parts, name, place) {
+                    return true;
+                }
+            }
+            None => {}
+        }
+    }
+    false
+}

@@ -1,0 +1,164 @@
+//! Which nodes a JSON value is no default of. Each value is looked at once, with all the nodes that are
+//! asked of it.
+
+ghost use Rattle.std.specs.Prelude.{◌≡◌, ◌⊎◌, ℕ, true, None, IfOk, OnOk};
+ghost use Rattle.std.specs.List.{list_all};
+ghost use Rattle.avro_schema.specs.Node.{node_at};
+ghost use Rattle.avro_schema.specs.Seen.{places_of};
+ghost use Rattle.avro_schema_json.specs.Misfits.{has_place, is_misfit as is_misfit_by, AreMisfits, AreItemMisfits, AreMemberMisfits};
+ghost use Rattle.avro_schema_json.specs.OwnDefaults.{own_default as own_default_by, bares_of};
+ghost use Rattle.serde_json.specs.Data.{Data, Items};
+ghost use Rattle.serde_json.specs.View.{view, items_view, members_view};
+
+use crate::asks::{asked_items, asked_members, own_places};
+use crate::misfit::{is_array_misfit, is_leaf_misfit, is_object_misfit};
+use crate::raw::RawNode;
+use avro_schema::{Memory, NodeId};
+use serde_json::{Map, Value};
+use std::alloc::Global;
+use std::collections::{BTreeMap, BTreeSet};
+
+/// The nodes that JSON is no default of, among those that are asked of it, unions by their branches.
+#[cycle(misfits)]
+pub(crate) fn misfits_of(
+    alloc: Global,
+    raws: &[RawNode],
+    tree: &Value,
+    asked: &[NodeId],
+) -> Result<BTreeSet<u32>, Memory>
+    ensures { IfOk result (λ places. AreMisfits (bares_of raws.now) (view tree.now) places) }
+{
+    let own = own_places(alloc, raws, asked)?;
+    match tree {
+        Value::Array(items) => {
+            let parts = item_misfits(alloc, raws, items, &own)?;
+            array_misfits(alloc, raws, items, &parts, &own)
+        }
+        Value::Object(members) => {
+            let parts = member_misfits(alloc, raws, members, &own)?;
+            object_misfits(alloc, raws, members, &parts, &own)
+        }
+        _ => leaf_misfits(alloc, raws, tree, &own),
+    }
+}
+
+/// For each item, the nodes that it is no default of.
+#[cycle(misfits)]
+fn item_misfits(
+    alloc: Global,
+    raws: &[RawNode],
+    items: &Vec<Value>,
+    own: &[NodeId],
+) -> Result<Vec<BTreeSet<u32>>, Memory>
+    ensures { IfOk result (λ parts. AreItemMisfits (bares_of raws.now) (items_view items.now.items) parts.items) }
+{
+    let asked = asked_items(alloc, raws, own)?;
+    let mut parts: Vec<BTreeSet<u32>> = Vec::new(alloc);
+    for item in items {
+        let part = misfits_of(alloc, raws, item, &asked)?;
+        match parts.push(part) {
+            Ok(()) => {}
+            Err(_) => return Err(Memory),
+        }
+    }
+    Ok(parts)
+}
+
+/// For each member, the nodes that it is no default of.
+#[cycle(misfits)]
+fn member_misfits<'a>(
+    alloc: Global,
+    raws: &[RawNode],
+    members: &'a Map<String, Value>,
+    own: &[NodeId],
+) -> Result<BTreeMap<&'a str, BTreeSet<u32>>, Memory>
+    ensures { IfOk result (λ parts. AreMemberMisfits (bares_of raws.now) (members_view members.now.entries) parts) }
+{
+    let asked = asked_members(alloc, raws, members, own)?;
+    let mut parts: BTreeMap<&'a str, BTreeSet<u32>> = BTreeMap::new(alloc);
+    for (key, _) in members.iter() {
+        let key = key.as_str();
+        match asked.get(key) {
+            Some(of_member) => match members.get(key) {
+                Some(tree) => {
+                    let part = misfits_of(alloc, raws, tree, &of_member.places)?;
+                    match parts.insert(key, part) {
+                        Ok(_) => {}
+                        Err(_) => return Err(Memory),
+                    }
+                }
+                None => {}
+            },
+            None => {}
+        }
+    }
+    Ok(parts)
+}
+
+/// Adds a place.
+fn add(places: &mut BTreeSet<u32>, place: NodeId) -> Result<(), Memory>
+    ensures { OnOk result ((m : ℕ) → has_place places.new m ≡ true → (has_place places.old m ≡ true) ⊎ (m ≡ place.0)) }
+{
+    match places.insert(place.0) {
+        Ok(_) => Ok(()),
+        Err(_) => Err(Memory),
+    }
+}
+
+/// The nodes that JSON without parts is no default of.
+fn leaf_misfits(
+    alloc: Global,
+    raws: &[RawNode],
+    tree: &Value,
+    own: &[NodeId],
+) -> Result<BTreeSet<u32>, Memory>
+    ensures { IfOk result (λ places. AreMisfits (bares_of raws.now) (view tree.now) places) }
+{
+    let mut places: BTreeSet<u32> = BTreeSet::new(alloc);
+    for place in own {
+        if is_leaf_misfit(alloc, raws, tree, *place)? {
+            add(&mut places, *place)?;
+        }
+    }
+    Ok(places)
+}
+
+/// The nodes that an array is no default of, by the sets of its items.
+fn array_misfits(
+    alloc: Global,
+    raws: &[RawNode],
+    _items: &Vec<Value>,
+    parts: &[BTreeSet<u32>],
+    own: &[NodeId],
+) -> Result<BTreeSet<u32>, Memory>
+    ensures { IfOk result (λ places. AreItemMisfits (bares_of raws.now) (items_view _items.now.items) parts.now
+        → AreMisfits (bares_of raws.now) (Data.array (items_view _items.now.items)) places) }
+{
+    let mut places: BTreeSet<u32> = BTreeSet::new(alloc);
+    for place in own {
+        if is_array_misfit(raws, parts, *place) {
+            add(&mut places, *place)?;
+        }
+    }
+    Ok(places)
+}
+
+/// The nodes that an object is no default of, by the sets of its members.
+fn object_misfits(
+    alloc: Global,
+    raws: &[RawNode],
+    members: &Map<String, Value>,
+    parts: &BTreeMap<&str, BTreeSet<u32>>,
+    own: &[NodeId],
+) -> Result<BTreeSet<u32>, Memory>
+    ensures { IfOk result (λ places. AreMemberMisfits (bares_of raws.now) (members_view members.now.entries) parts.now
+        → AreMisfits (bares_of raws.now) (Data.object (members_view members.now.entries)) places) }
+{
+    let mut places: BTreeSet<u32> = BTreeSet::new(alloc);
+    for place in own {
+        if is_object_misfit(alloc, raws, members, parts, *place)? {
+            add(&mut places, *place)?;
+        }
+    }
+    Ok(places)
+}

@@ -1,0 +1,5 @@
+use Rattle.avro_zigzag.proofs.NumberOrFault.{int_stands_or_fails}
+use Rattle.avro_zigzag.proofs.laws.int_or_fault.Goals as goal
+
+pub returns : goal.returns
+returns c = int_stands_or_fails
