@@ -4,7 +4,7 @@ use Rattle.std.specs.Prelude.{neg_ℤ, nat_abs}
 use Rattle.std.specs.List.{concat}
 use Rattle.std.proofs.lemmas.Bool.Decides.{nat_tests}
 use Rattle.avro_zigzag.specs.Number.{SpellsLong, is_long}
-use Rattle.avro_zigzag.proofs.Spelling.{one_spelling_lem}
+use Rattle.avro_zigzag.proofs.public.Spelling.{one_spelling_lem}
 use Rattle.avro_binary.specs.Blocks.{IsInBlocks}
 use Rattle.avro_binary.specs.Breaks.{Head, head_count, head_bytes, IsHead, HasSize}
 use Rattle.avro_binary.proofs.FrontBlocks.{joined_three, joined_four, same_behind, same_from_pos, same_from_neg, neg-apart}

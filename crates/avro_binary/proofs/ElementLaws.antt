@@ -4,10 +4,10 @@ use Rattle.std.proofs.lemmas.Bool.{and_parts}
 use Rattle.std.proofs.lemmas.List.{append_cancel_left}
 use Rattle.std.specs.Str.{is_utf8}
 use Rattle.std.proofs.Math.Seq.{take-append_seam}
-use Rattle.avro_zigzag.proofs.Spelling.{one_spelling_lem}
-use Rattle.avro_zigzag.proofs.Faults.{long-excludes_fault, int-excludes_fault, one_fault as one_number_fault}
+use Rattle.avro_zigzag.proofs.public.Spelling.{one_spelling_lem}
+use Rattle.avro_zigzag.proofs.public.Faults.{long-excludes_fault, int-excludes_fault, one_fault as one_number_fault}
 use Rattle.avro_schema.specs.Fits.{is_long, is_count, is_text}
-use Rattle.avro_schema.proofs.FitsParts.{is_count-below}
+use Rattle.avro_schema.proofs.public.FitsParts.{is_count-below}
 use Rattle.avro_binary.specs.Encoding.{SpellsBytes}
 use Rattle.avro_binary.proofs.Front.{same_front}
 use Rattle.avro_binary.specs.Fault.{ReadFault, end_of_input, invalid_text, invalid_length, limit_exceeded, behind}

@@ -4,12 +4,12 @@ use Rattle.std.specs.Prelude.{◌==◌}
 use Rattle.std.specs.List.{concat}
 use Rattle.std.proofs.lemmas.Bool.{and_parts, false≢true}
 use Rattle.std.proofs.lemmas.Bool.Decides.{nat_tests}
-use Rattle.avro_zigzag.proofs.Spelling.{one_spelling_lem}
+use Rattle.avro_zigzag.proofs.public.Spelling.{one_spelling_lem}
 use Rattle.avro_schema.specs.Value.{Value, Values, Entries, no_values, value, no_entries, entry}
 use Rattle.avro_schema.specs.Node.{Node, node_at, field_places}
 use Rattle.avro_schema.specs.Fits.{fits, each_fits, entries_fit, fields_fit}
-use Rattle.avro_schema.proofs.FitsParts.{ArrayFits-from_fits, MapFits-from_fits, UnionFits-from_fits, RecordFits-from_fits}
-use Rattle.avro_schema.proofs.FitsKind.{FitsKind-from_fits, null_value, boolean_value, int_value, long_value}
+use Rattle.avro_schema.proofs.public.FitsParts.{ArrayFits-from_fits, MapFits-from_fits, UnionFits-from_fits, RecordFits-from_fits}
+use Rattle.avro_schema.proofs.public.FitsKind.{FitsKind-from_fits, null_value, boolean_value, int_value, long_value}
 use Rattle.avro_binary.specs.Encoding.{SpellsBytes, Spells, EachSpelled, EntriesSpelled, Encodes}
 use Rattle.avro_binary.proofs.FrontBlocks.{Each, IsAlone, same_behind, same_from_pos, same_blocks}
 use Rattle.avro_binary.proofs.KindOf.{kind_at, bytes_value, string_value, array_value, map_value, union_value, record_value, enum_value, fixed_value, enum-from_symbols_of, fixed-from_fixed_length}

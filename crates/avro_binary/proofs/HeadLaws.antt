@@ -4,7 +4,7 @@ use Rattle.std.proofs.lemmas.Int.{ints}
 use Rattle.std.proofs.lemmas.List.{take-append-drop}
 use Rattle.std.proofs.Math.Seq.{take-add}
 use Rattle.avro_zigzag.specs.Number.{SpellsLong}
-use Rattle.avro_zigzag.proofs.Spelling.{one_spelling_lem, is_long-zigzag}
+use Rattle.avro_zigzag.proofs.public.Spelling.{one_spelling_lem, is_long-zigzag}
 use Rattle.avro_schema.specs.Fits.{is_long}
 use Rattle.avro_binary.specs.Fault.{ReadFault, invalid_length, limit_exceeded, behind}
 use Rattle.avro_binary.specs.Breaks.{LongBreaks, StartsWithLong, Head, counted, sized, HeadBreaks, count_fails, count_least, count_over, size_fails, size_negative}

@@ -7,7 +7,7 @@ use Rattle.avro_schema.specs.Value.{Value, Values, Entries, values_count, keys_o
 use Rattle.avro_schema.specs.Node.{Node, FieldNode, node_at, symbols_of, fixed_length, field_places}
 use Rattle.avro_schema.specs.Fits.{fits, each_fits, entries_fit, fields_fit, is_count, are_bytes, is_text}
 use Rattle.avro_schema.specs.Distinct.{are_distinct}
-use Rattle.avro_schema.proofs.FitsKind.{FitsKind, FitsKind-from_fits}
+use Rattle.avro_schema.proofs.public.FitsKind.{FitsKind, FitsKind-from_fits}
 
 -- the kind of a datum, seen at a node that is the same
 pub kind_at : (nodes : List Node) (n m : Node) (v : Value) → n ≡ m → fits nodes n v ≡ true → FitsKind nodes m v

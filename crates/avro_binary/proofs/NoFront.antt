@@ -7,22 +7,22 @@ use Rattle.std.proofs.lemmas.Bool.{and_parts, false≢true}
 use Rattle.std.proofs.lemmas.Bool.Decides.{nat_tests}
 use Rattle.std.proofs.lemmas.Option.{slice_get_within}
 use Rattle.avro_zigzag.specs.Number.{SpellsInt}
-use Rattle.avro_zigzag.proofs.Faults.{long-excludes_fault, int-excludes_fault}
-use Rattle.avro_zigzag.proofs.Spelling.{one_spelling_lem}
+use Rattle.avro_zigzag.proofs.public.Faults.{long-excludes_fault, int-excludes_fault}
+use Rattle.avro_zigzag.proofs.public.Spelling.{one_spelling_lem}
 use Rattle.avro_schema.specs.Value.{Value, Values, no_values, value, size, depth, longest_blob, values_size}
 use Rattle.avro_schema.specs.Node.{Node, node_at, field_places}
 use Rattle.avro_schema.specs.Fits.{fits, fields_fit, are_bytes, is_count, LimitValues, is_within}
 use Rattle.avro_schema.specs.WellFormed.{is_schema}
-use Rattle.avro_schema.proofs.FitsParts.{is_count-below}
-use Rattle.avro_schema.proofs.FitsKind.{FitsKind, FitsKind-from_fits, boolean_value, int_value, long_value}
-use Rattle.avro_schema.proofs.Parts.{size-positive, depth-positive}
+use Rattle.avro_schema.proofs.public.FitsParts.{is_count-below}
+use Rattle.avro_schema.proofs.public.FitsKind.{FitsKind, FitsKind-from_fits, boolean_value, int_value, long_value}
+use Rattle.avro_schema.proofs.public.Parts.{size-positive, depth-positive}
 use Rattle.avro_binary.specs.Encoding.{Spells, EachSpelled, Encodes}
 use Rattle.avro_binary.specs.Fault.{ReadFault, limit_exceeded}
 use Rattle.avro_binary.specs.Breaks.{ChildBreaks, BooleanBreaks, FixedBreaks, IndexBreaks, BranchBreaks, FieldsBreak, ItemsAreWhole, EntriesAreWhole, EntryBreaks, NodeBreaks, BreaksWithin, Breaks}
 use Rattle.avro_binary.proofs.Front.{told}
 use Rattle.avro_binary.proofs.FrontBlocks.{same_behind, same_from_pos}
 use Rattle.avro_binary.proofs.KindOf.{bytes_value, string_value, array_value, map_value, union_value, record_value, enum_value, fixed_value}
-use Rattle.avro_binary.proofs.Choices.{HasFewChoices, HasFewChoices-from_is_schema}
+use Rattle.avro_binary.proofs.public.Choices.{HasFewChoices, HasFewChoices-from_is_schema}
 use Rattle.avro_binary.proofs.NoFrontBlocks.{behind_limit, blocks_none}
 use Rattle.avro_binary.proofs.NoFrontItems.{IsSmall, AreSmall, AreSmall-first, AreSmall-others, NoneAt, ValuesFollow, values_follow, EntriesFollow, entries_follow, is_text-short, is_text-valid}
 use Rattle.avro_binary.proofs.NoFrontParts.{below-from_test, content_none, index_none}

@@ -8,8 +8,8 @@ use Rattle.avro_schema.specs.Value.{Value, Values, Entries, no_values, value, no
 use Rattle.avro_schema.specs.Node.{Node}
 use Rattle.avro_schema.specs.Fits.{fits, each_fits, entries_fit, is_count, is_text, LimitValues}
 use Rattle.avro_schema.specs.Distinct.{are_distinct}
-use Rattle.avro_schema.proofs.FitsParts.{is_count-below}
-use Rattle.avro_schema.proofs.Parts.{size-positive}
+use Rattle.avro_schema.proofs.public.FitsParts.{is_count-below}
+use Rattle.avro_schema.proofs.public.Parts.{size-positive}
 use Rattle.avro_binary.specs.Encoding.{SpellsBytes, Spells, EachSpelled, EntriesSpelled}
 use Rattle.avro_binary.specs.Fault.{ReadFault, limit_exceeded}
 use Rattle.avro_binary.specs.Breaks.{Left, ItemsAreWhole, EntriesAreWhole, KeyBreaks, EntryBreaks, ChildBreaks}

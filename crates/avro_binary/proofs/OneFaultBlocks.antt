@@ -3,7 +3,7 @@ use Rattle.std.proofs.Common.{◌≡◌, ◌≢◌, ◌⊎◌, inl, inr, ℕ, ze
 use Rattle.std.specs.Prelude.{nat_abs}
 use Rattle.std.proofs.lemmas.Bool.{cases_lt}
 use Rattle.avro_zigzag.specs.Number.{SpellsLong}
-use Rattle.avro_zigzag.proofs.Spelling.{spelling-some}
+use Rattle.avro_zigzag.proofs.public.Spelling.{spelling-some}
 use Rattle.avro_binary.specs.Fault.{ReadFault, invalid_length, wrong_block_size, limit_exceeded, behind}
 use Rattle.avro_binary.specs.Breaks.{Left, LongBreaks, StartsWithLong, BreaksAfter, Head, IsHead, HeadBreaks, BlocksBreak}
 use Rattle.avro_binary.proofs.FrontBlocks.{same_behind}

@@ -7,8 +7,8 @@ use Rattle.std.proofs.lemmas.Bool.Decides.{nat_tests}
 use Rattle.std.proofs.lemmas.List.{take-append-drop}
 use Rattle.std.proofs.lemmas.List.Folds.{list_all-append}
 use Rattle.avro_zigzag.specs.Number.{SpellsInt, SpellsLong}
-use Rattle.avro_zigzag.proofs.NumberOrFault.{long_stands_or_fails, int_stands_or_fails}
-use Rattle.avro_zigzag.proofs.Spelling.{is_long-zigzag}
+use Rattle.avro_zigzag.proofs.public.NumberOrFault.{long_stands_or_fails, int_stands_or_fails}
+use Rattle.avro_zigzag.proofs.public.Spelling.{is_long-zigzag}
 use Rattle.avro_schema.specs.Fits.{is_int, is_long}
 use Rattle.avro_binary.specs.Fault.{ReadFault, end_of_input, invalid_boolean, invalid_text, unknown_index, invalid_length, duplicate_key, limit_exceeded, behind}
 use Rattle.avro_binary.specs.Breaks.{number_fault, IntBreaks, LongBreaks, BooleanBreaks, FixedBreaks, StartsWithLong, ContentBreaks, length_breaks, negative, too_long, cut, invalid, IndexBreaks, number_breaks, unknown, KeyBreaks, string_breaks, twice, counted, sized, HeadBreaks, count_fails, count_over, size_fails, size_negative}

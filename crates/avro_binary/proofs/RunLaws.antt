@@ -10,7 +10,7 @@ use Rattle.avro_schema.specs.Node.{Node, node_at}
 use Rattle.avro_schema.specs.Fits.{fits, each_fits, entries_fit, fields_fit, is_text, LimitValues}
 use Rattle.avro_schema.specs.Seen.{values_from, entries_from}
 use Rattle.avro_schema.specs.Distinct.{are_distinct}
-use Rattle.avro_schema.proofs.Parts.{size-positive}
+use Rattle.avro_schema.proofs.public.Parts.{size-positive}
 use Rattle.avro_binary.specs.Encoding.{EachSpelled, EntriesSpelled}
 use Rattle.avro_binary.specs.Breaks.{Left, ItemsAreWhole, EntriesAreWhole}
 use Rattle.avro_binary.specs.CursorReads.{ValuesRun, EntriesRun}

@@ -4,7 +4,7 @@ use lib.Utf8.{encode}
 use Rattle.std.specs.Fmt.{digits}
 use Rattle.avro_schema.specs.Value.{Value, no_values, entry, no_entries}
 use Rattle.avro_schema.specs.Node.{Node, root_of}
-use Rattle.avro_schema.proofs.RowsSchemas.{simply, within, one_value, two_values, string_and_long, long_or_int, three_symbols, array_of_one, array_of_int_union, map_of_int}
+use Rattle.avro_schema.proofs.public.RowsSchemas.{simply, within, one_value, two_values, string_and_long, long_or_int, three_symbols, array_of_one, array_of_int_union, map_of_int}
 use Rattle.serde_json.proofs.OnLiterals.{serde_json_on_literals}
 use Rattle.avro_display.specs.DisplayTree.{display_text}
 

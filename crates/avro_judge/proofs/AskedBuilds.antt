@@ -10,7 +10,7 @@ use Rattle.avro_schema.specs.Value.{Value, value, size, depth, values_size, valu
 use Rattle.avro_schema.specs.Seen.{values_from}
 use Rattle.avro_schema.specs.Node.{Node, FieldNode, node_at, branches_of, field_places}
 use Rattle.avro_schema.specs.Fits.{fits, fields_fit}
-use Rattle.avro_binary.proofs.Choices.{HasFewChoices-from_is_schema}
+use Rattle.avro_binary.proofs.public.Choices.{HasFewChoices-from_is_schema}
 use Rattle.avro_resolve.specs.Fault.{ResolutionFault}
 use Rattle.avro_resolve.specs.Match.{is_match, first_match}
 use Rattle.avro_resolve.specs.Source.{reader_field, missing_field}

@@ -7,7 +7,7 @@ use Rattle.avro_schema.specs.Value.{Value, no_values, value, no_entries, entry, 
 use Rattle.avro_schema.specs.Node.{Node, node_at, branches_of, items_node, values_node, field_places}
 use Rattle.avro_schema.specs.Fits.{fits, entries_fit, is_some_and, is_text}
 use Rattle.avro_schema.specs.WellFormed.{is_schema}
-use Rattle.avro_binary.proofs.Choices.{HasFewChoices, HasFewChoices-from_is_schema}
+use Rattle.avro_binary.proofs.public.Choices.{HasFewChoices, HasFewChoices-from_is_schema}
 use Rattle.avro_resolve.specs.Fault.{fault_here, no_match}
 use Rattle.avro_resolve.specs.Match.{is_match, first_match}
 use Rattle.avro_resolve.specs.Source.{missing_field}

@@ -6,7 +6,7 @@ use lib.Utf8.{encode}
 use Rattle.avro_schema.specs.Value.{Value, no_values, value, size}
 use Rattle.avro_schema.specs.Node.{Node, root_of}
 use Rattle.avro_schema.specs.Fits.{fits}
-use Rattle.avro_schema.proofs.RowsSchemas.{one_value, array_of_int, array_of_string, record_of_itself, record_of_int}
+use Rattle.avro_schema.proofs.public.RowsSchemas.{one_value, array_of_int, array_of_string, record_of_itself, record_of_int}
 use Rattle.avro_resolve.specs.Fault.{no_match, not_utf8}
 use Rattle.avro_judge.specs.Compatible.{AreCompatible, IsLeastToErr}
 

@@ -1,7 +1,7 @@
 -- Which nodes match: computed, and a few derived by the rules.
 use Rattle.std.proofs.Common.{◌≡◌, refl, ℕ, zero, suc, Bool, true, false, List, [], ◌∷◌, Some, None, codes}
 use Rattle.avro_schema.specs.Node.{Node, root_of}
-use Rattle.avro_schema.proofs.RowsSchemas.{simply, within, array_of_long, array_of_int, array_of_string, array_of_int_union, map_of_int, long_or_int, one_of_int, two_of_one_simple_name, before_renaming, after_renaming}
+use Rattle.avro_schema.proofs.public.RowsSchemas.{simply, within, array_of_long, array_of_int, array_of_string, array_of_int_union, map_of_int, long_or_int, one_of_int, two_of_one_simple_name, before_renaming, after_renaming}
 use Rattle.avro_resolve.specs.Match.{Matches, int_to_long, writer_union, reader_union, arrays, records, is_match, first_match}
 
 -- whether the roots match

@@ -2,7 +2,7 @@
 use Rattle.std.proofs.Common.{◌≡◌, refl, List, [], ◌∷◌, Some, None, codes, pos}
 use Rattle.avro_schema.specs.Value.{Value}
 use Rattle.avro_schema.specs.Node.{FieldNode}
-use Rattle.avro_schema.proofs.RowsSchemas.{plain_field, aliased_field, default_field}
+use Rattle.avro_schema.proofs.public.RowsSchemas.{plain_field, aliased_field, default_field}
 use Rattle.avro_resolve.specs.Source.{source_of, reader_field, missing_field}
 
 -- a writer's three fields

@@ -8,7 +8,7 @@ use Rattle.avro_schema.specs.Value.{Value}
 use Rattle.avro_schema.specs.Node.{Node}
 use Rattle.avro_schema.specs.Seen.{value_of}
 use Rattle.avro_schema.specs.declared.datum.Datum.{Datum}
-use Rattle.avro_schema.proofs.DatumViews.{value_of-Str}
+use Rattle.avro_schema.proofs.public.DatumViews.{value_of-Str}
 use Rattle.avro_resolve.specs.Fault.{fault_here, not_utf8}
 use Rattle.avro_resolve.specs.Resolve.{bytes_as}
 

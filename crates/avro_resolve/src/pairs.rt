@@ -4,7 +4,7 @@ ghost use Rattle.avro_schema.specs.Seen.{node_of, places_of};
 ghost use Rattle.avro_schema.specs.SeenSchema.{schema_nodes};
 ghost use Rattle.avro_resolve.specs.Match.{first_match_at};
 ghost use Rattle.avro_resolve.specs.Pairs.{IsAim, IsFirst};
-ghost use Rattle.avro_binary.proofs.Choices.{HasFewChoices};
+ghost use Rattle.avro_binary.proofs.public.Choices.{HasFewChoices};
 
 use crate::error::FaultKind;
 use crate::guided::Aim;

@@ -2,7 +2,7 @@ ghost use Rattle.std.specs.Prelude.{◌≡◌, ◌<◌, ◌^◌, length, positio
 ghost use Rattle.avro_schema.specs.Node.{node_at};
 ghost use Rattle.avro_schema.specs.Seen.{node_of, texts_of};
 ghost use Rattle.avro_schema.specs.SeenSchema.{schema_nodes};
-ghost use Rattle.avro_binary.proofs.Choices.{HasFewChoices};
+ghost use Rattle.avro_binary.proofs.public.Choices.{HasFewChoices};
 ghost use Rattle.avro_resolve.specs.Resolve.{enum_as, enum_or_default, symbol_at};
 ghost use Rattle.avro_resolve.specs.Pairs.{IsSymbol};
 

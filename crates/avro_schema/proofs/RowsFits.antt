@@ -5,7 +5,7 @@ use lib.Utf8.{encode}
 use Rattle.avro_schema.specs.Value.{Value, no_values, no_entries, entry, size, depth, longest_blob}
 use Rattle.avro_schema.specs.Node.{Node, root_of}
 use Rattle.avro_schema.specs.Fits.{fits, is_within}
-use Rattle.avro_schema.proofs.RowsSchemas.{simply, one_value, two_values, map_of_int, linked_list}
+use Rattle.avro_schema.proofs.public.RowsSchemas.{simply, one_value, two_values, map_of_int, linked_list}
 
 -- the least and the greatest int and long, and those beyond
 greatest_int : fits [] Node.int (Value.int (pos 2147483647)) ≡ true

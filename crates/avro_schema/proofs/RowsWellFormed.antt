@@ -3,7 +3,7 @@ use Rattle.std.proofs.Common.{◌≡◌, refl, ℕ, pos, true, false, List, [], 
 use Rattle.avro_schema.specs.Value.{Value, no_values}
 use Rattle.avro_schema.specs.Node.{Node}
 use Rattle.avro_schema.specs.WellFormed.{is_schema}
-use Rattle.avro_schema.proofs.RowsSchemas.{simply, within, plain_field, aliased_field, default_field}
+use Rattle.avro_schema.proofs.public.RowsSchemas.{simply, within, plain_field, aliased_field, default_field}
 
 -- a schema of no nodes
 no_node : is_schema [] ≡ false

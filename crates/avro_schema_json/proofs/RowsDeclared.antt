@@ -1,7 +1,7 @@
 -- The schemas that texts declare: computed.
 use Rattle.std.proofs.Common.{◌≡◌, refl, ℕ, List, [], ◌∷◌, Option, Some, None, codes, option_and_then, option_map}
 use Rattle.avro_schema.specs.Node.{Node}
-use Rattle.avro_schema.proofs.RowsSchemas.{simply, within, plain_field, aliased_field}
+use Rattle.avro_schema.proofs.public.RowsSchemas.{simply, within, plain_field, aliased_field}
 use Rattle.serde_json.specs.Read.{read}
 use Rattle.serde_json.proofs.OnLiterals.{serde_json_on_literals}
 use Rattle.avro_schema_json.specs.DeclaredSchema.{declared}

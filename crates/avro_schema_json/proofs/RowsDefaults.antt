@@ -4,7 +4,7 @@ use Rattle.std.specs.Str.{is_utf8, chars}
 use lib.Utf8.{encode}
 use Rattle.avro_schema.specs.Value.{Value, entry, no_entries}
 use Rattle.avro_schema.specs.Node.{Node}
-use Rattle.avro_schema.proofs.RowsSchemas.{simply, plain_field, default_field, one_value, two_values}
+use Rattle.avro_schema.proofs.public.RowsSchemas.{simply, plain_field, default_field, one_value, two_values}
 use Rattle.serde_json.proofs.OnLiterals.{serde_json_on_literals}
 use Rattle.avro_schema_json.specs.declared.error.SchemaError.{SchemaError}
 use Rattle.avro_schema_json.proofs.RowsDeclared.{declared_by, faults_by}

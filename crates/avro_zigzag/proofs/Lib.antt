@@ -1,5 +1,3 @@
-pub mod Faults
 mod Rows
-pub mod Spelling
 mod Steps
-pub mod NumberOrFault
+pub mod public

@@ -3,7 +3,7 @@ use Rattle.std.proofs.Common.{◌≡◌, ◌-◌, ◌^◌, pos, negsuc, true, []
 use Rattle.avro_zigzag.specs.declared.VarError.TheVariants.{EndOfInput, OutOfRange}
 use Rattle.avro_zigzag.specs.Number.{SpellsLong, SpellsInt, IsShortest, number_bytes, is_int, is_long}
 use Rattle.avro_zigzag.specs.NumberFault.{LongFails, IntFails, ends, too_large}
-use Rattle.avro_zigzag.proofs.Spelling.{IsShortest-number_bytes}
+use Rattle.avro_zigzag.proofs.public.Spelling.{IsShortest-number_bytes}
 
 -- 0 is 00
 zero_row : number_bytes (pos 0) ≡ 0 ∷ []

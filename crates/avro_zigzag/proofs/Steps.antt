@@ -10,8 +10,8 @@ use Rattle.std.proofs.Math.Nat.{mul-le-mul_right, pow-le-pow_right, pow-suc}
 use Rattle.avro_zigzag.specs.declared.VarError.TheVariants.{OutOfRange}
 use Rattle.avro_zigzag.specs.Number.{zigzag, groups_value, AreGroups, AreLeastGroups}
 use Rattle.avro_zigzag.specs.NumberFault.{go_on, NumberFails, too_large}
-use Rattle.avro_zigzag.proofs.Spelling.{least-last, least-more, one_spelling_lem, power-more}
-use Rattle.avro_zigzag.proofs.Faults.{go_on-push, groups_value-below, groups_value-push, groups-from_front}
+use Rattle.avro_zigzag.proofs.public.Spelling.{least-last, least-more, one_spelling_lem, power-more}
+use Rattle.avro_zigzag.proofs.public.Faults.{go_on-push, groups_value-below, groups_value-push, groups-from_front}
 
 -- ---- Writing
 

@@ -2,7 +2,7 @@ use Rattle.std.proofs.Common.{◌≡◌, ◌<◌, pos, length, append_assoc, ari
 use Rattle.std.proofs.lemmas.Bool.Decides.{nat_tests}
 use Rattle.avro_zigzag.specs.Number.{number_bytes}
 use Rattle.avro_schema.specs.Seen.{value_of}
-use Rattle.avro_schema.proofs.DatumViews.{value_of-Map}
+use Rattle.avro_schema.proofs.public.DatumViews.{value_of-Map}
 use Rattle.avro_binary.specs.Encoding.{plain}
 use Rattle.avro_binary.proofs.Written.{array-written, empty_array-written, map-written, empty_map-written, value_of-Union}
 use Rattle.avro_binary.proofs.write.+writing.Goals as goal

@@ -1,7 +1,7 @@
 use Rattle.std.proofs.Common.{ℤ, w64, take, subst}
 use Rattle.std.proofs.lemmas.Int.{to_z-of_z}
 use Rattle.avro_zigzag.specs.Number.{IsShortest}
-use Rattle.avro_zigzag.proofs.Spelling.{number_bytes-from_spelling}
+use Rattle.avro_zigzag.proofs.public.Spelling.{number_bytes-from_spelling}
 use Rattle.avro_binary.proofs.write.write_number.Goals as goal
 
 pub returns-clause-appended : goal.returns-clause-appended

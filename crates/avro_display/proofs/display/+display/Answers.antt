@@ -1,7 +1,7 @@
 use Rattle.std.proofs.Common.{ap, ◌∙◌, arith}
 use Rattle.avro_schema.specs.Seen.{node_of}
 use Rattle.avro_schema.specs.SeenSchema.{schema_nodes}
-use Rattle.avro_schema.proofs.DatumViews.{value_of-Map}
+use Rattle.avro_schema.proofs.public.DatumViews.{value_of-Map}
 use Rattle.serde_json.specs.Data.{array}
 use Rattle.avro_display.proofs.DisplaySeen.{items_past}
 use Rattle.avro_display.proofs.display.+display.Goals as goal

@@ -1,6 +1,6 @@
 use Rattle.std.proofs.Common.{sym, ◌∙◌, ap, Some, None}
 use Rattle.avro_schema.specs.Seen.{seen_fields, field_of, value_of, default_of}
-use Rattle.avro_schema.proofs.DatumViews.{value_of-Null}
+use Rattle.avro_schema.proofs.public.DatumViews.{value_of-Null}
 use Rattle.avro_resolve.specs.Ends.{IsSeen}
 use Rattle.avro_resolve.proofs.Slots.{rest_kept, rest_same, value_held, value_missing, value_default}
 use Rattle.avro_resolve.proofs.filling.value_of_field.Goals as goal

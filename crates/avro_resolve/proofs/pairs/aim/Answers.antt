@@ -1,6 +1,6 @@
 use Rattle.std.proofs.Common.{subst, sym}
 use Rattle.avro_schema.specs.SeenSchema.{schema_nodes}
-use Rattle.avro_binary.proofs.Choices.{HasFewChoices, HasFewChoices-from_is_schema}
+use Rattle.avro_binary.proofs.public.Choices.{HasFewChoices, HasFewChoices-from_is_schema}
 use Rattle.avro_resolve.proofs.Pairing.{node_high}
 use Rattle.avro_resolve.proofs.pairs.aim.Goals as goal
 

@@ -3,7 +3,7 @@ use Rattle.avro_schema.specs.Node.{node_at}
 use Rattle.avro_schema.specs.Seen.{value_of, entries_of, seen_fields}
 use Rattle.avro_schema.specs.SeenSchema.{schema_nodes}
 use Rattle.avro_schema.specs.Value.{Value}
-use Rattle.avro_schema.proofs.DatumViews.{value_of-Map}
+use Rattle.avro_schema.proofs.public.DatumViews.{value_of-Map}
 use Rattle.avro_resolve.specs.Resolve.{resolve as resolve_value, resolve_entries, result_map}
 use Rattle.avro_resolve.specs.Ends.{EndsSlot, Fails, field_step}
 use Rattle.avro_resolve.proofs.InOrder.{ItemsSoFar, item_done, items_done, entry_done, entries_done, taken_map, fails_mapped}

@@ -1,7 +1,7 @@
 use Rattle.std.proofs.Common.{sym, ◌∙◌, ap}
 use Rattle.avro_schema.specs.Value.{Value}
 use Rattle.avro_schema.specs.Seen.{value_of, entries_of}
-use Rattle.avro_schema.proofs.DatumViews.{value_of-Map}
+use Rattle.avro_schema.proofs.public.DatumViews.{value_of-Map}
 use Rattle.avro_schema.proofs.datum.+copy.Goals as goal
 
 pub DatumClone::clone-returns-in_ok-copy_of_entries-in-Map :

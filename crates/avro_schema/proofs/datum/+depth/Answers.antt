@@ -1,5 +1,5 @@
 use Rattle.std.proofs.Common.{arith}
-use Rattle.avro_schema.proofs.DatumViews.{value_of-Map}
+use Rattle.avro_schema.proofs.public.DatumViews.{value_of-Map}
 use Rattle.avro_schema.proofs.datum.+depth.Goals as goal
 
 pub depth-returns-in-Map : goal.depth-returns-in-Map

@@ -2,7 +2,7 @@ use Rattle.std.proofs.Common.{ap, ◌∙◌, bytes_eq}
 use Rattle.avro_schema.specs.Distinct.{are_distinct}
 use Rattle.avro_schema.specs.Value.{keys_of}
 use Rattle.avro_schema.specs.Seen.{nodes_of, entries_of}
-use Rattle.avro_schema.proofs.DatumViews.{value_of-Int, value_of-Long, value_of-Bytes, value_of-Str, value_of-Enum, value_of-Fixed, value_of-Map}
+use Rattle.avro_schema.proofs.public.DatumViews.{value_of-Int, value_of-Long, value_of-Bytes, value_of-Str, value_of-Enum, value_of-Fixed, value_of-Map}
 use Rattle.avro_schema.proofs.FitsSeen.{fits-array, fits-map, fields_fit-uneven}
 use Rattle.avro_schema.proofs.fitting.+fitting.Goals as goal
 

@@ -1,4 +1,4 @@
-use Rattle.avro_schema.proofs.Parts.{size-part}
+use Rattle.avro_schema.proofs.public.Parts.{size-part}
 use Rattle.avro_schema.proofs.laws.parts_are_smaller.Goals as goal
 
 pub returns : goal.returns

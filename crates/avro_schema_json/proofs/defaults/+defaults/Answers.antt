@@ -2,7 +2,7 @@ use Rattle.std.proofs.Common.{◌≡◌, Some, option_map, sym, ap, ◌∙◌, a
 use Rattle.avro_schema.specs.Node.{node_at, branches_of}
 use Rattle.avro_schema.specs.Seen.{value_of, places_of}
 use Rattle.avro_schema.specs.Value.{Value}
-use Rattle.avro_schema.proofs.DatumViews.{value_of-Map}
+use Rattle.avro_schema.proofs.public.DatumViews.{value_of-Map}
 use Rattle.serde_json.specs.View.{view, items_view, members_view}
 use Rattle.serde_json.proofs.Views.{view-lookup}
 use Rattle.avro_schema_json.specs.DeclaredDefaults.{each_default, entries_default}

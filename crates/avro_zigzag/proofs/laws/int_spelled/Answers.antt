@@ -1,4 +1,4 @@
-use Rattle.avro_zigzag.proofs.Spelling.{SpellsInt-from_shortest}
+use Rattle.avro_zigzag.proofs.public.Spelling.{SpellsInt-from_shortest}
 use Rattle.avro_zigzag.proofs.laws.int_spelled.Goals as goal
 
 pub returns : goal.returns

@@ -1,4 +1,4 @@
-use Rattle.avro_zigzag.proofs.NumberOrFault.{long_stands_or_fails}
+use Rattle.avro_zigzag.proofs.public.NumberOrFault.{long_stands_or_fails}
 use Rattle.avro_zigzag.proofs.laws.long_or_fault.Goals as goal
 
 pub returns : goal.returns

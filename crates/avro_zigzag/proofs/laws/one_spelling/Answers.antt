@@ -1,4 +1,4 @@
-use Rattle.avro_zigzag.proofs.Spelling.{one_spelling_lem}
+use Rattle.avro_zigzag.proofs.public.Spelling.{one_spelling_lem}
 use Rattle.avro_zigzag.proofs.laws.one_spelling.Goals as goal
 
 pub returns : goal.returns

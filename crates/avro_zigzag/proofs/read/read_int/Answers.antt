@@ -1,6 +1,6 @@
 use Rattle.std.proofs.Common.{◌≡◌, sym, ap, arith, take, drop, to_z, of_z, w32, w64, ◌∙◌}
 use Rattle.std.proofs.lemmas.List.{take-append-drop}
-use Rattle.avro_zigzag.proofs.Faults.{number-excludes_fault, int-excludes_fault, one_fault}
+use Rattle.avro_zigzag.proofs.public.Faults.{number-excludes_fault, int-excludes_fault, one_fault}
 use Rattle.avro_zigzag.proofs.Steps.{only_read, wide, narrow}
 use Rattle.avro_zigzag.proofs.read.read_int.Goals as goal
 

@@ -1,6 +1,6 @@
 use Rattle.std.proofs.Common.{sym, arith, take, drop}
 use Rattle.std.proofs.lemmas.List.{take-append-drop}
-use Rattle.avro_zigzag.proofs.Faults.{number-excludes_fault, long-excludes_fault, one_fault}
+use Rattle.avro_zigzag.proofs.public.Faults.{number-excludes_fault, long-excludes_fault, one_fault}
 use Rattle.avro_zigzag.proofs.Steps.{only_read, wide}
 use Rattle.avro_zigzag.proofs.read.read_long.Goals as goal
 

@@ -8,7 +8,7 @@ use Rattle.std.proofs.Math.Nat.{mul-le-mul_right}
 use Rattle.avro_zigzag.specs.declared.VarError.{VarError}
 use Rattle.avro_zigzag.specs.Number.{zigzag, are_groups, groups_value, AreGroups, SpellsInt, SpellsLong, is_int, is_long}
 use Rattle.avro_zigzag.specs.NumberFault.{go_on, NumberFails, ends, too_large, LongFails, IntFails}
-use Rattle.avro_zigzag.proofs.Spelling.{are_groups-last, are_groups-from_last, are_groups-from_front, are_groups-more, are_groups-some, power-more, is_long-zigzag, is_int-zigzag}
+use Rattle.avro_zigzag.proofs.public.Spelling.{are_groups-last, are_groups-from_last, are_groups-from_front, are_groups-more, are_groups-some, power-more, is_long-zigzag, is_int-zigzag}
 
 -- the first of bytes that go on
 pub go_on-first : (b : ℕ) (bytes : List ℕ) → go_on (b ∷ bytes) ≡ true → (128 ≤ b) × (go_on bytes ≡ true)

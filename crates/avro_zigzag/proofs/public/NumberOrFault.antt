@@ -10,8 +10,8 @@ use Rattle.avro_zigzag.specs.declared.VarError.{VarError}
 use Rattle.avro_zigzag.specs.declared.VarError.TheVariants.{EndOfInput, OutOfRange}
 use Rattle.avro_zigzag.specs.Number.{zigzag, AreGroups, SpellsInt, SpellsLong, is_int, is_long}
 use Rattle.avro_zigzag.specs.NumberFault.{NumberFails, ends, too_large, LongFails, IntFails}
-use Rattle.avro_zigzag.proofs.Spelling.{are_groups-from_last, are_groups-from_front, is_long-from_zigzag, is_int-from_zigzag}
-use Rattle.avro_zigzag.proofs.Faults.{go_on-from_first}
+use Rattle.avro_zigzag.proofs.public.Spelling.{are_groups-from_last, are_groups-from_front, is_long-from_zigzag, is_int-from_zigzag}
+use Rattle.avro_zigzag.proofs.public.Faults.{go_on-from_first}
 
 -- groups at the front, the value of which is below the bound
 pub record GroupsBegin (most top : ℕ) (bytes : List ℕ) : Type 0 where

@@ -5,7 +5,7 @@ use Rattle.std.proofs.lemmas.Bool.{and_parts, false≢true}
 use Rattle.avro_schema.specs.Value.{Value}
 use Rattle.avro_schema.specs.Node.{Node, symbols_of, fixed_length}
 use Rattle.avro_schema.specs.Fits.{fits, is_int, is_long, are_bytes, is_text, is_some_and, is_null_node, is_boolean_node, is_int_node, is_long_node, is_bytes_node, is_string_node}
-use Rattle.avro_schema.proofs.FitsParts.{ArrayFits, MapFits, UnionFits, RecordFits, ArrayFits-from_fits, MapFits-from_fits, UnionFits-from_fits, RecordFits-from_fits, is_some_and-some}
+use Rattle.avro_schema.proofs.public.FitsParts.{ArrayFits, MapFits, UnionFits, RecordFits, ArrayFits-from_fits, MapFits-from_fits, UnionFits-from_fits, RecordFits-from_fits, is_some_and-some}
 
 -- the node of a datum, by its kind, and what is asked of the datum itself
 abbrev pub FitsKind : List Node → Node → Value → Type 0
