@@ -5,7 +5,11 @@ use std::alloc::{AllocError, Global};
 use std::test::Fail;
 
 /// A record with one field of a type, and a default of it.
-fn record_with_default(alloc: Global, node: &str, default: &str) -> Result<String, AllocError> {
+pub(crate) fn record_with_default(
+    alloc: Global,
+    node: &str,
+    default: &str,
+) -> Result<String, AllocError> {
     format!(in alloc;
         "{{\"type\":\"record\",\"name\":\"R\",\"fields\":[{{\"name\":\"f\",\"type\":{node},\"default\":{default}}}]}}"
     )

@@ -1,6 +1,5 @@
-use crate::edges::record_of_ints;
 use crate::program::outcome_of;
-use crate::schemas::padded_int;
+use crate::texts::{padded_int, record_of_ints};
 use std::fs;
 use std::test::Fail;
 
@@ -98,6 +97,58 @@ fn schema_files_are_read_up_to_the_limits(rt: HostRuntime) -> Result<(), Fail> {
     assert_eq!(rt;
         ran.err.as_slice(),
         "avro: none.avsc: cannot read\n".as_bytes()
+    );
+    Ok(())
+}
+
+/// A record whose enum has no namespace, in a record that has one.
+const OWN_NAMESPACE: &str =
+    r#"{"type":"record","name":"a.R","fields":[{"name":"e","type":{"type":"enum","name":"E","namespace":"","symbols":["X"]}}]}"#;
+
+#[test]
+fn the_program_shows_forms_and_fingerprints(rt: HostRuntime) -> Result<(), Fail> {
+    fs::write(&rt, "form.avsc", OWN_NAMESPACE)?;
+    let ran = outcome_of(&rt, &["schema", "form.avsc", "--canonical"])?;
+    assert_eq!(rt; ran.status, 0);
+    assert_eq!(rt;
+        ran.out.as_slice(),
+        "{\"name\":\"a.R\",\"type\":\"record\",\"fields\":[{\"name\":\"e\",\"type\":{\"name\":\"E\",\"type\":\"enum\",\"symbols\":[\"X\"]}}]}\n".as_bytes()
+    );
+    assert!(rt; ran.err.is_empty());
+    fs::write(&rt, "form.avsc", r#"{"type":"int","doc":"x"}"#)?;
+    let ran = outcome_of(&rt, &["schema", "--fingerprint", "form.avsc"])?;
+    assert_eq!(rt; ran.status, 0);
+    assert_eq!(rt;
+        ran.out.as_slice(),
+        "3f2b87a9fe7cc9b13835598c3981cd45e3e355309e5090aa0933d7becb6fba45\n".as_bytes()
+    );
+    let ran = outcome_of(
+        &rt,
+        &["schema", "form.avsc", "--canonical", "--fingerprint"],
+    )?;
+    assert_eq!(rt; ran.status, 64);
+    assert!(rt; ran.out.is_empty());
+    fs::write(&rt, "form.avsc", "\"Foo\"")?;
+    let ran = outcome_of(&rt, &["schema", "form.avsc", "--canonical"])?;
+    assert_eq!(rt; ran.status, 3);
+    assert_eq!(rt; ran.err.as_slice(), "avro: form.avsc: S2\n".as_bytes());
+    Ok(())
+}
+
+#[test]
+fn defaults_of_second_branches_are_read_from_files(rt: HostRuntime) -> Result<(), Fail> {
+    let text = r#"{"type":"record","name":"R","fields":[{"name":"u","type":["null","int"],"default":3}]}"#;
+    fs::write(&rt, "second_branch.avsc", text)?;
+    let ran = outcome_of(&rt, &["schema", "second_branch.avsc"])?;
+    assert_eq!(rt; ran.status, 0);
+    assert_eq!(rt; ran.out.as_slice(), b"ok 4\n".as_slice());
+    assert!(rt; ran.err.is_empty());
+    let text = r#"{"type":"record","name":"R","fields":[{"name":"u","type":["null","int"],"default":"x"}]}"#;
+    fs::write(&rt, "no_branch.avsc", text)?;
+    let ran = outcome_of(&rt, &["schema", "no_branch.avsc"])?;
+    assert_eq!(rt;
+        ran.err.as_slice(),
+        b"avro: no_branch.avsc: S9\n".as_slice()
     );
     Ok(())
 }
