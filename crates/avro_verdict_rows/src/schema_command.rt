@@ -68,36 +68,44 @@ fn refused_schemas_of_files_are_told(rt: HostRuntime) -> Result<(), Fail> {
 }
 
 #[test]
-fn schema_files_are_read_up_to_the_limits(rt: HostRuntime) -> Result<(), Fail> {
-    let alloc = rt.alloc();
-    for (text, status, out, err) in vec![in alloc;
-        (padded_int(alloc, 1_048_576)?, 0, "ok 1\n", ""),
-        (
-            padded_int(alloc, 1_048_577)?,
-            3,
-            "",
-            "avro: limit.avsc: S12\n"
-        ),
-        (record_of_ints(alloc, 4095)?, 0, "ok 4096\n", ""),
-        (
-            record_of_ints(alloc, 4096)?,
-            3,
-            "",
-            "avro: limit.avsc: S12\n"
-        ),
-    ]? {
-        fs::write(&rt, "limit.avsc", &text)?;
+fn schema_files_are_read_up_to_the_longest(rt: HostRuntime) -> Result<(), Fail> {
+    for (len, status, out, err) in [
+        (1_048_576, 0, "ok 1\n", ""),
+        (1_048_577, 3, "", "avro: limit.avsc: S12\n"),
+    ] {
+        fs::write(&rt, "limit.avsc", &padded_int(rt.alloc(), len)?)?;
         let ran = outcome_of(&rt, &["schema", "limit.avsc"])?;
         assert_eq!(rt; ran.status, status);
         assert_eq!(rt; ran.out.as_slice(), out.as_bytes());
         assert_eq!(rt; ran.err.as_slice(), err.as_bytes());
     }
+    Ok(())
+}
+
+#[test]
+fn schema_files_have_nodes_up_to_the_limit(rt: HostRuntime) -> Result<(), Fail> {
+    for (fields, status, out, err) in [
+        (4095, 0, "ok 4096\n", ""),
+        (4096, 3, "", "avro: nodes.avsc: S12\n"),
+    ] {
+        fs::write(&rt, "nodes.avsc", &record_of_ints(rt.alloc(), fields)?)?;
+        let ran = outcome_of(&rt, &["schema", "nodes.avsc"])?;
+        assert_eq!(rt; ran.status, status);
+        assert_eq!(rt; ran.out.as_slice(), out.as_bytes());
+        assert_eq!(rt; ran.err.as_slice(), err.as_bytes());
+    }
+    Ok(())
+}
+
+#[test]
+fn schema_files_that_are_not_there_are_told(rt: HostRuntime) -> Result<(), Fail> {
     let ran = outcome_of(&rt, &["schema", "none.avsc"])?;
     assert_eq!(rt; ran.status, 4);
     assert_eq!(rt;
         ran.err.as_slice(),
         "avro: none.avsc: cannot read\n".as_bytes()
     );
+    assert!(rt; ran.out.is_empty());
     Ok(())
 }
 
@@ -106,7 +114,7 @@ const OWN_NAMESPACE: &str =
     r#"{"type":"record","name":"a.R","fields":[{"name":"e","type":{"type":"enum","name":"E","namespace":"","symbols":["X"]}}]}"#;
 
 #[test]
-fn the_program_shows_forms_and_fingerprints(rt: HostRuntime) -> Result<(), Fail> {
+fn canonical_forms_are_printed(rt: HostRuntime) -> Result<(), Fail> {
     fs::write(&rt, "form.avsc", OWN_NAMESPACE)?;
     let ran = outcome_of(&rt, &["schema", "form.avsc", "--canonical"])?;
     assert_eq!(rt; ran.status, 0);
@@ -115,23 +123,36 @@ fn the_program_shows_forms_and_fingerprints(rt: HostRuntime) -> Result<(), Fail>
         "{\"name\":\"a.R\",\"type\":\"record\",\"fields\":[{\"name\":\"e\",\"type\":{\"name\":\"E\",\"type\":\"enum\",\"symbols\":[\"X\"]}}]}\n".as_bytes()
     );
     assert!(rt; ran.err.is_empty());
-    fs::write(&rt, "form.avsc", r#"{"type":"int","doc":"x"}"#)?;
-    let ran = outcome_of(&rt, &["schema", "--fingerprint", "form.avsc"])?;
+    Ok(())
+}
+
+#[test]
+fn fingerprints_are_printed(rt: HostRuntime) -> Result<(), Fail> {
+    fs::write(&rt, "mark.avsc", r#"{"type":"int","doc":"x"}"#)?;
+    let ran = outcome_of(&rt, &["schema", "--fingerprint", "mark.avsc"])?;
     assert_eq!(rt; ran.status, 0);
     assert_eq!(rt;
         ran.out.as_slice(),
         "3f2b87a9fe7cc9b13835598c3981cd45e3e355309e5090aa0933d7becb6fba45\n".as_bytes()
     );
+    assert!(rt; ran.err.is_empty());
+    Ok(())
+}
+
+#[test]
+fn one_form_is_asked_for_and_of_a_schema(rt: HostRuntime) -> Result<(), Fail> {
+    fs::write(&rt, "both.avsc", "\"int\"")?;
     let ran = outcome_of(
         &rt,
-        &["schema", "form.avsc", "--canonical", "--fingerprint"],
+        &["schema", "both.avsc", "--canonical", "--fingerprint"],
     )?;
     assert_eq!(rt; ran.status, 64);
     assert!(rt; ran.out.is_empty());
-    fs::write(&rt, "form.avsc", "\"Foo\"")?;
-    let ran = outcome_of(&rt, &["schema", "form.avsc", "--canonical"])?;
+    fs::write(&rt, "unknown.avsc", "\"Foo\"")?;
+    let ran = outcome_of(&rt, &["schema", "unknown.avsc", "--canonical"])?;
     assert_eq!(rt; ran.status, 3);
-    assert_eq!(rt; ran.err.as_slice(), "avro: form.avsc: S2\n".as_bytes());
+    assert_eq!(rt; ran.err.as_slice(), "avro: unknown.avsc: S2\n".as_bytes());
+    assert!(rt; ran.out.is_empty());
     Ok(())
 }
 
