@@ -1,4 +1,4 @@
-use crate::drafts::{enumeration, field, finished, fixed, record, union};
+use crate::drafts::{enumeration, fields, finished, fixed, record, union};
 use crate::trees::map_of;
 use avro_binary::{EncodeError, encode};
 use avro_schema::{Datum, Node, NodeId, Schema};
@@ -133,8 +133,8 @@ fn maps_are_one_block(rt: HostRuntime) -> Result<(), Fail> {
 #[test]
 fn records_are_their_fields(rt: HostRuntime) -> Result<(), Fail> {
     let alloc = rt.alloc();
-    let fields = vec![in alloc; field(alloc, "a", 1, None)?, field(alloc, "b", 2, None)?]?;
-    let nodes = vec![in alloc; record(alloc, "test", fields)?, Node::Long, Node::Str]?;
+    let list = fields(alloc, &[("a", 1), ("b", 2)])?;
+    let nodes = vec![in alloc; record(alloc, "test", list)?, Node::Long, Node::Str]?;
     let schema = finished(alloc, nodes)?;
     let text = Datum::Str(String::from_str(alloc, "foo")?);
     let datum = Datum::Record(vec![in alloc; Datum::Long(27), text]?);

@@ -15,6 +15,8 @@ mod edges;
 #[cfg(test)]
 mod first_fitting_defaults;
 #[cfg(test)]
+mod long_names;
+#[cfg(test)]
 mod names;
 #[cfg(test)]
 mod refusals;

@@ -11,6 +11,8 @@ mod judging_all_kinds;
 #[cfg(test)]
 mod program;
 #[cfg(test)]
+mod resolving;
+#[cfg(test)]
 mod schema_command;
 #[cfg(test)]
 mod texts;
