@@ -14,11 +14,7 @@ fn letters(alloc: Global, count: usize) -> Result<String, AllocError> {
 
 /// A record of a namespace with an enum, and so many pairs of fields of that enum, one by its simple
 /// name and one by its fullname.
-fn record_of_references(
-    alloc: Global,
-    namespace: &str,
-    pairs: u32,
-) -> Result<String, AllocError> {
+fn record_of_references(alloc: Global, namespace: &str, pairs: u32) -> Result<String, AllocError> {
     let mut text = format!(in alloc;
         "{{\"type\":\"record\",\"name\":\"R\",\"namespace\":\"{namespace}\",\"fields\":[{{\"name\":\"e\",\"type\":{{\"type\":\"enum\",\"name\":\"E\",\"symbols\":[\"X\"]}}}}"
     )?;
@@ -62,7 +58,11 @@ fn long_names_are_told_apart_to_their_last_letter(rt: HostRuntime) -> Result<(),
     for (second, good) in [(&longer, false), (&other, true), (&long, true)] {
         let text = two_fixeds(rt.alloc(), longer.as_str(), second.as_str())?;
         let refused = read_schema(rt.alloc(), text.as_bytes()).err();
-        let wanted = if good { None } else { Some(SchemaError::DuplicateName) };
+        let wanted = if good {
+            None
+        } else {
+            Some(SchemaError::DuplicateName)
+        };
         assert_eq!(rt; refused, wanted);
     }
     Ok(())
