@@ -158,13 +158,15 @@ fn one_form_is_asked_for_and_of_a_schema(rt: HostRuntime) -> Result<(), Fail> {
 
 #[test]
 fn defaults_of_second_branches_are_read_from_files(rt: HostRuntime) -> Result<(), Fail> {
-    let text = r#"{"type":"record","name":"R","fields":[{"name":"u","type":["null","int"],"default":3}]}"#;
+    let text =
+        r#"{"type":"record","name":"R","fields":[{"name":"u","type":["null","int"],"default":3}]}"#;
     fs::write(&rt, "second_branch.avsc", text)?;
     let ran = outcome_of(&rt, &["schema", "second_branch.avsc"])?;
     assert_eq!(rt; ran.status, 0);
     assert_eq!(rt; ran.out.as_slice(), b"ok 4\n".as_slice());
     assert!(rt; ran.err.is_empty());
-    let text = r#"{"type":"record","name":"R","fields":[{"name":"u","type":["null","int"],"default":"x"}]}"#;
+    let text =
+        r#"{"type":"record","name":"R","fields":[{"name":"u","type":["null","int"],"default":"x"}]}"#;
     fs::write(&rt, "no_branch.avsc", text)?;
     let ran = outcome_of(&rt, &["schema", "no_branch.avsc"])?;
     assert_eq!(rt;
