@@ -1,7 +1,5 @@
-use crate::program::outcome_of;
 use avro_canonical::{canonical, fingerprint, fingerprint_text};
 use avro_schema_json::read_schema;
-use std::fs;
 use std::test::Fail;
 
 const NODE: &str =
@@ -87,35 +85,5 @@ fn fingerprints_are_of_the_canonical_form(rt: HostRuntime) -> Result<(), Fail> {
         fingerprint_text(alloc, &node)?.as_str(),
         "ae521c2998dc71fdc22f21948a8be1ff6981ada458f93ee7a3916a8565eb9bbf"
     );
-    Ok(())
-}
-
-#[test]
-fn the_program_shows_forms_and_fingerprints(rt: HostRuntime) -> Result<(), Fail> {
-    fs::write(&rt, "form.avsc", OWN_NAMESPACE)?;
-    let ran = outcome_of(&rt, &["schema", "form.avsc", "--canonical"])?;
-    assert_eq!(rt; ran.status, 0);
-    assert_eq!(rt;
-        ran.out.as_slice(),
-        "{\"name\":\"a.R\",\"type\":\"record\",\"fields\":[{\"name\":\"e\",\"type\":{\"name\":\"E\",\"type\":\"enum\",\"symbols\":[\"X\"]}}]}\n".as_bytes()
-    );
-    assert!(rt; ran.err.is_empty());
-    fs::write(&rt, "form.avsc", r#"{"type":"int","doc":"x"}"#)?;
-    let ran = outcome_of(&rt, &["schema", "--fingerprint", "form.avsc"])?;
-    assert_eq!(rt; ran.status, 0);
-    assert_eq!(rt;
-        ran.out.as_slice(),
-        "3f2b87a9fe7cc9b13835598c3981cd45e3e355309e5090aa0933d7becb6fba45\n".as_bytes()
-    );
-    let ran = outcome_of(
-        &rt,
-        &["schema", "form.avsc", "--canonical", "--fingerprint"],
-    )?;
-    assert_eq!(rt; ran.status, 64);
-    assert!(rt; ran.out.is_empty());
-    fs::write(&rt, "form.avsc", "\"Foo\"")?;
-    let ran = outcome_of(&rt, &["schema", "form.avsc", "--canonical"])?;
-    assert_eq!(rt; ran.status, 3);
-    assert_eq!(rt; ran.err.as_slice(), "avro: form.avsc: S2\n".as_bytes());
     Ok(())
 }

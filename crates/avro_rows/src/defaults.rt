@@ -5,70 +5,94 @@ use std::alloc::{AllocError, Global};
 use std::test::Fail;
 
 /// A record with one field of a type, and a default of it.
-fn record_with_default(alloc: Global, node: &str, default: &str) -> Result<String, AllocError> {
+pub(crate) fn record_with_default(
+    alloc: Global,
+    node: &str,
+    default: &str,
+) -> Result<String, AllocError> {
     format!(in alloc;
         "{{\"type\":\"record\",\"name\":\"R\",\"fields\":[{{\"name\":\"f\",\"type\":{node},\"default\":{default}}}]}}"
     )
 }
 
+/// The default that is read of such a record.
+pub(crate) fn default_read(alloc: Global, node: &str, default: &str) -> Result<Datum, Fail> {
+    let text = record_with_default(alloc, node, default)?;
+    let schema = read_schema(alloc, text.as_bytes())?;
+    let record = root_record(&schema)?;
+    if record.fields.len() != 1 {
+        return Err(Fail::new("not one field"));
+    }
+    match &record.fields[0].default {
+        Some(datum) => Ok(datum.clone()?),
+        None => Err(Fail::new("no default")),
+    }
+}
+
 #[test]
-fn defaults_of_each_type_are_read(rt: HostRuntime) -> Result<(), Fail> {
-    let alloc = rt.alloc();
-    let one = Datum::Int(1);
-    let entry = (String::from_str(alloc, "a")?, Datum::Int(2));
-    let other = (String::from_str(alloc, "b")?, Datum::Int(1));
-    for (node, default, datum) in vec![in alloc;
+fn defaults_of_numbers_and_symbols_are_read(rt: HostRuntime) -> Result<(), Fail> {
+    for (node, default, datum) in [
         ("\"null\"", "null", Datum::Null),
         ("\"boolean\"", "true", Datum::Bool(true)),
         ("\"int\"", "-2147483648", Datum::Int(i32::MIN)),
         ("\"long\"", "9223372036854775807", Datum::Long(i64::MAX)),
         (
-            "\"bytes\"",
-            "\"\\u00ff\\u0000A\"",
-            Datum::Bytes(Vec::from_slice(alloc, &[255, 0, 65])?)
-        ),
-        (
-            r#"{"type":"fixed","name":"F","size":2}"#,
-            "\"\\u0080z\"",
-            Datum::Fixed(Vec::from_slice(alloc, &[128, 122])?)
-        ),
-        (
-            "\"string\"",
-            "\"\\u20ac\"",
-            Datum::Str(String::from_str(alloc, "\u{20ac}")?)
-        ),
-        (
             r#"{"type":"enum","name":"E","symbols":["A","B"]}"#,
             "\"B\"",
-            Datum::Enum(1)
+            Datum::Enum(1),
         ),
-        (
-            r#"{"type":"array","items":"int"}"#,
-            "[1]",
-            Datum::Array(vec![in alloc; one]?)
-        ),
-        (
-            r#"{"type":"map","values":"int"}"#,
-            r#"{"b":1,"a":2}"#,
-            Datum::Map(vec![in alloc; entry, other]?)
-        ),
-        (
-            r#"["int","null"]"#,
-            "7",
-            Datum::Union(0, Box::new(alloc, Datum::Int(7))?)
-        ),
-        (
-            r#"{"type":"record","name":"S","fields":[{"name":"z","type":"int"},{"name":"a","type":"null"}]}"#,
-            r#"{"a":null,"z":5}"#,
-            Datum::Record(vec![in alloc; Datum::Int(5), Datum::Null]?),
-        ),
-    ]? {
-        let text = record_with_default(alloc, node, default)?;
-        let schema = read_schema(alloc, text.as_bytes())?;
-        let record = root_record(&schema)?;
-        assert_eq!(rt; record.fields.len(), 1);
-        assert_eq!(rt; record.fields[0].default, Some(datum), "{text}");
+    ] {
+        let read = default_read(rt.alloc(), node, default)?;
+        assert_eq!(rt; read, datum, "{node}");
     }
+    Ok(())
+}
+
+#[test]
+fn defaults_of_bytes_and_texts_are_read(rt: HostRuntime) -> Result<(), Fail> {
+    let alloc = rt.alloc();
+    let read = default_read(alloc, "\"bytes\"", "\"\\u00ff\\u0000A\"")?;
+    let bytes = Vec::from_slice(alloc, &[255, 0, 65])?;
+    assert_eq!(rt; read, Datum::Bytes(bytes));
+    let node = r#"{"type":"fixed","name":"F","size":2}"#;
+    let read = default_read(alloc, node, "\"\\u0080z\"")?;
+    let bytes = Vec::from_slice(alloc, &[128, 122])?;
+    assert_eq!(rt; read, Datum::Fixed(bytes));
+    let read = default_read(alloc, "\"string\"", "\"\\u20ac\"")?;
+    let text = String::from_str(alloc, "\u{20ac}")?;
+    assert_eq!(rt; read, Datum::Str(text));
+    Ok(())
+}
+
+#[test]
+fn defaults_with_parts_are_read(rt: HostRuntime) -> Result<(), Fail> {
+    let alloc = rt.alloc();
+    let read = default_read(alloc, r#"{"type":"array","items":"int"}"#, "[1]")?;
+    let items = vec![in alloc; Datum::Int(1)]?;
+    assert_eq!(rt; read, Datum::Array(items));
+    let read = default_read(alloc, r#"["int","null"]"#, "7")?;
+    let seven = Box::new(alloc, Datum::Int(7))?;
+    assert_eq!(rt; read, Datum::Union(0, seven));
+    let node =
+        r#"{"type":"record","name":"S","fields":[{"name":"z","type":"int"},{"name":"a","type":"null"}]}"#;
+    let read = default_read(alloc, node, r#"{"a":null,"z":5}"#)?;
+    let fields = vec![in alloc; Datum::Int(5), Datum::Null]?;
+    assert_eq!(rt; read, Datum::Record(fields));
+    Ok(())
+}
+
+#[test]
+fn entries_of_a_default_are_read_in_order_of_their_keys(rt: HostRuntime) -> Result<(), Fail> {
+    let alloc = rt.alloc();
+    let read = default_read(
+        alloc,
+        r#"{"type":"map","values":"int"}"#,
+        r#"{"b":1,"a":2}"#,
+    )?;
+    let a = String::from_str(alloc, "a")?;
+    let b = String::from_str(alloc, "b")?;
+    let entries = vec![in alloc; (a, Datum::Int(2)), (b, Datum::Int(1))]?;
+    assert_eq!(rt; read, Datum::Map(entries));
     Ok(())
 }
 

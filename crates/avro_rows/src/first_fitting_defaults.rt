@@ -1,17 +1,8 @@
-use crate::declared::root_record;
-use crate::program::outcome_of;
+use crate::defaults::{default_read, record_with_default};
 use avro_schema::Datum;
 use avro_schema_json::{SchemaError, read_schema};
 use std::alloc::{AllocError, Global};
-use std::fs;
 use std::test::Fail;
-
-/// A record with one field of a type, and a default of it.
-fn record_with_default(alloc: Global, node: &str, default: &str) -> Result<String, AllocError> {
-    format!(in alloc;
-        "{{\"type\":\"record\",\"name\":\"R\",\"fields\":[{{\"name\":\"u\",\"type\":{node},\"default\":{default}}}]}}"
-    )
-}
 
 /// A datum as one of a union, of this branch.
 fn branch(alloc: Global, number: u32, datum: Datum) -> Result<Datum, AllocError> {
@@ -21,75 +12,76 @@ fn branch(alloc: Global, number: u32, datum: Datum) -> Result<Datum, AllocError>
 #[test]
 fn a_default_is_one_of_the_first_branch_that_it_fits(rt: HostRuntime) -> Result<(), Fail> {
     let alloc = rt.alloc();
-    let bytes = Datum::Bytes(Vec::from_slice(alloc, b"a")?);
-    let euro = Datum::Str(String::from_str(alloc, "\u{20ac}")?);
-    for (node, default, datum) in vec![in alloc;
-        (r#"["null","int"]"#, "3", branch(alloc, 1, Datum::Int(3))?),
-        (r#"["null","int"]"#, "null", branch(alloc, 0, Datum::Null)?),
-        (r#"["int","null"]"#, "null", branch(alloc, 1, Datum::Null)?),
-        (r#"["bytes","string"]"#, "\"a\"", branch(alloc, 0, bytes)?),
-        (
-            r#"["bytes","string"]"#,
-            "\"\\u20ac\"",
-            branch(alloc, 1, euro)?
-        ),
+    for (node, default, number, datum) in [
+        (r#"["null","int"]"#, "3", 1, Datum::Int(3)),
+        (r#"["null","int"]"#, "null", 0, Datum::Null),
+        (r#"["int","null"]"#, "null", 1, Datum::Null),
         (
             r#"["int","long"]"#,
             "3000000000",
-            branch(alloc, 1, Datum::Long(3_000_000_000))?
+            1,
+            Datum::Long(3_000_000_000),
         ),
-        (r#"["int","long"]"#, "3", branch(alloc, 0, Datum::Int(3))?),
-    ]? {
-        let text = record_with_default(alloc, node, default)?;
-        let schema = read_schema(alloc, text.as_bytes())?;
-        let record = root_record(&schema)?;
-        assert_eq!(rt; record.fields[0].default, Some(datum), "{text}");
+        (r#"["int","long"]"#, "3", 0, Datum::Int(3)),
+    ] {
+        let read = default_read(alloc, node, default)?;
+        let wanted = branch(alloc, number, datum)?;
+        assert_eq!(rt; read, wanted, "{node} {default}");
     }
     Ok(())
 }
 
 #[test]
-fn nested_defaults_are_ones_of_first_fitting_branches(rt: HostRuntime) -> Result<(), Fail> {
+fn a_text_is_of_bytes_where_they_come_first_and_hold_it(rt: HostRuntime) -> Result<(), Fail> {
     let alloc = rt.alloc();
-    let items = vec![in alloc;
-        branch(alloc, 1, Datum::Int(5))?,
-        branch(alloc, 0, Datum::Null)?,
-    ]?;
-    let entry = (
-        String::from_str(alloc, "k")?,
-        branch(alloc, 1, Datum::Int(5))?,
-    );
-    let values = vec![in alloc; branch(alloc, 1, Datum::Int(5))?]?;
-    let record = branch(alloc, 1, Datum::Record(values))?;
-    let other = vec![in alloc; branch(alloc, 0, Datum::Str(String::from_str(alloc, "x")?))?]?;
-    let second = branch(alloc, 1, Datum::Record(other))?;
-    for (node, default, datum) in vec![in alloc;
-        (
-            r#"{"type":"array","items":["null","int"]}"#,
-            "[5,null]",
-            Datum::Array(items)
-        ),
-        (
-            r#"{"type":"map","values":["null","int"]}"#,
-            r#"{"k":5}"#,
-            Datum::Map(vec![in alloc; entry]?)
-        ),
-        (
-            r#"["null",{"type":"record","name":"S","fields":[{"name":"v","type":["null","int"]}]}]"#,
-            r#"{"v":5}"#,
-            record
-        ),
-        (
-            r#"[{"type":"record","name":"S","fields":[{"name":"v","type":["null","int"]}]},{"type":"record","name":"T","fields":[{"name":"v","type":["string","int"]}]}]"#,
-            r#"{"v":"x"}"#,
-            second
-        ),
-    ]? {
-        let text = record_with_default(alloc, node, default)?;
-        let schema = read_schema(alloc, text.as_bytes())?;
-        let record = root_record(&schema)?;
-        assert_eq!(rt; record.fields[0].default, Some(datum), "{text}");
-    }
+    let read = default_read(alloc, r#"["bytes","string"]"#, "\"a\"")?;
+    let bytes = Datum::Bytes(Vec::from_slice(alloc, b"a")?);
+    assert_eq!(rt; read, branch(alloc, 0, bytes)?);
+    let read = default_read(alloc, r#"["bytes","string"]"#, "\"\\u20ac\"")?;
+    let euro = Datum::Str(String::from_str(alloc, "\u{20ac}")?);
+    assert_eq!(rt; read, branch(alloc, 1, euro)?);
+    Ok(())
+}
+
+#[test]
+fn items_and_entries_are_of_first_fitting_branches(rt: HostRuntime) -> Result<(), Fail> {
+    let alloc = rt.alloc();
+    let node = r#"{"type":"array","items":["null","int"]}"#;
+    let read = default_read(alloc, node, "[5,null]")?;
+    let five = branch(alloc, 1, Datum::Int(5))?;
+    let null = branch(alloc, 0, Datum::Null)?;
+    let items = vec![in alloc; five, null]?;
+    assert_eq!(rt; read, Datum::Array(items));
+    let node = r#"{"type":"map","values":["null","int"]}"#;
+    let read = default_read(alloc, node, r#"{"k":5}"#)?;
+    let five = branch(alloc, 1, Datum::Int(5))?;
+    let key = String::from_str(alloc, "k")?;
+    let entries = vec![in alloc; (key, five)]?;
+    assert_eq!(rt; read, Datum::Map(entries));
+    Ok(())
+}
+
+/// A record of one value.
+fn record_of(alloc: Global, value: Datum) -> Result<Datum, AllocError> {
+    Ok(Datum::Record(vec![in alloc; value]?))
+}
+
+#[test]
+fn fields_are_of_first_fitting_branches(rt: HostRuntime) -> Result<(), Fail> {
+    let alloc = rt.alloc();
+    let node =
+        r#"["null",{"type":"record","name":"S","fields":[{"name":"v","type":["null","int"]}]}]"#;
+    let read = default_read(alloc, node, r#"{"v":5}"#)?;
+    let five = branch(alloc, 1, Datum::Int(5))?;
+    let wanted = branch(alloc, 1, record_of(alloc, five)?)?;
+    assert_eq!(rt; read, wanted);
+    let node =
+        r#"[{"type":"record","name":"S","fields":[{"name":"v","type":["null","int"]}]},{"type":"record","name":"T","fields":[{"name":"v","type":["string","int"]}]}]"#;
+    let read = default_read(alloc, node, r#"{"v":"x"}"#)?;
+    let text = Datum::Str(String::from_str(alloc, "x")?);
+    let first = branch(alloc, 0, text)?;
+    let wanted = branch(alloc, 1, record_of(alloc, first)?)?;
+    assert_eq!(rt; read, wanted);
     Ok(())
 }
 
@@ -108,24 +100,6 @@ fn a_default_that_no_branch_fits_is_refused(rt: HostRuntime) -> Result<(), Fail>
         let refused = read_schema(rt.alloc(), text.as_bytes()).err();
         assert_eq!(rt; refused, Some(SchemaError::InvalidDefault), "{text}");
     }
-    Ok(())
-}
-
-#[test]
-fn defaults_of_second_branches_are_read_from_files(rt: HostRuntime) -> Result<(), Fail> {
-    let text = record_with_default(rt.alloc(), r#"["null","int"]"#, "3")?;
-    fs::write(&rt, "second_branch.avsc", text.as_bytes())?;
-    let ran = outcome_of(&rt, &["schema", "second_branch.avsc"])?;
-    assert_eq!(rt; ran.status, 0);
-    assert_eq!(rt; ran.out.as_slice(), b"ok 4\n".as_slice());
-    assert!(rt; ran.err.is_empty());
-    let text = record_with_default(rt.alloc(), r#"["null","int"]"#, "\"x\"")?;
-    fs::write(&rt, "no_branch.avsc", text.as_bytes())?;
-    let ran = outcome_of(&rt, &["schema", "no_branch.avsc"])?;
-    assert_eq!(rt;
-        ran.err.as_slice(),
-        b"avro: no_branch.avsc: S9\n".as_slice()
-    );
     Ok(())
 }
 

@@ -1,4 +1,5 @@
 use crate::program::outcome_of;
+use crate::texts::record_of_ints;
 use avro_display::show;
 use avro_judge::{JudgeLimits, Refutation, Verdict, judge};
 use avro_schema::{Datum, Limits, Schema, size};
@@ -282,25 +283,11 @@ fn the_pair_limit_is_exact(rt: HostRuntime) -> Result<(), Fail> {
     Ok(())
 }
 
-/// A record of int fields.
-fn wide(alloc: Global, count: u32) -> Result<String, AllocError> {
-    let mut text = String::from_str(alloc, r#"{"type":"record","name":"R","fields":["#)?;
-    for number in 0..count {
-        if number > 0 {
-            text.push_str(",")?;
-        }
-        let field = format!(in alloc; "{{\"name\":\"f{number}\",\"type\":\"int\"}}")?;
-        text.push_str(field.as_str())?;
-    }
-    text.push_str("]}")?;
-    Ok(text)
-}
-
 #[test]
 fn wide_records_are_judged_up_to_the_pair_limit(rt: HostRuntime) -> Result<(), Fail> {
     let alloc = rt.alloc();
     for (count, text) in [(200, "yes\n"), (2048, "undecided Pairs\n")] {
-        let schema = wide(alloc, count)?;
+        let schema = record_of_ints(alloc, count)?;
         let found = verdict(
             alloc,
             schema.as_str(),

@@ -1,9 +1,16 @@
-use crate::data::schema_of;
 use avro_binary::ReadError;
 use avro_judge::{Cause, JudgeLimits, Verdict, judge};
 use avro_resolve::{Fault, FaultKind};
-use avro_schema::{Datum, Draft, Limits, Node};
+use avro_schema::{Datum, Draft, DraftError, Limits, Node, Schema};
+use std::alloc::Global;
 use std::test::Fail;
+
+/// A schema of one node.
+fn schema_of(alloc: Global, node: Node) -> Result<Schema, DraftError> {
+    let mut draft = Draft::new(alloc);
+    draft.add(node)?;
+    draft.finish()
+}
 
 #[test]
 fn ints_are_read_as_longs(rt: HostRuntime) -> Result<(), Fail> {

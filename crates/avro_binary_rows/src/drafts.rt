@@ -34,6 +34,15 @@ pub(crate) fn field(
     })
 }
 
+/// Fields without aliases and defaults, of their names and nodes.
+pub(crate) fn fields(alloc: Global, named: &[(&str, u32)]) -> Result<Vec<Field>, AllocError> {
+    let mut list = Vec::new(alloc);
+    for (name, node) in named {
+        list.push(field(alloc, name, *node, None)?)?;
+    }
+    Ok(list)
+}
+
 /// A record without aliases.
 pub(crate) fn record(alloc: Global, text: &str, fields: Vec<Field>) -> Result<Node, NameError> {
     Ok(Node::Record(RecordNode {
@@ -84,32 +93,32 @@ pub(crate) fn finished(alloc: Global, nodes: Vec<Node>) -> Result<Schema, DraftE
     draft.finish()
 }
 
+/// A record with a field of each of ten nodes behind it, the enum with a default.
+fn record_of_all(alloc: Global) -> Result<Node, Fail> {
+    let mut parts = fields(
+        alloc,
+        &[("a", 1), ("m", 3), ("u", 5), ("f", 8), ("b", 9), ("s", 10)],
+    )?;
+    parts.push(field(alloc, "e", 7, Some(Datum::Enum(1)))?)?;
+    Ok(record(alloc, "R", parts)?)
+}
+
 #[test]
 fn each_kind_of_node_is_built(rt: HostRuntime) -> Result<(), Fail> {
     let alloc = rt.alloc();
-    let fields = vec![in alloc;
-        field(alloc, "a", 1, None)?,
-        field(alloc, "m", 3, None)?,
-        field(alloc, "u", 5, None)?,
-        field(alloc, "e", 7, Some(Datum::Enum(1)))?,
-        field(alloc, "f", 8, None)?,
-        field(alloc, "b", 9, None)?,
-        field(alloc, "s", 10, None)?,
-    ]?;
-    let nodes = vec![in alloc;
-        record(alloc, "R", fields)?,
-        Node::Array(NodeId(2)),
-        Node::Int,
-        Node::Map(NodeId(4)),
-        Node::Long,
-        union(alloc, &[6, 0])?,
-        Node::Null,
-        enumeration(alloc, &["A", "B"], Some(1))?,
-        fixed(alloc, "F", 1_048_576)?,
-        Node::Bytes,
-        Node::Str,
-    ]?;
-    let schema = finished(alloc, nodes)?;
+    let mut draft = Draft::new(alloc);
+    draft.add(record_of_all(alloc)?)?;
+    draft.add(Node::Array(NodeId(2)))?;
+    draft.add(Node::Int)?;
+    draft.add(Node::Map(NodeId(4)))?;
+    draft.add(Node::Long)?;
+    draft.add(union(alloc, &[6, 0])?)?;
+    draft.add(Node::Null)?;
+    draft.add(enumeration(alloc, &["A", "B"], Some(1))?)?;
+    draft.add(fixed(alloc, "F", 1_048_576)?)?;
+    draft.add(Node::Bytes)?;
+    draft.add(Node::Str)?;
+    let schema = draft.finish()?;
     assert_eq!(rt; schema.len(), 11);
     assert!(rt; *schema.node(schema.root()) != Node::Null);
     Ok(())
@@ -119,7 +128,7 @@ fn each_kind_of_node_is_built(rt: HostRuntime) -> Result<(), Fail> {
 fn edges_go_forward_or_to_a_named_type(rt: HostRuntime) -> Result<(), Fail> {
     let alloc = rt.alloc();
     let back_to_record = vec![in alloc;
-        record(alloc, "R", vec![in alloc; field(alloc, "f", 1, None)?]?)?,
+        record(alloc, "R", fields(alloc, &[("f", 1)])?)?,
         Node::Array(NodeId(0)),
     ]?;
     assert!(rt; finished(alloc, back_to_record).is_ok());
@@ -134,9 +143,8 @@ fn edges_go_forward_or_to_a_named_type(rt: HostRuntime) -> Result<(), Fail> {
 #[test]
 fn names_are_defined_once(rt: HostRuntime) -> Result<(), Fail> {
     let alloc = rt.alloc();
-    let fields = vec![in alloc; field(alloc, "f", 1, None)?, field(alloc, "g", 2, None)?]?;
     let twice = vec![in alloc;
-        record(alloc, "R", fields)?,
+        record(alloc, "R", fields(alloc, &[("f", 1), ("g", 2)])?)?,
         fixed(alloc, "F", 1)?,
         fixed(alloc, "F", 2)?,
     ]?;
@@ -188,78 +196,85 @@ fn symbols_keep_their_rules(rt: HostRuntime) -> Result<(), Fail> {
     Ok(())
 }
 
+/// The fault of a record of these fields, which go to an int.
+fn fault_of_fields(alloc: Global, list: Vec<Field>) -> Result<Option<DraftError>, Fail> {
+    let nodes = vec![in alloc; record(alloc, "R", list)?, Node::Int]?;
+    Ok(finished(alloc, nodes).err())
+}
+
 #[test]
 fn fields_keep_their_rules(rt: HostRuntime) -> Result<(), Fail> {
     let alloc = rt.alloc();
-    let twice = vec![in alloc; field(alloc, "x", 1, None)?, field(alloc, "x", 1, None)?]?;
-    let nodes = vec![in alloc; record(alloc, "R", twice)?, Node::Int]?;
-    assert_eq!(rt;
-        finished(alloc, nodes).err(),
-        Some(DraftError::DuplicateField)
-    );
-    let own_alias = vec![in alloc;
-        Field {
-            name: String::from_str(alloc, "x")?,
-            aliases: texts(alloc, &["x"])?,
-            node: NodeId(1),
-            default: None,
-        },
-    ]?;
-    let nodes = vec![in alloc; record(alloc, "R", own_alias)?, Node::Int]?;
-    assert_eq!(rt;
-        finished(alloc, nodes).err(),
-        Some(DraftError::DuplicateField)
-    );
-    let no_name = vec![in alloc; field(alloc, "a-b", 1, None)?]?;
-    let nodes = vec![in alloc; record(alloc, "R", no_name)?, Node::Int]?;
-    assert_eq!(rt; finished(alloc, nodes).err(), Some(DraftError::InvalidName));
+    for (named, fault) in [
+        (&[("x", 1), ("y", 1)][..], None),
+        (&[("x", 1), ("x", 1)], Some(DraftError::DuplicateField)),
+        (&[("a-b", 1)], Some(DraftError::InvalidName)),
+    ] {
+        let list = fields(alloc, named)?;
+        assert_eq!(rt; fault_of_fields(alloc, list)?, fault);
+    }
     Ok(())
+}
+
+#[test]
+fn a_field_has_no_alias_that_is_its_name(rt: HostRuntime) -> Result<(), Fail> {
+    let alloc = rt.alloc();
+    let own_alias = Field {
+        name: String::from_str(alloc, "x")?,
+        aliases: texts(alloc, &["x"])?,
+        node: NodeId(1),
+        default: None,
+    };
+    let list = vec![in alloc; own_alias]?;
+    let fault = fault_of_fields(alloc, list)?;
+    assert_eq!(rt; fault, Some(DraftError::DuplicateField));
+    Ok(())
+}
+
+/// The fault of a field of null or int with this default.
+fn fault_of_default(alloc: Global, default: Datum) -> Result<Option<DraftError>, Fail> {
+    let list = vec![in alloc; field(alloc, "f", 1, Some(default))?]?;
+    let mut draft = Draft::new(alloc);
+    draft.add(record(alloc, "R", list)?)?;
+    draft.add(union(alloc, &[2, 3])?)?;
+    draft.add(Node::Null)?;
+    draft.add(Node::Int)?;
+    Ok(draft.finish().err())
 }
 
 #[test]
 fn defaults_fit_their_field(rt: HostRuntime) -> Result<(), Fail> {
     let alloc = rt.alloc();
-    let null = Box::new(alloc, Datum::Null)?;
-    let first = vec![in alloc; field(alloc, "f", 1, Some(Datum::Union(0, null)))?]?;
-    let nodes = vec![in alloc;
-        record(alloc, "R", first)?,
-        union(alloc, &[2, 3])?,
-        Node::Null,
-        Node::Int,
-    ]?;
-    assert!(rt; finished(alloc, nodes).is_ok());
+    for (number, datum, fault) in [
+        (0, Datum::Null, None),
+        (1, Datum::Int(3), None),
+        (0, Datum::Int(3), Some(DraftError::InvalidDefault)),
+    ] {
+        let default = Datum::Union(number, Box::new(alloc, datum)?);
+        assert_eq!(rt; fault_of_default(alloc, default)?, fault);
+    }
+    Ok(())
+}
+
+/// The fault of a record whose default has an array of this item, where ints are wanted.
+fn fault_of_item(alloc: Global, item: Datum) -> Result<Option<DraftError>, Fail> {
+    let array = Datum::Array(vec![in alloc; item]?);
+    let default = Datum::Record(vec![in alloc; array]?);
+    let list = vec![in alloc; field(alloc, "f", 1, Some(default))?]?;
+    let mut draft = Draft::new(alloc);
+    draft.add(record(alloc, "R", list)?)?;
+    draft.add(record(alloc, "S", fields(alloc, &[("g", 2)])?)?)?;
+    draft.add(Node::Array(NodeId(3)))?;
+    draft.add(Node::Int)?;
+    Ok(draft.finish().err())
+}
+
+#[test]
+fn parts_of_defaults_fit_too(rt: HostRuntime) -> Result<(), Fail> {
+    let alloc = rt.alloc();
     let invalid = Some(DraftError::InvalidDefault);
-    let three = Box::new(alloc, Datum::Int(3))?;
-    let second = vec![in alloc; field(alloc, "f", 1, Some(Datum::Union(1, three)))?]?;
-    let nodes = vec![in alloc;
-        record(alloc, "R", second)?,
-        union(alloc, &[2, 3])?,
-        Node::Null,
-        Node::Int,
-    ]?;
-    assert!(rt; finished(alloc, nodes).is_ok());
-    let three = Box::new(alloc, Datum::Int(3))?;
-    let first = vec![in alloc; field(alloc, "f", 1, Some(Datum::Union(0, three)))?]?;
-    let nodes = vec![in alloc;
-        record(alloc, "R", first)?,
-        union(alloc, &[2, 3])?,
-        Node::Null,
-        Node::Int,
-    ]?;
-    assert_eq!(rt; finished(alloc, nodes).err(), invalid);
-    let long = Datum::Array(vec![in alloc; Datum::Long(1)]?);
-    let deep = Datum::Record(vec![in alloc; long]?);
-    let nodes = vec![in alloc;
-        record(
-            alloc,
-            "R",
-            vec![in alloc; field(alloc, "f", 1, Some(deep))?]?
-        )?,
-        record(alloc, "S", vec![in alloc; field(alloc, "g", 2, None)?]?)?,
-        Node::Array(NodeId(3)),
-        Node::Int,
-    ]?;
-    assert_eq!(rt; finished(alloc, nodes).err(), invalid);
+    assert_eq!(rt; fault_of_item(alloc, Datum::Int(1))?, None);
+    assert_eq!(rt; fault_of_item(alloc, Datum::Long(1))?, invalid);
     Ok(())
 }
 

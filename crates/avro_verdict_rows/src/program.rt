@@ -1,4 +1,4 @@
-use crate::schemas::padded_int;
+use crate::texts::padded_int;
 use avro_tool::run;
 use std::alloc::AllocError;
 use std::io::Write;

@@ -1,4 +1,4 @@
-use crate::drafts::{enumeration, field, finished, fixed, record, union};
+use crate::drafts::{enumeration, fields, finished, fixed, record, union};
 use crate::trees::map_of;
 use avro_binary::{EncodeError, encode};
 use avro_schema::{Datum, Node, NodeId, Schema};
@@ -53,12 +53,18 @@ fn longs_are_encoded(rt: HostRuntime) -> Result<(), Fail> {
     Ok(())
 }
 
+/// The output after a datum of a schema of one node is encoded.
+fn encoded_alone(alloc: Global, node: Node, datum: &Datum) -> Result<Vec<u8>, Fail> {
+    let schema = finished(alloc, vec![in alloc; node]?)?;
+    encoded(alloc, &schema, datum)
+}
+
 #[test]
-fn primitive_data_are_encoded(rt: HostRuntime) -> Result<(), Fail> {
+fn numbers_and_booleans_are_encoded(rt: HostRuntime) -> Result<(), Fail> {
     let alloc = rt.alloc();
-    for (node, datum, bytes) in vec![in alloc;
+    for (node, datum, bytes) in [
         (Node::Null, Datum::Null, &[][..]),
-        (Node::Boolean, Datum::Bool(false), &[0x00]),
+        (Node::Boolean, Datum::Bool(false), &[0x00u8]),
         (Node::Boolean, Datum::Bool(true), &[0x01]),
         (Node::Int, Datum::Int(-1), &[0x01]),
         (
@@ -66,22 +72,24 @@ fn primitive_data_are_encoded(rt: HostRuntime) -> Result<(), Fail> {
             Datum::Int(i32::MIN),
             &[0xff, 0xff, 0xff, 0xff, 0x0f],
         ),
-        (
-            Node::Bytes,
-            Datum::Bytes(Vec::from_slice(alloc, &[0xff, 0x00])?),
-            &[0x04, 0xff, 0x00],
-        ),
-        (Node::Bytes, Datum::Bytes(Vec::new(alloc)), &[0x00]),
-        (
-            Node::Str,
-            Datum::Str(String::from_str(alloc, "foo")?),
-            &[0x06, 0x66, 0x6f, 0x6f],
-        ),
-    ]? {
-        let schema = finished(alloc, vec![in alloc; node]?)?;
-        let out = encoded(alloc, &schema, &datum)?;
+    ] {
+        let out = encoded_alone(alloc, node, &datum)?;
         assert_eq!(rt; out, appended(alloc, bytes)?);
     }
+    Ok(())
+}
+
+#[test]
+fn bytes_and_texts_are_encoded(rt: HostRuntime) -> Result<(), Fail> {
+    let alloc = rt.alloc();
+    let datum = Datum::Bytes(Vec::from_slice(alloc, &[0xff, 0x00])?);
+    let out = encoded_alone(alloc, Node::Bytes, &datum)?;
+    assert_eq!(rt; out, appended(alloc, &[0x04, 0xff, 0x00])?);
+    let out = encoded_alone(alloc, Node::Bytes, &Datum::Bytes(Vec::new(alloc)))?;
+    assert_eq!(rt; out, appended(alloc, &[0x00])?);
+    let datum = Datum::Str(String::from_str(alloc, "foo")?);
+    let out = encoded_alone(alloc, Node::Str, &datum)?;
+    assert_eq!(rt; out, appended(alloc, &[0x06, 0x66, 0x6f, 0x6f])?);
     Ok(())
 }
 
@@ -125,8 +133,8 @@ fn maps_are_one_block(rt: HostRuntime) -> Result<(), Fail> {
 #[test]
 fn records_are_their_fields(rt: HostRuntime) -> Result<(), Fail> {
     let alloc = rt.alloc();
-    let fields = vec![in alloc; field(alloc, "a", 1, None)?, field(alloc, "b", 2, None)?]?;
-    let nodes = vec![in alloc; record(alloc, "test", fields)?, Node::Long, Node::Str]?;
+    let list = fields(alloc, &[("a", 1), ("b", 2)])?;
+    let nodes = vec![in alloc; record(alloc, "test", list)?, Node::Long, Node::Str]?;
     let schema = finished(alloc, nodes)?;
     let text = Datum::Str(String::from_str(alloc, "foo")?);
     let datum = Datum::Record(vec![in alloc; Datum::Long(27), text]?);
@@ -165,7 +173,7 @@ fn data_that_do_not_fit_are_refused(rt: HostRuntime) -> Result<(), Fail> {
     let alloc = rt.alloc();
     let schema = finished(alloc, vec![in alloc; Node::Array(NodeId(1)), Node::Int]?)?;
     let items = vec![in alloc; Datum::Int(1), Datum::Long(1)]?;
-    for datum in vec![in alloc; Datum::Null, Datum::Array(items)]? {
+    for datum in [Datum::Null, Datum::Array(items)] {
         let mut out = Vec::from_slice(alloc, &BEFORE)?;
         let answer = encode(alloc, &schema, schema.root(), &datum, &mut out);
         assert_eq!(rt; answer, Err(EncodeError::DoesNotFit));

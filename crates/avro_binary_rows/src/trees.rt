@@ -12,23 +12,32 @@ pub(crate) fn map_of(alloc: Global, keys: &[&str]) -> Result<Datum, AllocError> 
 }
 
 #[test]
-fn sizes_and_depths_count_nodes(rt: HostRuntime) -> Result<(), Fail> {
+fn leaves_are_one_node(rt: HostRuntime) -> Result<(), Fail> {
     let alloc = rt.alloc();
-    let items = vec![in alloc; Datum::Int(1), Datum::Int(2)]?;
-    let boxed = Box::new(alloc, Datum::Array(items.clone()?))?;
-    for (datum, nodes, deep) in vec![in alloc;
-        (Datum::Bytes(Vec::from_slice(alloc, b"ab")?), 1, 1),
-        (Datum::Str(String::from_str(alloc, "ab")?), 1, 1),
-        (Datum::Array(Vec::new(alloc)), 1, 1),
-        (Datum::Array(items), 3, 2),
-        (map_of(alloc, &["a", "b"])?, 3, 2),
-        (Datum::Union(0, boxed), 4, 3),
-        (Datum::Record(Vec::new(alloc)), 1, 1),
-        (Datum::Enum(3), 1, 1),
-        (Datum::Fixed(Vec::new(alloc)), 1, 1),
-    ]? {
-        assert_eq!(rt; (size(&datum), depth(&datum)), (nodes, deep));
+    let bytes = Datum::Bytes(Vec::from_slice(alloc, b"ab")?);
+    assert_eq!(rt; (size(&bytes), depth(&bytes)), (1, 1));
+    let text = Datum::Str(String::from_str(alloc, "ab")?);
+    assert_eq!(rt; (size(&text), depth(&text)), (1, 1));
+    for datum in [
+        Datum::Array(Vec::new(alloc)),
+        Datum::Record(Vec::new(alloc)),
+        Datum::Fixed(Vec::new(alloc)),
+        Datum::Enum(3),
+    ] {
+        assert_eq!(rt; (size(&datum), depth(&datum)), (1, 1));
     }
+    Ok(())
+}
+
+#[test]
+fn parts_are_nodes_one_level_down(rt: HostRuntime) -> Result<(), Fail> {
+    let alloc = rt.alloc();
+    let map = map_of(alloc, &["a", "b"])?;
+    assert_eq!(rt; (size(&map), depth(&map)), (3, 2));
+    let array = Datum::Array(vec![in alloc; Datum::Int(1), Datum::Int(2)]?);
+    assert_eq!(rt; (size(&array), depth(&array)), (3, 2));
+    let union = Datum::Union(0, Box::new(alloc, array)?);
+    assert_eq!(rt; (size(&union), depth(&union)), (4, 3));
     Ok(())
 }
 

@@ -1,5 +1,5 @@
 use crate::data::schema_of;
-use crate::drafts::{enumeration, field, finished, fixed, record, union};
+use crate::drafts::{enumeration, fields, finished, fixed, record, union};
 use avro_binary::{decode, walk};
 use avro_display::show;
 use avro_schema::{Limits, Node, NodeId, Schema};
@@ -191,8 +191,8 @@ fn records_are_read(rt: HostRuntime) -> Result<(), Fail> {
         (b"\x36\x06f", "B1 at 2", "B1 at 2"),
         (b"\x36\x06fo", "B1 at 2", "B1 at 2"),
     ];
-    let fields = vec![in alloc; field(alloc, "a", 1, None)?, field(alloc, "b", 2, None)?]?;
-    let nodes = vec![in alloc; record(alloc, "R", fields)?, Node::Long, Node::Str]?;
+    let list = fields(alloc, &[("a", 1), ("b", 2)])?;
+    let nodes = vec![in alloc; record(alloc, "R", list)?, Node::Long, Node::Str]?;
     let schema = finished(alloc, nodes)?;
     assert_eq!(rt; wrong_row(alloc, &schema, &Limits::default(), &rows)?, None);
     Ok(())
@@ -222,12 +222,9 @@ fn list_of(alloc: Global, records: usize) -> Result<Vec<u8>, AllocError> {
 #[test]
 fn depth_is_limited(rt: HostRuntime) -> Result<(), Fail> {
     let alloc = rt.alloc();
-    let fields = vec![in alloc;
-        field(alloc, "value", 1, None)?,
-        field(alloc, "next", 2, None)?,
-    ]?;
+    let list = fields(alloc, &[("value", 1), ("next", 2)])?;
     let nodes = vec![in alloc;
-        record(alloc, "Node", fields)?,
+        record(alloc, "Node", list)?,
         Node::Int,
         union(alloc, &[3, 0])?,
         Node::Null,

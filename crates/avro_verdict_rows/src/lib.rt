@@ -1,0 +1,18 @@
+//! Tests of verdicts and of the program: worked rows of judging and of certificates, and the texts and
+//! statuses of the program.
+#![tactic(auto)]
+
+#[cfg(test)]
+mod certificates;
+#[cfg(test)]
+mod judging;
+#[cfg(test)]
+mod judging_all_kinds;
+#[cfg(test)]
+mod program;
+#[cfg(test)]
+mod resolving;
+#[cfg(test)]
+mod schema_command;
+#[cfg(test)]
+mod texts;
