@@ -199,6 +199,15 @@ def symbols(size):
     return written(schema)
 
 
+def tries(size):
+    """An array of numbers, of a union of one fixed again and again, and int, which is refused once they are tried."""
+    of_all = [fixed("B")] + ["B"] * (size // 8) + ["int"]
+    field = {"name": "f", "type": {"type": "array", "items": of_all}, "default": []}
+    schema = {"type": "record", "name": "R", "fields": [field]}
+    field["default"] = [7] * ((size - len(written(schema))) // 2)
+    return written(schema)
+
+
 def longest(size, text):
     """The greatest count whose text fits, where each count more adds the same or more."""
     one, many = len(text(0)), len(text(16))
@@ -212,7 +221,7 @@ KINDS = {
     "plain": plain, "aliases": aliases, "definitions": definitions, "references": references,
     "long references": long_references, "unions": unions, "repeated": repeated, "fields": fields, "qualified": qualified,
     "twins": twins, "nested 60": nested(60), "nested 120": nested(120), "deep": deep, "choices": choices, "symbols": symbols,
-    "branches 100": branches(100), "branches 1000": branches(1000), "records 100": records(100),
+    "branches 100": branches(100), "branches 1000": branches(1000), "records 100": records(100), "tries": tries,
 }
 
 

@@ -6,7 +6,6 @@ use Rattle.std.specs.String.{string_cmp}
 use Rattle.std.specs.declared.cmp.Ordering.{Ordering}
 use Rattle.std.specs.Cmp.Lexicographic.{slice_cmp}
 use Rattle.std.specs.BTreeMap.{BTreeMap, get, btree_map_len}
-use Rattle.avro_name.specs.Name.{Name}
 use Rattle.avro_schema_json.specs.Declares.{Known, place_of}
 
 -- a number and a simple part

@@ -1,4 +1,4 @@
-use Rattle.std.proofs.Common.{◌≡◌, refl, subst, sym, ap, ◌∙◌}
+use Rattle.std.proofs.Common.{refl, subst, sym, ap, ◌∙◌}
 use Rattle.serde_json.specs.View.{members_view}
 use Rattle.avro_schema.specs.Node.{Node}
 use Rattle.avro_schema_json.specs.DeclaredAttributes.{name_in}
