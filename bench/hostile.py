@@ -121,6 +121,18 @@ def plain(size):
     return text(min(4000, longest(size, text)))
 
 
+def twins(size):
+    """Fixeds of the same simple names in two long namespaces that differ at their ends."""
+    count = min(2040, (size // 4) // (2 * len('{"type":"fixed","name":"F1234","size":1},')))
+    branches = [fixed("F%d" % k) for k in range(count)]
+    def inner(name, space):
+        return {"type": "record", "name": name, "namespace": space, "fields": [{"name": "f", "type": branches}]}
+    def text(space):
+        both = [{"name": name, "type": inner(name, "n" * space + name)} for name in ["a", "b"]]
+        return written({"type": "record", "name": "R", "fields": both})
+    return text((size - len(text(0))) // 2)
+
+
 def nested(depth):
     """Objects in one another, this many, as a default: two records and the empty one are tried for each."""
     def text(size):
@@ -128,10 +140,43 @@ def nested(depth):
         for _ in range(depth):
             default = '{"a":' + default + "}"
         empty = {"type": "record", "name": "E", "fields": []}
-        second = {"type": "record", "name": "B", "fields": [{"name": "a", "type": ["A", "B", "E"]}]}
-        first = {"type": "record", "name": "A", "fields": [{"name": "a", "type": ["A", second, empty]}]}
+        second = {"type": "record", "name": "B", "fields": [{"name": "a", "type": ["A", "B", empty]}]}
+        first = {"type": "record", "name": "A", "fields": [{"name": "a", "type": ["A", second, "E"]}]}
         whole = {"type": "record", "name": "R", "fields": [{"name": "f", "type": [first], "default": 0}]}
         return written(whole).replace('"default":0', '"default":' + default)
+    return text
+
+
+def deep(size):
+    """Arrays of unions in one another, 60 of them, with as many numbers in the innermost as fit, as a default."""
+    items = ["null", "int"]
+    for _ in range(60):
+        items = ["null", {"type": "array", "items": items}]
+    schema = {"type": "record", "name": "R", "fields": [{"name": "f", "type": [items[1]], "default": 0}]}
+    count = (size - len(written(schema)) - 2 * 60) // 2
+    return written(schema).replace('"default":0', '"default":' + "[" * 60 + ",".join(["7"] * count) + "]" * 60)
+
+
+def branches(count):
+    """An array of numbers, of a union of this many fixeds and int."""
+    def text(size):
+        of_all = [fixed("F%d" % k) for k in range(count)] + ["int"]
+        field = {"name": "f", "type": {"type": "array", "items": of_all}, "default": []}
+        schema = {"type": "record", "name": "R", "fields": [field]}
+        field["default"] = [7] * ((size - len(written(schema))) // 2)
+        return written(schema)
+    return text
+
+
+def records(count):
+    """An array of objects, of a union of this many records, of which the last is theirs."""
+    def text(size):
+        of_all = [{"type": "record", "name": "F%d" % k, "fields": [{"name": "a", "type": "null"}]} for k in range(count - 1)]
+        of_all.append({"type": "record", "name": "L", "fields": [{"name": "a", "type": "int"}]})
+        field = {"name": "f", "type": {"type": "array", "items": of_all}, "default": []}
+        schema = {"type": "record", "name": "R", "fields": [field]}
+        field["default"] = [{"a": 7}] * ((size - len(written(schema))) // len('{"a":7},'))
+        return written(schema)
     return text
 
 
@@ -154,6 +199,15 @@ def symbols(size):
     return written(schema)
 
 
+def tries(size):
+    """An array of numbers, of a union of one fixed again and again, and int, which is refused once they are tried."""
+    of_all = [fixed("B")] + ["B"] * (size // 8) + ["int"]
+    field = {"name": "f", "type": {"type": "array", "items": of_all}, "default": []}
+    schema = {"type": "record", "name": "R", "fields": [field]}
+    field["default"] = [7] * ((size - len(written(schema))) // 2)
+    return written(schema)
+
+
 def longest(size, text):
     """The greatest count whose text fits, where each count more adds the same or more."""
     one, many = len(text(0)), len(text(16))
@@ -166,7 +220,8 @@ def longest(size, text):
 KINDS = {
     "plain": plain, "aliases": aliases, "definitions": definitions, "references": references,
     "long references": long_references, "unions": unions, "repeated": repeated, "fields": fields, "qualified": qualified,
-    "nested 60": nested(60), "nested 120": nested(120), "choices": choices, "symbols": symbols,
+    "twins": twins, "nested 60": nested(60), "nested 120": nested(120), "deep": deep, "choices": choices, "symbols": symbols,
+    "branches 100": branches(100), "branches 1000": branches(1000), "records 100": records(100), "tries": tries,
 }
 
 

@@ -1,6 +1,6 @@
 -- Defaults as they are read part by part.
 use Rattle.std.proofs.Common.{◌≡◌, ℕ, zero, suc, ◌+◌, ◌<◌, ◌≤◌, List, [], ◌∷◌, ◌++◌, length, drop, arith, add-one, Option, Some, None, option_map, option_and_then, get_or, refl, ap, ◌∙◌, sym}
-use Rattle.std.specs.Prelude.{String, string_bytes, slice_get}
+use Rattle.std.specs.Prelude.{String, string_bytes}
 use Rattle.std.specs.declared.alloc.Global.{Global}
 use Rattle.std.proofs.lemmas.List.{drop_more}
 use Rattle.avro_schema.specs.Node.{Node, node_at, branches_of}

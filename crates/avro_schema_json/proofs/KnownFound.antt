@@ -1,26 +1,30 @@
--- The places of names, as a name is added.
-use Rattle.std.proofs.Common.{◌≡◌, ℕ, Bool, true, false, ◌&&◌, cond, List, [], ◌∷◌, ◌++◌, Option, Some, None, refl, sym, ap, ◌∙◌}
-use Rattle.std.specs.Prelude.{bytes_eq}
+-- The places of names and the numbers of namespaces, as one is added.
+use Rattle.std.proofs.Common.{◌≡◌, ◌⊎◌, inl, inr, ⊎_elim, ℕ, ◌+◌, ◌≤◌, Bool, true, false, not, ◌&&◌, ◌==◌, cond, List, length, [], ◌∷◌, ◌++◌, Option, Some, None, refl, sym, ap, ◌∙◌, arith, ne_eqb}
+use Rattle.std.specs.Prelude.{bytes_eq, String, string_bytes, Result, Ok, Err, IfOk, OnOk, OnErr, is_some, if◌then◌else◌}
+use Rattle.std.specs.declared.alloc.Global.{Global}
+use Rattle.std.specs.BTreeMap.{BTreeMap, get, is_at, btree_map_len, Updates}
+use Rattle.std.specs.Map.{lookup}
+use Rattle.std.specs.Cmp.{unsigned_tied}
 use Rattle.std.specs.Ordering.{is_eq, nat_cmp, ordering_then}
+use Rattle.std.specs.String.{string_cmp}
 use Rattle.std.specs.Cmp.Lexicographic.{slice_cmp}
 use Rattle.std.specs.declared.cmp.Ordering.{Ordering}
 use Rattle.std.specs.declared.cmp.Ordering.TheVariants.{Less, Equal, Greater}
-use Rattle.std.proofs.lemmas.Bool.{and_parts, false≢true, false_from_ne_true}
+use Rattle.std.proofs.lemmas.Bool.{and_parts, cond-true, cond-false, false≢true, false_from_ne_true}
+use Rattle.std.proofs.lemmas.Bool.Decides.{Decides-eqb}
 use Rattle.std.proofs.lemmas.Map.Text.{is_eq-slice_cmp}
 use Rattle.std.proofs.lemmas.Slice.Eq.{bytes_eq-Decides}
-use Rattle.avro_name.specs.Name.{Name, same_name}
+use Rattle.avro_name.specs.Name.{Name, same_name, name_of, split_name, has_dot, is_dotted_name, is_primitive_word}
 use Rattle.avro_schema_json.specs.Declares.{Known, place_of, defining}
-use Rattle.avro_schema_json.specs.KnownNames.{name_cmp}
+use Rattle.avro_schema_json.specs.KnownNames.{Key, key_cmp, number_of, IsIndexOf}
+use Rattle.avro_schema_json.specs.KnownSeen.{known_of, IsNumbered}
+use Rattle.avro_schema_json.specs.declared.name_table.NameTable.{NameTable}
+use Rattle.avro_schema_json.specs.declared.name_table.Space.{Space}
 
 is_eq-then : (a b : Ordering) → is_eq (ordering_then a b) ≡ (is_eq a && is_eq b)
 is_eq-then Less b = refl
 is_eq-then Equal b = refl
 is_eq-then Greater b = refl
-
-is_eq-names : (a b : Name) → is_eq (name_cmp a b) ≡ same_name a b
-is_eq-names a b =
-    is_eq-then (slice_cmp nat_cmp a.simple b.simple) (slice_cmp nat_cmp a.namespace b.namespace)
-    ∙ rw (is_eq-slice_cmp a.simple b.simple, is_eq-slice_cmp a.namespace b.namespace) refl
 
 one_name : (a b : Name) → same_name a b ≡ true → a ≡ b
 one_name a b h =
@@ -72,10 +76,186 @@ found_after q name place (first ∷ known) absent = by (found_after q name place
     by rest true h = let other = taken q name known first h absent in rw (h, other) refl
     by rest false h = rw h rest
 
--- the index of the names, with one more
-pub indexed_after : (q name : Name) (place : ℕ) (known : Known) (before after : Option ℕ) → place_of name known ≡ None
-    → before ≡ place_of q known → after ≡ cond (is_eq (name_cmp name q)) (Some place) before
-    → after ≡ place_of q (defining name place known)
-indexed_after q name place known before after absent agree put =
-    put ∙ ap (λ b. cond b (Some place) before) (is_eq-names name q ∙ same_name-comm name q)
-    ∙ ap (λ o. cond (same_name q name) (Some place) o) agree ∙ sym (found_after q name place known absent)
+-- an answer that is one is the other
+pub answers_so : {T E : Type 0} {P Q : T → Type 0} (r : Result T E) → IfOk r P → ((x : T) → P x → Q x) → IfOk r Q
+answers_so (Ok x) h f = f x h
+answers_so (Err e) h f = h
+
+-- a name is found by its namespace's number and its simple part
+pub found_in : (names : NameTable) (space : Space) (name : Name) (simple : List ℕ) (place : Option ℕ) (known : Known) → IsNumbered names space
+    → space.namespace ≡ name.namespace → simple ≡ name.simple → known_of names ≡ known
+    → ((namespace : List ℕ) → number_of names.numbers namespace ≡ Some space.number
+    → place ≡ place_of (record { namespace = namespace; simple = simple }) (known_of names)) → place ≡ place_of name known
+found_in names space name simple place known numbered at spelled same answer =
+    answer name.namespace (ap (number_of names.numbers) (sym at) ∙ numbered)
+    ∙ ap (λ t. place_of (record { namespace = name.namespace; simple = t }) (known_of names)) spelled ∙ ap (place_of name) same
+
+some_same : (a b : Name) → Some a ≡ Some b → a ≡ b
+some_same a b e = cc
+
+-- a word without a dot stands in the enclosing namespace
+pub named_alone : (word enclosing : List ℕ) (name : Name) → has_dot word ≡ false → name_of word enclosing ≡ Some name → enclosing ≡ name.namespace
+named_alone word enclosing name none is = by (is_dotted_name word && not (is_primitive_word (split_name word enclosing).simple)) refl
+  where
+    split : split_name word enclosing ≡ record { namespace = enclosing; simple = word }
+    split = cond-false (has_dot word) _ _ none
+
+    by : (good : Bool) → (is_dotted_name word && not (is_primitive_word (split_name word enclosing).simple)) ≡ good → enclosing ≡ name.namespace
+    by true h =
+        let same : split_name word enclosing ≡ name = some_same _ _ (sym (cond-true _ (Some (split_name word enclosing)) None h) ∙ is) in
+        sym (ap (λ (n : Name). n.namespace) split) ∙ ap (λ (n : Name). n.namespace) same
+    by false h = let none : None ≡ Some name = sym (cond-false _ (Some (split_name word enclosing)) None h) ∙ is in absurd (cc)
+
+-- ---- one more name in the index
+
+or_none : {A : Type 0} (o : Option A) → (o ≡ None) ⊎ ((x : A) × (o ≡ Some x))
+or_none None = inl refl
+or_none (Some x) = inr (x, refl)
+
+one_bytes : (xs ys : List ℕ) → bytes_eq xs ys ≡ true → xs ≡ ys
+one_bytes xs ys h = (bytes_eq-Decides xs ys).0 h
+
+same_bytes : (xs : List ℕ) → bytes_eq xs xs ≡ true
+same_bytes xs = (bytes_eq-Decides xs xs).1 refl
+
+-- tests that hold at the same time are equal
+both_ways : (a b : Bool) → (a ≡ true → b ≡ true) → (b ≡ true → a ≡ true) → a ≡ b
+both_ways true b there back = sym (there refl)
+both_ways false true there back = back refl
+both_ways false false there back = refl
+
+and-comm : (a b : Bool) → (a && b) ≡ (b && a)
+and-comm true true = refl
+and-comm true false = refl
+and-comm false true = refl
+and-comm false false = refl
+
+is_eq-keys : (a b : Key) → is_eq (key_cmp a b) ≡ ((a.0 == b.0) && bytes_eq (string_bytes a.1) (string_bytes b.1))
+is_eq-keys a b =
+    is_eq-then (nat_cmp a.0 b.0) (string_cmp a.1 b.1)
+    ∙ rw (is_eq-slice_cmp (string_bytes a.1) (string_bytes b.1)) (ap (λ t. t && bytes_eq (string_bytes a.1) (string_bytes b.1)) (unsigned_tied a.0 b.0))
+
+module _ (known : Known) (numbers : BTreeMap (List ℕ) ℕ) (places : BTreeMap Key ℕ) (index : IsIndexOf known numbers places) where
+  -- numbers are equal where the namespaces are
+  one_number : (one other : List ℕ) (m n : ℕ) → number_of numbers one ≡ Some m → number_of numbers other ≡ Some n → (m == n) ≡ bytes_eq one other
+  one_number one other m n h k =
+      both_ways (m == n) (bytes_eq one other)
+      (λ e. let same : m ≡ n = (Decides-eqb m n).0 e in
+      (bytes_eq-Decides one other).1 (index.alone one other n (rw (← same) h) k))
+      (λ e. let same : Some m ≡ Some n = sym h ∙ ap (number_of numbers) (one_bytes one other e) ∙ k in
+      let equal : m ≡ n = cc in (Decides-eqb m n).1 equal)
+
+  module _ (name : Name) (number place : ℕ) (simple : String Global) (later : BTreeMap Key ℕ) (numbered : number_of numbers name.namespace ≡ Some number)
+      (spelled : string_bytes simple ≡ name.simple) (new : place_of name known ≡ None)
+      (put : (q : Key) → get key_cmp later q ≡ cond (is_eq (key_cmp (number, simple) q)) (Some place) (get key_cmp places q)) where
+    -- the key of a name is the one that is put just where the name is the one that is added
+    key_of : (namespace : List ℕ) (n : ℕ) (s : String Global) → number_of numbers namespace ≡ Some n
+        → is_eq (key_cmp (number, simple) (n, s)) ≡ same_name (record { namespace = namespace; simple = string_bytes s }) name
+    key_of namespace n s h =
+        is_eq-keys (number, simple) (n, s) ∙ and-comm (number == n) (bytes_eq (string_bytes simple) (string_bytes s))
+        ∙ ap (λ b. bytes_eq (string_bytes simple) (string_bytes s) && b) (one_number name.namespace namespace number n numbered h)
+        ∙ ap (λ t. bytes_eq t (string_bytes s) && bytes_eq name.namespace namespace) spelled
+        ∙ same_name-comm name (record { namespace = namespace; simple = string_bytes s })
+
+    past : (n : ℕ) (s : String Global) → btree_map_len numbers ≤ n → is_eq (key_cmp (number, simple) (n, s)) ≡ false
+    past n s h =
+        let below = index.bounded name.namespace number numbered in
+        let other : (number == n) ≡ false = ne_eqb number n (λ e. omega (arith, e, below, h)) in
+        is_eq-keys (number, simple) (n, s) ∙ ap (λ b. b && bytes_eq (string_bytes simple) (string_bytes s)) other
+
+    pub named_after : IsIndexOf (defining name place known) numbers later
+    named_after = record {
+      bounded = index.bounded;
+      alone = index.alone;
+      found = λ namespace n s h.
+          put (n, s) ∙ ap (λ b. cond b (Some place) (get key_cmp places (n, s))) (key_of namespace n s h)
+          ∙ ap (λ o. cond (same_name (record { namespace = namespace; simple = string_bytes s }) name) (Some place) o) (index.found namespace n s h)
+          ∙ sym (found_after (record { namespace = namespace; simple = string_bytes s }) name place known new);
+      unnumbered = λ namespace t h.
+          let q : Name = record { namespace = namespace; simple = t } in
+          let other : same_name q name ≡ false = false_from_ne_true (same_name q name) (λ e.
+          let same : namespace ≡ name.namespace = ap (λ (n : Name). n.namespace) (one_name q name e) in
+          let found : None ≡ Some number = sym h ∙ ap (number_of numbers) same ∙ numbered in absurd (cc)) in
+          found_after q name place known new ∙ ap (λ b. cond b (Some place) (place_of q known)) other ∙ index.unnumbered namespace t h;
+      unused = λ n s h.
+          put (n, s) ∙ ap (λ b. cond b (Some place) (get key_cmp places (n, s))) (past n s h) ∙ index.unused n s h;
+    }
+
+  -- ---- one more namespace
+
+  module _ (namespace : List ℕ) (number : ℕ) (later : BTreeMap (List ℕ) ℕ) (new : number_of numbers namespace ≡ None)
+      (next : number ≡ btree_map_len numbers) (longer : btree_map_len later ≡ btree_map_len numbers + 1)
+      (put : (q : List ℕ) → number_of later q ≡ cond (is_eq (slice_cmp nat_cmp namespace q)) (Some number) (number_of numbers q)) where
+    put_text : (q : List ℕ) → number_of later q ≡ cond (bytes_eq namespace q) (Some number) (number_of numbers q)
+    put_text q = put q ∙ ap (λ b. cond b (Some number) (number_of numbers q)) (is_eq-slice_cmp namespace q)
+
+    -- a namespace that has a number is the new one or had it before
+    numbered_as : (q : List ℕ) (n : ℕ) → number_of later q ≡ Some n → ((namespace ≡ q) × (n ≡ number)) ⊎ (number_of numbers q ≡ Some n)
+    numbered_as q n h = by (bytes_eq namespace q) refl
+      where
+        by : (same : Bool) → bytes_eq namespace q ≡ same → ((namespace ≡ q) × (n ≡ number)) ⊎ (number_of numbers q ≡ Some n)
+        by true e = let is : Some number ≡ Some n = sym (put_text q ∙ ap (λ b. cond b (Some number) (number_of numbers q)) e) ∙ h in
+            inl (one_bytes namespace q e, cc)
+        by false e = inr (sym (put_text q ∙ ap (λ b. cond b (Some number) (number_of numbers q)) e) ∙ h)
+
+    old_below : (q : List ℕ) → number_of numbers q ≡ Some number → ⊥
+    old_below q h = let below = index.bounded q number h in absurd (omega (arith, below, next))
+
+    pub numbers_kept : (q : List ℕ) (n : ℕ) → number_of numbers q ≡ Some n → number_of later q ≡ Some n
+    numbers_kept q n h =
+        let other : bytes_eq namespace q ≡ false = false_from_ne_true (bytes_eq namespace q) (λ e.
+        let found : None ≡ Some n = sym new ∙ ap (number_of numbers) (one_bytes namespace q e) ∙ h in absurd (cc)) in
+        put_text q ∙ ap (λ b. cond b (Some number) (number_of numbers q)) other ∙ h
+
+    pub number_put : number_of later namespace ≡ Some number
+    number_put = put_text namespace ∙ ap (λ b. cond b (Some number) (number_of numbers namespace)) (same_bytes namespace)
+
+    pub numbered_after : IsIndexOf known later places
+    numbered_after = record {
+      bounded = λ q n h. ⊎_elim (λ here. omega (arith, here.1, next, longer)) (λ before. let below = index.bounded q n before in omega (arith, below, longer)) (numbered_as q n h);
+      alone = λ q r n h k.
+          ⊎_elim
+          (λ here. ⊎_elim (λ there. sym here.0 ∙ there.0) (λ before. absurd (old_below r (before ∙ ap Some here.1))) (numbered_as r n k))
+          (λ before. ⊎_elim (λ there. absurd (old_below q (before ∙ ap Some there.1))) (λ also. index.alone q r n before also) (numbered_as r n k))
+          (numbered_as q n h);
+      found = λ q n s h.
+          ⊎_elim
+          (λ here.
+          let q_unknown : place_of (record { namespace = q; simple = string_bytes s }) known ≡ None = index.unnumbered q (string_bytes s) (sym (ap (number_of numbers) here.0) ∙ new) in
+          index.unused n s (omega (arith, here.1, next)) ∙ sym q_unknown)
+          (λ before. index.found q n s before)
+          (numbered_as q n h);
+      unnumbered = λ q t h. index.unnumbered q t (was_none q h (or_none (number_of numbers q)));
+      unused = λ n s h. index.unused n s (omega (arith, h, longer));
+    }
+      where
+        was_none : (q : List ℕ) → number_of later q ≡ None → (number_of numbers q ≡ None) ⊎ ((n : ℕ) × (number_of numbers q ≡ Some n)) → number_of numbers q ≡ None
+        was_none q h (inl none) = none
+        was_none q h (inr some) = let found : None ≡ Some some.0 = sym h ∙ numbers_kept q some.0 some.1 in absurd (cc)
+
+  -- a map that is not changed
+  unchanged_after : (later : BTreeMap (List ℕ) ℕ) → later.entries ≡ numbers.entries → IsIndexOf known later places
+  unchanged_after later unchanged = record {
+    bounded = λ q n h. let below = index.bounded q n (sym (same q) ∙ h) in omega (arith, below, long);
+    alone = λ q r n h k. index.alone q r n (sym (same q) ∙ h) (sym (same r) ∙ k);
+    found = λ q n s h. index.found q n s (sym (same q) ∙ h);
+    unnumbered = λ q t h. index.unnumbered q t (sym (same q) ∙ h);
+    unused = λ n s h. index.unused n s (omega (arith, h, long));
+  }
+    where
+      same : (q : List ℕ) → number_of later q ≡ number_of numbers q
+      same q = ap (λ es. lookup (is_at (slice_cmp nat_cmp q)) es) unchanged
+
+      long : btree_map_len later ≡ btree_map_len numbers
+      long = ap length unchanged
+
+  -- what an insertion of a new namespace leaves, whether there was memory or not
+  pub inserted_after : {E : Type 0} (r : Result (Option ℕ) E) (namespace : List ℕ) (number : ℕ) (later : BTreeMap (List ℕ) ℕ) → number_of numbers namespace ≡ None
+      → number ≡ btree_map_len numbers → IfOk r (λ old. old ≡ number_of numbers namespace)
+      → OnOk r (Updates (slice_cmp nat_cmp) numbers later namespace (Some number))
+      → IfOk r (λ old. btree_map_len later ≡ btree_map_len numbers + (if is_some old then 0 else 1)) → OnErr r (later.entries ≡ numbers.entries)
+      → IsIndexOf known later places
+  inserted_after (Ok old) namespace number later new next was updates longer unchanged =
+      numbered_after namespace number later new next
+      (longer ∙ ap (λ (o : Option ℕ). btree_map_len numbers + (if is_some o then 0 else 1)) (was ∙ new)) updates.0
+  inserted_after (Err e) namespace number later new next was updates longer unchanged = unchanged_after later unchanged

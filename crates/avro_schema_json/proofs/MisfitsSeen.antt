@@ -1,11 +1,11 @@
 -- What sets of nodes that a JSON value is no default of say of the value, and of what holds it.
 use Rattle.std.proofs.Common.{◌≡◌, ℕ, zero, suc, ◌+◌, ◌<◌, drop, ◌⊎◌, inl, inr, Bool, true, false, cond, List, [], ◌∷◌, ◌++◌, length, Option, Some, None, option_map, option_and_then, get_or, refl, ap, sym, subst, ◌∙◌, arith, Ordering}
-use Rattle.std.specs.Prelude.{slice_get, bytes_eq, is_some}
+use Rattle.std.specs.Prelude.{slice_get, bytes_eq}
 use Rattle.std.specs.List.{list_all}
 use Rattle.std.specs.Ordering.{nat_cmp, is_eq}
 use Rattle.std.specs.Cmp.Lexicographic.{slice_cmp}
 use Rattle.std.specs.BTreeMap.{BTreeMap, get_by}
-use Rattle.std.specs.BTreeSet.{BTreeSet, contains}
+use Rattle.std.specs.BTreeSet.{BTreeSet}
 use Rattle.std.proofs.lemmas.Bool.{and_parts}
 use Rattle.std.proofs.lemmas.List.{drop_more}
 use Rattle.std.proofs.lemmas.Map.Lookups.{exact_unsigned}
@@ -14,7 +14,7 @@ use denote.Ref.{Bor}
 use Rattle.avro_schema.specs.Node.{Node, FieldNode, node_at, branches_of}
 use Rattle.avro_schema.specs.Seen.{places_of}
 use Rattle.avro_schema.specs.declared.schema.NodeId.{NodeId}
-use Rattle.avro_schema.specs.Value.{Value, Values, value, Entries, entry}
+use Rattle.avro_schema.specs.Value.{Value, Values, value, entry}
 use Rattle.serde_json.specs.Data.{Data, Items, Members, no_members, member}
 use Rattle.serde_json.specs.Find.{get_member}
 use Rattle.serde_json.specs.View.{view, items_view}

@@ -11,9 +11,9 @@ use Rattle.serde_json.proofs.Views.{view-lookup}
 use Rattle.avro_schema_json.specs.declared.error.SchemaError.{SchemaError}
 use Rattle.avro_schema_json.specs.DeclaredAttributes.{needed, text_in, alias_texts_in}
 use Rattle.avro_schema_json.specs.Declares.{RawField, Meaning, faulty, container_of, meaning_of, fields_under, fields_from, field_meaning, field_of, form_of, array_form, map_form}
-use Rattle.avro_schema_json.specs.Reading.{State, Reads, Refuses, IsAttribute}
+use Rattle.avro_schema_json.specs.Reading.{State, Reads, Refuses, IsRefusal, IsAttribute}
 use Rattle.avro_schema_json.proofs.DeclarationLaws.{meaning_under-found, fields_under-found}
-use Rattle.avro_schema_json.proofs.TypesRead.{second-refused}
+use Rattle.avro_schema_json.proofs.TypesRead.{first-refused, second-refused}
 
 -- ---- members that a map finds
 
@@ -60,6 +60,11 @@ fields-missing ms found = fields_under-found (codes "fields") ms ∙ ap (option_
 module _ (ms : Members) (enclosing : List ℕ) (before : State) where
   typed : (d : Data) → get_member (codes "type") ms ≡ Some d → field_meaning (object ms) ≡ field_of ms (Some (meaning_of d))
   typed d found = rw (meaning_under-found (codes "type") ms, found) refl
+
+  pub field-unnamed : (e : SchemaError) → IsRefusal (needed {A = List ℕ} [] (text_in (codes "name") ms)).faults e → Refuses (field_meaning (object ms)) enclosing before e
+  field-unnamed e refused =
+      first-refused ((needed {A = List ℕ} [] (text_in (codes "name") ms)).faults ++ (alias_texts_in ms).faults) _ e
+      (first-refused (needed {A = List ℕ} [] (text_in (codes "name") ms)).faults (alias_texts_in ms).faults e refused)
 
   pub field-refused : (d : Data) (e : SchemaError) → get_member (codes "type") ms ≡ Some d → Refuses (meaning_of d) enclosing before e
       → Refuses (field_meaning (object ms)) enclosing before e

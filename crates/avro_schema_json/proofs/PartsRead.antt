@@ -1,14 +1,11 @@
 -- How the parts of a declaration are read.
-use Rattle.std.proofs.Common.{◌≡◌, ℕ, suc, ◌+◌, ◌<◌, true, false, List, [], ◌∷◌, Option, Some, None, refl, length, get_or, arith, sym, ap, ◌∙◌, inr, drop, drop-cons, add-one}
-use Rattle.std.specs.Prelude.{◌⊎◌, IsErrOf, is_some, ok_or, String, string_bytes, option_map, bytes_eq, Result, Ok, Contains}
+use Rattle.std.proofs.Common.{◌≡◌, ℕ, true, false, List, [], Option, Some, None, refl, arith, sym, inr}
+use Rattle.std.specs.Prelude.{◌⊎◌, IsErrOf, is_some, ok_or, Result, Ok, Contains}
 use Rattle.std.proofs.lemmas.List.{append-nil}
 use Rattle.std.proofs.lemmas.List.Elements.{Contains-append_right}
-use Rattle.avro_name.specs.Name.{Name, same_name, name_of}
-use Rattle.std.specs.declared.alloc.Global.{Global}
-use Rattle.avro_schema.specs.Seen.{texts_of}
+use Rattle.avro_name.specs.Name.{Name, name_of}
 use Rattle.avro_schema_json.specs.declared.error.SchemaError.{SchemaError}
-use Rattle.avro_schema_json.specs.DeclaredAttributes.{symbol_place}
-use Rattle.avro_schema_json.specs.Declares.{name_faults, defining, Known, place_of, reference}
+use Rattle.avro_schema_json.specs.Declares.{name_faults, Known, place_of, reference}
 use Rattle.avro_schema_json.specs.Reading.{State, made_at, IsRead, IsRefusal, limit_faults, beginning_faults}
 
 -- ---- references

@@ -4,15 +4,23 @@ use Rattle.avro_schema.specs.Seen.{node_of}
 use Rattle.avro_schema.specs.declared.schema.NodeId.{NodeId}
 use Rattle.avro_schema_json.specs.declared.error.SchemaError.{SchemaError}
 use Rattle.avro_schema_json.specs.Declares.{Meaning, faulty, use_of, reference, Form as SeenForm, record_form, enum_form, fixed_form, array_form, map_form, error_form, word_form, no_form}
-use Rattle.avro_schema_json.specs.KnownSeen.{known_of}
+use Rattle.avro_schema_json.specs.KnownSeen.{known_of, IsNumbered, KeepsNumbers}
 use Rattle.avro_schema_json.specs.Reading.{State, Reads, Refuses}
 use Rattle.avro_schema_json.specs.SeenRaw.{raw_nodes_of}
+use Rattle.avro_schema_json.specs.declared.name_table.Space.{Space}
 use Rattle.avro_schema_json.specs.declared.progress.Progress.{Progress}
 use Rattle.avro_schema_json.specs.declared.words.Word.{Word}
 use Rattle.avro_schema_json.specs.declared.words.Form.{Form}
 
 abbrev pub state_of : Progress → State
 state_of d = record { nodes = raw_nodes_of d.nodes.items; known = known_of d.names }
+
+-- the namespace has this number, and each keeps its own
+abbrev pub IsEnclosed : Progress → Space → Type 0
+IsEnclosed d space = IsNumbered d.names space
+
+abbrev pub Keeps : Progress → Progress → Type 0
+Keeps before after = KeepsNumbers before.names after.names
 
 -- a part is read, or a node that is a type
 abbrev pub ReadsAt : {A : Type 0} → Meaning A → List ℕ → Progress → Progress → A → Type 0

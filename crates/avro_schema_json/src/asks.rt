@@ -49,6 +49,32 @@ impl Asked {
     }
 }
 
+/// Whether JSON is looked into for two or more of some branches, so that what one finds may be looked at
+/// again for another.
+pub(crate) fn may_repeat(raws: &[RawNode], tree: &Value, places: &[NodeId]) -> bool {
+    let mut is_one = false;
+    for place in places {
+        if may_enter(raws, tree, *place) {
+            if is_one {
+                return true;
+            }
+            is_one = true;
+        }
+    }
+    false
+}
+
+/// Whether JSON is looked into for the node at a place: an array for an array, an object for a map or a
+/// record.
+fn may_enter(raws: &[RawNode], tree: &Value, place: NodeId) -> bool {
+    match raws.get(place.0 as usize) {
+        Some(RawNode::Plain(Node::Array(_))) => tree.is_array(),
+        Some(RawNode::Plain(Node::Map(_))) => tree.is_object(),
+        Some(RawNode::Record(_)) => tree.is_object(),
+        _ => false,
+    }
+}
+
 /// The nodes that are asked, a union by its branches.
 pub(crate) fn own_places(
     alloc: Global,

@@ -1,8 +1,8 @@
 //! The attributes of a declaration (Avro 1.11, "Schema Declaration", "Names", "Aliases").
 
-ghost use Rattle.std.specs.Prelude.{◌≡◌, ℕ, ◌⊎◌, ◌∷◌, [], true, false, List, is_some, filter_map, option_map, ok_or, string_bytes, codes, Some, None, IfOk, IfErr, IsErrOf};
+ghost use Rattle.std.specs.Prelude.{◌≡◌, ℕ, ◌⊎◌, ◌∷◌, [], true, false, List, is_some, filter_map, option_map, ok_or, string_bytes, codes, Some, None, Ok, IfOk, IfErr, IsErrOf};
 ghost use Rattle.std.specs.List.{list_all};
-ghost use Rattle.avro_name.specs.Name.{has_dot, name_of};
+ghost use Rattle.avro_name.specs.Name.{Name, has_dot, name_of};
 ghost use Rattle.avro_schema.specs.Seen.{texts_of};
 ghost use Rattle.avro_schema_json.specs.DeclaredAttributes.{text_in, needed, name_in, alias_texts_in, aliases_in, default_symbol_from, symbols_in, size_in, as_texts, texts_of as texts_in};
 ghost use Rattle.avro_schema_json.specs.Declares.{form_of as form_of_text};
@@ -75,7 +75,7 @@ pub(crate) fn form<'a>(members: &'a Members) -> Form<'a>
 }
 
 /// Whether a text has a dot.
-fn has_dot(text: &str) -> bool
+pub(crate) fn has_dot(text: &str) -> bool
     ensures { result ≡ has_dot text.now }
 {
     text.as_bytes().iter().any(|byte| *byte == b'.')
@@ -112,6 +112,16 @@ pub(crate) fn name(
             None => Err(SchemaError::InvalidDeclaration),
         },
         None => full_name(alloc, text, enclosing),
+    }
+}
+
+/// Whether a definition has no namespace of its own, so that it stands in the enclosing one.
+pub(crate) fn inherits(members: &Members) -> bool
+    ensures { result ≡ true → (enclosing : List ℕ) (name : Name) → name_in enclosing (members_view members.now.entries) ≡ Ok name → name.namespace ≡ enclosing }
+{
+    match text(members, "name") {
+        Some(text) => !has_dot(text) && member(members, "namespace").is_none(),
+        None => false,
     }
 }
 

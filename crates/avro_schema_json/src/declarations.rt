@@ -1,15 +1,16 @@
 //! What a tree declares (Avro 1.11, "Schema Declaration"): its nodes, in the order in which they begin.
 
-ghost use Rattle.std.specs.Prelude.{◌≡◌, [], IfOk, IfErr};
+ghost use Rattle.std.specs.Prelude.{◌≡◌, [], IfOk, IfErr, OnOk};
 ghost use Rattle.avro_schema_json.specs.Declares.{made_of, meaning_of, union_of, branches_of, fields_from, field_meaning};
 ghost use Rattle.avro_schema_json.specs.Reading.{IsRefusal, array_meaning, map_meaning, record_meaning, fields_meaning};
-ghost use Rattle.avro_schema_json.specs.ReadingSeen.{ReadsAt, ReadsNode, RefusesAt};
+ghost use Rattle.avro_schema_json.specs.ReadingSeen.{ReadsAt, ReadsNode, RefusesAt, IsEnclosed, Keeps};
 ghost use Rattle.avro_schema_json.specs.SeenRaw.{raw_nodes_of, raw_field_of, raw_fields_of};
 ghost use Rattle.serde_json.specs.Data.{object};
 ghost use Rattle.serde_json.specs.View.{view, items_view, members_view};
 
 use crate::attributes::{Members, alias_texts, aliases, field_name, form, member};
 use crate::error::SchemaError;
+use crate::name_table::Space;
 use crate::progress::{Definition, Progress};
 use crate::raw::{RawField, RawNode, RawRecord};
 use crate::words::Form;
@@ -24,11 +25,13 @@ impl<'a> Progress<'a> {
     fn read_type(
         &mut self,
         alloc: Global,
-        enclosing: &Namespace,
+        enclosing: &Space,
         tree: &'a Value,
     ) -> Result<NodeId, SchemaError>
-        ensures read { IfOk result (ReadsNode (meaning_of (view tree.now)) enclosing.now self.old self.new) }
-        ensures refused { IfErr result (RefusesAt (meaning_of (view tree.now)) enclosing.now self.old) }
+        requires { IsEnclosed self.old enclosing.now }
+        ensures read { IfOk result (ReadsNode (meaning_of (view tree.now)) enclosing.now.namespace self.old self.new) }
+        ensures refused { IfErr result (RefusesAt (meaning_of (view tree.now)) enclosing.now.namespace self.old) }
+        ensures kept { OnOk result (Keeps self.old self.new) }
     {
         match tree {
             Value::String(word) => self.read_word(alloc, enclosing, word.as_str()),
@@ -45,11 +48,13 @@ impl<'a> Progress<'a> {
     fn read_union(
         &mut self,
         alloc: Global,
-        enclosing: &Namespace,
+        enclosing: &Space,
         branches: &'a [Value],
     ) -> Result<NodeId, SchemaError>
-        ensures read { IfOk result (ReadsNode (union_of (branches_of (items_view branches.now))) enclosing.now self.old self.new) }
-        ensures refused { IfErr result (RefusesAt (union_of (branches_of (items_view branches.now))) enclosing.now self.old) }
+        requires { IsEnclosed self.old enclosing.now }
+        ensures read { IfOk result (ReadsNode (union_of (branches_of (items_view branches.now))) enclosing.now.namespace self.old self.new) }
+        ensures refused { IfErr result (RefusesAt (union_of (branches_of (items_view branches.now))) enclosing.now.namespace self.old) }
+        ensures kept { OnOk result (Keeps self.old self.new) }
     {
         let id = self.reserve()?;
         let mut places = Vec::new(alloc);
@@ -65,11 +70,13 @@ impl<'a> Progress<'a> {
     fn read_object(
         &mut self,
         alloc: Global,
-        enclosing: &Namespace,
+        enclosing: &Space,
         members: &'a Members,
     ) -> Result<NodeId, SchemaError>
-        ensures read { IfOk result (ReadsNode (meaning_of (object (members_view members.now.entries))) enclosing.now self.old self.new) }
-        ensures refused { IfErr result (RefusesAt (meaning_of (object (members_view members.now.entries))) enclosing.now self.old) }
+        requires { IsEnclosed self.old enclosing.now }
+        ensures read { IfOk result (ReadsNode (meaning_of (object (members_view members.now.entries))) enclosing.now.namespace self.old self.new) }
+        ensures refused { IfErr result (RefusesAt (meaning_of (object (members_view members.now.entries))) enclosing.now.namespace self.old) }
+        ensures kept { OnOk result (Keeps self.old self.new) }
     {
         match form(members) {
             Form::Record => self.read_record(alloc, enclosing, members),
@@ -94,11 +101,13 @@ impl<'a> Progress<'a> {
     fn read_array(
         &mut self,
         alloc: Global,
-        enclosing: &Namespace,
+        enclosing: &Space,
         items: &'a Value,
     ) -> Result<NodeId, SchemaError>
-        ensures read { IfOk result (ReadsNode (array_meaning (view items.now)) enclosing.now self.old self.new) }
-        ensures refused { IfErr result (RefusesAt (array_meaning (view items.now)) enclosing.now self.old) }
+        requires { IsEnclosed self.old enclosing.now }
+        ensures read { IfOk result (ReadsNode (array_meaning (view items.now)) enclosing.now.namespace self.old self.new) }
+        ensures refused { IfErr result (RefusesAt (array_meaning (view items.now)) enclosing.now.namespace self.old) }
+        ensures kept { OnOk result (Keeps self.old self.new) }
     {
         let id = self.reserve()?;
         let place = self.read_type(alloc, enclosing, items)?;
@@ -111,11 +120,13 @@ impl<'a> Progress<'a> {
     fn read_map(
         &mut self,
         alloc: Global,
-        enclosing: &Namespace,
+        enclosing: &Space,
         values: &'a Value,
     ) -> Result<NodeId, SchemaError>
-        ensures read { IfOk result (ReadsNode (map_meaning (view values.now)) enclosing.now self.old self.new) }
-        ensures refused { IfErr result (RefusesAt (map_meaning (view values.now)) enclosing.now self.old) }
+        requires { IsEnclosed self.old enclosing.now }
+        ensures read { IfOk result (ReadsNode (map_meaning (view values.now)) enclosing.now.namespace self.old self.new) }
+        ensures refused { IfErr result (RefusesAt (map_meaning (view values.now)) enclosing.now.namespace self.old) }
+        ensures kept { OnOk result (Keeps self.old self.new) }
     {
         let id = self.reserve()?;
         let place = self.read_type(alloc, enclosing, values)?;
@@ -128,20 +139,18 @@ impl<'a> Progress<'a> {
     fn read_record(
         &mut self,
         alloc: Global,
-        enclosing: &Namespace,
+        enclosing: &Space,
         members: &'a Members,
     ) -> Result<NodeId, SchemaError>
-        ensures read { IfOk result (ReadsNode (record_meaning (members_view members.now.entries)) enclosing.now self.old self.new) }
-        ensures refused { IfErr result (RefusesAt (record_meaning (members_view members.now.entries)) enclosing.now self.old) }
+        requires { IsEnclosed self.old enclosing.now }
+        ensures read { IfOk result (ReadsNode (record_meaning (members_view members.now.entries)) enclosing.now.namespace self.old self.new) }
+        ensures refused { IfErr result (RefusesAt (record_meaning (members_view members.now.entries)) enclosing.now.namespace self.old) }
+        ensures kept { OnOk result (Keeps self.old self.new) }
     {
-        let Definition {
-            id,
-            name,
-            namespace,
-        } = self.begin(alloc, enclosing, members)?;
-        let aliases = aliases(alloc, &namespace, members)?;
+        let Definition { id, name, space } = self.begin(alloc, enclosing, members)?;
+        let aliases = aliases(alloc, &space.namespace, members)?;
         let fields = match members.get("fields") {
-            Some(list) => self.read_fields(alloc, &namespace, list)?,
+            Some(list) => self.read_fields(alloc, &space, list)?,
             None => return Err(SchemaError::InvalidDeclaration),
         };
         self.put(
@@ -160,11 +169,13 @@ impl<'a> Progress<'a> {
     fn read_fields(
         &mut self,
         alloc: Global,
-        enclosing: &Namespace,
+        enclosing: &Space,
         list: &'a Value,
     ) -> Result<Vec<RawField<'a>>, SchemaError>
-        ensures read { IfOk result (λ fields. ReadsAt (fields_meaning (fields_from (view list.now))) enclosing.now self.old self.new (raw_fields_of fields.items)) }
-        ensures refused { IfErr result (RefusesAt (fields_meaning (fields_from (view list.now))) enclosing.now self.old) }
+        requires { IsEnclosed self.old enclosing.now }
+        ensures read { IfOk result (λ fields. ReadsAt (fields_meaning (fields_from (view list.now))) enclosing.now.namespace self.old self.new (raw_fields_of fields.items)) }
+        ensures refused { IfErr result (RefusesAt (fields_meaning (fields_from (view list.now))) enclosing.now.namespace self.old) }
+        ensures kept { OnOk result (Keeps self.old self.new) }
     {
         let Value::Array(items) = list else {
             return Err(SchemaError::InvalidDeclaration);
@@ -181,11 +192,13 @@ impl<'a> Progress<'a> {
     fn read_field(
         &mut self,
         alloc: Global,
-        enclosing: &Namespace,
+        enclosing: &Space,
         item: &'a Value,
     ) -> Result<RawField<'a>, SchemaError>
-        ensures read { IfOk result (λ field. ReadsAt (field_meaning (view item.now)) enclosing.now self.old self.new (raw_field_of field)) }
-        ensures refused { IfErr result (RefusesAt (field_meaning (view item.now)) enclosing.now self.old) }
+        requires { IsEnclosed self.old enclosing.now }
+        ensures read { IfOk result (λ field. ReadsAt (field_meaning (view item.now)) enclosing.now.namespace self.old self.new (raw_field_of field)) }
+        ensures refused { IfErr result (RefusesAt (field_meaning (view item.now)) enclosing.now.namespace self.old) }
+        ensures kept { OnOk result (Keeps self.old self.new) }
     {
         let Value::Object(members) = item else {
             return Err(SchemaError::InvalidDeclaration);
@@ -214,7 +227,8 @@ pub(crate) fn declarations<'a>(
     ensures refused { IfErr result (IsRefusal (made_of (view tree.now)).faults) }
 {
     let mut progress = Progress::new(alloc);
-    progress.read_type(alloc, &Namespace::null(alloc), tree)?;
+    let root = progress.names.space(&Namespace::null(alloc))?;
+    progress.read_type(alloc, &root, tree)?;
     let Progress { nodes, names: _ } = progress;
     Ok(nodes)
 }

@@ -11,7 +11,7 @@ ghost use Rattle.serde_json.specs.View.{view, items_view, members_view};
 
 use crate::fields::Fields;
 use crate::misfit::has;
-use crate::misfits::misfits_of;
+use crate::misfits::skipped_branches;
 use crate::plain_defaults::{
     boolean_default, enum_default, null_default, number_default, text_default,
 };
@@ -38,7 +38,7 @@ pub(crate) fn default_of(
     match branches(node) {
         None => own_default(alloc, raws, tree, node),
         Some(places) => {
-            let misfits = misfits_of(alloc, raws, tree, places)?;
+            let misfits = skipped_branches(alloc, raws, tree, places)?;
             branch_default(alloc, raws, tree, places, &misfits)
         }
     }

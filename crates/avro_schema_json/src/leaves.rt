@@ -1,18 +1,18 @@
 //! The types without parts: primitive types and references, enums, fixeds.
 
-ghost use Rattle.std.specs.Prelude.{IfOk, IfErr};
+ghost use Rattle.std.specs.Prelude.{IfOk, IfErr, OnOk};
 ghost use Rattle.avro_schema_json.specs.Declares.{type_of_word};
 ghost use Rattle.avro_schema_json.specs.Reading.{enum_meaning, fixed_meaning};
-ghost use Rattle.avro_schema_json.specs.ReadingSeen.{ReadsNode, RefusesAt};
+ghost use Rattle.avro_schema_json.specs.ReadingSeen.{ReadsNode, RefusesAt, IsEnclosed, Keeps};
 ghost use Rattle.serde_json.specs.View.{members_view};
 
 use crate::attributes::{Members, aliases, size, symbols};
 use crate::error::SchemaError;
+use crate::name_table::Space;
 use crate::progress::{Definition, Progress};
 use crate::raw::{RawEnum, RawNode};
 use crate::symbol_places::symbol_places;
 use crate::words::{Word, word_of};
-use avro_name::Namespace;
 use avro_schema::{EnumNode, FixedNode, Node, NodeId};
 use std::alloc::Global;
 
@@ -21,11 +21,13 @@ impl Progress<'_> {
     pub(crate) fn read_word(
         &mut self,
         alloc: Global,
-        enclosing: &Namespace,
+        enclosing: &Space,
         word: &str,
     ) -> Result<NodeId, SchemaError>
-        ensures read { IfOk result (ReadsNode (type_of_word word.now) enclosing.now self.old self.new) }
-        ensures refused { IfErr result (RefusesAt (type_of_word word.now) enclosing.now self.old) }
+        requires { IsEnclosed self.old enclosing.now }
+        ensures read { IfOk result (ReadsNode (type_of_word word.now) enclosing.now.namespace self.old self.new) }
+        ensures refused { IfErr result (RefusesAt (type_of_word word.now) enclosing.now.namespace self.old) }
+        ensures kept { OnOk result (Keeps self.old self.new) }
     {
         match word_of(word) {
             Word::Primitive(node) => self.add(RawNode::Plain(node)),
@@ -38,18 +40,16 @@ impl Progress<'_> {
     pub(crate) fn read_enum(
         &mut self,
         alloc: Global,
-        enclosing: &Namespace,
+        enclosing: &Space,
         members: &Members,
     ) -> Result<NodeId, SchemaError>
-        ensures read { IfOk result (ReadsNode (enum_meaning (members_view members.now.entries)) enclosing.now self.old self.new) }
-        ensures refused { IfErr result (RefusesAt (enum_meaning (members_view members.now.entries)) enclosing.now self.old) }
+        requires { IsEnclosed self.old enclosing.now }
+        ensures read { IfOk result (ReadsNode (enum_meaning (members_view members.now.entries)) enclosing.now.namespace self.old self.new) }
+        ensures refused { IfErr result (RefusesAt (enum_meaning (members_view members.now.entries)) enclosing.now.namespace self.old) }
+        ensures kept { OnOk result (Keeps self.old self.new) }
     {
-        let Definition {
-            id,
-            name,
-            namespace,
-        } = self.begin(alloc, enclosing, members)?;
-        let aliases = aliases(alloc, &namespace, members)?;
+        let Definition { id, name, space } = self.begin(alloc, enclosing, members)?;
+        let aliases = aliases(alloc, &space.namespace, members)?;
         let (symbols, default) = symbols(alloc, members)?;
         let places = match symbol_places(alloc, &symbols) {
             Ok(places) => places,
@@ -69,18 +69,16 @@ impl Progress<'_> {
     pub(crate) fn read_fixed(
         &mut self,
         alloc: Global,
-        enclosing: &Namespace,
+        enclosing: &Space,
         members: &Members,
     ) -> Result<NodeId, SchemaError>
-        ensures read { IfOk result (ReadsNode (fixed_meaning (members_view members.now.entries)) enclosing.now self.old self.new) }
-        ensures refused { IfErr result (RefusesAt (fixed_meaning (members_view members.now.entries)) enclosing.now self.old) }
+        requires { IsEnclosed self.old enclosing.now }
+        ensures read { IfOk result (ReadsNode (fixed_meaning (members_view members.now.entries)) enclosing.now.namespace self.old self.new) }
+        ensures refused { IfErr result (RefusesAt (fixed_meaning (members_view members.now.entries)) enclosing.now.namespace self.old) }
+        ensures kept { OnOk result (Keeps self.old self.new) }
     {
-        let Definition {
-            id,
-            name,
-            namespace,
-        } = self.begin(alloc, enclosing, members)?;
-        let aliases = aliases(alloc, &namespace, members)?;
+        let Definition { id, name, space } = self.begin(alloc, enclosing, members)?;
+        let aliases = aliases(alloc, &space.namespace, members)?;
         let size = size(members)?;
         self.put(
             id,

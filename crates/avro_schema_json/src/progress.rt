@@ -1,20 +1,21 @@
-ghost use Rattle.std.specs.Prelude.{◌≡◌, ◌<◌, [], length, slice_set, IfOk, IfErr, Contains};
+ghost use Rattle.std.specs.Prelude.{◌≡◌, ◌<◌, [], Some, Ok, length, slice_set, IfOk, IfErr, Contains};
+ghost use Rattle.avro_name.specs.Name.{name_of};
 ghost use Rattle.avro_schema.specs.Node.Node.{null as NullNode};
 ghost use Rattle.avro_schema_json.specs.DeclaredAttributes.{name_in};
 ghost use Rattle.avro_schema_json.specs.Declares.RawNode.{plain as plain_node};
-ghost use Rattle.avro_schema_json.specs.Declares.{reference};
+ghost use Rattle.avro_schema_json.specs.Declares.{reference, place_of};
 ghost use Rattle.avro_schema_json.specs.Reading.{State, made_at, IsRead, IsRefusal, IsAdded, IsBegun, limit_faults, beginning_faults};
-ghost use Rattle.avro_schema_json.specs.ReadingSeen.{state_of};
+ghost use Rattle.avro_schema_json.specs.ReadingSeen.{state_of, IsEnclosed, Keeps};
 ghost use Rattle.avro_schema_json.specs.SeenRaw.{raw_node_of};
 ghost use Rattle.serde_json.specs.View.{members_view};
 
-use crate::attributes::{Members, full_name, name};
+use crate::attributes::{Members, full_name, has_dot, inherits, name};
 use crate::error::SchemaError;
-use crate::name_table::NameTable;
+use crate::name_table::{NameTable, Space};
 use crate::raw::RawNode;
-use avro_name::{FullName, Namespace};
+use avro_name::FullName;
 use avro_schema::{Node, NodeId};
-use std::alloc::Global;
+use std::alloc::{AllocError, Global};
 
 /// The greatest number of nodes.
 const MAX_NODES: usize = 4096;
@@ -33,7 +34,7 @@ pub(crate) struct Definition {
     pub id: NodeId,
     pub name: FullName,
     /// The namespace of its parts, which is that of its name.
-    pub namespace: Namespace,
+    pub space: Space,
 }
 
 impl<'a> Progress<'a> {
@@ -51,6 +52,7 @@ impl<'a> Progress<'a> {
     pub fn add(&mut self, node: RawNode<'a>) -> Result<NodeId, SchemaError>
         ensures added { IfOk result (λ id. IsAdded (state_of self.old) (state_of self.new) (raw_node_of node.entry) id.0) }
         ensures refused { IfErr result (IsRefusal (limit_faults (state_of self.old))) }
+        ensures kept { Keeps self.old self.new }
     {
         let place = self.nodes.len();
         if place >= MAX_NODES {
@@ -64,6 +66,7 @@ impl<'a> Progress<'a> {
     pub fn reserve(&mut self) -> Result<NodeId, SchemaError>
         ensures added { IfOk result (λ id. IsAdded (state_of self.old) (state_of self.new) (plain_node NullNode) id.0) }
         ensures refused { IfErr result (IsRefusal (limit_faults (state_of self.old))) }
+        ensures kept { Keeps self.old self.new }
     {
         self.add(RawNode::Plain(Node::Null))
     }
@@ -73,49 +76,87 @@ impl<'a> Progress<'a> {
         requires { id.0 < length (state_of self.old).nodes }
         ensures nodes { (state_of self.new).nodes ≡ slice_set (state_of self.old).nodes id.0 (raw_node_of node.entry) }
         ensures names { (state_of self.new).known ≡ (state_of self.old).known }
+        ensures kept { Keeps self.old self.new }
     {
         self.nodes[id.0 as usize] = node;
     }
 
-    /// The node of the definition that a word refers to.
-    pub fn find(
-        &self,
-        alloc: Global,
-        enclosing: &Namespace,
-        word: &str,
-    ) -> Result<NodeId, SchemaError>
-        ensures found { IfOk result (λ id. IsRead (made_at (reference word.now) enclosing.now (state_of self.now)) (state_of self.now) (state_of self.now) id.0) }
-        ensures refused { IfErr result (IsRefusal (made_at (reference word.now) enclosing.now (state_of self.now)).faults) }
+    /// The node of the definition that a word refers to. Without a dot it stands in the enclosing
+    /// namespace, whose number is known.
+    pub fn find(&self, alloc: Global, enclosing: &Space, word: &str) -> Result<NodeId, SchemaError>
+        requires { IsEnclosed self.now enclosing.now }
+        ensures found { IfOk result (λ id. IsRead (made_at (reference word.now) enclosing.now.namespace (state_of self.now)) (state_of self.now) (state_of self.now) id.0) }
+        ensures refused { IfErr result (IsRefusal (made_at (reference word.now) enclosing.now.namespace (state_of self.now)).faults) }
     {
-        let name = full_name(alloc, word, enclosing)?;
-        match self.names.place(&name) {
+        let name = full_name(alloc, word, &enclosing.namespace)?;
+        let place = self.place_of_word(alloc, enclosing, word, &name)?;
+        match place {
             Some(place) => Ok(NodeId(place)),
             None => Err(SchemaError::UnknownName),
         }
+    }
+
+    /// The place of the definition that a word refers to, which means this name.
+    fn place_of_word(
+        &self,
+        alloc: Global,
+        enclosing: &Space,
+        word: &str,
+        name: &FullName,
+    ) -> Result<Option<u32>, AllocError>
+        requires { IsEnclosed self.now enclosing.now × (name_of word.now enclosing.now.namespace ≡ Some name.now) }
+        ensures { IfOk result (λ place. place ≡ place_of name.now (state_of self.now).known) }
+    {
+        if has_dot(word) {
+            return self.names.place(alloc, name);
+        }
+        self.names.place_at(alloc, enclosing.number, name.simple())
+    }
+
+    /// The numbered namespace of a definition's name.
+    fn space_of(
+        &mut self,
+        enclosing: &Space,
+        members: &Members,
+        name: &FullName,
+    ) -> Result<Space, AllocError>
+        requires { IsEnclosed self.old enclosing.now × (name_in enclosing.now.namespace (members_view members.now.entries) ≡ Ok name.now) }
+        ensures namespace { IfOk result (λ space. space.namespace ≡ name.now.namespace) }
+        ensures numbered { IfOk result (λ space. IsEnclosed self.new space) }
+        ensures state { state_of self.new ≡ state_of self.old }
+        ensures kept { Keeps self.old self.new }
+    {
+        if inherits(members) {
+            return Ok(Space {
+                namespace: enclosing.namespace.clone()?,
+                number: enclosing.number,
+            });
+        }
+        self.names.space(name.space())
     }
 
     /// Begins a definition: reads its name, which is known from now on, and keeps a place for it.
     pub fn begin(
         &mut self,
         alloc: Global,
-        enclosing: &Namespace,
+        enclosing: &Space,
         members: &Members,
     ) -> Result<Definition, SchemaError>
-        ensures begun { IfOk result (λ d. IsBegun enclosing.now (members_view members.now.entries) (state_of self.old) (state_of self.new) d.name d.id.0) }
-        ensures namespace { IfOk result (λ d. d.namespace ≡ d.name.namespace) }
-        ensures refused { IfErr result (IsRefusal (beginning_faults (state_of self.old) (name_in enclosing.now (members_view members.now.entries)))) }
+        requires { IsEnclosed self.old enclosing.now }
+        ensures begun { IfOk result (λ d. IsBegun enclosing.now.namespace (members_view members.now.entries) (state_of self.old) (state_of self.new) d.name d.id.0) }
+        ensures namespace { IfOk result (λ d. d.space.namespace ≡ d.name.namespace) }
+        ensures numbered { IfOk result (λ d. IsEnclosed self.new d.space) }
+        ensures refused { IfErr result (IsRefusal (beginning_faults (state_of self.old) (name_in enclosing.now.namespace (members_view members.now.entries)))) }
+        ensures kept { Keeps self.old self.new }
     {
-        let name = name(alloc, enclosing, members)?;
-        if self.names.place(&name).is_some() {
+        let name = name(alloc, &enclosing.namespace, members)?;
+        let space = self.space_of(enclosing, members, &name)?;
+        let known = self.names.place_at(alloc, space.number, name.simple())?;
+        if known.is_some() {
             return Err(SchemaError::DuplicateName);
         }
-        let namespace = name.space().clone()?;
         let id = self.reserve()?;
-        self.names.add(&name, id.0)?;
-        Ok(Definition {
-            id,
-            name,
-            namespace,
-        })
+        self.names.add(alloc, &space, &name, id.0)?;
+        Ok(Definition { id, name, space })
     }
 }

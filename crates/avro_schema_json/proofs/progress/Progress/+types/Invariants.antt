@@ -3,19 +3,19 @@ use Rattle.avro_schema.specs.Seen.{places_of}
 use Rattle.serde_json.specs.View.{items_view}
 use Rattle.avro_schema_json.specs.Declares.{branches_of, field_meanings, in_turn}
 use Rattle.avro_schema_json.specs.Reading.{made_at}
-use Rattle.avro_schema_json.specs.ReadingSeen.{state_of}
+use Rattle.avro_schema_json.specs.ReadingSeen.{state_of, Keeps}
 use Rattle.avro_schema_json.specs.SeenRaw.{raw_fields_of}
 use Rattle.avro_schema_json.proofs.TypesRead.{IsReading}
 use Rattle.avro_schema_json.proofs.progress.Progress.+types.Given as goal
 
 abbrev pub invariant-read_union-loop-branch : goal.invariant-read_union-loop-branch
 invariant-read_union-loop-branch l =
-    IsReading (made_at (in_turn (branches_of (items_view l.branches))) l.enclosing (state_of l.initial.self))
-    (made_at (in_turn (branches_of (items_view (drop l.branch-index l.branches)))) l.enclosing (state_of l.self))
+    Keeps l.initial.self l.self × IsReading (made_at (in_turn (branches_of (items_view l.branches))) l.enclosing.namespace (state_of l.initial.self))
+    (made_at (in_turn (branches_of (items_view (drop l.branch-index l.branches)))) l.enclosing.namespace (state_of l.self))
     (state_of l.initial.self) (state_of l.self) (places_of l.places.items)
 
 abbrev pub invariant-read_fields-loop-item : goal.invariant-read_fields-loop-item
 invariant-read_fields-loop-item l =
-    IsReading (made_at (in_turn (field_meanings (items_view l.item-items))) l.enclosing (state_of l.initial.self))
-    (made_at (in_turn (field_meanings (items_view (drop l.item-index l.item-items)))) l.enclosing (state_of l.self))
+    Keeps l.initial.self l.self × IsReading (made_at (in_turn (field_meanings (items_view l.item-items))) l.enclosing.namespace (state_of l.initial.self))
+    (made_at (in_turn (field_meanings (items_view (drop l.item-index l.item-items)))) l.enclosing.namespace (state_of l.self))
     (state_of l.initial.self) (state_of l.self) (raw_fields_of l.fields.items)

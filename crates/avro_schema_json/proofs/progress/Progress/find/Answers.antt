@@ -5,18 +5,25 @@ use Rattle.avro_schema_json.specs.declared.error.SchemaError.{SchemaError}
 use Rattle.avro_schema_json.proofs.PartsRead.{reference-read, reference-unknown, ok-or_memory, some-from_ok_or}
 use Rattle.avro_schema_json.proofs.progress.Progress.find.Goals as goal
 
+pub place_of_word-requires : goal.place_of_word-requires
+place_of_word-requires c =
+    let name = c.in_ok-name.name in (
+      c.requires,
+      some-from_ok_or (name_of c.args.word.now c.args.enclosing.now.namespace) name SchemaError.InvalidName (ok-or_memory name _ c.in_ok-name.ensures),
+    )
+
 pub returns-in-Some-clause-found : goal.returns-in-Some-clause-found
 returns-in-Some-clause-found c =
     let name = c.in_ok-name.name in
     let s = state_of c.args.self.now in
-    let named = some-from_ok_or (name_of c.args.word.now c.args.enclosing.now) name SchemaError.InvalidName (ok-or_memory name _ c.in_ok-name.ensures) in
-    reference-read c.args.word.now c.args.enclosing.now s name c.in-Some.place named
-    (sym c.place.ensures ∙ c.in-Some.is)
+    let named = some-from_ok_or (name_of c.args.word.now c.args.enclosing.now.namespace) name SchemaError.InvalidName (ok-or_memory name _ c.in_ok-name.ensures) in
+    reference-read c.args.word.now c.args.enclosing.now.namespace s name c.in-Some.place named
+    (sym c.in_ok-place.ensures ∙ c.in-Some.is)
 
 pub returns-clause-refused : goal.returns-clause-refused
 returns-clause-refused c =
     let name = c.in_ok-name.name in
     let s = state_of c.args.self.now in
-    let named = some-from_ok_or (name_of c.args.word.now c.args.enclosing.now) name SchemaError.InvalidName (ok-or_memory name _ c.in_ok-name.ensures) in
-    inr (reference-unknown c.args.word.now c.args.enclosing.now s name named
-    (sym c.place.ensures ∙ c.in-None.is))
+    let named = some-from_ok_or (name_of c.args.word.now c.args.enclosing.now.namespace) name SchemaError.InvalidName (ok-or_memory name _ c.in_ok-name.ensures) in
+    inr (reference-unknown c.args.word.now c.args.enclosing.now.namespace s name named
+    (sym c.in_ok-place.ensures ∙ c.in-None.is))
