@@ -3,3 +3,10 @@ mod NamesWritten
 mod StepsTaken
 mod OneText
 mod Rows
+mod NamesRead
+mod FormsWellMade
+mod TextParts
+mod SameText
+mod SameFits
+mod FormsAlike
+mod SameEncodings

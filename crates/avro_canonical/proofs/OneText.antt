@@ -6,9 +6,7 @@ use Rattle.avro_name.specs.Name.{Name}
 use Rattle.avro_schema.specs.Node.{Node, FieldNode, node_name}
 use Rattle.avro_canonical.specs.Form.{Form, Forms, FieldForms, no_forms, form, no_fields, field, form_text, written_after}
 use Rattle.avro_canonical.specs.Canonical.{IsForm, AreForms, AreFieldForms, IsCanonical, primitive_word, is_among, no_branch, branch, no_field, next_field}
-
-same-some : {A : Type 0} {x y : A} → Some x ≡ Some y → x ≡ y
-same-some e = cc
+use Rattle.avro_canonical.proofs.NamesRead.{some-is}
 
 -- no primitive type has a name
 no-name : (n : Node) (word : List ℕ) (name : Name) → primitive_word n ≡ Some word → node_name n ≡ Some name → ⊥
@@ -27,11 +25,11 @@ no-name (Node.fixed own aliases count) word name h k = none-some word h
 
 -- a name is not both written and not
 not-both : (own name : Name) (written : List Name) → is_among own written ≡ false → Some own ≡ Some name → is_among name written ≡ true → ⊥
-not-both own name written new same old = false≢true (sym new ∙ ap (λ it. is_among it written) (same-some same) ∙ old)
+not-both own name written new same old = false≢true (sym new ∙ ap (λ it. is_among it written) (some-is same) ∙ old)
 
 mutual
   one-form : {nodes : List Node} {written : List Name} {n : Node} {f g : Form} → IsForm nodes written n f → IsForm nodes written n g → f ≡ g
-  one-form (IsForm.primitive h) (IsForm.primitive k) = ap (λ w. Form.primitive w) (same-some (sym h ∙ k))
+  one-form (IsForm.primitive h) (IsForm.primitive k) = ap (λ w. Form.primitive w) (some-is (sym h ∙ k))
   one-form (IsForm.primitive h) (IsForm.array e) = absurd (none-some _ h)
   one-form (IsForm.primitive h) (IsForm.map_of e) = absurd (none-some _ h)
   one-form (IsForm.primitive h) (IsForm.union es) = absurd (none-some _ h)
@@ -57,7 +55,7 @@ mutual
   one-form (IsForm.fixed h) (IsForm.fixed k) = refl
   one-form (IsForm.fixed h) (IsForm.primitive k) = absurd (none-some _ k)
   one-form (IsForm.fixed h) (IsForm.again k old) = absurd (not-both _ _ _ h k old)
-  one-form (IsForm.again h old) (IsForm.again k more) = ap (λ name. Form.reference name) (same-some (sym h ∙ k))
+  one-form (IsForm.again h old) (IsForm.again k more) = ap (λ name. Form.reference name) (some-is (sym h ∙ k))
   one-form {n = n} (IsForm.again h old) (IsForm.primitive k) = absurd (no-name n _ _ k h)
   one-form (IsForm.again h old) (IsForm.array e) = absurd (none-some _ h)
   one-form (IsForm.again h old) (IsForm.map_of e) = absurd (none-some _ h)

@@ -11,16 +11,8 @@ use Rattle.avro_schema.specs.WellFormed.{is_schema, are_good_nodes, max_nodes}
 use Rattle.avro_canonical.specs.Form.{Form, full_text, form_text}
 use Rattle.avro_canonical.specs.Canonical.{IsForm, IsCanonical, is_among}
 use Rattle.avro_canonical.specs.Pending.{Pending, place, branches, fields, end, IsLeft, IsStep, is_written, is_name_written, marks_of, opening_of, opening_of_first, parts_of, before_branch, next_branch, before_field, following_fields}
-use Rattle.avro_canonical.proofs.NamesWritten.{marked, marks-seen}
+use Rattle.avro_canonical.proofs.NamesWritten.{marked, marks-seen, named-at}
 use Rattle.avro_canonical.proofs.Steps.{begun, begun_name, opened, passed_end, passed_branches, passed_branch, passed_fields, passed_field}
-
-found-name : (name : Name) (o : Option Node) → node_name (unwrap_or o Node.null) ≡ Some name → option_map node_name o ≡ Some (Some name)
-found-name name None h = absurd (none-some name h)
-found-name name (Some n) h = ap (λ it. Some it) h
-
--- a type stands in the list
-named-at : (nodes : List Node) (p : ℕ) (name : Name) → node_name (node_at nodes p) ≡ Some name → slice_get (map node_name nodes) p ≡ Some (Some name)
-named-at nodes p name h = slice_get-map node_name nodes p ∙ found-name name (slice_get nodes p) h
 
 -- its mark says whether its name is written
 mark-at : (written : List Name) (nodes : List Node) (p : ℕ) (name : Name) → slice_get (map node_name nodes) p ≡ Some (Some name)

@@ -2,3 +2,4 @@ pub mod Form
 pub mod Canonical
 pub mod Fingerprint
 pub mod Pending
+pub mod inside
