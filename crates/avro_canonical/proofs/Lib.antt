@@ -10,3 +10,4 @@ mod SameText
 mod SameFits
 mod FormsAlike
 mod SameEncodings
+mod HasForm
