@@ -48,7 +48,7 @@ or_cases : (s t : Bool) → (s || t) ≡ true → (s ≡ true) ⊎ (t ≡ true)
 or_cases true t h = inl refl
 or_cases false t h = inr h
 
-or_later : (s t : Bool) → t ≡ true → (s || t) ≡ true
+pub or_later : (s t : Bool) → t ≡ true → (s || t) ≡ true
 or_later true t h = refl
 or_later false t h = h
 

@@ -1,10 +1,10 @@
 -- Each schema has a canonical text.
-use Rattle.std.proofs.Common.{◌≡◌, ◌<◌, ◌≤◌, ℕ, zero, suc, ◌+◌, Bool, true, false, not, ◌&&◌, ◌||◌, cond, if◌then◌else◌, List, [], ◌∷◌, Option, Some, None, refl, sym, ◌∙◌, ap, subst, arith, map, length, unwrap_or, slice_get, nat_lt, is_some}
+use Rattle.std.proofs.Common.{◌≡◌, ◌<◌, ◌≤◌, ℕ, zero, suc, ◌+◌, Bool, true, false, ◌&&◌, ◌||◌, cond, if◌then◌else◌, List, [], ◌∷◌, Option, Some, None, refl, sym, ◌∙◌, ap, subst, arith, map, length, unwrap_or, slice_get, nat_lt, is_some}
 use Rattle.std.specs.List.{list_all}
 use Rattle.std.proofs.lemmas.Bool.{and_parts, false≢true, ltb-true}
 use Rattle.std.proofs.lemmas.Option.{slice_get_past}
 use Rattle.avro_name.specs.Name.{Name, same_name}
-use Rattle.avro_schema.specs.Node.{Node, FieldNode, node_at, root_of, node_name, edges_of, field_places}
+use Rattle.avro_schema.specs.Node.{Node, FieldNode, node_at, node_name, edges_of}
 use Rattle.avro_schema.specs.WellFormed.{is_schema, is_edge, is_good_node, are_good_nodes, has_good_names, meets_its_rules}
 use Rattle.avro_canonical.specs.Form.{Form, Forms, FieldForms, no_forms, form, no_fields, field, form_text, written_after}
 use Rattle.avro_canonical.specs.Canonical.{IsForm, AreForms, AreFieldForms, IsCanonical, is_among, no_branch, branch, no_field, next_field}

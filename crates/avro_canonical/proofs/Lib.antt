@@ -11,3 +11,10 @@ mod SameFits
 mod FormsAlike
 mod SameEncodings
 mod HasForm
+mod LaidRead
+mod FormsRead
+mod LaidForms
+mod LaidGood
+mod LaidNames
+mod ReadAgain
+mod RowsTree

@@ -6,10 +6,10 @@ use Rattle.avro_schema.specs.Node.{Node, FieldNode}
 use Rattle.avro_canonical.specs.Form.{Form, Forms, FieldForms, no_forms, form, no_fields, field, form_text}
 use Rattle.avro_canonical.specs.Canonical.{IsForm, AreForms, AreFieldForms, IsCanonical, no_branch, branch, no_field, next_field}
 
-abbrev named : List ℕ → List ℕ → Name
+abbrev pub named : List ℕ → List ℕ → Name
 named namespace simple = record { namespace = namespace; simple = simple }
 
-abbrev simply : List ℕ → ℕ → FieldNode
+abbrev pub simply : List ℕ → ℕ → FieldNode
 simply name node = record { name = name; aliases = []; node = node; default = None }
 
 int_alone : IsCanonical (Node.int ∷ []) (codes "\"int\"")
