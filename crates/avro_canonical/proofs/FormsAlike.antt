@@ -1,18 +1,17 @@
 -- Data that fit nodes of one form are the same.
-use Rattle.std.proofs.Common.{◌≡◌, ◌⊎◌, inl, inr, ⊎_elim, ℕ, zero, suc, Bool, true, false, not, ◌&&◌, ◌||◌, List, [], ◌∷◌, Option, Some, None, refl, sym, ◌∙◌, ap, subst, map, filter_map, length, unwrap_or, slice_get, option_map, bytes_eq, nat_lt, nat_le}
+use Rattle.std.proofs.Common.{◌≡◌, ◌⊎◌, inl, inr, ⊎_elim, ℕ, zero, suc, Bool, true, false, not, ◌&&◌, ◌||◌, List, [], ◌∷◌, Option, Some, None, refl, sym, ◌∙◌, ap, subst, map, filter_map, length, slice_get, bytes_eq, nat_lt, nat_le}
 use Rattle.std.specs.List.{list_any}
 use Rattle.std.proofs.lemmas.Bool.{and_parts, false≢true, not-true}
-use Rattle.std.proofs.lemmas.Option.{slice_get-map, none-some}
 use Rattle.std.proofs.lemmas.Slice.Eq.{bytes_eq-Decides}
 use Rattle.avro_name.specs.Name.{Name, same_name}
 use Rattle.avro_schema.specs.Value.{Value}
-use Rattle.avro_schema.specs.Node.{Node, FieldNode, node_at, root_of, node_name, field_places}
+use Rattle.avro_schema.specs.Node.{items_node, values_node, branches_of, fields_of, Node, FieldNode, node_at, root_of, node_name, field_places}
 use Rattle.avro_schema.specs.Fits.{fits}
 use Rattle.avro_schema.specs.Distinct.{are_distinct}
 use Rattle.avro_schema.specs.WellFormed.{is_schema, are_good_nodes, max_nodes}
 use Rattle.avro_canonical.specs.Form.{Form, Forms, FieldForms, no_forms, form, no_fields, field, written_after, written_after_all, written_after_fields}
 use Rattle.avro_canonical.specs.Canonical.{IsForm, AreForms, AreFieldForms, primitive_word, is_among, no_branch, branch, no_field, next_field}
-use Rattle.avro_canonical.proofs.NamesRead.{some-is}
+use Rattle.avro_canonical.proofs.Words.{some-is, none_apart, by_word}
 use Rattle.avro_canonical.proofs.NamesWritten.{same-refl, names-seen, apart-at, named-at}
 use Rattle.avro_canonical.proofs.FormsWellMade.{word_node}
 use Rattle.avro_canonical.proofs.SameFits.{neither, both, Each, no_places, places, none_each, each, Matching, Closed, same_fit}
@@ -71,38 +70,69 @@ mutual
   grows_fields name w no_fields h = h
   grows_fields name w (field own f fs) h = grows_fields name (written_after w f) fs (grows name w f h)
 
+word_matches : {P : ℕ → ℕ → Type 0} (n : Node) (word : List ℕ) → primitive_word n ≡ Some word → Matching P n n
+word_matches {P = P} = by_word (λ n word. Matching P n n) (leaf Node.null refl refl refl refl) (leaf Node.boolean refl refl refl refl) (leaf Node.int refl refl refl refl)
+    (leaf Node.long refl refl refl refl) (leaf Node.bytes refl refl refl refl) (leaf Node.string refl refl refl refl)
+  where
+    leaf : (n : Node) → items_node n ≡ None → values_node n ≡ None → branches_of n ≡ None → fields_of n ≡ None → Matching P n n
+    leaf n itemless valueless branchless fieldless = record {
+      null = refl;
+      boolean = refl;
+      int = refl;
+      long = refl;
+      bytes = refl;
+      string = refl;
+      symbols = refl;
+      count = refl;
+      items = rw itemless neither;
+      values = rw valueless neither;
+      branches = rw branchless none_each;
+      fields = rw fieldless none_each;
+    }
+
 matching : {a b : List Node} {all w : List Name} {m n : Node} {f : Form} → IsForm a w m f → IsForm b w n f → is_reference f ≡ false → AreAmong (written_after w f) all
     → Matching (λ p q. Alike a b all (node_at a p) (node_at b q)) m n
 matching {a = a} {b = b} {all = all} {m = m} {n = n} (IsForm.primitive {word = word} h) (IsForm.primitive k) none within =
-    subst (λ x. Matching (λ p q. Alike a b all (node_at a p) (node_at b q)) m x) (sym (word_node m word h) ∙ word_node n word k) (alone m word h)
-  where
-    alone : {P : ℕ → ℕ → Type 0} (x : Node) (word : List ℕ) → primitive_word x ≡ Some word → Matching P x x
-    alone Node.null word e = record { null = refl; boolean = refl; int = refl; long = refl; bytes = refl; string = refl; symbols = refl; count = refl; items = neither; values = neither; branches = none_each; fields = none_each }
-    alone Node.boolean word e = record { null = refl; boolean = refl; int = refl; long = refl; bytes = refl; string = refl; symbols = refl; count = refl; items = neither; values = neither; branches = none_each; fields = none_each }
-    alone Node.int word e = record { null = refl; boolean = refl; int = refl; long = refl; bytes = refl; string = refl; symbols = refl; count = refl; items = neither; values = neither; branches = none_each; fields = none_each }
-    alone Node.long word e = record { null = refl; boolean = refl; int = refl; long = refl; bytes = refl; string = refl; symbols = refl; count = refl; items = neither; values = neither; branches = none_each; fields = none_each }
-    alone Node.bytes word e = record { null = refl; boolean = refl; int = refl; long = refl; bytes = refl; string = refl; symbols = refl; count = refl; items = neither; values = neither; branches = none_each; fields = none_each }
-    alone Node.string word e = record { null = refl; boolean = refl; int = refl; long = refl; bytes = refl; string = refl; symbols = refl; count = refl; items = neither; values = neither; branches = none_each; fields = none_each }
-    alone (Node.array place) word e = absurd (none-some _ e)
-    alone (Node.map_of place) word e = absurd (none-some _ e)
-    alone (Node.union ps) word e = absurd (none-some _ e)
-    alone (Node.record_of name aliases fields) word e = absurd (none-some _ e)
-    alone (Node.enum name aliases symbols default) word e = absurd (none-some _ e)
-    alone (Node.fixed name aliases count) word e = absurd (none-some _ e)
+    subst (λ x. Matching (λ p q. Alike a b all (node_at a p) (node_at b q)) m x) (sym (word_node m word h) ∙ word_node n word k) (word_matches m word h)
 matching (IsForm.array d) (IsForm.array e) none within = record {
-  null = refl; boolean = refl; int = refl; long = refl; bytes = refl; string = refl; symbols = refl; count = refl;
+  null = refl;
+  boolean = refl;
+  int = refl;
+  long = refl;
+  bytes = refl;
+  string = refl;
+  symbols = refl;
+  count = refl;
   items = both (record { written = _; form = _; first = d; second = e; within = within });
-  values = neither; branches = none_each; fields = none_each;
+  values = neither;
+  branches = none_each;
+  fields = none_each;
 }
 matching (IsForm.map_of d) (IsForm.map_of e) none within = record {
-  null = refl; boolean = refl; int = refl; long = refl; bytes = refl; string = refl; symbols = refl; count = refl;
+  null = refl;
+  boolean = refl;
+  int = refl;
+  long = refl;
+  bytes = refl;
+  string = refl;
+  symbols = refl;
+  count = refl;
   items = neither;
   values = both (record { written = _; form = _; first = d; second = e; within = within });
-  branches = none_each; fields = none_each;
+  branches = none_each;
+  fields = none_each;
 }
 matching {a = a} {b = b} {all = all} (IsForm.union ds) (IsForm.union es) none within = record {
-  null = refl; boolean = refl; int = refl; long = refl; bytes = refl; string = refl; symbols = refl; count = refl;
-  items = neither; values = neither;
+  null = refl;
+  boolean = refl;
+  int = refl;
+  long = refl;
+  bytes = refl;
+  string = refl;
+  symbols = refl;
+  count = refl;
+  items = neither;
+  values = neither;
   branches = each (each_branch ds es within);
   fields = none_each;
 }
@@ -113,8 +143,17 @@ matching {a = a} {b = b} {all = all} (IsForm.union ds) (IsForm.union es) none wi
     each_branch {w = w} (branch {f = f} {fs = fs} d ds) (branch e es) within =
         places (record { written = w; form = f; first = d; second = e; within = λ name h. within name (grows_all name (written_after w f) fs h) }) (each_branch ds es within)
 matching {a = a} {b = b} {all = all} (IsForm.record_of h ds) (IsForm.record_of k es) none within = record {
-  null = refl; boolean = refl; int = refl; long = refl; bytes = refl; string = refl; symbols = refl; count = refl;
-  items = neither; values = neither; branches = none_each;
+  null = refl;
+  boolean = refl;
+  int = refl;
+  long = refl;
+  bytes = refl;
+  string = refl;
+  symbols = refl;
+  count = refl;
+  items = neither;
+  values = neither;
+  branches = none_each;
   fields = each (each_field ds es within);
 }
   where
@@ -124,12 +163,32 @@ matching {a = a} {b = b} {all = all} (IsForm.record_of h ds) (IsForm.record_of k
     each_field {w = w} (next_field {f = f} {fs = fs} d ds) (next_field e es) within =
         places (record { written = w; form = f; first = d; second = e; within = λ name h. within name (grows_fields name (written_after w f) fs h) }) (each_field ds es within)
 matching (IsForm.enum h) (IsForm.enum k) none within = record {
-  null = refl; boolean = refl; int = refl; long = refl; bytes = refl; string = refl; symbols = refl; count = refl;
-  items = neither; values = neither; branches = none_each; fields = none_each;
+  null = refl;
+  boolean = refl;
+  int = refl;
+  long = refl;
+  bytes = refl;
+  string = refl;
+  symbols = refl;
+  count = refl;
+  items = neither;
+  values = neither;
+  branches = none_each;
+  fields = none_each;
 }
 matching (IsForm.fixed h) (IsForm.fixed k) none within = record {
-  null = refl; boolean = refl; int = refl; long = refl; bytes = refl; string = refl; symbols = refl; count = refl;
-  items = neither; values = neither; branches = none_each; fields = none_each;
+  null = refl;
+  boolean = refl;
+  int = refl;
+  long = refl;
+  bytes = refl;
+  string = refl;
+  symbols = refl;
+  count = refl;
+  items = neither;
+  values = neither;
+  branches = none_each;
+  fields = none_each;
 }
 matching (IsForm.again h old) (IsForm.again k more) none within = absurd (false≢true (sym none))
 
@@ -156,7 +215,7 @@ mutual
   find p q name (IsForm.union ds) (IsForm.union es) within here there old = find_all name ds es within old
   find {w = w} p q name (IsForm.record_of {name = own} h ds) (IsForm.record_of k es) within here there old =
       ⊎_elim (λ written. ⊎_elim (λ same. inr (defined p q own name (IsForm.record_of h ds) (IsForm.record_of k es) within refl here there refl refl same)) (λ before. inl before)
-        (or_cases (same_name name own) (is_among name w) written))
+      (or_cases (same_name name own) (is_among name w) written))
       (λ found. inr found) (find_fields name ds es within old)
   find {w = w} p q name (IsForm.enum {name = own} h) (IsForm.enum k) within here there old =
       ⊎_elim (λ same. inr (defined p q own name (IsForm.enum h) (IsForm.enum k) within refl here there refl refl same)) (λ before. inl before)
@@ -178,15 +237,12 @@ mutual
   find_fields {w = w} name (next_field {x = x} {f = f} {fs = fs} d ds) (next_field {x = y} e es) within old =
       ⊎_elim (λ before. find x.node y.node name d e (λ it h. within it (grows_fields it (written_after w f) fs h)) refl refl before) (λ found. inr found) (find_fields name ds es within old)
 
-pub some_apart : {A : Type 0} {x : A} → None ≡ Some x → ⊥
-some_apart e = cc
-
 -- a name stands at one place
 one_place : (name : Name) (os : List (Option Name)) (p q : ℕ) → are_distinct same_name (filter_map (λ o. o) os) ≡ true
     → slice_get os p ≡ Some (Some name) → slice_get os q ≡ Some (Some name) → p ≡ q
-one_place name [] p q distinct here there = absurd (some_apart here)
-one_place name (None ∷ os) zero q distinct here there = absurd (some_apart (some-is here))
-one_place name (None ∷ os) (suc p) zero distinct here there = absurd (some_apart (some-is there))
+one_place name [] p q distinct here there = absurd (none_apart here)
+one_place name (None ∷ os) zero q distinct here there = absurd (none_apart (some-is here))
+one_place name (None ∷ os) (suc p) zero distinct here there = absurd (none_apart (some-is there))
 one_place name (None ∷ os) (suc p) (suc q) distinct here there = ap suc (one_place name os p q distinct here there)
 one_place name (Some first ∷ os) zero zero distinct here there = refl
 one_place name (Some first ∷ os) zero (suc q) distinct here there =

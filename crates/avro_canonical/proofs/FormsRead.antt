@@ -31,7 +31,7 @@ next_made first f fs known next rest one others =
     ∙ ap (λ n. joined (made known next f) (rest later (next + n))) (raw_count known next f)
     ∙ ap (λ r. joined (made known next f) r) others
     ∙ ap (λ nodes. record { result = laid_places known next (form f fs); nodes = nodes; known = known_after_all known next (form f fs); faults = [] })
-      (sym (map-append raw_node (laid known next f) (laid_all later (next + nodes_in f) fs)))
+    (sym (map-append raw_node (laid known next f) (laid_all later (next + nodes_in f) fs)))
 
 -- a field, from its type
 abbrev typed : List ℕ → Made ℕ → Made RawField
@@ -46,7 +46,7 @@ next_field_made first name f fs known next rest one others =
     ∙ ap (λ n. joined (typed name (made known next f)) (rest later (next + n))) (raw_count known next f)
     ∙ ap (λ r. joined (typed name (made known next f)) r) others
     ∙ ap (λ nodes. record { result = map raw_field (laid_fields known next (field name f fs)); nodes = nodes; known = known_after_fields known next (field name f fs); faults = [] })
-      (sym (map-append raw_node (laid known next f) (laid_in_fields later (next + nodes_in f) fs)))
+    (sym (map-append raw_node (laid known next f) (laid_in_fields later (next + nodes_in f) fs)))
 
 -- definitions, once their names are read
 record_read : (name : Name) (fs : FieldForms) (known : Known) (next : ℕ) (enclosing : List ℕ)
@@ -115,7 +115,7 @@ mutual
       next_made (meaning_of (form_tree f) enclosing known next) f fs known next (λ k n. in_turn (branches_of (form_trees fs)) enclosing k n)
       (form_read f written known next enclosing good.0 is both.0 (room next (nodes_in f) (nodes_in_all fs) few))
       (forms_read fs (written_after written f) (known_after known next f) (next + nodes_in f) enclosing good.1 (known_then written known next f is) both.1
-        (room_later next (nodes_in f) (nodes_in_all fs) few))
+      (room_later next (nodes_in f) (nodes_in_all fs) few))
 
   fields_read : (fs : FieldForms) (written : List Name) (known : Known) (next : ℕ) (enclosing : List ℕ) → FieldsWellMade written fs → IsKnown written known
       → fields_keep_names enclosing fs ≡ true → next + nodes_in_fields fs ≤ max_nodes → in_turn (field_meanings (field_trees fs)) enclosing known next ≡ made_fields known next fs
@@ -125,4 +125,4 @@ mutual
       next_field_made (meaning_of (form_tree f) enclosing known next) name f fs known next (λ k n. in_turn (field_meanings (field_trees fs)) enclosing k n)
       (form_read f written known next enclosing good.0 is both.0 (room next (nodes_in f) (nodes_in_fields fs) few))
       (fields_read fs (written_after written f) (known_after known next f) (next + nodes_in f) enclosing good.1 (known_then written known next f is) both.1
-        (room_later next (nodes_in f) (nodes_in_fields fs) few))
+      (room_later next (nodes_in f) (nodes_in_fields fs) few))

@@ -1,5 +1,5 @@
 -- The form of a node of a schema is well made.
-use Rattle.std.proofs.Common.{◌≡◌, ℕ, zero, suc, Bool, true, false, not, ◌&&◌, ◌||◌, List, [], ◌∷◌, ◌++◌, Option, Some, None, refl, sym, ◌∙◌, ap, subst, map, flat_map, filter_map, length, unwrap_or, slice_get, bytes_eq, nat_lt, nat_le, is_some}
+use Rattle.std.proofs.Common.{◌≡◌, ℕ, zero, suc, Bool, true, false, not, ◌&&◌, List, [], ◌∷◌, ◌++◌, Option, Some, None, refl, sym, ◌∙◌, ap, map, flat_map, filter_map, length, unwrap_or, slice_get, bytes_eq, nat_lt, nat_le, is_some}
 use Rattle.std.specs.List.{list_all, list_any}
 use Rattle.std.proofs.lemmas.Bool.{and_parts, and_from, not-true, not_from_false}
 use Rattle.std.proofs.lemmas.List.{length-map}
@@ -11,39 +11,15 @@ use Rattle.avro_schema.specs.WellFormed.{is_schema, is_good_node, are_good_nodes
 use Rattle.avro_canonical.specs.Form.{Form, Forms, FieldForms}
 use Rattle.avro_canonical.specs.Canonical.{IsForm, AreForms, AreFieldForms, primitive_word, no_branch, branch, no_field, next_field}
 use Rattle.avro_canonical.specs.inside.WellMade.{node_of_word, form_kind, form_kinds, are_branches, names_of, are_names, WellMade, AreWellMade, FieldsWellMade}
-use Rattle.avro_canonical.proofs.NamesRead.{some-is}
-
-none_is : {A : Type 0} {x : A} → None ≡ Some x → ⊥
-none_is e = cc
+use Rattle.avro_canonical.proofs.NamesWritten.{or-left, or-right}
+use Rattle.avro_canonical.proofs.Words.{by_word, by_name}
 
 -- a word is that of its node alone
 pub word_node : (n : Node) (word : List ℕ) → primitive_word n ≡ Some word → node_of_word word ≡ n
-word_node Node.null word e = ap node_of_word (sym (some-is e))
-word_node Node.boolean word e = ap node_of_word (sym (some-is e))
-word_node Node.int word e = ap node_of_word (sym (some-is e))
-word_node Node.long word e = ap node_of_word (sym (some-is e))
-word_node Node.bytes word e = ap node_of_word (sym (some-is e))
-word_node Node.string word e = ap node_of_word (sym (some-is e))
-word_node (Node.array place) word e = absurd (none_is e)
-word_node (Node.map_of place) word e = absurd (none_is e)
-word_node (Node.union places) word e = absurd (none_is e)
-word_node (Node.record_of name aliases fields) word e = absurd (none_is e)
-word_node (Node.enum name aliases symbols default) word e = absurd (none_is e)
-word_node (Node.fixed name aliases count) word e = absurd (none_is e)
+word_node = by_word (λ n word. node_of_word word ≡ n) refl refl refl refl refl refl
 
 pub named_kind : (n : Node) (name : Name) → node_name n ≡ Some name → branch_kind n ≡ Some (named name)
-named_kind Node.null name e = absurd (none_is e)
-named_kind Node.boolean name e = absurd (none_is e)
-named_kind Node.int name e = absurd (none_is e)
-named_kind Node.long name e = absurd (none_is e)
-named_kind Node.bytes name e = absurd (none_is e)
-named_kind Node.string name e = absurd (none_is e)
-named_kind (Node.array place) name e = absurd (none_is e)
-named_kind (Node.map_of place) name e = absurd (none_is e)
-named_kind (Node.union places) name e = absurd (none_is e)
-named_kind (Node.record_of own aliases fields) name e = ap (λ it. Some (named it)) (some-is e)
-named_kind (Node.enum own aliases symbols default) name e = ap (λ it. Some (named it)) (some-is e)
-named_kind (Node.fixed own aliases count) name e = ap (λ it. Some (named it)) (some-is e)
+named_kind = by_name (λ n name. branch_kind n ≡ Some (named name)) (λ name aliases xs. refl) (λ name aliases symbols default. refl) (λ name aliases count. refl)
 
 pub kind_same : {nodes : List Node} {written : List Name} {n : Node} {f : Form} → IsForm nodes written n f → branch_kind n ≡ form_kind f
 kind_same {n = n} (IsForm.primitive {word = word} h) = sym (ap branch_kind (word_node n word h))
@@ -80,21 +56,12 @@ all_names p (x ∷ xs) h =
     let both = and_parts (list_all p (field_names x)) (list_all p (flat_map field_names xs)) cut in
     and_from (p x.name) (list_all p (map (λ y. y.name) xs)) (and_parts (p x.name) (list_all p x.aliases) both.0).0 (all_names p xs both.1)
 
-or_parts_false : (a b : Bool) → (a || b) ≡ false → (a ≡ false) × (b ≡ false)
-or_parts_false false b h = (refl, h)
-or_parts_false true b h = (h, cases b h)
-  where
-    cases : (b : Bool) → true ≡ false → b ≡ false
-    cases false e = refl
-    cases true e = e
-
 no_names : (p : List ℕ → Bool) (xs : List FieldNode) → list_any p (flat_map field_names xs) ≡ false → list_any p (map (λ x. x.name) xs) ≡ false
 no_names p [] h = refl
 no_names p (x ∷ xs) h =
     let cut = sym (list_any-append p (field_names x) (flat_map field_names xs)) ∙ h in
-    let both = or_parts_false (list_any p (field_names x)) (list_any p (flat_map field_names xs)) cut in
-    let here = or_parts_false (p x.name) (list_any p x.aliases) both.0 in
-    rw here.0 (no_names p xs both.1)
+    let here = or-left (p x.name) (list_any p x.aliases) (or-left (list_any p (field_names x)) (list_any p (flat_map field_names xs)) cut) in
+    rw here (no_names p xs (or-right (list_any p (field_names x)) (list_any p (flat_map field_names xs)) cut))
 
 distinct_behind : {A : Type 0} (e : A → A → Bool) (xs ys : List A) → are_distinct e (xs ++ ys) ≡ true → are_distinct e ys ≡ true
 distinct_behind e [] ys h = h
@@ -105,9 +72,9 @@ distinct_names e [] h = refl
 distinct_names e (x ∷ xs) h =
     let others = x.aliases ++ flat_map field_names xs in
     let both = and_parts (not (list_any (e x.name) others)) (are_distinct e others) h in
-    let none = or_parts_false (list_any (e x.name) x.aliases) (list_any (e x.name) (flat_map field_names xs))
-        (sym (list_any-append (e x.name) x.aliases (flat_map field_names xs)) ∙ not-true _ both.0) in
-    and_from _ _ (not_from_false _ (no_names (e x.name) xs none.1)) (distinct_names e xs (distinct_behind e x.aliases (flat_map field_names xs) both.1))
+    let none = or-right (list_any (e x.name) x.aliases) (list_any (e x.name) (flat_map field_names xs))
+    (sym (list_any-append (e x.name) x.aliases (flat_map field_names xs)) ∙ not-true _ both.0) in
+    and_from _ _ (not_from_false _ (no_names (e x.name) xs none)) (distinct_names e xs (distinct_behind e x.aliases (flat_map field_names xs) both.1))
 
 names_seen : {nodes : List Node} {written : List Name} {xs : List FieldNode} {fs : FieldForms} → AreFieldForms nodes written xs fs → map (λ x. x.name) xs ≡ names_of fs
 names_seen no_field = refl
@@ -146,18 +113,10 @@ full_of : (name : Name) (others : Bool) → (is_full_name name && others) ≡ tr
 full_of name others h = (and_parts (is_full_name name) others h).0
 
 full_named : (n : Node) (name : Name) → node_name n ≡ Some name → has_good_names n ≡ true → is_full_name name ≡ true
-full_named Node.null name e h = absurd (none_is e)
-full_named Node.boolean name e h = absurd (none_is e)
-full_named Node.int name e h = absurd (none_is e)
-full_named Node.long name e h = absurd (none_is e)
-full_named Node.bytes name e h = absurd (none_is e)
-full_named Node.string name e h = absurd (none_is e)
-full_named (Node.array place) name e h = absurd (none_is e)
-full_named (Node.map_of place) name e h = absurd (none_is e)
-full_named (Node.union places) name e h = absurd (none_is e)
-full_named (Node.record_of own aliases fields) name e h = subst (λ it. is_full_name it ≡ true) (some-is e) (full_of own (list_all is_full_name aliases) h)
-full_named (Node.enum own aliases symbols default) name e h = subst (λ it. is_full_name it ≡ true) (some-is e) (full_of own (list_all is_full_name aliases) h)
-full_named (Node.fixed own aliases count) name e h = subst (λ it. is_full_name it ≡ true) (some-is e) (full_of own (list_all is_full_name aliases) h)
+full_named = by_name (λ n name. has_good_names n ≡ true → is_full_name name ≡ true)
+    (λ name aliases xs h. full_of name (list_all is_full_name aliases) h)
+    (λ name aliases symbols default h. full_of name (list_all is_full_name aliases) h)
+    (λ name aliases count h. full_of name (list_all is_full_name aliases) h)
 
 without_default : (symbols : List (List ℕ)) (default : Option ℕ) → is_enum symbols default ≡ true → is_enum symbols None ≡ true
 without_default symbols default h =

@@ -8,10 +8,10 @@ use Rattle.avro_schema.specs.Node.{Node, FieldNode, node_at, node_name, edges_of
 use Rattle.avro_schema.specs.WellFormed.{is_schema, is_edge, is_good_node, are_good_nodes, has_good_names, meets_its_rules}
 use Rattle.avro_canonical.specs.Form.{Form, Forms, FieldForms, no_forms, form, no_fields, field, form_text, written_after}
 use Rattle.avro_canonical.specs.Canonical.{IsForm, AreForms, AreFieldForms, IsCanonical, is_among, no_branch, branch, no_field, next_field}
-use Rattle.avro_canonical.proofs.NamesRead.{some-is}
+use Rattle.avro_canonical.proofs.Words.{some-is, none_apart, by_name}
 use Rattle.avro_canonical.proofs.NamesWritten.{same-refl, named-at}
 use Rattle.avro_canonical.proofs.FormsWellMade.{good_nodes}
-use Rattle.avro_canonical.proofs.FormsAlike.{grows, some_apart}
+use Rattle.avro_canonical.proofs.FormsAlike.{grows, or_later}
 
 -- how many of the names are not written
 unwritten : List Name → List (Option Name) → ℕ
@@ -38,8 +38,8 @@ no_more old new (Some name ∷ os) grown = by_old (is_among name old) (is_among 
 fewer : (old new : List Name) (os : List (Option Name)) (p : ℕ) (name : Name) → Grown old new → slice_get os p ≡ Some (Some name) → is_among name old ≡ false → is_among name new ≡ true
     → unwritten new os < unwritten old os
 unfolding unwritten
-fewer old new [] p name grown here before after = absurd (some_apart here)
-fewer old new (None ∷ os) zero name grown here before after = absurd (some_apart (some-is here))
+fewer old new [] p name grown here before after = absurd (none_apart here)
+fewer old new (None ∷ os) zero name grown here before after = absurd (none_apart (some-is here))
 fewer old new (None ∷ os) (suc p) name grown here before after = fewer old new os p name grown here before after
 fewer old new (Some first ∷ os) zero name grown here before after =
     let is : first ≡ name = some-is (some-is here) in
@@ -89,12 +89,8 @@ have_fields nodes k each (x ∷ xs) written few =
 abbrev Deeper : List Node → ℕ → Type 0
 Deeper nodes k = (written : List Name) (q : ℕ) → left nodes written < k → HasForm nodes written (node_at nodes q)
 
-or_second : (s t : Bool) → t ≡ true → (s || t) ≡ true
-or_second true t h = refl
-or_second false t h = h
-
 grown_by : (name : Name) (written : List Name) → Grown written (name ∷ written)
-grown_by name written other h = or_second (same_name other name) (is_among other written) h
+grown_by name written other h = or_later (same_name other name) (is_among other written) h
 
 one_fewer : (nodes : List Node) (written : List Name) (p : ℕ) (name : Name) → node_name (node_at nodes p) ≡ Some name → is_among name written ≡ false
     → left nodes (name ∷ written) < left nodes written
@@ -104,23 +100,13 @@ one_fewer nodes written p name named new =
 -- a type that is not written
 new_form : (nodes : List Node) (k : ℕ) → Deeper nodes k → (written : List Name) (n : Node) (name : Name) → left nodes (name ∷ written) < k → node_name n ≡ Some name
     → is_among name written ≡ false → HasForm nodes written n
-new_form nodes k deeper written Node.null name few named new = absurd (some_apart named)
-new_form nodes k deeper written Node.boolean name few named new = absurd (some_apart named)
-new_form nodes k deeper written Node.int name few named new = absurd (some_apart named)
-new_form nodes k deeper written Node.long name few named new = absurd (some_apart named)
-new_form nodes k deeper written Node.bytes name few named new = absurd (some_apart named)
-new_form nodes k deeper written Node.string name few named new = absurd (some_apart named)
-new_form nodes k deeper written (Node.array q) name few named new = absurd (some_apart named)
-new_form nodes k deeper written (Node.map_of q) name few named new = absurd (some_apart named)
-new_form nodes k deeper written (Node.union qs) name few named new = absurd (some_apart named)
-new_form nodes k deeper written (Node.record_of own aliases xs) name few named new =
-    let is = some-is named in
-    let fs = have_fields nodes (left nodes (own ∷ written)) (λ w q h le. deeper w q (omega (arith, le, few, ap (λ it. left nodes (it ∷ written)) is))) xs (own ∷ written) (omega arith) in
-    (Form.record_of own fs.0, IsForm.record_of (ap (λ it. is_among it written) is ∙ new) fs.1)
-new_form nodes k deeper written (Node.enum own aliases symbols default) name few named new =
-    (Form.enum own symbols, IsForm.enum (ap (λ it. is_among it written) (some-is named) ∙ new))
-new_form nodes k deeper written (Node.fixed own aliases count) name few named new =
-    (Form.fixed own count, IsForm.fixed (ap (λ it. is_among it written) (some-is named) ∙ new))
+new_form nodes k deeper written n name few named new =
+    by_name (λ m own. left nodes (own ∷ written) < k → is_among own written ≡ false → HasForm nodes written m)
+    (λ own aliases xs fewer_left fresh.
+    let fs = have_fields nodes (left nodes (own ∷ written)) (λ w q h le. deeper w q (omega (arith, le, fewer_left))) xs (own ∷ written) (omega arith) in
+    (Form.record_of own fs.0, IsForm.record_of fresh fs.1))
+    (λ own aliases symbols default fewer_left fresh. (Form.enum own symbols, IsForm.enum fresh))
+    (λ own aliases count fewer_left fresh. (Form.fixed own count, IsForm.fixed fresh)) n name named few new
 
 named_form : (nodes : List Node) (k : ℕ) → Deeper nodes k → (written : List Name) (p : ℕ) (name : Name) → left nodes written ≤ k → node_name (node_at nodes p) ≡ Some name
     → HasForm nodes written (node_at nodes p)

@@ -9,7 +9,7 @@ use Rattle.avro_canonical.specs.Canonical.{IsForm, AreForms, AreFieldForms, is_a
 use Rattle.avro_canonical.specs.CanonicalTree.{nodes_in}
 use Rattle.avro_canonical.specs.inside.WellMade.{WellMade, AreWellMade, FieldsWellMade}
 use Rattle.avro_canonical.specs.inside.Laid.{known_after, known_after_all, known_after_fields, laid_place, laid_places, laid_fields, laid, laid_all, laid_in_fields}
-use Rattle.avro_canonical.proofs.NamesRead.{some-is}
+use Rattle.avro_canonical.proofs.Words.{some-is}
 use Rattle.avro_canonical.proofs.FormsAlike.{name_is}
 use Rattle.avro_canonical.proofs.LaidRead.{IsKnown, known_more, known_then, laid_count, place_is}
 
@@ -118,7 +118,7 @@ mutual
       let here = stand_first nodes next _ _ e in
       subst (λ n. IsForm nodes written n (Form.record_of name fs)) (sym here.0)
       (IsForm.record_of good.0 (laid_field_forms nodes fs (name ∷ written) (defining name next known) (suc next) others good.3 (known_more written known name next is)
-        (stand_defining nodes known name next stands (ap node_name here.0)) here.1))
+      (stand_defining nodes known name next stands (ap node_name here.0)) here.1))
   laid_form nodes (Form.enum name symbols) written known next others good is stands e =
       subst (λ n. IsForm nodes written n (Form.enum name symbols)) (sym (stand_first nodes next _ _ e).0) (IsForm.enum good.0)
   laid_form nodes (Form.fixed name count) written known next others good is stands e =
@@ -132,7 +132,7 @@ mutual
       let cut = stand_cut nodes next (laid known next f) (laid_all (known_after known next f) (next + nodes_in f) fs) others (nodes_in f) (laid_count known next f) e in
       branch (laid_form nodes f written known next _ good.0 is stands cut.0)
       (laid_forms nodes fs (written_after written f) (known_after known next f) (next + nodes_in f) others good.1 (known_then written known next f is)
-        (known_stand nodes f known next _ stands cut.0) cut.1)
+      (known_stand nodes f known next _ stands cut.0) cut.1)
 
   laid_field_forms : (nodes : List Node) (fs : FieldForms) (written : List Name) (known : Known) (next : ℕ) (others : List Node) → FieldsWellMade written fs → IsKnown written known
       → KnownStand nodes known → Stand nodes next (laid_in_fields known next fs) others → AreFieldForms nodes written (laid_fields known next fs) fs
@@ -141,4 +141,4 @@ mutual
       let cut = stand_cut nodes next (laid known next f) (laid_in_fields (known_after known next f) (next + nodes_in f) fs) others (nodes_in f) (laid_count known next f) e in
       next_field (laid_form nodes f written known next _ good.0 is stands cut.0)
       (laid_field_forms nodes fs (written_after written f) (known_after known next f) (next + nodes_in f) others good.1 (known_then written known next f is)
-        (known_stand nodes f known next _ stands cut.0) cut.1)
+      (known_stand nodes f known next _ stands cut.0) cut.1)

@@ -14,9 +14,10 @@ use Rattle.avro_canonical.specs.CanonicalTree.{nodes_in}
 use Rattle.avro_canonical.specs.inside.WellMade.{node_of_word, are_branches, names_of, are_names, WellMade, AreWellMade, FieldsWellMade}
 use Rattle.avro_canonical.specs.inside.Laid.{known_after, laid_place, laid_places, laid_fields, laid, laid_all, laid_in_fields}
 use Rattle.avro_canonical.proofs.FormsWellMade.{kinds_same, union_seen}
-use Rattle.avro_canonical.proofs.FormsAlike.{some_apart, or_later}
+use Rattle.avro_canonical.proofs.FormsAlike.{or_later}
 use Rattle.avro_canonical.proofs.LaidRead.{IsKnown, known_more, known_then, laid_count}
 use Rattle.avro_canonical.proofs.LaidForms.{Stand, stand_first, stand_cut, KnownStand, stand_defining, known_stand, named_there, laid_forms}
+use Rattle.avro_canonical.proofs.Words.{by_word, none_apart}
 
 stand_within : (nodes : List Node) (p : ℕ) (n : Node) (rest : List Node) → drop p nodes ≡ n ∷ rest → p < length nodes
 stand_within nodes p n rest e = omega (arith, length-drop p nodes, ap length e)
@@ -35,7 +36,7 @@ edge_named nodes from p name named =
 
     within : (p : ℕ) → node_name (node_at nodes p) ≡ Some name → p < length nodes
     within p named =
-        below p (length nodes) (λ past. some_apart (ap (λ o. node_name (unwrap_or o Node.null)) (sym (slice_get_past nodes p past)) ∙ named))
+        below p (length nodes) (λ past. none_apart (ap (λ o. node_name (unwrap_or o Node.null)) (sym (slice_get_past nodes p past)) ∙ named))
 
 edge_laid : (nodes : List Node) (f : Form) (written : List Name) (known : Known) (next from : ℕ) (others : List Node) → from < next → WellMade written f → IsKnown written known
     → KnownStand nodes known → Stand nodes next (laid known next f) others → is_edge nodes from (laid_place known next f) ≡ true
@@ -56,7 +57,7 @@ edges_laid nodes (form f fs) written known next from others after good is stands
     let cut = stand_cut nodes next (laid known next f) (laid_all (known_after known next f) (next + nodes_in f) fs) others (nodes_in f) (laid_count known next f) e in
     and_from _ _ (edge_laid nodes f written known next from _ after good.0 is stands cut.0)
     (edges_laid nodes fs (written_after written f) (known_after known next f) (next + nodes_in f) from others (omega (arith, after)) good.1 (known_then written known next f is)
-      (known_stand nodes f known next _ stands cut.0) cut.1)
+    (known_stand nodes f known next _ stands cut.0) cut.1)
 
 field_edges_laid : (nodes : List Node) (fs : FieldForms) (written : List Name) (known : Known) (next from : ℕ) (others : List Node) → from < next → FieldsWellMade written fs → IsKnown written known
     → KnownStand nodes known → Stand nodes next (laid_in_fields known next fs) others → list_all (is_edge nodes from) (field_places (laid_fields known next fs)) ≡ true
@@ -65,22 +66,11 @@ field_edges_laid nodes (field name f fs) written known next from others after go
     let cut = stand_cut nodes next (laid known next f) (laid_in_fields (known_after known next f) (next + nodes_in f) fs) others (nodes_in f) (laid_count known next f) e in
     and_from _ _ (edge_laid nodes f written known next from _ after good.0 is stands cut.0)
     (field_edges_laid nodes fs (written_after written f) (known_after known next f) (next + nodes_in f) from others (omega (arith, after)) good.1 (known_then written known next f is)
-      (known_stand nodes f known next _ stands cut.0) cut.1)
+    (known_stand nodes f known next _ stands cut.0) cut.1)
 
 -- a node that is laid is good, where its edges are
 good_word : (nodes : List Node) (next : ℕ) (n : Node) (word : List ℕ) → primitive_word n ≡ Some word → is_good_node nodes next n ≡ true
-good_word nodes next Node.null word e = refl
-good_word nodes next Node.boolean word e = refl
-good_word nodes next Node.int word e = refl
-good_word nodes next Node.long word e = refl
-good_word nodes next Node.bytes word e = refl
-good_word nodes next Node.string word e = refl
-good_word nodes next (Node.array place) word e = absurd (some_apart e)
-good_word nodes next (Node.map_of place) word e = absurd (some_apart e)
-good_word nodes next (Node.union places) word e = absurd (some_apart e)
-good_word nodes next (Node.record_of name aliases fields) word e = absurd (some_apart e)
-good_word nodes next (Node.enum name aliases symbols default) word e = absurd (some_apart e)
-good_word nodes next (Node.fixed name aliases count) word e = absurd (some_apart e)
+good_word nodes next = by_word (λ n word. is_good_node nodes next n ≡ true) refl refl refl refl refl refl
 
 laid_names : (known : Known) (next : ℕ) (fs : FieldForms) → flat_map field_names (laid_fields known next fs) ≡ names_of fs
 laid_names known next no_fields = refl
@@ -126,7 +116,7 @@ mutual
       let more = known_more written known name next is in
       let there = stand_defining nodes known name next stands (ap node_name here.0) in
       and_from _ _ (good_record nodes (defining name next known) next (suc next) name fs
-          (field_edges_laid nodes fs (name ∷ written) (defining name next known) (suc next) next others (omega arith) good.3 more there here.1) good.1 good.2)
+      (field_edges_laid nodes fs (name ∷ written) (defining name next known) (suc next) next others (omega arith) good.3 more there here.1) good.1 good.2)
       (good_laid_fields nodes fs (name ∷ written) (defining name next known) (suc next) others good.3 more there here.1)
   good_laid nodes (Form.enum name symbols) written known next others good is stands e = rw (good.1, good.2) refl
   good_laid nodes (Form.fixed name count) written known next others good is stands e = rw (good.1, good.2) refl
@@ -140,8 +130,8 @@ mutual
       let cut = stand_cut nodes next (laid known next f) later others (nodes_in f) (laid_count known next f) e in
       good_append nodes next (laid known next f) later (good_laid nodes f written known next _ good.0 is stands cut.0)
       (subst (λ n. are_good_nodes nodes (next + n) later ≡ true) (sym (laid_count known next f))
-        (good_laid_all nodes fs (written_after written f) (known_after known next f) (next + nodes_in f) others good.1 (known_then written known next f is)
-          (known_stand nodes f known next _ stands cut.0) cut.1))
+      (good_laid_all nodes fs (written_after written f) (known_after known next f) (next + nodes_in f) others good.1 (known_then written known next f is)
+      (known_stand nodes f known next _ stands cut.0) cut.1))
 
   good_laid_fields : (nodes : List Node) (fs : FieldForms) (written : List Name) (known : Known) (next : ℕ) (others : List Node) → FieldsWellMade written fs → IsKnown written known
       → KnownStand nodes known → Stand nodes next (laid_in_fields known next fs) others → are_good_nodes nodes next (laid_in_fields known next fs) ≡ true
@@ -151,5 +141,5 @@ mutual
       let cut = stand_cut nodes next (laid known next f) later others (nodes_in f) (laid_count known next f) e in
       good_append nodes next (laid known next f) later (good_laid nodes f written known next _ good.0 is stands cut.0)
       (subst (λ n. are_good_nodes nodes (next + n) later ≡ true) (sym (laid_count known next f))
-        (good_laid_fields nodes fs (written_after written f) (known_after known next f) (next + nodes_in f) others good.1 (known_then written known next f is)
-          (known_stand nodes f known next _ stands cut.0) cut.1))
+      (good_laid_fields nodes fs (written_after written f) (known_after known next f) (next + nodes_in f) others good.1 (known_then written known next f is)
+      (known_stand nodes f known next _ stands cut.0) cut.1))

@@ -13,7 +13,8 @@ use Rattle.avro_canonical.specs.CanonicalTree.{nodes_in}
 use Rattle.avro_canonical.specs.inside.WellMade.{node_of_word, WellMade, AreWellMade, FieldsWellMade}
 use Rattle.avro_canonical.specs.inside.Laid.{known_after, laid, laid_all, laid_in_fields}
 use Rattle.avro_canonical.proofs.NamesWritten.{same-refl}
-use Rattle.avro_canonical.proofs.FormsAlike.{some_apart, name_is, or_later}
+use Rattle.avro_canonical.proofs.FormsAlike.{name_is, or_later}
+use Rattle.avro_canonical.proofs.Words.{by_word}
 
 -- the names that a form defines, in order
 abbrev mutual
@@ -112,18 +113,7 @@ fresh_distinct written (x ∷ xs) fresh =
     and_from _ _ (not_from_false _ (fresh_apart x (x ∷ written) xs fresh.1 here)) (fresh_distinct (x ∷ written) xs fresh.1)
 
 word_unnamed : (n : Node) (word : List ℕ) → primitive_word n ≡ Some word → node_name n ≡ None
-word_unnamed Node.null word e = refl
-word_unnamed Node.boolean word e = refl
-word_unnamed Node.int word e = refl
-word_unnamed Node.long word e = refl
-word_unnamed Node.bytes word e = refl
-word_unnamed Node.string word e = refl
-word_unnamed (Node.array place) word e = refl
-word_unnamed (Node.map_of place) word e = refl
-word_unnamed (Node.union places) word e = refl
-word_unnamed (Node.record_of name aliases fields) word e = absurd (some_apart e)
-word_unnamed (Node.enum name aliases symbols default) word e = absurd (some_apart e)
-word_unnamed (Node.fixed name aliases count) word e = absurd (some_apart e)
+word_unnamed = by_word (λ n word. node_name n ≡ None) refl refl refl refl refl refl
 
 mutual
   names_laid : (f : Form) (written : List Name) (known : Known) (next : ℕ) → WellMade written f → filter_map node_name (laid known next f) ≡ defined_in f

@@ -1,11 +1,10 @@
 -- What the tree of a form makes as it is read.
-use Rattle.std.proofs.Common.{◌≡◌, ◌≤◌, ℕ, suc, ◌+◌, Bool, true, false, not, ◌||◌, cond, List, [], ◌∷◌, ◌++◌, Option, Some, None, refl, sym, ◌∙◌, ap, subst, arith, map, length, bytes_eq, nat_lt, is_some, unwrap_or, codes}
+use Rattle.std.proofs.Common.{◌≡◌, ◌≤◌, ℕ, suc, ◌+◌, Bool, true, false, not, ◌||◌, cond, List, [], ◌∷◌, ◌++◌, Option, Some, None, refl, sym, ◌∙◌, ap, arith, map, length, bytes_eq, nat_lt, is_some, unwrap_or, codes}
 use Rattle.std.specs.Prelude.{Result, Ok, Err, ok_or}
 use Rattle.std.proofs.lemmas.Bool.{false≢true, lt-ltb}
 use Rattle.std.proofs.lemmas.List.{length-map, length-append}
 use Rattle.std.proofs.lemmas.Slice.Eq.{bytes_eq-Decides}
 use Rattle.avro_name.specs.Name.{Name, is_full_name, is_empty_text, same_name, name_of, has_dot}
-use Rattle.avro_schema.specs.Node.{Node}
 use Rattle.avro_schema.specs.WellFormed.{max_nodes}
 use Rattle.avro_display.specs.DisplayTree.{name_text}
 use Rattle.serde_json.specs.Data.{Data}
@@ -17,8 +16,8 @@ use Rattle.avro_canonical.specs.Canonical.{primitive_word, is_among}
 use Rattle.avro_canonical.specs.CanonicalTree.{nodes_in, nodes_in_all, nodes_in_fields, is_kept}
 use Rattle.avro_canonical.specs.inside.WellMade.{node_of_word}
 use Rattle.avro_canonical.specs.inside.Laid.{known_after, known_after_all, known_after_fields, laid_place, laid_places, laid_fields, laid, laid_all, laid_in_fields, raw_field, raw_node, raw_nodes}
-use Rattle.avro_canonical.proofs.NamesRead.{name_read, some-is}
-use Rattle.avro_canonical.proofs.FormsAlike.{some_apart}
+use Rattle.avro_canonical.proofs.NamesRead.{name_read}
+use Rattle.avro_canonical.proofs.Words.{by_word, none_apart}
 
 mutual
   pub laid_count : (known : Known) (next : ℕ) (f : Form) → length (laid known next f) ≡ nodes_in f
@@ -106,37 +105,29 @@ within_of next more h = lt-ltb next max_nodes (omega (arith, h))
 
 pub word_read : (word : List ℕ) (known : Known) (next : ℕ) (enclosing : List ℕ) → primitive_word (node_of_word word) ≡ Some word → nat_lt next max_nodes ≡ true
     → meaning_of (Data.string word) enclosing known next ≡ made known next (Form.primitive word)
-word_read word known next enclosing h within = of_node (node_of_word word) h
-  where
-    at : (it : List ℕ) → it ≡ word → meaning_of (Data.string it) enclosing known next ≡ made known next (Form.primitive it)
-        → meaning_of (Data.string word) enclosing known next ≡ made known next (Form.primitive word)
-    at it e t = subst (λ x. meaning_of (Data.string x) enclosing known next ≡ made known next (Form.primitive x)) e t
-
-    of_node : (n : Node) → primitive_word n ≡ Some word → meaning_of (Data.string word) enclosing known next ≡ made known next (Form.primitive word)
-    of_node Node.null e = at (codes "null") (some-is e) (rw within refl)
-    of_node Node.boolean e = at (codes "boolean") (some-is e) (rw within refl)
-    of_node Node.int e = at (codes "int") (some-is e) (rw within refl)
-    of_node Node.long e = at (codes "long") (some-is e) (rw within refl)
-    of_node Node.bytes e = at (codes "bytes") (some-is e) (rw within refl)
-    of_node Node.string e = at (codes "string") (some-is e) (rw within refl)
-    of_node (Node.array place) e = absurd (some_apart e)
-    of_node (Node.map_of place) e = absurd (some_apart e)
-    of_node (Node.union ps) e = absurd (some_apart e)
-    of_node (Node.record_of name aliases fields) e = absurd (some_apart e)
-    of_node (Node.enum name aliases symbols default) e = absurd (some_apart e)
-    of_node (Node.fixed name aliases count) e = absurd (some_apart e)
+word_read word known next enclosing h within =
+    by_word (λ n text. meaning_of (Data.string text) enclosing known next ≡ made known next (Form.primitive text))
+    (rw within refl) (rw within refl) (rw within refl) (rw within refl) (rw within refl) (rw within refl) (node_of_word word) word h
 
 not_word : (name : Name) → is_full_name name ≡ true → (word : List ℕ) → name_of word [] ≡ None → bytes_eq (name_text name) word ≡ false
 not_word name full word none =
     (elim (bytes_eq (name_text name) word) as (λ b. bytes_eq (name_text name) word ≡ b → b ≡ false) [
-      | true ↦ λ e. absurd (some_apart (sym none ∙ ap (λ text. name_of text []) (sym ((bytes_eq-Decides (name_text name) word).0 e)) ∙ name_read name [] full (λ _. refl)))
+      | true ↦ λ e. absurd (none_apart (sym none ∙ ap (λ text. name_of text []) (sym ((bytes_eq-Decides (name_text name) word).0 e)) ∙ name_read name [] full (λ _. refl)))
       | false ↦ λ e. refl
     ]) refl
 
 name_no_word : (name : Name) → is_full_name name ≡ true → word_of (name_text name) ≡ type_name
 name_no_word name full =
-    rw (not_word name full (codes "null") refl, not_word name full (codes "boolean") refl, not_word name full (codes "int") refl, not_word name full (codes "long") refl,
-        not_word name full (codes "bytes") refl, not_word name full (codes "string") refl, not_word name full (codes "float") refl, not_word name full (codes "double") refl) refl
+    rw (
+      not_word name full (codes "null") refl,
+      not_word name full (codes "boolean") refl,
+      not_word name full (codes "int") refl,
+      not_word name full (codes "long") refl,
+      not_word name full (codes "bytes") refl,
+      not_word name full (codes "string") refl,
+      not_word name full (codes "float") refl,
+      not_word name full (codes "double") refl,
+    ) refl
 
 empty_is : (text : List ℕ) → is_empty_text text ≡ true → text ≡ []
 empty_is [] h = refl

@@ -3,6 +3,7 @@ mod NamesWritten
 mod StepsTaken
 mod OneText
 mod Rows
+mod Words
 mod NamesRead
 mod FormsWellMade
 mod TextParts

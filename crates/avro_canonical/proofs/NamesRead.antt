@@ -9,6 +9,7 @@ use Rattle.std.proofs.lemmas.List.Sums.{suffix_len_is}
 use Rattle.std.proofs.lemmas.Bool.{cond-true, cond-false, and_parts, and_from, not_from_true, not_from_false, not-true, false≢true}
 use Rattle.avro_name.specs.Name.{Name, is_name_start, is_name_character, is_simple_name, onto_first, dotted_parts, is_dotted_name, is_namespace, is_primitive_word, is_full_name, has_dot, split_name, name_of}
 use Rattle.avro_display.specs.DisplayTree.{name_text}
+use Rattle.avro_canonical.proofs.Words.{some-is}
 
 -- no character is q
 abbrev pub is_free_of : ℕ → List ℕ → Bool
@@ -85,9 +86,8 @@ tail_length q front text free =
     let tail = suffix_len_is (λ c. not (c == q)) (front ++ q ∷ text) (length front + 1) 0 (omega (arith, length-append front (q ∷ text)))
     (λ k above below. after_at q front text k free above below)
     (λ _. let place : length front ≡ length front + 1 - 1 = omega arith in
-          not_from_true _ (eq-eqb _ q (ap (λ k. get_or (front ++ q ∷ text) k 0) (sym place) ∙ get_or-append_seam front q text 0))) in
+    not_from_true _ (eq-eqb _ q (ap (λ k. get_or (front ++ q ∷ text) k 0) (sym place) ∙ get_or-append_seam front q text 0))) in
     omega (arith, tail, length-append front (q ∷ text))
-
 
 -- a text is cut at its last dot
 split_at_dot : (front text enclosing : List ℕ) → is_free_of 46 text ≡ true → split_name (front ++ 46 ∷ text) enclosing ≡ record { namespace = front; simple = text }
@@ -102,9 +102,6 @@ split_at_dot front text enclosing free =
     let dot : has_dot whole ≡ true = list_any-append (λ c. c == 46) front (46 ∷ text) ∙ or-true (has_dot front) in
     let parts : List ℕ → List ℕ → Name = λ namespace simple. record { namespace = namespace; simple = simple } in
     cond-true (has_dot whole) _ _ dot ∙ ap (λ namespace. parts namespace (after_last (λ c. c == 46) whole)) before ∙ ap (parts front) after
-
-pub some-is : {A : Type 0} {x y : A} → Some x ≡ Some y → x ≡ y
-some-is e = cc
 
 alone_dotted : (text : List ℕ) → is_simple_name text ≡ true → is_dotted_name text ≡ true
 alone_dotted text good = ap (list_all is_simple_name) (part_alone text (simple_free_of 46 refl text good)) ∙ and_from (is_simple_name text) true good refl
@@ -170,11 +167,11 @@ characters_pass (c ∷ cs) h =
     → ((is_name_character c || dot) && list_all is_full_character cs) ≡ true) [
       | true ↦ λ g. rw (or-true (is_name_character c)) (characters_pass cs g)
       | false ↦ λ g.
-            let cut : ((is_name_character c && list_all is_name_character some.0) && list_all (list_all is_name_character) some.1) ≡ true =
-            subst (λ parts. list_all (list_all is_name_character) (onto_first c parts) ≡ true) some.2 g in
-            let first = and_parts (is_name_character c && list_all is_name_character some.0) (list_all (list_all is_name_character) some.1) cut in
-            let here = and_parts (is_name_character c) (list_all is_name_character some.0) first.0 in
-            rw here.0 (characters_pass cs (rw some.2 (and_from (list_all is_name_character some.0) (list_all (list_all is_name_character) some.1) here.1 first.1)))
+          let cut : ((is_name_character c && list_all is_name_character some.0) && list_all (list_all is_name_character) some.1) ≡ true =
+          subst (λ parts. list_all (list_all is_name_character) (onto_first c parts) ≡ true) some.2 g in
+          let first = and_parts (is_name_character c && list_all is_name_character some.0) (list_all (list_all is_name_character) some.1) cut in
+          let here = and_parts (is_name_character c) (list_all is_name_character some.0) first.0 in
+          rw here.0 (characters_pass cs (rw some.2 (and_from (list_all is_name_character some.0) (list_all (list_all is_name_character) some.1) here.1 first.1)))
     ]) h
 
 -- a fullname's text has no quote

@@ -10,7 +10,7 @@ use Rattle.avro_schema.specs.Node.{Node, node_name, node_at}
 use Rattle.avro_schema.specs.Distinct.{are_distinct}
 use Rattle.avro_canonical.specs.Canonical.{is_among}
 use Rattle.avro_canonical.specs.Pending.{is_name_written, is_written, marks_of}
-use Rattle.avro_canonical.proofs.NamesRead.{some-is}
+use Rattle.avro_canonical.proofs.Words.{some-is}
 
 pub same-refl : (a : Name) → same_name a a ≡ true
 same-refl a = rw ((bytes_eq-Decides a.namespace a.namespace).1 refl, (bytes_eq-Decides a.simple a.simple).1 refl) refl
@@ -51,11 +51,11 @@ none-yet (Some name ∷ os) = ap (λ marks. false ∷ marks) (none-yet os)
 pub no_marks_yet : (nodes : List Node) → replicate (length nodes) false ≡ marks_of [] nodes
 no_marks_yet nodes = rw (marks-seen [] nodes, ← none-yet (map node_name nodes), length-map nodes node_name) refl
 
-or-left : (a b : Bool) → (a || b) ≡ false → a ≡ false
+pub or-left : (a b : Bool) → (a || b) ≡ false → a ≡ false
 or-left false b h = refl
 or-left true b h = h
 
-or-right : (a b : Bool) → (a || b) ≡ false → b ≡ false
+pub or-right : (a b : Bool) → (a || b) ≡ false → b ≡ false
 or-right false b h = h
 or-right true b h = absurd (false≢true (sym h))
 

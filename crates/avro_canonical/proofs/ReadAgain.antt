@@ -17,12 +17,12 @@ use Rattle.avro_canonical.specs.CanonicalTree.{text_items, form_tree, form_trees
 use Rattle.avro_canonical.specs.inside.WellMade.{node_of_word, WellMade, AreWellMade, FieldsWellMade}
 use Rattle.avro_canonical.specs.inside.Laid.{known_after, laid_place, laid_fields, laid, laid_all, laid_in_fields, raw_field, raw_node, raw_nodes}
 use Rattle.avro_canonical.proofs.FormsWellMade.{good_at, well_made}
-use Rattle.avro_canonical.proofs.FormsAlike.{some_apart}
 use Rattle.avro_canonical.proofs.LaidRead.{made, laid_count}
 use Rattle.avro_canonical.proofs.FormsRead.{form_read}
 use Rattle.avro_canonical.proofs.LaidForms.{laid_form}
 use Rattle.avro_canonical.proofs.LaidGood.{good_laid}
 use Rattle.avro_canonical.proofs.LaidNames.{laid_distinct}
+use Rattle.avro_canonical.proofs.Words.{by_word, none_apart}
 
 mutual
   whole_floats : (f : Form) → has_float (form_tree f) ≡ false
@@ -49,18 +49,8 @@ mutual
 
 -- the nodes that are laid have no defaults
 word_whole : (bare : List Node) (n : Node) (word : List ℕ) → primitive_word n ≡ Some word → (whole_node bare (raw_node n) ≡ n) × (are_defaults_read bare (raw_node n) ≡ true)
-word_whole bare Node.null word e = (refl, refl)
-word_whole bare Node.boolean word e = (refl, refl)
-word_whole bare Node.int word e = (refl, refl)
-word_whole bare Node.long word e = (refl, refl)
-word_whole bare Node.bytes word e = (refl, refl)
-word_whole bare Node.string word e = (refl, refl)
-word_whole bare (Node.array place) word e = (refl, refl)
-word_whole bare (Node.map_of place) word e = (refl, refl)
-word_whole bare (Node.union places) word e = (refl, refl)
-word_whole bare (Node.record_of name aliases fields) word e = absurd (some_apart e)
-word_whole bare (Node.enum name aliases symbols default) word e = absurd (some_apart e)
-word_whole bare (Node.fixed name aliases count) word e = absurd (some_apart e)
+word_whole bare =
+    by_word (λ n word. (whole_node bare (raw_node n) ≡ n) × (are_defaults_read bare (raw_node n) ≡ true)) (refl, refl) (refl, refl) (refl, refl) (refl, refl) (refl, refl) (refl, refl)
 
 fields_whole : (bare : List Node) (known : Known) (next : ℕ) (fs : FieldForms) → map (whole_field bare) (map raw_field (laid_fields known next fs)) ≡ laid_fields known next fs
 fields_whole bare known next no_fields = refl
@@ -82,7 +72,7 @@ whole_then bare n nodes one read rest =
 whole_append : (bare xs ys : List Node) → AreWhole bare xs → AreWhole bare ys → AreWhole bare (xs ++ ys)
 whole_append bare xs ys first later = (
   ap (map (whole_node bare)) (map-append raw_node xs ys) ∙ map-append (whole_node bare) (raw_nodes xs) (raw_nodes ys)
-  ∙ ap (λ ms. ms ++ map (whole_node bare) (raw_nodes ys)) first.0 ∙ ap (λ ms. xs ++ ms) later.0,
+      ∙ ap (λ ms. ms ++ map (whole_node bare) (raw_nodes ys)) first.0 ∙ ap (λ ms. xs ++ ms) later.0,
   ap (list_all (are_defaults_read bare)) (map-append raw_node xs ys) ∙ list_all-append (are_defaults_read bare) (raw_nodes xs) (raw_nodes ys) ∙ and_from _ _ first.1 later.1,
 )
 
@@ -141,7 +131,7 @@ laid_schema f good few =
     let positive = some_nodes f good in
     and_from _ _
     (and_from _ _ (and_from _ _ (lt-ltb 0 (length nodes) (omega (arith, count, positive))) (le-leb (length nodes) max_nodes (omega (arith, count, few))))
-      (good_laid nodes f [] [] 0 [] good (λ name. refl) (λ name p e. absurd (some_apart e)) (sym (append-nil nodes))))
+    (good_laid nodes f [] [] 0 [] good (λ name. refl) (λ name p e. absurd (none_apart e)) (sym (append-nil nodes))))
     (laid_distinct f [] 0 good)
 
 declared_as : (tree : Data) (it : Made ℕ) (nodes : List Node) → has_float tree ≡ false → made_of tree ≡ it → it.faults ≡ [] → whole_nodes it.nodes ≡ nodes → is_schema nodes ≡ true
@@ -154,14 +144,13 @@ read_again nodes text formed c kept few =
     let f = c.form in
     let good = well_made formed (good_at nodes formed 0) c.formed in
     let again = laid [] 0 f in
-    let whole = laid_whole (bare_nodes (raw_nodes again)) f [] [] 0 good in
-    (
+    let whole = laid_whole (bare_nodes (raw_nodes again)) f [] [] 0 good in (
       again,
       declared_as (form_tree f) (made [] 0 f) again (whole_floats f) (form_read f [] [] 0 [] good (λ name. refl) kept (omega (arith, few))) refl whole.0 (laid_schema f good few) whole.1,
       record {
         form = f;
         formed = subst (λ p. IsForm again [] (node_at again p) f) (root_place f)
-            (laid_form again f [] [] 0 [] good (λ name. refl) (λ name p e. absurd (some_apart e)) (sym (append-nil again)));
+            (laid_form again f [] [] 0 [] good (λ name. refl) (λ name p e. absurd (none_apart e)) (sym (append-nil again)));
         spelled = c.spelled;
       },
     )

@@ -1,10 +1,9 @@
 -- Worked trees of canonical texts, and what they declare: computed.
-use Rattle.std.proofs.Common.{◌≡◌, ℕ, List, [], ◌∷◌, true, false, refl, Some, None, codes}
-use Rattle.avro_name.specs.Name.{Name}
+use Rattle.std.proofs.Common.{◌≡◌, [], ◌∷◌, true, false, refl, None, codes}
 use Rattle.avro_schema.specs.Node.{Node}
-use Rattle.serde_json.specs.Data.{Data, Items, no_items, item, Members, no_members, member}
+use Rattle.serde_json.specs.Data.{Data, no_members, member}
 use Rattle.avro_schema_json.specs.DeclaredSchema.{DeclaresSchema}
-use Rattle.avro_canonical.specs.Form.{Form, Forms, FieldForms, no_forms, form, no_fields, field}
+use Rattle.avro_canonical.specs.Form.{Form, no_forms, form, no_fields, field}
 use Rattle.avro_canonical.specs.CanonicalTree.{form_tree, nodes_in, keeps_names}
 use Rattle.avro_canonical.proofs.Rows.{named, simply}
 
@@ -33,7 +32,7 @@ names_are_kept = refl
 
 tree_of_map : form_tree (Form.map_of (Form.fixed (named (codes "b") (codes "F")) 3))
     ≡ Data.object (member (codes "type") (Data.string (codes "map")) (member (codes "values")
-      (form_tree (Form.fixed (named (codes "b") (codes "F")) 3)) no_members))
+    (form_tree (Form.fixed (named (codes "b") (codes "F")) 3)) no_members))
 tree_of_map = refl
 
 node_list_read : DeclaresSchema (form_tree node_list)

@@ -13,7 +13,7 @@ use Rattle.avro_canonical.proofs.FormsAlike.{same_at_roots}
 form_shared : (a b : List Node) (text : List ℕ) → is_schema a ≡ true → is_schema b ≡ true → (x : IsCanonical a text) → (y : IsCanonical b text) → x.form ≡ y.form
 form_shared a b text first second x y =
     (same_form x.form [] (well_made first (good_at a first 0) x.formed) y.form [] (well_made second (good_at b second 0) y.formed) [] []
-      (ap (λ t. t ++ []) (sym x.spelled ∙ y.spelled))).0
+    (ap (λ t. t ++ []) (sym x.spelled ∙ y.spelled))).0
 
 pub same_encodings : (nodes others : List Node) (text : List ℕ) → is_schema nodes ≡ true → is_schema others ≡ true → IsCanonical nodes text → IsCanonical others text
     → (v : Value) (bytes : List ℕ) → Encodes nodes (root_of nodes) v bytes ↔ Encodes others (root_of others) v bytes

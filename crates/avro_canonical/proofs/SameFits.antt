@@ -99,4 +99,3 @@ mutual
   same_fields a b closed (value v vs) [] [] no_places = refl
   same_fields a b closed (value v vs) (p ∷ ps) (q ∷ qs) (places r rs) =
       ap (λ t. t && fields_fit a ps vs) (same_fit a b closed v p q r) ∙ ap (λ t. fits b (node_at b q) v && t) (same_fields a b closed vs ps qs rs)
-

@@ -82,47 +82,47 @@ by_record : (name : Name) (fs : FieldForms) (g : Form) (w : List Name) → is_fu
     → (r s : List ℕ) → form_text (Form.record_of name fs) ++ r ≡ form_text g ++ s → Same (Form.record_of name fs) g r s
 by_record name fs g w full same made (of_record {name = other} {fs = gs}) r s e =
     let cut = head_cut (name_text name) (name_text other) record_text record_text (with_commas (field_texts fs)) (with_commas (field_texts gs))
-        (codes "]}") (codes "]}") r s (name_free name full) (name_free other made.1) e in
+    (codes "]}") (codes "]}") r s (name_free name full) (name_free other made.1) e in
     let here = same gs (other ∷ w) made.3 (names_simple (names_of gs) made.2) (125 ∷ r) (125 ∷ s) (append_cancel_left record_text _ _ cut.1) in
     (ap (λ it. Form.record_of it fs) (names_same name other full made.1 cut.0) ∙ ap (λ its. Form.record_of other its) here.0, rest-is here.1)
 by_record name fs g w full same made (of_enum {name = other} {symbols = symbols}) r s e =
     let cut = head_cut (name_text name) (name_text other) record_text enum_text (with_commas (field_texts fs)) (with_commas (map quoted symbols))
-        (codes "]}") (codes "]}") r s (name_free name full) (name_free other made.1) e in
+    (codes "]}") (codes "]}") r s (name_free name full) (name_free other made.1) e in
     absurd (types_apart _ _ cut.1 refl)
 by_record name fs g w full same made (of_fixed {name = other} {count = count}) r s e =
     let cut = head_cut (name_text name) (name_text other) record_text fixed_text (with_commas (field_texts fs)) (decimal count)
-        (codes "]}") (codes "}") r s (name_free name full) (name_free other made.1) e in
+    (codes "]}") (codes "}") r s (name_free name full) (name_free other made.1) e in
     absurd (types_apart _ _ cut.1 refl)
 
 by_enum : (name : Name) (symbols : List (List ℕ)) (g : Form) (w : List Name) → is_full_name name ≡ true → is_enum symbols None ≡ true → WellMade w g → IsOf defined_kind g
     → (r s : List ℕ) → form_text (Form.enum name symbols) ++ r ≡ form_text g ++ s → Same (Form.enum name symbols) g r s
 by_enum name symbols g w full good made (of_record {name = other} {fs = gs}) r s e =
     let cut = head_cut (name_text name) (name_text other) enum_text record_text (with_commas (map quoted symbols)) (with_commas (field_texts gs))
-        (codes "]}") (codes "]}") r s (name_free name full) (name_free other made.1) e in
+    (codes "]}") (codes "]}") r s (name_free name full) (name_free other made.1) e in
     absurd (types_apart _ _ cut.1 refl)
 by_enum name symbols g w full good made (of_enum {name = other} {symbols = others}) r s e =
     let cut = head_cut (name_text name) (name_text other) enum_text enum_text (with_commas (map quoted symbols)) (with_commas (map quoted others))
-        (codes "]}") (codes "]}") r s (name_free name full) (name_free other made.1) e in
+    (codes "]}") (codes "]}") r s (name_free name full) (name_free other made.1) e in
     let here = all_symbols symbols others (125 ∷ r) (125 ∷ s) (symbols_named symbols good) (symbols_named others made.2) (append_cancel_left enum_text _ _ cut.1) in
     (ap (λ it. Form.enum it symbols) (names_same name other full made.1 cut.0) ∙ ap (λ its. Form.enum other its) here.0, rest-is here.1)
 by_enum name symbols g w full good made (of_fixed {name = other} {count = count}) r s e =
     let cut = head_cut (name_text name) (name_text other) enum_text fixed_text (with_commas (map quoted symbols)) (decimal count)
-        (codes "]}") (codes "}") r s (name_free name full) (name_free other made.1) e in
+    (codes "]}") (codes "}") r s (name_free name full) (name_free other made.1) e in
     absurd (types_apart _ _ cut.1 refl)
 
 by_fixed : (name : Name) (count : ℕ) (g : Form) (w : List Name) → is_full_name name ≡ true → nat_le count max_count ≡ true → WellMade w g → IsOf defined_kind g
     → (r s : List ℕ) → form_text (Form.fixed name count) ++ r ≡ form_text g ++ s → Same (Form.fixed name count) g r s
 by_fixed name count g w full small made (of_record {name = other} {fs = gs}) r s e =
     let cut = head_cut (name_text name) (name_text other) fixed_text record_text (decimal count) (with_commas (field_texts gs))
-        (codes "}") (codes "]}") r s (name_free name full) (name_free other made.1) e in
+    (codes "}") (codes "]}") r s (name_free name full) (name_free other made.1) e in
     absurd (types_apart _ _ cut.1 refl)
 by_fixed name count g w full small made (of_enum {name = other} {symbols = others}) r s e =
     let cut = head_cut (name_text name) (name_text other) fixed_text enum_text (decimal count) (with_commas (map quoted others))
-        (codes "}") (codes "]}") r s (name_free name full) (name_free other made.1) e in
+    (codes "}") (codes "]}") r s (name_free name full) (name_free other made.1) e in
     absurd (types_apart _ _ cut.1 refl)
 by_fixed name count g w full small made (of_fixed {name = other} {count = number}) r s e =
     let cut = head_cut (name_text name) (name_text other) fixed_text fixed_text (decimal count) (decimal number)
-        (codes "}") (codes "}") r s (name_free name full) (name_free other made.1) e in
+    (codes "}") (codes "}") r s (name_free name full) (name_free other made.1) e in
     let one = small_count count small in
     let two = small_count number made.2 in
     let here = until 125 (decimal count) (decimal number) r s (decimal_free count one) (decimal_free number two) (append_cancel_left fixed_text _ _ cut.1) in
@@ -153,8 +153,8 @@ one_field : (name other : List ℕ) (f h : Form) (u v r s : List ℕ) → is_sim
     → (field_text name f ++ u) ++ 93 ∷ r ≡ (field_text other h ++ v) ++ 93 ∷ s → (name ≡ other) × (f ≡ h) × (u ++ 93 ∷ r ≡ v ++ 93 ∷ s)
 one_field name other f h u v r s first second same w made e =
     let cut = head_cut name other (codes ",\"type\":") (codes ",\"type\":") (form_text f) (form_text h) (codes "}") (codes "}") (u ++ 93 ∷ r) (v ++ 93 ∷ s)
-        (simple_free_of 34 refl name first) (simple_free_of 34 refl other second)
-        (sym (append_assoc (field_text name f) u (93 ∷ r)) ∙ e ∙ append_assoc (field_text other h) v (93 ∷ s)) in
+    (simple_free_of 34 refl name first) (simple_free_of 34 refl other second)
+    (sym (append_assoc (field_text name f) u (93 ∷ r)) ∙ e ∙ append_assoc (field_text other h) v (93 ∷ s)) in
     let here = same h w made (125 ∷ u ++ 93 ∷ r) (125 ∷ v ++ 93 ∷ s) (append_cancel_left (codes ",\"type\":") _ _ cut.1) in
     (cut.0, here.0, rest-is here.1)
 

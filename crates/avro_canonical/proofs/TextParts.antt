@@ -9,13 +9,13 @@ use Rattle.std.proofs.lemmas.Fmt.{digits_decimal}
 use Rattle.std.proofs.lemmas.Str.Parse.{numerals_by_value, tells_all_ascii_digits}
 use Rattle.avro_name.specs.Name.{Name, is_full_name, is_simple_name, name_of}
 use Rattle.avro_schema.specs.Distinct.{are_distinct}
-use Rattle.avro_schema.specs.Node.{Node}
 use Rattle.avro_schema.specs.WellFormed.{is_enum, max_count}
 use Rattle.avro_display.specs.DisplayTree.{name_text}
 use Rattle.avro_canonical.specs.Form.{Form, Forms, FieldForms, quoted, after_commas, with_commas, form_text}
 use Rattle.avro_canonical.specs.Canonical.{primitive_word}
 use Rattle.avro_canonical.specs.inside.WellMade.{node_of_word}
-use Rattle.avro_canonical.proofs.NamesRead.{is_free_of, free_of, simple_free_of, name_read, some-is}
+use Rattle.avro_canonical.proofs.NamesRead.{is_free_of, free_of, simple_free_of, name_read}
+use Rattle.avro_canonical.proofs.Words.{by_word, none_apart}
 
 -- what a text begins with
 pub data Kind : Type 0 where
@@ -81,9 +81,6 @@ rest-is e = cc
 pub first-is : {x y : ℕ} {xs ys : List ℕ} → x ∷ xs ≡ y ∷ ys → x ≡ y
 first-is e = cc
 
-pub some_none : {A : Type 0} {x : A} → None ≡ Some x → ⊥
-some_none e = cc
-
 pub apart : {x y : ℕ} {xs ys : List ℕ} → x ∷ xs ≡ y ∷ ys → (x == y) ≡ false → ⊥
 apart {x = x} {y = y} e h = false≢true (sym h ∙ eq-eqb x y (first-is e))
 
@@ -128,7 +125,7 @@ more_symbols (x ∷ xs) (y ∷ ys) r s first second e =
     let one = and_parts (is_simple_name x) (list_all is_simple_name xs) first in
     let two = and_parts (is_simple_name y) (list_all is_simple_name ys) second in
     let here = until_quote x y (after_commas (map quoted xs) ++ 93 ∷ r) (after_commas (map quoted ys) ++ 93 ∷ s) (simple_free_of 34 refl x one.0) (simple_free_of 34 refl y two.0)
-        (sym (append_assoc (quoted x) (after_commas (map quoted xs)) (93 ∷ r)) ∙ rest-is e ∙ append_assoc (quoted y) (after_commas (map quoted ys)) (93 ∷ s)) in
+    (sym (append_assoc (quoted x) (after_commas (map quoted xs)) (93 ∷ r)) ∙ rest-is e ∙ append_assoc (quoted y) (after_commas (map quoted ys)) (93 ∷ s)) in
     let later = more_symbols xs ys r s one.1 two.1 here.1 in
     (ap (λ it. it ∷ xs) here.0 ∙ ap (λ its. y ∷ its) later.0, later.1)
 
@@ -150,41 +147,12 @@ pub small_count : (count : ℕ) → nat_le count max_count ≡ true → count < 
 small_count count h = omega (arith, leb-true count max_count h)
 
 pub word_free : (word : List ℕ) → primitive_word (node_of_word word) ≡ Some word → is_free_of 34 word ≡ true
-word_free word h = of_node (node_of_word word) h
-  where
-    of_node : (n : Node) → primitive_word n ≡ Some word → is_free_of 34 word ≡ true
-    of_node Node.null e = ap (is_free_of 34) (sym (some-is e))
-    of_node Node.boolean e = ap (is_free_of 34) (sym (some-is e))
-    of_node Node.int e = ap (is_free_of 34) (sym (some-is e))
-    of_node Node.long e = ap (is_free_of 34) (sym (some-is e))
-    of_node Node.bytes e = ap (is_free_of 34) (sym (some-is e))
-    of_node Node.string e = ap (is_free_of 34) (sym (some-is e))
-    of_node (Node.array place) e = absurd (some_none e)
-    of_node (Node.map_of place) e = absurd (some_none e)
-    of_node (Node.union places) e = absurd (some_none e)
-    of_node (Node.record_of name aliases fields) e = absurd (some_none e)
-    of_node (Node.enum name aliases symbols default) e = absurd (some_none e)
-    of_node (Node.fixed name aliases count) e = absurd (some_none e)
+word_free word = by_word (λ n text. is_free_of 34 text ≡ true) refl refl refl refl refl refl (node_of_word word) word
 
 -- no name is read from the word of a primitive type
-pub word_no_name : (word : List ℕ) → primitive_word (node_of_word word) ≡ Some word → name_of word [] ≡ None
-word_no_name word h = of_node (node_of_word word) h
-  where
-    of_node : (n : Node) → primitive_word n ≡ Some word → name_of word [] ≡ None
-    of_node Node.null e = ap (λ it. name_of it []) (sym (some-is e))
-    of_node Node.boolean e = ap (λ it. name_of it []) (sym (some-is e))
-    of_node Node.int e = ap (λ it. name_of it []) (sym (some-is e))
-    of_node Node.long e = ap (λ it. name_of it []) (sym (some-is e))
-    of_node Node.bytes e = ap (λ it. name_of it []) (sym (some-is e))
-    of_node Node.string e = ap (λ it. name_of it []) (sym (some-is e))
-    of_node (Node.array place) e = absurd (some_none e)
-    of_node (Node.map_of place) e = absurd (some_none e)
-    of_node (Node.union places) e = absurd (some_none e)
-    of_node (Node.record_of name aliases fields) e = absurd (some_none e)
-    of_node (Node.enum name aliases symbols default) e = absurd (some_none e)
-    of_node (Node.fixed name aliases count) e = absurd (some_none e)
+word_no_name : (word : List ℕ) → primitive_word (node_of_word word) ≡ Some word → name_of word [] ≡ None
+word_no_name word = by_word (λ n text. name_of text [] ≡ None) refl refl refl refl refl refl (node_of_word word) word
 
 pub word_or_name : (word : List ℕ) (name : Name) → primitive_word (node_of_word word) ≡ Some word → is_full_name name ≡ true → word ≡ name_text name → ⊥
 word_or_name word name h full e =
-    some_none (sym (word_no_name word h) ∙ ap (λ text. name_of text []) e ∙ name_read name [] full (λ _. refl))
-
+    none_apart (sym (word_no_name word h) ∙ ap (λ text. name_of text []) e ∙ name_read name [] full (λ _. refl))
