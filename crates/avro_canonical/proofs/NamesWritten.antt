@@ -1,5 +1,5 @@
 -- The marks of nodes whose names are written.
-use Rattle.std.proofs.Common.{subst, ◌≡◌, ℕ, zero, suc, List, [], ◌∷◌, refl, ap, ◌∙◌, sym, true, false, Bool, ◌&&◌, ◌||◌, not, Some, None, Option, map, filter_map, length, replicate, slice_set, slice_get, option_map, bytes_eq, ◌<◌, nat_lt, unwrap_or}
+use Rattle.std.proofs.Common.{subst, ◌≡◌, ℕ, zero, suc, List, [], ◌∷◌, refl, ap, ◌∙◌, sym, true, false, Bool, ◌||◌, not, Some, None, Option, map, filter_map, length, replicate, slice_set, slice_get, option_map, bytes_eq, unwrap_or}
 use Rattle.std.proofs.lemmas.Slice.Eq.{bytes_eq-Decides}
 use Rattle.std.proofs.lemmas.Bool.{false≢true, and_parts, not-true}
 use Rattle.std.proofs.lemmas.Option.{slice_get-map, none-some}
