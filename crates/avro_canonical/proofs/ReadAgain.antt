@@ -1,17 +1,17 @@
 -- The tree of a canonical text declares a schema of that text.
-use Rattle.std.proofs.Common.{◌≡◌, ◌<◌, ◌≤◌, ℕ, suc, ◌+◌, true, false, List, [], ◌∷◌, ◌++◌, Some, None, refl, sym, ◌∙◌, ap, subst, arith, map, length}
+use Rattle.std.proofs.Common.{◌↔◌, ◌≡◌, ◌<◌, ◌≤◌, ℕ, suc, ◌+◌, true, false, List, [], ◌∷◌, ◌++◌, Some, None, refl, sym, ◌∙◌, ap, subst, arith, map, length}
 use Rattle.std.specs.List.{list_all}
 use Rattle.std.proofs.lemmas.Bool.{and_from, false≢true, lt-ltb, le-leb}
 use Rattle.std.proofs.lemmas.List.{append-nil, map-append}
 use Rattle.std.proofs.lemmas.List.Folds.{list_all-append}
 use Rattle.avro_name.specs.Name.{Name}
-use Rattle.avro_schema.specs.Node.{Node, node_at}
+use Rattle.avro_schema.specs.Node.{Node, node_at, root_of}
 use Rattle.avro_schema.specs.WellFormed.{is_schema, max_nodes}
 use Rattle.serde_json.specs.Data.{Data}
 use Rattle.serde_json.specs.Written.{has_float, items_have_float}
 use Rattle.avro_schema_json.specs.Declares.{Known, Made, made_of, defining}
 use Rattle.avro_schema_json.specs.DeclaredSchema.{declared, DeclaresSchema, whole_field, whole_node, whole_nodes, is_default_read, are_defaults_read, are_all_defaults_read, bare_nodes}
-use Rattle.avro_canonical.specs.Form.{Form, Forms, FieldForms, no_forms, form, no_fields, field}
+use Rattle.avro_canonical.specs.Form.{Form, Forms, FieldForms, no_forms, form, no_fields, field, form_text}
 use Rattle.avro_canonical.specs.Canonical.{IsForm, IsCanonical, primitive_word}
 use Rattle.avro_canonical.specs.CanonicalTree.{text_items, form_tree, form_trees, field_trees, nodes_in, keeps_names}
 use Rattle.avro_canonical.specs.inside.WellMade.{node_of_word, WellMade, AreWellMade, FieldsWellMade}
@@ -23,6 +23,9 @@ use Rattle.avro_canonical.proofs.LaidForms.{laid_form}
 use Rattle.avro_canonical.proofs.LaidGood.{good_laid}
 use Rattle.avro_canonical.proofs.LaidNames.{laid_distinct}
 use Rattle.avro_canonical.proofs.Words.{by_word, none_apart}
+use Rattle.avro_schema.specs.Value.{Value}
+use Rattle.avro_binary.specs.Encoding.{Encodes}
+use Rattle.avro_canonical.proofs.SameEncodings.{same_encodings}
 
 mutual
   whole_floats : (f : Form) → has_float (form_tree f) ≡ false
@@ -138,19 +141,29 @@ declared_as : (tree : Data) (it : Made ℕ) (nodes : List Node) → has_float tr
     → are_all_defaults_read it.nodes ≡ true → declared tree ≡ Some nodes
 declared_as tree it nodes numbers makes clean whole formed defaults = rw (numbers, makes, clean, whole, formed, defaults) refl
 
+-- the nodes that are laid have the same canonical text
+laid_text : (f : Form) (text : List ℕ) → WellMade [] f → text ≡ form_text f → IsCanonical (laid [] 0 f) text
+laid_text f text good spelled =
+    let again = laid [] 0 f in
+    record {
+      form = f;
+      formed = subst (λ p. IsForm again [] (node_at again p) f) (root_place f)
+          (laid_form again f [] [] 0 [] good (λ name. refl) (λ name p e. absurd (none_apart e)) (sym (append-nil again)));
+      spelled = spelled;
+    }
+
 pub read_again : (nodes : List Node) (text : List ℕ) → is_schema nodes ≡ true → (c : IsCanonical nodes text) → keeps_names [] c.form ≡ true → nodes_in c.form ≤ max_nodes
     → (again : List Node) × DeclaresSchema (form_tree c.form) again × IsCanonical again text
+    × ((v : Value) (bytes : List ℕ) → Encodes nodes (root_of nodes) v bytes ↔ Encodes again (root_of again) v bytes)
 read_again nodes text formed c kept few =
     let f = c.form in
     let good = well_made formed (good_at nodes formed 0) c.formed in
     let again = laid [] 0 f in
-    let whole = laid_whole (bare_nodes (raw_nodes again)) f [] [] 0 good in (
+    let whole = laid_whole (bare_nodes (raw_nodes again)) f [] [] 0 good in
+    let schema = laid_schema f good few in
+    let same = laid_text f text good c.spelled in (
       again,
-      declared_as (form_tree f) (made [] 0 f) again (whole_floats f) (form_read f [] [] 0 [] good (λ name. refl) kept (omega (arith, few))) refl whole.0 (laid_schema f good few) whole.1,
-      record {
-        form = f;
-        formed = subst (λ p. IsForm again [] (node_at again p) f) (root_place f)
-            (laid_form again f [] [] 0 [] good (λ name. refl) (λ name p e. absurd (none_apart e)) (sym (append-nil again)));
-        spelled = c.spelled;
-      },
+      declared_as (form_tree f) (made [] 0 f) again (whole_floats f) (form_read f [] [] 0 [] good (λ name. refl) kept (omega (arith, few))) refl whole.0 schema whole.1,
+      same,
+      same_encodings nodes again text formed schema c same,
     )

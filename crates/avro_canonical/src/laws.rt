@@ -27,10 +27,11 @@ pub fn same_encodings()
 {}
 
 /// A canonical form, read as the declaration that it is, declares a schema of the same canonical
-/// form: where no type of the null namespace is defined or referred to inside a definition of
+/// form and the same encodings: where no type of the null namespace is defined or referred to inside a definition of
 /// another namespace, and the nodes that are declared are within their limit.
 pub fn read_again()
     ensures { (nodes : List Node) (text : List ℕ) → is_schema nodes ≡ true → (it : IsCanonical nodes text)
         → keeps_names [] it.form ≡ true → nodes_in it.form ≤ max_nodes
-        → (again : List Node) × DeclaresSchema (form_tree it.form) again × IsCanonical again text }
+        → (again : List Node) × DeclaresSchema (form_tree it.form) again × IsCanonical again text
+        × ((v : Value) (bytes : List ℕ) → Encodes nodes (root_of nodes) v bytes ↔ Encodes again (root_of again) v bytes) }
 {}
