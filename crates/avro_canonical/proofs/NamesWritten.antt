@@ -1,5 +1,5 @@
 -- The marks of nodes whose names are written.
-use Rattle.std.proofs.Common.{subst, ◌≡◌, ℕ, zero, suc, List, [], ◌∷◌, refl, ap, ◌∙◌, sym, true, false, Bool, ◌&&◌, ◌||◌, not, Some, None, Option, map, filter_map, length, replicate, slice_set, slice_get, option_map, bytes_eq, ◌<◌, nat_lt, unwrap_or}
+use Rattle.std.proofs.Common.{subst, ◌≡◌, ℕ, zero, suc, List, [], ◌∷◌, refl, ap, ◌∙◌, sym, true, false, Bool, ◌||◌, not, Some, None, Option, map, filter_map, length, replicate, slice_set, slice_get, option_map, bytes_eq, unwrap_or}
 use Rattle.std.proofs.lemmas.Slice.Eq.{bytes_eq-Decides}
 use Rattle.std.proofs.lemmas.Bool.{false≢true, and_parts, not-true}
 use Rattle.std.proofs.lemmas.Option.{slice_get-map, none-some}
@@ -10,6 +10,7 @@ use Rattle.avro_schema.specs.Node.{Node, node_name, node_at}
 use Rattle.avro_schema.specs.Distinct.{are_distinct}
 use Rattle.avro_canonical.specs.Canonical.{is_among}
 use Rattle.avro_canonical.specs.Pending.{is_name_written, is_written, marks_of}
+use Rattle.avro_canonical.proofs.Words.{some-is}
 
 pub same-refl : (a : Name) → same_name a a ≡ true
 same-refl a = rw ((bytes_eq-Decides a.namespace a.namespace).1 refl, (bytes_eq-Decides a.simple a.simple).1 refl) refl
@@ -34,7 +35,7 @@ named_or name written other apart = rw (same-sym other name, apart) refl
 names_in : List (Option Name) → List Name
 names_in os = filter_map (λ o. o) os
 
-names-seen : (ns : List Node) → filter_map node_name ns ≡ filter_map (λ o. o) (map node_name ns)
+pub names-seen : (ns : List Node) → filter_map node_name ns ≡ filter_map (λ o. o) (map node_name ns)
 names-seen [] = refl
 names-seen (n ∷ ns) = rw (names-seen ns) refl
 
@@ -50,19 +51,24 @@ none-yet (Some name ∷ os) = ap (λ marks. false ∷ marks) (none-yet os)
 pub no_marks_yet : (nodes : List Node) → replicate (length nodes) false ≡ marks_of [] nodes
 no_marks_yet nodes = rw (marks-seen [] nodes, ← none-yet (map node_name nodes), length-map nodes node_name) refl
 
-or-left : (a b : Bool) → (a || b) ≡ false → a ≡ false
+pub or-left : (a b : Bool) → (a || b) ≡ false → a ≡ false
 or-left false b h = refl
 or-left true b h = h
 
-or-right : (a b : Bool) → (a || b) ≡ false → b ≡ false
+pub or-right : (a b : Bool) → (a || b) ≡ false → b ≡ false
 or-right false b h = h
 or-right true b h = absurd (false≢true (sym h))
 
 no_none : {A : Type 0} {x : A} → Some x ≡ None → ⊥
 no_none {x = x} e = none-some x (sym e)
 
-some-is : {A : Type 0} {x y : A} → Some x ≡ Some y → x ≡ y
-some-is e = cc
+found-name : (name : Name) (o : Option Node) → node_name (unwrap_or o Node.null) ≡ Some name → option_map node_name o ≡ Some (Some name)
+found-name name None h = absurd (none-some name h)
+found-name name (Some n) h = ap (λ it. Some it) h
+
+-- a type stands in the list
+pub named-at : (nodes : List Node) (p : ℕ) (name : Name) → node_name (node_at nodes p) ≡ Some name → slice_get (map node_name nodes) p ≡ Some (Some name)
+named-at nodes p name h = slice_get-map node_name nodes p ∙ found-name name (slice_get nodes p) h
 
 -- a name that is none of some changes none of their marks
 marks-apart : (name : Name) (written : List Name) (os : List (Option Name)) → list_any (same_name name) (filter_map (λ o. o) os) ≡ false
@@ -75,7 +81,7 @@ marks-apart name written (Some other ∷ os) apart =
     rw (named_or name written other this) (ap (λ marks. is_among other written ∷ marks) (marks-apart name written os later))
 
 -- a name that stands at a place is another than one that is apart from all
-apart-at : (name : Name) (os : List (Option Name)) (p : ℕ) (other : Name) → list_any (same_name name) (filter_map (λ o. o) os) ≡ false
+pub apart-at : (name : Name) (os : List (Option Name)) (p : ℕ) (other : Name) → list_any (same_name name) (filter_map (λ o. o) os) ≡ false
     → slice_get os p ≡ Some (Some other) → same_name name other ≡ false
 apart-at name [] p other apart at = absurd (no_none (sym at))
 apart-at name (None ∷ os) zero other apart at = absurd (no_none (some-is (sym at)))

@@ -1,37 +1,25 @@
 -- A schema has one canonical text.
-use Rattle.std.proofs.Common.{◌≡◌, ℕ, List, [], ◌∷◌, subst, refl, ap, ◌∙◌, sym, true, false, Bool, Some, None, Option}
+use Rattle.std.proofs.Common.{◌≡◌, ℕ, List, subst, refl, ap, ◌∙◌, sym, true, false, Some}
 use Rattle.std.proofs.lemmas.Bool.{false≢true}
 use Rattle.std.proofs.lemmas.Option.{none-some}
 use Rattle.avro_name.specs.Name.{Name}
 use Rattle.avro_schema.specs.Node.{Node, FieldNode, node_name}
-use Rattle.avro_canonical.specs.Form.{Form, Forms, FieldForms, no_forms, form, no_fields, field, form_text, written_after}
+use Rattle.avro_canonical.specs.Form.{Form, Forms, FieldForms, form, field, form_text, written_after}
 use Rattle.avro_canonical.specs.Canonical.{IsForm, AreForms, AreFieldForms, IsCanonical, primitive_word, is_among, no_branch, branch, no_field, next_field}
-
-same-some : {A : Type 0} {x y : A} → Some x ≡ Some y → x ≡ y
-same-some e = cc
+use Rattle.avro_canonical.proofs.Words.{some-is, by_word, none_apart}
 
 -- no primitive type has a name
 no-name : (n : Node) (word : List ℕ) (name : Name) → primitive_word n ≡ Some word → node_name n ≡ Some name → ⊥
-no-name Node.null word name h k = none-some name k
-no-name Node.boolean word name h k = none-some name k
-no-name Node.int word name h k = none-some name k
-no-name Node.long word name h k = none-some name k
-no-name Node.bytes word name h k = none-some name k
-no-name Node.string word name h k = none-some name k
-no-name (Node.array p) word name h k = none-some word h
-no-name (Node.map_of p) word name h k = none-some word h
-no-name (Node.union ps) word name h k = none-some word h
-no-name (Node.record_of own aliases xs) word name h k = none-some word h
-no-name (Node.enum own aliases symbols default) word name h k = none-some word h
-no-name (Node.fixed own aliases count) word name h k = none-some word h
+no-name n word name h =
+    by_word (λ m text. node_name m ≡ Some name → ⊥) (λ k. none_apart k) (λ k. none_apart k) (λ k. none_apart k) (λ k. none_apart k) (λ k. none_apart k) (λ k. none_apart k) n word h
 
 -- a name is not both written and not
 not-both : (own name : Name) (written : List Name) → is_among own written ≡ false → Some own ≡ Some name → is_among name written ≡ true → ⊥
-not-both own name written new same old = false≢true (sym new ∙ ap (λ it. is_among it written) (same-some same) ∙ old)
+not-both own name written new same old = false≢true (sym new ∙ ap (λ it. is_among it written) (some-is same) ∙ old)
 
 mutual
   one-form : {nodes : List Node} {written : List Name} {n : Node} {f g : Form} → IsForm nodes written n f → IsForm nodes written n g → f ≡ g
-  one-form (IsForm.primitive h) (IsForm.primitive k) = ap (λ w. Form.primitive w) (same-some (sym h ∙ k))
+  one-form (IsForm.primitive h) (IsForm.primitive k) = ap (λ w. Form.primitive w) (some-is (sym h ∙ k))
   one-form (IsForm.primitive h) (IsForm.array e) = absurd (none-some _ h)
   one-form (IsForm.primitive h) (IsForm.map_of e) = absurd (none-some _ h)
   one-form (IsForm.primitive h) (IsForm.union es) = absurd (none-some _ h)
@@ -57,7 +45,7 @@ mutual
   one-form (IsForm.fixed h) (IsForm.fixed k) = refl
   one-form (IsForm.fixed h) (IsForm.primitive k) = absurd (none-some _ k)
   one-form (IsForm.fixed h) (IsForm.again k old) = absurd (not-both _ _ _ h k old)
-  one-form (IsForm.again h old) (IsForm.again k more) = ap (λ name. Form.reference name) (same-some (sym h ∙ k))
+  one-form (IsForm.again h old) (IsForm.again k more) = ap (λ name. Form.reference name) (some-is (sym h ∙ k))
   one-form {n = n} (IsForm.again h old) (IsForm.primitive k) = absurd (no-name n _ _ k h)
   one-form (IsForm.again h old) (IsForm.array e) = absurd (none-some _ h)
   one-form (IsForm.again h old) (IsForm.map_of e) = absurd (none-some _ h)

@@ -1,15 +1,15 @@
 -- Worked canonical forms: computed.
-use Rattle.std.proofs.Common.{◌≡◌, ℕ, List, [], ◌∷◌, ◌++◌, refl, None, codes}
+use Rattle.std.proofs.Common.{ℕ, List, [], ◌∷◌, refl, None, codes}
 use Rattle.std.specs.Fmt.{digits}
 use Rattle.avro_name.specs.Name.{Name}
 use Rattle.avro_schema.specs.Node.{Node, FieldNode}
-use Rattle.avro_canonical.specs.Form.{Form, Forms, FieldForms, no_forms, form, no_fields, field, form_text}
-use Rattle.avro_canonical.specs.Canonical.{IsForm, AreForms, AreFieldForms, IsCanonical, no_branch, branch, no_field, next_field}
+use Rattle.avro_canonical.specs.Form.{Form, no_forms, form, no_fields, field}
+use Rattle.avro_canonical.specs.Canonical.{IsForm, IsCanonical, no_branch, branch, no_field, next_field}
 
-abbrev named : List ℕ → List ℕ → Name
+abbrev pub named : List ℕ → List ℕ → Name
 named namespace simple = record { namespace = namespace; simple = simple }
 
-abbrev simply : List ℕ → ℕ → FieldNode
+abbrev pub simply : List ℕ → ℕ → FieldNode
 simply name node = record { name = name; aliases = []; node = node; default = None }
 
 int_alone : IsCanonical (Node.int ∷ []) (codes "\"int\"")

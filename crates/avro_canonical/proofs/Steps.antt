@@ -1,10 +1,10 @@
 -- From what is left after a step to what was left before it.
-use Rattle.std.proofs.Common.{◌≡◌, ℕ, List, [], ◌∷◌, ◌++◌, refl, ap, ◌∙◌, sym, true, false, Bool, Some, None, Option, map, codes, decimal}
+use Rattle.std.proofs.Common.{◌≡◌, ℕ, List, [], ◌∷◌, ◌++◌, refl, ap, false, Some, None, Option, map, codes, decimal}
 use Rattle.avro_name.specs.Name.{Name}
-use Rattle.avro_schema.specs.Node.{Node, FieldNode, node_at, node_name}
-use Rattle.avro_canonical.specs.Form.{Form, Forms, FieldForms, no_forms, form, no_fields, field, full_text, quoted, form_text, form_texts, field_texts, after_commas, with_commas, written_after, written_after_all, written_after_fields}
-use Rattle.avro_canonical.specs.Canonical.{IsForm, AreForms, AreFieldForms, is_among, no_branch, branch, no_field, next_field}
-use Rattle.avro_canonical.specs.Pending.{Pending, place, branches, fields, end, head_text, IsLeft, is_written, opening_of, opening_of_first, parts_of, first_field, first_branch}
+use Rattle.avro_schema.specs.Node.{Node, FieldNode, node_name}
+use Rattle.avro_canonical.specs.Form.{Form, no_forms, form, no_fields, field, full_text, quoted, form_text, form_texts, field_texts, after_commas, with_commas, written_after}
+use Rattle.avro_canonical.specs.Canonical.{IsForm, is_among, no_branch, branch, no_field, next_field}
+use Rattle.avro_canonical.specs.Pending.{Pending, place, branches, fields, end, IsLeft, is_written, opening_of, opening_of_first, parts_of, first_field, first_branch}
 use Rattle.std.proofs.lemmas.List.{append_assoc, append-nil}
 
 around : (a t c last rest r : List ℕ) → rest ≡ t ++ r → r ≡ c ++ last → a ++ rest ≡ (a ++ t ++ c) ++ last

@@ -1,26 +1,18 @@
 -- Each step of writing: what is left then, behind the text then, is what was left, behind the text that was.
-use Rattle.std.proofs.Common.{subst, arith, zero, suc, ◌≡◌, ◌≤◌, ℕ, List, [], ◌∷◌, ◌++◌, refl, ap, ◌∙◌, sym, true, false, Bool, ◌&&◌, Some, None, Option, map, filter_map, codes, slice_set, slice_get, option_map, unwrap_or, length, nat_lt, nat_le}
+use Rattle.std.proofs.Common.{subst, arith, zero, suc, ◌≡◌, ◌≤◌, ℕ, List, [], ◌∷◌, ◌++◌, refl, ap, ◌∙◌, sym, true, false, Bool, ◌&&◌, Some, None, map, filter_map, codes, slice_set, slice_get, unwrap_or, length, nat_lt, nat_le}
 use Rattle.std.specs.Prelude.{Result, Ok, Err, OnOk, IsTrue, ◌↔◌, ◌<◌}
 use Rattle.std.proofs.lemmas.Bool.{and_parts, false≢true}
-use Rattle.std.proofs.lemmas.Option.{slice_get-map, slice_get_past, none-some}
+use Rattle.std.proofs.lemmas.Option.{slice_get-map, slice_get_past}
 use Rattle.std.proofs.lemmas.List.{append_assoc, append-nil}
 use Rattle.avro_name.specs.Name.{Name, same_name}
-use Rattle.avro_schema.specs.Node.{Node, FieldNode, node_at, node_name, root_of}
+use Rattle.avro_schema.specs.Node.{Node, FieldNode, node_at, node_name}
 use Rattle.avro_schema.specs.Distinct.{are_distinct}
 use Rattle.avro_schema.specs.WellFormed.{is_schema, are_good_nodes, max_nodes}
 use Rattle.avro_canonical.specs.Form.{Form, full_text, form_text}
 use Rattle.avro_canonical.specs.Canonical.{IsForm, IsCanonical, is_among}
-use Rattle.avro_canonical.specs.Pending.{Pending, place, branches, fields, end, IsLeft, IsStep, is_written, is_name_written, marks_of, opening_of, opening_of_first, parts_of, before_branch, next_branch, before_field, following_fields}
-use Rattle.avro_canonical.proofs.NamesWritten.{marked, marks-seen}
-use Rattle.avro_canonical.proofs.Steps.{begun, begun_name, opened, passed_end, passed_branches, passed_branch, passed_fields, passed_field}
-
-found-name : (name : Name) (o : Option Node) → node_name (unwrap_or o Node.null) ≡ Some name → option_map node_name o ≡ Some (Some name)
-found-name name None h = absurd (none-some name h)
-found-name name (Some n) h = ap (λ it. Some it) h
-
--- a type stands in the list
-named-at : (nodes : List Node) (p : ℕ) (name : Name) → node_name (node_at nodes p) ≡ Some name → slice_get (map node_name nodes) p ≡ Some (Some name)
-named-at nodes p name h = slice_get-map node_name nodes p ∙ found-name name (slice_get nodes p) h
+use Rattle.avro_canonical.specs.Pending.{Pending, place, branches, fields, end, IsLeft, IsStep, is_name_written, marks_of, opening_of, parts_of, before_branch, next_branch, before_field, following_fields}
+use Rattle.avro_canonical.proofs.NamesWritten.{marked, marks-seen, named-at}
+use Rattle.avro_canonical.proofs.Steps.{begun_name, opened, passed_end, passed_branches, passed_branch, passed_fields, passed_field}
 
 -- its mark says whether its name is written
 mark-at : (written : List Name) (nodes : List Node) (p : ℕ) (name : Name) → slice_get (map node_name nodes) p ≡ Some (Some name)

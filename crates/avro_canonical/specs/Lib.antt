@@ -1,4 +1,6 @@
 pub mod Form
 pub mod Canonical
+pub mod CanonicalTree
 pub mod Fingerprint
 pub mod Pending
+pub mod inside

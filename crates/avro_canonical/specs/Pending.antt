@@ -1,5 +1,5 @@
 -- What is left to write while a canonical text is made: a list of parts, the next one first.
-use Rattle.std.specs.Prelude.{◌≡◌, ℕ, Bool, true, false, List, [], ◌∷◌, ◌++◌, map, reverse, codes, decimal, Option, Some, None}
+use Rattle.std.specs.Prelude.{◌≡◌, ℕ, Bool, false, List, [], ◌∷◌, ◌++◌, map, reverse, codes, decimal, Option, Some, None}
 use Rattle.avro_name.specs.Name.{Name}
 use Rattle.avro_schema.specs.Node.{Node, FieldNode, node_at, node_name}
 use Rattle.avro_schema.specs.Seen.{places_of, seen_fields}

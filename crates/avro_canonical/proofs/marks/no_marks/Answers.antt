@@ -1,4 +1,4 @@
-use Rattle.std.proofs.Common.{◌≡◌, ◌∙◌, ap, arith, replicate, false, length}
+use Rattle.std.proofs.Common.{◌≡◌, ◌∙◌, ap, arith, replicate, false}
 use Rattle.avro_schema.specs.SeenSchema.{schema_nodes}
 use Rattle.avro_canonical.proofs.NamesWritten.{no_marks_yet}
 use Rattle.avro_canonical.proofs.marks.no_marks.Goals as goal

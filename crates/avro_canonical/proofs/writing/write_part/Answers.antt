@@ -1,9 +1,8 @@
-use Rattle.std.proofs.Common.{rules, sym, ◌∙◌, ◌++◌, ◌∷◌, string_bytes, codes, slice_set, true}
-use Rattle.avro_schema.specs.Seen.{node_of, places_of, seen_fields}
+use Rattle.std.proofs.Common.{◌++◌, ◌∷◌, string_bytes, codes}
+use Rattle.avro_schema.specs.Seen.{places_of, seen_fields}
 use Rattle.avro_schema.specs.SeenSchema.{schema_nodes}
-use Rattle.avro_canonical.specs.Form.{full_text}
-use Rattle.avro_canonical.specs.Pending.{pendings_of, place, branches, fields, end, opening_of, parts_of, before_branch, next_branch, before_field, following_fields}
-use Rattle.avro_canonical.proofs.StepsTaken.{ok-step, ok-text, past-end, step-out, step-unnamed, step-again, step-new, step-branches, step-fields, step-end}
+use Rattle.avro_canonical.specs.Pending.{pendings_of, branches, fields, end, before_branch, next_branch, before_field, following_fields}
+use Rattle.avro_canonical.proofs.StepsTaken.{ok-step, ok-text, step-branches, step-fields, step-end}
 use Rattle.avro_canonical.proofs.writing.write_part.Goals as goal
 
 pub returns-in-Branches : goal.returns-in-Branches

@@ -1,0 +1,169 @@
+-- The tree of a canonical text declares a schema of that text.
+use Rattle.std.proofs.Common.{◌↔◌, ◌≡◌, ◌<◌, ◌≤◌, ℕ, suc, ◌+◌, true, false, List, [], ◌∷◌, ◌++◌, Some, None, refl, sym, ◌∙◌, ap, subst, arith, map, length}
+use Rattle.std.specs.List.{list_all}
+use Rattle.std.proofs.lemmas.Bool.{and_from, false≢true, lt-ltb, le-leb}
+use Rattle.std.proofs.lemmas.List.{append-nil, map-append}
+use Rattle.std.proofs.lemmas.List.Folds.{list_all-append}
+use Rattle.avro_name.specs.Name.{Name}
+use Rattle.avro_schema.specs.Node.{Node, node_at, root_of}
+use Rattle.avro_schema.specs.WellFormed.{is_schema, max_nodes}
+use Rattle.serde_json.specs.Data.{Data}
+use Rattle.serde_json.specs.Written.{has_float, items_have_float}
+use Rattle.avro_schema_json.specs.Declares.{Known, Made, made_of, defining}
+use Rattle.avro_schema_json.specs.DeclaredSchema.{declared, DeclaresSchema, whole_field, whole_node, whole_nodes, is_default_read, are_defaults_read, are_all_defaults_read, bare_nodes}
+use Rattle.avro_canonical.specs.Form.{Form, Forms, FieldForms, no_forms, form, no_fields, field, form_text}
+use Rattle.avro_canonical.specs.Canonical.{IsForm, IsCanonical, primitive_word}
+use Rattle.avro_canonical.specs.CanonicalTree.{text_items, form_tree, form_trees, field_trees, nodes_in, keeps_names}
+use Rattle.avro_canonical.specs.inside.WellMade.{node_of_word, WellMade, AreWellMade, FieldsWellMade}
+use Rattle.avro_canonical.specs.inside.Laid.{known_after, laid_place, laid_fields, laid, laid_all, laid_in_fields, raw_field, raw_node, raw_nodes}
+use Rattle.avro_canonical.proofs.FormsWellMade.{good_at, well_made}
+use Rattle.avro_canonical.proofs.LaidRead.{made, laid_count}
+use Rattle.avro_canonical.proofs.FormsRead.{form_read}
+use Rattle.avro_canonical.proofs.LaidForms.{laid_form}
+use Rattle.avro_canonical.proofs.LaidGood.{good_laid}
+use Rattle.avro_canonical.proofs.LaidNames.{laid_distinct}
+use Rattle.avro_canonical.proofs.Words.{by_word, none_apart}
+use Rattle.avro_schema.specs.Value.{Value}
+use Rattle.avro_binary.specs.Encoding.{Encodes}
+use Rattle.avro_canonical.proofs.SameEncodings.{same_encodings}
+
+mutual
+  whole_floats : (f : Form) → has_float (form_tree f) ≡ false
+  whole_floats (Form.primitive word) = refl
+  whole_floats (Form.array f) = rw (whole_floats f) refl
+  whole_floats (Form.map_of f) = rw (whole_floats f) refl
+  whole_floats (Form.union fs) = all_floats fs
+  whole_floats (Form.record_of name fs) = rw (field_floats fs) refl
+  whole_floats (Form.enum name symbols) = rw (text_floats symbols) refl
+    where
+      text_floats : (texts : List (List ℕ)) → items_have_float (text_items texts) ≡ false
+      text_floats [] = refl
+      text_floats (text ∷ texts) = text_floats texts
+  whole_floats (Form.fixed name count) = refl
+  whole_floats (Form.reference name) = refl
+
+  all_floats : (fs : Forms) → items_have_float (form_trees fs) ≡ false
+  all_floats no_forms = refl
+  all_floats (form f fs) = rw (whole_floats f) (all_floats fs)
+
+  field_floats : (fs : FieldForms) → items_have_float (field_trees fs) ≡ false
+  field_floats no_fields = refl
+  field_floats (field name f fs) = rw (whole_floats f) (field_floats fs)
+
+-- the nodes that are laid have no defaults
+word_whole : (bare : List Node) (n : Node) (word : List ℕ) → primitive_word n ≡ Some word → (whole_node bare (raw_node n) ≡ n) × (are_defaults_read bare (raw_node n) ≡ true)
+word_whole bare =
+    by_word (λ n word. (whole_node bare (raw_node n) ≡ n) × (are_defaults_read bare (raw_node n) ≡ true)) (refl, refl) (refl, refl) (refl, refl) (refl, refl) (refl, refl) (refl, refl)
+
+fields_whole : (bare : List Node) (known : Known) (next : ℕ) (fs : FieldForms) → map (whole_field bare) (map raw_field (laid_fields known next fs)) ≡ laid_fields known next fs
+fields_whole bare known next no_fields = refl
+fields_whole bare known next (field name f fs) =
+    ap (λ xs. record { name = name; aliases = []; node = laid_place known next f; default = None } ∷ xs) (fields_whole bare (known_after known next f) (next + nodes_in f) fs)
+
+fields_read_whole : (bare : List Node) (known : Known) (next : ℕ) (fs : FieldForms) → list_all (is_default_read bare) (map raw_field (laid_fields known next fs)) ≡ true
+fields_read_whole bare known next no_fields = refl
+fields_read_whole bare known next (field name f fs) = fields_read_whole bare (known_after known next f) (next + nodes_in f) fs
+
+-- nodes that are what is read of them
+abbrev AreWhole : List Node → List Node → Type 0
+AreWhole bare nodes = (map (whole_node bare) (raw_nodes nodes) ≡ nodes) × (list_all (are_defaults_read bare) (raw_nodes nodes) ≡ true)
+
+whole_then : (bare : List Node) (n : Node) (nodes : List Node) → whole_node bare (raw_node n) ≡ n → are_defaults_read bare (raw_node n) ≡ true → AreWhole bare nodes → AreWhole bare (n ∷ nodes)
+whole_then bare n nodes one read rest =
+    (ap (λ m. m ∷ map (whole_node bare) (raw_nodes nodes)) one ∙ ap (λ ms. n ∷ ms) rest.0, and_from _ _ read rest.1)
+
+whole_append : (bare xs ys : List Node) → AreWhole bare xs → AreWhole bare ys → AreWhole bare (xs ++ ys)
+whole_append bare xs ys first later = (
+  ap (map (whole_node bare)) (map-append raw_node xs ys) ∙ map-append (whole_node bare) (raw_nodes xs) (raw_nodes ys)
+      ∙ ap (λ ms. ms ++ map (whole_node bare) (raw_nodes ys)) first.0 ∙ ap (λ ms. xs ++ ms) later.0,
+  ap (list_all (are_defaults_read bare)) (map-append raw_node xs ys) ∙ list_all-append (are_defaults_read bare) (raw_nodes xs) (raw_nodes ys) ∙ and_from _ _ first.1 later.1,
+)
+
+mutual
+  laid_whole : (bare : List Node) (f : Form) (written : List Name) (known : Known) (next : ℕ) → WellMade written f → AreWhole bare (laid known next f)
+  laid_whole bare (Form.primitive word) written known next good =
+      let one = word_whole bare (node_of_word word) word good in whole_then bare (node_of_word word) [] one.0 one.1 (refl, refl)
+  laid_whole bare (Form.array f) written known next good = whole_then bare _ _ refl refl (laid_whole bare f written known (suc next) good)
+  laid_whole bare (Form.map_of f) written known next good = whole_then bare _ _ refl refl (laid_whole bare f written known (suc next) good)
+  laid_whole bare (Form.union fs) written known next good = whole_then bare _ _ refl refl (all_whole bare fs written known (suc next) good.1)
+  laid_whole bare (Form.record_of name fs) written known next good =
+      whole_then bare (Node.record_of name [] (laid_fields (defining name next known) (suc next) fs)) (laid_in_fields (defining name next known) (suc next) fs)
+      (ap (λ xs. Node.record_of name [] xs) (fields_whole bare (defining name next known) (suc next) fs)) (fields_read_whole bare (defining name next known) (suc next) fs)
+      (in_fields_whole bare fs (name ∷ written) (defining name next known) (suc next) good.3)
+  laid_whole bare (Form.enum name symbols) written known next good = (refl, refl)
+  laid_whole bare (Form.fixed name count) written known next good = (refl, refl)
+  laid_whole bare (Form.reference name) written known next good = (refl, refl)
+
+  all_whole : (bare : List Node) (fs : Forms) (written : List Name) (known : Known) (next : ℕ) → AreWellMade written fs → AreWhole bare (laid_all known next fs)
+  all_whole bare no_forms written known next good = (refl, refl)
+  all_whole bare (form f fs) written known next good =
+      whole_append bare (laid known next f) (laid_all (known_after known next f) (next + nodes_in f) fs) (laid_whole bare f written known next good.0)
+      (all_whole bare fs _ (known_after known next f) (next + nodes_in f) good.1)
+
+  in_fields_whole : (bare : List Node) (fs : FieldForms) (written : List Name) (known : Known) (next : ℕ) → FieldsWellMade written fs → AreWhole bare (laid_in_fields known next fs)
+  in_fields_whole bare no_fields written known next good = (refl, refl)
+  in_fields_whole bare (field name f fs) written known next good =
+      whole_append bare (laid known next f) (laid_in_fields (known_after known next f) (next + nodes_in f) fs) (laid_whole bare f written known next good.0)
+      (in_fields_whole bare fs _ (known_after known next f) (next + nodes_in f) good.1)
+
+-- the root of a schema is no reference
+some_nodes : (f : Form) → WellMade [] f → 0 < nodes_in f
+some_nodes (Form.primitive word) good = omega arith
+some_nodes (Form.array f) good = omega arith
+some_nodes (Form.map_of f) good = omega arith
+some_nodes (Form.union fs) good = omega arith
+some_nodes (Form.record_of name fs) good = omega arith
+some_nodes (Form.enum name symbols) good = omega arith
+some_nodes (Form.fixed name count) good = omega arith
+some_nodes (Form.reference name) good = absurd (false≢true good.0)
+
+root_place : (f : Form) → laid_place [] 0 f ≡ 0
+root_place (Form.primitive word) = refl
+root_place (Form.array f) = refl
+root_place (Form.map_of f) = refl
+root_place (Form.union fs) = refl
+root_place (Form.record_of name fs) = refl
+root_place (Form.enum name symbols) = refl
+root_place (Form.fixed name count) = refl
+root_place (Form.reference name) = refl
+
+laid_schema : (f : Form) → WellMade [] f → nodes_in f ≤ max_nodes → is_schema (laid [] 0 f) ≡ true
+laid_schema f good few =
+    let nodes = laid [] 0 f in
+    let count : length nodes ≡ nodes_in f = laid_count [] 0 f in
+    let positive = some_nodes f good in
+    and_from _ _
+    (and_from _ _ (and_from _ _ (lt-ltb 0 (length nodes) (omega (arith, count, positive))) (le-leb (length nodes) max_nodes (omega (arith, count, few))))
+    (good_laid nodes f [] [] 0 [] good (λ name. refl) (λ name p e. absurd (none_apart e)) (sym (append-nil nodes))))
+    (laid_distinct f [] 0 good)
+
+declared_as : (tree : Data) (it : Made ℕ) (nodes : List Node) → has_float tree ≡ false → made_of tree ≡ it → it.faults ≡ [] → whole_nodes it.nodes ≡ nodes → is_schema nodes ≡ true
+    → are_all_defaults_read it.nodes ≡ true → declared tree ≡ Some nodes
+declared_as tree it nodes numbers makes clean whole formed defaults = rw (numbers, makes, clean, whole, formed, defaults) refl
+
+-- the nodes that are laid have the same canonical text
+laid_text : (f : Form) (text : List ℕ) → WellMade [] f → text ≡ form_text f → IsCanonical (laid [] 0 f) text
+laid_text f text good spelled =
+    let again = laid [] 0 f in
+    record {
+      form = f;
+      formed = subst (λ p. IsForm again [] (node_at again p) f) (root_place f)
+          (laid_form again f [] [] 0 [] good (λ name. refl) (λ name p e. absurd (none_apart e)) (sym (append-nil again)));
+      spelled = spelled;
+    }
+
+pub read_again : (nodes : List Node) (text : List ℕ) → is_schema nodes ≡ true → (c : IsCanonical nodes text) → keeps_names [] c.form ≡ true → nodes_in c.form ≤ max_nodes
+    → (again : List Node) × DeclaresSchema (form_tree c.form) again × IsCanonical again text
+    × ((v : Value) (bytes : List ℕ) → Encodes nodes (root_of nodes) v bytes ↔ Encodes again (root_of again) v bytes)
+read_again nodes text formed c kept few =
+    let f = c.form in
+    let good = well_made formed (good_at nodes formed 0) c.formed in
+    let again = laid [] 0 f in
+    let whole = laid_whole (bare_nodes (raw_nodes again)) f [] [] 0 good in
+    let schema = laid_schema f good few in
+    let same = laid_text f text good c.spelled in (
+      again,
+      declared_as (form_tree f) (made [] 0 f) again (whole_floats f) (form_read f [] [] 0 [] good (λ name. refl) kept (omega (arith, few))) refl whole.0 schema whole.1,
+      same,
+      same_encodings nodes again text formed schema c same,
+    )
