@@ -1,8 +1,9 @@
 -- Pieces one behind another, and what they are the plain encoding of.
 use Rattle.std.proofs.Common.{◌≡◌, ℕ, suc, ◌+◌, List, [], ◌∷◌, ◌++◌, length, map, refl, sym, ap, ◌∙◌, append_assoc, arith}
+use Rattle.std.specs.Prelude.{Result, Ok, Err, OnOk}
 use Rattle.std.specs.List.{AllZip, concat}
 use Rattle.std.specs.Global.{Vec}
-use Rattle.std.proofs.lemmas.List.{append-nil}
+use Rattle.std.proofs.lemmas.List.{append-nil, length-append}
 use Rattle.avro_schema.specs.Value.{Value, values_count, entries_count}
 use Rattle.avro_schema.specs.Seen.{values_from, entries_from}
 use Rattle.avro_binary.specs.Encoding.{plain, plain_bytes, plain_blocks, plain_values, plain_entries}
@@ -26,14 +27,26 @@ values_with_one (w ∷ vs) v =
 
 pub entries_with_one : (es : List (List ℕ × Value)) (key : List ℕ) (v : Value)
     → plain_entries (entries_from (es ++ (key, v) ∷ [])) ≡ (plain_entries (entries_from es) ++ plain_bytes key) ++ plain v
-entries_with_one [] key v = ap (λ rest. plain_bytes key ++ rest) (append-nil (plain v))
+entries_with_one [] key v = append-nil (plain_bytes key ++ plain v)
 entries_with_one (e ∷ es) key v =
     let more = entries_with_one es key v in
     rw more (simp append_assoc)
 
-pub length_with_one : {A : Type 0} (xs : List A) (x : A) → length (xs ++ x ∷ []) ≡ length xs + 1
-length_with_one [] x = refl
-length_with_one (y ∷ xs) x = ap suc (length_with_one xs x)
+-- one more item, and one more entry
+pub item_is_added : {T E : Type 0} (r : Result T E) (count more : ℕ) (ps new : List Pieces) (before : List ℕ) (p : Pieces) (vs : List Value) (v : Value)
+    → more ≡ count + 1 → ArePlainOf count ps vs → IsPlainOf p v → before ≡ bytes_of_all ps → OnOk r (bytes_of_all new ≡ before ++ bytes_of p)
+    → OnOk r (ArePlainOf more new (vs ++ v ∷ []))
+item_is_added (Err e) count more ps new before p vs v one are is kept added = tt
+item_is_added (Ok u) count more ps new before p vs v one are is kept added =
+    (omega (arith, one, are.0, length-append vs (v ∷ [])), cc (added, kept, are.1, is, values_with_one vs v))
+
+pub entry_is_added : {T E : Type 0} (r : Result T E) (count more : ℕ) (ps new : List Pieces) (before key : List ℕ) (first p : Pieces) (es : List (List ℕ × Value)) (v : Value)
+    → more ≡ count + 1 → AreEntriesOf count ps es → bytes_of first ≡ plain_bytes key → IsPlainOf p v
+    → before ≡ bytes_of_all ps ++ bytes_of first → OnOk r (bytes_of_all new ≡ before ++ bytes_of p)
+    → OnOk r (AreEntriesOf more new (es ++ (key, v) ∷ []))
+entry_is_added (Err e) count more ps new before key first p es v one are named is kept added = tt
+entry_is_added (Ok u) count more ps new before key first p es v one are named is kept added =
+    (omega (arith, one, are.0, length-append es ((key, v) ∷ [])), cc (added, kept, are.1, named, is, entries_with_one es key v))
 
 values_count-length : (vs : List Value) → values_count (values_from vs) ≡ length vs
 values_count-length [] = refl

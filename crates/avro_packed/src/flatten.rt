@@ -5,7 +5,7 @@ ghost use Rattle.avro_zigzag.specs.Number.{number_bytes};
 ghost use Rattle.avro_packed.specs.Pieces.{bytes_of, bytes_of_all};
 
 use crate::pieces::Pieces;
-use avro_zigzag::write_long;
+use crate::spelling::spelling;
 use std::alloc::AllocError;
 
 /// Appends the bytes of pieces, each of which is copied once.
@@ -78,7 +78,7 @@ fn append_number(number: i64, out: &mut Vec<u8>) -> Result<(), AllocError>
     ensures appended { OnOk result (out.new.items ≡ out.old.items ++ number_bytes number) }
     ensures kept { take (length out.old.items) out.new.items ≡ out.old.items }
 {
-    let (bytes, len) = write_long(number);
+    let (bytes, len) = spelling(number);
     append_few(&bytes[..len], out)
 }
 

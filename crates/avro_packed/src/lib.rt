@@ -7,6 +7,7 @@ mod flatten;
 mod packed;
 mod pieces;
 mod short;
+mod spelling;
 
 pub use flatten::append;
 pub use packed::{Packed, Parts};

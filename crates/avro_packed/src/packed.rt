@@ -8,9 +8,9 @@ ghost use Rattle.avro_packed.specs.Pieces.{bytes_of, bytes_of_all};
 
 use crate::pieces::Pieces;
 use crate::short::Short;
+use crate::spelling::spelling;
 use avro_binary::{Build, append_plain};
 use avro_schema::Datum;
-use avro_zigzag::write_long;
 use std::alloc::{AllocError, Global};
 
 /// Builds the plain encoding of a datum, in pieces.
@@ -75,12 +75,7 @@ impl Build for Packed {
         Ok(Pieces::Number(i64::from(place)))
     }
 
-    fn branch(
-        &mut self,
-        alloc: Global,
-        place: u32,
-        value: Pieces,
-    ) -> Result<Pieces, AllocError> {
+    fn branch(&mut self, alloc: Global, place: u32, value: Pieces) -> Result<Pieces, AllocError> {
         match behind_branch(place, &value) {
             Some(short) => Ok(Pieces::Short(short)),
             None => Ok(Pieces::Branch(place, Box::new(alloc, value)?)),
@@ -98,13 +93,7 @@ impl Build for Packed {
         Ok(Parts::new(alloc))
     }
 
-    #[tactic(auto, using(crate::proofs::Joined::values_with_one, crate::proofs::Joined::length_with_one))]
-    fn item(
-        &mut self,
-        _alloc: Global,
-        items: &mut Parts,
-        value: Pieces,
-    ) -> Result<(), AllocError> {
+    fn item(&mut self, _alloc: Global, items: &mut Parts, value: Pieces) -> Result<(), AllocError> {
         items.count_one()?;
         items.push(value)
     }
@@ -118,7 +107,6 @@ impl Build for Packed {
         Ok(Parts::new(alloc))
     }
 
-    #[tactic(auto, using(crate::proofs::Joined::entries_with_one, crate::proofs::Joined::length_with_one))]
     fn entry(
         &mut self,
         alloc: Global,
@@ -203,7 +191,7 @@ fn block(parts: Parts) -> Result<Pieces, AllocError>
 fn measured(alloc: Global, content: &[u8]) -> Result<Pieces, AllocError>
     ensures { IfOk result (λ out. bytes_of out ≡ plain_bytes content.now) }
 {
-    let (number, len) = write_long(content.len() as i64);
+    let (number, len) = spelling(content.len() as i64);
     joined(alloc, &number[..len], content)
 }
 
@@ -223,13 +211,13 @@ fn joined(alloc: Global, first: &[u8], second: &[u8]) -> Result<Pieces, AllocErr
 fn behind_branch(place: u32, value: &Pieces) -> Option<Short>
     ensures { IfSome result (λ short. short ≡ number_bytes (pos place) ++ bytes_of value.now) }
 {
-    let (number, len) = write_long(i64::from(place));
+    let (number, len) = spelling(i64::from(place));
     let first = &number[..len];
     match value {
         Pieces::Nothing => Short::of(first, &[]),
         Pieces::Byte(byte) => Short::of(first, &[*byte]),
         Pieces::Number(value) => {
-            let (value, len) = write_long(*value);
+            let (value, len) = spelling(*value);
             Short::of(first, &value[..len])
         }
         Pieces::Short(short) => Short::of(first, short.as_bytes()),
