@@ -39,4 +39,4 @@ pub use read::{decode, read_own};
 pub use reading::read_place;
 pub use tree::Tree;
 pub use walking::walk;
-pub use write::encode;
+pub use write::{append_plain, encode};

@@ -45,12 +45,27 @@ fn append_datum(datum: &Datum, out: &mut Vec<u8>) -> Result<(), EncodeError>
     ensures unchanged { OnErr result (out.new.items ≡ out.old.items) }
     ensures memory { IsOkUnless result EncodeError.OutOfMemory }
 {
+    match append_plain(datum, out) {
+        Ok(()) => Ok(()),
+        Err(_) => Err(EncodeError::OutOfMemory),
+    }
+}
+
+/// Appends the plain encoding of a datum, whatever its type (Avro 1.11, "Binary Encoding").
+///
+/// # Errors
+///
+/// Memory ran out; the output is as it was.
+pub fn append_plain(datum: &Datum, out: &mut Vec<u8>) -> Result<(), AllocError>
+    ensures appended { OnOk result (out.new.items ≡ out.old.items ++ plain (value_of datum.now)) }
+    ensures unchanged { OnErr result (out.new.items ≡ out.old.items) }
+{
     let len = out.len();
     match write_datum(datum, out) {
         Ok(()) => Ok(()),
         Err(_) => {
             out.truncate(len);
-            Err(EncodeError::OutOfMemory)
+            Err(AllocError)
         }
     }
 }

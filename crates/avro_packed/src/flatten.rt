@@ -1,0 +1,94 @@
+//! Flattening pieces.
+
+ghost use Rattle.std.specs.Prelude.{◌≡◌, ◌++◌, [], ◌∷◌, length, take, OnOk, OnErr};
+ghost use Rattle.avro_zigzag.specs.Number.{number_bytes};
+ghost use Rattle.avro_packed.specs.Pieces.{bytes_of, bytes_of_all};
+
+use crate::pieces::Pieces;
+use crate::spelling::spelling;
+use std::alloc::AllocError;
+
+/// Appends the bytes of pieces, each of which is copied once.
+///
+/// # Errors
+///
+/// Memory ran out; the output is as it was.
+pub fn append(pieces: &Pieces, out: &mut Vec<u8>) -> Result<(), AllocError>
+    ensures appended { OnOk result (out.new.items ≡ out.old.items ++ bytes_of pieces.now) }
+    ensures unchanged { OnErr result (out.new.items ≡ out.old.items) }
+{
+    let len = out.len();
+    match append_piece(pieces, out) {
+        Ok(()) => Ok(()),
+        Err(_) => {
+            out.truncate(len);
+            Err(AllocError)
+        }
+    }
+}
+
+/// Appends the bytes of pieces; where memory runs out, a part of them.
+#[cycle(flattening)]
+fn append_piece(pieces: &Pieces, out: &mut Vec<u8>) -> Result<(), AllocError>
+    ensures appended { OnOk result (out.new.items ≡ out.old.items ++ bytes_of pieces.now) }
+    ensures kept { take (length out.old.items) out.new.items ≡ out.old.items }
+{
+    match pieces {
+        Pieces::Nothing => Ok(()),
+        Pieces::Byte(byte) => append_byte(*byte, out),
+        Pieces::Number(number) => append_number(*number, out),
+        Pieces::Short(short) => append_few(short.as_bytes(), out),
+        Pieces::Long(bytes) => out.extend_from_slice(bytes),
+        Pieces::Branch(branch, value) => {
+            append_number(i64::from(*branch), out)?;
+            append_piece(value, out)
+        }
+        Pieces::Whole(parts) => append_each(parts, out),
+        Pieces::Block(count, parts) => {
+            append_number(*count, out)?;
+            append_each(parts, out)?;
+            append_byte(0, out)
+        }
+    }
+}
+
+/// Appends the bytes of pieces one behind another.
+#[cycle(flattening)]
+fn append_each(parts: &[Pieces], out: &mut Vec<u8>) -> Result<(), AllocError>
+    ensures appended { OnOk result (out.new.items ≡ out.old.items ++ bytes_of_all parts.now) }
+    ensures kept { take (length out.old.items) out.new.items ≡ out.old.items }
+{
+    for part in parts {
+        append_piece(part, out)?;
+    }
+    Ok(())
+}
+
+/// Appends a byte.
+fn append_byte(byte: u8, out: &mut Vec<u8>) -> Result<(), AllocError>
+    ensures appended { OnOk result (out.new.items ≡ out.old.items ++ byte ∷ []) }
+    ensures kept { take (length out.old.items) out.new.items ≡ out.old.items }
+{
+    out.push(byte)?;
+    Ok(())
+}
+
+/// Appends a number in its shortest spelling.
+fn append_number(number: i64, out: &mut Vec<u8>) -> Result<(), AllocError>
+    ensures appended { OnOk result (out.new.items ≡ out.old.items ++ number_bytes number) }
+    ensures kept { take (length out.old.items) out.new.items ≡ out.old.items }
+{
+    let (bytes, len) = spelling(number);
+    append_few(&bytes[..len], out)
+}
+
+/// Appends a few bytes one by one, which takes less time than to copy them at once.
+fn append_few(bytes: &[u8], out: &mut Vec<u8>) -> Result<(), AllocError>
+    ensures appended { OnOk result (out.new.items ≡ out.old.items ++ bytes.now) }
+    ensures kept { take (length out.old.items) out.new.items ≡ out.old.items }
+{
+    for byte in bytes {
+        out.push(*byte)?;
+    }
+    Ok(())
+}
