@@ -13,6 +13,8 @@ mod encoding;
 #[cfg(test)]
 mod numbers;
 #[cfg(test)]
+mod packing;
+#[cfg(test)]
 mod padded_numbers;
 #[cfg(test)]
 mod reading;
