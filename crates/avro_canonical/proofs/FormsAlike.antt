@@ -1,20 +1,17 @@
 -- Data that fit nodes of one form are the same.
-use Rattle.std.proofs.Common.{◌≡◌, ◌⊎◌, inl, inr, ⊎_elim, ℕ, zero, suc, Bool, true, false, not, ◌&&◌, ◌||◌, List, [], ◌∷◌, Option, Some, None, refl, sym, ◌∙◌, ap, subst, map, filter_map, length, slice_get, bytes_eq, nat_lt, nat_le}
-use Rattle.std.specs.List.{list_any}
-use Rattle.std.proofs.lemmas.Bool.{and_parts, false≢true, not-true}
-use Rattle.std.proofs.lemmas.Slice.Eq.{bytes_eq-Decides}
+use Rattle.std.proofs.Common.{◌≡◌, ◌⊎◌, inl, inr, ⊎_elim, ℕ, Bool, true, false, ◌||◌, List, [], ◌∷◌, Some, None, refl, sym, ◌∙◌, subst}
+use Rattle.std.proofs.lemmas.Bool.{false≢true}
 use Rattle.avro_name.specs.Name.{Name, same_name}
 use Rattle.avro_schema.specs.Value.{Value}
 use Rattle.avro_schema.specs.Node.{items_node, values_node, branches_of, fields_of, Node, FieldNode, node_at, root_of, node_name, field_places}
 use Rattle.avro_schema.specs.Fits.{fits}
-use Rattle.avro_schema.specs.Distinct.{are_distinct}
-use Rattle.avro_schema.specs.WellFormed.{is_schema, are_good_nodes, max_nodes}
+use Rattle.avro_schema.specs.WellFormed.{is_schema}
 use Rattle.avro_canonical.specs.Form.{Form, Forms, FieldForms, no_forms, form, no_fields, field, written_after, written_after_all, written_after_fields}
 use Rattle.avro_canonical.specs.Canonical.{IsForm, AreForms, AreFieldForms, primitive_word, is_among, no_branch, branch, no_field, next_field}
-use Rattle.avro_canonical.proofs.Words.{some-is, none_apart, by_word}
-use Rattle.avro_canonical.proofs.NamesWritten.{same-refl, names-seen, apart-at, named-at}
+use Rattle.avro_canonical.proofs.Words.{by_word}
 use Rattle.avro_canonical.proofs.FormsWellMade.{word_node}
 use Rattle.avro_canonical.proofs.SameFits.{neither, both, Each, no_places, places, none_each, each, Matching, Closed, same_fit}
+use Rattle.avro_canonical.proofs.OneNamed.{one_named}
 
 -- each of the names is among all of them
 abbrev AreAmong : List Name → List Name → Type 0
@@ -236,40 +233,6 @@ mutual
   find_fields name no_field no_field within old = inl old
   find_fields {w = w} name (next_field {x = x} {f = f} {fs = fs} d ds) (next_field {x = y} e es) within old =
       ⊎_elim (λ before. find x.node y.node name d e (λ it h. within it (grows_fields it (written_after w f) fs h)) refl refl before) (λ found. inr found) (find_fields name ds es within old)
-
--- a name stands at one place
-one_place : (name : Name) (os : List (Option Name)) (p q : ℕ) → are_distinct same_name (filter_map (λ o. o) os) ≡ true
-    → slice_get os p ≡ Some (Some name) → slice_get os q ≡ Some (Some name) → p ≡ q
-one_place name [] p q distinct here there = absurd (none_apart here)
-one_place name (None ∷ os) zero q distinct here there = absurd (none_apart (some-is here))
-one_place name (None ∷ os) (suc p) zero distinct here there = absurd (none_apart (some-is there))
-one_place name (None ∷ os) (suc p) (suc q) distinct here there = ap suc (one_place name os p q distinct here there)
-one_place name (Some first ∷ os) zero zero distinct here there = refl
-one_place name (Some first ∷ os) zero (suc q) distinct here there =
-    let none = not-true (list_any (same_name first) (filter_map (λ o. o) os)) (and_parts (not (list_any (same_name first) (filter_map (λ o. o) os))) (are_distinct same_name (filter_map (λ o. o) os)) distinct).0 in
-    absurd (false≢true (sym (apart-at first os q name none there) ∙ ap (λ it. same_name it name) (some-is (some-is here)) ∙ same-refl name))
-one_place name (Some first ∷ os) (suc p) zero distinct here there =
-    let none = not-true (list_any (same_name first) (filter_map (λ o. o) os)) (and_parts (not (list_any (same_name first) (filter_map (λ o. o) os))) (are_distinct same_name (filter_map (λ o. o) os)) distinct).0 in
-    absurd (false≢true (sym (apart-at first os p name none here) ∙ ap (λ it. same_name it name) (some-is (some-is there)) ∙ same-refl name))
-one_place name (Some first ∷ os) (suc p) (suc q) distinct here there =
-    ap suc (one_place name os p q (and_parts (not (list_any (same_name first) (filter_map (λ o. o) os))) (are_distinct same_name (filter_map (λ o. o) os)) distinct).1 here there)
-
-pub name_is : (a b : Name) → same_name a b ≡ true → a ≡ b
-name_is a b h =
-    let both = and_parts (bytes_eq a.simple b.simple) (bytes_eq a.namespace b.namespace) h in
-    let parts : List ℕ → List ℕ → Name = λ namespace simple. record { namespace = namespace; simple = simple } in
-    ap (λ namespace. parts namespace a.simple) ((bytes_eq-Decides a.namespace b.namespace).0 both.1) ∙ ap (parts b.namespace) ((bytes_eq-Decides a.simple b.simple).0 both.0)
-
-distinct_in : (nodes : List Node) → is_schema nodes ≡ true → are_distinct same_name (filter_map (λ o. o) (map node_name nodes)) ≡ true
-distinct_in nodes h =
-    subst (λ names. are_distinct same_name names ≡ true) (names-seen nodes)
-    (and_parts (nat_lt 0 (length nodes) && nat_le (length nodes) max_nodes && are_good_nodes nodes 0 nodes) (are_distinct same_name (filter_map node_name nodes)) h).1
-
-one_named : (nodes : List Node) (p q : ℕ) (first second : Name) → is_schema nodes ≡ true → node_name (node_at nodes p) ≡ Some first → node_name (node_at nodes q) ≡ Some second
-    → same_name first second ≡ true → node_at nodes p ≡ node_at nodes q
-one_named nodes p q first second formed here there same =
-    ap (node_at nodes) (one_place second (map node_name nodes) p q (distinct_in nodes formed)
-    (named-at nodes p second (here ∙ ap (λ name. Some name) (name_is first second same))) (named-at nodes q second there))
 
 -- the parts of nodes of one form are of one form
 alike_closed : (a b : List Node) (all : List Name) → is_schema a ≡ true → is_schema b ≡ true → ((name : Name) → is_among name all ≡ true → Defined a b all name)

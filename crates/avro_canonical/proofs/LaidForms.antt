@@ -10,7 +10,7 @@ use Rattle.avro_canonical.specs.CanonicalTree.{nodes_in}
 use Rattle.avro_canonical.specs.inside.WellMade.{WellMade, AreWellMade, FieldsWellMade}
 use Rattle.avro_canonical.specs.inside.Laid.{known_after, known_after_all, known_after_fields, laid_place, laid_places, laid_fields, laid, laid_all, laid_in_fields}
 use Rattle.avro_canonical.proofs.Words.{some-is}
-use Rattle.avro_canonical.proofs.FormsAlike.{name_is}
+use Rattle.avro_canonical.proofs.OneNamed.{name_is}
 use Rattle.avro_canonical.proofs.LaidRead.{IsKnown, known_more, known_then, laid_count, place_is}
 
 -- some nodes stand in a list from a place on, and others behind them

@@ -13,7 +13,8 @@ use Rattle.avro_canonical.specs.CanonicalTree.{nodes_in}
 use Rattle.avro_canonical.specs.inside.WellMade.{node_of_word, WellMade, AreWellMade, FieldsWellMade}
 use Rattle.avro_canonical.specs.inside.Laid.{known_after, laid, laid_all, laid_in_fields}
 use Rattle.avro_canonical.proofs.NamesWritten.{same-refl}
-use Rattle.avro_canonical.proofs.FormsAlike.{name_is, or_later}
+use Rattle.avro_canonical.proofs.FormsAlike.{or_later}
+use Rattle.avro_canonical.proofs.OneNamed.{name_is}
 use Rattle.avro_canonical.proofs.Words.{by_word}
 
 -- the names that a form defines, in order

@@ -9,6 +9,7 @@ mod FormsWellMade
 mod TextParts
 mod SameText
 mod SameFits
+mod OneNamed
 mod FormsAlike
 mod SameEncodings
 mod HasForm
