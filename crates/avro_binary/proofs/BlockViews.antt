@@ -25,10 +25,6 @@ pub neg-abs : (n : ℕ) → nat_abs (neg_ℤ (pos n)) ≡ n
 neg-abs zero = refl
 neg-abs (suc n) = refl
 
-neg-suc : (n m : ℕ) → negsuc n ≡ neg_ℤ (pos m) → m ≡ suc n
-neg-suc n zero e = absurd cc
-neg-suc n (suc m) e = cc
-
 -- the number at the front of blocks
 pub record FirstNumber (items : List (List ℕ)) (front : List ℕ) : Type 0 where
   pub v : ℤ

@@ -241,10 +241,7 @@ index_part choices = record {
   one_fault = index-one_fault choices;
 }
 
--- bytes and texts of data that fit, behind their lengths, are elements, and the way back
-pub bytes_is : (blob : ℕ) (content bytes : List ℕ) → SpellsBytes content bytes → is_count (length content) ≡ true → length content ≤ blob → IsBytes blob content bytes
-bytes_is blob content bytes spelled counted within = record { right = refl; countable = is_count-below (length content) counted; within = within; spelled = spelled }
-
+-- texts of data that fit, behind their lengths, are elements, and the way back
 pub string_is : (blob : ℕ) (content bytes : List ℕ) → SpellsBytes content bytes → is_text content ≡ true → length content ≤ blob → IsString blob content bytes
 string_is blob content bytes spelled text within =
     let parts = and_parts (is_count (length content)) (is_utf8 content) text in

@@ -57,6 +57,7 @@ impl<'a> Cursor<'a> {
     }
 
     /// How many bytes were read.
+    #[inline(always)]
     pub fn place(&self) -> usize
         ensures { result ≡ self.now.place }
     {
@@ -72,6 +73,7 @@ impl<'a> Cursor<'a> {
     }
 
     /// The bytes that are left.
+    #[inline(always)]
     fn rest(&self) -> &'a [u8]
         ensures { result.now ≡ self.now.bytes }
     {
@@ -79,6 +81,7 @@ impl<'a> Cursor<'a> {
     }
 
     /// Passes so many bytes, and answers them.
+    #[inline(always)]
     fn pass(&mut self, count: usize) -> &'a [u8]
         requires { count ≤ length self.old.bytes }
         ensures passed { Passes self.old (take count self.old.bytes) self.new }
@@ -90,6 +93,7 @@ impl<'a> Cursor<'a> {
     }
 
     /// The offset behind so many bytes of those that are left.
+    #[inline(always)]
     fn place_behind(&self, count: usize) -> usize
         requires { count ≤ length self.now.bytes }
         ensures { result ≡ self.now.place + count }
@@ -254,9 +258,9 @@ impl<'a> Cursor<'a> {
         ensures refused { IfErr result (Refuses (StringBreaks self.now.blob) self.now) }
     {
         match self.content() {
-            Ok((content, len)) => match from_utf8(content) {
-                Ok(text) => Ok((text, len)),
-                Err(_) => Err(ReadError::InvalidText {
+            Ok((content, len)) => match text_of(content) {
+                Some(text) => Ok((text, len)),
+                None => Err(ReadError::InvalidText {
                     place: self.place_behind(len - content.len()),
                 }),
             },
@@ -452,6 +456,7 @@ impl<'a> Cursor<'a> {
     /// # Errors
     ///
     /// `LimitExceeded` where there is none, or no depth.
+    #[inline(always)]
     pub fn count(&mut self) -> Result<(), ReadError>
         ensures counted { OnOk result (Counts self.old self.new) }
         ensures shallow { self.old.depth ≤ 256 }
@@ -470,6 +475,7 @@ impl<'a> Cursor<'a> {
     /// # Errors
     ///
     /// `LimitExceeded` where there is none.
+    #[inline(always)]
     pub fn enter(&mut self) -> Result<(), ReadError>
         ensures entered { OnOk result (Enters self.old self.new) }
         ensures shallow { self.old.depth ≤ 256 }
@@ -482,6 +488,7 @@ impl<'a> Cursor<'a> {
     }
 
     /// Leaves a node, whose depth is free again. No limit is over 256, and there the depth stays.
+    #[inline(always)]
     pub fn leave(&mut self)
         ensures freed { self.old.depth < 256 → self.new ≡ record self.old { depth = self.old.depth + 1 } }
         ensures whole { 256 ≤ self.old.depth → self.new ≡ self.old }
@@ -512,4 +519,24 @@ fn place_of(value: i32, choices: usize) -> Option<usize>
     }
     let index = value as usize;
     if index < choices { Some(index) } else { None }
+}
+
+/// The text that bytes are, if they are UTF-8.
+///
+/// Most texts are short, and the test of the long ones takes longer to begin than they need.
+#[inline(always)]
+fn text_of(content: &[u8]) -> Option<&str>
+    ensures some { IfSome result (λ text. (text.now ≡ content.now) × (is_utf8 content.now ≡ true)) }
+    ensures none { IfNone result (is_utf8 content.now ≡ false) }
+{
+    if content.len() < 64 {
+        return match std::str::from_utf8(content) {
+            Ok(text) => Some(text),
+            Err(_) => None,
+        };
+    }
+    match from_utf8(content) {
+        Ok(text) => Some(text),
+        Err(_) => None,
+    }
 }

@@ -61,6 +61,7 @@ pub(crate) fn read_node<B: Build>(
 ) -> Result<(B::Out, usize), ReadError>
     ensures { BuildsExactly B.stands_for (schema_nodes schema.now) (node_at (schema_nodes schema.now) node.0) limits.now bytes.now result }
 {
+    // Its contract says that the schema is well formed, which the laws of faults ask for.
     let _count = schema.len();
     let mut cursor = Cursor::new(bytes, limits);
     let mut maker = Own::new(builder);

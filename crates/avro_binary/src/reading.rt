@@ -225,7 +225,7 @@ fn read_fixed<M: Make>(
     }
 }
 
-/// Keeps nothing of a content, of which its type says that it is bytes.
+/// Keeps nothing of a content: the type of its parameter is what says that each byte is below 256.
 #[inline(always)]
 fn drop_content(_content: &[u8])
     ensures { (i : ℕ) → slice_index _content.now i < 2 ^ 8 }
@@ -263,6 +263,7 @@ fn read_item_blocks<M: Make>(
 ) -> Result<M::Out, ReadError>
     ensures { ReadsNode (Made M.keeps (λ m. M.stands_for m (schema_nodes schema.now) (SeenNode.array place.0) at) maker.old maker.new) (schema_nodes schema.now) (SeenNode.array place.0) (outside cursor.old) (left_node cursor.new) result }
 {
+    // Its contract says that fewer than 2^32 nodes are left, so that no count of parts is too large.
     let _nodes = cursor.nodes();
     let mut items = match maker.items(alloc, at) {
         Ok(items) => items,
@@ -344,6 +345,7 @@ fn read_entry_blocks<M: Make>(
 ) -> Result<M::Out, ReadError>
     ensures { ReadsNode (Made M.keeps (λ m. M.stands_for m (schema_nodes schema.now) (SeenNode.map_of place.0) at) maker.old maker.new) (schema_nodes schema.now) (SeenNode.map_of place.0) (outside cursor.old) (left_node cursor.new) result }
 {
+    // Its contract says that fewer than 2^32 nodes are left, so that no count of parts is too large.
     let _nodes = cursor.nodes();
     let mut keys = Keys::new(alloc);
     let mut entries = match maker.entries(alloc, at) {

@@ -26,6 +26,7 @@ pub fn walk(
     requires in_schema { node.0 < length (schema_nodes schema.now) }
     ensures { WalksExactly (schema_nodes schema.now) (node_at (schema_nodes schema.now) node.0) limits.now bytes.now result }
 {
+    // Its contract says that the schema is well formed, which the laws of faults ask for.
     let _count = schema.len();
     let mut cursor = Cursor::new(bytes, limits);
     let mut nothing = Nothing;

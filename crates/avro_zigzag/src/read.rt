@@ -47,11 +47,14 @@ fn read_each_group(bytes: &[u8], most: usize, top: u8) -> Result<(u64, usize), V
     let mut value = 0;
     for (index, byte) in bytes.iter().enumerate() {
         let byte = *byte;
-        if index + 1 == most && byte > top {
-            return Err(VarError::OutOfRange);
-        }
         if byte < 128 {
+            if index + 1 == most && byte > top {
+                return Err(VarError::OutOfRange);
+            }
             return Ok((value + (u64::from(byte) << (7 * index)), index + 1));
+        }
+        if index + 1 == most {
+            return Err(VarError::OutOfRange);
         }
         value += u64::from(byte - 128) << (7 * index);
     }

@@ -322,10 +322,6 @@ read_entries-loop-done-preserved g t c = (
 
 pub read_entries-returns : goal.read_entries-returns
 read_entries-returns g t c = λ limits before d b are distinct.
-    let nodes = schema_nodes c.args.schema.now in
-    let n = node_at nodes c.args.place.0 in
-    let start = c.args.cursor.now in
-    let now = c.loop-done.cursor in
     let so_far = c.loop-done.invariant.1 limits before d b are distinct in
     let xs = so_far.0 in
     let keys = so_far.1 in
@@ -566,7 +562,6 @@ pub read_fields-returns-in-Ok-record : goal.read_fields-returns-in-Ok-record
 read_fields-returns-in-Ok-record g t c = λ name aliases.
     let nodes = schema_nodes c.args.schema.now in
     let fields = c.args.fields.now in
-    let places = field_places (seen_fields fields) in
     let i = c.loop-field.field-index in
     let so_far = c.loop-field.invariant in
     let past : length fields ≤ i = c.loop-field-test.false in

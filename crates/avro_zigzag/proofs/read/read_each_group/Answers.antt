@@ -36,6 +36,10 @@ pub returns-then-byte-top-clause-refused : goal.returns-then-byte-top-clause-ref
 returns-then-byte-top-clause-refused c =
     fault-too_large c.args.most c.args.top c.loop-index.index c.args.bytes.now (omega arith) c.loop-index.invariant.1 (omega arith) (omega arith)
 
+pub returns-then-index-most-2-clause-refused : goal.returns-then-index-most-2-clause-refused
+returns-then-index-most-2-clause-refused c =
+    fault-too_large c.args.most c.args.top c.loop-index.index c.args.bytes.now (omega arith) c.loop-index.invariant.1 (omega arith) (omega arith)
+
 pub overflow_mul-result : goal.overflow_mul-result
 overflow_mul-result c =
     let small = shift-below c.loop-index.index c.args.most c.args.top c.loop-index.invariant.0 c.requires.fits in record { fits = omega arith }
