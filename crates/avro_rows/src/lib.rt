@@ -7,6 +7,8 @@ mod builders;
 #[cfg(test)]
 mod canonical;
 #[cfg(test)]
+mod certificate_command;
+#[cfg(test)]
 mod certificates;
 #[cfg(test)]
 mod data;
