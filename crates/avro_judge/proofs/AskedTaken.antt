@@ -1,13 +1,13 @@
 -- What a pair asks for are children of it.
-use Rattle.std.proofs.Common.{◌≡◌, ℕ, zero, suc, ◌+◌, Bool, true, false, cond, ◌&&◌, List, [], ◌∷◌, Option, Some, None, inl, inr, length, refl, sym, ◌∙◌, ap, subst, arith}
-use Rattle.std.proofs.lemmas.Bool.{and_from, eqb-true, false≢true, eq-eqb}
-use Rattle.std.specs.Prelude.{slice_get, unwrap_or, is_some, option_map, flat_map, map, ◌==◌}
+use Rattle.std.proofs.Common.{◌≡◌, ℕ, suc, ◌+◌, Bool, true, false, cond, ◌&&◌, List, [], ◌∷◌, Option, Some, None, refl, subst, arith}
+use Rattle.std.proofs.lemmas.Bool.{and_from, eqb-true, eq-eqb}
+use Rattle.std.specs.Prelude.{slice_get, unwrap_or, is_some, flat_map, ◌==◌}
 use Rattle.std.specs.List.{list_all}
 use Rattle.avro_schema.specs.Node.{Node, FieldNode, branches_of, field_places}
 use Rattle.avro_resolve.specs.Match.{is_match, first_match}
 use Rattle.avro_resolve.specs.Source.{reader_field, missing_field, source_of}
 use Rattle.avro_judge.specs.Closed.{Pair, same_pair, is_among_pairs, children_of, field_children, lacks_symbol}
-use Rattle.avro_judge.specs.inside.Asked.{Row, Asked, rows_from, asked_inside, asked_branch, asked, row_child, asked_children}
+use Rattle.avro_judge.specs.inside.Asked.{Asked, rows_from, asked_inside, asked_branch, asked, row_child, asked_children}
 use Rattle.avro_judge.proofs.Tests.{and_left, and_right, or_from_left, or_from_right}
 use Rattle.avro_judge.proofs.NodeKinds.{children_of_union}
 

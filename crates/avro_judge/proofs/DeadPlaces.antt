@@ -1,9 +1,9 @@
 -- The places without an entry are the greatest dead set.
-use Rattle.std.proofs.Common.{◌≡◌, ℕ, zero, suc, ◌+◌, ◌<◌, ◌≤◌, Bool, true, false, ◌&&◌, ◌||◌, cond, List, [], ◌∷◌, ◌++◌, Option, Some, None, inl, inr, length, refl, sym, ◌∙◌, ap, subst, arith}
-use Rattle.std.proofs.lemmas.Bool.{false≢true, true≢false, and_from, eqb-true, eq-eqb, ltb-true, lt-ltb, cases_eq, cases_Bool}
+use Rattle.std.proofs.Common.{◌≡◌, ℕ, zero, suc, ◌<◌, Bool, true, false, ◌&&◌, cond, List, [], ◌∷◌, ◌++◌, Option, Some, None, inl, inr, length, refl, sym, ◌∙◌, ap, subst, arith}
+use Rattle.std.proofs.lemmas.Bool.{false≢true, and_from, eqb-true, eq-eqb, lt-ltb, cases_eq}
 use Rattle.std.proofs.lemmas.List.{append-nil}
 use Rattle.std.proofs.lemmas.List.Folds.{list_all-append, list_any-append}
-use Rattle.std.specs.Prelude.{nat_lt, ◌==◌, is_none, is_some, slice_get}
+use Rattle.std.specs.Prelude.{nat_lt, ◌==◌, is_none, is_some}
 use Rattle.std.specs.List.{list_all}
 use Rattle.avro_schema.specs.Node.{Node, node_at}
 use Rattle.avro_judge.specs.Closed.{is_among, is_dead, is_dead_node}

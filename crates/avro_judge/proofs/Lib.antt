@@ -44,6 +44,7 @@ pub mod Certified
 pub mod LeastPairs
 pub mod DeadPlaces
 pub mod SortedKeys
+pub mod NotedRows
 pub mod PairNumbers
 pub mod ReachedPairs
 pub mod Evidence

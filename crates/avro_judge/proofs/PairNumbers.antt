@@ -1,11 +1,11 @@
 -- Pairs by their numbers: which are among those of a list of numbers, and that rising numbers are those of rising pairs.
-use Rattle.std.proofs.Common.{◌≡◌, ℕ, ◌+◌, ◌*◌, ◌/◌, ◌%◌, ◌<◌, ◌≤◌, Bool, true, false, ◌&&◌, ◌||◌, List, [], ◌∷◌, map, inl, inr, length, refl, sym, ◌∙◌, ap, subst, arith}
+use Rattle.std.proofs.Common.{◌≡◌, ℕ, ◌+◌, ◌*◌, ◌/◌, ◌%◌, ◌<◌, ◌≤◌, true, ◌&&◌, List, [], ◌∷◌, inl, inr, refl, sym, subst, arith}
 use Rattle.std.proofs.lemmas.Bool.{false≢true, and_from, eqb-true, eq-eqb, ltb-true, lt-ltb, cases_eq}
 use Rattle.std.proofs.lemmas.Nat.{div-mul-add, mod-mul-add, div-add-mod', le-div}
 use Rattle.std.proofs.Math.Nat.{div-mul-le_self}
 use Rattle.std.specs.Prelude.{nat_lt, ◌==◌}
 use Rattle.std.specs.List.{list_all}
-use Rattle.avro_judge.specs.Closed.{Pair, same_pair, is_among, is_among_pairs}
+use Rattle.avro_judge.specs.Closed.{Pair, same_pair, is_among_pairs}
 use Rattle.avro_judge.specs.CertificateText.{is_rising, is_before}
 use Rattle.avro_judge.specs.inside.Least.{pair_number}
 use Rattle.avro_judge.specs.inside.Reached.{is_key}

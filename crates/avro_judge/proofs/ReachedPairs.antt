@@ -1,11 +1,10 @@
 -- The keys of the pairs that a judge reaches are the numbers of the pairs that the roots lead to.
-use Rattle.std.proofs.Common.{◌≡◌, ℕ, ◌+◌, ◌*◌, ◌/◌, ◌%◌, ◌<◌, Bool, true, false, cond, ◌&&◌, ◌||◌, List, [], ◌∷◌, Option, Some, None, inl, inr, length, refl, sym, ◌∙◌, ap, subst, arith}
-use Rattle.std.proofs.lemmas.Bool.{false≢true, true≢false, and_from, eqb-true, lt-ltb, ltb-true}
-use Rattle.std.specs.Prelude.{nat_lt, ◌==◌, is_none, is_some, not}
-use Rattle.std.specs.List.{list_all}
+use Rattle.std.proofs.Common.{◌≡◌, ℕ, ◌<◌, Bool, true, false, cond, ◌&&◌, List, [], ◌∷◌, Option, Some, None, inl, inr, length, refl, sym, ◌∙◌, ap, subst, arith}
+use Rattle.std.proofs.lemmas.Bool.{false≢true, true≢false, eqb-true, ltb-true}
+use Rattle.std.specs.Prelude.{nat_lt, ◌==◌, is_none, is_some}
 use Rattle.avro_schema.specs.Node.{Node, node_at}
 use Rattle.avro_schema.specs.WellFormed.{is_schema}
-use Rattle.avro_judge.specs.Closed.{Pair, same_pair, is_among, is_among_pairs, children_of, has_local_fault}
+use Rattle.avro_judge.specs.Closed.{Pair, same_pair, is_among, is_among_pairs, children_of}
 use Rattle.avro_judge.specs.Evidence.{IsReached, roots, child}
 use Rattle.avro_judge.specs.inside.Asked.{asked, asked_children, children_at, is_known, live_numbers, steps_at}
 use Rattle.avro_judge.specs.inside.Evidence.{pair_at}

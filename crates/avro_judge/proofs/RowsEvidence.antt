@@ -1,10 +1,10 @@
 -- Pairs that the roots of two schemas lead to, and a pair that they do not: computed.
-use Rattle.std.proofs.Common.{◌≡◌, ◌≤◌, ℕ, zero, suc, true, false, List, [], ◌∷◌, refl, arith}
+use Rattle.std.proofs.Common.{◌≡◌, ℕ, zero, suc, true, [], ◌∷◌, refl, arith}
 use Rattle.std.proofs.lemmas.Bool.{false≢true, ltb-true}
 use Rattle.std.specs.Prelude.{nat_lt, ◌&&◌, length}
 use Rattle.avro_schema.specs.Node.{Node, node_at}
 use Rattle.avro_schema.proofs.public.RowsSchemas.{linked_list, record_of_itself, int_or_nothing}
-use Rattle.avro_judge.specs.Closed.{Pair, is_among, is_dead, is_dead_node}
+use Rattle.avro_judge.specs.Closed.{Pair, is_among, is_dead_node}
 use Rattle.avro_judge.specs.Evidence.{IsGreatestDead, IsReached, roots, child}
 use Rattle.avro_judge.proofs.LeastPairs.{closed_holds}
 use Rattle.avro_judge.proofs.Tests.{and_left, all_among}

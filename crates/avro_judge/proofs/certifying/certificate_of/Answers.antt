@@ -1,8 +1,6 @@
-use Rattle.std.proofs.Common.{◌≡◌, ap, sym, subst, ◌∙◌}
+use Rattle.std.proofs.Common.{ap, ◌∙◌}
 use Rattle.avro_schema.specs.SeenSchema.{schema_nodes}
 use Rattle.indexmap.specs.IndexSet.{keys}
-use Rattle.avro_judge.specs.Evidence.{IsEvidence}
-use Rattle.avro_judge.specs.Closed.{Pair, is_closed}
 use Rattle.avro_judge.specs.SeenPair.{pairs_of}
 use Rattle.avro_judge.proofs.Certified.{no_entry, certified_dead, certified_live, evidence_as, closed_as}
 use Rattle.avro_judge.proofs.certifying.certificate_of.Goals as goal
