@@ -1,6 +1,6 @@
 -- What a pair must hold, whole and part by part.
 use Rattle.std.proofs.Common.{◌≡◌, ℕ, zero, suc, ◌<◌, get_or, Bool, true, false, not, ◌&&◌, ◌||◌, List, [], ◌∷◌, Option, Some, None, cond, Vec, refl, sym, ap, ◌∙◌, arith}
-use Rattle.std.specs.Prelude.{is_some, is_none, slice_get, unwrap_or, map, nat_lt, length}
+use Rattle.std.specs.Prelude.{is_some, slice_get, unwrap_or, nat_lt, length}
 use Rattle.std.specs.List.{list_all}
 use Rattle.avro_schema.specs.Node.{Node, FieldNode, node_at, branches_of, field_places}
 use Rattle.avro_schema.specs.Seen.{seen_fields, node_of}
@@ -9,10 +9,10 @@ use Rattle.avro_schema.specs.declared.schema.NodeId.{NodeId}
 use Rattle.std.specs.declared.alloc.Global.{Global}
 use Rattle.std.proofs.lemmas.Bool.{true≢false, false≢true}
 use Rattle.avro_schema.specs.declared.schema.Field.{Field}
-use Rattle.avro_resolve.specs.Match.{is_match, first_match}
-use Rattle.avro_resolve.specs.Source.{source_of, missing_field, missing_field_from}
-use Rattle.avro_judge.specs.Closed.{Pair, is_among, is_among_pairs, has_local_fault, has_fault_of_kind, children_of, field_children, lacks_symbol, is_closed_at}
-use Rattle.avro_judge.specs.inside.ClosedParts.{stands, closed_from, closed_source, closed_fields, closed_inside}
+use Rattle.avro_resolve.specs.Match.{is_match}
+use Rattle.avro_resolve.specs.Source.{source_of, missing_field_from}
+use Rattle.avro_judge.specs.Closed.{Pair, is_among, has_local_fault, has_fault_of_kind, children_of, field_children, is_closed_at}
+use Rattle.avro_judge.specs.inside.ClosedParts.{stands, closed_fields, closed_inside}
 use Rattle.avro_judge.proofs.NodeKinds.{fault_of_others}
 
 and_true : (b : Bool) → b ≡ (b && true)

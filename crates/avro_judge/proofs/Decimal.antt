@@ -1,11 +1,11 @@
 -- Numbers in decimal, digit by digit.
-use Rattle.std.proofs.Common.{◌≡◌, ℕ, zero, suc, ◌+◌, ◌-◌, ◌*◌, ◌/◌, ◌%◌, ◌<◌, ◌≤◌, Bool, true, false, ◌&&◌, ◌||◌, ◌⊎◌, inl, inr, List, [], ◌∷◌, ◌++◌, length, get_or, take, drop, map, cond, refl, sym, ap, ◌∙◌, subst, arith, add-one, take-suc, take_all}
-use Rattle.std.proofs.lemmas.Bool.{true≢false, false≢true, eqb-true}
+use Rattle.std.proofs.Common.{◌≡◌, ℕ, zero, suc, ◌+◌, ◌*◌, ◌/◌, ◌%◌, ◌<◌, ◌≤◌, Bool, true, false, ◌⊎◌, inl, inr, List, [], ◌∷◌, ◌++◌, length, get_or, take, map, cond, refl, sym, ap, ◌∙◌, subst, arith, add-one, take-suc, take_all}
+use Rattle.std.proofs.lemmas.Bool.{eqb-true}
 use Rattle.std.proofs.lemmas.Int.Digits.{digits_of_step, first_digits_of, all_below_base_digits_of, length-digits_of_step}
 use Rattle.std.proofs.lemmas.Grind.{common_steps}
-use Rattle.std.specs.Prelude.{◌==◌, nat_lt, min}
+use Rattle.std.specs.Prelude.{◌==◌, min}
 use Rattle.std.specs.Int.Digits.{digits_of, AllBelowBase}
-use Rattle.avro_judge.specs.CertificateText.{decimal, is_small}
+use Rattle.avro_judge.specs.CertificateText.{decimal}
 use Rattle.avro_judge.specs.CertificateLines.{bounded}
 
 not_zero : (n : ℕ) → 0 < n → (n == 0) ≡ false

@@ -78,6 +78,11 @@ module _ (writer reader : List Node) (limit : ℕ) (table : LeastTable) (keys : 
   children_known w r at = at_nodes (λ x y. list_all (is_known (length reader) table keys) (asked_children x y (asked writer reader (node_at writer x) (node_at reader y))) ≡ true) w r at.within
       (followed_known writer reader table keys _ (children_at_within writer reader table formed theirs (w * length reader + r) at.below) at.followed)
 
+  -- what a key's pair asks for is known
+  pub known_children : (w r : ℕ) → r < length reader → is_key keys (w * length reader + r) ≡ true
+      → list_all (is_known (length reader) table keys) (asked_children w r (asked writer reader (node_at writer w) (node_at reader r))) ≡ true
+  known_children w r within there = children_known w r (by_key w r (w * length reader + r) refl within there)
+
   -- an entry within the limit
   record IsEntry (w r : ℕ) : Type 0 where
     e : Least

@@ -27,18 +27,60 @@ pub record IsAdded (ks : List ℕ) (k : ℕ) (new : List ℕ) : Type 0 where
   pub is : new ≡ ks ++ rest
   pub there : is_key new k ≡ true
   pub all : (P : ℕ → Bool) → list_all P ks ≡ true → P k ≡ true → list_all P new ≡ true
+  pub from : (q : ℕ) → is_key new q ≡ true → (is_key ks q || is_key (k ∷ []) q) ≡ true
 
 pub added : (ks : List ℕ) (k : ℕ) → IsAdded ks k (insert_key nat_eq ks k)
 added ks k = chosen (is_key ks k) refl
   where
     chosen : (t : Bool) → is_key ks k ≡ t → IsAdded ks k (if t then ks else (ks ++ k ∷ []))
-    chosen true e = record { rest = []; is = sym (append-nil ks); there = e; all = λ P h m. h }
+    chosen true e = record { rest = []; is = sym (append-nil ks); there = e; all = λ P h m. h; from = λ q h. or_from_left (is_key ks q) (is_key (k ∷ []) q) h }
     chosen false e = record {
       rest = k ∷ [];
       is = refl;
       there = list_any-append (λ x. k == x) ks (k ∷ []) ∙ or_from_right (is_key ks k) ((k == k) || false) (or_from_left (k == k) false (eq-eqb k k refl));
       all = λ P h m. list_all-append P ks (k ∷ []) ∙ and_from (list_all P ks) (P k && true) h (and_from (P k) true m refl);
+      from = λ q h. sym (list_any-append (λ x. q == x) ks (k ∷ [])) ∙ h;
     }
+
+-- what stands at a place is a key
+pub key_at : (ks : List ℕ) (i k : ℕ) → slice_get ks i ≡ Some k → is_key ks k ≡ true
+key_at [] i k h = absurd (grind arith)
+key_at (x ∷ xs) zero k h = or_from_left (k == x) (is_key xs k) (eq-eqb k x (some_same x k h))
+  where
+    some_same : (a b : ℕ) → Some a ≡ Some b → b ≡ a
+    some_same a b e = cc
+key_at (x ∷ xs) (suc i) k h = or_from_right (k == x) (is_key xs k) (key_at xs i k h)
+
+-- what all keys pass, a key passes
+pub key_passes : (test : ℕ → Bool) (ks : List ℕ) (k : ℕ) → list_all test ks ≡ true → is_key ks k ≡ true → test k ≡ true
+key_passes test [] k all h = absurd (false≢true h)
+key_passes test (x ∷ xs) k all h = elim (or_cases (k == x) (is_key xs k) h) [
+  | inl same ↦ subst (λ (y : ℕ). test y ≡ true) (sym (eqb-true k x same)) (and_left (test x) (list_all test xs) all)
+  | inr later ↦ key_passes test xs k (and_right (test x) (list_all test xs) all) later
+]
+
+-- what each key passes, all pass
+pub each_key : (test : ℕ → Bool) (ks : List ℕ) → ((k : ℕ) → is_key ks k ≡ true → test k ≡ true) → list_all test ks ≡ true
+each_key test [] each = refl
+each_key test (x ∷ xs) each =
+    and_from (test x) (list_all test xs) (each x (or_from_left (x == x) (is_key xs x) (eq-eqb x x refl)))
+    (each_key test xs (λ k m. each k (or_from_right (k == x) (is_key xs k) m)))
+
+-- a key of no keys
+pub no_key : (ks : List ℕ) (k : ℕ) → length ks ≡ 0 → is_key ks k ≡ true → ⊥
+no_key [] k e h = false≢true h
+no_key (x ∷ xs) k e h = absurd (omega (arith, e))
+
+-- a key that is the only one
+pub only_key : (k q : ℕ) → is_key (k ∷ []) q ≡ true → q ≡ k
+only_key k q h = elim (or_cases (q == k) false h) [
+  | inl same ↦ eqb-true q k same
+  | inr none ↦ absurd (false≢true none)
+]
+
+-- of some keys and more
+pub key_more : (ks : List ℕ) (k q : ℕ) → (is_key ks q || is_key (k ∷ []) q) ≡ true → is_key (ks ++ k ∷ []) q ≡ true
+key_more ks k q h = list_any-append (λ x. q == x) ks (k ∷ []) ∙ h
 
 -- what stands among the first stays there
 pub get_kept : (ks rest : List ℕ) (i : ℕ) → i < length ks → slice_get (ks ++ rest) i ≡ slice_get ks i

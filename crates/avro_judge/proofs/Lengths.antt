@@ -1,12 +1,11 @@
 -- How long the text of a certificate is at most.
-use Rattle.std.proofs.Common.{◌≡◌, ℕ, zero, suc, ◌+◌, ◌-◌, ◌*◌, ◌^◌, ◌<◌, ◌≤◌, Bool, true, false, not, ◌&&◌, ◌||◌, List, [], ◌∷◌, ◌++◌, length, map, flat_map, refl, sym, ap, ◌∙◌, subst, arith, length-append}
+use Rattle.std.proofs.Common.{◌≡◌, ℕ, zero, suc, ◌+◌, ◌*◌, ◌^◌, ◌<◌, ◌≤◌, Bool, true, not, List, [], ◌∷◌, ◌++◌, length, map, flat_map, refl, ap, arith, length-append}
 use Rattle.std.proofs.lemmas.Bool.Decides.{nat_tests}
 use Rattle.std.proofs.lemmas.Int.Digits.{length-digits_of-le}
-use Rattle.std.specs.Prelude.{◌==◌, nat_lt, codes}
+use Rattle.std.specs.Prelude.{nat_lt, codes}
 use Rattle.std.specs.List.{list_all}
-use Rattle.std.specs.Int.Digits.{digits_of}
 use Rattle.avro_judge.specs.Closed.{Pair}
-use Rattle.avro_judge.specs.CertificateText.{CertText, certificate_text, decimal, dead_line, pair_line, is_rising, is_before, is_small, is_small_pair, are_small}
+use Rattle.avro_judge.specs.CertificateText.{CertText, decimal, dead_line, pair_line, is_rising, is_before, is_small, is_small_pair, are_small}
 use Rattle.avro_judge.proofs.Tests.{and_left, and_right}
 use Rattle.avro_judge.proofs.Decimal.{length_digits}
 use Rattle.avro_judge.proofs.Rising.{both_true}

@@ -1,5 +1,6 @@
 pub mod AskedBuilds
 pub mod AskedCovers
+pub mod AskedTaken
 pub mod AskedValue
 pub mod AskedWithin
 pub mod Building
@@ -25,6 +26,7 @@ pub mod RootJudged
 pub mod Rounds
 mod RowsCertificate
 mod RowsClosed
+mod RowsEvidence
 mod RowsCompatible
 pub mod Shapes
 pub mod ShownData
@@ -38,6 +40,14 @@ pub mod Rising
 pub mod ReadText
 pub mod Lengths
 pub mod Lookup
+pub mod Certified
+pub mod LeastPairs
+pub mod DeadPlaces
+pub mod SortedKeys
+pub mod NotedRows
+pub mod PairNumbers
+pub mod ReachedPairs
+pub mod Evidence
 pub mod ClosedParts
 pub mod Successes
 pub mod Tests

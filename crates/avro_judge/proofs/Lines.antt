@@ -1,5 +1,5 @@
 -- Numbers that a byte ends, and lists of lines.
-use Rattle.std.proofs.Common.{◌≡◌, ℕ, zero, suc, ◌+◌, ◌-◌, ◌*◌, ◌<◌, ◌≤◌, Bool, true, false, Option, Some, None, ◌⊎◌, inl, inr, List, [], ◌∷◌, ◌++◌, length, get_or, take, drop, map, flat_map, refl, sym, ap, ◌∙◌, subst, arith, append_assoc, append-nil, drop-cons, length-append, length-drop}
+use Rattle.std.proofs.Common.{◌≡◌, ℕ, zero, suc, ◌+◌, ◌-◌, ◌<◌, Option, Some, None, List, [], ◌∷◌, ◌++◌, length, get_or, take, drop, map, flat_map, refl, sym, ap, ◌∙◌, arith, append_assoc, append-nil, drop-cons, length-append, length-drop}
 use Rattle.std.proofs.Math.Seq.{get_or-append_seam}
 use Rattle.std.proofs.lemmas.List.{take-append-drop, take_all}
 use Rattle.std.proofs.lemmas.Int.Digits.{same_from_digits_of}
@@ -8,7 +8,7 @@ use Rattle.std.specs.Prelude.{codes, MatchOption, ◌==◌}
 use Rattle.std.specs.Int.Digits.{digits_of}
 use Rattle.avro_judge.specs.Closed.{Pair}
 use Rattle.avro_judge.specs.CertificateText.{decimal, dead_line, pair_line, certificate_text}
-use Rattle.avro_judge.specs.CertificateLines.{bounded, bounded_pair, NoneAhead}
+use Rattle.avro_judge.specs.CertificateLines.{NoneAhead}
 use Rattle.avro_judge.proofs.Decimal.{decimal_digits, decimal_first, above_zero}
 
 -- the byte is not there

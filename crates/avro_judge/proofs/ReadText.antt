@@ -1,7 +1,7 @@
 -- What the lists that were kept of a text say of it.
-use Rattle.std.proofs.Common.{◌≡◌, ℕ, ◌<◌, ◌⊎◌, inl, inr, Bool, true, false, List, map, length, refl, sym, ap, ◌∙◌, subst, arith}
-use Rattle.std.proofs.lemmas.Bool.{true≢false, false≢true}
-use Rattle.std.specs.Prelude.{nat_lt, Result, Ok, Err}
+use Rattle.std.proofs.Common.{◌≡◌, ℕ, ◌⊎◌, inl, inr, Bool, true, false, List, map, sym, ap, ◌∙◌}
+use Rattle.std.proofs.lemmas.Bool.{true≢false}
+use Rattle.std.specs.Prelude.{nat_lt, Err}
 use Rattle.avro_judge.specs.Closed.{Pair}
 use Rattle.avro_judge.specs.CertificateText.{CertText, certificate_text, is_rising, is_before, are_small}
 use Rattle.avro_judge.specs.CertificateLines.{bounded, bounded_pair}

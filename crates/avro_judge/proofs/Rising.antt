@@ -1,14 +1,13 @@
 -- Lists that rise, element by element.
-use Rattle.std.proofs.Common.{◌≡◌, ℕ, ◌+◌, ◌*◌, ◌<◌, ◌≤◌, Bool, true, false, ◌&&◌, ◌||◌, ◌⊎◌, inl, inr, List, [], ◌∷◌, Option, Some, None, map, refl, sym, ap, ◌∙◌, subst, cond, arith}
-use Rattle.std.proofs.lemmas.Bool.{true≢false, false≢true, eqb-true}
-use Rattle.std.proofs.lemmas.Grind.{common_steps}
+use Rattle.std.proofs.Common.{◌≡◌, ℕ, Bool, true, false, ◌&&◌, List, [], ◌∷◌, Option, Some, None, map, refl, sym, ap, ◌∙◌, cond, arith}
+use Rattle.std.proofs.lemmas.Bool.{false≢true}
 use Rattle.std.proofs.lemmas.Bool.Decides.{nat_tests}
-use Rattle.std.specs.Prelude.{◌==◌, nat_lt}
+use Rattle.std.specs.Prelude.{nat_lt}
 use Rattle.std.specs.List.{list_all}
 use Rattle.avro_judge.specs.Closed.{Pair}
 use Rattle.avro_judge.specs.CertificateText.{is_rising, is_before, is_small, is_small_pair, are_small}
 use Rattle.avro_judge.specs.CertificateLines.{bounded, bounded_pair, follows}
-use Rattle.avro_judge.proofs.Tests.{and_left, and_right, or_cases, or_from_left, or_from_right}
+use Rattle.avro_judge.proofs.Tests.{and_left, and_right}
 
 -- each element comes after the one before it, the first of them after the last so far
 abbrev pub rises_after : {A : Type 0} → (A → A → Bool) → Option A → List A → Bool

@@ -29,7 +29,7 @@ module _ (writer reader : List Node) (limit : ℕ) (table : LeastTable) (keys : 
   roots = root_known (length reader) table keys (some_nodes reader theirs) tables.root
 
   -- the datum of the roots' entry
-  shown_at : (e : Least) → erring_of (length reader) table keys entries 0 0 ≡ Some e → ShowsError writer reader limit (root_of writer) (root_of reader) (Some e)
+  pub shown_at : (e : Least) → erring_of (length reader) table keys entries 0 0 ≡ Some e → ShowsError writer reader limit (root_of writer) (root_of reader) (Some e)
   shown_at e is = subst (λ (o : Option Least). ShowsError writer reader limit (root_of writer) (root_of reader) o) is
       (tables.shown 0 0 roots (subst (λ (o : Option Least). is_some o ≡ true) (sym is) refl))
 

@@ -1,8 +1,8 @@
 -- Worked texts of certificates.
-use Rattle.std.proofs.Common.{◌≡◌, ℕ, Bool, true, false, List, [], ◌∷◌, refl}
-use Rattle.std.specs.Prelude.{nat_lt, codes}
+use Rattle.std.proofs.Common.{◌≡◌, ℕ, true, false, List, [], ◌∷◌, refl}
+use Rattle.std.specs.Prelude.{codes}
 use Rattle.avro_judge.specs.Closed.{Pair}
-use Rattle.avro_judge.specs.CertificateText.{CertText, certificate_text, decimal, is_rising, is_before, are_small}
+use Rattle.avro_judge.specs.CertificateText.{CertText, decimal, is_rising, is_before, are_small}
 
 p : ℕ → ℕ → Pair
 p w r = record { w = w; r = r }

@@ -2,6 +2,7 @@ pub mod Compatible
 pub mod Closed
 pub mod JudgeRanges
 pub mod Answered
+pub mod Evidence
 pub mod inside
 pub mod CertificateText
 pub mod SeenPair

@@ -3,6 +3,7 @@ pub mod ClosedParts
 pub mod Asked
 pub mod Built
 pub mod BuiltErrors
+pub mod Evidence
 pub mod Judged
 pub mod Leaf
 pub mod Least

@@ -1,6 +1,8 @@
+use crate::certificate::Certificate;
+use crate::certifying::certify;
 use avro_binary::ReadError;
 use avro_resolve::{ReadResolveError, read_resolved};
-use avro_schema::{Datum, Limits, Schema};
+use avro_schema::{Datum, Limits, Memory, Schema};
 use std::alloc::Global;
 use std::marker::Model;
 
@@ -42,7 +44,10 @@ impl<'a> Approved<'a> {
     ghost use Rattle.avro_binary.specs.Seen.{read_fault, UnlessOutOfMemory, Reports};
     ghost use Rattle.avro_resolve.specs.Reading.{StandsFor};
     ghost use Rattle.avro_resolve.specs.Resolve.{resolve_root};
+    ghost use Rattle.avro_judge.specs.Closed.{is_closed};
     ghost use Rattle.avro_judge.specs.Compatible.{AreCompatible};
+    ghost use Rattle.avro_judge.specs.Evidence.{IsEvidence};
+    ghost use Rattle.avro_judge.specs.SeenCertificate.{dead_of, pairs_in};
 
     /// The approval of two schemas that are compatible.
     pub(crate) fn of(writer: &'a Schema, reader: &'a Schema) -> Approved<'a>
@@ -82,5 +87,19 @@ impl<'a> Approved<'a> {
             Err(ReadResolveError::Read(e)) => Err(e),
             Err(ReadResolveError::Resolve(_)) => unreachable!(),
         }
+    }
+    /// The certificate of the two schemas, by which [`confirm`](crate::confirm) approves them again. It
+    /// depends on the schemas alone.
+    ///
+    /// # Errors
+    ///
+    /// Memory ran out.
+    pub fn certificate(&self, alloc: Global) -> Result<Certificate, Memory>
+        // All nodes of the writer's schema that no datum has, and the pairs that the roots lead to, no others.
+        ensures evidence { IfOk result (λ c. IsEvidence (schema_nodes self.now.0) (schema_nodes self.now.1) (dead_of c) (pairs_in c)) }
+        // It shows that the schemas are compatible.
+        ensures confirmed { IfOk result (λ c. is_closed (schema_nodes self.now.0) (schema_nodes self.now.1) (dead_of c) (pairs_in c) ≡ true) }
+    {
+        certify(alloc, self.writer, self.reader)
     }
 }

@@ -1,14 +1,14 @@
 //! What a pair of nodes asks for: all comparing of names is here.
 
-ghost use Rattle.std.specs.Prelude.{◌≡◌, ◌<◌, ◌≤◌, ℕ, Bool, true, false, length, IfOk, Some, None, bytes_eq, option_map, string_bytes, is_some, cond};
+ghost use Rattle.std.specs.Prelude.{◌≡◌, ◌<◌, ◌≤◌, ℕ, Bool, true, false, length, IfOk, Some, None, bytes_eq, option_map, string_bytes, is_some, cond, []};
 ghost use Rattle.std.specs.List.{position_from, list_any};
 ghost use Rattle.avro_schema.specs.Node.{Node as SeenNode, node_at, field_places};
 ghost use Rattle.avro_schema.specs.Seen.{node_of, places_of, seen_fields, field_of, texts_of};
 ghost use Rattle.avro_schema.specs.SeenSchema.{schema_nodes};
 ghost use Rattle.avro_resolve.specs.Match.{are_alike, match_within, is_match, first_match};
-ghost use Rattle.avro_resolve.specs.Source.{field_place, first_place, source_of, reader_field, missing_field};
+ghost use Rattle.avro_resolve.specs.Source.{field_place, first_place, source_of, missing_field};
 ghost use Rattle.avro_judge.specs.Closed.{lacks_symbol};
-ghost use Rattle.avro_judge.specs.inside.Asked.{Asked, asked, asked_inside, asked_branch, rows_from};
+ghost use Rattle.avro_judge.specs.inside.Asked.{Asked, asked, asked_inside, asked_branch, noted, rows_from};
 ghost use Rattle.avro_judge.specs.inside.SeenAsk.{ask_of, rows_of};
 
 use avro_name::FullName;
@@ -201,23 +201,6 @@ pub(crate) fn source_of(fields: &[Field], field: &Field) -> Option<usize>
     }
 }
 
-/// The node of the reader's field whose source is the writer's field at a place.
-fn reader_field(writer: &[Field], reader: &[Field], place: usize) -> Option<NodeId>
-    ensures { option_map (λ id. id.0) result ≡ option_map (λ f. f.node) (reader_field (seen_fields writer.now) (seen_fields reader.now) place) }
-{
-    for field in reader {
-        match source_of(writer, field) {
-            None => {}
-            Some(source) => {
-                if source == place {
-                    return Some(field.node);
-                }
-            }
-        }
-    }
-    None
-}
-
 /// Whether some reader's field has neither a source nor a default.
 fn misses_field(writer: &[Field], reader: &[Field]) -> bool
     ensures { result ≡ is_some (missing_field (seen_fields writer.now) (seen_fields reader.now)) }
@@ -257,18 +240,48 @@ pub(crate) fn lacks_symbol(symbols: &[String], theirs: &[String], default: Optio
     false
 }
 
-/// Each writer's field, beside the reader's field whose source it is.
-fn rows(alloc: Global, writer: &[Field], reader: &[Field]) -> Result<Vec<FieldAsk>, Memory>
-    ensures { IfOk result (λ rows. rows_of rows.items ≡ rows_from (seen_fields writer.now) (seen_fields reader.now) 0 (field_places (seen_fields writer.now))) }
+/// Each writer's field alone.
+fn lone_rows(alloc: Global, writer: &[Field]) -> Result<Vec<FieldAsk>, Memory>
+    ensures { IfOk result (λ rows. rows_of rows.items ≡ rows_from (seen_fields writer.now) [] 0 (field_places (seen_fields writer.now))) }
 {
     let mut rows = Vec::new(alloc);
     for i in 0..writer.len() {
         let row = FieldAsk {
             node: writer[i].node,
-            theirs: reader_field(writer, reader, i),
+            theirs: None,
         };
         if rows.push(row).is_err() {
             return Err(Memory);
+        }
+    }
+    Ok(rows)
+}
+
+/// Notes the reader's field whose source a row is.
+fn note(rows: &mut Vec<FieldAsk>, place: usize, theirs: NodeId)
+    ensures { rows_of rows.new.items ≡ noted (rows_of rows.old.items) place theirs.0 }
+{
+    if place < rows.len() {
+        rows[place] = FieldAsk {
+            node: rows[place].node,
+            theirs: Some(theirs),
+        };
+    }
+}
+
+/// Each writer's field, beside the reader's field whose source it is: the first, so that they are noted
+/// from the last on.
+fn rows(alloc: Global, writer: &[Field], reader: &[Field]) -> Result<Vec<FieldAsk>, Memory>
+    ensures { IfOk result (λ rows. rows_of rows.items ≡ rows_from (seen_fields writer.now) (seen_fields reader.now) 0 (field_places (seen_fields writer.now))) }
+{
+    let mut rows = lone_rows(alloc, writer)?;
+    let mut i = reader.len();
+    while i > 0 {
+        i -= 1;
+        let field = &reader[i];
+        match source_of(writer, field) {
+            None => {}
+            Some(place) => note(&mut rows, place, field.node),
         }
     }
     Ok(rows)

@@ -184,6 +184,7 @@ pub(crate) fn unknown(alloc: Global, count: usize) -> Result<Vec<Option<Least>>,
 /// A table of the least data of each node.
 pub fn least_data(alloc: Global, writer: &Schema, limit: u32) -> Result<Vec<Option<Least>>, Memory>
     requires range { limit ≤ 16777216 }
+    ensures one_each { IfOk result (λ t. length t.items ≡ length (schema_nodes writer.now)) }
     ensures shown { IfOk result (λ t. AreDataShown (schema_nodes writer.now) limit (table_of t.items)) }
     ensures low { IfOk result (λ t. IsLowForData (schema_nodes writer.now) limit (table_of t.items)) }
 {

@@ -10,6 +10,7 @@ mod asking;
 mod build;
 mod build_error;
 mod certificate;
+mod certifying;
 mod deciding;
 mod erring;
 mod judging;

@@ -1,6 +1,6 @@
 //! The pairs of nodes that are reached from the roots.
 
-ghost use Rattle.std.specs.Prelude.{◌≡◌, ◌<◌, ◌≤◌, ◌*◌, ◌/◌, ◌%◌, ◌^◌, ℕ, Bool, true, false, List, [], ◌∷◌, ◌++◌, length, nat_eq, nat_lt, slice_get, Some, IfOk, OnOk};
+ghost use Rattle.std.specs.Prelude.{◌≡◌, ◌||◌, ◌<◌, ◌≤◌, ◌*◌, ◌/◌, ◌%◌, ◌^◌, ℕ, Bool, true, false, List, [], ◌∷◌, ◌++◌, length, nat_eq, nat_lt, slice_get, Some, IfOk, OnOk};
 ghost use Rattle.std.specs.List.{list_all};
 ghost use Rattle.indexmap.specs.IndexSet.{keys, index_set_len, IsUnique};
 ghost use Rattle.avro_schema.specs.Node.{node_at};
@@ -8,7 +8,7 @@ ghost use Rattle.avro_schema.specs.SeenSchema.{schema_nodes};
 ghost use Rattle.avro_judge.specs.Closed.{Pair};
 ghost use Rattle.avro_judge.specs.inside.Least.{pair_number};
 ghost use Rattle.avro_judge.specs.inside.SeenLeast.{table_of};
-ghost use Rattle.avro_judge.specs.inside.Reached.{is_key, AreFollowed};
+ghost use Rattle.avro_judge.specs.inside.Reached.{is_key, AreFollowed, IsSteppedTo};
 ghost use Rattle.avro_judge.specs.inside.Asked.{asked_at, asked_children, live_numbers, steps_at, AreAsked};
 ghost use Rattle.avro_judge.specs.inside.SeenAsk.{ask_of, asks_of};
 
@@ -30,6 +30,7 @@ pub struct Reached {
 fn add_all(known: &mut IndexSet<u64>, more: &[u64]) -> Result<(), Memory>
     ensures kept { OnOk result ((rest : List ℕ) × (keys known.new ≡ keys known.old ++ rest)) }
     ensures added { OnOk result (list_all (is_key (keys known.new)) more.now ≡ true) }
+    ensures old_or_new { OnOk result ((k : ℕ) → is_key (keys known.new) k ≡ true → (is_key (keys known.old) k || is_key more.now k) ≡ true) }
     ensures all { OnOk result ((P : ℕ → Bool) → list_all P (keys known.old) ≡ true → list_all P more.now ≡ true → list_all P (keys known.new) ≡ true) }
 {
     for key in more {
@@ -172,6 +173,8 @@ pub fn reach(
     ensures closed { IfOk result (λ p. AreFollowed (steps_at (schema_nodes writer.now) (schema_nodes reader.now) (table_of table.now)) (keys p.known) (length (keys p.known))) }
     ensures reached { IfOk result (λ p. (P : ℕ → Bool) → P 0 ≡ true
         → ((k : ℕ) → P k ≡ true → list_all P (steps_at (schema_nodes writer.now) (schema_nodes reader.now) (table_of table.now) k) ≡ true) → list_all P (keys p.known) ≡ true) }
+    ensures stepped { IfOk result (λ p. (k : ℕ) → is_key (keys p.known) k ≡ true
+        → IsSteppedTo (steps_at (schema_nodes writer.now) (schema_nodes reader.now) (table_of table.now)) k) }
     ensures one_each { IfOk result (λ p. length p.asks.items ≡ length (keys p.known)) }
     ensures asked { IfOk result (λ p. AreAsked (schema_nodes writer.now) (schema_nodes reader.now) (keys p.known) (asks_of p.asks.items)) }
 {

@@ -6,10 +6,12 @@ use std::alloc::{AllocError, Global};
 /// What the words ask for.
 #[derive(Clone, Copy, Debug)]
 pub(crate) enum Request<'a> {
-    /// Whether the reader's schema takes all data of the writer's.
+    /// Whether the reader's schema takes all data of the writer's; a certificate of a yes goes into a
+    /// file.
     Judge {
         writer: &'a str,
         reader: &'a str,
+        certificate: Option<&'a str>,
     },
     /// Whether a certificate shows that a reader's schema takes all data of the writer's.
     Confirm {
@@ -73,7 +75,11 @@ fn request_in<'a>(matches: &ArgMatches<'a>) -> Option<Request<'a>> {
     let judge = matches.subcommand_matches("judge")?;
     let writer = judge.get_str("writer")?;
     let reader = judge.get_str("reader")?;
-    Some(Request::Judge { writer, reader })
+    Some(Request::Judge {
+        writer,
+        reader,
+        certificate: judge.get_str("certificate"),
+    })
 }
 
 /// What is to be shown of a schema.
@@ -89,10 +95,16 @@ fn shown_in(matches: &ArgMatches<'_>) -> Shown {
 
 /// The commands and their arguments.
 fn program<'a>(alloc: Global) -> Result<Command<'a>, AllocError> {
+    let evidence = Arg::new(alloc, "certificate")
+        .long("certificate")
+        .value_name("OUT")
+        .action(ArgAction::Set)
+        .help("File that a yes writes its certificate into");
     let judge = Command::new(alloc, "judge")
         .about("Tells whether a reader's schema takes all data of a writer's")
         .arg(writer_file(alloc))?
-        .arg(reader_file(alloc))?;
+        .arg(reader_file(alloc))?
+        .arg(evidence)?;
     let certificate = named_file(alloc, "certificate", "CERT").help("File of the certificate");
     let confirm = Command::new(alloc, "confirm")
         .about(

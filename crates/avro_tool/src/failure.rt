@@ -15,6 +15,8 @@ pub(crate) enum Failure<'a> {
     Certificate(&'a str, CertError),
     /// A file could not be opened or read.
     CannotRead(&'a str),
+    /// A file could not be made or written.
+    CannotWrite(&'a str),
     /// The standard output could not be written.
     CannotPrint,
     /// Memory ran out.
@@ -44,6 +46,15 @@ impl<'a> Failure<'a> {
         }
     }
 
+    /// The failure of writing a file.
+    pub(crate) fn of_writing(word: &'a str, error: &io::Error) -> Failure<'a> {
+        if error.kind() == io::ErrorKind::OutOfMemory {
+            Failure::OutOfMemory
+        } else {
+            Failure::CannotWrite(word)
+        }
+    }
+
     /// The failure of reading a schema's text.
     pub(crate) fn of_schema(word: &'a str, error: SchemaError) -> Failure<'a> {
         if error == SchemaError::OutOfMemory {
@@ -66,7 +77,7 @@ impl<'a> Failure<'a> {
     pub(crate) fn status(&self) -> u8 {
         match self {
             Failure::Schema(..) | Failure::Certificate(..) => 3,
-            Failure::CannotRead(_) | Failure::CannotPrint => 4,
+            Failure::CannotRead(_) | Failure::CannotWrite(_) | Failure::CannotPrint => 4,
             Failure::OutOfMemory => 5,
             Failure::Usage(_) | Failure::NotText => 64,
         }
@@ -78,6 +89,7 @@ impl<'a> Failure<'a> {
             Failure::Schema(word, error) => writeln!(err, "avro: {word}: {error}"),
             Failure::Certificate(word, error) => writeln!(err, "avro: {word}: {error}"),
             Failure::CannotRead(word) => writeln!(err, "avro: {word}: cannot read"),
+            Failure::CannotWrite(word) => writeln!(err, "avro: {word}: cannot write"),
             Failure::CannotPrint => writeln!(err, "avro: output: cannot write"),
             Failure::OutOfMemory => writeln!(err, "avro: out of memory"),
             Failure::Usage(text) => write!(err, "{text}"),

@@ -2,23 +2,25 @@ use crate::Finding;
 use crate::failure::Failure;
 use crate::schema_file::read_schema_file;
 use avro_display::show;
-use avro_judge::{Cause, JudgeLimits, Refutation, Verdict, judge};
+use avro_judge::{Approved, Cause, JudgeLimits, Refutation, Verdict, judge};
 use avro_schema::size;
-use std::io;
 use std::io::Write;
 use std::rt::Files;
+use std::{fs, io};
 
-/// Judges the schemas of two files, and prints the verdict.
+/// Judges the schemas of two files, and prints the verdict. After a yes the certificate is written
+/// where a file is named for it.
 pub(crate) fn judge_files<'a, R: Files + AllocGlobal, O: Write>(
     rt: &R,
     writer: &'a str,
     reader: &'a str,
+    certificate: Option<&'a str>,
     out: &mut O,
 ) -> Result<Finding, Failure<'a>> {
     let writer = read_schema_file(rt, writer)?;
     let reader = read_schema_file(rt, reader)?;
     let printed = match judge(rt.alloc(), &writer, &reader, &JudgeLimits::default())? {
-        Verdict::Approved(_) => print_yes(out),
+        Verdict::Approved(approved) => return approve(rt, &approved, certificate, out),
         Verdict::Refuted(refutation) => {
             let display = show(rt.alloc(), &writer, writer.root(), &refutation.datum)?;
             print_no(out, &refutation, &display)
@@ -31,10 +33,39 @@ pub(crate) fn judge_files<'a, R: Files + AllocGlobal, O: Write>(
     }
 }
 
-fn print_yes<O: Write>(out: &mut O) -> io::Result<Finding> {
-    writeln!(out, "yes")?;
-    out.flush()?;
+/// Prints the yes, and writes its certificate where a file is named for it.
+fn approve<'a, R: Files + AllocGlobal, O: Write>(
+    rt: &R,
+    approved: &Approved<'_>,
+    certificate: Option<&'a str>,
+    out: &mut O,
+) -> Result<Finding, Failure<'a>> {
+    if print_yes(out).is_err() {
+        return Err(Failure::CannotPrint);
+    }
+    if let Some(word) = certificate {
+        write_certificate_file(rt, approved, word)?;
+    }
     Ok(Finding::Yes)
+}
+
+/// Writes the certificate of an approval into a file.
+fn write_certificate_file<'a, R: Files + AllocGlobal>(
+    rt: &R,
+    approved: &Approved<'_>,
+    word: &'a str,
+) -> Result<(), Failure<'a>> {
+    let certificate = approved.certificate(rt.alloc())?;
+    let text = certificate.write(rt.alloc())?;
+    match fs::write(rt, word, &text) {
+        Ok(()) => Ok(()),
+        Err(e) => Err(Failure::of_writing(word, &e)),
+    }
+}
+
+fn print_yes<O: Write>(out: &mut O) -> io::Result<()> {
+    writeln!(out, "yes")?;
+    out.flush()
 }
 
 fn print_no<O: Write>(out: &mut O, refutation: &Refutation, display: &str) -> io::Result<Finding> {

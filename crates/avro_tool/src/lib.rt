@@ -67,7 +67,11 @@ fn answer<'a, R: Files + AllocGlobal, O: Write>(
     out: &mut O,
 ) -> Result<Finding, Failure<'a>> {
     match request_of(rt.alloc(), words)? {
-        Request::Judge { writer, reader } => judging::judge_files(rt, writer, reader, out),
+        Request::Judge {
+            writer,
+            reader,
+            certificate,
+        } => judging::judge_files(rt, writer, reader, certificate, out),
         Request::Confirm {
             writer,
             reader,

@@ -3,6 +3,8 @@
 #![tactic(auto)]
 
 #[cfg(test)]
+mod certificate_command;
+#[cfg(test)]
 mod certificates;
 #[cfg(test)]
 mod judging;

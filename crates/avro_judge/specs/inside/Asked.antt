@@ -1,5 +1,5 @@
 -- What a pair of nodes asks for, once all names are compared.
-use Rattle.std.specs.Prelude.{◌≡◌, true, ℕ, suc, cond, List, [], ◌∷◌, Option, Some, None, slice_get, unwrap_or, option_map, map, is_some, is_none, Bool, ◌||◌, ◌&&◌, nat_lt, length, ◌/◌, ◌%◌, flat_map}
+use Rattle.std.specs.Prelude.{◌≡◌, true, ℕ, zero, suc, cond, List, [], ◌∷◌, Option, Some, None, slice_get, unwrap_or, option_map, map, is_some, is_none, Bool, ◌||◌, ◌&&◌, nat_lt, length, ◌/◌, ◌%◌, flat_map}
 use Rattle.avro_schema.specs.Node.{Node, FieldNode, node_at, field_places}
 use Rattle.avro_resolve.specs.Match.{is_match, first_match}
 use Rattle.avro_resolve.specs.Source.{reader_field, missing_field}
@@ -31,6 +31,12 @@ pub data Asked : Type 0 where
 abbrev pub rows_from : List FieldNode → List FieldNode → ℕ → List ℕ → List Row
 rows_from ws rs place [] = []
 rows_from ws rs place (p ∷ ps) = record { node = p; theirs = option_map (λ f. f.node) (reader_field ws rs place) } ∷ rows_from ws rs (suc place) ps
+
+-- the row at a place names a reader's field
+abbrev pub noted : List Row → ℕ → ℕ → List Row
+noted [] k q = []
+noted (row ∷ rows) zero q = record { node = row.node; theirs = Some q } ∷ rows
+noted (row ∷ rows) (suc k) q = row ∷ noted rows k q
 
 -- of two nodes that match and are no unions
 abbrev pub asked_inside : Node → Node → Asked

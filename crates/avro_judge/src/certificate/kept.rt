@@ -27,6 +27,7 @@ impl Certificate {
     ghost use Rattle.avro_judge.specs.CertificateRead.{Refuses, UnlessOutOfMemory};
     ghost use Rattle.avro_judge.specs.Closed.{Pair};
     ghost use Rattle.avro_judge.specs.SeenCertificate.{dead_of, pairs_in};
+    ghost use Rattle.avro_judge.specs.SeenPair.{pairs_of};
 
     /// The greatest length of a text: no certificate of numbers up to 4,095 has a longer one.
     pub const MAX_LEN: usize = 268_435_456;
@@ -64,6 +65,17 @@ impl Certificate {
             return Err(CertError::Malformed);
         }
         Ok(Certificate { dead, pairs })
+    }
+
+    /// The certificate of lists of its form.
+    pub(crate) fn of(dead: Vec<u32>, pairs: Vec<(u32, u32)>) -> Certificate
+        requires rising { is_rising nat_lt dead.items ≡ true }
+        requires rising_pairs { is_rising is_before (pairs_of pairs.items) ≡ true }
+        requires small { are_small dead.items (pairs_of pairs.items) ≡ true }
+        ensures dead { dead_of result ≡ dead.items }
+        ensures pairs { pairs_in result ≡ pairs_of pairs.items }
+    {
+        Certificate { dead, pairs }
     }
 
     /// The text, which [`Certificate::read`] reads again.

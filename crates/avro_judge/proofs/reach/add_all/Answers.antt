@@ -1,13 +1,23 @@
-use Rattle.std.proofs.Common.{◌≡◌, ℕ, true, List, [], ◌∷◌, ◌++◌, ◌&&◌, take, get_or, refl, sym, ◌∙◌, ap, subst, append_assoc}
+use Rattle.std.proofs.Common.{◌≡◌, ℕ, true, List, [], ◌∷◌, ◌++◌, ◌&&◌, ◌||◌, inl, inr, take, get_or, refl, sym, ◌∙◌, ap, subst, append_assoc}
 use Rattle.std.proofs.lemmas.Bool.{and_from}
 use Rattle.std.proofs.lemmas.List.{take_more}
 use Rattle.std.proofs.lemmas.List.Folds.{list_all-append}
 use Rattle.std.specs.List.{list_all}
 use Rattle.indexmap.specs.IndexSet.{keys}
 use Rattle.avro_judge.specs.inside.Reached.{is_key}
-use Rattle.avro_judge.proofs.Keys.{added, keys_kept, IsAdded}
-use Rattle.avro_judge.proofs.Tests.{and_left, and_right}
+use Rattle.avro_judge.proofs.Keys.{added, keys_kept, key_more, IsAdded}
+use Rattle.avro_judge.proofs.Tests.{and_left, and_right, or_cases, or_from_left, or_from_right}
 use Rattle.avro_judge.proofs.reach.add_all.Goals as goal
+
+old_or_more : (old more known : List ℕ) (k q : ℕ) → (is_key known q ≡ true → (is_key old q || is_key more q) ≡ true)
+    → (is_key known q || is_key (k ∷ []) q) ≡ true → (is_key old q || is_key (more ++ k ∷ []) q) ≡ true
+old_or_more old more known k q before h = elim (or_cases (is_key known q) (is_key (k ∷ []) q) h) [
+  | inl m ↦ elim (or_cases (is_key old q) (is_key more q) (before m)) [
+    | inl first ↦ or_from_left (is_key old q) (is_key (more ++ k ∷ []) q) first
+    | inr later ↦ or_from_right (is_key old q) (is_key (more ++ k ∷ []) q) (key_more more k q (or_from_left (is_key more q) (is_key (k ∷ []) q) later))
+  ]
+  | inr m ↦ or_from_right (is_key old q) (is_key (more ++ k ∷ []) q) (key_more more k q (or_from_right (is_key more q) (is_key (k ∷ []) q) m))
+]
 
 pub loop-key-preserved : goal.loop-key-preserved
 loop-key-preserved c =
@@ -26,4 +36,6 @@ loop-key-preserved c =
           let parts = sym (list_all-append P (take c.loop-key.key-index c.args.more.now) (k ∷ []))
           ∙ subst (λ (ks : List ℕ). list_all P ks ≡ true) more new in
           one.all P (inv.2 P old (and_left _ _ parts)) (and_left (P k) true (and_right (list_all P (take c.loop-key.key-index c.args.more.now)) _ parts)),
+      λ q m. subst (λ (ks : List ℕ). (is_key (keys c.args.known.now) q || is_key ks q) ≡ true) (sym more)
+          (old_or_more (keys c.args.known.now) (take c.loop-key.key-index c.args.more.now) (keys c.loop-key.known) k q (inv.3 q) (one.from q m)),
     )

@@ -1,4 +1,4 @@
-use Rattle.std.proofs.Common.{length-append, ◌≡◌, ◌≤◌, ◌<◌, ℕ, ◌+◌, ◌-◌, ◌*◌, true, List, [], ◌∷◌, ◌++◌, Some, length, refl, sym, ◌∙◌, ap, subst, arith}
+use Rattle.std.proofs.Common.{length-append, ◌||◌, inl, inr, ◌≡◌, ◌≤◌, ◌<◌, ℕ, ◌+◌, ◌-◌, ◌*◌, true, List, [], ◌∷◌, ◌++◌, Some, length, refl, sym, ◌∙◌, ap, subst, arith}
 use Rattle.std.proofs.lemmas.Bool.{and_from, lt-ltb, ltb-true}
 use Rattle.std.proofs.lemmas.List.{length-map, map-append}
 use Rattle.std.specs.Prelude.{nat_lt, slice_get}
@@ -7,17 +7,32 @@ use Rattle.indexmap.specs.IndexSet.{keys}
 use Rattle.avro_schema.specs.SeenSchema.{schema_nodes}
 use Rattle.avro_schema.specs.Node.{Node}
 use Rattle.avro_judge.specs.inside.SeenLeast.{table_of}
-use Rattle.avro_judge.specs.inside.Reached.{is_key, AreFollowed}
+use Rattle.avro_judge.specs.inside.Reached.{is_key, AreFollowed, IsSteppedTo, from_first, one_step}
 use Rattle.avro_judge.specs.inside.Asked.{Asked, asked_at, steps_at, AreAsked}
 use Rattle.avro_judge.specs.inside.SeenAsk.{ask_of, asks_of}
 use Rattle.avro_judge.specs.declared.asking.Ask.{Ask}
-use Rattle.avro_judge.proofs.Keys.{key_kept, followed_more, few_keys, none_pass}
-use Rattle.avro_judge.proofs.Tests.{and_left, all_at}
+use Rattle.avro_judge.proofs.Keys.{key_kept, followed_more, few_keys, none_pass, key_at, no_key, only_key}
+use Rattle.avro_judge.proofs.Tests.{and_left, or_cases, all_at}
 use Rattle.avro_judge.proofs.Stepping.{some_pairs, steps_below, asked_more}
 use Rattle.avro_judge.proofs.reach.reach.Goals as goal
 
 none_asked : (writer reader : List Node) (ks : List ℕ) (asks : List Ask) → asks ≡ [] → AreAsked writer reader ks (asks_of asks)
 none_asked writer reader ks asks e i k found within = absurd (omega (arith, ltb-true i (length (asks_of asks)) within, length-map asks ask_of, ap length e))
+
+-- the first key alone
+first_stepped : (steps : ℕ → List ℕ) (none : List ℕ) (k : ℕ) → length none ≡ 0 → (is_key none k || is_key (0 ∷ []) k) ≡ true → IsSteppedTo steps k
+first_stepped steps none k e h = elim (or_cases (is_key none k) (is_key (0 ∷ []) k) h) [
+  | inl m ↦ absurd (no_key none k e m)
+  | inr m ↦ subst (λ (x : ℕ). IsSteppedTo steps x) (sym (only_key 0 k m)) from_first
+]
+
+-- the keys, and what one of them leads to
+more_stepped : (steps : ℕ → List ℕ) (ks : List ℕ) (j k : ℕ) → ((x : ℕ) → is_key ks x ≡ true → IsSteppedTo steps x) → is_key ks j ≡ true
+    → (is_key ks k || is_key (steps j) k) ≡ true → IsSteppedTo steps k
+more_stepped steps ks j k before there h = elim (or_cases (is_key ks k) (is_key (steps j) k) h) [
+  | inl m ↦ before k m
+  | inr m ↦ one_step j k (before j there) m
+]
 
 below_at : (n : ℕ) (ks : List ℕ) (i k : ℕ) → list_all (λ x. nat_lt x n) ks ≡ true → slice_get ks i ≡ Some k → k < n
 below_at n ks i k all here = ltb-true k n (all_at (λ x. nat_lt x n) ks i k all here)
@@ -33,6 +48,8 @@ loop-next-init c =
       ap length c.new-asks.ensures.items,
       none_asked (schema_nodes c.args.writer.now) (schema_nodes c.args.reader.now) (keys c.add_all.new.known) c.new-asks.result.items c.new-asks.ensures.items,
       λ P zero step. c.in_ok-add_all.ensures.all P (none_pass P (keys c.new-known.result) c.new-known.ensures.len) (and_from (P 0) true zero refl),
+      λ k m. first_stepped (steps_at (schema_nodes c.args.writer.now) (schema_nodes c.args.reader.now) (table_of c.args.table.now)) (keys c.new-known.result) k c.new-known.ensures.len
+          (c.in_ok-add_all.ensures.old_or_new k m),
     )
 
 pub ask_at-requires : goal.ask_at-requires
@@ -95,4 +112,7 @@ loop-next-preserved c =
           c.loop-next.asks.items c.push_ask.new.asks.items c.in_ok-ask-in-Some.ask key c.loop-next.next c.in_ok-push_ask-in-Some.ensures is inv.5 inv.4 here c.in_ok-ask-in-Some.ensures,
       λ P zero step. more.all P (inv.6 P zero step) (subst (λ (ks : List ℕ). list_all P ks ≡ true) (sym row)
           (step key (all_at P (keys c.loop-next.known) c.loop-next.next key (inv.6 P zero step) here))),
+      λ k m. more_stepped (steps_at (schema_nodes c.args.writer.now) (schema_nodes c.args.reader.now) (table_of c.args.table.now)) (keys c.loop-next.known) key k inv.7
+          (key_at (keys c.loop-next.known) c.loop-next.next key here)
+          (subst (λ (ks : List ℕ). (is_key (keys c.loop-next.known) k || is_key ks k) ≡ true) row (more.old_or_new k m)),
     )

@@ -4,7 +4,7 @@ use Rattle.std.specs.List.{list_all}
 use Rattle.indexmap.specs.IndexSet.{keys}
 use Rattle.avro_schema.specs.SeenSchema.{schema_nodes}
 use Rattle.avro_judge.specs.inside.SeenLeast.{table_of}
-use Rattle.avro_judge.specs.inside.Reached.{is_key, AreFollowed}
+use Rattle.avro_judge.specs.inside.Reached.{is_key, AreFollowed, IsSteppedTo}
 use Rattle.avro_judge.specs.inside.Asked.{steps_at, AreAsked}
 use Rattle.avro_judge.specs.inside.SeenAsk.{asks_of}
 use Rattle.avro_judge.proofs.reach.reach.Given as goal
@@ -17,6 +17,7 @@ invariant-loop-next l = (is_key (keys l.known) 0 ≡ true)
     × (length l.asks.items ≡ l.next)
     × AreAsked (schema_nodes l.writer) (schema_nodes l.reader) (keys l.known) (asks_of l.asks.items)
     × ((P : ℕ → Bool) → P 0 ≡ true → ((k : ℕ) → P k ≡ true → list_all P (steps_at (schema_nodes l.writer) (schema_nodes l.reader) (table_of l.table) k) ≡ true) → list_all P (keys l.known) ≡ true)
+    × ((k : ℕ) → is_key (keys l.known) k ≡ true → IsSteppedTo (steps_at (schema_nodes l.writer) (schema_nodes l.reader) (table_of l.table)) k)
 
 abbrev pub decreases-loop-next : goal.decreases-loop-next
 decreases-loop-next l = length (schema_nodes l.writer) * length (schema_nodes l.reader) - l.next

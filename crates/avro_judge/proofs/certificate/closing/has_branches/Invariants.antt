@@ -1,7 +1,6 @@
 use Rattle.std.proofs.Common.{◌≡◌, drop, map}
 use Rattle.std.specs.List.{list_all}
 use Rattle.avro_schema.specs.Seen.{places_of}
-use Rattle.avro_judge.specs.Closed.{Pair}
 use Rattle.avro_judge.specs.SeenCertificate.{dead_of, pairs_in}
 use Rattle.avro_judge.specs.inside.ClosedParts.{stands}
 use Rattle.avro_judge.proofs.certificate.closing.has_branches.Given as goal

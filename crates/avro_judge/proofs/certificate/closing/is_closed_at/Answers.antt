@@ -1,10 +1,8 @@
-use Rattle.std.proofs.Common.{◌≡◌, true, false, length, sym, ◌∙◌, subst, ap, arith}
+use Rattle.std.proofs.Common.{◌≡◌, true, length, sym, ◌∙◌, arith}
 use Rattle.std.proofs.lemmas.Bool.Decides.{nat_tests}
 use Rattle.std.specs.Prelude.{nat_lt}
-use Rattle.avro_schema.specs.Node.{node_at}
 use Rattle.avro_schema.specs.Seen.{node_of}
 use Rattle.avro_schema.specs.SeenSchema.{schema_nodes}
-use Rattle.avro_judge.specs.Closed.{is_among}
 use Rattle.avro_judge.specs.SeenCertificate.{dead_of, pairs_in}
 use Rattle.avro_judge.proofs.ClosedParts.{plain_kept, live_pair}
 use Rattle.avro_judge.proofs.certificate.closing.is_closed_at.Goals as goal

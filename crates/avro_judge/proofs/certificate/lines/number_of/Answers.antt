@@ -1,7 +1,6 @@
-use Rattle.std.proofs.Common.{rules, ◌≡◌, ℕ, arith, ◌+◌, ◌-◌, ◌*◌, ◌≤◌, ◌<◌, get_or, length, sym, ◌∙◌, subst, ap}
+use Rattle.std.proofs.Common.{◌≡◌, ℕ, arith, ◌+◌, ◌≤◌, ◌<◌, get_or, length, sym, ◌∙◌, subst}
 use Rattle.std.proofs.lemmas.Grind.{common_steps}
 use Rattle.std.proofs.lemmas.Bool.{eqb-true}
-use Rattle.std.specs.Prelude.{min}
 use Rattle.avro_judge.proofs.Decimal.{Begins, begins_more, no_digit, no_leading_zero, no_empty, begins_whole}
 use Rattle.avro_judge.proofs.certificate.lines.number_of.Goals as goal
 

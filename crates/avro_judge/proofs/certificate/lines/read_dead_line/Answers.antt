@@ -1,6 +1,5 @@
-use Rattle.std.proofs.Common.{rules, ◌≡◌, ℕ, List, ◌++◌, ◌∷◌, length, sym, ◌∙◌, subst, ap, arith}
+use Rattle.std.proofs.Common.{◌++◌, sym, ◌∙◌, ap}
 use Rattle.std.specs.Prelude.{codes}
-use Rattle.avro_judge.specs.CertificateText.{decimal, dead_line}
 use Rattle.avro_judge.proofs.Lines.{dead_line_is, word_same, in_each}
 use Rattle.avro_judge.proofs.certificate.lines.read_dead_line.Goals as goal
 

@@ -1,4 +1,4 @@
-use Rattle.std.proofs.Common.{rules, ◌≡◌, ℕ, List, ◌++◌, ◌∷◌, length, ◌+◌, drop, take, sym, ◌∙◌, subst, ap, arith}
+use Rattle.std.proofs.Common.{ℕ, List, ◌++◌, ◌∷◌, ◌+◌, drop, sym, ◌∙◌, ap}
 use Rattle.avro_judge.specs.CertificateText.{decimal}
 use Rattle.avro_judge.proofs.Lines.{rest_of, cut_at, number_in_front, no_number}
 use Rattle.avro_judge.proofs.certificate.lines.read_number.Goals as goal

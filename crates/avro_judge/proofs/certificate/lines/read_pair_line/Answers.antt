@@ -1,6 +1,6 @@
-use Rattle.std.proofs.Common.{rules, ◌≡◌, ℕ, List, ◌++◌, ◌∷◌, length, sym, ◌∙◌, subst, ap, arith}
+use Rattle.std.proofs.Common.{ℕ, List, ◌++◌, ◌∷◌, sym, ◌∙◌, ap, arith}
 use Rattle.std.specs.Prelude.{codes}
-use Rattle.avro_judge.specs.CertificateText.{decimal, pair_line}
+use Rattle.avro_judge.specs.CertificateText.{decimal}
 use Rattle.avro_judge.proofs.Lines.{pair_line_is, pair_path, word_same, number_same}
 use Rattle.avro_judge.proofs.certificate.lines.read_pair_line.Goals as goal
 

@@ -1,8 +1,6 @@
-use Rattle.std.proofs.Common.{◌≡◌, ℕ, List, sym, ◌∙◌, subst, ap}
-use Rattle.std.specs.Prelude.{nat_lt}
+use Rattle.std.proofs.Common.{ℕ, List, ◌∙◌, subst}
 use Rattle.std.specs.Ordering.{nat_cmp}
 use Rattle.std.specs.List.Sorted.{IsBinarySearchResult}
-use Rattle.avro_judge.specs.CertificateText.{is_rising}
 use Rattle.avro_judge.specs.SeenCertificate.{dead_of}
 use Rattle.avro_judge.proofs.Lookup.{searched_among}
 use Rattle.avro_judge.proofs.certificate.lookup.has_dead.Goals as goal

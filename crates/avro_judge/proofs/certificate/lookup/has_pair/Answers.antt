@@ -1,8 +1,8 @@
-use Rattle.std.proofs.Common.{◌≡◌, ◌≤◌, true, false, ℕ, List, length, get_or, sym, ◌∙◌, subst, ap, arith}
+use Rattle.std.proofs.Common.{◌≡◌, ◌≤◌, true, List, length, sym, ◌∙◌, subst, ap, arith}
 use Rattle.std.proofs.lemmas.Bool.Decides.{nat_tests}
 use Rattle.avro_judge.specs.Closed.{Pair, same_pair, is_among_pairs}
 use Rattle.avro_judge.specs.CertificateText.{is_rising, is_before}
-use Rattle.avro_judge.specs.SeenPair.{pair_of, pairs_of}
+use Rattle.avro_judge.specs.SeenPair.{pair_of}
 use Rattle.avro_judge.proofs.Lookup.{pair_past, pair_at, other_number, test_here, test_elsewhere}
 use Rattle.avro_judge.proofs.certificate.lookup.has_pair.Goals as goal
 

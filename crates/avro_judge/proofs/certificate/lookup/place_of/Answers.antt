@@ -1,4 +1,4 @@
-use Rattle.std.proofs.Common.{arith, sym, ◌∙◌, ◌≡◌, ◌+◌, ◌-◌, ◌/◌, ◌<◌, ℕ, List, length, get_or, subst}
+use Rattle.std.proofs.Common.{arith, sym, ◌∙◌, ◌≡◌, ◌+◌, ◌-◌, ◌/◌, ◌<◌, ℕ, length, subst}
 use Rattle.std.specs.Prelude.{false}
 use Rattle.std.specs.List.{AllWithin}
 use Rattle.avro_judge.specs.CertificateText.{is_before}

@@ -1,4 +1,4 @@
-use Rattle.std.proofs.Common.{rules, ◌≡◌, ℕ, List, [], map, length, refl, sym, ◌∙◌, subst, ap, arith}
+use Rattle.std.proofs.Common.{ℕ, List, [], map, refl, sym, ◌∙◌, subst, ap}
 use Rattle.avro_judge.specs.CertificateText.{dead_line}
 use Rattle.avro_judge.specs.CertificateLines.{bounded}
 use Rattle.avro_judge.proofs.Lines.{HasRead, read_one, shorter, dead_line_some, map_id}

@@ -1,4 +1,4 @@
-use Rattle.std.proofs.Common.{rules, ◌≡◌, ℕ, List, [], map, length, refl, sym, ◌∙◌, subst, ap, arith}
+use Rattle.std.proofs.Common.{ℕ, List, [], map, refl, sym, subst, ap}
 use Rattle.avro_judge.specs.CertificateText.{pair_line}
 use Rattle.avro_judge.specs.CertificateLines.{bounded_pair}
 use Rattle.avro_judge.specs.SeenPair.{pair_of}

@@ -1,7 +1,6 @@
-use Rattle.std.proofs.Common.{rules, ◌≡◌, ℕ, List, ◌++◌, flat_map, length, refl, sym, ◌∙◌, subst, ap, arith}
+use Rattle.std.proofs.Common.{rules, ◌≡◌, ◌++◌, flat_map, sym, ◌∙◌, ap}
 use Rattle.std.specs.Prelude.{codes}
-use Rattle.avro_judge.specs.Closed.{Pair}
-use Rattle.avro_judge.specs.CertificateText.{dead_line, pair_line, certificate_text}
+use Rattle.avro_judge.specs.CertificateText.{dead_line, pair_line}
 use Rattle.avro_judge.proofs.Lines.{text_is, word_same, dead_lines_same, pair_lines_same, no_dead_ahead, no_pair_ahead}
 use Rattle.avro_judge.proofs.certificate.sets.read_sets.Goals as goal
 

@@ -1,6 +1,6 @@
-use Rattle.std.proofs.Common.{rules, ◌≡◌, ℕ, ◌+◌, ◌/◌, ◌%◌, ◌<◌, List, [], ◌∷◌, ◌++◌, refl, sym, ◌∙◌, subst, ap, arith, append_assoc}
+use Rattle.std.proofs.Common.{◌≡◌, ◌+◌, ◌/◌, ◌%◌, [], ◌∷◌, arith, append_assoc}
 use Rattle.avro_judge.specs.CertificateText.{decimal}
-use Rattle.avro_judge.proofs.Decimal.{decimal_digit, decimal_push, decimal_step}
+use Rattle.avro_judge.proofs.Decimal.{decimal_digit, decimal_step}
 use Rattle.avro_judge.proofs.certificate.writing.+write_number.Goals as goal
 use Rattle.avro_judge.proofs.certificate.writing.+write_number.Goals.{then-number-ge10+in_ok-write_number, else-number-ge10}
 

@@ -1,8 +1,7 @@
-use Rattle.std.proofs.Common.{◌≡◌, ◌≤◌, List, length, sym, true, false, inl, inr, arith}
-use Rattle.avro_judge.specs.CertificateText.{are_small}
+use Rattle.std.proofs.Common.{◌≤◌, length, true, false, inl, inr, arith}
 use Rattle.avro_judge.specs.SeenPair.{pairs_of}
 use Rattle.avro_judge.proofs.Lengths.{length-certificate}
-use Rattle.avro_judge.proofs.ReadText.{AreKept, kept_of, small_at, rising_at, pairs_rising_at, no_lines, refusal, great_number, read_text, text_kept, small_text, falling_text}
+use Rattle.avro_judge.proofs.ReadText.{kept_of, small_at, rising_at, pairs_rising_at, no_lines, refusal, great_number, read_text, text_kept, small_text, falling_text}
 use Rattle.avro_judge.proofs.certificate.kept.Certificate.read.Goals as goal
 
 pub returns-in-Err-clause-complete : goal.returns-in-Err-clause-complete
