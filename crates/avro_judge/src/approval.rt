@@ -1,5 +1,5 @@
 use avro_binary::ReadError;
-use avro_resolve::{ReadResolveError, read_resolved};
+use avro_resolve::{ReadResolveError, decode_resolved};
 use avro_schema::{Datum, Limits, Schema};
 use std::alloc::Global;
 use std::marker::Model;
@@ -77,7 +77,7 @@ impl<'a> Approved<'a> {
         ensures breaks { (fault : ReadFault) → Breaks (schema_nodes self.now.0) limits.now (root_of (schema_nodes self.now.0)) bytes.now fault
             → UnlessOutOfMemory result (Reports result fault) }
     {
-        match read_resolved(alloc, self.writer, self.reader, bytes, limits) {
+        match decode_resolved(alloc, self.writer, self.reader, bytes, limits) {
             Ok(answer) => Ok(answer),
             Err(ReadResolveError::Read(e)) => Err(e),
             Err(ReadResolveError::Resolve(_)) => unreachable!(),
