@@ -97,7 +97,7 @@ module _ {I O : Type 0} (S : I → List (List ℕ × Value) → Type 0) (SO : O 
       let rn = node_at reader r.0 in
       let good = h are is (smaller (entries_size (entries_from vs)) (entries_size (entries_from (vs ++ (key, v) ∷ []))) (size_front vs ((key, v) ∷ [])) small) in
       let made = good_made SO out (resolve writer reader (node_at writer a.0) (node_at reader b.0) v)
-          (stands are (node_there S writer reader wn rn old count branch a b vs good nodes place are is) (smaller (size v) (entries_size (entries_from (vs ++ (key, v) ∷ []))) (size_entry vs key v []) small)) in
+      (stands are (node_there S writer reader wn rn old count branch a b vs good nodes place are is) (smaller (size v) (entries_size (entries_from (vs ++ (key, v) ∷ []))) (size_entry vs key v []) small)) in
       record {
         to = good.to;
         leads = good.leads;

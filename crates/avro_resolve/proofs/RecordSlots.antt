@@ -92,7 +92,7 @@ module _ {O : Type 0} (S : O → Value → Type 0) (writer reader : List Node) (
   field_there nodes fs place are of_record is =
       let same : writes ≡ fs = ap fields_at good.of_writer ∙ of_record in
       let there : place ≡ unwrap_or (slice_get (field_places writes) (length vs)) 0 =
-          sym (ap (λ (gs : List FieldNode). unwrap_or (slice_get (field_places gs) (length vs)) 0) same ∙ ap (λ (o : Option ℕ). unwrap_or o 0) is) in
+      sym (ap (λ (gs : List FieldNode). unwrap_or (slice_get (field_places gs) (length vs)) 0) same ∙ ap (λ (o : Option ℕ). unwrap_or o 0) is) in
       ap (λ (ns : List Node). node_at ns place) are ∙ ap (node_at writer) there
 
   counted_more : (o : Option O) (v : Value) → length (slots ++ o ∷ []) ≡ length (vs ++ v ∷ [])
@@ -143,8 +143,8 @@ module _ {O : Type 0} (S : O → Value → Type 0) (writer reader nodes : List N
       let rs = fields_at (node_at reader b.0) in
       let good = h are of_record (front_small small) in
       let got = sourced_good S writer reader nodes (node_at nodes place) (unwrap_or (slice_get (field_places ws) (length vs)) 0) v are
-          (field_there S writer reader wn rn slots.items branch a b vs good nodes fs place are of_record is_field) (field_small small)
-          (reader_field ws rs (length vs)) out (at_count a b (Made.Good out) (length slots.items) good.counted stands) in
+      (field_there S writer reader wn rn slots.items branch a b vs good nodes fs place are of_record is_field) (field_small small)
+      (reader_field ws rs (length vs)) out (at_count a b (Made.Good out) (length slots.items) good.counted stands) in
       let found = good.found ++ (length vs, got.1) ∷ [] in
       let one : length vs + 1 ≡ length (vs ++ v ∷ []) = omega (arith, one_longer vs v) in
       subst (λ (xs : List (Option O)). FieldsGood S writer reader wn rn xs branch a b (vs ++ v ∷ [])) (sym pushed)
@@ -171,8 +171,8 @@ module _ {O : Type 0} (S : O → Value → Type 0) (writer reader nodes : List N
       let rs = fields_at (node_at reader b.0) in
       let good = h are of_record (front_small small) in
       let none = sourced_none S writer reader nodes (node_at nodes place) (unwrap_or (slice_get (field_places ws) (length vs)) 0) v are
-          (field_there S writer reader wn rn slots.items branch a b vs good nodes fs place are of_record is_field) (field_small small)
-          (reader_field ws rs (length vs)) (at_count a b Made.Nothing (length slots.items) good.counted stands) in
+      (field_there S writer reader wn rn slots.items branch a b vs good nodes fs place are of_record is_field) (field_small small)
+      (reader_field ws rs (length vs)) (at_count a b Made.Nothing (length slots.items) good.counted stands) in
       let one : length vs + 1 ≡ length (vs ++ v ∷ []) = omega (arith, one_longer vs v) in
       subst (λ (xs : List (Option O)). FieldsGood S writer reader wn rn xs branch a b (vs ++ v ∷ [])) (sym pushed)
       (record {
@@ -199,8 +199,8 @@ module _ {O : Type 0} (S : O → Value → Type 0) (writer reader nodes : List N
       let small = smaller (values_size (values_from (vs ++ v ∷ []))) (values_size (values_from ((vs ++ v ∷ []) ++ more))) (size_front (vs ++ v ∷ []) more) few in
       let good = h are of_record (front_small small) in
       let got = sourced_bad S writer reader nodes (node_at nodes place) (unwrap_or (slice_get (field_places ws) (length vs)) 0) v are
-          (field_there S writer reader wn rn slots.items branch a b vs good nodes fs place are of_record is_field) (field_small small)
-          (reader_field ws rs (length vs)) fault (at_count a b (Made.Faulty fault) (length slots.items) good.counted stands) in
+      (field_there S writer reader wn rn slots.items branch a b vs good nodes fs place are of_record is_field) (field_small small)
+      (reader_field ws rs (length vs)) fault (at_count a b (Made.Faulty fault) (length slots.items) good.counted stands) in
       record_fails S writer reader wn rn slots.items branch a b vs good v got.0 (turned fault) got.1 got.2 more ∙ ap as_fault (sym step)
 
   pub field_after_fault : (at : At) (fault : Fault) → FieldsStandAs S writer reader nodes fs at (Slots.Faulty fault) vs → FieldsStandAs S writer reader nodes fs at (Slots.Faulty fault) (vs ++ v ∷ [])

@@ -109,8 +109,7 @@ module _ (ws : List FieldNode) (reads : List Field) (i : ℕ) (f : Field) (low :
         → ValuesSoFar S ws found reads made (seen_fields (drop i reads)) → ValuesSoFar S ws found reads new (seen_fields (drop (i + 1) reads))
     values_more made new out pushed stands h =
         let x = field_value ws found (field_of f) in
-        let rest = map (field_value ws found) (seen_fields (drop (i + 1) reads)) in
-        (
+        let rest = map (field_value ws found) (seen_fields (drop (i + 1) reads)) in (
           h.0 ++ x ∷ [],
           subst (λ (outs : List O). AllZip S outs (h.0 ++ x ∷ [])) (sym pushed) (zipped-push S made h.0 out x h.1 stands),
           append_assoc h.0 (x ∷ []) rest ∙ ap (λ (fs : List FieldNode). h.0 ++ map (field_value ws found) fs) (sym field_next) ∙ h.2,

@@ -55,10 +55,7 @@ pub fn next_field_part<O>(writer: &Schema, reader: &Schema, fields: &Slots<O>) -
 }
 
 /// Adds what was made of a field behind those before.
-pub fn put_field<B: Build>(
-    fields: &mut Slots<B::Out>,
-    made: Made<B::Out>,
-) -> Result<(), AllocError>
+pub fn put_field<B: Build>(fields: &mut Slots<B::Out>, made: Made<B::Out>) -> Result<(), AllocError>
     ensures { (writer reader nodes : List Node) (fs : List FieldNode) (place : ℕ) (at : At) (vs : List Value) (v : Value) → FieldsStandAs B.stands_for writer reader nodes fs at fields.old vs
         → slice_get (field_places fs) (length vs) ≡ Some place → StandsAs B.stands_for writer reader nodes (node_at nodes place) (next_field writer reader fields.old) made v
         → OnOk result (FieldsStandAs B.stands_for writer reader nodes fs at fields.new (vs ++ v ∷ [])) }

@@ -4,7 +4,9 @@ use crate::making::{make_bytes, make_int, make_string, make_symbol, wrap};
 use crate::pairs::aim;
 use crate::parts::branch_of;
 use crate::recording::{make_record, next_field_part, put_field, start_fields};
-use crate::running::{make_array, make_map, next_part, put_entry, put_item, start_entries, start_items};
+use crate::running::{
+    make_array, make_map, next_part, put_entry, put_item, start_entries, start_items,
+};
 use avro_binary::{Build, Make};
 use avro_schema::Schema;
 use std::alloc::{AllocError, Global};
@@ -182,7 +184,16 @@ impl<'w, 'r, 'b, B: Build> Make for Resolving<'w, 'r, 'b, B> {
             At::Pair(w, r) => match aim(self.writer, w, self.reader, r) {
                 Aim::Fault(kind) => Ok(Made::Faulty(faulty(alloc, kind))),
                 Aim::To(branch, q) => {
-                    make_symbol(alloc, self.builder, self.writer, w, place, self.reader, branch, q)
+                    make_symbol(
+                        alloc,
+                        self.builder,
+                        self.writer,
+                        w,
+                        place,
+                        self.reader,
+                        branch,
+                        q,
+                    )
                 }
             },
         }

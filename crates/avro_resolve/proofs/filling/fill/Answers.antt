@@ -9,7 +9,7 @@ loop-f-init g c = (
   λ found all. (
     λ h is k src. all k,
     let none : c.new-values.result.items ≡ [] = search rules in
-    no_values_yet g.B.Build.stands_for (seen_fields c.args.writes.now) found c.args.reads.now c.new-values.result.items none,
+        no_values_yet g.B.Build.stands_for (seen_fields c.args.writes.now) found c.args.reads.now c.new-values.result.items none,
   ),
 )
 
