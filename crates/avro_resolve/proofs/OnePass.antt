@@ -51,10 +51,10 @@ small_within limits v few within =
     below : (n m : ℕ) → n ≤ m → m ≤ 16777216 → n < 2 ^ 64
     below n m le few = omega (arith, le, few)
 
-error_of : (A : Type 0) → ReadError → Result A ReadError
+abbrev error_of : (A : Type 0) → ReadError → Result A ReadError
 error_of A e = Err e
 
-unread_as : (A : Type 0) → ReadError → Result A ReadResolveError
+abbrev unread_as : (A : Type 0) → ReadError → Result A ReadResolveError
 unread_as A e = Err (ReadResolveError.Read e)
 
 only_memory : (A B : Type 0) (e : ReadError) (P : Type 0) → UnlessMemory (error_of A e) P → UnlessOutOfMemory (unread_as B e) P

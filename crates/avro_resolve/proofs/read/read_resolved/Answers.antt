@@ -6,7 +6,7 @@ use Rattle.avro_resolve.proofs.read.read_resolved.Goals as goal
 
 pub returns-in-Good : goal.returns-in-Good
 returns-in-Good g c =
-    resolved g.B.Build.stands_for (schema_nodes c.args.writer.now) (schema_nodes c.args.reader.now) c.args.limits.now c.args.bytes.now c.nodes-_nodes.ensures.in_range.most_nodes
+    resolved g.B.Build.stands_for (schema_nodes c.args.writer.now) (schema_nodes c.args.reader.now) c.args.limits.now c.args.bytes.now c.nodes-nodes.ensures.in_range.most_nodes
     (node_at (schema_nodes c.args.writer.now) c.root-w.result.0) (ap (node_at (schema_nodes c.args.writer.now)) c.root-w.ensures.root)
     c.in-Good.out c.in-Ok.len (rw c.in-Good.is at c.in-Ok.ensures)
     (λ made v h small. at_roots g.B.Build.stands_for (schema_nodes c.args.writer.now) (schema_nodes c.args.reader.now) (schema_nodes c.read_made.new.maker.writer.now) (schema_nodes c.read_made.new.maker.reader.now) c.root-w.result c.root.result made v
@@ -14,7 +14,7 @@ returns-in-Good g c =
 
 pub returns-in-Faulty : goal.returns-in-Faulty
 returns-in-Faulty g c =
-    unresolved g.B.Build.stands_for (schema_nodes c.args.writer.now) (schema_nodes c.args.reader.now) c.args.limits.now c.args.bytes.now c.nodes-_nodes.ensures.in_range.most_nodes
+    unresolved g.B.Build.stands_for (schema_nodes c.args.writer.now) (schema_nodes c.args.reader.now) c.args.limits.now c.args.bytes.now c.nodes-nodes.ensures.in_range.most_nodes
     (node_at (schema_nodes c.args.writer.now) c.root-w.result.0) (ap (node_at (schema_nodes c.args.writer.now)) c.root-w.ensures.root)
     c.in-Faulty.fault c.turn.result c.in-Ok.len (rw c.in-Faulty.is at c.in-Ok.ensures)
     (λ made v h small. at_roots g.B.Build.stands_for (schema_nodes c.args.writer.now) (schema_nodes c.args.reader.now) (schema_nodes c.read_made.new.maker.writer.now) (schema_nodes c.read_made.new.maker.reader.now) c.root-w.result c.root.result made v
@@ -23,6 +23,6 @@ returns-in-Faulty g c =
 
 pub returns-in-Err : goal.returns-in-Err
 returns-in-Err g c =
-    unread g.B.Build.stands_for (schema_nodes c.args.writer.now) (schema_nodes c.args.reader.now) c.args.limits.now c.args.bytes.now c.nodes-_nodes.ensures.in_range.most_nodes
+    unread g.B.Build.stands_for (schema_nodes c.args.writer.now) (schema_nodes c.args.reader.now) c.args.limits.now c.args.bytes.now c.nodes-nodes.ensures.in_range.most_nodes
     (node_at (schema_nodes c.args.writer.now) c.root-w.result.0) (ap (node_at (schema_nodes c.args.writer.now)) c.root-w.ensures.root)
     c.in-Err.error c.in-Err.ensures
