@@ -40,7 +40,7 @@ impl<'a> Approved<'a> {
     ghost use Rattle.avro_binary.specs.Encoding.{Encodes};
     ghost use Rattle.avro_binary.specs.Fault.{ReadFault};
     ghost use Rattle.avro_binary.specs.Seen.{read_fault, UnlessOutOfMemory, Reports};
-    ghost use Rattle.avro_resolve.specs.Reading.{StandsFor};
+    ghost use Rattle.avro_resolve.specs.Reading.{ReadsAs};
     ghost use Rattle.avro_resolve.specs.Resolve.{resolve_root};
     ghost use Rattle.avro_judge.specs.Compatible.{AreCompatible};
 
@@ -71,7 +71,7 @@ impl<'a> Approved<'a> {
             → UnlessOutOfMemory result (IsOkAnd result (λ r.
             (resolve_root (schema_nodes self.now.0) (schema_nodes self.now.1) v ≡ Ok (value_of r.0)) × (r.1 ≡ length front))) }
         // There is no other answer.
-        ensures found { IfOk result (λ r. StandsFor (schema_nodes self.now.0) (schema_nodes self.now.1) limits.now bytes.now r.1 (Ok (value_of r.0))) }
+        ensures found { IfOk result (λ r. ReadsAs (schema_nodes self.now.0) (schema_nodes self.now.1) limits.now bytes.now r.1 (Ok (value_of r.0))) }
         // An error reports the first fault of the bytes, and each fault is reported.
         ensures refused { IfErr result (λ e. IfSome (read_fault e) (Breaks (schema_nodes self.now.0) limits.now (root_of (schema_nodes self.now.0)) bytes.now)) }
         ensures breaks { (fault : ReadFault) → Breaks (schema_nodes self.now.0) limits.now (root_of (schema_nodes self.now.0)) bytes.now fault

@@ -15,7 +15,7 @@ use Rattle.avro_binary.specs.declared.error.ReadError.{ReadError}
 use Rattle.avro_resolve.specs.Ends.{turned, IsSeen}
 use Rattle.avro_resolve.specs.Fault.{ResolutionFault}
 use Rattle.avro_resolve.specs.Guided.{MadeAs, StandsAs, IsSmall}
-use Rattle.avro_resolve.specs.Reading.{StandsFor, BuildsResolved, ReadsResolved}
+use Rattle.avro_resolve.specs.Reading.{ReadsAs, BuildsResolved, ReadsResolved}
 use Rattle.avro_resolve.specs.Resolve.{Resolved, resolve, resolve_root}
 use Rattle.avro_resolve.specs.Seen.{fault_of, UnlessOutOfMemory}
 use Rattle.avro_resolve.specs.declared.error.Fault.{Fault}
@@ -121,7 +121,7 @@ module _ {O : Type 0} (S : O → Value → Type 0) (writer reader : List Node) (
 module _ (writer reader : List Node) (limits : LimitValues) (bytes : List ℕ) where
   pub answered : (result : Result (Datum × ℕ) ReadResolveError) → BuildsResolved IsSeen writer reader limits bytes result → ReadsResolved writer reader limits bytes result
   answered (Ok r) b = record {
-    found = subst (λ (u : Value). StandsFor writer reader limits bytes r.1 (Ok u)) (sym b.found.1) b.found.2;
+    found = subst (λ (u : Value). ReadsAs writer reader limits bytes r.1 (Ok u)) (sym b.found.1) b.found.2;
     faulty = tt;
     begins = λ v front rest encoded within split.
         let h = b.begins v front rest encoded within split in

@@ -16,7 +16,7 @@ use Rattle.avro_resolve.specs.declared.error.ReadResolveError.{ReadResolveError}
 
 -- An encoding of a writer's datum within limits stands at the front, in so many bytes, and resolution gives this of the
 -- datum.
-pub record StandsFor (writer reader : List Node) (limits : LimitValues) (bytes : List ℕ) (len : ℕ) (resolved : Resolved) : Type 0 where
+pub record ReadsAs (writer reader : List Node) (limits : LimitValues) (bytes : List ℕ) (len : ℕ) (resolved : Resolved) : Type 0 where
   pub datum : Value
   pub in_bytes : len ≤ length bytes
   pub encoded : Encodes writer (root_of writer) datum (take len bytes)
@@ -27,9 +27,9 @@ pub record StandsFor (writer reader : List Node) (limits : LimitValues) (bytes :
 -- answer stands for, or refused by their first fault.
 pub record BuildsResolved {O : Type 0} (stands : O → Value → Type 0) (writer reader : List Node) (limits : LimitValues) (bytes : List ℕ) (result : Result (O × ℕ) ReadResolveError) : Type 0 where
   -- what is answered stands for the datum that stands there, resolved
-  pub found : IfOk result (λ r. (u : Value) × stands r.0 u × StandsFor writer reader limits bytes r.1 (Ok u))
+  pub found : IfOk result (λ r. (u : Value) × stands r.0 u × ReadsAs writer reader limits bytes r.1 (Ok u))
   -- a fault of resolution is that of the datum that stands there
-  pub faulty : IfUnresolved result (λ f. (len : ℕ) × StandsFor writer reader limits bytes len (Err (fault_of f)))
+  pub faulty : IfUnresolved result (λ f. (len : ℕ) × ReadsAs writer reader limits bytes len (Err (fault_of f)))
   -- what stands there is answered, whatever follows it
   pub begins : (v : Value) (front rest : List ℕ) → Encodes writer (root_of writer) v front → is_within limits v ≡ true → bytes ≡ front ++ rest
       → UnlessOutOfMemory result (BuiltAfter stands result (resolve_root writer reader v) (length front))
@@ -42,9 +42,9 @@ pub record BuildsResolved {O : Type 0} (stands : O → Value → Type 0) (writer
 -- with, or refused by their first fault.
 pub record ReadsResolved (writer reader : List Node) (limits : LimitValues) (bytes : List ℕ) (result : Result (Datum × ℕ) ReadResolveError) : Type 0 where
   -- what is answered is the datum that stands there, resolved
-  pub found : IfOk result (λ r. StandsFor writer reader limits bytes r.1 (Ok (value_of r.0)))
+  pub found : IfOk result (λ r. ReadsAs writer reader limits bytes r.1 (Ok (value_of r.0)))
   -- a fault of resolution is that of the datum that stands there
-  pub faulty : IfUnresolved result (λ f. (len : ℕ) × StandsFor writer reader limits bytes len (Err (fault_of f)))
+  pub faulty : IfUnresolved result (λ f. (len : ℕ) × ReadsAs writer reader limits bytes len (Err (fault_of f)))
   -- what stands there is answered, whatever follows it
   pub begins : (v : Value) (front rest : List ℕ) → Encodes writer (root_of writer) v front → is_within limits v ≡ true → bytes ≡ front ++ rest
       → UnlessOutOfMemory result (AnswersAfter result (resolve_root writer reader v) (length front))
