@@ -1,16 +1,16 @@
 -- Entries of a map that are resolved as they are read.
-use Rattle.std.proofs.Common.{◌≡◌, ℕ, suc, ◌+◌, ◌-◌, ◌<◌, ◌≤◌, ◌^◌, List, [], ◌∷◌, ◌++◌, length, Option, Some, None, Result, Ok, Err, refl, sym, ap, ◌∙◌, subst, arith}
+use Rattle.std.proofs.Common.{◌≡◌, ℕ, suc, ◌+◌, ◌-◌, ◌≤◌, ◌^◌, List, [], ◌∷◌, ◌++◌, length, Option, Result, Ok, Err, refl, sym, ap, ◌∙◌, subst, arith}
 use Rattle.std.specs.Prelude.{IfOk, min}
 use Rattle.std.specs.declared.alloc.AllocError.{AllocError}
 use Rattle.std.proofs.lemmas.List.{append_assoc}
-use Rattle.avro_schema.specs.Value.{Value, Entries, no_entries, entry, size, entries_size}
+use Rattle.avro_schema.specs.Value.{Value, Entries, entry, size, entries_size}
 use Rattle.avro_schema.specs.Node.{Node, node_at, values_node}
 use Rattle.avro_schema.specs.Seen.{entries_from}
 use Rattle.avro_schema.specs.declared.schema.NodeId.{NodeId}
 use Rattle.avro_schema.proofs.public.Parts.{size-positive}
 use Rattle.avro_resolve.specs.Ends.{turned, joined_entries}
 use Rattle.avro_resolve.specs.Fault.{ResolutionFault, fault_in}
-use Rattle.avro_resolve.specs.Guided.{MadeAs, StandsAs, SoFar, IsSmall, EntriesGood, MapRunAs, EntriesStandAs}
+use Rattle.avro_resolve.specs.Guided.{MadeAs, StandsAs, IsSmall, EntriesGood, EntriesStandAs}
 use Rattle.avro_resolve.specs.Pairs.{wrapped, value_place}
 use Rattle.avro_resolve.specs.Resolve.{Resolved, resolve, resolve_entries, both, inside, result_map, part_at}
 use Rattle.avro_resolve.specs.declared.error.Fault.{Fault}

@@ -1,19 +1,16 @@
 -- Reading with resolution in one pass is exact.
-use Rattle.std.proofs.Common.{◌≡◌, ℕ, ◌<◌, ◌≤◌, ◌^◌, true, List, ◌++◌, length, take, Option, Some, None, Result, Ok, Err, refl, sym, ap, ◌∙◌, subst, arith}
+use Rattle.std.proofs.Common.{◌≡◌, ℕ, ◌<◌, ◌≤◌, ◌^◌, true, List, Some, Result, Ok, Err, refl, sym, ap, ◌∙◌, subst, arith}
 use Rattle.std.specs.Prelude.{nat_le, ◌&&◌}
 use Rattle.std.proofs.lemmas.Bool.{and_parts, leb-true}
 use Rattle.avro_schema.specs.Value.{Value, size, depth, longest_blob}
 use Rattle.avro_schema.specs.Node.{Node, node_at, root_of}
 use Rattle.avro_schema.specs.Fits.{LimitValues, is_within}
-use Rattle.avro_schema.specs.Seen.{value_of}
 use Rattle.avro_schema.specs.declared.datum.Datum.{Datum}
 use Rattle.avro_schema.specs.declared.schema.NodeId.{NodeId}
-use Rattle.avro_binary.specs.Fault.{ReadFault}
 use Rattle.avro_binary.specs.Reading.{BuildsExactly}
 use Rattle.avro_binary.specs.Seen.{read_fault, UnlessOutOfMemory as UnlessMemory}
 use Rattle.avro_binary.specs.declared.error.ReadError.{ReadError}
 use Rattle.avro_resolve.specs.Ends.{turned, IsSeen}
-use Rattle.avro_resolve.specs.Fault.{ResolutionFault}
 use Rattle.avro_resolve.specs.Guided.{MadeAs, StandsAs, IsSmall}
 use Rattle.avro_resolve.specs.Reading.{ReadsAs, BuildsResolved, ReadsResolved}
 use Rattle.avro_resolve.specs.Resolve.{Resolved, resolve, resolve_root}

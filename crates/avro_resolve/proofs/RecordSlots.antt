@@ -1,5 +1,5 @@
 -- Fields of a record that are resolved as they are read.
-use Rattle.std.proofs.Common.{◌≡◌, ℕ, suc, ◌+◌, ◌<◌, ◌≤◌, ◌^◌, List, [], ◌∷◌, ◌++◌, length, Option, Some, None, Result, Ok, Err, refl, sym, ap, ◌∙◌, subst, arith}
+use Rattle.std.proofs.Common.{◌≡◌, ℕ, suc, ◌+◌, ◌≤◌, List, [], ◌∷◌, ◌++◌, length, Option, Some, None, Result, Ok, Err, refl, sym, ap, ◌∙◌, subst, arith}
 use Rattle.std.specs.Prelude.{IfOk, slice_get, unwrap_or}
 use Rattle.std.specs.Global.{Vec}
 use Rattle.std.specs.declared.alloc.AllocError.{AllocError}
@@ -11,7 +11,7 @@ use Rattle.avro_schema.specs.Seen.{values_from}
 use Rattle.avro_schema.specs.declared.schema.NodeId.{NodeId}
 use Rattle.avro_resolve.specs.Ends.{turned, before, AllBelow, SlotsAre}
 use Rattle.avro_resolve.specs.Fault.{ResolutionFault, fault_in}
-use Rattle.avro_resolve.specs.Guided.{MadeAs, StandsAs, SoFar, IsSmall, FieldsGood, SlotsStand, FieldsStandAs}
+use Rattle.avro_resolve.specs.Guided.{MadeAs, StandsAs, IsSmall, FieldsGood, FieldsStandAs}
 use Rattle.avro_resolve.specs.Pairs.{wrapped, part_to, field_for}
 use Rattle.avro_resolve.specs.Resolve.{Resolved, Sourced, resolve, resolve_sources, with_sourced, both, inside, result_map, field_values, fields_at, record_or_missing}
 use Rattle.avro_resolve.specs.Source.{missing_field, reader_field}

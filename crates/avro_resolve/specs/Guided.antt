@@ -1,6 +1,6 @@
 -- What reading with resolution makes of a writer's datum, part by part.
-use Rattle.std.specs.Prelude.{◌≡◌, ◌<◌, ◌^◌, ℕ, ◌++◌, List, [], ◌∷◌, Option, Some, None, length, Result, Ok, Err}
-use Rattle.avro_schema.specs.Value.{Value, Values, Entries, value, entry, size, values_size, entries_size}
+use Rattle.std.specs.Prelude.{◌≡◌, ◌<◌, ◌^◌, ℕ, ◌++◌, List, Option, None, length, Result, Ok, Err}
+use Rattle.avro_schema.specs.Value.{Value, size, values_size, entries_size}
 use Rattle.avro_schema.specs.Node.{Node, FieldNode, node_at}
 use Rattle.avro_schema.specs.Seen.{values_from, entries_from}
 use Rattle.avro_schema.specs.declared.schema.NodeId.{NodeId}
@@ -9,7 +9,6 @@ use Rattle.avro_resolve.specs.Ends.{turned, SlotsAre, AllBelow, joined, joined_e
 use Rattle.avro_resolve.specs.Pairs.{wrapped, item_place, value_place, branch_place, field_for}
 use Rattle.avro_resolve.specs.Resolve.{Resolved, Sourced, resolve, resolve_items, resolve_entries, resolve_sources, fields_at, result_map, through}
 use Rattle.avro_resolve.specs.Source.{missing_field}
-use Rattle.avro_resolve.specs.declared.error.Fault.{Fault}
 use Rattle.avro_resolve.specs.declared.guided.At.{At}
 use Rattle.avro_resolve.specs.declared.guided.At.TheVariants.{Ignored, Pair}
 use Rattle.avro_resolve.specs.declared.guided.Made.{Made}

@@ -1,5 +1,9 @@
 //! Schema resolution (Avro 1.11, "Schema Resolution"): what a datum of a writer's schema is for a
 //! reader's schema.
+//!
+//! [`resolve`] answers it of a datum that is at hand. [`read_resolved`] answers it of bytes, which are
+//! read once: a builder gets each part as it is for the reader, and no writer's datum is made.
+//! [`decode_resolved`] is the same with the datum as the answer.
 #![tactic(auto)]
 
 mod error;

@@ -1,7 +1,7 @@
 use Rattle.std.proofs.Common.{ap, sym}
 use Rattle.avro_schema.specs.Node.{node_at}
 use Rattle.avro_schema.specs.SeenSchema.{schema_nodes}
-use Rattle.avro_resolve.proofs.OnePass.{at_roots, guide_is, resolved, unresolved, not_nothing, unread}
+use Rattle.avro_resolve.proofs.OnePass.{at_roots, guide_is, resolved, unresolved, unread}
 use Rattle.avro_resolve.proofs.read.read_resolved.Goals as goal
 
 pub returns-in-Good : goal.returns-in-Good
