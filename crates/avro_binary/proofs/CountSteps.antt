@@ -1,17 +1,11 @@
 -- What counting a node without parts answers, and reading it then.
-use Rattle.std.proofs.Common.{◌≡◌, ◌⊎◌, ℕ, suc, ◌-◌, List, Result, Ok, Err, Some, refl, ap, subst, arith}
-use Rattle.std.specs.Prelude.{OnOk}
-use Rattle.std.specs.Result.{IfErr}
+use Rattle.std.proofs.Common.{◌≡◌, ℕ, suc, ◌-◌, List, Ok, Err, ap, subst, arith}
 use Rattle.avro_schema.specs.Value.{Value}
 use Rattle.avro_schema.specs.Node.{Node}
-use Rattle.avro_binary.specs.Fault.{limit_exceeded}
-use Rattle.avro_binary.specs.Seen.{read_fault}
 use Rattle.avro_binary.specs.CursorValue.{CursorValue, Passes, Counts}
 use Rattle.avro_binary.specs.CursorReads.{ReadsNode, outside, left_node}
 use Rattle.avro_binary.specs.Elements.{Finds}
 use Rattle.avro_binary.specs.declared.error.ReadError.{ReadError}
-use Rattle.avro_binary.proofs.LeafReads.{null_found}
-use Rattle.avro_binary.proofs.NodeSteps.{enter_refused}
 
 -- a cursor in the node that it counts, of one that counted it
 abbrev pub inside_of : CursorValue → CursorValue

@@ -6,7 +6,6 @@ use Rattle.std.proofs.Math.Seq.{take-append_seam}
 use Rattle.avro_schema.specs.Value.{Value, size, depth, longest_blob}
 use Rattle.avro_schema.specs.Node.{Node, node_at}
 use Rattle.avro_schema.specs.Fits.{LimitValues, is_within}
-use Rattle.avro_schema.specs.Seen.{value_of}
 use Rattle.avro_schema.specs.WellFormed.{is_schema}
 use Rattle.avro_schema.specs.declared.datum.Datum.{Datum}
 use Rattle.avro_binary.specs.Encoding.{Encodes}
@@ -110,24 +109,23 @@ module _ (nodes : List Node) (formed : is_schema nodes ≡ true) (place : ℕ) (
         → ReadsNode stands nodes (node_at nodes place) (front_of bytes limits) after result
     moved_front result reads = subst (λ (b : CursorValue). ReadsNode stands nodes (node_at nodes place) b after result) at_front reads
 
-    pub built : {others : R → Value → Type 0} (r : R) (len : ℕ) → len ≡ after.place → ((v : Value) → stands r v → others r v)
-        → ReadsNode stands nodes (node_at nodes place) before after (Ok r) → BuildsExactly others nodes (node_at nodes place) limits bytes (Ok (r, len))
-    built {others = others} r len at_end weaker reads =
+    pub built : (r : R) (len : ℕ) → len ≡ after.place → ReadsNode stands nodes (node_at nodes place) before after (Ok r)
+        → BuildsExactly stands nodes (node_at nodes place) limits bytes (Ok (r, len))
+    built r len at_end reads =
         let found = (moved_front (Ok r) reads).found in
         let v = found.0 in
-        let is = subst (λ (n : ℕ). FrontIs v n) (sym at_end) (front_is v after found.1) in
-        let stands_so = weaker v found.2 in record {
-          found = (v, stands_so, front-inside v len is, subst (Encodes nodes (node_at nodes place) v) (sym (front-taken v len is)) is.encoded, is.within);
+        let is = subst (λ (n : ℕ). FrontIs v n) (sym at_end) (front_is v after found.1) in record {
+          found = (v, found.2, front-inside v len is, subst (Encodes nodes (node_at nodes place) v) (sym (front-taken v len is)) is.encoded, is.within);
           begins = λ w front rest encoded within split.
               let same = front-only v len is w front rest encoded split in
-              (subst (others r) same.1 stands_so, is.length_is ∙ ap (λ (q : List ℕ). length q) same.0);
+              (subst (stands r) same.1 found.2, is.length_is ∙ ap (λ (q : List ℕ). length q) same.0);
           refused = tt;
           breaks = λ f b. front-whole v len is f b;
           no_front = tt;
         }
 
-    pub build_refused : {others : R → Value → Type 0} (e : ReadError) → ReadsNode stands nodes (node_at nodes place) before after (Err e)
-        → BuildsExactly others nodes (node_at nodes place) limits bytes (Err e)
+    pub build_refused : (e : ReadError) → ReadsNode stands nodes (node_at nodes place) before after (Err e)
+        → BuildsExactly stands nodes (node_at nodes place) limits bytes (Err e)
     build_refused e reads =
         let t = (moved_front (Err e) reads).refused in record {
           found = tt;
@@ -148,6 +146,18 @@ other_answer A B ReadError.OutOfMemory P Q step h = tt
 other_answer A B _ P Q step h = step h
 
 module _ (nodes : List Node) (n : Node) (limits : LimitValues) (bytes : List ℕ) where
+  -- an answer that stands for a datum stands for it in each weaker way
+  pub weakened : {R : Type 0} {stands others : R → Value → Type 0} (result : Result (R × ℕ) ReadError) → ((r : R) (v : Value) → stands r v → others r v)
+      → BuildsExactly stands nodes n limits bytes result → BuildsExactly others nodes n limits bytes result
+  weakened (Ok r) weaker b = record {
+    found = (b.found.0, weaker r.0 b.found.0 b.found.1, b.found.2, b.found.3, b.found.4);
+    begins = λ v front rest encoded within split. let h = b.begins v front rest encoded within split in (weaker r.0 v h.0, h.1);
+    refused = tt;
+    breaks = b.breaks;
+    no_front = b.no_front;
+  }
+  weakened (Err e) weaker b = record { found = tt; begins = b.begins; refused = b.refused; breaks = b.breaks; no_front = b.no_front }
+
   pub decoded : (result : Result (Datum × ℕ) ReadError) → BuildsExactly IsSeenAs nodes n limits bytes result → ReadsExactly nodes n limits bytes result
   decoded (Ok r) b =
       let seen = b.found.1 in record {

@@ -35,7 +35,7 @@ pub use keys::Keys;
 pub use make::Make;
 pub use nothing::Nothing;
 pub use own::Own;
-pub use read::{decode, read_own};
+pub use read::{decode, read_made, read_own};
 pub use reading::read_place;
 pub use tree::Tree;
 pub use walking::walk;

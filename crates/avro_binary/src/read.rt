@@ -1,11 +1,13 @@
 ghost use Rattle.std.specs.Prelude.{◌≡◌, ◌<◌, length};
 ghost use Rattle.avro_schema.specs.Node.{node_at};
 ghost use Rattle.avro_schema.specs.SeenSchema.{schema_nodes};
+ghost use Rattle.avro_binary.specs.Making.{Made};
 ghost use Rattle.avro_binary.specs.Reading.{BuildsExactly, ReadsExactly};
 
 use crate::build::Build;
 use crate::cursor::Cursor;
 use crate::error::ReadError;
+use crate::make::Make;
 use crate::own::Own;
 use crate::reading::read_place;
 use crate::tree::Tree;
@@ -61,10 +63,31 @@ pub(crate) fn read_node<B: Build>(
 ) -> Result<(B::Out, usize), ReadError>
     ensures { BuildsExactly B.stands_for (schema_nodes schema.now) (node_at (schema_nodes schema.now) node.0) limits.now bytes.now result }
 {
+    let mut maker = Own::new(builder);
+    read_made(alloc, schema, node, bytes, limits, &mut maker, ())
+}
+
+/// Reads a datum of a node of the schema from the front of bytes by a maker, by what the datum is for, and
+/// answers what was made with the length of its encoding. What was made stands, at the maker as it then is,
+/// for the datum that [`decode`] reads.
+///
+/// # Errors
+///
+/// Those of [`decode`].
+pub fn read_made<M: Make>(
+    alloc: Global,
+    schema: &Schema,
+    node: NodeId,
+    bytes: &[u8],
+    limits: &Limits,
+    maker: &mut M,
+    at: M::At,
+) -> Result<(M::Out, usize), ReadError>
+    ensures { BuildsExactly (Made M.keeps (λ m. M.stands_for m (schema_nodes schema.now) (node_at (schema_nodes schema.now) node.0) at) maker.old maker.new) (schema_nodes schema.now) (node_at (schema_nodes schema.now) node.0) limits.now bytes.now result }
+{
     // Its contract says that the schema is well formed, which the laws of faults ask for.
     let _count = schema.len();
     let mut cursor = Cursor::new(bytes, limits);
-    let mut maker = Own::new(builder);
-    let built = read_place(alloc, schema, node, &mut cursor, &mut maker, ())?;
-    Ok((built, cursor.place()))
+    let made = read_place(alloc, schema, node, &mut cursor, maker, at)?;
+    Ok((made, cursor.place()))
 }

@@ -1,7 +1,7 @@
 use crate::certificate::Certificate;
 use crate::certifying::certify;
 use avro_binary::ReadError;
-use avro_resolve::{ReadResolveError, read_resolved};
+use avro_resolve::{ReadResolveError, decode_resolved};
 use avro_schema::{Datum, Limits, Memory, Schema};
 use std::alloc::Global;
 use std::marker::Model;
@@ -42,7 +42,7 @@ impl<'a> Approved<'a> {
     ghost use Rattle.avro_binary.specs.Encoding.{Encodes};
     ghost use Rattle.avro_binary.specs.Fault.{ReadFault};
     ghost use Rattle.avro_binary.specs.Seen.{read_fault, UnlessOutOfMemory, Reports};
-    ghost use Rattle.avro_resolve.specs.Reading.{StandsFor};
+    ghost use Rattle.avro_resolve.specs.Reading.{ReadsAs};
     ghost use Rattle.avro_resolve.specs.Resolve.{resolve_root};
     ghost use Rattle.avro_judge.specs.Closed.{is_closed};
     ghost use Rattle.avro_judge.specs.Compatible.{AreCompatible};
@@ -76,13 +76,13 @@ impl<'a> Approved<'a> {
             → UnlessOutOfMemory result (IsOkAnd result (λ r.
             (resolve_root (schema_nodes self.now.0) (schema_nodes self.now.1) v ≡ Ok (value_of r.0)) × (r.1 ≡ length front))) }
         // There is no other answer.
-        ensures found { IfOk result (λ r. StandsFor (schema_nodes self.now.0) (schema_nodes self.now.1) limits.now bytes.now r.1 (Ok (value_of r.0))) }
+        ensures found { IfOk result (λ r. ReadsAs (schema_nodes self.now.0) (schema_nodes self.now.1) limits.now bytes.now r.1 (Ok (value_of r.0))) }
         // An error reports the first fault of the bytes, and each fault is reported.
         ensures refused { IfErr result (λ e. IfSome (read_fault e) (Breaks (schema_nodes self.now.0) limits.now (root_of (schema_nodes self.now.0)) bytes.now)) }
         ensures breaks { (fault : ReadFault) → Breaks (schema_nodes self.now.0) limits.now (root_of (schema_nodes self.now.0)) bytes.now fault
             → UnlessOutOfMemory result (Reports result fault) }
     {
-        match read_resolved(alloc, self.writer, self.reader, bytes, limits) {
+        match decode_resolved(alloc, self.writer, self.reader, bytes, limits) {
             Ok(answer) => Ok(answer),
             Err(ReadResolveError::Read(e)) => Err(e),
             Err(ReadResolveError::Resolve(_)) => unreachable!(),

@@ -9,7 +9,7 @@ use Rattle.avro_schema.specs.declared.datum.Datum.{Datum}
 use Rattle.avro_resolve.specs.Fault.{ResolutionFault}
 use Rattle.avro_resolve.specs.Resolve.{Resolved, resolve, resolve_items, resolve_entries, both, inside, result_map}
 use Rattle.avro_resolve.specs.Pairs.{value_place}
-use Rattle.avro_resolve.specs.Ends.{Fails, taken_as}
+use Rattle.avro_resolve.specs.Ends.{Fails, taken_as, joined, joined_entries}
 use Rattle.avro_resolve.specs.declared.error.ResolveError.{ResolveError}
 
 -- a list from an index on, of which there is one more
@@ -44,15 +44,11 @@ fails_first ResolveError.Memory f j q more h = tt
 
 -- ---- Items
 
-abbrev pub joined : List Value → Values → Values
-joined [] vs = vs
-joined (u ∷ us) vs = value u (joined us vs)
-
-joined-none : (us : List Value) → joined us no_values ≡ values_from us
+pub joined-none : (us : List Value) → joined us no_values ≡ values_from us
 joined-none [] = refl
 joined-none (u ∷ us) = ap (value u) (joined-none us)
 
-joined-more : (us : List Value) (u : Value) (vs : Values) → joined us (value u vs) ≡ joined (us ++ u ∷ []) vs
+pub joined-more : (us : List Value) (u : Value) (vs : Values) → joined us (value u vs) ≡ joined (us ++ u ∷ []) vs
 joined-more [] u vs = refl
 joined-more (x ∷ us) u vs = ap (value x) (joined-more us u vs)
 
@@ -97,15 +93,11 @@ module _ (writer reader : List Node) (w r : Node) where
 
 -- ---- Entries
 
-abbrev pub joined_entries : List (List ℕ × Value) → Entries → Entries
-joined_entries [] es = es
-joined_entries (u ∷ us) es = entry u.0 u.1 (joined_entries us es)
-
-joined_entries-none : (us : List (List ℕ × Value)) → joined_entries us no_entries ≡ entries_from us
+pub joined_entries-none : (us : List (List ℕ × Value)) → joined_entries us no_entries ≡ entries_from us
 joined_entries-none [] = refl
 joined_entries-none (u ∷ us) = ap (entry u.0 u.1) (joined_entries-none us)
 
-joined_entries-more : (us : List (List ℕ × Value)) (k : List ℕ) (u : Value) (es : Entries) → joined_entries us (entry k u es) ≡ joined_entries (us ++ (k, u) ∷ []) es
+pub joined_entries-more : (us : List (List ℕ × Value)) (k : List ℕ) (u : Value) (es : Entries) → joined_entries us (entry k u es) ≡ joined_entries (us ++ (k, u) ∷ []) es
 joined_entries-more [] k u es = refl
 joined_entries-more (x ∷ us) k u es = ap (entry x.0 x.1) (joined_entries-more us k u es)
 

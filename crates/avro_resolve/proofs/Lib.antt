@@ -15,3 +15,8 @@ pub mod Pairing
 pub mod InOrder
 pub mod TextRead
 pub mod Slots
+pub mod Guiding
+pub mod ArrayItems
+pub mod MapEntries
+pub mod RecordSlots
+pub mod OnePass

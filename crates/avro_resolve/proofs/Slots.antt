@@ -1,7 +1,7 @@
 -- What stands in the slots of a record.
 use Rattle.std.proofs.Common.{◌≡◌, ℕ, zero, suc, ◌+◌, ◌<◌, ◌≤◌, true, List, [], ◌∷◌, ◌++◌, drop, length, Option, Some, None, Result, Ok, Err, refl, sym, ap, ◌∙◌, subst, arith, ⊎_elim}
 use Rattle.std.specs.Prelude.{slice_index_or, slice_get, unwrap_or, map, bytes_eq, cond, ◌==◌}
-use Rattle.std.specs.List.{flat_map}
+use Rattle.std.specs.List.{AllZip, flat_map}
 use Rattle.std.specs.Global.{Vec}
 use Rattle.std.proofs.lemmas.Bool.{cases_lt, cases_eq, cond-true, cond-false, eq-eqb, ne_eqb}
 use Rattle.std.proofs.lemmas.List.{append_assoc}
@@ -12,10 +12,11 @@ use Rattle.avro_schema.specs.Node.{Node, FieldNode, node_at}
 use Rattle.avro_schema.specs.Seen.{value_of, values_of, values_from, seen_fields, field_of}
 use Rattle.avro_schema.specs.declared.datum.Datum.{Datum}
 use Rattle.avro_schema.specs.declared.schema.Field.{Field}
+use Rattle.avro_binary.proofs.public.Zipped.{zipped-push, zipped-map}
 use Rattle.avro_resolve.specs.Fault.{ResolutionFault}
 use Rattle.avro_resolve.specs.Source.{source_of}
 use Rattle.avro_resolve.specs.Resolve.{Sourced, sourced_at, resolve_sources, result_map, field_value, field_values, fields_at}
-use Rattle.avro_resolve.specs.Ends.{Slotted, SlotsAre, SlotsFor, IsField, here, later, IsSeen, slot_out, EndsSlot, EndsFound, field_step, Fails}
+use Rattle.avro_resolve.specs.Ends.{Slotted, SlotsAre, SlotsFor, IsField, here, later, IsSeen, slot_out, EndsSlot, EndsFound, field_step, Fails, AllBelow, before}
 use Rattle.avro_resolve.specs.declared.error.ResolveError.{ResolveError}
 use Rattle.avro_resolve.proofs.InOrder.{next_in, none_from, fails_mapped}
 use Rattle.avro_resolve.proofs.Resolved.{good-fields}
@@ -81,13 +82,13 @@ pub values_seen : (ws rs : List FieldNode) (found : Sourced) → field_values ws
 values_seen ws [] found = refl
 values_seen ws (f ∷ fs) found = ap (value (field_value ws found f)) (values_seen ws fs found)
 
-pub map_snoc : {A B : Type 0} (f : A → B) (xs : List A) (x : A) → map f (xs ++ x ∷ []) ≡ map f xs ++ f x ∷ []
-map_snoc f [] x = refl
-map_snoc {B = B} f (y ∷ xs) x = ap (λ (ys : List B). f y ∷ ys) (map_snoc f xs x)
-
 pub append_none : {A : Type 0} (xs : List A) → xs ++ [] ≡ xs
 append_none [] = refl
 append_none {A = A} (x ∷ xs) = ap (λ (ys : List A). x ∷ ys) (append_none xs)
+
+-- what was made of the fields so far, before those that are left
+abbrev pub ValuesSoFar : {O : Type 0} → (O → Value → Type 0) → List FieldNode → Sourced → List Field → List O → List FieldNode → Type 0
+ValuesSoFar S ws found reads made fs = (us : List Value) × AllZip S made us × (us ++ map (field_value ws found) fs ≡ map (field_value ws found) (seen_fields reads))
 
 module _ (ws : List FieldNode) (reads : List Field) (i : ℕ) (f : Field) (low : i < length reads) (is : f ≡ slice_index_or reads i f) where
   field_next : seen_fields (drop i reads) ≡ field_of f ∷ seen_fields (drop (i + 1) reads)
@@ -100,27 +101,31 @@ module _ (ws : List FieldNode) (reads : List Field) (i : ℕ) (f : Field) (low :
   pub distinct_after : are_distinct bytes_eq (flat_map field_names (seen_fields (drop i reads))) ≡ true → are_distinct bytes_eq (flat_map field_names (seen_fields (drop (i + 1) reads))) ≡ true
   distinct_after h = are_distinct-back (field_names (field_of f)) (flat_map field_names (seen_fields (drop (i + 1) reads))) (distinct_here h)
 
-  -- the values so far, and those of the fields that are left
-  abbrev pub ValuesSoFar : Sourced → List Datum → List FieldNode → Type 0
-  ValuesSoFar found made fs = map value_of made ++ map (field_value ws found) fs ≡ map (field_value ws found) (seen_fields reads)
+  module _ {O : Type 0} (S : O → Value → Type 0) (found : Sourced) where
+    pub slots_here : (slots : List (Option O)) → SlotsFor S ws (seen_fields (drop i reads)) found slots → SlotsFor S ws (field_of f ∷ seen_fields (drop (i + 1) reads)) found slots
+    slots_here slots h = subst (λ (fs : List FieldNode). SlotsFor S ws fs found slots) field_next h
 
-  pub slots_here : (found : Sourced) (slots : List (Option Datum)) → SlotsFor IsSeen ws (seen_fields (drop i reads)) found slots → SlotsFor IsSeen ws (field_of f ∷ seen_fields (drop (i + 1) reads)) found slots
-  slots_here found slots h = subst (λ (fs : List FieldNode). SlotsFor IsSeen ws fs found slots) field_next h
+    pub values_more : (made new : List O) (out : O) → new ≡ made ++ out ∷ [] → S out (field_value ws found (field_of f))
+        → ValuesSoFar S ws found reads made (seen_fields (drop i reads)) → ValuesSoFar S ws found reads new (seen_fields (drop (i + 1) reads))
+    values_more made new out pushed stands h =
+        let x = field_value ws found (field_of f) in
+        let rest = map (field_value ws found) (seen_fields (drop (i + 1) reads)) in (
+          h.0 ++ x ∷ [],
+          subst (λ (outs : List O). AllZip S outs (h.0 ++ x ∷ [])) (sym pushed) (zipped-push S made h.0 out x h.1 stands),
+          append_assoc h.0 (x ∷ []) rest ∙ ap (λ (fs : List FieldNode). h.0 ++ map (field_value ws found) fs) (sym field_next) ∙ h.2,
+        )
 
-  pub values_more : (found : Sourced) (made new : List Datum) (v : Datum) → new ≡ made ++ v ∷ [] → value_of v ≡ field_value ws found (field_of f)
-      → ValuesSoFar found made (seen_fields (drop i reads)) → ValuesSoFar found new (seen_fields (drop (i + 1) reads))
-  values_more found made new v pushed same h =
-      let rest = map (field_value ws found) (seen_fields (drop (i + 1) reads)) in
-      ap (λ (ds : List Datum). map value_of ds ++ rest) pushed ∙ ap (λ (us : List Value). us ++ rest) (map_snoc value_of made v)
-      ∙ ap (λ (u : Value). (map value_of made ++ u ∷ []) ++ rest) same ∙ append_assoc (map value_of made) (field_value ws found (field_of f) ∷ []) rest
-      ∙ ap (λ (fs : List FieldNode). map value_of made ++ map (field_value ws found) fs) (sym field_next) ∙ h
+module _ {O : Type 0} (S : O → Value → Type 0) (ws : List FieldNode) (found : Sourced) (reads : List Field) where
+  pub no_values_yet : (made : List O) → made ≡ [] → ValuesSoFar S ws found reads made (seen_fields reads)
+  no_values_yet made none = ([], subst (λ (outs : List O). AllZip S outs []) (sym none) tt, refl)
 
-pub values_all : (ws : List FieldNode) (reads : List Field) (i : ℕ) (found : Sourced) (made : List Datum) → length reads ≤ i
-    → map value_of made ++ map (field_value ws found) (seen_fields (drop i reads)) ≡ map (field_value ws found) (seen_fields reads)
-    → values_of made ≡ field_values ws found (seen_fields reads)
-values_all ws reads i found made high h =
-    ap values_from (sym (append_none (map value_of made)) ∙ ap (λ (fs : List Field). map value_of made ++ map (field_value ws found) (seen_fields fs)) (sym (none_from reads i high)) ∙ h)
-    ∙ sym (values_seen ws (seen_fields reads) found)
+  pub values_all : (i : ℕ) (made : List O) → length reads ≤ i → ValuesSoFar S ws found reads made (seen_fields (drop i reads)) → AllZip S made (map (field_value ws found) (seen_fields reads))
+  values_all i made high h =
+      subst (AllZip S made)
+      (sym (append_none h.0) ∙ ap (λ (fs : List Field). h.0 ++ map (field_value ws found) (seen_fields fs)) (sym (none_from reads i high)) ∙ h.2) h.1
+
+pub data_filled : (ws : List FieldNode) (found : Sourced) (rs : List FieldNode) (made : List Datum) → AllZip IsSeen made (map (field_value ws found) rs) → values_of made ≡ field_values ws found rs
+data_filled ws found rs made h = ap values_from (zipped-map value_of made (map (field_value ws found) rs) h) ∙ sym (values_seen ws rs found)
 
 -- ---- Slots that are kept in the writer's order
 
@@ -128,18 +133,14 @@ length-snoc : {A : Type 0} (xs : List A) (x : A) → length (xs ++ x ∷ []) ≡
 length-snoc [] x = omega arith
 length-snoc (y ∷ xs) x = omega (arith, length-snoc xs x)
 
-abbrev pub AllBelow : ℕ → Sourced → Type 0
-AllBelow m [] = Unit {0}
-AllBelow m (s ∷ ss) = (s.0 < m) × AllBelow m ss
-
-below_more : (m : ℕ) (found : Sourced) → AllBelow m found → AllBelow (m + 1) found
+pub below_more : (m : ℕ) (found : Sourced) → AllBelow m found → AllBelow (m + 1) found
 below_more m [] h = tt
 below_more m (s ∷ ss) h = (raised s.0 h.0, below_more m ss h.1)
   where
     raised : (k : ℕ) → k < m → k < m + 1
     raised k low = omega (arith, low)
 
-below_last : (m : ℕ) (found : Sourced) (u : Value) → AllBelow m found → AllBelow (m + 1) (found ++ (m, u) ∷ [])
+pub below_last : (m : ℕ) (found : Sourced) (u : Value) → AllBelow m found → AllBelow (m + 1) (found ++ (m, u) ∷ [])
 below_last m [] u h = (omega arith, tt)
 below_last m (s ∷ ss) u h = (raised s.0 h.0, below_last m ss u h.1)
   where
@@ -205,9 +206,6 @@ module _ {O : Type 0} (S : O → Value → Type 0) (found : Sourced) (slots : Li
   slots_some out u h = by_place (found ++ (m, u) ∷ []) (Some out) (λ k apart. others_same found k m u apart) (subst (S out) (sym (last_is found m u below)) h)
 
 -- ---- The writer's fields one by one
-
-abbrev pub before : Sourced → Sourced → Sourced
-before found more = found ++ more
 
 -- what was found so far, and all that is left
 pub record FieldsSoFar (writer reader : List Node) (ws rs : List FieldNode) (values : List Datum) (i : ℕ) (slots : List (Option Datum)) : Type 0 where

@@ -75,13 +75,13 @@ is_place-same None k e = absurd (cc)
 is_place-same (Some j) k e = eq-eqb j k (cc)
 
 -- the reader's field with that source, found from any field that has it
-abbrev pub ReadsAs : List FieldNode → List FieldNode → ℕ → FieldNode → Type 0
-ReadsAs ws rs k g = (f : FieldNode) × (reader_field ws rs k ≡ Some f) × (f.node ≡ g.node)
+abbrev pub TakesSource : List FieldNode → List FieldNode → ℕ → FieldNode → Type 0
+TakesSource ws rs k g = (f : FieldNode) × (reader_field ws rs k ≡ Some f) × (f.node ≡ g.node)
 
-read_first : (ws fs : List FieldNode) (k : ℕ) (g : FieldNode) → source_of ws g ≡ Some k → ReadsAs ws (g ∷ fs) k g
+read_first : (ws fs : List FieldNode) (k : ℕ) (g : FieldNode) → source_of ws g ≡ Some k → TakesSource ws (g ∷ fs) k g
 read_first ws fs k g e = (g, cond-true (is_place (source_of ws g) k) (Some g) (reader_field ws fs k) (is_place-same (source_of ws g) k e), refl)
 
-read_later : (ws fs : List FieldNode) (k : ℕ) (f g : FieldNode) → (is_place (source_of ws f) k ≡ true → ⊥) → ReadsAs ws fs k g → ReadsAs ws (f ∷ fs) k g
+read_later : (ws fs : List FieldNode) (k : ℕ) (f g : FieldNode) → (is_place (source_of ws f) k ≡ true → ⊥) → TakesSource ws fs k g → TakesSource ws (f ∷ fs) k g
 read_later ws fs k f g other more =
     (more.0, cond-false (is_place (source_of ws f) k) (Some f) (reader_field ws fs k) (false_from_ne_true (is_place (source_of ws f) k) other) ∙ more.1, more.2)
 
@@ -96,7 +96,7 @@ two_readers ws fs k f g is distinct e same =
 
 -- the reader's field that a place is the source of is that of any field that has the source
 pub reader_field-source : (ws rs : List FieldNode) (k : ℕ) (g : FieldNode) → IsField g rs → are_distinct bytes_eq (flat_map field_names rs) ≡ true
-    → source_of ws g ≡ Some k → ReadsAs ws rs k g
+    → source_of ws g ≡ Some k → TakesSource ws rs k g
 reader_field-source ws rs k g (here {fs = fs}) distinct e = read_first ws fs k g e
 reader_field-source ws rs k g (later {g = f} {fs = fs} is) distinct e =
     read_later ws fs k f g (two_readers ws fs k f g is distinct e)

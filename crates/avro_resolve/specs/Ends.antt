@@ -1,7 +1,7 @@
 -- What the code makes of a datum, step by step.
-use Rattle.std.specs.Prelude.{◌≡◌, ℕ, List, ◌∷◌, Option, Some, None, Result, Ok, Err, reverse, slice_get, unwrap_or, map}
+use Rattle.std.specs.Prelude.{◌≡◌, ◌<◌, ℕ, List, [], ◌∷◌, ◌++◌, Option, Some, None, Result, Ok, Err, reverse, slice_get, unwrap_or, map}
 use Rattle.std.specs.Global.{Vec}
-use Rattle.avro_schema.specs.Value.{Value}
+use Rattle.avro_schema.specs.Value.{Value, Values, Entries, value, entry}
 use Rattle.avro_schema.specs.Node.{Node, FieldNode, node_at, items_node, values_node}
 use Rattle.avro_schema.specs.Seen.{value_of}
 use Rattle.avro_schema.specs.declared.datum.Datum.{Datum}
@@ -93,3 +93,20 @@ abbrev pub EndsSlot : ℕ → Result (Option Datum) ResolveError → (Result Sou
 EndsSlot place (Ok None) step = (others : Result Sourced ResolutionFault) → step others ≡ others
 EndsSlot place (Ok (Some d)) step = (others : Result Sourced ResolutionFault) → step others ≡ result_map (λ found. (place, value_of d) ∷ found) others
 EndsSlot place (Err e) step = (others : Result Sourced ResolutionFault) → Fails e (step others)
+
+-- some data before others, and some entries, and what was found so far before the rest
+abbrev pub joined : List Value → Values → Values
+joined [] vs = vs
+joined (u ∷ us) vs = value u (joined us vs)
+
+abbrev pub joined_entries : List (List ℕ × Value) → Entries → Entries
+joined_entries [] es = es
+joined_entries (u ∷ us) es = entry u.0 u.1 (joined_entries us es)
+
+abbrev pub before : Sourced → Sourced → Sourced
+before found more = found ++ more
+
+-- what was found is of places below one
+abbrev pub AllBelow : ℕ → Sourced → Type 0
+AllBelow m [] = Unit {0}
+AllBelow m (s ∷ ss) = (s.0 < m) × AllBelow m ss

@@ -6,3 +6,4 @@ pub mod Seen
 pub mod Reading
 pub mod Pairs
 pub mod Ends
+pub mod Guided

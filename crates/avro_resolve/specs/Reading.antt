@@ -11,24 +11,40 @@ use Rattle.avro_binary.specs.Fault.{ReadFault}
 use Rattle.avro_binary.specs.Breaks.{Breaks}
 use Rattle.avro_binary.specs.Seen.{read_fault}
 use Rattle.avro_resolve.specs.Resolve.{Resolved, resolve_root}
-use Rattle.avro_resolve.specs.Seen.{fault_of, UnlessOutOfMemory, AnswersAfter, IfUnread, IfUnresolved, IsUnread}
+use Rattle.avro_resolve.specs.Seen.{fault_of, UnlessOutOfMemory, AnswersAfter, BuiltAfter, IfUnread, IfUnresolved, IsUnread}
 use Rattle.avro_resolve.specs.declared.error.ReadResolveError.{ReadResolveError}
 
 -- An encoding of a writer's datum within limits stands at the front, in so many bytes, and resolution gives this of the
 -- datum.
-pub record StandsFor (writer reader : List Node) (limits : LimitValues) (bytes : List ℕ) (len : ℕ) (resolved : Resolved) : Type 0 where
+pub record ReadsAs (writer reader : List Node) (limits : LimitValues) (bytes : List ℕ) (len : ℕ) (resolved : Resolved) : Type 0 where
   pub datum : Value
   pub in_bytes : len ≤ length bytes
   pub encoded : Encodes writer (root_of writer) datum (take len bytes)
   pub within : is_within limits datum ≡ true
   pub resolves : resolve_root writer reader datum ≡ resolved
 
--- Bytes are read as what resolution gives of the writer's datum that they begin with, or refused by their first fault.
+-- Bytes are read as what resolution gives of the writer's datum that they begin with, where `stands` says which datum an
+-- answer stands for, or refused by their first fault.
+pub record BuildsResolved {O : Type 0} (stands : O → Value → Type 0) (writer reader : List Node) (limits : LimitValues) (bytes : List ℕ) (result : Result (O × ℕ) ReadResolveError) : Type 0 where
+  -- what is answered stands for the datum that stands there, resolved
+  pub found : IfOk result (λ r. (u : Value) × stands r.0 u × ReadsAs writer reader limits bytes r.1 (Ok u))
+  -- a fault of resolution is that of the datum that stands there
+  pub faulty : IfUnresolved result (λ f. (len : ℕ) × ReadsAs writer reader limits bytes len (Err (fault_of f)))
+  -- what stands there is answered, whatever follows it
+  pub begins : (v : Value) (front rest : List ℕ) → Encodes writer (root_of writer) v front → is_within limits v ≡ true → bytes ≡ front ++ rest
+      → UnlessOutOfMemory result (BuiltAfter stands result (resolve_root writer reader v) (length front))
+  -- what is refused has the fault that is reported, and what has a fault is refused
+  pub refused : IfUnread result (λ e. IfSome (read_fault e) (Breaks writer limits (root_of writer) bytes))
+  pub breaks : (fault : ReadFault) → Breaks writer limits (root_of writer) bytes fault
+      → UnlessOutOfMemory result (IsUnread result (λ e. read_fault e ≡ Some fault))
+
+-- The same of an answer that is the datum: bytes are read as what resolution gives of the writer's datum that they begin
+-- with, or refused by their first fault.
 pub record ReadsResolved (writer reader : List Node) (limits : LimitValues) (bytes : List ℕ) (result : Result (Datum × ℕ) ReadResolveError) : Type 0 where
   -- what is answered is the datum that stands there, resolved
-  pub found : IfOk result (λ r. StandsFor writer reader limits bytes r.1 (Ok (value_of r.0)))
+  pub found : IfOk result (λ r. ReadsAs writer reader limits bytes r.1 (Ok (value_of r.0)))
   -- a fault of resolution is that of the datum that stands there
-  pub faulty : IfUnresolved result (λ f. (len : ℕ) × StandsFor writer reader limits bytes len (Err (fault_of f)))
+  pub faulty : IfUnresolved result (λ f. (len : ℕ) × ReadsAs writer reader limits bytes len (Err (fault_of f)))
   -- what stands there is answered, whatever follows it
   pub begins : (v : Value) (front rest : List ℕ) → Encodes writer (root_of writer) v front → is_within limits v ≡ true → bytes ≡ front ++ rest
       → UnlessOutOfMemory result (AnswersAfter result (resolve_root writer reader v) (length front))

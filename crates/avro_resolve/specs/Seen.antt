@@ -1,5 +1,6 @@
 -- How contracts see faults and errors of resolution.
 use Rattle.std.specs.Prelude.{◌≡◌, ℕ, Result, Ok, Err}
+use Rattle.avro_schema.specs.Value.{Value}
 use Rattle.avro_schema.specs.Seen.{value_of}
 use Rattle.avro_schema.specs.declared.datum.Datum.{Datum}
 use Rattle.avro_binary.specs.declared.error.ReadError.{ReadError}
@@ -37,6 +38,12 @@ abbrev pub AnswersAfter : Result (Datum × ℕ) ReadResolveError → Resolved �
 AnswersAfter (Ok r) resolved len = (resolved ≡ Ok (value_of r.0)) × (r.1 ≡ len)
 AnswersAfter (Err (ReadResolveError.Resolve f)) resolved len = resolved ≡ Err (fault_of f)
 AnswersAfter (Err (ReadResolveError.Read e)) resolved len = ⊥
+
+-- what was built stands for what resolution gives of a datum whose encoding has this length
+abbrev pub BuiltAfter : {O : Type 0} → (O → Value → Type 0) → Result (O × ℕ) ReadResolveError → Resolved → ℕ → Type 0
+BuiltAfter S (Ok r) resolved len = (u : Value) × S r.0 u × (resolved ≡ Ok u) × (r.1 ≡ len)
+BuiltAfter S (Err (ReadResolveError.Resolve f)) resolved len = resolved ≡ Err (fault_of f)
+BuiltAfter S (Err (ReadResolveError.Read e)) resolved len = ⊥
 
 -- P of the error of reading, where the result is one
 abbrev pub IfUnread : {A : Type 0} → Result A ReadResolveError → (ReadError → Type 0) → Type 0

@@ -1,33 +1,59 @@
+ghost use Rattle.std.specs.Prelude.{◌≡◌, IfOk};
+ghost use Rattle.avro_resolve.specs.Ends.{Fails, failed, turned};
+ghost use Rattle.avro_resolve.specs.Fault.{fault_here as here, fault_in as within};
 ghost use Rattle.avro_resolve.specs.Resolve.{Resolved, inside};
-ghost use Rattle.avro_resolve.specs.Ends.{Fails, failed};
+ghost use Rattle.avro_resolve.specs.Seen.{cause_of, fault_of};
 
 use crate::error::{Fault, FaultKind, ResolveError};
-use std::alloc::Global;
+use std::alloc::{AllocError, Global};
 
 /// A fault of the datum at hand.
+pub fn faulty(alloc: Global, kind: FaultKind) -> Fault
+    ensures { turned result ≡ here (cause_of kind) }
+{
+    Fault {
+        kind,
+        path: Vec::new(alloc),
+    }
+}
+
+/// The same fault, seen from the datum around. Paths are kept from their end, so that each level is a
+/// step at the back.
+pub fn step_out(step: usize, fault: Fault) -> Result<Fault, AllocError>
+    ensures { IfOk result (λ outer. turned outer ≡ within step (turned fault)) }
+{
+    let kind = fault.kind;
+    let mut path = fault.path;
+    path.push(step)?;
+    Ok(Fault { kind, path })
+}
+
+/// A fault whose path was kept from its end, with its path from the root.
+pub fn turn(fault: Fault) -> Fault
+    ensures { fault_of result ≡ turned fault }
+{
+    let kind = fault.kind;
+    let mut path = fault.path;
+    path.reverse();
+    Fault { kind, path }
+}
+
+/// The error of a fault of the datum at hand.
 pub fn fault_here(alloc: Global, kind: FaultKind) -> ResolveError
     ensures { Fails result (failed kind) }
 {
-    ResolveError::Fault(Fault {
-        kind,
-        path: Vec::new(alloc),
-    })
+    ResolveError::Fault(faulty(alloc, kind))
 }
 
-/// The same error, seen from the datum around. Paths are kept from their end, so that each level is a
-/// step at the back.
+/// The same error, seen from the datum around.
 pub fn fault_in(step: usize, error: ResolveError) -> ResolveError
     ensures { (resolved : Resolved) → Fails error resolved → Fails result (inside step resolved) }
 {
     match error {
-        ResolveError::Fault(fault) => {
-            let kind = fault.kind;
-            let mut path = fault.path;
-            match path.push(step) {
-                Ok(()) => ResolveError::Fault(Fault { kind, path }),
-                Err(_) => ResolveError::Memory,
-            }
-        }
+        ResolveError::Fault(fault) => match step_out(step, fault) {
+            Ok(outer) => ResolveError::Fault(outer),
+            Err(_) => ResolveError::Memory,
+        },
         ResolveError::Memory => ResolveError::Memory,
     }
 }

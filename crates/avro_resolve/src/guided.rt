@@ -1,4 +1,4 @@
-use crate::error::FaultKind;
+use crate::error::{Fault, FaultKind};
 use avro_schema::NodeId;
 
 /// What a part of a writer's datum is for: nothing, or the reader's node, beside its own.
@@ -27,4 +27,39 @@ pub enum Step {
     Known(bool),
     /// They match where these parts do.
     Parts(NodeId, NodeId),
+}
+
+/// What was made of a part of a writer's datum.
+#[derive(Drop)]
+pub enum Made<O> {
+    /// What it is for the reader.
+    Good(O),
+    /// Its fault, whose path is kept from its end.
+    Faulty(Fault),
+    /// Nothing, since nothing was asked.
+    Nothing,
+}
+
+/// What was made of the items of an array, or of the entries of a map, so far.
+#[derive(Drop)]
+pub enum Run<I> {
+    /// All of them, how many they are, the branch of the reader's union to go into, and the nodes of the
+    /// next, the writer's and the reader's.
+    Good(I, usize, Option<u32>, NodeId, NodeId),
+    /// The fault of one, whose path is kept from its end.
+    Faulty(Fault),
+    /// Nothing, since nothing was asked.
+    Nothing,
+}
+
+/// What was made of the fields of a record so far.
+#[derive(Drop)]
+pub enum Slots<O> {
+    /// A slot for each of the writer's, which is empty where the field is ignored, the branch of the
+    /// reader's union to go into, and the nodes of the records, the writer's and the reader's.
+    Good(Vec<Option<O>>, Option<u32>, NodeId, NodeId),
+    /// The fault of one, or of the record, whose path is kept from its end.
+    Faulty(Fault),
+    /// Nothing, since nothing was asked.
+    Nothing,
 }

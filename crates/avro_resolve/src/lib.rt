@@ -1,5 +1,9 @@
 //! Schema resolution (Avro 1.11, "Schema Resolution"): what a datum of a writer's schema is for a
 //! reader's schema.
+//!
+//! [`resolve`] answers it of a datum that is at hand. [`read_resolved`] answers it of bytes, which are
+//! read once: a builder gets each part as it is for the reader, and no writer's datum is made.
+//! [`decode_resolved`] is the same with the datum as the answer.
 #![tactic(auto)]
 
 mod error;
@@ -8,17 +12,21 @@ mod filling;
 mod guided;
 pub mod laws;
 mod leaves;
+mod making;
 mod matching;
 mod pairs;
 mod parts;
 mod read;
+mod recording;
 mod resolution;
+mod resolving;
+mod running;
 mod sourcing;
 mod symbols;
 
 pub use error::{Fault, FaultKind, ReadResolveError, ResolveError};
 pub use matching::matches;
 pub use pairs::first_match;
-pub use read::read_resolved;
+pub use read::{decode_resolved, read_resolved};
 pub use resolution::resolve;
 pub use sourcing::source;

@@ -1,19 +1,21 @@
 ghost use Rattle.avro_schema.specs.SeenSchema.{schema_nodes};
-ghost use Rattle.avro_resolve.specs.Reading.{ReadsResolved};
+ghost use Rattle.avro_resolve.specs.Reading.{BuildsResolved, ReadsResolved};
 
-use crate::error::{ReadResolveError, ResolveError};
-use crate::resolution::resolve;
-use avro_binary::{ReadError, decode};
+use crate::error::ReadResolveError;
+use crate::failing::turn;
+use crate::guided::{At, Made};
+use crate::resolving::Resolving;
+use avro_binary::{Build, Tree, read_made};
 use avro_schema::{Datum, Limits, Schema};
 use std::alloc::Global;
 
-/// Reads a writer's datum from the front of bytes, and answers what it is for the reader, with the
-/// length of its encoding (Avro 1.11, "Schema Resolution").
+/// Reads a writer's datum from the front of bytes, and answers the datum that it is for the reader, with
+/// the length of its encoding (Avro 1.11, "Schema Resolution").
 ///
 /// # Errors
 ///
-/// The first fault of the bytes, and else the first fault of resolution.
-pub fn read_resolved(
+/// Those of [`read_resolved`].
+pub fn decode_resolved(
     alloc: Global,
     writer: &Schema,
     reader: &Schema,
@@ -22,12 +24,38 @@ pub fn read_resolved(
 ) -> Result<(Datum, usize), ReadResolveError>
     ensures { ReadsResolved (schema_nodes writer.now) (schema_nodes reader.now) limits.now bytes.now result }
 {
-    match decode(alloc, writer, writer.root(), bytes, limits) {
-        Ok((datum, len)) => match resolve(alloc, writer, reader, &datum) {
-            Ok(resolved) => Ok((resolved, len)),
-            Err(ResolveError::Fault(fault)) => Err(ReadResolveError::Resolve(fault)),
-            Err(ResolveError::Memory) => Err(ReadResolveError::Read(ReadError::OutOfMemory)),
+    let mut tree = Tree;
+    read_resolved(alloc, writer, reader, bytes, limits, &mut tree)
+}
+
+/// Reads a writer's datum from the front of bytes once, and answers what a builder builds of what it is for
+/// the reader, with the length of its encoding (Avro 1.11, "Schema Resolution"). No writer's datum is made:
+/// a field that the reader ignores is walked over, and so is the rest of the datum after a fault of
+/// resolution.
+///
+/// # Errors
+///
+/// The first fault of the bytes, and else the first fault of resolution.
+pub fn read_resolved<B: Build>(
+    alloc: Global,
+    writer: &Schema,
+    reader: &Schema,
+    bytes: &[u8],
+    limits: &Limits,
+    builder: &mut B,
+) -> Result<(B::Out, usize), ReadResolveError>
+    ensures { BuildsResolved B.stands_for (schema_nodes writer.now) (schema_nodes reader.now) limits.now bytes.now result }
+{
+    let _nodes = limits.nodes();
+    let w = writer.root();
+    let at = At::Pair(w, reader.root());
+    let mut maker = Resolving::new(writer, reader, builder);
+    match read_made(alloc, writer, w, bytes, limits, &mut maker, at) {
+        Ok((made, len)) => match made {
+            Made::Good(out) => Ok((out, len)),
+            Made::Faulty(fault) => Err(ReadResolveError::Resolve(turn(fault))),
+            Made::Nothing => unreachable!(),
         },
-        Err(e) => Err(ReadResolveError::Read(e)),
+        Err(error) => Err(ReadResolveError::Read(error)),
     }
 }

@@ -8,9 +8,9 @@ ghost use Rattle.avro_resolve.specs.Resolve.{through, resolve as resolve_value, 
 ghost use Rattle.avro_resolve.specs.Seen.{Answers};
 ghost use Rattle.avro_resolve.specs.Ends.{Ends, EndsFound, EndsSlot, field_step, taken_as};
 
-use crate::error::{Fault, FaultKind, ResolveError};
-use crate::failing::{fault_here, fault_in};
-use crate::filling::fill;
+use crate::error::{FaultKind, ResolveError};
+use crate::failing::{fault_here, fault_in, turn};
+use crate::filling::fill_data;
 use crate::guided::{Aim, At};
 use crate::leaves::{leaf, wrapped};
 use crate::pairs::aim;
@@ -38,12 +38,7 @@ pub fn resolve(
     let r = reader.root();
     match resolve_at(alloc, writer, w, reader, r, datum) {
         Ok(resolved) => Ok(resolved),
-        Err(ResolveError::Fault(fault)) => {
-            let kind = fault.kind;
-            let mut path = fault.path;
-            path.reverse();
-            Err(ResolveError::Fault(Fault { kind, path }))
-        }
+        Err(ResolveError::Fault(fault)) => Err(ResolveError::Fault(turn(fault))),
         Err(ResolveError::Memory) => Err(ResolveError::Memory),
     }
 }
@@ -227,7 +222,7 @@ fn resolve_record(
     match missing(writes, reads) {
         Some(place) => Err(fault_here(alloc, FaultKind::MissingField(place))),
         None => match resolve_fields(alloc, writer, writes, reader, reads, values) {
-            Ok(slots) => match fill(alloc, writes, reads, slots) {
+            Ok(slots) => match fill_data(alloc, writes, reads, slots) {
                 Ok(filled) => Ok(Datum::Record(filled)),
                 Err(_) => Err(ResolveError::Memory),
             },

@@ -1,15 +1,9 @@
-use Rattle.std.proofs.lemmas.Result.{err_from_is_err_and}
+use Rattle.avro_schema.specs.Node.{node_at}
 use Rattle.avro_schema.specs.SeenSchema.{schema_nodes}
-use Rattle.avro_binary.proofs.ExactReads.{built, build_refused}
+use Rattle.avro_binary.proofs.ExactReads.{weakened}
 use Rattle.avro_binary.proofs.read.read_node.Goals as goal
 
 pub returns : goal.returns
 returns g c =
-    built (schema_nodes c.args.schema.now) c.len-count.ensures.formed c.args.node.0 c.args.limits.now c.args.bytes.now c.new-cursor.result
-    c.read_place.new.cursor c.new-cursor.ensures c.in_ok-built.built c.place.result c.place.ensures (λ v made. made.1) c.in_ok-built.ensures
-
-pub returns-in_err-built : goal.returns-in_err-built
-returns-in_err-built g c =
-    let p = err_from_is_err_and c.from_residual.result c.from_residual.ensures.1 in
-    rw (p.1, p.2) (build_refused (schema_nodes c.args.schema.now) c.len-count.ensures.formed c.args.node.0 c.args.limits.now c.args.bytes.now c.new-cursor.result
-    c.read_place.new.cursor c.new-cursor.ensures c.in_err-built.field-0.0 c.in_err-built.ensures)
+    let nodes = schema_nodes c.args.schema.now in
+    weakened nodes (node_at nodes c.args.node.0) c.args.limits.now c.args.bytes.now c.read_made.result (λ r v made. made.1) c.read_made.ensures

@@ -1,27 +1,20 @@
 use Rattle.std.proofs.lemmas.Result.{err_from_is_err_and}
-use Rattle.std.specs.Prelude.{Ok, Err}
 use Rattle.avro_schema.specs.Node.{node_at}
 use Rattle.avro_schema.specs.SeenSchema.{schema_nodes}
-use Rattle.avro_schema.specs.Value.{Value}
-use Rattle.avro_binary.specs.Reading.{BuildsExactly}
 use Rattle.avro_binary.proofs.ExactReads.{built, build_refused, walked, walk_refused}
 use Rattle.avro_binary.proofs.walking.walk.Goals as goal
 
 pub returns : goal.returns
 returns c =
     let nodes = schema_nodes c.args.schema.now in
-    let n = node_at nodes c.args.node.0 in
-    let exact : BuildsExactly (λ (r : Unit {0}) (v : Value). Unit {0}) nodes n c.args.limits.now c.args.bytes.now (Ok (tt, c.place.result)) =
-    built nodes c.len-count.ensures.formed c.args.node.0 c.args.limits.now c.args.bytes.now c.new-cursor.result c.read_place.new.cursor c.new-cursor.ensures
-    tt c.place.result c.place.ensures (λ v made. tt) c.in_ok-read_place.ensures in
-    walked nodes n c.args.limits.now c.args.bytes.now tt c.place.result exact
+    walked nodes (node_at nodes c.args.node.0) c.args.limits.now c.args.bytes.now tt c.place.result
+    (built nodes c.len-count.ensures.formed c.args.node.0 c.args.limits.now c.args.bytes.now c.new-cursor.result c.read_place.new.cursor c.new-cursor.ensures
+    tt c.place.result c.place.ensures c.in_ok-read_place.ensures)
 
 pub returns-in_err-read_place : goal.returns-in_err-read_place
 returns-in_err-read_place c =
     let nodes = schema_nodes c.args.schema.now in
-    let n = node_at nodes c.args.node.0 in
     let p = err_from_is_err_and c.from_residual.result c.from_residual.ensures.1 in
-    let exact : BuildsExactly (λ (r : Unit {0}) (v : Value). Unit {0}) nodes n c.args.limits.now c.args.bytes.now (Err c.in_err-read_place.field-0.0) =
-    build_refused nodes c.len-count.ensures.formed c.args.node.0 c.args.limits.now c.args.bytes.now c.new-cursor.result c.read_place.new.cursor c.new-cursor.ensures
-    c.in_err-read_place.field-0.0 c.in_err-read_place.ensures in
-    rw (p.1, p.2) (walk_refused nodes n c.args.limits.now c.args.bytes.now c.in_err-read_place.field-0.0 exact)
+    rw (p.1, p.2) (walk_refused nodes (node_at nodes c.args.node.0) c.args.limits.now c.args.bytes.now c.in_err-read_place.field-0.0
+    (build_refused nodes c.len-count.ensures.formed c.args.node.0 c.args.limits.now c.args.bytes.now c.new-cursor.result c.read_place.new.cursor c.new-cursor.ensures
+    c.in_err-read_place.field-0.0 c.in_err-read_place.ensures))

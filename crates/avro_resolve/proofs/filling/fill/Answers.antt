@@ -1,10 +1,21 @@
-use Rattle.std.proofs.Common.{◌+◌, drop}
+use Rattle.std.proofs.Common.{◌≡◌, ◌+◌, [], drop, rules}
 use Rattle.avro_schema.specs.Seen.{seen_fields}
-use Rattle.avro_resolve.proofs.Slots.{distinct_here, distinct_after, slots_here, values_more, values_all}
+use Rattle.avro_resolve.proofs.Slots.{distinct_here, distinct_after, slots_here, no_values_yet, values_more, values_all}
 use Rattle.avro_resolve.proofs.filling.fill.Goals as goal
 
+pub loop-f-init : goal.loop-f-init
+loop-f-init g c = (
+  c.requires,
+  λ found all. (
+    λ h is k src. all k,
+    let none : c.new-values.result.items ≡ [] = search rules in
+        no_values_yet g.B.Build.stands_for (seen_fields c.args.writes.now) found c.args.reads.now c.new-values.result.items none,
+  ),
+)
+
 pub loop-f-preserved : goal.loop-f-preserved
-loop-f-preserved c =
+loop-f-preserved g c =
+    let S = g.B.Build.stands_for in
     let ws = seen_fields c.args.writes.now in
     let reads = c.args.reads.now in
     let i = c.loop-f.f-index in
@@ -15,10 +26,10 @@ loop-f-preserved c =
       distinct_after ws reads i f low is distinct,
       λ found all.
           let before = c.loop-f.invariant.1 found all in
-          let taken = c.in_ok-value.ensures found (seen_fields (drop (i + 1) reads)) (distinct_here ws reads i f low is distinct) (slots_here ws reads i f low is found _ before.0) in
-          (taken.0, values_more ws reads i f low is found c.loop-f.values.items c.push.new.self.items c.in_ok-value.value c.in_ok-push.ensures.items taken.1 before.1),
+          let taken = c.in_ok-value.ensures found (seen_fields (drop (i + 1) reads)) (distinct_here ws reads i f low is distinct) (slots_here ws reads i f low is S found _ before.0) in
+          (taken.0, values_more ws reads i f low is S found c.loop-f.values.items c.push.new.self.items c.in_ok-value.value c.in_ok-push.ensures.items taken.1 before.1),
     )
 
 pub returns : goal.returns
-returns c = λ found all.
-    values_all (seen_fields c.args.writes.now) c.args.reads.now c.loop-f.f-index found c.loop-f.values.items c.loop-f-test.false (c.loop-f.invariant.1 found all).1
+returns g c = λ found all.
+    values_all g.B.Build.stands_for (seen_fields c.args.writes.now) found c.args.reads.now c.loop-f.f-index c.loop-f.values.items c.loop-f-test.false (c.loop-f.invariant.1 found all).1

@@ -1,5 +1,5 @@
 use Rattle.std.proofs.Common.{rules}
-use Rattle.avro_binary.proofs.Zipped.{zipped-push}
+use Rattle.avro_binary.proofs.public.Zipped.{zipped-push}
 use Rattle.avro_binary.proofs.own.OwnMake.field.Goals as goal
 
 pub returns-clause-stands : goal.returns-clause-stands

@@ -1,0 +1,90 @@
+-- What is resolved as it is read.
+use Rattle.std.proofs.Common.{◌≡◌, ℕ, suc, ◌≤◌, List, [], ◌∷◌, ◌++◌, length, Option, Some, None, Result, Ok, Err, refl, sym, ap, ◌∙◌, subst, arith}
+use Rattle.std.specs.Prelude.{IfOk, slice_get, unwrap_or}
+use Rattle.std.specs.declared.alloc.AllocError.{AllocError}
+use Rattle.std.proofs.lemmas.List.{append_assoc}
+use Rattle.avro_schema.specs.Value.{Value, size}
+use Rattle.avro_schema.specs.Node.{Node, node_at}
+use Rattle.avro_schema.specs.declared.schema.NodeId.{NodeId}
+use Rattle.avro_resolve.specs.Ends.{turned}
+use Rattle.avro_resolve.specs.Fault.{ResolutionFault, fault_in}
+use Rattle.avro_resolve.specs.Guided.{MadeAs, IsNothing, StandsAs, SoFar, IsSmall, branch_for}
+use Rattle.avro_resolve.specs.Pairs.{IsAim, wrapped, branch_place}
+use Rattle.avro_resolve.specs.Resolve.{Resolved, resolve, inside, result_map, through}
+use Rattle.avro_resolve.specs.declared.error.Fault.{Fault}
+use Rattle.avro_resolve.specs.declared.guided.Aim.{Aim}
+use Rattle.avro_resolve.specs.declared.guided.At.{At}
+use Rattle.avro_resolve.specs.declared.guided.At.TheVariants.{Ignored, Pair}
+use Rattle.avro_resolve.specs.declared.guided.Made.{Made}
+use Rattle.avro_resolve.proofs.Slots.{append_none}
+
+abbrev pub as_fault : ResolutionFault → Resolved
+as_fault f = Err f
+
+-- ---- What was made
+
+pub good_made : {O : Type 0} (S : O → Value → Type 0) (out : O) (q : Resolved) → MadeAs S (Made.Good out) q → (u : Value) × (q ≡ Ok u) × S out u
+good_made S out (Ok u) h = (u, refl, h)
+good_made S out (Err f) h = absurd h
+
+-- of a leaf, by what a pair leads to
+pub leaf_made : {O : Type 0} (S : O → Value → Type 0) (writer reader nodes : List Node) (n : Node) (at : At) (w r : NodeId) (branch : Option ℕ) (q : NodeId) (v : Value) (f : Node → Resolved) (result : Result (Made O) AllocError)
+    → at ≡ Pair w r → resolve writer reader (node_at writer w.0) (node_at reader r.0) v ≡ through writer reader (node_at writer w.0) (node_at reader r.0) f
+    → IsAim writer reader (node_at writer w.0) (node_at reader r.0) (Aim.To branch q) → IfOk result (λ made. MadeAs S made (wrapped branch (f (node_at reader q.0))))
+    → IfOk result (λ made. StandsAs S writer reader nodes n at made v)
+leaf_made S writer reader nodes n at w r branch q v f (Err e) pair goes leads h = tt
+leaf_made S writer reader nodes n at w r branch q v f (Ok made) pair goes leads h =
+    subst (λ (x : At). StandsAs S writer reader nodes n x made v) (sym pair)
+    (λ are same small. subst (MadeAs S made) (sym (goes ∙ leads f)) h)
+
+-- ---- Unions of the writer
+
+pub branch_good : {O : Type 0} (S : O → Value → Type 0) (out : O) (q : Resolved) → MadeAs S (Made.Good out) q → MadeAs S (Made.Good out) (inside 0 q)
+branch_good S out (Ok v) h = h
+branch_good S out (Err f) h = absurd h
+
+pub smaller : (n m : ℕ) → n ≤ m → IsSmall m → IsSmall n
+smaller n m le small = omega (arith, le, small)
+
+pub branch_made : {O : Type 0} (S : O → Value → Type 0) (writer reader nodes : List Node) (places : List ℕ) (k p : ℕ) (v : Value) (at : At) (made outer : Made O) → slice_get places k ≡ Some p
+    → (IsNothing made → IsNothing outer) → ((q : Resolved) → MadeAs S made q → MadeAs S outer (inside 0 q))
+    → StandsAs S writer reader nodes (node_at nodes p) (branch_for writer at k) made v → StandsAs S writer reader nodes (Node.union places) at outer (Value.union k v)
+branch_made S writer reader nodes places k p v Ignored made outer e none step h = none h
+branch_made S writer reader nodes places k p v (Pair w r) made outer e none step h = λ are is small.
+    let there : p ≡ branch_place (node_at writer w.0) k = sym (ap (λ (o : Option ℕ). unwrap_or o 0) e) ∙ ap (λ (n : Node). branch_place n k) is in
+    let less : size v ≤ suc (size v) = omega arith in
+    step (resolve writer reader (node_at writer (branch_place (node_at writer w.0) k)) (node_at reader r.0) v)
+    (h are (ap (λ (ns : List Node). node_at ns p) are ∙ ap (node_at writer) there) (smaller (size v) (suc (size v)) less small))
+
+pub branch_bad : (fault outer : Fault) (q : Resolved) → turned outer ≡ fault_in 0 (turned fault) → q ≡ Err (turned fault) → inside 0 q ≡ Err (turned outer)
+branch_bad fault outer q step e = ap (inside 0) e ∙ ap as_fault (sym step)
+
+pub wrapped_fault : (branch : Option ℕ) (f : ResolutionFault) → wrapped branch (Err f) ≡ Err f
+wrapped_fault None f = refl
+wrapped_fault (Some k) f = refl
+
+-- ---- Parts so far
+
+pub one_longer : {E : Type 0} (xs : List E) (x : E) → length (xs ++ x ∷ []) ≡ suc (length xs)
+one_longer [] x = refl
+one_longer (y ∷ xs) x = ap suc (one_longer xs x)
+
+module _ {E A M : Type 0} (run : ℕ → List E → Result A ResolutionFault) (join : M → A → A) where
+  pub so_far_none : (made : M) → ((a : A) → join made a ≡ a) → SoFar run join [] made
+  so_far_none made same = λ more. unchanged (run 0 more)
+    where
+      unchanged : (r : Result A ResolutionFault) → r ≡ result_map (join made) r
+      unchanged (Ok a) = ap (λ (x : A). Ok x) (sym (same a))
+      unchanged (Err f) = refl
+
+  pub so_far_more : (xs : List E) (x : E) (made new : M) → SoFar run join xs made
+      → ((more : List E) → result_map (join made) (run (length xs) (x ∷ more)) ≡ result_map (join new) (run (suc (length xs)) more)) → SoFar run join (xs ++ x ∷ []) new
+  so_far_more xs x made new h step = λ more.
+      ap (run 0) (append_assoc xs (x ∷ []) more) ∙ h (x ∷ more) ∙ step more ∙ ap (λ (k : ℕ). result_map (join new) (run k more)) (sym (one_longer xs x))
+
+  pub so_far_fails : (xs : List E) (x : E) (made : M) (f : ResolutionFault) → SoFar run join xs made → ((more : List E) → run (length xs) (x ∷ more) ≡ Err f)
+      → (more : List E) → run 0 ((xs ++ x ∷ []) ++ more) ≡ Err f
+  so_far_fails xs x made f h bad more = ap (run 0) (append_assoc xs (x ∷ []) more) ∙ h (x ∷ more) ∙ ap (result_map (join made)) (bad more)
+
+  pub so_far_whole : (xs : List E) (made : M) → SoFar run join xs made → run 0 xs ≡ result_map (join made) (run (length xs) [])
+  so_far_whole xs made h = ap (run 0) (sym (append_none xs)) ∙ h []

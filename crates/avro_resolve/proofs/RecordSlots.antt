@@ -1,0 +1,233 @@
+-- Fields of a record that are resolved as they are read.
+use Rattle.std.proofs.Common.{◌≡◌, ℕ, suc, ◌+◌, ◌≤◌, List, [], ◌∷◌, ◌++◌, length, Option, Some, None, Result, Ok, Err, refl, sym, ap, ◌∙◌, subst, arith}
+use Rattle.std.specs.Prelude.{IfOk, slice_get, unwrap_or}
+use Rattle.std.specs.Global.{Vec}
+use Rattle.std.specs.declared.alloc.AllocError.{AllocError}
+use Rattle.std.proofs.lemmas.List.{append_assoc}
+use Rattle.avro_name.specs.Name.{Name}
+use Rattle.avro_schema.specs.Value.{Value, size, values_size}
+use Rattle.avro_schema.specs.Node.{Node, FieldNode, node_at, field_places}
+use Rattle.avro_schema.specs.Seen.{values_from}
+use Rattle.avro_schema.specs.declared.schema.NodeId.{NodeId}
+use Rattle.avro_resolve.specs.Ends.{turned, before, AllBelow, SlotsAre}
+use Rattle.avro_resolve.specs.Fault.{ResolutionFault, fault_in}
+use Rattle.avro_resolve.specs.Guided.{MadeAs, StandsAs, IsSmall, FieldsGood, FieldsStandAs}
+use Rattle.avro_resolve.specs.Pairs.{wrapped, part_to, field_for}
+use Rattle.avro_resolve.specs.Resolve.{Resolved, Sourced, resolve, resolve_sources, with_sourced, both, inside, result_map, field_values, fields_at, record_or_missing}
+use Rattle.avro_resolve.specs.Source.{missing_field, reader_field}
+use Rattle.avro_resolve.specs.declared.error.Fault.{Fault}
+use Rattle.avro_resolve.specs.declared.guided.At.{At}
+use Rattle.avro_resolve.specs.declared.guided.At.TheVariants.{Ignored, Pair}
+use Rattle.avro_resolve.specs.declared.guided.Made.{Made}
+use Rattle.avro_resolve.specs.declared.guided.Slots.{Slots}
+use Rattle.avro_resolve.proofs.ArrayItems.{size_front, size_item}
+use Rattle.avro_resolve.proofs.Guiding.{as_fault, good_made, smaller, wrapped_fault, one_longer, so_far_more, so_far_fails, so_far_whole}
+use Rattle.avro_resolve.proofs.Slots.{append_none, below_more, below_last, slots_none, slots_some}
+
+-- ---- Steps over the writer's fields
+
+module _ (writer reader : List Node) (ws rs : List FieldNode) (k : ℕ) (v : Value) (more : List Value) where
+  -- the node of the writer's field, and the fields that follow
+  abbrev place_here : ℕ
+  place_here = unwrap_or (slice_get (field_places ws) k) 0
+
+  abbrev value_for : FieldNode → Resolved
+  value_for f = resolve writer reader (node_at writer place_here) (node_at reader f.node) v
+
+  abbrev sources_after : Result Sourced ResolutionFault
+  sources_after = resolve_sources writer reader ws rs (suc k) (values_from more)
+
+  field_good : (found : Sourced) (f : FieldNode) (u : Value) → reader_field ws rs k ≡ Some f → value_for f ≡ Ok u
+      → result_map (before found) (resolve_sources writer reader ws rs k (values_from (v ∷ more))) ≡ result_map (before (found ++ (k, u) ∷ [])) sources_after
+  field_good found f u is e =
+      ap (λ (o : Option FieldNode). result_map (before found) (with_sourced o k value_for sources_after)) is
+      ∙ ap (λ (q : Resolved). result_map (before found) (both (λ x rest. (k, x) ∷ rest) (inside k q) sources_after)) e ∙ moved sources_after
+    where
+      moved : (rest : Result Sourced ResolutionFault) → result_map (before found) (both (λ x rest. (k, x) ∷ rest) (inside k (Ok u)) rest) ≡ result_map (before (found ++ (k, u) ∷ [])) rest
+      moved (Ok later) = ap (λ (zs : Sourced). Ok zs) (sym (append_assoc found ((k, u) ∷ []) later))
+      moved (Err g) = refl
+
+  field_bad : (f : FieldNode) (g : ResolutionFault) → reader_field ws rs k ≡ Some f → value_for f ≡ Err g → resolve_sources writer reader ws rs k (values_from (v ∷ more)) ≡ Err (fault_in k g)
+  field_bad f g is e =
+      ap (λ (o : Option FieldNode). with_sourced o k value_for sources_after) is ∙ ap (λ (q : Resolved). both (λ x rest. (k, x) ∷ rest) (inside k q) sources_after) e
+
+  field_none : (found : Sourced) → reader_field ws rs k ≡ None → result_map (before found) (resolve_sources writer reader ws rs k (values_from (v ∷ more))) ≡ result_map (before found) sources_after
+  field_none found is = ap (λ (o : Option FieldNode). result_map (before found) (with_sourced o k value_for sources_after)) is
+
+-- ---- What a good run of fields leads to
+
+module _ {O : Type 0} (S : O → Value → Type 0) (writer reader : List Node) (w r : Node) (slots : List (Option O)) (branch : Option ℕ) (a b : NodeId) (vs : List Value) (good : FieldsGood S writer reader w r slots branch a b vs) where
+  abbrev pub writes : List FieldNode
+  writes = fields_at (node_at writer a.0)
+
+  abbrev pub reads : List FieldNode
+  reads = fields_at (node_at reader b.0)
+
+  abbrev fields_run : ℕ → List Value → Result Sourced ResolutionFault
+  fields_run k us = resolve_sources writer reader writes reads k (values_from us)
+
+  record_leads : (xs : List Value) → resolve writer reader w r (Value.record_of (values_from xs)) ≡ wrapped branch (result_map (λ found. Value.record_of (field_values writes found reads)) (fields_run 0 xs))
+  record_leads xs =
+      good.leads (λ q. record_or_missing (fields_at w) (fields_at q) (missing_field (fields_at w) (fields_at q)) (resolve_sources writer reader (fields_at w) (fields_at q) 0 (values_from xs)))
+      ∙ ap (λ (o : Option ℕ). wrapped branch (record_or_missing (fields_at w) reads o (resolve_sources writer reader (fields_at w) reads 0 (values_from xs)))) good.complete
+      ∙ ap (λ (n : Node). wrapped branch (result_map (λ found. Value.record_of (field_values (fields_at n) found reads)) (resolve_sources writer reader (fields_at n) reads 0 (values_from xs)))) (sym good.of_writer)
+
+  record_whole : resolve writer reader w r (Value.record_of (values_from vs)) ≡ wrapped branch (Ok (Value.record_of (field_values writes good.found reads)))
+  record_whole =
+      record_leads vs ∙ ap (λ (x : Result Sourced ResolutionFault). wrapped branch (result_map (λ found. Value.record_of (field_values writes found reads)) x)) (so_far_whole fields_run before vs good.found good.so_far)
+      ∙ ap (λ (found : Sourced). wrapped branch (Ok (Value.record_of (field_values writes found reads)))) (append_none good.found)
+
+  record_fails : (v : Value) (f : FieldNode) (g : ResolutionFault) → reader_field writes reads (length vs) ≡ Some f
+      → resolve writer reader (node_at writer (unwrap_or (slice_get (field_places writes) (length vs)) 0)) (node_at reader f.node) v ≡ Err g
+      → (more : List Value) → resolve writer reader w r (Value.record_of (values_from ((vs ++ v ∷ []) ++ more))) ≡ Err (fault_in (length slots) g)
+  record_fails v f g is e more =
+      record_leads ((vs ++ v ∷ []) ++ more)
+      ∙ ap (λ (x : Result Sourced ResolutionFault). wrapped branch (result_map (λ found. Value.record_of (field_values writes found reads)) x))
+      (so_far_fails fields_run before vs v good.found (fault_in (length vs) g) good.so_far (λ rest. field_bad writer reader writes reads (length vs) v rest f g is e) more)
+      ∙ wrapped_fault branch (fault_in (length vs) g) ∙ ap (λ (k : ℕ). as_fault (fault_in k g)) (sym good.counted)
+
+  -- the node that is read is the writer's field's
+  field_there : (nodes : List Node) (fs : List FieldNode) (place : ℕ) → nodes ≡ writer → fields_at w ≡ fs → slice_get (field_places fs) (length vs) ≡ Some place
+      → node_at nodes place ≡ node_at writer (unwrap_or (slice_get (field_places writes) (length vs)) 0)
+  field_there nodes fs place are of_record is =
+      let same : writes ≡ fs = ap fields_at good.of_writer ∙ of_record in
+      let there : place ≡ unwrap_or (slice_get (field_places writes) (length vs)) 0 =
+      sym (ap (λ (gs : List FieldNode). unwrap_or (slice_get (field_places gs) (length vs)) 0) same ∙ ap (λ (o : Option ℕ). unwrap_or o 0) is) in
+      ap (λ (ns : List Node). node_at ns place) are ∙ ap (node_at writer) there
+
+  counted_more : (o : Option O) (v : Value) → length (slots ++ o ∷ []) ≡ length (vs ++ v ∷ [])
+  counted_more o v = one_longer slots o ∙ ap suc good.counted ∙ sym (one_longer vs v)
+
+-- ---- What is made of one field, by what it is for
+
+module _ {O : Type 0} (S : O → Value → Type 0) (writer reader nodes : List Node) (n : Node) (j : ℕ) (v : Value) (are : nodes ≡ writer) (there : n ≡ node_at writer j) (small : IsSmall (size v)) where
+  sourced_good : (o : Option FieldNode) (out : O) → StandsAs S writer reader nodes n (part_to j o) (Made.Good out) v
+      → (f : FieldNode) × (u : Value) × (o ≡ Some f) × (resolve writer reader (node_at writer j) (node_at reader f.node) v ≡ Ok u) × S out u
+  sourced_good None out h = absurd h
+  sourced_good (Some f) out h =
+      let made = good_made S out (resolve writer reader (node_at writer j) (node_at reader f.node) v) (h are there small) in
+      (f, made.0, refl, made.1, made.2)
+
+  sourced_bad : (o : Option FieldNode) (fault : Fault) → StandsAs S writer reader nodes n (part_to j o) (Made.Faulty fault) v
+      → (f : FieldNode) × (o ≡ Some f) × (resolve writer reader (node_at writer j) (node_at reader f.node) v ≡ Err (turned fault))
+  sourced_bad None fault h = absurd h
+  sourced_bad (Some f) fault h = (f, refl, h are there small)
+
+  sourced_none : (o : Option FieldNode) → StandsAs S writer reader nodes n (part_to j o) Made.Nothing v → o ≡ None
+  sourced_none None h = refl
+  sourced_none (Some f) h = absurd (h are there small)
+
+-- ---- Fields of a run
+
+module _ {O : Type 0} (S : O → Value → Type 0) (writer reader nodes : List Node) (fs : List FieldNode) (place : ℕ) (vs : List Value) (v : Value) (is_field : slice_get (field_places fs) (length vs) ≡ Some place) where
+  abbrev stands_at : NodeId → NodeId → ℕ → Made O → Type 0
+  stands_at a b k made = StandsAs S writer reader nodes (node_at nodes place) (field_for (fields_at (node_at writer a.0)) (fields_at (node_at reader b.0)) k) made v
+
+  front_small : IsSmall (values_size (values_from (vs ++ v ∷ []))) → IsSmall (values_size (values_from vs))
+  front_small small = smaller (values_size (values_from vs)) (values_size (values_from (vs ++ v ∷ []))) (size_front vs (v ∷ [])) small
+
+  field_small : IsSmall (values_size (values_from (vs ++ v ∷ []))) → IsSmall (size v)
+  field_small small = smaller (size v) (values_size (values_from (vs ++ v ∷ []))) (size_item vs v []) small
+
+  at_count : (a b : NodeId) (made : Made O) (k : ℕ) → k ≡ length vs → stands_at a b k made → stands_at a b (length vs) made
+  at_count a b made k e h = subst (λ (i : ℕ). stands_at a b i made) e h
+
+  pub good_field : (at : At) (slots after : Vec (Option O)) (branch : Option ℕ) (a b : NodeId) (out : O) → after.items ≡ slots.items ++ Some out ∷ []
+      → FieldsStandAs S writer reader nodes fs at (Slots.Good slots branch a b) vs → stands_at a b (length slots.items) (Made.Good out)
+      → FieldsStandAs S writer reader nodes fs at (Slots.Good after branch a b) (vs ++ v ∷ [])
+  good_field Ignored slots after branch a b out pushed h stands = absurd h
+  good_field (Pair w r) slots after branch a b out pushed h stands = λ are of_record small.
+      let wn = node_at writer w.0 in
+      let rn = node_at reader r.0 in
+      let ws = fields_at (node_at writer a.0) in
+      let rs = fields_at (node_at reader b.0) in
+      let good = h are of_record (front_small small) in
+      let got = sourced_good S writer reader nodes (node_at nodes place) (unwrap_or (slice_get (field_places ws) (length vs)) 0) v are
+      (field_there S writer reader wn rn slots.items branch a b vs good nodes fs place are of_record is_field) (field_small small)
+      (reader_field ws rs (length vs)) out (at_count a b (Made.Good out) (length slots.items) good.counted stands) in
+      let found = good.found ++ (length vs, got.1) ∷ [] in
+      let one : length vs + 1 ≡ length (vs ++ v ∷ []) = omega (arith, one_longer vs v) in
+      subst (λ (xs : List (Option O)). FieldsGood S writer reader wn rn xs branch a b (vs ++ v ∷ [])) (sym pushed)
+      (record {
+        leads = good.leads;
+        of_writer = good.of_writer;
+        complete = good.complete;
+        counted = counted_more S writer reader wn rn slots.items branch a b vs good (Some out) v;
+        found = found;
+        below = subst (λ (m : ℕ). AllBelow m found) one (below_last (length vs) good.found got.1 good.below);
+        so_far = so_far_more (λ k us. resolve_sources writer reader ws rs k (values_from us)) before vs v good.found found good.so_far
+            (λ more. field_good writer reader ws rs (length vs) v more good.found got.0 got.1 got.2 got.3);
+        stands = slots_some S good.found slots.items (length vs) good.counted good.below good.stands out got.1 got.4;
+      })
+
+  pub no_field : (at : At) (slots after : Vec (Option O)) (branch : Option ℕ) (a b : NodeId) → after.items ≡ slots.items ++ None ∷ []
+      → FieldsStandAs S writer reader nodes fs at (Slots.Good slots branch a b) vs → stands_at a b (length slots.items) Made.Nothing
+      → FieldsStandAs S writer reader nodes fs at (Slots.Good after branch a b) (vs ++ v ∷ [])
+  no_field Ignored slots after branch a b pushed h stands = absurd h
+  no_field (Pair w r) slots after branch a b pushed h stands = λ are of_record small.
+      let wn = node_at writer w.0 in
+      let rn = node_at reader r.0 in
+      let ws = fields_at (node_at writer a.0) in
+      let rs = fields_at (node_at reader b.0) in
+      let good = h are of_record (front_small small) in
+      let none = sourced_none S writer reader nodes (node_at nodes place) (unwrap_or (slice_get (field_places ws) (length vs)) 0) v are
+      (field_there S writer reader wn rn slots.items branch a b vs good nodes fs place are of_record is_field) (field_small small)
+      (reader_field ws rs (length vs)) (at_count a b Made.Nothing (length slots.items) good.counted stands) in
+      let one : length vs + 1 ≡ length (vs ++ v ∷ []) = omega (arith, one_longer vs v) in
+      subst (λ (xs : List (Option O)). FieldsGood S writer reader wn rn xs branch a b (vs ++ v ∷ [])) (sym pushed)
+      (record {
+        leads = good.leads;
+        of_writer = good.of_writer;
+        complete = good.complete;
+        counted = counted_more S writer reader wn rn slots.items branch a b vs good None v;
+        found = good.found;
+        below = subst (λ (m : ℕ). AllBelow m good.found) one (below_more (length vs) good.found good.below);
+        so_far = so_far_more (λ k us. resolve_sources writer reader ws rs k (values_from us)) before vs v good.found good.found good.so_far
+            (λ more. field_none writer reader ws rs (length vs) v more good.found none);
+        stands = slots_none S good.found slots.items (length vs) good.counted good.below good.stands;
+      })
+
+  pub faulty_field : (at : At) (slots : Vec (Option O)) (branch : Option ℕ) (a b : NodeId) (fault outer : Fault) → turned outer ≡ fault_in (length slots.items) (turned fault)
+      → FieldsStandAs S writer reader nodes fs at (Slots.Good slots branch a b) vs → stands_at a b (length slots.items) (Made.Faulty fault)
+      → FieldsStandAs S writer reader nodes fs at (Slots.Faulty outer) (vs ++ v ∷ [])
+  faulty_field Ignored slots branch a b fault outer step h stands = absurd h
+  faulty_field (Pair w r) slots branch a b fault outer step h stands = λ are of_record more few.
+      let wn = node_at writer w.0 in
+      let rn = node_at reader r.0 in
+      let ws = fields_at (node_at writer a.0) in
+      let rs = fields_at (node_at reader b.0) in
+      let small = smaller (values_size (values_from (vs ++ v ∷ []))) (values_size (values_from ((vs ++ v ∷ []) ++ more))) (size_front (vs ++ v ∷ []) more) few in
+      let good = h are of_record (front_small small) in
+      let got = sourced_bad S writer reader nodes (node_at nodes place) (unwrap_or (slice_get (field_places ws) (length vs)) 0) v are
+      (field_there S writer reader wn rn slots.items branch a b vs good nodes fs place are of_record is_field) (field_small small)
+      (reader_field ws rs (length vs)) fault (at_count a b (Made.Faulty fault) (length slots.items) good.counted stands) in
+      record_fails S writer reader wn rn slots.items branch a b vs good v got.0 (turned fault) got.1 got.2 more ∙ ap as_fault (sym step)
+
+  pub field_after_fault : (at : At) (fault : Fault) → FieldsStandAs S writer reader nodes fs at (Slots.Faulty fault) vs → FieldsStandAs S writer reader nodes fs at (Slots.Faulty fault) (vs ++ v ∷ [])
+  field_after_fault Ignored fault h = absurd h
+  field_after_fault (Pair w r) fault h = λ are of_record more.
+      subst (λ (xs : List Value). IsSmall (values_size (values_from xs)) → resolve writer reader (node_at writer w.0) (node_at reader r.0) (Value.record_of (values_from xs)) ≡ Err (turned fault)) (sym (append_assoc vs (v ∷ []) more))
+      (h are of_record (v ∷ more))
+
+-- ---- Records
+
+module _ {O : Type 0} (S : O → Value → Type 0) (writer reader nodes : List Node) (name : Name) (aliases : List Name) (fs : List FieldNode) (vs : List Value) where
+  pub good_record : (at : At) (slots : Vec (Option O)) (branch : Option ℕ) (a b : NodeId) (result : Result (Made O) AllocError)
+      → ((found : Sourced) → SlotsAre S found slots.items
+      → IfOk result (λ made. MadeAs S made (wrapped branch (Ok (Value.record_of (field_values (fields_at (node_at writer a.0)) found (fields_at (node_at reader b.0))))))))
+      → FieldsStandAs S writer reader nodes fs at (Slots.Good slots branch a b) vs
+      → IfOk result (λ made. StandsAs S writer reader nodes (Node.record_of name aliases fs) at made (Value.record_of (values_from vs)))
+  good_record at slots branch a b (Err e) law h = tt
+  good_record Ignored slots branch a b (Ok made) law h = absurd h
+  good_record (Pair w r) slots branch a b (Ok made) law h = λ are is small.
+      let less : values_size (values_from vs) ≤ suc (values_size (values_from vs)) = omega arith in
+      let good = h are (sym (ap fields_at is)) (smaller (values_size (values_from vs)) (suc (values_size (values_from vs))) less small) in
+      subst (MadeAs S made) (sym (record_whole S writer reader (node_at writer w.0) (node_at reader r.0) slots.items branch a b vs good)) (law good.found good.stands)
+
+  pub faulty_record : (at : At) (fault : Fault) → FieldsStandAs S writer reader nodes fs at (Slots.Faulty fault) vs
+      → StandsAs S writer reader nodes (Node.record_of name aliases fs) at (Made.Faulty fault) (Value.record_of (values_from vs))
+  faulty_record Ignored fault h = absurd h
+  faulty_record (Pair w r) fault h = λ are is small.
+      let less : values_size (values_from vs) ≤ suc (values_size (values_from vs)) = omega arith in
+      subst (λ (xs : List Value). IsSmall (values_size (values_from xs)) → resolve writer reader (node_at writer w.0) (node_at reader r.0) (Value.record_of (values_from xs)) ≡ Err (turned fault)) (append_none vs)
+      (h are (sym (ap fields_at is)) []) (smaller (values_size (values_from vs)) (suc (values_size (values_from vs))) less small)

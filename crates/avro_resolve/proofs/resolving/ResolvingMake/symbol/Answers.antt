@@ -1,0 +1,12 @@
+use Rattle.std.proofs.Common.{refl}
+use Rattle.avro_schema.specs.Node.{Node, node_at}
+use Rattle.avro_schema.specs.SeenSchema.{schema_nodes}
+use Rattle.avro_schema.specs.Value.{Value}
+use Rattle.avro_resolve.specs.Resolve.{enum_as, symbol_at}
+use Rattle.avro_resolve.proofs.Guiding.{leaf_made}
+use Rattle.avro_resolve.proofs.resolving.ResolvingMake.symbol.Goals as goal
+
+pub returns-in-To-clause-stands : goal.returns-in-To-clause-stands
+returns-in-To-clause-stands g c = λ nodes name aliases texts default low.
+    leaf_made g.B.Build.stands_for (schema_nodes c.args.self.now.writer.now) (schema_nodes c.args.self.now.reader.now) nodes (Node.enum name aliases texts default) c.args.at c.in-Pair.w c.in-Pair.r
+    c.in-To.branch c.in-To.q (Value.enum c.args.place) (enum_as (symbol_at (node_at (schema_nodes c.args.self.now.writer.now) c.in-Pair.w.0) c.args.place)) c.make_symbol.result c.in-Pair.is refl c.in-To.ensures c.make_symbol.ensures

@@ -1,0 +1,173 @@
+ghost use Rattle.std.specs.Prelude.{◌≡◌, ◌++◌, ◌∷◌, [], ℕ, IfOk, List, OnOk};
+ghost use Rattle.avro_schema.specs.Node.{Node, node_at};
+ghost use Rattle.avro_schema.specs.Seen.{entries_from, values_from};
+ghost use Rattle.avro_schema.specs.SeenSchema.{schema_nodes};
+ghost use Rattle.avro_schema.specs.Value.{Value};
+ghost use Rattle.avro_resolve.specs.Guided.{EntriesStandAs, ItemsStandAs, StandsAs, next_at};
+
+use crate::failing::{faulty, step_out};
+use crate::guided::{Aim, At, Made, Run};
+use crate::making::wrap;
+use crate::pairs::aim;
+use crate::parts::{items_of, values_of};
+use avro_binary::Build;
+use avro_schema::Schema;
+use std::alloc::{AllocError, Global};
+
+/// What the next item or entry is for.
+pub fn next_part<I>(run: &Run<I>) -> At
+    ensures { result ≡ next_at run.now }
+{
+    match run {
+        Run::Good(_, _, _, a, b) => At::Pair(*a, *b),
+        Run::Faulty(_) => At::Ignored,
+        Run::Nothing => At::Ignored,
+    }
+}
+
+/// What was made of no items: where a pair of nodes leads to a fault, that fault.
+pub fn start_items<B: Build>(
+    alloc: Global,
+    builder: &mut B,
+    writer: &Schema,
+    reader: &Schema,
+    at: At,
+) -> Result<Run<B::Items>, AllocError>
+    ensures { (nodes : List Node) (place : ℕ) → IfOk result (λ run. ItemsStandAs B.items_stand_for (schema_nodes writer.now) (schema_nodes reader.now) nodes place at run []) }
+{
+    match at {
+        At::Ignored => Ok(Run::Nothing),
+        At::Pair(w, r) => match aim(writer, w, reader, r) {
+            Aim::Fault(kind) => Ok(Run::Faulty(faulty(alloc, kind))),
+            Aim::To(branch, q) => {
+                let a = items_of(writer, w);
+                let b = items_of(reader, q);
+                let kept = builder.items(alloc)?;
+                Ok(Run::Good(kept, 0, branch, a, b))
+            }
+        },
+    }
+}
+
+/// Adds what was made of an item behind those before.
+pub fn put_item<B: Build>(
+    alloc: Global,
+    builder: &mut B,
+    items: &mut Run<B::Items>,
+    made: Made<B::Out>,
+) -> Result<(), AllocError>
+    ensures { (writer reader nodes : List Node) (place : ℕ) (at : At) (vs : List Value) (v : Value) → ItemsStandAs B.items_stand_for writer reader nodes place at items.old vs
+        → StandsAs B.stands_for writer reader nodes (node_at nodes place) (next_at items.old) made v
+        → OnOk result (ItemsStandAs B.items_stand_for writer reader nodes place at items.new (vs ++ v ∷ [])) }
+{
+    match items {
+        Run::Good(kept, count, _, _, _) => match made {
+            Made::Good(out) => {
+                builder.item(alloc, kept, out)?;
+                *count = count.saturating_add(1);
+                Ok(())
+            }
+            Made::Faulty(fault) => {
+                let outer = step_out(*count, fault)?;
+                *items = Run::Faulty(outer);
+                Ok(())
+            }
+            Made::Nothing => Ok(()),
+        },
+        Run::Faulty(_) => Ok(()),
+        Run::Nothing => Ok(()),
+    }
+}
+
+/// What was made of an array, of its items.
+pub fn make_array<B: Build>(
+    alloc: Global,
+    builder: &mut B,
+    items: Run<B::Items>,
+) -> Result<Made<B::Out>, AllocError>
+    ensures { (writer reader nodes : List Node) (place : ℕ) (at : At) (vs : List Value) → ItemsStandAs B.items_stand_for writer reader nodes place at items vs
+        → IfOk result (λ made. StandsAs B.stands_for writer reader nodes (Node.array place) at made (Value.array (values_from vs))) }
+{
+    match items {
+        Run::Good(kept, _, branch, _, _) => {
+            let out = builder.array(alloc, kept)?;
+            wrap(alloc, builder, branch, out)
+        }
+        Run::Faulty(fault) => Ok(Made::Faulty(fault)),
+        Run::Nothing => Ok(Made::Nothing),
+    }
+}
+
+/// What was made of no entries: where a pair of nodes leads to a fault, that fault.
+pub fn start_entries<B: Build>(
+    alloc: Global,
+    builder: &mut B,
+    writer: &Schema,
+    reader: &Schema,
+    at: At,
+) -> Result<Run<B::Entries>, AllocError>
+    ensures { (nodes : List Node) (place : ℕ) → IfOk result (λ run. EntriesStandAs B.entries_stand_for (schema_nodes writer.now) (schema_nodes reader.now) nodes place at run []) }
+{
+    match at {
+        At::Ignored => Ok(Run::Nothing),
+        At::Pair(w, r) => match aim(writer, w, reader, r) {
+            Aim::Fault(kind) => Ok(Run::Faulty(faulty(alloc, kind))),
+            Aim::To(branch, q) => {
+                let a = values_of(writer, w);
+                let b = values_of(reader, q);
+                let kept = builder.entries(alloc)?;
+                Ok(Run::Good(kept, 0, branch, a, b))
+            }
+        },
+    }
+}
+
+/// Adds what was made of an entry's value behind those before.
+pub fn put_entry<B: Build>(
+    alloc: Global,
+    builder: &mut B,
+    entries: &mut Run<B::Entries>,
+    key: &str,
+    made: Made<B::Out>,
+) -> Result<(), AllocError>
+    ensures { (writer reader nodes : List Node) (place : ℕ) (at : At) (es : List (List ℕ × Value)) (v : Value) → EntriesStandAs B.entries_stand_for writer reader nodes place at entries.old es
+        → StandsAs B.stands_for writer reader nodes (node_at nodes place) (next_at entries.old) made v
+        → OnOk result (EntriesStandAs B.entries_stand_for writer reader nodes place at entries.new (es ++ (key.now, v) ∷ [])) }
+{
+    match entries {
+        Run::Good(kept, count, _, _, _) => match made {
+            Made::Good(out) => {
+                builder.entry(alloc, kept, key, out)?;
+                *count = count.saturating_add(1);
+                Ok(())
+            }
+            Made::Faulty(fault) => {
+                let outer = step_out(*count, fault)?;
+                *entries = Run::Faulty(outer);
+                Ok(())
+            }
+            Made::Nothing => Ok(()),
+        },
+        Run::Faulty(_) => Ok(()),
+        Run::Nothing => Ok(()),
+    }
+}
+
+/// What was made of a map, of its entries.
+pub fn make_map<B: Build>(
+    alloc: Global,
+    builder: &mut B,
+    entries: Run<B::Entries>,
+) -> Result<Made<B::Out>, AllocError>
+    ensures { (writer reader nodes : List Node) (place : ℕ) (at : At) (es : List (List ℕ × Value)) → EntriesStandAs B.entries_stand_for writer reader nodes place at entries es
+        → IfOk result (λ made. StandsAs B.stands_for writer reader nodes (Node.map_of place) at made (Value.map_of (entries_from es))) }
+{
+    match entries {
+        Run::Good(kept, _, branch, _, _) => {
+            let out = builder.map(alloc, kept)?;
+            wrap(alloc, builder, branch, out)
+        }
+        Run::Faulty(fault) => Ok(Made::Faulty(fault)),
+        Run::Nothing => Ok(Made::Nothing),
+    }
+}
