@@ -1,8 +1,9 @@
-//! A writer's bytes for a reader: the same by `read_resolved` as by `resolve` after `decode`.
+//! A writer's bytes for a reader: the same by `read_resolved` with each builder as by `resolve` after `decode`.
 
-use avro_binary::decode;
+use avro_binary::{Nothing, Tree, append_plain, decode};
 use avro_display::show;
-use avro_resolve::{read_resolved, resolve};
+use avro_packed::{Packed, append};
+use avro_resolve::{decode_resolved, read_resolved, resolve};
 use avro_schema::{Datum, Limits, Schema, fits};
 use avro_schema_json::read_schema;
 use std::alloc::Global;
@@ -44,21 +45,41 @@ fn decoded(alloc: Global, writer: &Schema, reader: &Schema, bytes: &[u8]) -> Res
     }
 }
 
-/// What `read_resolved` answers.
+/// What `read_resolved` answers where it builds the datum.
 fn read(alloc: Global, writer: &Schema, reader: &Schema, bytes: &[u8]) -> Result<String, Fail> {
-    match read_resolved(alloc, writer, reader, bytes, &Limits::default()) {
+    match read_resolved(alloc, writer, reader, bytes, &Limits::default(), &mut Tree) {
         Ok((datum, len)) => shown(alloc, reader, &datum, len),
         Err(error) => Ok(format!(in alloc; "{error}")?),
     }
 }
 
-/// What both answer of two schemas' texts and bytes: the display of the reader's datum and the
-/// length, or the refusal. Nothing, where they differ.
+/// Whether what is packed is the plain encoding of the datum, and a walk has the same length; or all are refused alike.
+fn agree(alloc: Global, writer: &Schema, reader: &Schema, bytes: &[u8]) -> Result<bool, Fail> {
+    let limits = Limits::default();
+    let tree = decode_resolved(alloc, writer, reader, bytes, &limits);
+    let packed = read_resolved(alloc, writer, reader, bytes, &limits, &mut Packed);
+    let walked = read_resolved(alloc, writer, reader, bytes, &limits, &mut Nothing);
+    match (tree, packed, walked) {
+        (Ok((datum, len)), Ok((pieces, packed_len)), Ok(walked)) => {
+            let mut plain = Vec::new(alloc);
+            append_plain(&datum, &mut plain)?;
+            let mut out = Vec::new(alloc);
+            append(&pieces, &mut out)?;
+            Ok(out == plain && packed_len == len && walked == ((), len))
+        }
+        (Err(read), Err(packed), Err(walked)) => Ok(read == packed && read == walked),
+        _ => Ok(false),
+    }
+}
+
+/// What all answer of two schemas' texts and bytes: the display of the reader's datum and the
+/// length, or the refusal. Nothing where they differ.
 fn answer(alloc: Global, writer: &str, reader: &str, bytes: &[u8]) -> Result<String, Fail> {
     let writer = read_schema(alloc, writer.as_bytes())?;
     let reader = read_schema(alloc, reader.as_bytes())?;
     let found = read(alloc, &writer, &reader, bytes)?;
-    if found == decoded(alloc, &writer, &reader, bytes)? {
+    let same = agree(alloc, &writer, &reader, bytes)?;
+    if same && found == decoded(alloc, &writer, &reader, bytes)? {
         Ok(found)
     } else {
         Ok(String::new(alloc))
