@@ -1,8 +1,8 @@
 use crate::certificate::Certificate;
 use crate::certifying::certify;
-use avro_binary::ReadError;
-use avro_resolve::{ReadResolveError, decode_resolved};
-use avro_schema::{Datum, Limits, Memory, Schema};
+use avro_binary::{Build, ReadError};
+use avro_resolve::{ReadResolveError, read_resolved};
+use avro_schema::{Limits, Memory, Schema};
 use std::alloc::Global;
 use std::marker::Model;
 
@@ -35,7 +35,6 @@ impl<'a> Approved<'a> {
     ghost use Rattle.std.specs.Option.{IfSome};
     ghost use Rattle.avro_schema.specs.Fits.{is_within};
     ghost use Rattle.avro_schema.specs.Node.{root_of};
-    ghost use Rattle.avro_schema.specs.Seen.{value_of};
     ghost use Rattle.avro_schema.specs.SeenSchema.{schema_nodes};
     ghost use Rattle.avro_schema.specs.Value.{Value};
     ghost use Rattle.avro_binary.specs.Breaks.{Breaks};
@@ -57,37 +56,39 @@ impl<'a> Approved<'a> {
         Approved { writer, reader }
     }
 
-    /// Reads a datum of the writer's from the front of bytes, and answers what it is for the reader,
-    /// with the length of its encoding.
+    /// Reads a datum of the writer's from the front of bytes, and answers what a builder builds of what it
+    /// is for the reader, with the length of its encoding.
     ///
     /// # Errors
     ///
     /// The first fault of the bytes; there is none of resolution.
-    pub fn read(
+    pub fn read<B: Build>(
         &self,
         alloc: Global,
         bytes: &[u8],
         limits: &Limits,
-    ) -> Result<(Datum, usize), ReadError>
-        // Where the bytes begin with an encoding of a writer's datum within limits, whatever follows it, the answer is what
-        // resolution gives of the datum, and that encoding's length.
+        builder: &mut B,
+    ) -> Result<(B::Out, usize), ReadError>
+        // Where the bytes begin with an encoding of a writer's datum within limits, whatever follows it, the answer stands for
+        // what resolution gives of the datum, and has that encoding's length.
         ensures begins { (v : Value) (front rest : List ℕ) → Encodes (schema_nodes self.now.0) (root_of (schema_nodes self.now.0)) v front
             → is_within limits.now v ≡ true → bytes.now ≡ front ++ rest
             → UnlessOutOfMemory result (IsOkAnd result (λ r.
-            (resolve_root (schema_nodes self.now.0) (schema_nodes self.now.1) v ≡ Ok (value_of r.0)) × (r.1 ≡ length front))) }
+            (u : Value) × B.stands_for r.0 u × (resolve_root (schema_nodes self.now.0) (schema_nodes self.now.1) v ≡ Ok u) × (r.1 ≡ length front))) }
         // There is no other answer.
-        ensures found { IfOk result (λ r. ReadsAs (schema_nodes self.now.0) (schema_nodes self.now.1) limits.now bytes.now r.1 (Ok (value_of r.0))) }
+        ensures found { IfOk result (λ r. (u : Value) × B.stands_for r.0 u × ReadsAs (schema_nodes self.now.0) (schema_nodes self.now.1) limits.now bytes.now r.1 (Ok u)) }
         // An error reports the first fault of the bytes, and each fault is reported.
         ensures refused { IfErr result (λ e. IfSome (read_fault e) (Breaks (schema_nodes self.now.0) limits.now (root_of (schema_nodes self.now.0)) bytes.now)) }
         ensures breaks { (fault : ReadFault) → Breaks (schema_nodes self.now.0) limits.now (root_of (schema_nodes self.now.0)) bytes.now fault
             → UnlessOutOfMemory result (Reports result fault) }
     {
-        match decode_resolved(alloc, self.writer, self.reader, bytes, limits) {
+        match read_resolved(alloc, self.writer, self.reader, bytes, limits, builder) {
             Ok(answer) => Ok(answer),
             Err(ReadResolveError::Read(e)) => Err(e),
             Err(ReadResolveError::Resolve(_)) => unreachable!(),
         }
     }
+
     /// The certificate of the two schemas, by which [`confirm`](crate::confirm) approves them again. It
     /// depends on the schemas alone.
     ///

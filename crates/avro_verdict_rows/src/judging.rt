@@ -1,4 +1,4 @@
-use avro_binary::ReadError;
+use avro_binary::{ReadError, Tree};
 use avro_judge::{Cause, JudgeLimits, Verdict, judge};
 use avro_resolve::{Fault, FaultKind};
 use avro_schema::{Datum, Draft, DraftError, Limits, Node, Schema};
@@ -23,7 +23,7 @@ fn ints_are_read_as_longs(rt: HostRuntime) -> Result<(), Fail> {
     };
     for bytes in [&[0x80u8, 0x01][..], &[0x80, 0x01, 0xff]] {
         assert_eq!(rt;
-            approved.read(alloc, bytes, &Limits::default()),
+            approved.read(alloc, bytes, &Limits::default(), &mut Tree),
             Ok((Datum::Long(64), 2))
         );
     }
@@ -44,7 +44,7 @@ fn booleans_are_read(rt: HostRuntime) -> Result<(), Fail> {
         (&[0x02], Err(ReadError::InvalidBoolean { place: 0 })),
         (&[], Err(ReadError::EndOfInput { place: 0 })),
     ] {
-        assert_eq!(rt; approved.read(alloc, bytes, &Limits::default()), wanted);
+        assert_eq!(rt; approved.read(alloc, bytes, &Limits::default(), &mut Tree), wanted);
     }
     Ok(())
 }

@@ -1,25 +1,24 @@
-use Rattle.std.proofs.Common.{ℕ, Result, Err}
-use Rattle.avro_schema.specs.declared.datum.Datum.{Datum}
+use Rattle.std.proofs.Common.{Result, Err}
 use Rattle.avro_binary.specs.Seen.{UnlessOutOfMemory}
 use Rattle.avro_binary.specs.declared.error.ReadError.{ReadError}
 use Rattle.avro_resolve.specs.Seen.{UnlessOutOfMemory as UnlessNoMemory}
 use Rattle.avro_resolve.specs.declared.error.ReadResolveError.{ReadResolveError}
 use Rattle.avro_judge.proofs.approval.Approved.read.Goals as goal
 
-abbrev unread : ReadError → Result (Datum × ℕ) ReadResolveError
+abbrev unread : {A : Type 0} → ReadError → Result A ReadResolveError
 unread e = Err (ReadResolveError.Read e)
 
-abbrev refused : ReadError → Result (Datum × ℕ) ReadError
+abbrev refused : {A : Type 0} → ReadError → Result A ReadError
 refused e = Err e
 
 -- an error of reading that is handed on is want of memory where it was
-only_memory : (e : ReadError) → UnlessNoMemory (unread e) ⊥ → UnlessOutOfMemory (refused e) ⊥
+only_memory : {A : Type 0} (e : ReadError) → UnlessNoMemory (unread {A} e) ⊥ → UnlessOutOfMemory (refused {A} e) ⊥
 only_memory ReadError.OutOfMemory h = tt
 only_memory _ h = h
 
 pub returns-in-Ok-clause-begins : goal.returns-in-Ok-clause-begins
-returns-in-Ok-clause-begins c = rw (← c.self.view_is) (λ v front rest encoded within split. c.in-Ok.ensures.begins v front rest encoded within split)
+returns-in-Ok-clause-begins g c = rw (← c.self.view_is) (λ v front rest encoded within split. c.in-Ok.ensures.begins v front rest encoded within split)
 
 pub returns-in-Err-Read-clause-begins : goal.returns-in-Err-Read-clause-begins
-returns-in-Err-Read-clause-begins c = rw (← c.self.view_is) (λ v front rest encoded within split.
+returns-in-Err-Read-clause-begins g c = rw (← c.self.view_is) (λ v front rest encoded within split.
     only_memory c.in-Err-Read.e (rw c.in-Err-Read.field-0-is at (c.in-Err-Read.ensures.begins v front rest encoded within split)))
