@@ -12,7 +12,7 @@ abbrev refused : {A : Type 0} → ReadError → Result A ReadError
 refused e = Err e
 
 -- an error of reading that is handed on is want of memory where it was
-only_memory : {A : Type 0} (e : ReadError) → UnlessNoMemory (unread {A} e) ⊥ → UnlessOutOfMemory (refused {A} e) ⊥
+only_memory : {A : Type 0} (e : ReadError) → UnlessNoMemory (unread {A = A} e) ⊥ → UnlessOutOfMemory (refused {A = A} e) ⊥
 only_memory ReadError.OutOfMemory h = tt
 only_memory _ h = h
 
