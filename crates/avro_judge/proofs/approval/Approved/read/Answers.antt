@@ -12,13 +12,13 @@ abbrev refused : {A : Type 0} → ReadError → Result A ReadError
 refused e = Err e
 
 -- an error of reading that is handed on is want of memory where it was
-only_memory : {A : Type 0} (e : ReadError) → UnlessNoMemory (unread {A = A} e) ⊥ → UnlessOutOfMemory (refused {A = A} e) ⊥
-only_memory ReadError.OutOfMemory h = tt
-only_memory _ h = h
+only_memory : (A : Type 0) (e : ReadError) → UnlessNoMemory (unread {A = A} e) ⊥ → UnlessOutOfMemory (refused {A = A} e) ⊥
+only_memory A ReadError.OutOfMemory h = tt
+only_memory A _ h = h
 
 pub returns-in-Ok-clause-begins : goal.returns-in-Ok-clause-begins
 returns-in-Ok-clause-begins g c = rw (← c.self.view_is) (λ v front rest encoded within split. c.in-Ok.ensures.begins v front rest encoded within split)
 
 pub returns-in-Err-Read-clause-begins : goal.returns-in-Err-Read-clause-begins
 returns-in-Err-Read-clause-begins g c = rw (← c.self.view_is) (λ v front rest encoded within split.
-    only_memory c.in-Err-Read.e (rw c.in-Err-Read.field-0-is at (c.in-Err-Read.ensures.begins v front rest encoded within split)))
+    only_memory _ c.in-Err-Read.e (rw c.in-Err-Read.field-0-is at (c.in-Err-Read.ensures.begins v front rest encoded within split)))
