@@ -1,4 +1,4 @@
-use Rattle.std.proofs.Common.{Result, Err}
+use Rattle.std.proofs.Common.{ℕ, Result, Err}
 use Rattle.avro_binary.specs.Seen.{UnlessOutOfMemory}
 use Rattle.avro_binary.specs.declared.error.ReadError.{ReadError}
 use Rattle.avro_resolve.specs.Seen.{UnlessOutOfMemory as UnlessNoMemory}
@@ -21,4 +21,4 @@ returns-in-Ok-clause-begins g c = rw (← c.self.view_is) (λ v front rest encod
 
 pub returns-in-Err-Read-clause-begins : goal.returns-in-Err-Read-clause-begins
 returns-in-Err-Read-clause-begins g c = rw (← c.self.view_is) (λ v front rest encoded within split.
-    only_memory _ c.in-Err-Read.e (rw c.in-Err-Read.field-0-is at (c.in-Err-Read.ensures.begins v front rest encoded within split)))
+    only_memory (g.row.B-Out.Denot × ℕ) c.in-Err-Read.e (rw c.in-Err-Read.field-0-is at (c.in-Err-Read.ensures.begins v front rest encoded within split)))
