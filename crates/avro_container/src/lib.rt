@@ -1,0 +1,20 @@
+//! Object container files (Avro 1.11, "Object Container Files").
+#![tactic(auto)]
+
+mod buffer;
+mod counting;
+mod device;
+mod error;
+mod filling;
+mod limits;
+mod numbers;
+mod part_error;
+mod putting;
+mod read_input;
+mod write_output;
+
+pub use device::{DeviceFault, Input, Output};
+pub use error::{CopyError, CountError, LimitPlace};
+pub use limits::FileLimits;
+pub use read_input::ReadInput;
+pub use write_output::WriteOutput;
