@@ -1,3 +1,4 @@
 pub mod Rooms
 pub mod Taking
+pub mod Cut
 mod RowsFile

@@ -1,7 +1,8 @@
 -- Takes go together, behind what is held.
 use Rattle.std.proofs.Common.{◌≡◌, ℕ, ◌+◌, ◌-◌, ◌≤◌, max, List, [], ◌++◌, length, take, drop, sym, ap, ◌∙◌, arith, append_assoc, append-nil, length-append}
 use Rattle.std.proofs.lemmas.List.{take-append-drop}
-use Rattle.avro_container.specs.Filled.{GrowsBy, TakesAtMost, PutsFrontOf}
+use Rattle.avro_container.specs.declared.part_error.PartError.{PartError}
+use Rattle.avro_container.specs.Filled.{GrowsBy, TakesAtMost, UnlessDevice, PutsFrontOf}
 
 pub GrowsBy-chain : {I : Type 0} (gives : I → List ℕ → I → Type 0)
     → ((s t u : I) (front back : List ℕ) → gives s front t → gives t back u → gives s (front ++ back) u)
@@ -11,6 +12,27 @@ GrowsBy-chain gives chain a b c old mid new p q = record {
   taken = chain a b c p.bytes q.bytes p.taken q.taken;
   grown = q.grown ∙ ap (λ m. m ++ q.bytes) p.grown ∙ append_assoc old p.bytes q.bytes;
 }
+
+pub TakesAtMost-later : {I : Type 0} (gives : I → List ℕ → I → Type 0)
+    → ((s t u : I) (front back : List ℕ) → gives s front t → gives t back u → gives s (front ++ back) u)
+    → (a b c : I) (old mid : List ℕ) (limit : ℕ) → GrowsBy gives a b old mid → TakesAtMost gives b c (limit - length mid)
+    → length mid ≤ max (length old) limit → TakesAtMost gives a c (limit - length old)
+TakesAtMost-later gives chain a b c old mid limit p q fits =
+    let long : length mid ≡ length old + length p.bytes = ap length p.grown ∙ length-append old p.bytes in
+    let sum : length (p.bytes ++ q.bytes) ≡ length p.bytes + length q.bytes = length-append p.bytes q.bytes in
+    record {
+      bytes = p.bytes ++ q.bytes;
+      taken = chain a b c p.bytes q.bytes p.taken q.taken;
+      few = omega (arith, long, sum, fits, q.few);
+    }
+
+-- what is said of a call whose bytes are not lost
+pub UnlessDevice-then : {P Q : Type 0} (e : PartError) → UnlessDevice e P → (P → Q) → UnlessDevice e Q
+UnlessDevice-then PartError.OutOfRange p go = go p
+UnlessDevice-then PartError.Limit p go = go p
+UnlessDevice-then PartError.Ended p go = go p
+UnlessDevice-then PartError.Device p go = tt
+UnlessDevice-then PartError.OutOfMemory p go = go p
 
 pub TakesAtMost-behind : {I : Type 0} (gives : I → List ℕ → I → Type 0)
     → ((s t u : I) (front back : List ℕ) → gives s front t → gives t back u → gives s (front ++ back) u)

@@ -28,6 +28,7 @@ pub(crate) fn take_long<I: Input>(
     requires small { reach.limit + reach.ahead < 2 ^ 63 }
     requires fits { length (held buffer.old) < 2 ^ 63 }
     ensures inside { IfOk result (λ r. at + r.1 ≤ length (held buffer.new)) }
+    ensures short { IfOk result (λ r. r.1 ≤ 10) }
     ensures found { IfOk result (λ r. StartsWithLong r.0 (drop at (held buffer.new)) (take r.1 (drop at (held buffer.new))) (drop r.1 (drop at (held buffer.new)))) }
     ensures taken { UnlessLost result (GrowsBy I.gives input.old input.new (held buffer.old) (held buffer.new)) }
     ensures lost { OnErr result (TakesAtMost I.gives input.old input.new (reach.limit - length (held buffer.old))) }
@@ -48,9 +49,13 @@ pub(crate) fn take_long<I: Input>(
             Ok(found) => return Ok(found),
             Err(VarError::EndOfInput) => {
                 let want = buffer.len() + 1;
-                fill(input, buffer, want, reach)?;
+                match fill(input, buffer, want, reach) {
+                    Ok(()) => {}
+                    Err(error) => return Err(error),
+                }
             }
-            Err(VarError::NotShortest | VarError::OutOfRange) => return Err(PartError::OutOfRange),
+            Err(VarError::NotShortest) => return Err(PartError::OutOfRange),
+            Err(VarError::OutOfRange) => return Err(PartError::OutOfRange),
         }
     }
 }
