@@ -1,6 +1,7 @@
 -- Takes go together, behind what is held.
-use Rattle.std.proofs.Common.{◌≡◌, ℕ, ◌+◌, ◌-◌, ◌≤◌, max, List, [], ◌++◌, length, take, drop, sym, ap, ◌∙◌, arith, append_assoc, append-nil, length-append}
+use Rattle.std.proofs.Common.{◌≡◌, ◌≢◌, refl, ℕ, ◌+◌, ◌-◌, ◌≤◌, max, List, [], ◌++◌, length, take, drop, sym, ap, ◌∙◌, arith, append_assoc, append-nil, length-append}
 use Rattle.std.proofs.lemmas.List.{take-append-drop}
+use Rattle.avro_container.specs.declared.error.CopyError.{CopyError}
 use Rattle.avro_container.specs.declared.part_error.PartError.{PartError}
 use Rattle.avro_container.specs.Filled.{GrowsBy, TakesAtMost, UnlessDevice, PutsFrontOf}
 
@@ -46,6 +47,14 @@ TakesAtMost-behind gives chain a b c old mid room want p q fits =
       taken = chain a b c p.bytes q.bytes p.taken q.taken;
       few = omega (arith, long, sum, fits, q.few);
     }
+
+pub unless_failed : {P : Type 0} (e : PartError) (r : CopyError) → (e ≡ PartError.Device → r ≡ CopyError.InputFailed) → UnlessDevice e P
+    → r ≢ CopyError.InputFailed → P
+unless_failed PartError.OutOfRange r same p other = p
+unless_failed PartError.Limit r same p other = p
+unless_failed PartError.Ended r same p other = p
+unless_failed PartError.Device r same p other = absurd (other (same refl))
+unless_failed PartError.OutOfMemory r same p other = p
 
 -- what is held was taken
 pub TakesAtMost-from_grown : {I : Type 0} (gives : I → List ℕ → I → Type 0) (a b : I) (old new : List ℕ) (limit : ℕ) → GrowsBy gives a b old new

@@ -5,6 +5,8 @@ use Rattle.avro_resolve.specs.Seen.{fault_of}
 use Rattle.avro_container.specs.declared.error.CopyError.{CopyError}
 use Rattle.avro_container.specs.declared.error.CountError.{CountError}
 use Rattle.avro_container.specs.declared.error.LimitPlace.{LimitPlace}
+use Rattle.avro_zigzag.specs.declared.VarError.TheVariants.{OutOfRange}
+use Rattle.avro_container.specs.declared.part_error.PartError.{PartError}
 use Rattle.avro_container.specs.FileFault.{FileFault, in_header, in_block, CountFault, no_magic, invalid_metadata, no_schema, refused_schema, unknown_codec, long_header, cut_header, invalid, negative, invalid_count, bytes_left, other_marker, limit_passed, large_datum, invalid_datum, unresolved_datum, cut_block}
 
 -- why a count is none
@@ -36,3 +38,11 @@ file_fault CopyError.InputFailed = None
 file_fault CopyError.OutputFailed = None
 file_fault CopyError.OutOfMemory = None
 file_fault CopyError.FailedBefore = None
+
+-- the fault that a block has where a part of it is not taken
+abbrev pub part_fault : ℕ → PartError → Option FileFault
+part_fault number PartError.OutOfRange = Some (in_block number (invalid_count (invalid OutOfRange)))
+part_fault number PartError.Limit = Some (in_block number limit_passed)
+part_fault number PartError.Ended = Some (in_block number cut_block)
+part_fault number PartError.Device = None
+part_fault number PartError.OutOfMemory = None

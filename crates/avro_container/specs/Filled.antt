@@ -1,5 +1,5 @@
 -- What filling a buffer does, where `gives` says which bytes an input moved between two states.
-use Rattle.std.specs.Prelude.{◌≡◌, ℕ, ◌≤◌, List, ◌++◌, length, Result, Ok, Err}
+use Rattle.std.specs.Prelude.{◌≡◌, ◌≢◌, ℕ, ◌≤◌, List, ◌++◌, length, Result, Ok, Err}
 use Rattle.avro_container.specs.declared.error.CopyError.{CopyError}
 use Rattle.avro_container.specs.declared.part_error.PartError.{PartError}
 
@@ -24,13 +24,8 @@ abbrev pub UnlessLost : {T : Type 0} → Result T PartError → Type 0 → Type 
 UnlessLost (Ok x) P = P
 UnlessLost (Err e) P = UnlessDevice e P
 
-abbrev pub UnlessInput : CopyError → Type 0 → Type 0
-UnlessInput CopyError.InputFailed P = Unit {0}
-UnlessInput e P = P
-
 abbrev pub UnlessFailed : {T : Type 0} → Result T CopyError → Type 0 → Type 0
-UnlessFailed (Ok x) P = P
-UnlessFailed (Err e) P = UnlessInput e P
+UnlessFailed result P = result ≢ Err CopyError.InputFailed → P
 
 -- A front of the bytes was put.
 pub record PutsFrontOf {O : Type 0} (keeps : O → List ℕ → O → Type 0) (from to : O) (bytes : List ℕ) : Type 0 where

@@ -5,7 +5,7 @@ ghost use Rattle.std.specs.Result.{IfErr};
 ghost use Rattle.avro_binary.specs.Breaks.{StartsWithLong};
 ghost use Rattle.avro_container.specs.BlockStands.{CountStops};
 ghost use Rattle.avro_container.specs.FileFault.{FileFault};
-ghost use Rattle.avro_container.specs.FileSeen.{file_fault};
+ghost use Rattle.avro_container.specs.FileSeen.{file_fault, part_fault};
 ghost use Rattle.avro_container.specs.Filled.{GrowsBy, TakesAtMost, UnlessFailed};
 ghost use Rattle.avro_container.specs.Held.{held};
 
@@ -18,7 +18,11 @@ use crate::part_error::PartError;
 use avro_zigzag::VarError;
 
 /// The error of a block's part that is not taken.
-pub(crate) fn block_error(error: PartError, number: u64) -> CopyError {
+pub(crate) fn block_error(error: PartError, number: u64) -> CopyError
+    ensures fault { file_fault result ≡ part_fault number error }
+    ensures device { result ≡ CopyError.InputFailed → error ≡ PartError.Device }
+    ensures failed { error ≡ PartError.Device → result ≡ CopyError.InputFailed }
+{
     match error {
         PartError::OutOfRange => {
             CopyError::InvalidCount(number, CountError::Invalid(VarError::OutOfRange))
