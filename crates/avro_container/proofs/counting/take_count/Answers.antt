@@ -27,9 +27,9 @@ returns-in-Err-clause-refused g c = λ f is.
     count_stops c.args.number (g.I.Input.ended c.take_long.new.input) (drop c.args.at now) c.in-Err.error f
     (λ p. c.in-Err.ensures.out (ap Err p))
     (λ p.
-        let over = c.in-Err.ensures.over (ap Err p) in
-        let short = cut-short (drop c.args.at now) (c.in-Err.ensures.over_cut (ap Err p)) in
-        omega (arith, over, short, length-drop c.args.at now, c.requires.near))
+    let over = c.in-Err.ensures.over (ap Err p) in
+    let short = cut-short (drop c.args.at now) (c.in-Err.ensures.over_cut (ap Err p)) in
+    omega (arith, over, short, length-drop c.args.at now, c.requires.near))
     (λ p. c.in-Err.ensures.ended (ap Err p))
     (λ p. c.in-Err.ensures.cut (ap Err p))
     (sym c.block_error.ensures.fault ∙ is)

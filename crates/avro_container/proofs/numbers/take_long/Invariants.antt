@@ -11,7 +11,7 @@ invariant-loop-found g l =
     × (l.at ≤ length (held l.buffer))
     × (length (held l.buffer) ≤ max (length (held l.initial.buffer)) l.reach.limit)
     × ((v : ℤ) (number rest : List ℕ) → SpellsLong v number → drop l.at (held l.buffer) ≡ number ++ rest
-        → length (held l.buffer) ≤ max (length (held l.initial.buffer)) (l.at + length number + l.reach.ahead))
+    → length (held l.buffer) ≤ max (length (held l.initial.buffer)) (l.at + length number + l.reach.ahead))
     × (g.I.Input.failures l.input ≡ g.I.Input.failures l.initial.input)
 
 abbrev pub decreases-loop-found : goal.decreases-loop-found
