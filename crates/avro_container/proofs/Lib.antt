@@ -2,4 +2,5 @@ pub mod Rooms
 pub mod Taking
 pub mod Cut
 pub mod Stopping
+pub mod Heads
 mod RowsFile
