@@ -3,4 +3,5 @@ pub mod Taking
 pub mod Cut
 pub mod Stopping
 pub mod Heads
+pub mod Bodies
 mod RowsFile

@@ -1,6 +1,7 @@
 //! Object container files (Avro 1.11, "Object Container Files").
 #![tactic(auto)]
 
+mod block_body;
 mod block_head;
 mod buffer;
 mod counting;
