@@ -1,5 +1,5 @@
 -- The data of a block behind its count and its size.
-use Rattle.std.proofs.Common.{◌≡◌, ◌≢◌, ℕ, ◌+◌, ◌-◌, ◌<◌, ◌≤◌, List, ◌++◌, length, take, drop, Some, refl, sym, ap, subst, ◌∙◌, arith, append_assoc}
+use Rattle.std.proofs.Common.{◌≡◌, ℕ, ◌+◌, ◌<◌, ◌≤◌, List, ◌++◌, length, take, drop, Some, refl, sym, ap, subst, ◌∙◌, arith, append_assoc}
 use Rattle.std.proofs.lemmas.List.{drop-drop, length-drop}
 use Rattle.avro_container.specs.declared.part_error.PartError.{PartError}
 use Rattle.avro_container.specs.FileFault.{FileFault, in_block, cut_block, other_marker}

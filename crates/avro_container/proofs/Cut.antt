@@ -1,6 +1,6 @@
 -- Numbers that are cut, and what grows behind what is held.
-use Rattle.std.proofs.Common.{◌≡◌, ℕ, suc, ◌+◌, ◌-◌, ◌<◌, ◌≤◌, ℤ, List, [], ◌∷◌, ◌++◌, length, take, drop, sym, ap, subst, ◌∙◌, arith, append-nil, length-append, refl, ◌⊎◌, inl, inr}
-use Rattle.std.proofs.lemmas.List.{drop-append-le, length-drop, take-append-drop}
+use Rattle.std.proofs.Common.{◌≡◌, ℕ, ◌+◌, ◌<◌, ◌≤◌, ℤ, List, [], ◌∷◌, ◌++◌, length, drop, sym, ap, ◌∙◌, arith, append-nil, length-append, refl, ◌⊎◌, inl, inr}
+use Rattle.std.proofs.lemmas.List.{drop-append-le}
 use Rattle.avro_zigzag.specs.Number.{SpellsLong}
 use Rattle.avro_zigzag.specs.NumberFault.{NumberFails, LongFails}
 use Rattle.avro_zigzag.specs.declared.VarError.TheVariants.{EndOfInput, NotShortest, OutOfRange}

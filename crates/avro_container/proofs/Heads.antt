@@ -1,12 +1,12 @@
 -- The count and the size of a block, behind which the buffer may grow.
-use Rattle.std.proofs.Common.{◌≡◌, ◌≢◌, ◌⊎◌, inl, inr, ℕ, ℤ, pos, ◌+◌, ◌-◌, ◌<◌, ◌≤◌, List, ◌++◌, length, take, drop, Option, Some, None, Result, Ok, Err, refl, sym, ap, subst, ◌∙◌, arith, append_assoc, length-append}
+use Rattle.std.proofs.Common.{◌≡◌, ◌≢◌, ◌⊎◌, ℕ, ℤ, pos, ◌+◌, ◌<◌, ◌≤◌, List, ◌++◌, length, take, drop, Some, Result, Ok, Err, sym, ap, subst, ◌∙◌, arith, append_assoc, length-append}
 use Rattle.std.proofs.lemmas.List.{drop-drop}
 use Rattle.avro_binary.specs.Breaks.{StartsWithLong}
 use Rattle.avro_container.specs.declared.error.CopyError.{CopyError}
 use Rattle.avro_container.specs.FileFault.{FileFault, in_block, limit_passed}
 use Rattle.avro_container.specs.FileSeen.{file_fault}
 use Rattle.avro_container.specs.Filled.{GrowsBy}
-use Rattle.avro_container.specs.BlockFails.{FileLimitValues, BlockBegins, BlockFails, BlockReading, max_blocks}
+use Rattle.avro_container.specs.BlockFails.{FileLimitValues, BlockBegins, BlockFails, max_blocks}
 use Rattle.avro_container.specs.BlockStands.{IsBlockFault}
 use Rattle.avro_container.proofs.Cut.{grown-behind}
 use Rattle.avro_container.proofs.Stopping.{some_inj, none_some}

@@ -1,13 +1,13 @@
 -- A count or a size that is not taken, as a fault of its block.
-use Rattle.std.proofs.Common.{◌≡◌, ◌≢◌, ℕ, ℤ, pos, negsuc, ◌+◌, ◌-◌, ◌<◌, ◌≤◌, ◌<ℤ◌, List, ◌++◌, length, take, drop, Option, Some, None, refl, sym, ap, subst, ◌∙◌, arith}
+use Rattle.std.proofs.Common.{◌≡◌, ℕ, ℤ, pos, negsuc, ◌<◌, ◌<ℤ◌, List, length, Some, None, refl, subst, arith}
 use Rattle.std.proofs.lemmas.Int.{ints}
 use Rattle.avro_zigzag.specs.NumberFault.{LongFails}
 use Rattle.avro_zigzag.specs.declared.VarError.TheVariants.{EndOfInput, OutOfRange}
 use Rattle.avro_binary.specs.Breaks.{StartsWithLong}
 use Rattle.avro_container.specs.declared.part_error.PartError.{PartError}
-use Rattle.avro_container.specs.FileFault.{FileFault, in_block, CountFault, invalid, negative, invalid_count, cut_block, limit_passed}
+use Rattle.avro_container.specs.FileFault.{FileFault, in_block, negative, invalid_count, cut_block}
 use Rattle.avro_container.specs.FileSeen.{part_fault}
-use Rattle.avro_container.specs.BlockFails.{FileLimitValues, CountFails, BlockFails, BlockReading, max_blocks}
+use Rattle.avro_container.specs.BlockFails.{FileLimitValues, CountFails, BlockFails, max_blocks}
 use Rattle.avro_container.specs.BlockStands.{CountStops, IsBlockFault}
 
 pub some_inj : {A : Type 0} (x y : A) → Some x ≡ Some y → x ≡ y

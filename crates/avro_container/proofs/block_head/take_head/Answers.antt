@@ -1,5 +1,5 @@
 -- A count and a size, the second behind the first.
-use Rattle.std.proofs.Common.{◌≡◌, ◌+◌, ◌-◌, ◌<◌, ◌≤◌, ℕ, pos, inl, inr, Err, max, length, take, drop, ap, sym, ◌∙◌, arith, rules}
+use Rattle.std.proofs.Common.{◌+◌, pos, inl, inr, Err, take, drop, ap, sym, ◌∙◌, arith, rules}
 use Rattle.avro_container.specs.Filled.{GrowsBy}
 use Rattle.avro_container.specs.Held.{held}
 use Rattle.avro_container.proofs.Taking.{GrowsBy-chain, TakesAtMost-later, TakesAtMost-from_grown}

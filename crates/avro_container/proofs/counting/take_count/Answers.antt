@@ -1,9 +1,8 @@
 -- Why a count is not taken.
-use Rattle.std.proofs.Common.{◌≡◌, ◌+◌, ◌-◌, ◌<◌, ◌≤◌, ◌<ℤ◌, ℕ, ℤ, true, pos, Err, length, drop, ap, sym, ◌∙◌, arith, rules, w64, FitsSigned}
+use Rattle.std.proofs.Common.{◌≡◌, ◌<ℤ◌, true, pos, Err, drop, ap, sym, ◌∙◌, arith, rules, w64, FitsSigned}
 use Rattle.std.proofs.lemmas.Int.{to_z-of_z, ints}
 use Rattle.std.proofs.lemmas.List.{length-drop}
 use lib.Signed.{lt_z}
-use Rattle.avro_container.specs.declared.part_error.PartError.{PartError}
 use Rattle.avro_container.specs.Held.{held}
 use Rattle.avro_container.proofs.Taking.{unless_failed}
 use Rattle.avro_container.proofs.Cut.{cut-short}

@@ -1,8 +1,7 @@
 -- What a take put into the room stands behind what was held.
-use Rattle.std.proofs.Common.{ℕ, ◌≡◌, ◌+◌, ◌-◌, ◌≤◌, ◌++◌, length, take, slice_range, sym, ap, ◌∙◌, arith, rules}
+use Rattle.std.proofs.Common.{◌≡◌, ◌+◌, ◌-◌, ◌≤◌, ◌++◌, length, take, slice_range, ap, ◌∙◌, rules}
 use Rattle.std.proofs.lemmas.List.{with_items_is, places}
 use borrow.Rule.Slice.PartMut.{put_mid}
-use Rattle.avro_container.specs.Held.{held}
 use Rattle.avro_container.proofs.Rooms.{taken_behind, kept_before}
 use Rattle.avro_container.proofs.buffer.Buffer.take_more.Goals as goal
 
