@@ -42,6 +42,7 @@ pub(crate) fn fill<I: Input>(
     ensures inside { result ≡ Err PartError.Ended → want ≤ reach.limit }
     ensures in_range { result ≢ Err PartError.OutOfRange }
     ensures works { OnOk result (I.failures input.new ≡ I.failures input.old) }
+    ensures still { result ≡ Err PartError.Ended → I.failures input.new ≡ I.failures input.old }
     ensures fails { result ≡ Err PartError.Device → I.failures input.new ≢ I.failures input.old }
 {
     if want <= buffer.len() {

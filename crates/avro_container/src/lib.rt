@@ -3,6 +3,7 @@
 
 mod block_body;
 mod block_head;
+mod block_start;
 mod buffer;
 mod counting;
 mod device;
