@@ -4,4 +4,5 @@ pub mod Cut
 pub mod Stopping
 pub mod Heads
 pub mod Bodies
+pub mod Standing
 mod RowsFile

@@ -4,6 +4,7 @@
 mod block_body;
 mod block_head;
 mod block_start;
+mod blocks_taken;
 mod buffer;
 mod counting;
 mod device;

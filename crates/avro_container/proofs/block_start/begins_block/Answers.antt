@@ -1,6 +1,5 @@
 -- Why it is not known whether a block begins.
-use Rattle.std.proofs.Common.{◌≡◌, ◌<◌, ◌≤◌, Err, length, ap, arith}
-use Rattle.avro_container.specs.Held.{held}
+use Rattle.std.proofs.Common.{Err, ap}
 use Rattle.avro_container.proofs.Taking.{unless_failed}
 use Rattle.avro_container.proofs.Heads.{err_inj}
 use Rattle.avro_container.proofs.block_start.begins_block.Goals as goal
