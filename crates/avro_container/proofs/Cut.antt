@@ -28,7 +28,7 @@ pub cut-longer : (v : ℤ) (bytes more number rest : List ℕ) → LongFails byt
     → length bytes < length number
 cut-longer v bytes more number rest (NumberFails.ends go short) spelled e = groups-longer bytes number rest more go spelled.groups (sym e)
 
-no_bytes : (xs : List ℕ) → length xs ≤ 0 → xs ≡ []
+pub no_bytes : (xs : List ℕ) → length xs ≤ 0 → xs ≡ []
 no_bytes [] h = refl
 no_bytes (x ∷ xs) h = absurd (omega (arith, h))
 

@@ -10,3 +10,4 @@ pub mod FileRanges
 pub mod Held
 pub mod FileSeen
 pub mod BlockStands
+pub mod BlockTaken
