@@ -50,6 +50,7 @@ pub(crate) fn take_body<I: Input>(
         → IsBlockFault limits sync.now number (I.ended input.new) (held buffer.new) f) }
     ensures works { OnOk result (I.failures input.new ≡ I.failures input.old) }
     ensures fails { result ≡ Err CopyError.InputFailed → I.failures input.new ≢ I.failures input.old }
+    ensures first { result ≢ Err CopyError.FailedBefore }
 {
     let end = head.start + head.size;
     match fill(input, buffer, end + 16, reach) {

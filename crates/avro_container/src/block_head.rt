@@ -53,6 +53,7 @@ pub(crate) fn take_head<I: Input>(
     ensures refused { IfErr result (λ e. (f : FileFault) (sync : List ℕ) → file_fault e ≡ Some f → IsBlockFault limits.now sync number (I.ended input.new) (held buffer.new) f) }
     ensures works { OnOk result (I.failures input.new ≡ I.failures input.old) }
     ensures fails { result ≡ Err CopyError.InputFailed → I.failures input.new ≢ I.failures input.old }
+    ensures first { result ≢ Err CopyError.FailedBefore }
 {
     let (count, len) = match take_count(input, buffer, 0, number, reach) {
         Ok(found) => found,

@@ -36,6 +36,7 @@ pub(crate) fn begins_block<I: Input>(
     ensures refused { IfErr result (λ e. file_fault e ≡ None) }
     ensures works { OnOk result (I.failures input.new ≡ I.failures input.old) }
     ensures fails { result ≡ Err CopyError.InputFailed → I.failures input.new ≢ I.failures input.old }
+    ensures first { result ≢ Err CopyError.FailedBefore }
 {
     match fill(input, buffer, 1, reach) {
         Ok(()) => Ok(true),

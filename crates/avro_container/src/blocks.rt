@@ -65,6 +65,7 @@ impl<'a> Blocks<'a> {
         ensures kept { (self.new.header ≡ self.old.header) × (self.new.limits ≡ self.old.limits) × (self.new.failed ≡ self.old.failed) × (self.new.ended ≡ self.old.ended) }
         ensures works { OnOk result (I.failures input.new ≡ I.failures input.old) }
         ensures fails { result ≡ Err CopyError.InputFailed → I.failures input.new ≢ I.failures input.old }
+        ensures first { result ≢ Err CopyError.FailedBefore }
     {
         let done = self.buffer.len();
         self.buffer.pass(done);
@@ -122,6 +123,7 @@ impl<'a> Blocks<'a> {
         ensures same { (self.new.header ≡ self.old.header) × (self.new.limits ≡ self.old.limits) }
         ensures works { OnOk result (I.failures input.new ≡ I.failures input.old) }
         ensures fails { result ≡ Err CopyError.InputFailed → I.failures input.new ≢ I.failures input.old }
+        ensures only_before { result ≡ Err CopyError.FailedBefore → self.old.failed ≡ true }
     {
         if self.failed {
             return Err(CopyError::FailedBefore);

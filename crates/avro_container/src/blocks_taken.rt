@@ -50,6 +50,7 @@ pub(crate) fn take_block<I: Input>(
     ensures refused { IfErr result (λ e. (f : FileFault) → file_fault e ≡ Some f → IsBlockFault limits.now sync.now number (I.ended input.new) (held buffer.new) f) }
     ensures works { OnOk result (I.failures input.new ≡ I.failures input.old) }
     ensures fails { result ≡ Err CopyError.InputFailed → I.failures input.new ≢ I.failures input.old }
+    ensures first { result ≢ Err CopyError.FailedBefore }
 {
     match begins_block(input, buffer, number, reach) {
         Ok(true) => {}

@@ -21,6 +21,7 @@ use avro_zigzag::VarError;
 pub(crate) fn block_error(error: PartError, number: u64) -> CopyError
     ensures fault { file_fault result ≡ part_fault number error }
     ensures device { result ≡ CopyError.InputFailed → error ≡ PartError.Device }
+    ensures first { result ≢ CopyError.FailedBefore }
     ensures failed { error ≡ PartError.Device → result ≡ CopyError.InputFailed }
 {
     match error {
@@ -60,6 +61,7 @@ pub(crate) fn take_count<I: Input>(
     ensures refused { IfErr result (λ e. (f : FileFault) → file_fault e ≡ Some f → CountStops number (I.ended input.new) (drop at (held buffer.new)) f) }
     ensures works { OnOk result (I.failures input.new ≡ I.failures input.old) }
     ensures fails { result ≡ Err CopyError.InputFailed → I.failures input.new ≢ I.failures input.old }
+    ensures first { result ≢ Err CopyError.FailedBefore }
 {
     match take_long(input, buffer, at, reach) {
         Ok((value, len)) => {
