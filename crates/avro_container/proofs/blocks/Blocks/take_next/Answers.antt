@@ -1,5 +1,5 @@
 -- The bytes of a block that is refused are those that were taken.
-use Rattle.std.proofs.Common.{◌≡◌, ◌≤◌, ◌++◌, List, ℕ, [], length, drop, ap, subst, ◌∙◌, arith}
+use Rattle.std.proofs.Common.{◌≡◌, ◌++◌, List, ℕ, [], length, ap, subst, ◌∙◌, arith}
 use Rattle.std.proofs.lemmas.List.{length-drop}
 use Rattle.avro_container.specs.BlockStands.{IsBlockFault}
 use Rattle.avro_container.specs.Filled.{GrowsBy}
