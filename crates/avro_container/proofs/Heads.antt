@@ -1,0 +1,58 @@
+-- The count and the size of a block, behind which the buffer may grow.
+use Rattle.std.proofs.Common.{◌≡◌, ◌≢◌, ◌⊎◌, ℕ, ℤ, pos, ◌+◌, ◌<◌, ◌≤◌, List, ◌++◌, length, take, drop, Some, Result, Ok, Err, sym, ap, subst, ◌∙◌, arith, append_assoc, length-append}
+use Rattle.std.proofs.lemmas.List.{drop-drop}
+use Rattle.avro_binary.specs.Breaks.{StartsWithLong}
+use Rattle.avro_container.specs.declared.error.CopyError.{CopyError}
+use Rattle.avro_container.specs.FileFault.{FileFault, in_block, limit_passed}
+use Rattle.avro_container.specs.FileSeen.{file_fault}
+use Rattle.avro_container.specs.Filled.{GrowsBy}
+use Rattle.avro_container.specs.BlockFails.{FileLimitValues, BlockBegins, BlockFails, max_blocks}
+use Rattle.avro_container.specs.BlockStands.{IsBlockFault}
+use Rattle.avro_container.proofs.Cut.{grown-behind}
+use Rattle.avro_container.proofs.Stopping.{some_inj, none_some}
+
+-- a number at the front still stands there
+pub starts-grown : {I : Type 0} (gives : I → List ℕ → I → Type 0) (a b : I) (old new : List ℕ) (v : ℤ) (len : ℕ) → GrowsBy gives a b old new
+    → len ≤ length old → StartsWithLong v old (take len old) (drop len old) → StartsWithLong v new (take len old) (drop len new)
+starts-grown gives a b old new v len p inside s = record {
+  spelled = s.spelled;
+  in_range = s.in_range;
+  split = p.grown ∙ ap (λ bytes. bytes ++ p.bytes) s.split ∙ append_assoc (take len old) (drop len old) p.bytes
+      ∙ ap (λ bytes. take len old ++ bytes) (sym (grown-behind gives a b old new len p inside));
+}
+
+pub head_begins : {I : Type 0} (gives : I → List ℕ → I → Type 0) (a b : I) (old new : List ℕ) (count size len more : ℕ) → GrowsBy gives a b old new
+    → len ≤ length old → StartsWithLong (pos count) old (take len old) (drop len old)
+    → StartsWithLong (pos size) (drop len new) (take more (drop len new)) (drop more (drop len new)) → BlockBegins new count size (drop (len + more) new)
+head_begins gives a b old new count size len more p inside s z = record {
+  count_bytes = take len old;
+  behind_count = drop len new;
+  size_bytes = take more (drop len new);
+  counted = starts-grown gives a b old new (pos count) len p inside s;
+  sized = subst (λ rest. StartsWithLong (pos size) (drop len new) (take more (drop len new)) rest) (drop-drop more len new) z;
+}
+
+pub grown-longer : {I : Type 0} (gives : I → List ℕ → I → Type 0) (a b : I) (old new : List ℕ) → GrowsBy gives a b old new → length old ≤ length new
+grown-longer gives a b old new p =
+    let long : length new ≡ length old + length p.bytes = ap length p.grown ∙ length-append old p.bytes in
+    omega (arith, long)
+
+pub err_inj : (T : Type 0) (e d : CopyError) → ◌≡◌ {A = Result T CopyError} (Err e) (Err d) → e ≡ d
+err_inj T e d q = cc
+
+pub ok_err : (T : Type 0) (x : T) (e : CopyError) → ◌≡◌ {A = Result T CopyError} (Ok x) (Err e) → ⊥
+ok_err T x e q = cc
+
+-- an error that reports a fault is not that the input failed
+pub not_failed : (T : Type 0) (e : CopyError) (f : FileFault) → file_fault e ≡ Some f → ◌≢◌ {A = Result T CopyError} (Err e) (Err CopyError.InputFailed)
+not_failed T e f is q = none_some f (sym (ap file_fault (err_inj T e CopyError.InputFailed q)) ∙ is)
+
+-- too many data, or too many bytes of them
+pub head_large : (limits : FileLimitValues) (sync : List ℕ) (number : ℕ) (ended : Type 0) (bytes : List ℕ) (f : FileFault) (count size : ℕ) (rest : List ℕ)
+    → number < max_blocks → BlockBegins bytes count size rest → (limits.per_block < count) ⊎ (limits.block < size)
+    → Some (in_block number limit_passed) ≡ Some f → IsBlockFault limits sync number ended bytes f
+head_large limits sync number ended bytes f count size rest few begins large is = λ r same _. (
+  limit_passed,
+  sym (some_inj _ _ is),
+  BlockFails.large count size rest few begins (subst (λ l. (l.per_block < count) ⊎ (l.block < size)) (sym same) large),
+)

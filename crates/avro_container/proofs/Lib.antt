@@ -1,0 +1,8 @@
+pub mod Rooms
+pub mod Taking
+pub mod Cut
+pub mod Stopping
+pub mod Heads
+pub mod Bodies
+pub mod Standing
+mod RowsFile

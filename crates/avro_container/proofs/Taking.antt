@@ -1,0 +1,84 @@
+-- Takes go together, behind what is held.
+use Rattle.std.proofs.Common.{◌≡◌, ◌≢◌, refl, ℕ, ◌+◌, ◌-◌, ◌≤◌, max, List, [], ◌++◌, length, take, drop, sym, ap, ◌∙◌, arith, append_assoc, append-nil, length-append}
+use Rattle.std.proofs.lemmas.List.{take-append-drop}
+use Rattle.avro_container.specs.declared.error.CopyError.{CopyError}
+use Rattle.avro_container.specs.declared.part_error.PartError.{PartError}
+use Rattle.avro_container.specs.Filled.{GrowsBy, TakesAtMost, UnlessDevice, PutsFrontOf}
+
+pub GrowsBy-chain : {I : Type 0} (gives : I → List ℕ → I → Type 0)
+    → ((s t u : I) (front back : List ℕ) → gives s front t → gives t back u → gives s (front ++ back) u)
+    → (a b c : I) (old mid new : List ℕ) → GrowsBy gives a b old mid → GrowsBy gives b c mid new → GrowsBy gives a c old new
+GrowsBy-chain gives chain a b c old mid new p q = record {
+  bytes = p.bytes ++ q.bytes;
+  taken = chain a b c p.bytes q.bytes p.taken q.taken;
+  grown = q.grown ∙ ap (λ m. m ++ q.bytes) p.grown ∙ append_assoc old p.bytes q.bytes;
+}
+
+pub TakesAtMost-later : {I : Type 0} (gives : I → List ℕ → I → Type 0)
+    → ((s t u : I) (front back : List ℕ) → gives s front t → gives t back u → gives s (front ++ back) u)
+    → (a b c : I) (old mid : List ℕ) (limit : ℕ) → GrowsBy gives a b old mid → TakesAtMost gives b c (limit - length mid)
+    → length mid ≤ max (length old) limit → TakesAtMost gives a c (limit - length old)
+TakesAtMost-later gives chain a b c old mid limit p q fits =
+    let long : length mid ≡ length old + length p.bytes = ap length p.grown ∙ length-append old p.bytes in
+    let sum : length (p.bytes ++ q.bytes) ≡ length p.bytes + length q.bytes = length-append p.bytes q.bytes in
+    record {
+      bytes = p.bytes ++ q.bytes;
+      taken = chain a b c p.bytes q.bytes p.taken q.taken;
+      few = omega (arith, long, sum, fits, q.few);
+    }
+
+-- what is said of a call whose bytes are not lost
+pub UnlessDevice-then : {P Q : Type 0} (e : PartError) → UnlessDevice e P → (P → Q) → UnlessDevice e Q
+UnlessDevice-then PartError.OutOfRange p go = go p
+UnlessDevice-then PartError.Limit p go = go p
+UnlessDevice-then PartError.Ended p go = go p
+UnlessDevice-then PartError.Device p go = tt
+UnlessDevice-then PartError.OutOfMemory p go = go p
+
+pub TakesAtMost-behind : {I : Type 0} (gives : I → List ℕ → I → Type 0)
+    → ((s t u : I) (front back : List ℕ) → gives s front t → gives t back u → gives s (front ++ back) u)
+    → (a b c : I) (old mid : List ℕ) (room want : ℕ) → GrowsBy gives a b old mid → TakesAtMost gives b c room → length mid + room ≤ want
+    → TakesAtMost gives a c (want - length old)
+TakesAtMost-behind gives chain a b c old mid room want p q fits =
+    let long : length mid ≡ length old + length p.bytes = ap length p.grown ∙ length-append old p.bytes in
+    let sum : length (p.bytes ++ q.bytes) ≡ length p.bytes + length q.bytes = length-append p.bytes q.bytes in
+    record {
+      bytes = p.bytes ++ q.bytes;
+      taken = chain a b c p.bytes q.bytes p.taken q.taken;
+      few = omega (arith, long, sum, fits, q.few);
+    }
+
+pub unless_failed : {P : Type 0} (e : PartError) (r : CopyError) → (e ≡ PartError.Device → r ≡ CopyError.InputFailed) → UnlessDevice e P
+    → r ≢ CopyError.InputFailed → P
+unless_failed PartError.OutOfRange r same p other = p
+unless_failed PartError.Limit r same p other = p
+unless_failed PartError.Ended r same p other = p
+unless_failed PartError.Device r same p other = absurd (other (same refl))
+unless_failed PartError.OutOfMemory r same p other = p
+
+-- what is held was taken
+pub TakesAtMost-from_grown : {I : Type 0} (gives : I → List ℕ → I → Type 0) (a b : I) (old new : List ℕ) (limit : ℕ) → GrowsBy gives a b old new
+    → length new ≤ max (length old) limit → TakesAtMost gives a b (limit - length old)
+TakesAtMost-from_grown gives a b old new limit p fits =
+    let long : length new ≡ length old + length p.bytes = ap length p.grown ∙ length-append old p.bytes in
+    record { bytes = p.bytes; taken = p.taken; few = omega (arith, long, fits) }
+
+-- what was put in one more put
+pub PutsFrontOf-more : {O : Type 0} (keeps : O → List ℕ → O → Type 0)
+    → ((s t u : O) (front back : List ℕ) → keeps s front t → keeps t back u → keeps s (front ++ back) u)
+    → (a b c : O) (bytes front rest : List ℕ) (n : ℕ) → keeps a front b → bytes ≡ front ++ rest → keeps b (take n rest) c
+    → (others : List ℕ) → others ≡ drop n rest → keeps a (front ++ take n rest) c × (bytes ≡ (front ++ take n rest) ++ others)
+PutsFrontOf-more keeps chain a b c bytes front rest n k e m others o = (
+  chain a b c front (take n rest) k m,
+  e ∙ ap (λ r. front ++ r) (sym (take-append-drop n rest)) ∙ sym (append_assoc front (take n rest) (drop n rest)) ∙ ap (λ r. (front ++ take n rest) ++ r) (sym o),
+)
+
+pub PutsFrontOf-failed : {O : Type 0} (keeps : O → List ℕ → O → Type 0)
+    → ((s t u : O) (front back : List ℕ) → keeps s front t → keeps t back u → keeps s (front ++ back) u)
+    → (a b c : O) (bytes front rest : List ℕ) → keeps a front b → bytes ≡ front ++ rest → keeps b [] c → PutsFrontOf keeps a c bytes
+PutsFrontOf-failed keeps chain a b c bytes front rest k e m = record {
+  front = front ++ [];
+  later = rest;
+  kept = chain a b c front [] k m;
+  split = e ∙ ap (λ f. f ++ rest) (sym (append-nil front));
+}

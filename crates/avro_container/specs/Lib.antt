@@ -1,0 +1,13 @@
+pub mod DeviceLaws
+pub mod Filled
+pub mod File
+pub mod Copied
+pub mod FileFault
+pub mod HeaderFails
+pub mod BlockFails
+pub mod Steps
+pub mod FileRanges
+pub mod Held
+pub mod FileSeen
+pub mod BlockStands
+pub mod BlockTaken

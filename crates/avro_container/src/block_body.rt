@@ -1,0 +1,66 @@
+//! Taking the data of a block.
+
+ghost use Rattle.std.specs.Prelude.{◌≡◌, ◌≢◌, ◌↔◌, ◌+◌, ◌-◌, ◌^◌, ◌<◌, ◌≤◌, max, List, ℕ, length, take, drop, OnOk, OnErr, IsTrue, Some, Err};
+ghost use Rattle.std.specs.Result.{IfErr};
+ghost use Rattle.avro_container.specs.BlockFails.{BlockBegins, FileLimitValues, max_blocks};
+ghost use Rattle.avro_container.specs.BlockStands.{IsBlockFault};
+ghost use Rattle.avro_container.specs.FileFault.{FileFault};
+ghost use Rattle.avro_container.specs.FileSeen.{file_fault};
+ghost use Rattle.avro_container.specs.Filled.{GrowsBy, TakesAtMost, UnlessFailed};
+ghost use Rattle.avro_container.specs.Held.{held};
+
+use crate::block_head::BlockHead;
+use crate::buffer::Buffer;
+use crate::counting::block_error;
+use crate::device::Input;
+use crate::error::CopyError;
+use crate::filling::{Reach, fill};
+
+/// Whether some bytes are the marker.
+fn is_marker(bytes: &[u8], sync: &[u8; 16]) -> bool
+    ensures { IsTrue result ↔ (bytes.now ≡ sync.now) }
+{
+    bytes == sync.as_slice()
+}
+
+/// Takes the data of a block and the marker behind them, which is compared.
+///
+/// # Errors
+///
+/// `CutBlock`, `WrongMarker`; `InputFailed`, `OutOfMemory`.
+pub(crate) fn take_body<I: Input>(
+    input: &mut I,
+    buffer: &mut Buffer,
+    head: BlockHead,
+    number: u64,
+    sync: &[u8; 16],
+    reach: Reach,
+) -> Result<(), CopyError>
+    requires small { reach.limit + reach.ahead < 2 ^ 63 }
+    requires inside { head.start ≤ length (held buffer.old) }
+    requires near { head.start + head.size + 16 ≤ reach.limit }
+    ensures there { OnOk result (head.start + head.size + 16 ≤ length (held buffer.new)) }
+    ensures marker { OnOk result (take 16 (drop (head.start + head.size) (held buffer.new)) ≡ sync.now) }
+    ensures taken { UnlessFailed result (GrowsBy I.gives input.old input.new (held buffer.old) (held buffer.new)) }
+    ensures lost { OnErr result (TakesAtMost I.gives input.old input.new (reach.limit - length (held buffer.old))) }
+    ensures within { OnOk result (length (held buffer.new) ≤ max (length (held buffer.old)) (head.start + head.size + 16 + reach.ahead)) }
+    ensures limited { length (held buffer.new) ≤ max (length (held buffer.old)) reach.limit }
+    ensures refused { IfErr result (λ e. (f : FileFault) (limits : FileLimitValues) → file_fault e ≡ Some f → number < max_blocks
+        → BlockBegins (held buffer.old) head.count head.size (drop head.start (held buffer.old)) → head.count ≤ limits.per_block → head.size ≤ limits.block
+        → IsBlockFault limits sync.now number (I.ended input.new) (held buffer.new) f) }
+    ensures works { OnOk result (I.failures input.new ≡ I.failures input.old) }
+    ensures fails { result ≡ Err CopyError.InputFailed → I.failures input.new ≢ I.failures input.old }
+    ensures first { result ≢ Err CopyError.FailedBefore }
+{
+    let end = head.start + head.size;
+    match fill(input, buffer, end + 16, reach) {
+        Ok(()) => {}
+        Err(error) => return Err(block_error(error, number)),
+    }
+    let (_, behind) = buffer.bytes().split_at(end);
+    let (marker, _) = behind.split_at(16);
+    if is_marker(marker, sync) {
+        return Ok(());
+    }
+    Err(CopyError::WrongMarker(number))
+}

@@ -1,0 +1,146 @@
+ghost use Rattle.std.specs.Prelude.{◌≡◌, ◌≢◌, ◌+◌, [], true, false, OnOk, OnErr, IfOk, IfSome, IfNone, Some, None, Ok, Err};
+ghost use Rattle.std.specs.Result.{IfErr};
+ghost use Rattle.avro_container.specs.BlockTaken.{TakesBlock, TakesFault};
+ghost use Rattle.avro_container.specs.FileFault.{FileFault};
+ghost use Rattle.avro_container.specs.FileSeen.{file_fault};
+
+use crate::blocks_taken::take_block;
+use crate::buffer::Buffer;
+use crate::device::Input;
+use crate::error::CopyError;
+use crate::filling::Reach;
+use crate::header::Header;
+use crate::limits::FileLimits;
+use std::alloc::Global;
+
+/// The blocks of a file behind its header, taken one by one (Avro 1.11, "Object Container Files").
+#[derive(Drop)]
+pub struct Blocks<'a> {
+    alloc: Global,
+    header: &'a Header,
+    limits: FileLimits,
+    buffer: Buffer,
+    number: u64,
+    ended: bool,
+    failed: bool,
+}
+
+/// A block of a file, whose data are not read yet.
+#[derive(Drop)]
+pub struct Block<'a> {
+    header: &'a Header,
+    limits: FileLimits,
+    number: u64,
+    count: u32,
+    body: Vec<u8>,
+}
+
+impl<'a> Blocks<'a> {
+    /// The blocks behind a header. No block is taken yet.
+    pub fn new(alloc: Global, header: &'a Header, limits: &FileLimits) -> Blocks<'a>
+        ensures header { result.header ≡ header.entry }
+        ensures limits { result.limits ≡ limits.now }
+        ensures number { result.number ≡ 0 }
+        ensures begins { (result.ended ≡ false) × (result.failed ≡ false) }
+    {
+        Blocks {
+            alloc,
+            header,
+            limits: *limits,
+            buffer: Buffer::new(alloc),
+            number: 0,
+            ended: false,
+            failed: false,
+        }
+    }
+
+    /// Takes the next block, and no byte behind it.
+    fn take_next<I: Input>(&mut self, input: &mut I) -> Result<Option<Block<'a>>, CopyError>
+        ensures found { IfOk result (λ found. IfSome found (λ block. TakesBlock I.gives input.old input.new self.old.limits self.old.header.now.sync block.count block.body.items)) }
+        ensures few { IfOk result (λ found. IfSome found (λ block. self.old.number ≡ block.number)) }
+        ensures none { IfOk result (λ found. IfNone found (I.gives input.old [] input.new)) }
+        ensures told { IfOk result (λ found. IfNone found (I.ended input.new)) }
+        ensures refused { IfErr result (λ e. (f : FileFault) → file_fault e ≡ Some f → TakesFault I.gives I.ended input.old input.new self.old.limits self.old.header.now.sync self.old.number f) }
+        ensures counted { IfOk result (λ found. IfSome found (λ block. self.new.number ≡ self.old.number + 1)) }
+        ensures kept { (self.new.header ≡ self.old.header) × (self.new.limits ≡ self.old.limits) × (self.new.failed ≡ self.old.failed) × (self.new.ended ≡ self.old.ended) }
+        ensures works { OnOk result (I.failures input.new ≡ I.failures input.old) }
+        ensures fails { result ≡ Err CopyError.InputFailed → I.failures input.new ≢ I.failures input.old }
+        ensures first { result ≢ Err CopyError.FailedBefore }
+    {
+        let done = self.buffer.len();
+        self.buffer.pass(done);
+        let reach = Reach {
+            limit: self.limits.block() as usize + 36,
+            ahead: 0,
+        };
+        let number = self.number;
+        let header = self.header;
+        match take_block(
+            input,
+            &mut self.buffer,
+            number,
+            &self.limits,
+            header.sync(),
+            reach,
+        ) {
+            Ok(None) => Ok(None),
+            Ok(Some(head)) => {
+                let (_, data) = self.buffer.bytes().split_at(head.start);
+                let (data, _) = data.split_at(head.size);
+                let body = match Vec::from_slice(self.alloc, data) {
+                    Ok(body) => body,
+                    Err(_) => return Err(CopyError::OutOfMemory),
+                };
+                self.number += 1;
+                Ok(Some(Block {
+                    header,
+                    limits: self.limits,
+                    number,
+                    count: head.count,
+                    body,
+                }))
+            }
+            Err(error) => Err(error),
+        }
+    }
+
+    /// Takes the next block, and no byte behind it; nothing where the input ends before it, and from then on.
+    ///
+    /// # Errors
+    ///
+    /// `LimitExceeded`, `InvalidCount`, `CutBlock`, `WrongMarker`; `InputFailed`, `OutOfMemory`. After an error `FailedBefore`.
+    pub fn next<I: Input>(&mut self, input: &mut I) -> Result<Option<Block<'a>>, CopyError>
+        ensures before { self.old.failed ≡ true → (result ≡ Err CopyError.FailedBefore) × (input.new ≡ input.old) }
+        ensures over { self.old.failed ≡ false → self.old.ended ≡ true → (result ≡ Ok None) × (input.new ≡ input.old) }
+        ensures found { IfOk result (λ found. IfSome found (λ block. TakesBlock I.gives input.old input.new self.old.limits self.old.header.now.sync block.count block.body.items)) }
+        ensures place { IfOk result (λ found. IfSome found (λ block. self.old.number ≡ block.number)) }
+        ensures counted { IfOk result (λ found. IfSome found (λ block. self.new.number ≡ self.old.number + 1)) }
+        ensures none { self.old.ended ≡ false → IfOk result (λ found. IfNone found (I.gives input.old [] input.new)) }
+        ensures told { self.old.ended ≡ false → IfOk result (λ found. IfNone found (I.ended input.new)) }
+        ensures ends { IfOk result (λ found. IfNone found (self.new.ended ≡ true)) }
+        ensures refused { IfErr result (λ e. (f : FileFault) → file_fault e ≡ Some f → TakesFault I.gives I.ended input.old input.new self.old.limits self.old.header.now.sync self.old.number f) }
+        ensures stays { OnErr result (self.new.failed ≡ true) }
+        ensures same { (self.new.header ≡ self.old.header) × (self.new.limits ≡ self.old.limits) }
+        ensures works { OnOk result (I.failures input.new ≡ I.failures input.old) }
+        ensures fails { result ≡ Err CopyError.InputFailed → I.failures input.new ≢ I.failures input.old }
+        ensures only_before { result ≡ Err CopyError.FailedBefore → self.old.failed ≡ true }
+    {
+        if self.failed {
+            return Err(CopyError::FailedBefore);
+        }
+        if self.ended {
+            return Ok(None);
+        }
+        match self.take_next(input) {
+            Ok(Some(block)) => Ok(Some(block)),
+            Ok(None) => {
+                self.ended = true;
+                Ok(None)
+            }
+            Err(error) => {
+                self.failed = true;
+                Err(error)
+            }
+        }
+    }
+}

@@ -1,0 +1,71 @@
+//! Taking a block whole.
+
+ghost use Rattle.std.specs.Prelude.{◌≡◌, ◌≢◌, ◌+◌, ◌-◌, ◌^◌, ◌<◌, ◌≤◌, max, length, take, drop, OnOk, OnErr, IfOk, IfSome, IfNone, Some, Err};
+ghost use Rattle.std.specs.Result.{IfErr};
+ghost use Rattle.avro_container.specs.BlockFails.{max_blocks};
+ghost use Rattle.avro_container.specs.BlockStands.{BlockStands, IsBlockFault};
+ghost use Rattle.avro_container.specs.FileFault.{FileFault};
+ghost use Rattle.avro_container.specs.FileSeen.{file_fault};
+ghost use Rattle.avro_container.specs.Filled.{GrowsBy, TakesAtMost, UnlessFailed};
+ghost use Rattle.avro_container.specs.Held.{held};
+
+use crate::block_body::take_body;
+use crate::block_head::{BlockHead, take_head};
+use crate::block_start::begins_block;
+use crate::buffer::Buffer;
+use crate::device::Input;
+use crate::error::{CopyError, LimitPlace};
+use crate::filling::Reach;
+use crate::limits::FileLimits;
+
+/// The most blocks of a file.
+const MAX_BLOCKS: u64 = 4_294_967_296;
+
+/// Takes the next block whole, behind so many others; nothing where the input ends before it.
+///
+/// # Errors
+///
+/// `LimitExceeded`, `InvalidCount`, `CutBlock`, `WrongMarker`; `InputFailed`, `OutOfMemory`.
+pub(crate) fn take_block<I: Input>(
+    input: &mut I,
+    buffer: &mut Buffer,
+    number: u64,
+    limits: &FileLimits,
+    sync: &[u8; 16],
+    reach: Reach,
+) -> Result<Option<BlockHead>, CopyError>
+    requires small { reach.limit + reach.ahead < 2 ^ 63 }
+    requires fits { length (held buffer.old) < 2 ^ 63 }
+    requires room { reach.limit ≡ limits.now.block + 36 }
+    ensures inside { IfOk result (λ found. IfSome found (λ head. head.start + head.size + 16 ≤ length (held buffer.new))) }
+    ensures stands { IfOk result (λ found. IfSome found (λ head. BlockStands limits.now sync.now head.count
+        (take head.size (drop head.start (held buffer.new))) (take (head.start + head.size + 16) (held buffer.new)))) }
+    ensures few { IfOk result (λ found. IfSome found (λ head. number < max_blocks)) }
+    ensures none { IfOk result (λ found. IfNone found (length (held buffer.new) ≡ 0)) }
+    ensures told { IfOk result (λ found. IfNone found (I.ended input.new)) }
+    ensures taken { UnlessFailed result (GrowsBy I.gives input.old input.new (held buffer.old) (held buffer.new)) }
+    ensures lost { OnErr result (TakesAtMost I.gives input.old input.new (reach.limit - length (held buffer.old))) }
+    ensures within { IfOk result (λ found. IfSome found (λ head. length (held buffer.new) ≤ max (length (held buffer.old)) (head.start + head.size + 16 + reach.ahead))) }
+    ensures limited { length (held buffer.new) ≤ max (length (held buffer.old)) reach.limit }
+    ensures refused { IfErr result (λ e. (f : FileFault) → file_fault e ≡ Some f → IsBlockFault limits.now sync.now number (I.ended input.new) (held buffer.new) f) }
+    ensures works { OnOk result (I.failures input.new ≡ I.failures input.old) }
+    ensures fails { result ≡ Err CopyError.InputFailed → I.failures input.new ≢ I.failures input.old }
+    ensures first { result ≢ Err CopyError.FailedBefore }
+{
+    match begins_block(input, buffer, number, reach) {
+        Ok(true) => {}
+        Ok(false) => return Ok(None),
+        Err(error) => return Err(error),
+    }
+    if number >= MAX_BLOCKS {
+        return Err(CopyError::LimitExceeded(LimitPlace::Block(number)));
+    }
+    let head = match take_head(input, buffer, number, limits, reach) {
+        Ok(head) => head,
+        Err(error) => return Err(error),
+    };
+    match take_body(input, buffer, head, number, sync, reach) {
+        Ok(()) => Ok(Some(head)),
+        Err(error) => Err(error),
+    }
+}

@@ -1,0 +1,84 @@
+//! What a file is read from and written to.
+
+ghost use Rattle.std.specs.Prelude.{◌≡◌, ◌≢◌, ℕ, ◌<◌, ◌≤◌, List, [], ◌++◌, length, take, IfOk, OnOk, OnErr};
+
+/// The device failed in this call.
+#[derive(Clone, Copy, Debug, PartialEq, Eq)]
+pub struct DeviceFault;
+
+/// Gives the bytes of a file in turn.
+///
+/// An implementation says by a relation which bytes a call has moved, where the end was told, and how many calls have
+/// failed.
+pub trait Input {
+    /// These bytes were taken between two states.
+    ghost gives: { Self → List ℕ → Self → Type 0 };
+
+    /// The last call told the end.
+    ghost ended: { Self → Type 0 };
+
+    /// How many calls have failed. It wraps.
+    ghost failures: { Self → ℕ };
+
+    /// Takes some bytes, into the front of the buffer. No bytes, for a buffer that is not empty, is the end.
+    ///
+    /// # Errors
+    ///
+    /// The device failed. It may have taken bytes that are lost, at most as many as the buffer has.
+    fn take(&mut self, buffer: &mut [u8]) -> Result<usize, DeviceFault>
+        ensures within { IfOk result (λ n. n ≤ length buffer.new) }
+        ensures taken { IfOk result (λ n. gives self.old (take n buffer.new) self.new) }
+        ensures end { IfOk result (λ n. n ≡ 0 → 0 < length buffer.new → ended self.new) }
+        ensures only_end { IfOk result (λ n. ended self.new → (n ≡ 0) × (0 < length buffer.new)) }
+        ensures works { OnOk result (failures self.new ≡ failures self.old) }
+        ensures fails { OnErr result (failures self.new ≢ failures self.old) }
+        ensures lost { OnErr result ((bytes : List ℕ) × gives self.old bytes self.new × (length bytes ≤ length buffer.new)) };
+
+    /// Without a call no bytes are taken, and those of two runs of calls go together.
+    ghost none: { (s : Self) → gives s [] s };
+
+    ghost chain: { (s t u : Self) (front back : List ℕ) → gives s front t → gives t back u → gives s (front ++ back) u };
+}
+
+/// Keeps the bytes of a file in turn.
+///
+/// An implementation says by a relation which bytes a call has put, and how many calls have failed.
+pub trait Output {
+    /// These bytes were put between two states.
+    ghost keeps: { Self → List ℕ → Self → Type 0 };
+
+    /// The last call took none of some bytes.
+    ghost stuck: { Self → Type 0 };
+
+    /// How many calls have failed. It wraps.
+    ghost failures: { Self → ℕ };
+
+    /// Puts some of the bytes, from their front on.
+    ///
+    /// # Errors
+    ///
+    /// The device failed, and none was put.
+    fn put(&mut self, bytes: &[u8]) -> Result<usize, DeviceFault>
+        ensures within { IfOk result (λ n. n ≤ length bytes.now) }
+        ensures put { IfOk result (λ n. keeps self.old (take n bytes.now) self.new) }
+        ensures none { IfOk result (λ n. n ≡ 0 → 0 < length bytes.now → stuck self.new) }
+        ensures only_none { IfOk result (λ n. stuck self.new → (n ≡ 0) × (0 < length bytes.now)) }
+        ensures lost { OnErr result (keeps self.old [] self.new) }
+        ensures works { OnOk result (failures self.new ≡ failures self.old) }
+        ensures fails { OnErr result (failures self.new ≢ failures self.old) };
+
+    /// Puts what the device holds back, if anything.
+    ///
+    /// # Errors
+    ///
+    /// The device failed.
+    fn flush(&mut self) -> Result<(), DeviceFault>
+        ensures none { keeps self.old [] self.new }
+        ensures works { OnOk result (failures self.new ≡ failures self.old) }
+        ensures fails { OnErr result (failures self.new ≢ failures self.old) };
+
+    /// Without a call no bytes are put, and those of two runs of calls go together.
+    ghost none: { (s : Self) → keeps s [] s };
+
+    ghost chain: { (s t u : Self) (front back : List ℕ) → keeps s front t → keeps t back u → keeps s (front ++ back) u };
+}

@@ -1,0 +1,68 @@
+//! Taking until a part is there.
+
+ghost use Rattle.std.specs.Prelude.{◌≡◌, ◌≢◌, ℕ, ◌+◌, ◌-◌, ◌^◌, ◌<◌, ◌≤◌, max, length, OnOk, OnErr, Err};
+ghost use Rattle.avro_container.specs.Filled.{GrowsBy, TakesAtMost, UnlessLost};
+ghost use Rattle.avro_container.specs.Held.{held};
+
+use crate::buffer::{Buffer, TakeError};
+use crate::device::Input;
+use crate::part_error::PartError;
+
+/// The most bytes that a buffer grows by ahead of what has come.
+const GROWTH: usize = 65_536;
+
+/// How far an input is taken: no further than so many bytes in all, and so many bytes ahead of what is asked for.
+#[derive(Clone, Copy, Debug)]
+pub(crate) struct Reach {
+    pub(crate) limit: usize,
+    pub(crate) ahead: usize,
+}
+
+/// Takes until so many bytes are held.
+///
+/// # Errors
+///
+/// `Limit` where they are more than the limit, `Ended` where the input ends before; `Device`, `OutOfMemory`.
+pub(crate) fn fill<I: Input>(
+    input: &mut I,
+    buffer: &mut Buffer,
+    want: usize,
+    reach: Reach,
+) -> Result<(), PartError>
+    requires { reach.limit + reach.ahead < 2 ^ 63 }
+    ensures there { OnOk result (want ≤ length (held buffer.new)) }
+    ensures taken { UnlessLost result (GrowsBy I.gives input.old input.new (held buffer.old) (held buffer.new)) }
+    ensures lost { OnErr result (TakesAtMost I.gives input.old input.new (reach.limit - length (held buffer.old))) }
+    ensures within { length (held buffer.new) ≤ max (length (held buffer.old)) (want + reach.ahead) }
+    ensures limited { length (held buffer.new) ≤ max (length (held buffer.old)) reach.limit }
+    ensures over { result ≡ Err PartError.Limit → reach.limit < want }
+    ensures kept { result ≡ Err PartError.Limit → held buffer.new ≡ held buffer.old }
+    ensures ended { result ≡ Err PartError.Ended → I.ended input.new }
+    ensures short { result ≡ Err PartError.Ended → length (held buffer.new) < want }
+    ensures inside { result ≡ Err PartError.Ended → want ≤ reach.limit }
+    ensures in_range { result ≢ Err PartError.OutOfRange }
+    ensures works { OnOk result (I.failures input.new ≡ I.failures input.old) }
+    ensures still { result ≡ Err PartError.Ended → I.failures input.new ≡ I.failures input.old }
+    ensures fails { result ≡ Err PartError.Device → I.failures input.new ≢ I.failures input.old }
+{
+    if want <= buffer.len() {
+        return Ok(());
+    }
+    if want > reach.limit {
+        return Err(PartError::Limit);
+    }
+    let most = (want + reach.ahead).min(reach.limit);
+    while buffer.len() < want {
+        let room = (most - buffer.len()).min(GROWTH);
+        match buffer.take_more(input, room) {
+            Ok(count) => {
+                if count == 0 {
+                    return Err(PartError::Ended);
+                }
+            }
+            Err(TakeError::Device) => return Err(PartError::Device),
+            Err(TakeError::OutOfMemory) => return Err(PartError::OutOfMemory),
+        }
+    }
+    Ok(())
+}

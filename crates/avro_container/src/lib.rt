@@ -1,0 +1,28 @@
+//! Object container files (Avro 1.11, "Object Container Files").
+#![tactic(auto)]
+
+mod block_body;
+mod block_head;
+mod block_start;
+mod blocks;
+mod blocks_taken;
+mod buffer;
+mod counting;
+mod device;
+mod error;
+mod filling;
+mod header;
+mod limits;
+mod numbers;
+mod part_error;
+mod putting;
+mod read_input;
+mod write_output;
+
+pub use blocks::{Block, Blocks};
+pub use device::{DeviceFault, Input, Output};
+pub use error::{CopyError, CountError, LimitPlace};
+pub use header::Header;
+pub use limits::FileLimits;
+pub use read_input::ReadInput;
+pub use write_output::WriteOutput;

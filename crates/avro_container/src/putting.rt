@@ -1,0 +1,33 @@
+//! Putting all of some bytes.
+
+ghost use Rattle.std.specs.Prelude.{◌≡◌, ◌≢◌, ◌⊎◌, ◌≤◌, ◌<◌, ℕ, List, length, take, drop, OnOk, OnErr, IfOk};
+ghost use Rattle.avro_container.specs.Filled.{PutsFrontOf};
+
+use crate::device::{DeviceFault, Output};
+
+/// Puts all of the bytes, in as many calls as the output takes.
+///
+/// # Errors
+///
+/// The device failed, or took none of some bytes. A front of the bytes was put.
+pub(crate) fn put_all<O: Output>(output: &mut O, bytes: &[u8]) -> Result<(), DeviceFault>
+    ensures put { OnOk result (O.keeps output.old bytes.now output.new) }
+    ensures works { OnOk result (O.failures output.new ≡ O.failures output.old) }
+    ensures front { OnErr result (PutsFrontOf O.keeps output.old output.new bytes.now) }
+    ensures cause { OnErr result ((O.failures output.new ≢ O.failures output.old) ⊎ O.stuck output.new) }
+{
+    let mut rest = bytes;
+    while !rest.is_empty() {
+        match output.put(rest) {
+            Ok(count) => {
+                if count == 0 {
+                    return Err(DeviceFault);
+                }
+                let (_, others) = rest.split_at(count);
+                rest = others;
+            }
+            Err(fault) => return Err(fault),
+        }
+    }
+    Ok(())
+}
