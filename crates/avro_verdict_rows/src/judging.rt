@@ -44,7 +44,10 @@ fn booleans_are_read(rt: HostRuntime) -> Result<(), Fail> {
         (&[0x02], Err(ReadError::InvalidBoolean { place: 0 })),
         (&[], Err(ReadError::EndOfInput { place: 0 })),
     ] {
-        assert_eq!(rt; approved.read(alloc, bytes, &Limits::default(), &mut Tree), wanted);
+        assert_eq!(rt;
+            approved.read(alloc, bytes, &Limits::default(), &mut Tree),
+            wanted
+        );
     }
     Ok(())
 }
