@@ -115,14 +115,27 @@ const OWN_NAMESPACE: &str =
 
 #[test]
 fn canonical_forms_are_printed(rt: HostRuntime) -> Result<(), Fail> {
-    fs::write(&rt, "form.avsc", OWN_NAMESPACE)?;
-    let ran = outcome_of(&rt, &["schema", "form.avsc", "--canonical"])?;
-    assert_eq!(rt; ran.status, 0);
-    assert_eq!(rt;
-        ran.out.as_slice(),
-        "{\"name\":\"a.R\",\"type\":\"record\",\"fields\":[{\"name\":\"e\",\"type\":{\"name\":\"E\",\"type\":\"enum\",\"symbols\":[\"X\"]}}]}\n".as_bytes()
-    );
-    assert!(rt; ran.err.is_empty());
+    for (text, form) in [
+        (
+            OWN_NAMESPACE,
+            "{\"name\":\"a.R\",\"type\":\"record\",\"fields\":[{\"name\":\"e\",\"type\":{\"name\":\"E\",\"type\":\"enum\",\"symbols\":[\"X\"]}}]}\n",
+        ),
+        (
+            r#"{"type":"fixed","name":"F","namespace":"a","size":16,"doc":"x"}"#,
+            "{\"name\":\"a.F\",\"type\":\"fixed\",\"size\":16}\n",
+        ),
+        (
+            r#"{"type":"record","name":"Node","fields":[{"name":"value","type":"int"},{"name":"next","type":["null","Node"]}]}"#,
+            "{\"name\":\"Node\",\"type\":\"record\",\"fields\":[{\"name\":\"value\",\"type\":\"int\"},{\"name\":\"next\",\"type\":[\"null\",\"Node\"]}]}\n",
+        ),
+        (r#"{"type":"int","doc":"x"}"#, "\"int\"\n"),
+    ] {
+        fs::write(&rt, "form.avsc", text)?;
+        let ran = outcome_of(&rt, &["schema", "form.avsc", "--canonical"])?;
+        assert_eq!(rt; ran.status, 0, "{text}");
+        assert_eq!(rt; ran.out.as_slice(), form.as_bytes(), "{text}");
+        assert!(rt; ran.err.is_empty());
+    }
     Ok(())
 }
 
