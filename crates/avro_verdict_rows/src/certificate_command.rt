@@ -162,8 +162,8 @@ fn certificates_are_written_into_files(rt: HostRuntime) -> Result<(), Fail> {
         assert_eq!(rt; judged.status, 0, "{text}");
         assert_eq!(rt; judged.out.as_slice(), b"yes\n".as_slice());
         assert!(rt; judged.err.is_empty());
-        let written = fs::read_to_string(&rt, "yes.cert")?;
-        assert_eq!(rt; written.as_str(), text);
+        let written = fs::read(&rt, "yes.cert")?;
+        assert_eq!(rt; written.as_slice(), text.as_bytes(), "{text}");
         let confirmed = outcome_of(&rt, &["confirm", WRITER, READER, "yes.cert"])?;
         assert_eq!(rt; confirmed.status, 0, "{text}");
         assert_eq!(rt; confirmed.out.as_slice(), b"confirmed\n".as_slice());
