@@ -1,5 +1,5 @@
 use crate::program::outcome_of;
-use crate::texts::{padded_int, record_of_ints};
+use crate::texts::{padded_int, record_of_ints, record_with_default, unions_with_default};
 use std::fs;
 use std::test::Fail;
 
@@ -170,21 +170,34 @@ fn one_form_is_asked_for_and_of_a_schema(rt: HostRuntime) -> Result<(), Fail> {
 }
 
 #[test]
-fn defaults_of_second_branches_are_read_from_files(rt: HostRuntime) -> Result<(), Fail> {
-    let text =
-        r#"{"type":"record","name":"R","fields":[{"name":"u","type":["null","int"],"default":3}]}"#;
-    fs::write(&rt, "second_branch.avsc", text)?;
-    let ran = outcome_of(&rt, &["schema", "second_branch.avsc"])?;
-    assert_eq!(rt; ran.status, 0);
-    assert_eq!(rt; ran.out.as_slice(), b"ok 4\n".as_slice());
-    assert!(rt; ran.err.is_empty());
-    let text =
-        r#"{"type":"record","name":"R","fields":[{"name":"u","type":["null","int"],"default":"x"}]}"#;
-    fs::write(&rt, "no_branch.avsc", text)?;
-    let ran = outcome_of(&rt, &["schema", "no_branch.avsc"])?;
-    assert_eq!(rt;
-        ran.err.as_slice(),
-        b"avro: no_branch.avsc: S9\n".as_slice()
-    );
+fn defaults_of_first_fitting_branches_are_read_from_files(rt: HostRuntime) -> Result<(), Fail> {
+    let refused = "avro: default.avsc: S9\n";
+    for (node, default, out, err) in [
+        (r#"["null","int"]"#, "3", "ok 4\n", ""),
+        (r#"["bytes","string"]"#, "\"a\"", "ok 4\n", ""),
+        (r#"["bytes","string"]"#, "\"\\u20ac\"", "ok 4\n", ""),
+        (r#"["int","long"]"#, "3000000000", "ok 4\n", ""),
+        (r#"["null","int"]"#, "\"x\"", "", refused),
+        (r#"["null","int"]"#, "2147483648", "", refused),
+    ] {
+        fs::write(
+            &rt,
+            "default.avsc",
+            &record_with_default(rt.alloc(), node, default)?,
+        )?;
+        let ran = outcome_of(&rt, &["schema", "default.avsc"])?;
+        assert_eq!(rt; ran.out.as_slice(), out.as_bytes(), "{node} {default}");
+        assert_eq!(rt; ran.err.as_slice(), err.as_bytes(), "{node} {default}");
+    }
+    Ok(())
+}
+
+#[test]
+fn a_deep_default_that_no_branch_fits_is_refused_from_a_file(rt: HostRuntime) -> Result<(), Fail> {
+    fs::write(&rt, "deep.avsc", &unions_with_default(rt.alloc(), 60)?)?;
+    let ran = outcome_of(&rt, &["schema", "deep.avsc"])?;
+    assert_eq!(rt; ran.status, 3);
+    assert_eq!(rt; ran.err.as_slice(), b"avro: deep.avsc: S9\n".as_slice());
+    assert!(rt; ran.out.is_empty());
     Ok(())
 }

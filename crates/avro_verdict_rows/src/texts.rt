@@ -24,3 +24,32 @@ pub(crate) fn record_of_ints(alloc: Global, fields: u32) -> Result<String, Alloc
     text.push_str("]}")?;
     Ok(text)
 }
+
+/// A record of one field, of a type and with a default.
+pub(crate) fn record_with_default(
+    alloc: Global,
+    node: &str,
+    default: &str,
+) -> Result<String, AllocError> {
+    format!(in alloc;
+        "{{\"type\":\"record\",\"name\":\"R\",\"fields\":[{{\"name\":\"u\",\"type\":{node},\"default\":{default}}}]}}"
+    )
+}
+
+/// A record whose second field has a union as its type, each branch of which has a union of both; the field's default
+/// is that many objects inside each other, around a number that no branch takes.
+pub(crate) fn unions_with_default(alloc: Global, depth: u32) -> Result<String, AllocError> {
+    let mut text = String::from_str(
+        alloc,
+        r#"{"type":"record","name":"O","fields":[{"name":"a","type":{"type":"record","name":"A","fields":[{"name":"f","type":["A",{"type":"record","name":"B","fields":[{"name":"f","type":["A","B"]}]}]}]}},{"name":"x","type":["A","B"],"default":"#,
+    )?;
+    for _ in 0..depth {
+        text.push_str("{\"f\":")?;
+    }
+    text.push_str("3")?;
+    for _ in 0..depth {
+        text.push_str("}")?;
+    }
+    text.push_str("}]}")?;
+    Ok(text)
+}
