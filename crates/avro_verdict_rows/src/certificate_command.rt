@@ -1,5 +1,6 @@
 //! Certificates of approvals: through the library, and through the program and its files.
 
+use crate::texts::record_of_ints;
 use avro_judge::{Certificate, JudgeLimits, Verdict, confirm, judge};
 use avro_schema_json::read_schema;
 use avro_tool::run;
@@ -131,6 +132,26 @@ fn more_pairs_confirm_and_are_left_out(rt: HostRuntime) -> Result<(), Fail> {
         let (_, confirmed) = texts_of(rt.alloc(), writer, reader, given)?;
         assert_eq!(rt; confirmed.as_slice(), text.as_bytes(), "{given}");
     }
+    Ok(())
+}
+
+#[test]
+fn a_certificate_has_a_line_for_each_pair(rt: HostRuntime) -> Result<(), Fail> {
+    let alloc = rt.alloc();
+    let text = record_of_ints(alloc, 2047)?;
+    let schema = read_schema(alloc, text.as_bytes())?;
+    let Verdict::Approved(approved) = judge(alloc, &schema, &schema, &JudgeLimits::default())?
+    else {
+        return Err(Fail::new("a schema of ints reads itself"));
+    };
+    let certificate = approved.certificate(alloc)?.write(alloc)?;
+    let mut lines: u32 = 0;
+    for byte in &certificate {
+        if *byte == b'\n' {
+            lines = lines.saturating_add(1);
+        }
+    }
+    assert_eq!(rt; lines, 2050);
     Ok(())
 }
 

@@ -286,7 +286,7 @@ fn the_pair_limit_is_exact(rt: HostRuntime) -> Result<(), Fail> {
 #[test]
 fn wide_records_are_judged_up_to_the_pair_limit(rt: HostRuntime) -> Result<(), Fail> {
     let alloc = rt.alloc();
-    for (count, text) in [(200, "yes\n"), (2048, "undecided Pairs\n")] {
+    for (count, text) in [(2047, "yes\n"), (2048, "undecided Pairs\n")] {
         let schema = record_of_ints(alloc, count)?;
         let found = verdict(
             alloc,

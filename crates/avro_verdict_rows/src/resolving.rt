@@ -190,6 +190,12 @@ fn fields_are_resolved(rt: HostRuntime) -> Result<(), Fail> {
             "{\"b\":5} 6",
         ),
         (
+            r#"{"type":"record","name":"R","fields":[]}"#,
+            r#"{"type":"record","name":"R","fields":[{"name":"u","type":["null","int"],"default":3}]}"#,
+            b"",
+            "{\"u\":{\"int\":3}} 0",
+        ),
+        (
             r#"{"type":"record","name":"R","fields":[{"name":"a","type":{"type":"array","items":"long"}},{"name":"b","type":"int"}]}"#,
             r#"{"type":"record","name":"R","fields":[{"name":"b","type":"int"}]}"#,
             b"\x03\x06\x06\x36\x00\x0a",
