@@ -20,7 +20,7 @@ pub(crate) fn print_texts(rt: &HostRuntime) -> anyhow::Result<()> {
     Ok(())
 }
 
-/// Prints the length of a text of so many definitions, its number of nodes, and the least time of its runs.
+/// Prints the length of a text of this number of definitions, its number of nodes, and the least time of its runs.
 fn print_text(rt: &HostRuntime, definitions: u32) -> anyhow::Result<()> {
     let text = text_of(rt.alloc(), definitions)?;
     let (nodes, mut least) = time_reading(rt, text.as_bytes())?;

@@ -15,7 +15,7 @@ abbrev pub signed_count : Bool → ℕ → ℤ
 signed_count true n = neg_ℤ (pos n)
 signed_count false n = pos n
 
--- a head, where so many nodes are left, or the 0 that ends the blocks
+-- a head, where a number of nodes is left, or the 0 that ends the blocks
 abbrev pub IsHeadOrEnd : ℕ → Option Head → List ℕ → Type 0
 IsHeadOrEnd nodes (Some head) bytes = IsHead nodes head × (bytes ≡ head_bytes head)
 IsHeadOrEnd nodes None bytes = SpellsLong (pos 0) bytes
@@ -42,7 +42,7 @@ pub record ReadsHead (before after : CursorValue) (result : Result (Option Block
   pub breaks : (f : ReadFault) → HeadBreaks before.nodes before.bytes f → Reports result (behind before.place f)
   pub unchanged : OnErr result (after ≡ before)
 
--- The end of a block whose head stands at a place and whose items are so many bytes: it is refused where its size is
+-- The end of a block whose head stands at a place and whose items are a number of bytes: it is refused where its size is
 -- another.
 abbrev pub EndsBlock : {A : Type 0} → ℕ → Head → ℕ → Result A ReadError → Type 0
 EndsBlock place (counted count count_bytes) n result = IsOk result

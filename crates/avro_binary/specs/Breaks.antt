@@ -30,7 +30,7 @@ abbrev pub BooleanBreaks : List ℕ → ReadFault → Type 0
 BooleanBreaks [] f = f ≡ end_of_input 0
 BooleanBreaks (b ∷ rest) f = (1 < b) × (f ≡ invalid_boolean 0)
 
--- a fixed of so many bytes
+-- a fixed of a size
 abbrev pub FixedBreaks : ℕ → ℕ → List ℕ → ReadFault → Type 0
 FixedBreaks count blob bytes f =
     ((blob < count) × (f ≡ limit_exceeded)) ⊎ ((count ≤ blob) × (length bytes < count) × (f ≡ end_of_input 0))
@@ -59,12 +59,12 @@ BytesBreaks = ContentBreaks (λ content. true)
 abbrev pub StringBreaks : ℕ → List ℕ → ReadFault → Type 0
 StringBreaks = ContentBreaks is_utf8
 
--- whether a number is the place of one of so many
+-- whether a number is a place below a count
 abbrev pub is_index : ℕ → ℤ → Bool
 is_index choices (pos n) = nat_lt n choices
 is_index choices (negsuc n) = false
 
--- the place of a branch or a symbol, of so many
+-- the place of a branch or a symbol, below their count
 pub data IndexBreaks (choices : ℕ) (bytes : List ℕ) : ReadFault → Type 0 where
   number_breaks : {f : ReadFault} → IntBreaks bytes f → IndexBreaks choices bytes f
   unknown : (v : ℤ) (number rest : List ℕ) → SpellsInt v number → is_int v ≡ true → bytes ≡ number ++ rest
@@ -112,7 +112,7 @@ pub record Left : Type 0 where
   pub nodes : ℕ
   pub keys : List (List ℕ)
 
--- so many whole items stand as these bytes, and leave so much
+-- a number of whole items stands as these bytes, and leaves this
 pub record ItemsAreWhole (nodes : List Node) (limits : LimitValues) (n : Node) (left : Left) (count : ℕ) (bytes : List ℕ) (then_left : Left) : Type 0 where
   pub values : Values
   pub items : List (List ℕ)
@@ -166,7 +166,7 @@ abbrev pub head_bytes : Head → List ℕ
 head_bytes (counted count count_bytes) = count_bytes
 head_bytes (sized count size count_bytes size_bytes) = count_bytes ++ size_bytes
 
--- a head that passes its tests, where so many nodes are left; the count 0 is the end, and no head
+-- a head that passes its tests, where a number of nodes is left; the count 0 is the end, and no head
 abbrev pub IsHead : ℕ → Head → Type 0
 IsHead left (counted count count_bytes) = (0 < count) × (count < 2 ^ 63) × (count ≤ left) × SpellsLong (pos count) count_bytes
 IsHead left (sized count size count_bytes size_bytes) =
@@ -178,7 +178,7 @@ abbrev pub HasSize : Head → ℕ → Type 0
 HasSize (counted count count_bytes) n = Unit {0}
 HasSize (sized count size count_bytes size_bytes) n = size ≡ n
 
--- the fault of a head, where so many nodes are left
+-- the fault of a head, where a number of nodes is left
 pub data HeadBreaks (nodes : ℕ) (bytes : List ℕ) : ReadFault → Type 0 where
   -- the count fails
   count_fails : {f : ReadFault} → LongBreaks bytes f → HeadBreaks nodes bytes f

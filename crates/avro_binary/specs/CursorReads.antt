@@ -32,7 +32,7 @@ pub record FindsValue (nodes : List Node) (n : Node) (before after : CursorValue
   pub long : longest_blob v ≤ before.blob
   pub moves : Moves before front after
 
--- the error, unless it is want of memory, reports a fault of the bytes that are left
+-- the error, unless memory ran out, reports a fault of the bytes that are left
 abbrev pub ReportsFault : (List ℕ → ReadFault → Type 0) → CursorValue → ReadError → Type 0
 ReportsFault breaks before e = IfSome (read_fault e) (λ fault. (f : ReadFault) × breaks before.bytes f × (fault ≡ behind before.place f))
 
@@ -52,7 +52,7 @@ outside c = record c { depth = suc c.depth; nodes = suc c.nodes }
 abbrev pub left_node : CursorValue → CursorValue
 left_node c = record c { depth = suc c.depth }
 
--- what is left at a cursor, behind so many keys
+-- what is left at a cursor, behind a number of keys
 abbrev pub left_at : CursorValue → List (List ℕ) → Left
 left_at c keys = record { nodes = c.nodes; keys = keys }
 
@@ -96,7 +96,7 @@ pub record FindsRun {E : Type 0} (run : Left → List E → List (List ℕ) → 
   pub stand : run (left_at before keys) xs items (left_at after keys_after)
   pub moves : Moves before (concat items) after
 
--- fewer than so many items are whole, and the next breaks
+-- fewer items than the count are whole, and the next breaks
 pub record RunBreaks {E : Type 0} (run : Left → List E → List (List ℕ) → Left → Type 0) (breaks : Left → List ℕ → ReadFault → Type 0) (left : Left) (count : ℕ) (bytes : List ℕ) (f : ReadFault) : Type 0 where
   pub xs : List E
   pub items : List (List ℕ)
@@ -105,7 +105,7 @@ pub record RunBreaks {E : Type 0} (run : Left → List E → List (List ℕ) →
   pub stand : run left xs items then_left
   pub next : BreaksAfter (breaks then_left) (concat items) bytes f
 
--- A call that reads so many items or entries; `gives` says what it makes of them, and of the keys so far.
+-- A call that reads a number of items or entries; `gives` says what it makes of them, and of the keys so far.
 pub record ReadsRun {E R : Type 0} (run : Left → List E → List (List ℕ) → Left → Type 0) (breaks : Left → List ℕ → ReadFault → Type 0) (gives : List E → List (List ℕ) → Type 0) (count : ℕ) (keys : List (List ℕ)) (before after : CursorValue) (result : Result R ReadError) : Type 0 where
   pub found : IfOk result (λ r. (xs : List E) × (keys_after : List (List ℕ)) × (length xs ≡ count) × FindsRun run before after keys keys_after xs × gives xs keys_after)
   pub refused : IfErr result (ReportsFault (RunBreaks run breaks (left_at before keys) count) before)

@@ -36,11 +36,11 @@ IsBytes = IsContent (λ content. true)
 abbrev pub IsString : ℕ → List ℕ → List ℕ → Type 0
 IsString = IsContent is_utf8
 
--- a fixed of so many bytes, within a limit
+-- a fixed of a size, within a limit
 abbrev pub IsFixed : ℕ → ℕ → List ℕ → List ℕ → Type 0
 IsFixed count blob content bytes = (bytes ≡ content) × (length content ≡ count) × (count ≤ blob)
 
--- the place of a branch or a symbol, of so many
+-- the place of a branch or a symbol, below their count
 abbrev pub IsIndex : ℕ → ℕ → List ℕ → Type 0
 IsIndex choices n bytes = (n < choices) × IsInt (pos n) bytes
 
@@ -66,7 +66,7 @@ pub record ReadsElement {A R : Type 0} (seen : R → A) (IsElement : A → List 
   pub breaks : (f : ReadFault) → ElementBreaks before.bytes f → Reports result (behind before.place f)
   pub unchanged : OnErr result (after ≡ before)
 
--- a content stands at the front behind its length, and the two are so many bytes
+-- a content stands at the front behind its length, and the two have a number of bytes together
 pub record ContentStands (blob : ℕ) (bytes content : List ℕ) (len : ℕ) : Type 0 where
   pub number : List ℕ
   pub rest : List ℕ

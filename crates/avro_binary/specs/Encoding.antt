@@ -51,7 +51,7 @@ pub record Encodes (nodes : List Node) (n : Node) (v : Value) (bytes : List ℕ)
 abbrev pub plain_bytes : List ℕ → List ℕ
 plain_bytes content = number_bytes (pos (length content)) ++ content
 
--- one block of so many items, where there is one, and the end
+-- one block of all the items, where there are some, and the end
 abbrev pub plain_blocks : ℕ → List ℕ → List ℕ
 plain_blocks zero items = 0 ∷ []
 plain_blocks (suc count) items = number_bytes (pos (suc count)) ++ items ++ 0 ∷ []

@@ -23,7 +23,7 @@ pub data ReadFault : Type 0 where
   -- a limit is passed
   limit_exceeded : ReadFault
 
--- the same fault, of bytes behind so many others
+-- the same fault, of bytes behind a number of others
 abbrev pub behind : ℕ → ReadFault → ReadFault
 behind n (end_of_input place) = end_of_input (n + place)
 behind n (invalid_number place) = invalid_number (n + place)

@@ -4,7 +4,7 @@ use Rattle.avro_binary.specs.Fault.{ReadFault, end_of_input, invalid_number, inv
 use Rattle.avro_binary.specs.declared.error.ReadError.{ReadError}
 use Rattle.avro_binary.specs.declared.error.ReadError.TheVariants.{EndOfInput, InvalidNumber, InvalidBoolean, InvalidText, UnknownIndex, InvalidLength, WrongBlockSize, DuplicateKey, LimitExceeded, OutOfMemory}
 
--- the fault of the bytes that an error reports; want of memory is none
+-- the fault of the bytes that an error reports; memory that runs out is none
 abbrev pub read_fault : ReadError → Option ReadFault
 read_fault (EndOfInput place) = Some (end_of_input place)
 read_fault (InvalidNumber place) = Some (invalid_number place)

@@ -9,7 +9,7 @@ use std::alloc::{AllocError, Global};
 /// What is built of a datum that is read: one call for each kind of datum, and calls for the items of an array and the
 /// entries of a map (Avro 1.11, "Binary Encoding").
 ///
-/// A call fails only for want of memory. Its law is its contract: where its arguments stand for their parts, its answer
+/// A call fails only where memory runs out. Its law is its contract: where its arguments stand for their parts, its answer
 /// stands for the whole. What an answer stands for is said of the answer alone, so a builder may keep what it likes.
 pub trait Build {
     /// What is built of a datum.

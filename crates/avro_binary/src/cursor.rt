@@ -80,7 +80,7 @@ impl<'a> Cursor<'a> {
         self.rest
     }
 
-    /// Passes so many bytes, and answers them.
+    /// Passes a number of bytes, and answers them.
     #[inline(always)]
     fn pass(&mut self, count: usize) -> &'a [u8]
         requires { count ≤ length self.old.bytes }
@@ -92,7 +92,7 @@ impl<'a> Cursor<'a> {
         front
     }
 
-    /// The offset behind so many bytes of those that are left.
+    /// The offset behind a number of the bytes that are left.
     #[inline(always)]
     fn place_behind(&self, count: usize) -> usize
         requires { count ≤ length self.now.bytes }
@@ -163,7 +163,7 @@ impl<'a> Cursor<'a> {
         }
     }
 
-    /// Reads a fixed of so many bytes.
+    /// Reads a fixed of this size.
     ///
     /// # Errors
     ///
@@ -183,7 +183,7 @@ impl<'a> Cursor<'a> {
         Ok(self.pass(size))
     }
 
-    /// Reads the place of a branch or a symbol, of so many.
+    /// Reads the place of a branch or a symbol, below their count.
     ///
     /// # Errors
     ///
@@ -401,7 +401,7 @@ impl<'a> Cursor<'a> {
         }
     }
 
-    /// Reads a block's head behind whose count, of so many bytes, a size stands.
+    /// Reads a block's head behind whose count, of `len` bytes, a size stands.
     fn sized_block(&mut self, count: u32, len: usize) -> Result<Option<Block>, ReadError>
         requires inside { len ≤ length self.old.bytes }
         requires some { 0 < count }
@@ -509,7 +509,7 @@ fn number_error(error: VarError, place: usize) -> ReadError
     }
 }
 
-/// The place that a number names, of so many.
+/// The place that a number names, below a count.
 fn place_of(value: i32, choices: usize) -> Option<usize>
     ensures some { IfSome result (λ index. (value ≡ pos index) × (index < choices)) }
     ensures none { IfNone result (is_index choices value ≡ false) }

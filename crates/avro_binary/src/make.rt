@@ -9,7 +9,7 @@ use std::alloc::{AllocError, Global};
 
 /// What is made of a datum of a node that is read, and of each of its parts, where the maker says what each part is for.
 ///
-/// A call fails only for want of memory. What an answer stands for is said at the maker as it then is; it stays so at
+/// A call fails only where memory runs out. What an answer stands for is said at the maker as it then is; it stays so at
 /// every later one that keeps it.
 pub trait Make {
     /// What a part is for.

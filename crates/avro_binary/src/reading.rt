@@ -177,7 +177,7 @@ fn read_text<M: Make>(
     }
 }
 
-/// Reads the place of a symbol, of so many.
+/// Reads the place of a symbol, below their count.
 #[inline(always)]
 fn read_symbol<M: Make>(
     alloc: Global,
@@ -201,7 +201,7 @@ fn read_symbol<M: Make>(
     }
 }
 
-/// Reads a fixed of so many bytes.
+/// Reads a fixed of this size.
 #[inline(always)]
 fn read_fixed<M: Make>(
     alloc: Global,
@@ -287,7 +287,7 @@ fn read_item_blocks<M: Make>(
     }
 }
 
-/// Reads so many items, and adds them to those before.
+/// Reads a number of items, and adds them to those before.
 #[cycle(reading)]
 fn read_items<M: Make>(
     alloc: Global,
@@ -372,7 +372,7 @@ fn read_entry_blocks<M: Make>(
     }
 }
 
-/// Reads so many entries, none of whose keys is among those before it, and adds them to those before.
+/// Reads a number of entries, none of whose keys is among those before it, and adds them to those before.
 #[cycle(reading)]
 fn read_entries<'a, M: Make>(
     alloc: Global,

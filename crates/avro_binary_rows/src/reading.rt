@@ -207,7 +207,7 @@ fn a_record_without_fields_takes_no_bytes(rt: HostRuntime) -> Result<(), Fail> {
     Ok(())
 }
 
-/// A list of so many records, each but the last with the next.
+/// A list of this number of records, each but the last with the next.
 fn list_of(alloc: Global, records: usize) -> Result<Vec<u8>, AllocError> {
     let mut bytes = Vec::new(alloc);
     for _ in 1..records {

@@ -3,7 +3,7 @@ use Rattle.std.specs.Prelude.{◌≡◌, ℕ, ◌≤◌, List, ◌++◌, length}
 use Rattle.avro_container.specs.BlockFails.{BlockBegins, FileLimitValues, CountFails, CountIsCut, BlockReading, BlockFails}
 use Rattle.avro_container.specs.FileFault.{FileFault, in_block, CountFault, BlockFault, invalid_count, cut_block}
 
--- A block of so many data, which are these bytes, is these bytes in all; it is within the limits.
+-- A block of a number of data, which are these bytes, is these bytes in all; it is within the limits.
 pub record BlockStands (limits : FileLimitValues) (sync : List ℕ) (count : ℕ) (body bytes : List ℕ) : Type 0 where
   pub begins : BlockBegins bytes count (length body) (body ++ sync)
   pub few : count ≤ limits.per_block

@@ -4,7 +4,7 @@ use Rattle.avro_container.specs.BlockFails.{FileLimitValues}
 use Rattle.avro_container.specs.BlockStands.{BlockStands, IsBlockFault}
 use Rattle.avro_container.specs.FileFault.{FileFault}
 
--- exactly a block was taken: of so many data, which are these bytes
+-- exactly a block was taken: of a number of data, which are these bytes
 pub record TakesBlock {I : Type 0} (gives : I → List ℕ → I → Type 0) (from to : I) (limits : FileLimitValues) (sync : List ℕ) (count : ℕ) (body : List ℕ) : Type 0 where
   pub bytes : List ℕ
   pub taken : gives from bytes to

@@ -32,7 +32,7 @@ property name (p ∷ ps) = if bytes_eq p.name name then Some p.content else prop
 abbrev pub magic : List ℕ
 magic = 0x4f ∷ 0x62 ∷ 0x6a ∷ 1 ∷ []
 
--- the metadata is not compressed
+-- the codec is null: the data of blocks are not compressed
 abbrev pub is_plain_codec : Option (List ℕ) → Bool
 is_plain_codec None = true
 is_plain_codec (Some word) = bytes_eq word (codes "null")

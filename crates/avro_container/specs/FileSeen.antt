@@ -19,7 +19,7 @@ limit_fault LimitPlace.Header = in_header long_header
 limit_fault (LimitPlace.Block n) = in_block n limit_passed
 limit_fault (LimitPlace.Datum n m) = in_block n (large_datum m)
 
--- the fault of the bytes that an error reports; a device's, want of memory and an earlier failure are none
+-- the fault of the bytes that an error reports; a device's, memory that runs out and an earlier failure are none
 abbrev pub file_fault : CopyError → Option FileFault
 file_fault CopyError.NoMagic = Some (in_header no_magic)
 file_fault (CopyError.InvalidMetadata e) = option_map (λ f. in_header (invalid_metadata f)) (read_fault e)

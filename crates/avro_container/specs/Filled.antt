@@ -9,7 +9,7 @@ pub record GrowsBy {I : Type 0} (gives : I → List ℕ → I → Type 0) (from 
   pub taken : gives from bytes to
   pub grown : new ≡ old ++ bytes
 
--- At most so many bytes were taken, which may be lost.
+-- At most a number of bytes was taken, which may be lost.
 pub record TakesAtMost {I : Type 0} (gives : I → List ℕ → I → Type 0) (from to : I) (most : ℕ) : Type 0 where
   pub bytes : List ℕ
   pub taken : gives from bytes to

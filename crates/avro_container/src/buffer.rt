@@ -65,7 +65,7 @@ impl Buffer {
         self.end - self.start
     }
 
-    /// Lets go of so many bytes at the front.
+    /// Lets go of a number of bytes at the front.
     pub(crate) fn pass(&mut self, count: usize)
         requires { count ≤ length (held self.old) }
         ensures { held self.new ≡ drop count (held self.old) }
@@ -84,7 +84,7 @@ impl Buffer {
         self.end = end - start;
     }
 
-    /// Makes room for so many bytes more.
+    /// Makes room for a number of bytes more.
     fn make_room(&mut self, count: usize) -> Result<(), AllocError>
         requires { length (held self.old) + count < 2 ^ 64 }
         ensures same { held self.new ≡ held self.old }
@@ -102,7 +102,7 @@ impl Buffer {
         Ok(())
     }
 
-    /// One take of at most so many bytes, behind those that it holds.
+    /// One take of at most a number of bytes, behind those that it holds.
     ///
     /// # Errors
     ///

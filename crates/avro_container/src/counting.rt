@@ -35,7 +35,7 @@ pub(crate) fn block_error(error: PartError, number: u64) -> CopyError
     }
 }
 
-/// Takes the count or the size that begins behind so many bytes of a block, and answers it with the number of its bytes.
+/// Takes the count or the size that begins behind a number of bytes of a block, and answers it with the number of its bytes.
 ///
 /// # Errors
 ///

@@ -8,16 +8,16 @@ pub struct DeviceFault;
 
 /// Gives the bytes of a file in turn.
 ///
-/// An implementation says by a relation which bytes a call has moved, where the end was told, and how many calls have
+/// An implementation says by a relation which bytes a call has moved, where the end was reported, and how many calls have
 /// failed.
 pub trait Input {
     /// These bytes were taken between two states.
     ghost gives: { Self → List ℕ → Self → Type 0 };
 
-    /// The last call told the end.
+    /// The last call reported the end.
     ghost ended: { Self → Type 0 };
 
-    /// How many calls have failed. It wraps.
+    /// The number of failed calls, which may wrap.
     ghost failures: { Self → ℕ };
 
     /// Takes some bytes, into the front of the buffer. No bytes, for a buffer that is not empty, is the end.
@@ -50,7 +50,7 @@ pub trait Output {
     /// The last call took none of some bytes.
     ghost stuck: { Self → Type 0 };
 
-    /// How many calls have failed. It wraps.
+    /// The number of failed calls, which may wrap.
     ghost failures: { Self → ℕ };
 
     /// Puts some of the bytes, from their front on.

@@ -4,10 +4,10 @@ use avro_schema_json::SchemaError;
 use avro_zigzag::VarError;
 use thiserror::Error;
 
-/// Why a block's count or size is none.
+/// Why a block's count or size is not a number of data or of bytes.
 #[derive(Clone, Copy, Debug, PartialEq, Eq, Hash, Error)]
 pub enum CountError {
-    /// It is no long.
+    /// It is not a valid long.
     #[error("{0}")]
     Invalid(VarError),
     /// It is negative.
@@ -44,10 +44,10 @@ pub enum CopyError {
     /// `avro.schema` is no schema.
     #[error("C4: {0}")]
     InvalidSchema(SchemaError),
-    /// `avro.codec` is another than `null`.
+    /// `avro.codec` is not `null`.
     #[error("C5")]
     UnknownCodec,
-    /// A block's count or size is none.
+    /// A block's count or size is not a number of data or of bytes.
     #[error("C6 block {0}: {1}")]
     InvalidCount(u64, CountError),
     /// Bytes are left in a block behind its data.
@@ -59,7 +59,7 @@ pub enum CopyError {
     /// A limit is passed.
     #[error("{0}")]
     LimitExceeded(LimitPlace),
-    /// A datum of a block is not encoded; the place is from the block's first byte of data.
+    /// A datum of a block is not validly encoded; the place is from the block's first byte of data.
     #[error("C10 block {0} datum {1}: {2}")]
     InvalidDatum(u64, u32, ReadError),
     /// A datum of a block does not resolve.

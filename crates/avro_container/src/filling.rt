@@ -11,14 +11,14 @@ use crate::part_error::PartError;
 /// The most bytes that a buffer grows by ahead of what has come.
 const GROWTH: usize = 65_536;
 
-/// How far an input is taken: no further than so many bytes in all, and so many bytes ahead of what is asked for.
+/// How far an input is taken: no further than `limit` bytes in all, and `ahead` bytes beyond what is asked for.
 #[derive(Clone, Copy, Debug)]
 pub(crate) struct Reach {
     pub(crate) limit: usize,
     pub(crate) ahead: usize,
 }
 
-/// Takes until so many bytes are held.
+/// Takes until a number of bytes is held.
 ///
 /// # Errors
 ///

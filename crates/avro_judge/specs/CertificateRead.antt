@@ -17,7 +17,7 @@ pub record HasGreatNumber (text : List ℕ) : Type 0 where
   pub written : text ≡ certificate_text dead pairs
   pub great : are_small dead pairs ≡ false
 
--- what a refusal says; want of memory says nothing
+-- what a refusal says; memory that runs out says nothing
 abbrev pub Refuses : CertError → List ℕ → Type 0
 Refuses CertError.Malformed text = IsMalformed text
 Refuses CertError.NumberTooLarge text = HasGreatNumber text

@@ -156,8 +156,8 @@ fn certificate_by(
     }
 }
 
-/// The certificate of two compatible schemas. The tables are told apart by whether there is an entry
-/// alone, so the least limit does.
+/// The certificate of two compatible schemas. Only whether the tables have an entry matters, so the
+/// least limit does.
 pub(crate) fn certify(
     alloc: Global,
     writer: &Schema,

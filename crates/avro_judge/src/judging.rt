@@ -41,8 +41,8 @@ fn fault_of_datum(
 /// Whether every datum of the writer's schema resolves into the reader's, of any size.
 ///
 /// Up to the pair limit the two schemas are approved exactly where they are compatible; else a least
-/// datum that fails is answered, within the size and the depth limit, or the limit that bars it.
-/// Among least data the choice is by depth, then the first branch, symbol or field.
+/// datum that fails is answered, within the size and the depth limit, or the limit that none is within.
+/// Among least data the choice is by depth, then the first branch, symbol or field, which tests show.
 ///
 /// # Errors
 ///

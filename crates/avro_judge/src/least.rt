@@ -13,7 +13,7 @@ use crate::kept::Least;
 use avro_schema::{Field, Memory, Node, NodeId, Schema};
 use std::alloc::Global;
 
-/// The same, above the limit not told apart.
+/// The same, where numbers above the limit count as one.
 fn capped(limit: u32, nodes: u32, depth: u32) -> Least
     requires range { limit ≤ 16777216 }
     requires flat { depth ≤ nodes }

@@ -1,7 +1,7 @@
 use std::alloc::AllocError;
 use thiserror::Error;
 
-/// Why a text is no name. Of several faults it says one that is there.
+/// Why a text is no name. Where there are several faults, it names one of them.
 #[derive(Clone, Copy, Debug, PartialEq, Eq, Hash, Error)]
 pub enum NameError {
     /// A part between dots is empty.

@@ -16,7 +16,7 @@ use std::hash::{Hash, Hasher};
 use std::marker::Model;
 
 /// A fullname: a namespace, and a simple name that is none of a primitive type. Names are compared by
-/// their simple parts first, so that names of one long namespace are told apart without it.
+/// their simple parts first, so that names of one long namespace differ there, without a look at it.
 #[derive(Debug, Drop)]
 pub struct FullName {
     namespace: Namespace,

@@ -32,10 +32,10 @@ bytes_of_all ps = concat (map bytes_of ps)
 abbrev pub IsPlainOf : Pieces → Value → Type 0
 IsPlainOf piece v = bytes_of piece ≡ plain v
 
--- their bytes are those of so many items
+-- their bytes are those of a number of items
 abbrev pub ArePlainOf : ℕ → List Pieces → List Value → Type 0
 ArePlainOf count ps vs = (count ≡ length vs) × (bytes_of_all ps ≡ plain_values (values_from vs))
 
--- their bytes are those of so many entries
+-- their bytes are those of a number of entries
 abbrev pub AreEntriesOf : ℕ → List Pieces → List (List ℕ × Value) → Type 0
 AreEntriesOf count ps es = (count ≡ length es) × (bytes_of_all ps ≡ plain_entries (entries_from es))

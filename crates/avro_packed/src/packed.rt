@@ -187,7 +187,7 @@ fn block(parts: Parts) -> Result<Pieces, AllocError>
     }
 }
 
-/// A length, and so many bytes.
+/// A length, and the bytes.
 fn measured(alloc: Global, content: &[u8]) -> Result<Pieces, AllocError>
     ensures { IfOk result (λ out. bytes_of out ≡ plain_bytes content.now) }
 {

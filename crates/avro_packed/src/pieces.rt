@@ -17,6 +17,6 @@ pub enum Pieces {
     Branch(u32, Box<Pieces>),
     /// Pieces one behind another.
     Whole(Vec<Pieces>),
-    /// A block of so many items, and the 0 that ends the blocks.
+    /// A block of this number of items, and the 0 that ends the blocks.
     Block(i64, Vec<Pieces>),
 }

@@ -14,7 +14,7 @@ use Rattle.avro_resolve.specs.Resolve.{Resolved, resolve_root}
 use Rattle.avro_resolve.specs.Seen.{fault_of, UnlessOutOfMemory, AnswersAfter, BuiltAfter, IfUnread, IfUnresolved, IsUnread}
 use Rattle.avro_resolve.specs.declared.error.ReadResolveError.{ReadResolveError}
 
--- An encoding of a writer's datum within limits stands at the front, in so many bytes, and resolution gives this of the
+-- An encoding of a writer's datum within limits stands at the front, in `len` bytes, and resolution gives this of the
 -- datum.
 pub record ReadsAs (writer reader : List Node) (limits : LimitValues) (bytes : List ℕ) (len : ℕ) (resolved : Resolved) : Type 0 where
   pub datum : Value

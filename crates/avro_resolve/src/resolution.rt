@@ -23,7 +23,7 @@ use std::alloc::{AllocError, Global};
 ///
 /// # Errors
 ///
-/// The first fault, with its place in the datum, or want of memory.
+/// The first fault, with its place in the datum; or memory ran out.
 pub fn resolve(
     alloc: Global,
     writer: &Schema,

@@ -29,7 +29,7 @@ fn arrays_nest_to_127_levels(rt: HostRuntime) -> Result<(), Fail> {
     Ok(())
 }
 
-/// A record of so many fields, each an int.
+/// A record of this number of fields, each an int.
 pub(crate) fn record_of_ints(alloc: Global, fields: usize) -> Result<String, AllocError> {
     let mut text = String::from_str(alloc, r#"{"type":"record","name":"R","fields":["#)?;
     for i in 0..fields {

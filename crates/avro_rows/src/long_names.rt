@@ -12,7 +12,7 @@ fn letters(alloc: Global, count: usize) -> Result<String, AllocError> {
     Ok(text)
 }
 
-/// A record of a namespace with an enum, and so many pairs of fields of that enum, one by its simple
+/// A record of a namespace with an enum, and a number of pairs of fields of that enum, one by its simple
 /// name and one by its fullname.
 fn record_of_references(alloc: Global, namespace: &str, pairs: u32) -> Result<String, AllocError> {
     let mut text = format!(in alloc;

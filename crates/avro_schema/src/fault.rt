@@ -5,7 +5,7 @@ use crate::datum::Memory;
 use std::alloc::AllocFailed;
 use thiserror::Error;
 
-/// Why nodes are no schema. Of several faults it says one that is there.
+/// Why nodes are no schema. Where there are several faults, it names one of them.
 #[derive(Clone, Copy, Debug, PartialEq, Eq, Hash, Error)]
 pub enum DraftError {
     /// An edge goes to no node, or to one that is neither later nor a record, an enum or a fixed.

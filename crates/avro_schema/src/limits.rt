@@ -42,11 +42,13 @@ impl Limits {
     ghost use Rattle.std.specs.Prelude.{◌≡◌, SomeIff};
     ghost use Rattle.avro_schema.specs.Ranges.{AreLimits};
 
-    /// The greatest depth, number of nodes and length that a limit may be.
+    /// The greatest depth that a limit may be.
     pub const MAX_DEPTH: u32 = 256;
 
+    /// The greatest number of nodes that a limit may be.
     pub const MAX_NODES: u32 = 16_777_216;
 
+    /// The greatest length, in bytes, that a limit may be.
     pub const MAX_BLOB: u32 = 16_777_216;
 
     /// Limits, or nothing where one is 0 or too large.

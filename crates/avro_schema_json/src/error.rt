@@ -37,7 +37,7 @@ pub enum SchemaError {
     /// A default that is no datum of its field.
     #[error("S9")]
     InvalidDefault,
-    /// A type that this program does not know.
+    /// A type `float`, `double` or `error`.
     #[error("S10")]
     UnsupportedType,
     /// A number that is no whole number of 64 bits.

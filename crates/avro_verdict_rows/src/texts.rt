@@ -11,7 +11,7 @@ pub(crate) fn padded_int(alloc: Global, len: usize) -> Result<String, AllocError
     Ok(text)
 }
 
-/// A record of so many fields, each an int.
+/// A record of this number of fields, each an int.
 pub(crate) fn record_of_ints(alloc: Global, fields: u32) -> Result<String, AllocError> {
     let mut text = String::from_str(alloc, r#"{"type":"record","name":"R","fields":["#)?;
     for number in 0..fields {

@@ -16,7 +16,7 @@ use std::alloc::Global;
 ///
 /// # Errors
 ///
-/// There is none at present, since nothing is kept.
+/// None: nothing grows. The type has the answer for an implementation that makes tables.
 pub fn confirm<'a>(
     _alloc: Global,
     writer: &'a Schema,
