@@ -5,4 +5,6 @@ pub mod Stopping
 pub mod Heads
 pub mod Bodies
 pub mod Standing
+pub mod Places
+pub mod Data
 mod RowsFile

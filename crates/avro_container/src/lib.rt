@@ -1,6 +1,7 @@
 //! Object container files (Avro 1.11, "Object Container Files").
 #![tactic(auto)]
 
+mod block;
 mod block_body;
 mod block_head;
 mod block_start;
@@ -8,6 +9,7 @@ mod blocks;
 mod blocks_taken;
 mod buffer;
 mod counting;
+mod datum_read;
 mod device;
 mod error;
 mod filling;
@@ -19,7 +21,8 @@ mod putting;
 mod read_input;
 mod write_output;
 
-pub use blocks::{Block, Blocks};
+pub use block::Block;
+pub use blocks::Blocks;
 pub use device::{DeviceFault, Input, Output};
 pub use error::{CopyError, CountError, LimitPlace};
 pub use header::Header;
