@@ -7,4 +7,5 @@ pub mod Bodies
 pub mod Standing
 pub mod Places
 pub mod Data
+pub mod Headers
 mod RowsFile

@@ -13,3 +13,4 @@ pub mod BlockStands
 pub mod BlockTaken
 pub mod DatumRead
 pub mod DataRead
+pub mod Parts

@@ -19,6 +19,7 @@ mod numbers;
 mod part_error;
 mod putting;
 mod read_input;
+mod sink;
 mod write_output;
 
 pub use block::Block;
@@ -28,4 +29,5 @@ pub use error::{CopyError, CountError, LimitPlace};
 pub use header::Header;
 pub use limits::FileLimits;
 pub use read_input::ReadInput;
+pub use sink::Sink;
 pub use write_output::WriteOutput;
