@@ -1,9 +1,11 @@
 //! Putting a file part by part.
 
-ghost use Rattle.std.specs.Prelude.{◌≡◌, ◌≢◌, ◌⊎◌, ◌++◌, ◌^◌, ◌<◌, pos, true, false, IfOk, OnOk, OnErr, Err};
+ghost use Rattle.std.specs.Prelude.{◌≡◌, ◌≢◌, ◌⊎◌, ◌++◌, ◌^◌, ◌<◌, pos, true, false, None, IfOk, OnOk, OnErr, Err};
+ghost use Rattle.std.specs.Result.{IfErr};
 ghost use Rattle.avro_zigzag.specs.Number.{number_bytes};
 ghost use Rattle.avro_binary.specs.Encoding.{plain, plain_bytes, plain_entries};
 ghost use Rattle.avro_container.specs.File.{metadata_value, property_entries};
+ghost use Rattle.avro_container.specs.FileSeen.{file_fault};
 ghost use Rattle.avro_container.specs.Filled.{PutsFrontOf};
 ghost use Rattle.avro_container.specs.Parts.{block_part, header_part, properties_of};
 
@@ -38,6 +40,8 @@ impl Sink {
     ) -> Result<Sink, CopyError>
         ensures put { OnOk result (O.keeps output.old (header_part (properties_of metadata.now) sync) output.new) }
         ensures front { OnErr result (PutsFrontOf O.keeps output.old output.new (header_part (properties_of metadata.now) sync)) }
+        ensures told { IfErr result (λ e. file_fault e ≡ None) }
+        ensures no_input { result ≢ Err CopyError.InputFailed }
         ensures works { OnOk result (O.failures output.new ≡ O.failures output.old) }
         ensures fails { result ≡ Err CopyError.OutputFailed → (O.failures output.new ≢ O.failures output.old) ⊎ O.stuck output.new }
         ensures kept { IfOk result (λ sink. sink.sync ≡ sync) }
@@ -74,6 +78,8 @@ impl Sink {
         ensures put { OnOk result (O.keeps output.old (block_part self.old.sync count body.now) output.new) }
         ensures front { self.old.failed ≡ false → OnErr result (PutsFrontOf O.keeps output.old output.new (block_part self.old.sync count body.now)) }
         ensures stays { OnErr result (self.new.failed ≡ true) }
+        ensures told { IfErr result (λ e. file_fault e ≡ None) }
+        ensures no_input { result ≢ Err CopyError.InputFailed }
         ensures works { OnOk result (O.failures output.new ≡ O.failures output.old) }
         ensures fails { result ≡ Err CopyError.OutputFailed → (O.failures output.new ≢ O.failures output.old) ⊎ O.stuck output.new }
         ensures only_before { result ≡ Err CopyError.FailedBefore → self.old.failed ≡ true }
@@ -100,6 +106,8 @@ impl Sink {
     ) -> Result<(), CopyError>
         ensures put { OnOk result (O.keeps output.old (block_part self.old.sync count body.now) output.new) }
         ensures front { OnErr result (PutsFrontOf O.keeps output.old output.new (block_part self.old.sync count body.now)) }
+        ensures told { IfErr result (λ e. file_fault e ≡ None) }
+        ensures no_input { result ≢ Err CopyError.InputFailed }
         ensures works { OnOk result (O.failures output.new ≡ O.failures output.old) }
         ensures fails { result ≡ Err CopyError.OutputFailed → (O.failures output.new ≢ O.failures output.old) ⊎ O.stuck output.new }
         ensures first { result ≢ Err CopyError.FailedBefore }
