@@ -5,4 +5,7 @@ pub mod Stopping
 pub mod Heads
 pub mod Bodies
 pub mod Standing
+pub mod Places
+pub mod Data
+pub mod Headers
 mod RowsFile

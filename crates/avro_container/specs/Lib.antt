@@ -11,3 +11,6 @@ pub mod Held
 pub mod FileSeen
 pub mod BlockStands
 pub mod BlockTaken
+pub mod DatumRead
+pub mod DataRead
+pub mod Parts

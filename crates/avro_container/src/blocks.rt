@@ -4,6 +4,7 @@ ghost use Rattle.avro_container.specs.BlockTaken.{TakesBlock, TakesFault};
 ghost use Rattle.avro_container.specs.FileFault.{FileFault};
 ghost use Rattle.avro_container.specs.FileSeen.{file_fault};
 
+use crate::block::Block;
 use crate::blocks_taken::take_block;
 use crate::buffer::Buffer;
 use crate::device::Input;
@@ -23,16 +24,6 @@ pub struct Blocks<'a> {
     number: u64,
     ended: bool,
     failed: bool,
-}
-
-/// A block of a file, whose data are not read yet.
-#[derive(Drop)]
-pub struct Block<'a> {
-    header: &'a Header,
-    limits: FileLimits,
-    number: u64,
-    count: u32,
-    body: Vec<u8>,
 }
 
 impl<'a> Blocks<'a> {

@@ -1,6 +1,7 @@
 //! Object container files (Avro 1.11, "Object Container Files").
 #![tactic(auto)]
 
+mod block;
 mod block_body;
 mod block_head;
 mod block_start;
@@ -8,6 +9,7 @@ mod blocks;
 mod blocks_taken;
 mod buffer;
 mod counting;
+mod datum_read;
 mod device;
 mod error;
 mod filling;
@@ -17,12 +19,15 @@ mod numbers;
 mod part_error;
 mod putting;
 mod read_input;
+mod sink;
 mod write_output;
 
-pub use blocks::{Block, Blocks};
+pub use block::Block;
+pub use blocks::Blocks;
 pub use device::{DeviceFault, Input, Output};
 pub use error::{CopyError, CountError, LimitPlace};
 pub use header::Header;
 pub use limits::FileLimits;
 pub use read_input::ReadInput;
+pub use sink::Sink;
 pub use write_output::WriteOutput;

@@ -1,0 +1,140 @@
+-- The place of a fault is among the bytes that have it.
+use Rattle.std.proofs.Common.{◌≡◌, ◌⊎◌, inl, inr, ℕ, zero, suc, ◌+◌, ◌≤◌, List, [], ◌∷◌, ◌++◌, Bool, length, ap, ◌∙◌, refl, arith, length-append}
+use Rattle.avro_zigzag.specs.declared.VarError.{VarError}
+use Rattle.avro_zigzag.specs.declared.VarError.TheVariants.{EndOfInput, NotShortest, OutOfRange}
+use Rattle.avro_schema.specs.Node.{Node, node_at}
+use Rattle.avro_schema.specs.Fits.{LimitValues}
+use Rattle.avro_binary.specs.Fault.{ReadFault, end_of_input, invalid_number, invalid_boolean, invalid_text, unknown_index, invalid_length, wrong_block_size, duplicate_key, limit_exceeded, behind}
+use Rattle.avro_binary.specs.Breaks.{number_fault, IntBreaks, LongBreaks, BooleanBreaks, FixedBreaks, ContentBreaks, IndexBreaks, KeyBreaks, EntryBreaks, HeadBreaks, BlocksBreak, BreaksAfter, BranchBreaks, ChildBreaks, Left, head_bytes, NodeBreaks, BreaksWithin, Breaks, ItemsAreWhole, EntriesAreWhole, all_left}
+use Rattle.avro_container.specs.DatumRead.{place_in}
+
+-- the faults of a part are among its bytes
+abbrev AreInside : (List ℕ → ReadFault → Type 0) → Type 0
+AreInside breaks = (bytes : List ℕ) (f : ReadFault) → breaks bytes f → place_in f ≤ length bytes
+
+first : (bytes : List ℕ) (f : ReadFault) → place_in f ≡ 0 → place_in f ≤ length bytes
+first bytes f p = omega (arith, p)
+
+number_first : (e : VarError) → place_in (number_fault e) ≡ 0
+number_first EndOfInput = refl
+number_first NotShortest = refl
+number_first OutOfRange = refl
+
+place-behind : (n m : ℕ) (f : ReadFault) → place_in f ≤ m → place_in (behind n f) ≤ n + m
+place-behind n m (end_of_input place) h = omega (arith, h)
+place-behind n m (invalid_number place) h = omega (arith, h)
+place-behind n m (invalid_boolean place) h = omega (arith, h)
+place-behind n m (invalid_text place) h = omega (arith, h)
+place-behind n m (unknown_index place) h = omega (arith, h)
+place-behind n m (invalid_length place) h = omega (arith, h)
+place-behind n m (wrong_block_size place) h = omega (arith, h)
+place-behind n m (duplicate_key place) h = omega (arith, h)
+place-behind n m limit_exceeded h = omega arith
+
+front_inside : (front rest bytes : List ℕ) → bytes ≡ front ++ rest → length front ≤ length bytes
+front_inside front rest bytes e = omega (arith, ap length e, length-append front rest)
+
+behind_inside : (front rest bytes : List ℕ) (f g : ReadFault) → bytes ≡ front ++ rest → f ≡ behind (length front) g → place_in g ≤ length rest
+    → place_in f ≤ length bytes
+behind_inside front rest bytes f g e moved h =
+    omega (arith, ap length e, length-append front rest, ap place_in moved, place-behind (length front) (length rest) g h)
+
+after_inside : (breaks : List ℕ → ReadFault → Type 0) (front : List ℕ) → AreInside breaks → AreInside (BreaksAfter breaks front)
+after_inside breaks front inside bytes f b =
+    behind_inside front b.rest bytes f b.fault b.split b.moved (inside b.rest b.fault b.breaks)
+
+int_inside : AreInside IntBreaks
+int_inside bytes f b = first bytes f (ap place_in b.2 ∙ number_first b.0)
+
+long_inside : AreInside LongBreaks
+long_inside bytes f b = first bytes f (ap place_in b.2 ∙ number_first b.0)
+
+boolean_inside : AreInside BooleanBreaks
+boolean_inside [] f b = first [] f (ap place_in b)
+boolean_inside (x ∷ rest) f b = first (x ∷ rest) f (ap place_in b.1)
+
+fixed_inside : (count blob : ℕ) → AreInside (FixedBreaks count blob)
+fixed_inside count blob bytes f (inl b) = first bytes f (ap place_in b.1)
+fixed_inside count blob bytes f (inr b) = first bytes f (ap place_in b.2)
+
+content_inside : (is_content : List ℕ → Bool) (blob : ℕ) → AreInside (ContentBreaks is_content blob)
+content_inside is_content blob bytes f (ContentBreaks.length_breaks b) = long_inside bytes f b
+content_inside is_content blob bytes _ (ContentBreaks.negative n number rest s) = omega arith
+content_inside is_content blob bytes _ (ContentBreaks.too_long n number rest s over) = omega arith
+content_inside is_content blob bytes _ (ContentBreaks.cut n number rest s few short) = front_inside number rest bytes s.split
+content_inside is_content blob bytes _ (ContentBreaks.invalid n number rest s few there other) = front_inside number rest bytes s.split
+
+index_inside : (choices : ℕ) → AreInside (IndexBreaks choices)
+index_inside choices bytes f (IndexBreaks.number_breaks b) = int_inside bytes f b
+index_inside choices bytes _ (IndexBreaks.unknown v number rest spelled in_range split other) = omega arith
+
+key_inside : (keys : List (List ℕ)) (blob : ℕ) → AreInside (KeyBreaks keys blob)
+key_inside keys blob bytes f (KeyBreaks.string_breaks b) = content_inside _ blob bytes f b
+key_inside keys blob bytes _ (KeyBreaks.twice key front rest spelled text short split stands) = omega arith
+
+head_inside : (nodes : ℕ) → AreInside (HeadBreaks nodes)
+head_inside nodes bytes f (HeadBreaks.count_fails b) = long_inside bytes f b
+head_inside nodes bytes _ (HeadBreaks.count_least number rest s) = omega arith
+head_inside nodes bytes _ (HeadBreaks.count_over v number rest s other over) = omega arith
+head_inside nodes bytes f (HeadBreaks.size_fails n number spelled small few b) = after_inside LongBreaks number long_inside bytes f b
+head_inside nodes bytes _ (HeadBreaks.size_negative n m number size behind_count rest spelled small few split s) = front_inside number behind_count bytes split
+
+blocks_inside : (are_whole : Left → ℕ → List ℕ → Left → Type 0) (item_breaks : Left → List ℕ → ReadFault → Type 0) → ((left : Left) → AreInside (item_breaks left))
+    → (left : Left) → AreInside (BlocksBreak are_whole item_breaks left)
+blocks_inside are_whole item_breaks inside left bytes f (BlocksBreak.head_breaks b) = head_inside left.nodes bytes f b
+blocks_inside are_whole item_breaks inside left bytes f (BlocksBreak.item_fails head done front then_left is_head few whole b) =
+    after_inside (item_breaks then_left) _ (inside then_left) bytes f b
+blocks_inside are_whole item_breaks inside left bytes _ (BlocksBreak.size_differs count size count_bytes size_bytes front rest then_left is_head whole split other) =
+    omega (
+      arith,
+      ap length split,
+      length-append (count_bytes ++ size_bytes ++ front) rest,
+      length-append (count_bytes ++ size_bytes) front,
+      length-append count_bytes size_bytes,
+    )
+blocks_inside are_whole item_breaks inside left bytes f (BlocksBreak.later_breaks head front rest then_left fault is_head whole sized split b moved) =
+    behind_inside (head_bytes head ++ front) rest bytes f fault split moved (blocks_inside are_whole item_breaks inside then_left rest fault b)
+
+-- the faults of the parts of a node
+abbrev ChildrenInside : ChildBreaks → Type 0
+ChildrenInside child = (left : ℕ) (n : Node) → AreInside (child left n)
+
+entry_inside : (limits : LimitValues) (child : ChildBreaks) (n : Node) → ChildrenInside child → (left : Left) → AreInside (EntryBreaks limits child n left)
+entry_inside limits child n inside left bytes f (EntryBreaks.key_breaks b) = key_inside left.keys limits.blob bytes f b
+entry_inside limits child n inside left bytes f (EntryBreaks.value_breaks key front spelled text short new b) =
+    after_inside (child left.nodes n) front (inside left.nodes n) bytes f b
+
+union_inside : (nodes : List Node) (left : LimitValues) (child : ChildBreaks) (places bytes : List ℕ) (f : ReadFault) → ChildrenInside child
+    → IndexBreaks (length places) bytes f ⊎ BranchBreaks nodes left child places bytes f → place_in f ≤ length bytes
+union_inside nodes left child places bytes f inside (inl b) = index_inside (length places) bytes f b
+union_inside nodes left child places bytes f inside (inr b) =
+    after_inside (child left.nodes (node_at nodes b.branch)) b.number (inside left.nodes (node_at nodes b.branch)) bytes f b.breaks
+
+node_inside : (nodes : List Node) (left : LimitValues) (child : ChildBreaks) → ChildrenInside child → (n : Node) → AreInside (NodeBreaks nodes left child n)
+node_inside nodes left child inside Node.null bytes f b = absurd b
+node_inside nodes left child inside Node.boolean bytes f b = boolean_inside bytes f b
+node_inside nodes left child inside Node.int bytes f b = int_inside bytes f b
+node_inside nodes left child inside Node.long bytes f b = long_inside bytes f b
+node_inside nodes left child inside Node.bytes bytes f b = content_inside _ left.blob bytes f b
+node_inside nodes left child inside Node.string bytes f b = content_inside _ left.blob bytes f b
+node_inside nodes left child inside (Node.array place) bytes f b =
+    blocks_inside (ItemsAreWhole nodes left (node_at nodes place)) (λ state. child state.nodes (node_at nodes place))
+    (λ state. inside state.nodes (node_at nodes place)) (all_left left) bytes f b
+node_inside nodes left child inside (Node.map_of place) bytes f b =
+    blocks_inside (EntriesAreWhole nodes left (node_at nodes place)) (EntryBreaks left child (node_at nodes place))
+    (entry_inside left child (node_at nodes place) inside) (all_left left) bytes f b
+node_inside nodes left child inside (Node.union places) bytes f b = union_inside nodes left child places bytes f inside b
+node_inside nodes left child inside (Node.record_of name aliases fields) bytes f b =
+    after_inside _ _ (inside _ _) bytes f b.breaks
+node_inside nodes left child inside (Node.enum name aliases symbols default) bytes f b = index_inside (length symbols) bytes f b
+node_inside nodes left child inside (Node.fixed name aliases count) bytes f b = fixed_inside count left.blob bytes f b
+
+within_inside : (nodes : List Node) (depth count blob : ℕ) (n : Node) → AreInside (BreaksWithin nodes depth count blob n)
+within_inside nodes zero count blob n bytes f b = first bytes f (ap place_in b)
+within_inside nodes (suc depth) zero blob n bytes f b = first bytes f (ap place_in b)
+within_inside nodes (suc depth) (suc count) blob n bytes f b =
+    node_inside nodes (record { depth = depth; nodes = count; blob = blob }) (λ left m rest g. BreaksWithin nodes depth left blob m rest g)
+    (λ left m. within_inside nodes depth left blob m) n bytes f b
+
+pub breaks_inside : (nodes : List Node) (limits : LimitValues) (n : Node) (bytes : List ℕ) (f : ReadFault) → Breaks nodes limits n bytes f → place_in f ≤ length bytes
+breaks_inside nodes limits n bytes f b = within_inside nodes limits.depth limits.nodes limits.blob n bytes f b

@@ -1,0 +1,89 @@
+//! A block, and reading its data.
+
+ghost use Rattle.std.specs.Prelude.{◌≡◌, None, Some, IfOk, option_map};
+ghost use Rattle.std.specs.Option.{option_copied};
+ghost use Rattle.std.specs.Result.{IfErr};
+ghost use Rattle.avro_schema.specs.SeenSchema.{schema_nodes};
+ghost use Rattle.avro_container.specs.DataRead.{IsDataFault, StandForData, reading};
+ghost use Rattle.avro_container.specs.FileFault.{FileFault};
+ghost use Rattle.avro_container.specs.FileSeen.{file_fault};
+
+use crate::datum_read::{datum_error, read_datum};
+use crate::error::CopyError;
+use crate::header::Header;
+use crate::limits::FileLimits;
+use avro_binary::Build;
+use avro_schema_json::ReaderText;
+
+/// A block of a file, whose data are not read yet.
+#[derive(Drop)]
+pub struct Block<'a> {
+    pub(crate) header: &'a Header,
+    pub(crate) limits: FileLimits,
+    pub(crate) number: u64,
+    pub(crate) count: u32,
+    pub(crate) body: Vec<u8>,
+}
+
+impl<'a> Block<'a> {
+    /// How many data it says that it has.
+    pub fn count(&self) -> u32
+        ensures { result ≡ self.now.count }
+    {
+        self.count
+    }
+
+    /// The bytes of its data.
+    pub fn body(&self) -> &[u8]
+        ensures { result.now ≡ self.now.body.items }
+    {
+        &self.body
+    }
+
+    /// Reads the data one by one, and answers what a builder builds of each: of what it is for the reader where there is
+    /// one, and else of the datum itself.
+    ///
+    /// # Errors
+    ///
+    /// The first of `LimitExceeded`, `InvalidDatum` and `UnresolvedDatum`; `BytesLeft` behind the last datum; `OutOfMemory`.
+    pub fn read<B: Build>(
+        &self,
+        reader: Option<&ReaderText>,
+        builder: &mut B,
+    ) -> Result<Vec<B::Out>, CopyError>
+        ensures found { IfOk result (λ outs. StandForData B.stands_for
+            (reading self.now.limits (schema_nodes self.now.header.now.schema) self.now.header.now.sync (option_map (λ r. schema_nodes r.1) (option_copied reader.entry)))
+            self.now.count self.now.body.items outs.items) }
+        ensures refused { IfErr result (λ e. (f : FileFault) → file_fault e ≡ Some f → IsDataFault
+            (reading self.now.limits (schema_nodes self.now.header.now.schema) self.now.header.now.sync (option_map (λ r. schema_nodes r.1) (option_copied reader.entry)))
+            self.now.number self.now.count self.now.body.items f) }
+        ensures memory { IfErr result (λ e. file_fault e ≡ None → e ≡ CopyError.OutOfMemory) }
+    {
+        let alloc = *self.body.allocator();
+        let schema = self.header.schema();
+        let limits = self.limits.datum();
+        let count = self.count();
+        let end = self.body.len();
+        let mut answers = Vec::new(alloc);
+        let mut start = 0;
+        let mut datum = 0;
+        while datum < count {
+            let (_, rest) = self.body.split_at(start);
+            match read_datum(alloc, schema, reader, rest, &limits, builder) {
+                Ok((answer, len)) => {
+                    match answers.push(answer) {
+                        Ok(()) => {}
+                        Err(_) => return Err(CopyError::OutOfMemory),
+                    }
+                    start += len;
+                    datum += 1;
+                }
+                Err(error) => return Err(datum_error(self.number, datum, start, error)),
+            }
+        }
+        if start < end {
+            return Err(CopyError::BytesLeft(self.number));
+        }
+        Ok(answers)
+    }
+}

@@ -1,0 +1,95 @@
+//! Reading one datum of a block.
+
+ghost use Rattle.std.specs.Prelude.{◌≡◌, option_map, None};
+ghost use Rattle.std.specs.Option.{option_copied};
+ghost use Rattle.avro_schema.specs.SeenSchema.{schema_nodes};
+ghost use Rattle.avro_binary.specs.Fault.{behind};
+ghost use Rattle.avro_binary.specs.Seen.{read_fault};
+ghost use Rattle.avro_container.specs.DataRead.{resolution};
+ghost use Rattle.avro_container.specs.DatumRead.{FitsBehind, PlaceFits, ReadsDatum, error_fault};
+ghost use Rattle.avro_container.specs.FileSeen.{file_fault};
+
+use crate::error::{CopyError, LimitPlace};
+use avro_binary::{Build, ReadError, read_own};
+use avro_resolve::{ReadResolveError, read_resolved};
+use avro_schema::{Limits, Schema};
+use avro_schema_json::ReaderText;
+use std::alloc::Global;
+
+/// Reads a datum from the front of bytes, into the reader's schema where there is one.
+pub(crate) fn read_datum<B: Build>(
+    alloc: Global,
+    schema: &Schema,
+    reader: Option<&ReaderText>,
+    bytes: &[u8],
+    limits: &Limits,
+    builder: &mut B,
+) -> Result<(B::Out, usize), ReadResolveError>
+    ensures { ReadsDatum B.stands_for (schema_nodes schema.now) limits.now (resolution (option_map (λ r. schema_nodes r.1) (option_copied reader.entry)) (schema_nodes schema.now)) bytes.now result }
+{
+    match reader {
+        Some(reader) => read_resolved(alloc, schema, reader.schema(), bytes, limits, builder),
+        None => match read_own(alloc, schema, bytes, limits, builder) {
+            Ok(answer) => Ok(answer),
+            Err(error) => Err(ReadResolveError::Read(error)),
+        },
+    }
+}
+
+/// The same error of bytes that stand behind so many others.
+fn moved(error: ReadError, start: usize) -> ReadError
+    requires fits { FitsBehind start error }
+    ensures moved { read_fault result ≡ option_map (behind start) (read_fault error) }
+{
+    match error {
+        ReadError::EndOfInput { place } => ReadError::EndOfInput {
+            place: start + place,
+        },
+        ReadError::InvalidNumber { place } => ReadError::InvalidNumber {
+            place: start + place,
+        },
+        ReadError::InvalidBoolean { place } => ReadError::InvalidBoolean {
+            place: start + place,
+        },
+        ReadError::InvalidText { place } => ReadError::InvalidText {
+            place: start + place,
+        },
+        ReadError::UnknownIndex { place } => ReadError::UnknownIndex {
+            place: start + place,
+        },
+        ReadError::InvalidLength { place } => ReadError::InvalidLength {
+            place: start + place,
+        },
+        ReadError::WrongBlockSize { place } => ReadError::WrongBlockSize {
+            place: start + place,
+        },
+        ReadError::DuplicateKey { place } => ReadError::DuplicateKey {
+            place: start + place,
+        },
+        ReadError::LimitExceeded => ReadError::LimitExceeded,
+        ReadError::OutOfMemory => ReadError::OutOfMemory,
+    }
+}
+
+/// The error of a file where a datum is not read, which begins behind so many bytes of its block's data.
+pub(crate) fn datum_error(
+    number: u64,
+    datum: u32,
+    start: usize,
+    error: ReadResolveError,
+) -> CopyError
+    requires fits { PlaceFits start error }
+    ensures fault { file_fault result ≡ error_fault number datum start error }
+    ensures memory { file_fault result ≡ None → result ≡ CopyError.OutOfMemory }
+{
+    match error {
+        ReadResolveError::Read(ReadError::OutOfMemory) => CopyError::OutOfMemory,
+        ReadResolveError::Read(ReadError::LimitExceeded) => {
+            CopyError::LimitExceeded(LimitPlace::Datum(number, datum))
+        }
+        ReadResolveError::Read(error) => {
+            CopyError::InvalidDatum(number, datum, moved(error, start))
+        }
+        ReadResolveError::Resolve(fault) => CopyError::UnresolvedDatum(number, datum, fault),
+    }
+}
