@@ -170,16 +170,16 @@ last_is (s ∷ ss) m u below = cond-false (s.0 == m) s.1 (sourced_at (ss ++ (m, 
     lower : (a b : ℕ) → a ≡ b → a < b → ⊥
     lower a b e h = omega (arith, e, h)
 
-get_before : {A : Type 0} (xs : List A) (x : A) (k : ℕ) → k < length xs → slice_get (xs ++ x ∷ []) k ≡ slice_get xs k
+pub get_before : {A : Type 0} (xs : List A) (x : A) (k : ℕ) → k < length xs → slice_get (xs ++ x ∷ []) k ≡ slice_get xs k
 get_before [] x k low = absurd (omega (arith, low))
 get_before (y ∷ xs) x zero low = refl
 get_before (y ∷ xs) x (suc k) low = get_before xs x k (omega (arith, low))
 
-get_last : {A : Type 0} (xs : List A) (x : A) → slice_get (xs ++ x ∷ []) (length xs) ≡ Some x
+pub get_last : {A : Type 0} (xs : List A) (x : A) → slice_get (xs ++ x ∷ []) (length xs) ≡ Some x
 get_last [] x = refl
 get_last (y ∷ xs) x = get_last xs x
 
-get_past : {A : Type 0} (xs : List A) (x : A) (k : ℕ) → length xs < k → slice_get (xs ++ x ∷ []) k ≡ None
+pub get_past : {A : Type 0} (xs : List A) (x : A) (k : ℕ) → length xs < k → slice_get (xs ++ x ∷ []) k ≡ None
 get_past [] x zero high = absurd (omega (arith, high))
 get_past [] x (suc k) high = refl
 get_past (y ∷ xs) x zero high = absurd (omega (arith, high))

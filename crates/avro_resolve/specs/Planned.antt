@@ -9,7 +9,7 @@ use Rattle.avro_resolve.specs.declared.prepared.Prepared.{Prepared}
 
 -- each is the source of the reader's field at its place
 abbrev pub AreSources : List FieldNode → List FieldNode → List (Option ℕ) → Type 0
-AreSources ws rs sources = (k : ℕ) (s : Option ℕ) (f : FieldNode) → slice_get sources k ≡ Some s → slice_get rs k ≡ Some f → s ≡ source_of ws f
+AreSources ws rs sources = (k : ℕ) (s : Option ℕ) → slice_get sources k ≡ Some s → (f : FieldNode) → slice_get rs k ≡ Some f → s ≡ source_of ws f
 
 -- each is what the writer's field at its place is for
 abbrev pub AreFor : List FieldNode → List FieldNode → List At → Type 0

@@ -9,7 +9,7 @@ ghost use Rattle.avro_resolve.specs.Planned.{AreSources};
 ghost use Rattle.avro_resolve.specs.Source.{source_of};
 ghost use Rattle.avro_resolve.specs.Ends.{SlotsAre, SlotsFor, IsSeen, slot_out};
 
-use crate::sourcing::source_among;
+use crate::sourcing::source_kept;
 use avro_binary::{Build, Tree};
 use avro_schema::{Datum, Field};
 use std::alloc::{AllocError, Global};
@@ -54,23 +54,6 @@ pub fn fill<B: Build>(
         values.push(value)?;
     }
     Ok(values)
-}
-
-/// The source of the reader's field at a place, as it is kept or else by name.
-fn source_kept(
-    writes: &[Field],
-    sources: &[Option<usize>],
-    place: usize,
-    f: &Field,
-) -> Option<usize>
-    ensures { (rs : List FieldNode) → AreSources (seen_fields writes.now) rs sources.now → slice_get rs place ≡ Some (field_of f.now)
-        → result ≡ source_of (seen_fields writes.now) (field_of f.now) }
-{
-    if place < sources.len() {
-        sources[place]
-    } else {
-        source_among(writes, f)
-    }
 }
 
 /// What is built of the value of a reader's field, by its source.

@@ -3,9 +3,10 @@ use crate::guided::{Aim, At, Part};
 use crate::keeping::{aim_kept, field_kept, missing_kept, sources_kept, symbol_kept};
 use crate::parts::{branch_of, items_of, values_of};
 use crate::prepared::Prepared;
+use crate::preparing::prepare_all;
 use crate::read::read_planned;
 use avro_binary::Build;
-use avro_schema::{Limits, NodeId, Schema};
+use avro_schema::{Limits, Memory, NodeId, Schema};
 use std::alloc::Global;
 use std::marker::Model;
 
@@ -16,6 +17,7 @@ pub struct Plan<'a> {
     writer: &'a Schema,
     reader: &'a Schema,
     pairs: Vec<Prepared>,
+    root: u32,
 }
 
 impl<'a> Model for Plan<'a> {
@@ -35,7 +37,7 @@ impl<'a> Model for Plan<'a> {
 }
 
 impl<'a> Plan<'a> {
-    ghost use Rattle.std.specs.Prelude.{◌≡◌};
+    ghost use Rattle.std.specs.Prelude.{◌≡◌, IfOk};
     ghost use Rattle.avro_schema.specs.Node.{node_at};
     ghost use Rattle.avro_schema.specs.SeenSchema.{schema_nodes};
     ghost use Rattle.avro_resolve.specs.Pairs.{IsAim, IsSymbol, field_for, item_place, value_place, branch_place};
@@ -43,6 +45,31 @@ impl<'a> Plan<'a> {
     ghost use Rattle.avro_resolve.specs.Reading.{BuildsResolved};
     ghost use Rattle.avro_resolve.specs.Resolve.{enum_as, fields_at, symbol_at};
     ghost use Rattle.avro_resolve.specs.Source.{missing_field};
+
+    /// The plan that keeps these pairs of a writer's node and a reader's, in any order. A pair that is not
+    /// one of theirs is resolved all the same, by names.
+    ///
+    /// # Errors
+    ///
+    /// Memory ran out.
+    pub fn new(
+        alloc: Global,
+        writer: &'a Schema,
+        reader: &'a Schema,
+        pairs: &[(NodeId, NodeId)],
+    ) -> Result<Plan<'a>, Memory>
+        ensures { IfOk result (λ plan. plan ≡ (writer.now, reader.now)) }
+    {
+        match prepare_all(alloc, writer, reader, pairs) {
+            Ok((kept, root)) => Ok(Plan {
+                writer,
+                reader,
+                pairs: kept,
+                root,
+            }),
+            Err(_) => Err(Memory),
+        }
+    }
 
     /// The plan that keeps no pair.
     pub(crate) fn by_name(alloc: Global, writer: &'a Schema, reader: &'a Schema) -> Plan<'a>
@@ -52,6 +79,7 @@ impl<'a> Plan<'a> {
             writer,
             reader,
             pairs: Vec::new(alloc),
+            root: 0,
         }
     }
 
@@ -86,6 +114,11 @@ impl<'a> Plan<'a> {
         ensures { result.now ≡ self.now.1 }
     {
         self.reader
+    }
+
+    /// Where the pair of the roots may be kept.
+    pub(crate) fn root(&self) -> u32 {
+        self.root
     }
 
     /// Where the pair of a part may be kept.

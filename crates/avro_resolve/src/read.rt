@@ -66,7 +66,7 @@ pub(crate) fn read_planned<B: Build>(
     let w = writer.root();
     let part = Part {
         at: At::Pair(w, plan.reader().root()),
-        place: 0,
+        place: plan.root(),
         branch: None,
     };
     let mut maker = Resolving::new(plan, builder);
