@@ -20,3 +20,4 @@ pub mod ArrayItems
 pub mod MapEntries
 pub mod RecordSlots
 pub mod OnePass
+pub mod Planning

@@ -11,7 +11,7 @@ use Rattle.avro_schema.specs.Seen.{values_from}
 use Rattle.avro_schema.specs.declared.schema.NodeId.{NodeId}
 use Rattle.avro_resolve.specs.Ends.{turned, before, AllBelow, SlotsAre}
 use Rattle.avro_resolve.specs.Fault.{ResolutionFault, fault_in}
-use Rattle.avro_resolve.specs.Guided.{MadeAs, StandsAs, IsSmall, FieldsGood, FieldsStandAs}
+use Rattle.avro_resolve.specs.Guided.{MadeAs, StandsAs, IsSmall, Leads, FieldsGood, FieldsStandAs}
 use Rattle.avro_resolve.specs.Pairs.{wrapped, part_to, field_for}
 use Rattle.avro_resolve.specs.Resolve.{Resolved, Sourced, resolve, resolve_sources, with_sourced, both, inside, result_map, field_values, fields_at, record_or_missing}
 use Rattle.avro_resolve.specs.Source.{missing_field, reader_field}
@@ -21,7 +21,7 @@ use Rattle.avro_resolve.specs.declared.guided.At.TheVariants.{Ignored, Pair}
 use Rattle.avro_resolve.specs.declared.guided.Made.{Made}
 use Rattle.avro_resolve.specs.declared.guided.Slots.{Slots}
 use Rattle.avro_resolve.proofs.ArrayItems.{size_front, size_item}
-use Rattle.avro_resolve.proofs.Guiding.{as_fault, good_made, smaller, wrapped_fault, one_longer, so_far_more, so_far_fails, so_far_whole}
+use Rattle.avro_resolve.proofs.Guiding.{as_fault, good_made, smaller, wrapped_fault, one_longer, so_far_none, so_far_more, so_far_fails, so_far_whole}
 use Rattle.avro_resolve.proofs.Slots.{append_none, below_more, below_last, slots_none, slots_some}
 
 -- ---- Steps over the writer's fields
@@ -53,6 +53,22 @@ module _ (writer reader : List Node) (ws rs : List FieldNode) (k : ℕ) (v : Val
 
   field_none : (found : Sourced) → reader_field ws rs k ≡ None → result_map (before found) (resolve_sources writer reader ws rs k (values_from (v ∷ more))) ≡ result_map (before found) sources_after
   field_none found is = ap (λ (o : Option FieldNode). result_map (before found) (with_sourced o k value_for sources_after)) is
+
+-- no fields yet, where a pair leads to a record of which no field is missing
+pub no_slots : {O : Type 0} (S : O → Value → Type 0) (writer reader nodes : List Node) (fs : List FieldNode) (at : At) (w r : NodeId) (slots : Vec (Option O)) (branch : Option ℕ) (q : NodeId)
+    → at ≡ Pair w r → slots.items ≡ [] → Leads writer reader (node_at writer w.0) (node_at reader r.0) branch q.0
+    → missing_field (fields_at (node_at writer w.0)) (fields_at (node_at reader q.0)) ≡ None → FieldsStandAs S writer reader nodes fs at (Slots.Good slots branch w q) []
+no_slots {O = O} S writer reader nodes fs at w r slots branch q pair none leads complete =
+    subst (λ (x : At). FieldsStandAs S writer reader nodes fs x (Slots.Good slots branch w q) []) (sym pair) (λ are same small. record {
+      leads = leads;
+      of_writer = refl;
+      complete = complete;
+      counted = ap length none;
+      found = [];
+      below = tt;
+      so_far = so_far_none (λ (k : ℕ) (us : List Value). resolve_sources writer reader (fields_at (node_at writer w.0)) (fields_at (node_at reader q.0)) k (values_from us)) before [] (λ a. refl);
+      stands = subst (λ (xs : List (Option O)). SlotsAre S [] xs) (sym none) (λ k. refl);
+    })
 
 -- ---- What a good run of fields leads to
 

@@ -75,6 +75,11 @@ module _ {O : Type 0} (S : O → Value → Type 0) (ws : List FieldNode) (found 
 pub seen_next : (fs : List Field) (i : ℕ) (d : Field) → i < length fs → seen_fields (drop i fs) ≡ field_of (slice_index_or fs i d) ∷ seen_fields (drop (i + 1) fs)
 seen_next fs i d low = ap seen_fields (next_in fs i d low)
 
+pub seen_at : (fs : List Field) (i : ℕ) (f : Field) → i < length fs → f ≡ slice_index_or fs i f → slice_get (seen_fields fs) i ≡ Some (field_of f)
+seen_at [] i f low is = absurd (omega (arith, low))
+seen_at (g ∷ fs) zero f low is = ap (λ (h : Field). Some (field_of h)) (sym is)
+seen_at (g ∷ fs) (suc i) f low is = seen_at fs i f (omega (arith, low)) is
+
 pub all_slots : {O : Type 0} (S : O → Value → Type 0) (ws rs : List FieldNode) (found : Sourced) (slots : List (Option O)) → SlotsAre S found slots → SlotsFor S ws rs found slots
 all_slots S ws rs found slots h = λ g is k src. h k
 
@@ -165,16 +170,16 @@ last_is (s ∷ ss) m u below = cond-false (s.0 == m) s.1 (sourced_at (ss ++ (m, 
     lower : (a b : ℕ) → a ≡ b → a < b → ⊥
     lower a b e h = omega (arith, e, h)
 
-get_before : {A : Type 0} (xs : List A) (x : A) (k : ℕ) → k < length xs → slice_get (xs ++ x ∷ []) k ≡ slice_get xs k
+pub get_before : {A : Type 0} (xs : List A) (x : A) (k : ℕ) → k < length xs → slice_get (xs ++ x ∷ []) k ≡ slice_get xs k
 get_before [] x k low = absurd (omega (arith, low))
 get_before (y ∷ xs) x zero low = refl
 get_before (y ∷ xs) x (suc k) low = get_before xs x k (omega (arith, low))
 
-get_last : {A : Type 0} (xs : List A) (x : A) → slice_get (xs ++ x ∷ []) (length xs) ≡ Some x
+pub get_last : {A : Type 0} (xs : List A) (x : A) → slice_get (xs ++ x ∷ []) (length xs) ≡ Some x
 get_last [] x = refl
 get_last (y ∷ xs) x = get_last xs x
 
-get_past : {A : Type 0} (xs : List A) (x : A) (k : ℕ) → length xs < k → slice_get (xs ++ x ∷ []) k ≡ None
+pub get_past : {A : Type 0} (xs : List A) (x : A) (k : ℕ) → length xs < k → slice_get (xs ++ x ∷ []) k ≡ None
 get_past [] x zero high = absurd (omega (arith, high))
 get_past [] x (suc k) high = refl
 get_past (y ∷ xs) x zero high = absurd (omega (arith, high))

@@ -1,5 +1,5 @@
 -- What reading with resolution makes of a writer's datum, part by part.
-use Rattle.std.specs.Prelude.{◌≡◌, ◌<◌, ◌^◌, ℕ, ◌++◌, List, Option, None, length, Result, Ok, Err}
+use Rattle.std.specs.Prelude.{◌≡◌, ◌<◌, ◌^◌, ℕ, ◌++◌, List, Option, Some, None, length, Result, Ok, Err}
 use Rattle.avro_schema.specs.Value.{Value, size, values_size, entries_size}
 use Rattle.avro_schema.specs.Node.{Node, FieldNode, node_at}
 use Rattle.avro_schema.specs.Seen.{values_from, entries_from}
@@ -14,6 +14,8 @@ use Rattle.avro_resolve.specs.declared.guided.At.TheVariants.{Ignored, Pair}
 use Rattle.avro_resolve.specs.declared.guided.Made.{Made}
 use Rattle.avro_resolve.specs.declared.guided.Run.{Run}
 use Rattle.avro_resolve.specs.declared.guided.Slots.{Slots}
+use Rattle.avro_resolve.specs.declared.guided.Part.{Part}
+use Rattle.avro_resolve.specs.declared.guided.Filling.{Filling}
 
 -- what was made is what resolution gives
 abbrev pub MadeAs : {O : Type 0} → (O → Value → Type 0) → Made O → Resolved → Type 0
@@ -141,3 +143,17 @@ abbrev pub next_field : {O : Type 0} → List Node → List Node → Slots O →
 next_field writer reader (Slots.Good slots branch a b) = field_for (fields_at (node_at writer a.0)) (fields_at (node_at reader b.0)) (length slots.items)
 next_field writer reader (Slots.Faulty fault) = Ignored
 next_field writer reader Slots.Nothing = Ignored
+
+-- ---- What the code asks a plan by
+
+-- the value of a branch
+abbrev pub branch_part : List Node → Part → ℕ → Part
+branch_part writer part k = record { at = branch_for writer part.at k; place = part.place; branch = Some k }
+
+-- a part that is no branch
+abbrev pub part_below : At → ℕ → Part
+part_below at place = record { at = at; place = place; branch = None }
+
+-- fields that were made so far, with what the next is for
+abbrev pub FillsAs : {O : Type 0} → (O → Value → Type 0) → List Node → List Node → List Node → List FieldNode → At → Filling O → List Value → Type 0
+FillsAs S writer reader nodes fs at fields vs = FieldsStandAs S writer reader nodes fs at fields.slots vs × (fields.next.at ≡ next_field writer reader fields.slots)

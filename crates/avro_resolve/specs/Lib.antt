@@ -7,3 +7,4 @@ pub mod Reading
 pub mod Pairs
 pub mod Ends
 pub mod Guided
+pub mod Planned

@@ -1,13 +1,15 @@
-ghost use Rattle.std.specs.Prelude.{◌≡◌, ◌++◌, ◌∷◌, ℕ, true, IfOk, List, map, slice_get, bytes_eq};
+ghost use Rattle.std.specs.Prelude.{◌≡◌, ◌++◌, ◌∷◌, ℕ, true, IfOk, List, Some, map, slice_get, bytes_eq};
 ghost use Rattle.std.specs.List.{AllZip, flat_map};
 ghost use Rattle.avro_schema.specs.Node.{FieldNode};
 ghost use Rattle.avro_schema.specs.Distinct.{are_distinct};
 ghost use Rattle.avro_schema.specs.WellFormed.{field_names};
 ghost use Rattle.avro_schema.specs.Seen.{values_of, field_of, seen_fields};
 ghost use Rattle.avro_resolve.specs.Resolve.{Sourced, field_value, field_values};
+ghost use Rattle.avro_resolve.specs.Planned.{AreSources};
+ghost use Rattle.avro_resolve.specs.Source.{source_of};
 ghost use Rattle.avro_resolve.specs.Ends.{SlotsAre, SlotsFor, IsSeen, slot_out};
 
-use crate::sourcing::source_among;
+use crate::sourcing::source_kept;
 use avro_binary::{Build, Tree};
 use avro_schema::{Datum, Field};
 use std::alloc::{AllocError, Global};
@@ -25,7 +27,7 @@ pub fn fill_data(
         → IfOk result (λ values. values_of values.items ≡ field_values (seen_fields writes.now) found (seen_fields reads.now)) }
 {
     let mut tree = Tree;
-    fill(alloc, &mut tree, writes, reads, slots)
+    fill(alloc, &mut tree, writes, reads, &[], slots)
 }
 
 /// What is built of the values of a reader's fields, in its order: each is what is in the slot of its
@@ -35,36 +37,40 @@ pub fn fill<B: Build>(
     builder: &mut B,
     writes: &[Field],
     reads: &[Field],
+    sources: &[Option<usize>],
     slots: Vec<Option<B::Out>>,
 ) -> Result<Vec<B::Out>, AllocError>
-    requires { are_distinct bytes_eq (flat_map field_names (seen_fields reads.now)) ≡ true }
+    requires distinct { are_distinct bytes_eq (flat_map field_names (seen_fields reads.now)) ≡ true }
+    requires sources { AreSources (seen_fields writes.now) (seen_fields reads.now) sources.now }
     ensures { (found : Sourced) → SlotsAre B.stands_for found slots.items
         → IfOk result (λ values. AllZip B.stands_for values.items (map (field_value (seen_fields writes.now) found) (seen_fields reads.now))) }
 {
     let mut slots = slots;
     let mut values = Vec::new(alloc);
-    for f in reads {
-        let value = value_of_field(alloc, builder, writes, f, &mut slots)?;
+    for place in 0..reads.len() {
+        let f = &reads[place];
+        let source = source_kept(writes, sources, place, f);
+        let value = value_of_field(alloc, builder, source, f, &mut slots)?;
         values.push(value)?;
     }
     Ok(values)
 }
 
-/// What is built of the value of a reader's field.
+/// What is built of the value of a reader's field, by its source.
 fn value_of_field<B: Build>(
     alloc: Global,
     builder: &mut B,
-    writes: &[Field],
+    source: Option<usize>,
     f: &Field,
     slots: &mut Vec<Option<B::Out>>,
 ) -> Result<B::Out, AllocError>
-    ensures { (found : Sourced) (rest : List FieldNode)
+    ensures { (ws : List FieldNode) (found : Sourced) (rest : List FieldNode) → source ≡ source_of ws (field_of f.now)
         → are_distinct bytes_eq (field_names (field_of f.now) ++ flat_map field_names rest) ≡ true
-        → SlotsFor B.stands_for (seen_fields writes.now) (field_of f.now ∷ rest) found slots.old.items
-        → SlotsFor B.stands_for (seen_fields writes.now) rest found slots.new.items
-        × IfOk result (λ out. B.stands_for out (field_value (seen_fields writes.now) found (field_of f.now))) }
+        → SlotsFor B.stands_for ws (field_of f.now ∷ rest) found slots.old.items
+        → SlotsFor B.stands_for ws rest found slots.new.items
+        × IfOk result (λ out. B.stands_for out (field_value ws found (field_of f.now))) }
 {
-    match source_among(writes, f) {
+    match source {
         Some(place) => match taken(slots, place) {
             Some(out) => Ok(out),
             None => builder.null(alloc),

@@ -10,6 +10,17 @@ pub enum At {
     Pair(NodeId, NodeId),
 }
 
+/// What a part of a writer's datum is for, and where a plan may keep its pair of nodes.
+#[derive(Clone, Copy, Debug, PartialEq, Eq)]
+pub struct Part {
+    /// What it is for.
+    pub at: At,
+    /// The place of its pair, or of the pair of the union that it is a branch of.
+    pub place: u32,
+    /// Its branch, where it is one.
+    pub branch: Option<u32>,
+}
+
 /// Where a pair of nodes leads, of which the writer's is no union: to a fault, or to a reader's node
 /// that is no union, by a branch of the reader's union where there is one.
 #[derive(Clone, Copy, Debug, PartialEq, Eq)]
@@ -62,4 +73,15 @@ pub enum Slots<O> {
     Faulty(Fault),
     /// Nothing, since nothing was asked.
     Nothing,
+}
+
+/// What was made of the fields of a record so far, and what the next is for.
+#[derive(Drop)]
+pub struct Filling<O> {
+    /// What was made.
+    pub slots: Slots<O>,
+    /// Where a plan may keep the pair of the record.
+    pub place: u32,
+    /// What the next field is for.
+    pub next: Part,
 }

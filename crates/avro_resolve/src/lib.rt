@@ -3,19 +3,25 @@
 //!
 //! [`resolve`] answers it of a datum that is at hand. [`read_resolved`] answers it of bytes, which are
 //! read once: a builder gets each part as it is for the reader, and no writer's datum is made.
-//! [`decode_resolved`] is the same with the datum as the answer.
+//! [`decode_resolved`] is the same with the datum as the answer. A [`Plan`] reads as [`read_resolved`]
+//! does, by what it found ahead of some pairs of nodes.
 #![tactic(auto)]
 
 mod error;
 mod failing;
 mod filling;
 mod guided;
+mod keeping;
 pub mod laws;
 mod leaves;
 mod making;
 mod matching;
+mod ordering;
 mod pairs;
 mod parts;
+mod plan;
+mod prepared;
+mod preparing;
 mod read;
 mod recording;
 mod resolution;
@@ -27,6 +33,7 @@ mod symbols;
 pub use error::{Fault, FaultKind, ReadResolveError, ResolveError};
 pub use matching::matches;
 pub use pairs::first_match;
+pub use plan::Plan;
 pub use read::{decode_resolved, read_resolved};
 pub use resolution::resolve;
 pub use sourcing::source;

@@ -3,14 +3,13 @@ ghost use Rattle.avro_schema.specs.Node.{node_at};
 ghost use Rattle.avro_schema.specs.SeenSchema.{schema_nodes};
 ghost use Rattle.avro_schema.specs.Value.{Value};
 ghost use Rattle.avro_resolve.specs.Guided.{MadeAs};
-ghost use Rattle.avro_resolve.specs.Pairs.{wrapped as in_branch};
-ghost use Rattle.avro_resolve.specs.Resolve.{bytes_as as kept_bytes, enum_as, int_as as kept_int, string_as as kept_string, symbol_at};
+ghost use Rattle.avro_resolve.specs.Pairs.{IsSymbol, wrapped as in_branch};
+ghost use Rattle.avro_resolve.specs.Resolve.{Resolved, bytes_as as kept_bytes, int_as as kept_int, string_as as kept_string};
 
 use crate::error::FaultKind;
 use crate::failing::faulty;
 use crate::guided::Made;
 use crate::leaves::{is_bytes, is_long, is_text};
-use crate::symbols::symbol_for;
 use avro_binary::Build;
 use avro_schema::{NodeId, Schema};
 use std::alloc::{AllocError, Global};
@@ -95,22 +94,18 @@ pub fn make_string<B: Build>(
     }
 }
 
-/// What a reader's node takes of a symbol of a writer's: its own of the same text, or its default.
+/// The reader's symbol, or the fault that there is none.
 pub fn make_symbol<B: Build>(
     alloc: Global,
     builder: &mut B,
-    writer: &Schema,
-    w: NodeId,
-    place: u32,
-    reader: &Schema,
+    symbol: Option<u32>,
     branch: Option<u32>,
-    q: NodeId,
 ) -> Result<Made<B::Out>, AllocError>
-    ensures { IfOk result (λ made. MadeAs B.stands_for made (in_branch branch (enum_as (symbol_at (node_at (schema_nodes writer.now) w.0) place) (node_at (schema_nodes reader.now) q.0)))) }
+    ensures { (resolved : Resolved) → IsSymbol resolved symbol → IfOk result (λ made. MadeAs B.stands_for made (in_branch branch resolved)) }
 {
-    match symbol_for(writer, w, place, reader, q) {
-        Some(symbol) => {
-            let out = builder.symbol(alloc, symbol)?;
+    match symbol {
+        Some(place) => {
+            let out = builder.symbol(alloc, place)?;
             wrap(alloc, builder, branch, out)
         }
         None => Ok(Made::Faulty(faulty(alloc, FaultKind::NoSymbol))),

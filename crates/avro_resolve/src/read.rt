@@ -3,7 +3,8 @@ ghost use Rattle.avro_resolve.specs.Reading.{BuildsResolved, ReadsResolved};
 
 use crate::error::ReadResolveError;
 use crate::failing::turn;
-use crate::guided::{At, Made};
+use crate::guided::{At, Made, Part};
+use crate::plan::Plan;
 use crate::resolving::Resolving;
 use avro_binary::{Build, Tree, read_made};
 use avro_schema::{Datum, Limits, Schema};
@@ -46,11 +47,30 @@ pub fn read_resolved<B: Build>(
 ) -> Result<(B::Out, usize), ReadResolveError>
     ensures { BuildsResolved B.stands_for (schema_nodes writer.now) (schema_nodes reader.now) limits.now bytes.now result }
 {
+    let plan = Plan::by_name(alloc, writer, reader);
+    read_planned(alloc, &plan, bytes, limits, builder)
+}
+
+/// The same of the two schemas of a plan.
+pub(crate) fn read_planned<B: Build>(
+    alloc: Global,
+    plan: &Plan<'_>,
+    bytes: &[u8],
+    limits: &Limits,
+    builder: &mut B,
+) -> Result<(B::Out, usize), ReadResolveError>
+    ensures { BuildsResolved B.stands_for (schema_nodes plan.now.0) (schema_nodes plan.now.1) limits.now bytes.now result }
+{
     let _nodes = limits.nodes();
+    let writer = plan.writer();
     let w = writer.root();
-    let at = At::Pair(w, reader.root());
-    let mut maker = Resolving::new(writer, reader, builder);
-    match read_made(alloc, writer, w, bytes, limits, &mut maker, at) {
+    let part = Part {
+        at: At::Pair(w, plan.reader().root()),
+        place: plan.root(),
+        branch: None,
+    };
+    let mut maker = Resolving::new(plan, builder);
+    match read_made(alloc, writer, w, bytes, limits, &mut maker, part) {
         Ok((made, len)) => match made {
             Made::Good(out) => Ok((out, len)),
             Made::Faulty(fault) => Err(ReadResolveError::Resolve(turn(fault))),

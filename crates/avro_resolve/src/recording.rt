@@ -4,35 +4,39 @@ ghost use Rattle.avro_schema.specs.Node.{FieldNode, Node, field_places, node_at}
 ghost use Rattle.avro_schema.specs.Seen.{values_from};
 ghost use Rattle.avro_schema.specs.SeenSchema.{schema_nodes};
 ghost use Rattle.avro_schema.specs.Value.{Value};
-ghost use Rattle.avro_resolve.specs.Guided.{FieldsStandAs, StandsAs, next_field};
+ghost use Rattle.avro_resolve.specs.Guided.{FieldsStandAs, FillsAs, StandsAs, next_field};
 
 use crate::error::FaultKind;
 use crate::failing::{faulty, step_out};
 use crate::filling::fill;
-use crate::guided::{Aim, At, Made, Slots};
+use crate::guided::{Aim, At, Filling, Made, Part, Slots};
 use crate::making::wrap;
-use crate::pairs::aim;
-use crate::sourcing::{fields_of, missing, part_for};
+use crate::plan::Plan;
+use crate::sourcing::fields_of;
 use avro_binary::Build;
-use avro_schema::Schema;
 use std::alloc::{AllocError, Global};
+
+/// What was made of no fields, and what the first is for.
+pub fn start_filling<B: Build>(alloc: Global, plan: &Plan<'_>, part: Part) -> Filling<B::Out>
+    ensures { (nodes : List Node) (fs : List FieldNode) → FillsAs B.stands_for (schema_nodes plan.now.0) (schema_nodes plan.now.1) nodes fs part.at result [] }
+{
+    let place = plan.place_of(part);
+    let slots = start_fields::<B>(alloc, plan, place, part.at);
+    let next = next_field_part(plan, place, &slots);
+    Filling { slots, place, next }
+}
 
 /// What was made of no fields: where a pair of nodes leads to a fault, or a reader's field is missing, that
 /// fault.
-pub fn start_fields<B: Build>(
-    alloc: Global,
-    writer: &Schema,
-    reader: &Schema,
-    at: At,
-) -> Slots<B::Out>
-    ensures { (nodes : List Node) (fs : List FieldNode) → FieldsStandAs B.stands_for (schema_nodes writer.now) (schema_nodes reader.now) nodes fs at result [] }
+fn start_fields<B: Build>(alloc: Global, plan: &Plan<'_>, place: u32, at: At) -> Slots<B::Out>
+    ensures { (nodes : List Node) (fs : List FieldNode) → FieldsStandAs B.stands_for (schema_nodes plan.now.0) (schema_nodes plan.now.1) nodes fs at result [] }
 {
     match at {
         At::Ignored => Slots::Nothing,
-        At::Pair(w, r) => match aim(writer, w, reader, r) {
+        At::Pair(w, r) => match plan.aim(place, w, r) {
             Aim::Fault(kind) => Slots::Faulty(faulty(alloc, kind)),
-            Aim::To(branch, q) => match missing(fields_of(writer, w), fields_of(reader, q)) {
-                Some(place) => Slots::Faulty(faulty(alloc, FaultKind::MissingField(place))),
+            Aim::To(branch, q) => match plan.missing(place, w, q) {
+                Some(field) => Slots::Faulty(faulty(alloc, FaultKind::MissingField(field))),
                 None => Slots::Good(Vec::new(alloc), branch, w, q),
             },
         },
@@ -40,22 +44,51 @@ pub fn start_fields<B: Build>(
 }
 
 /// What the next field is for.
-pub fn next_field_part<O>(writer: &Schema, reader: &Schema, fields: &Slots<O>) -> At
-    ensures { result ≡ next_field (schema_nodes writer.now) (schema_nodes reader.now) fields.now }
+fn next_field_part<O>(plan: &Plan<'_>, place: u32, fields: &Slots<O>) -> Part
+    ensures { result.at ≡ next_field (schema_nodes plan.now.0) (schema_nodes plan.now.1) fields.now }
 {
     match fields {
         Slots::Good(slots, _, w, q) => {
-            let writes = fields_of(writer, *w);
-            let reads = fields_of(reader, *q);
-            part_for(writes, reads, slots.len())
+            let field = slots.len();
+            Part {
+                at: plan.field(place, *w, *q, field),
+                place: plan.place_below(place, field),
+                branch: None,
+            }
         }
-        Slots::Faulty(_) => At::Ignored,
-        Slots::Nothing => At::Ignored,
+        Slots::Faulty(_) => ignored(),
+        Slots::Nothing => ignored(),
     }
 }
 
+/// A part that is for nothing.
+fn ignored() -> Part
+    ensures { result.at ≡ At.Ignored }
+{
+    Part {
+        at: At::Ignored,
+        place: 0,
+        branch: None,
+    }
+}
+
+/// Adds what was made of a field behind those before, and finds what the next is for.
+pub fn fill_next<B: Build>(
+    plan: &Plan<'_>,
+    fields: &mut Filling<B::Out>,
+    made: Made<B::Out>,
+) -> Result<(), AllocError>
+    ensures { (nodes : List Node) (fs : List FieldNode) (place : ℕ) (at : At) (vs : List Value) (v : Value) → FillsAs B.stands_for (schema_nodes plan.now.0) (schema_nodes plan.now.1) nodes fs at fields.old vs
+        → slice_get (field_places fs) (length vs) ≡ Some place → StandsAs B.stands_for (schema_nodes plan.now.0) (schema_nodes plan.now.1) nodes (node_at nodes place) fields.old.next.at made v
+        → OnOk result (FillsAs B.stands_for (schema_nodes plan.now.0) (schema_nodes plan.now.1) nodes fs at fields.new (vs ++ v ∷ [])) }
+{
+    put_field::<B>(&mut fields.slots, made)?;
+    fields.next = next_field_part(plan, fields.place, &fields.slots);
+    Ok(())
+}
+
 /// Adds what was made of a field behind those before.
-pub fn put_field<B: Build>(fields: &mut Slots<B::Out>, made: Made<B::Out>) -> Result<(), AllocError>
+fn put_field<B: Build>(fields: &mut Slots<B::Out>, made: Made<B::Out>) -> Result<(), AllocError>
     ensures { (writer reader nodes : List Node) (fs : List FieldNode) (place : ℕ) (at : At) (vs : List Value) (v : Value) → FieldsStandAs B.stands_for writer reader nodes fs at fields.old vs
         → slice_get (field_places fs) (length vs) ≡ Some place → StandsAs B.stands_for writer reader nodes (node_at nodes place) (next_field writer reader fields.old) made v
         → OnOk result (FieldsStandAs B.stands_for writer reader nodes fs at fields.new (vs ++ v ∷ [])) }
@@ -85,18 +118,19 @@ pub fn put_field<B: Build>(fields: &mut Slots<B::Out>, made: Made<B::Out>) -> Re
 pub fn make_record<B: Build>(
     alloc: Global,
     builder: &mut B,
-    writer: &Schema,
-    reader: &Schema,
+    plan: &Plan<'_>,
+    place: u32,
     fields: Slots<B::Out>,
 ) -> Result<Made<B::Out>, AllocError>
-    ensures { (nodes : List Node) (name : Name) (aliases : List Name) (fs : List FieldNode) (at : At) (vs : List Value) → FieldsStandAs B.stands_for (schema_nodes writer.now) (schema_nodes reader.now) nodes fs at fields vs
-        → IfOk result (λ made. StandsAs B.stands_for (schema_nodes writer.now) (schema_nodes reader.now) nodes (Node.record_of name aliases fs) at made (Value.record_of (values_from vs))) }
+    ensures { (nodes : List Node) (name : Name) (aliases : List Name) (fs : List FieldNode) (at : At) (vs : List Value) → FieldsStandAs B.stands_for (schema_nodes plan.now.0) (schema_nodes plan.now.1) nodes fs at fields vs
+        → IfOk result (λ made. StandsAs B.stands_for (schema_nodes plan.now.0) (schema_nodes plan.now.1) nodes (Node.record_of name aliases fs) at made (Value.record_of (values_from vs))) }
 {
     match fields {
         Slots::Good(slots, branch, w, q) => {
-            let writes = fields_of(writer, w);
-            let reads = fields_of(reader, q);
-            let values = fill(alloc, builder, writes, reads, slots)?;
+            let writes = fields_of(plan.writer(), w);
+            let reads = fields_of(plan.reader(), q);
+            let sources = plan.sources(place, w, q);
+            let values = fill(alloc, builder, writes, reads, sources, slots)?;
             let out = builder.fields(alloc, values)?;
             wrap(alloc, builder, branch, out)
         }

@@ -1,99 +1,91 @@
 use crate::failing::{faulty, step_out};
-use crate::guided::{Aim, At, Made, Run, Slots};
+use crate::guided::{Aim, At, Filling, Made, Part, Run};
 use crate::making::{make_bytes, make_int, make_string, make_symbol, wrap};
-use crate::pairs::aim;
-use crate::parts::branch_of;
-use crate::recording::{make_record, next_field_part, put_field, start_fields};
+use crate::plan::Plan;
+use crate::recording::{fill_next, make_record, start_filling};
 use crate::running::{
     make_array, make_map, next_part, put_entry, put_item, start_entries, start_items,
 };
 use avro_binary::{Build, Make};
-use avro_schema::Schema;
 use std::alloc::{AllocError, Global};
 
 /// Makes of each part of a writer's datum what a builder builds of what it is for a reader. A part that
 /// no reader's field takes is read and not built, and so are all parts after a fault.
 #[derive(Drop)]
-pub struct Resolving<'w, 'r, 'b, B> {
-    writer: &'w Schema,
-    reader: &'r Schema,
+pub struct Resolving<'p, 'a, 'b, B> {
+    plan: &'p Plan<'a>,
     builder: &'b mut B,
 }
 
-impl<'w, 'r, 'b, B> Resolving<'w, 'r, 'b, B> {
+impl<'p, 'a, 'b, B> Resolving<'p, 'a, 'b, B> {
     ghost use Rattle.std.specs.Prelude.{◌≡◌};
 
-    /// A maker for a reader, by a builder.
-    pub fn new(writer: &'w Schema, reader: &'r Schema, builder: &'b mut B) -> Self
-        ensures writes { result.writer.now ≡ writer.now }
-        ensures reads { result.reader.now ≡ reader.now }
+    /// A maker for a reader, by a plan and a builder.
+    pub fn new(plan: &'p Plan<'a>, builder: &'b mut B) -> Self
+        ensures { result.plan.now ≡ plan.now }
     {
-        Resolving {
-            writer,
-            reader,
-            builder,
-        }
+        Resolving { plan, builder }
     }
 }
 
-impl<'w, 'r, 'b, B: Build> Make for Resolving<'w, 'r, 'b, B> {
+impl<'p, 'a, 'b, B: Build> Make for Resolving<'p, 'a, 'b, B> {
     ghost use Rattle.std.specs.Prelude.{◌≡◌, List, ℕ, refl};
     ghost use Rattle.std.proofs.Common.{◌∙◌, ap, subst};
     ghost use Rattle.avro_schema.specs.Node.{Node, FieldNode};
     ghost use Rattle.avro_schema.specs.SeenSchema.{schema_nodes};
     ghost use Rattle.avro_schema.specs.Value.{Value};
-    ghost use Rattle.avro_resolve.specs.Guided.{StandsAs, ItemsStandAs, EntriesStandAs, FieldsStandAs, next_at, next_field, branch_for};
+    ghost use Rattle.avro_resolve.specs.Guided.{StandsAs, ItemsStandAs, EntriesStandAs, FillsAs, branch_part, part_below, next_at};
 
-    type At = At;
+    type At = Part;
 
     type Out = Made<B::Out>;
 
-    type Items = Run<B::Items>;
+    type Items = (Run<B::Items>, u32);
 
-    type Entries = Run<B::Entries>;
+    type Entries = (Run<B::Entries>, u32);
 
-    type Fields = Slots<B::Out>;
+    type Fields = Filling<B::Out>;
 
-    ghost keeps = { λ s t. ◌≡◌ {A = List Node × List Node} (schema_nodes s.writer.now, schema_nodes s.reader.now) (schema_nodes t.writer.now, schema_nodes t.reader.now) };
+    ghost keeps = { λ s t. ◌≡◌ {A = List Node × List Node} (schema_nodes s.plan.now.0, schema_nodes s.plan.now.1) (schema_nodes t.plan.now.0, schema_nodes t.plan.now.1) };
 
-    ghost stands_for = { λ m nodes n at out v. StandsAs B.stands_for (schema_nodes m.writer.now) (schema_nodes m.reader.now) nodes n at out v };
+    ghost stands_for = { λ m nodes n at out v. StandsAs B.stands_for (schema_nodes m.plan.now.0) (schema_nodes m.plan.now.1) nodes n at.at out v };
 
-    ghost items_stand_for = { λ m nodes place at items vs. ItemsStandAs B.items_stand_for (schema_nodes m.writer.now) (schema_nodes m.reader.now) nodes place at items vs };
+    ghost items_stand_for = { λ m nodes place at items vs. ItemsStandAs B.items_stand_for (schema_nodes m.plan.now.0) (schema_nodes m.plan.now.1) nodes place at.at items.0 vs };
 
-    ghost entries_stand_for = { λ m nodes place at entries es. EntriesStandAs B.entries_stand_for (schema_nodes m.writer.now) (schema_nodes m.reader.now) nodes place at entries es };
+    ghost entries_stand_for = { λ m nodes place at entries es. EntriesStandAs B.entries_stand_for (schema_nodes m.plan.now.0) (schema_nodes m.plan.now.1) nodes place at.at entries.0 es };
 
-    ghost fields_stand_for = { λ m nodes fs at fields vs. FieldsStandAs B.stands_for (schema_nodes m.writer.now) (schema_nodes m.reader.now) nodes fs at fields vs };
+    ghost fields_stand_for = { λ m nodes fs at fields vs. FillsAs B.stands_for (schema_nodes m.plan.now.0) (schema_nodes m.plan.now.1) nodes fs at.at fields vs };
 
-    ghost branch_at = { λ m at branch. branch_for (schema_nodes m.writer.now) at branch };
+    ghost branch_at = { λ m at branch. branch_part (schema_nodes m.plan.now.0) at branch };
 
-    ghost item_at = { λ m items. next_at items };
+    ghost item_at = { λ m items. part_below (next_at items.0) items.1 };
 
-    ghost entry_at = { λ m entries. next_at entries };
+    ghost entry_at = { λ m entries. part_below (next_at entries.0) entries.1 };
 
-    ghost field_at = { λ m fields. next_field (schema_nodes m.writer.now) (schema_nodes m.reader.now) fields };
+    ghost field_at = { λ m fields. fields.next };
 
     ghost keeps_itself = { λ s. refl };
 
     ghost keeps_on = { λ s t u before after. before ∙ after };
 
-    ghost items_kept = { λ s t nodes place at items vs kept stand. subst (λ (g : List Node × List Node). ItemsStandAs B.items_stand_for g.0 g.1 nodes place at items vs) kept stand };
+    ghost items_kept = { λ s t nodes place at items vs kept stand. subst (λ (g : List Node × List Node). ItemsStandAs B.items_stand_for g.0 g.1 nodes place at.at items.0 vs) kept stand };
 
-    ghost entries_kept = { λ s t nodes place at entries es kept stand. subst (λ (g : List Node × List Node). EntriesStandAs B.entries_stand_for g.0 g.1 nodes place at entries es) kept stand };
+    ghost entries_kept = { λ s t nodes place at entries es kept stand. subst (λ (g : List Node × List Node). EntriesStandAs B.entries_stand_for g.0 g.1 nodes place at.at entries.0 es) kept stand };
 
-    ghost fields_kept = { λ s t nodes fs at fields vs kept stand. subst (λ (g : List Node × List Node). FieldsStandAs B.stands_for g.0 g.1 nodes fs at fields vs) kept stand };
+    ghost fields_kept = { λ s t nodes fs at fields vs kept stand. subst (λ (g : List Node × List Node). FillsAs B.stands_for g.0 g.1 nodes fs at.at fields vs) kept stand };
 
-    ghost branch_at_kept = { λ s t at branch kept. ap (λ (g : List Node × List Node). branch_for g.0 at branch) kept };
+    ghost branch_at_kept = { λ s t at branch kept. ap (λ (g : List Node × List Node). branch_part g.0 at branch) kept };
 
     ghost item_at_kept = { λ s t items kept. refl };
 
     ghost entry_at_kept = { λ s t entries kept. refl };
 
-    ghost field_at_kept = { λ s t fields kept. ap (λ (g : List Node × List Node). next_field g.0 g.1 fields) kept };
+    ghost field_at_kept = { λ s t fields kept. refl };
 
-    fn null(&mut self, alloc: Global, at: At) -> Result<Made<B::Out>, AllocError> {
-        match at {
+    fn null(&mut self, alloc: Global, at: Part) -> Result<Made<B::Out>, AllocError> {
+        match at.at {
             At::Ignored => Ok(Made::Nothing),
-            At::Pair(w, r) => match aim(self.writer, w, self.reader, r) {
+            At::Pair(w, r) => match self.plan.aim(self.plan.place_of(at), w, r) {
                 Aim::Fault(kind) => Ok(Made::Faulty(faulty(alloc, kind))),
                 Aim::To(branch, _) => {
                     let out = self.builder.null(alloc)?;
@@ -103,10 +95,15 @@ impl<'w, 'r, 'b, B: Build> Make for Resolving<'w, 'r, 'b, B> {
         }
     }
 
-    fn boolean(&mut self, alloc: Global, at: At, value: bool) -> Result<Made<B::Out>, AllocError> {
-        match at {
+    fn boolean(
+        &mut self,
+        alloc: Global,
+        at: Part,
+        value: bool,
+    ) -> Result<Made<B::Out>, AllocError> {
+        match at.at {
             At::Ignored => Ok(Made::Nothing),
-            At::Pair(w, r) => match aim(self.writer, w, self.reader, r) {
+            At::Pair(w, r) => match self.plan.aim(self.plan.place_of(at), w, r) {
                 Aim::Fault(kind) => Ok(Made::Faulty(faulty(alloc, kind))),
                 Aim::To(branch, _) => {
                     let out = self.builder.boolean(alloc, value)?;
@@ -116,22 +113,22 @@ impl<'w, 'r, 'b, B: Build> Make for Resolving<'w, 'r, 'b, B> {
         }
     }
 
-    fn int(&mut self, alloc: Global, at: At, value: i32) -> Result<Made<B::Out>, AllocError> {
-        match at {
+    fn int(&mut self, alloc: Global, at: Part, value: i32) -> Result<Made<B::Out>, AllocError> {
+        match at.at {
             At::Ignored => Ok(Made::Nothing),
-            At::Pair(w, r) => match aim(self.writer, w, self.reader, r) {
+            At::Pair(w, r) => match self.plan.aim(self.plan.place_of(at), w, r) {
                 Aim::Fault(kind) => Ok(Made::Faulty(faulty(alloc, kind))),
                 Aim::To(branch, q) => {
-                    make_int(alloc, self.builder, self.reader, branch, q, value)
+                    make_int(alloc, self.builder, self.plan.reader(), branch, q, value)
                 }
             },
         }
     }
 
-    fn long(&mut self, alloc: Global, at: At, value: i64) -> Result<Made<B::Out>, AllocError> {
-        match at {
+    fn long(&mut self, alloc: Global, at: Part, value: i64) -> Result<Made<B::Out>, AllocError> {
+        match at.at {
             At::Ignored => Ok(Made::Nothing),
-            At::Pair(w, r) => match aim(self.writer, w, self.reader, r) {
+            At::Pair(w, r) => match self.plan.aim(self.plan.place_of(at), w, r) {
                 Aim::Fault(kind) => Ok(Made::Faulty(faulty(alloc, kind))),
                 Aim::To(branch, _) => {
                     let out = self.builder.long(alloc, value)?;
@@ -141,34 +138,44 @@ impl<'w, 'r, 'b, B: Build> Make for Resolving<'w, 'r, 'b, B> {
         }
     }
 
-    fn bytes(&mut self, alloc: Global, at: At, content: &[u8]) -> Result<Made<B::Out>, AllocError> {
-        match at {
+    fn bytes(
+        &mut self,
+        alloc: Global,
+        at: Part,
+        content: &[u8],
+    ) -> Result<Made<B::Out>, AllocError> {
+        match at.at {
             At::Ignored => Ok(Made::Nothing),
-            At::Pair(w, r) => match aim(self.writer, w, self.reader, r) {
+            At::Pair(w, r) => match self.plan.aim(self.plan.place_of(at), w, r) {
                 Aim::Fault(kind) => Ok(Made::Faulty(faulty(alloc, kind))),
                 Aim::To(branch, q) => {
-                    make_bytes(alloc, self.builder, self.reader, branch, q, content)
+                    make_bytes(alloc, self.builder, self.plan.reader(), branch, q, content)
                 }
             },
         }
     }
 
-    fn string(&mut self, alloc: Global, at: At, text: &str) -> Result<Made<B::Out>, AllocError> {
-        match at {
+    fn string(&mut self, alloc: Global, at: Part, text: &str) -> Result<Made<B::Out>, AllocError> {
+        match at.at {
             At::Ignored => Ok(Made::Nothing),
-            At::Pair(w, r) => match aim(self.writer, w, self.reader, r) {
+            At::Pair(w, r) => match self.plan.aim(self.plan.place_of(at), w, r) {
                 Aim::Fault(kind) => Ok(Made::Faulty(faulty(alloc, kind))),
                 Aim::To(branch, q) => {
-                    make_string(alloc, self.builder, self.reader, branch, q, text)
+                    make_string(alloc, self.builder, self.plan.reader(), branch, q, text)
                 }
             },
         }
     }
 
-    fn fixed(&mut self, alloc: Global, at: At, content: &[u8]) -> Result<Made<B::Out>, AllocError> {
-        match at {
+    fn fixed(
+        &mut self,
+        alloc: Global,
+        at: Part,
+        content: &[u8],
+    ) -> Result<Made<B::Out>, AllocError> {
+        match at.at {
             At::Ignored => Ok(Made::Nothing),
-            At::Pair(w, r) => match aim(self.writer, w, self.reader, r) {
+            At::Pair(w, r) => match self.plan.aim(self.plan.place_of(at), w, r) {
                 Aim::Fault(kind) => Ok(Made::Faulty(faulty(alloc, kind))),
                 Aim::To(branch, _) => {
                     let out = self.builder.fixed(alloc, content)?;
@@ -178,38 +185,35 @@ impl<'w, 'r, 'b, B: Build> Make for Resolving<'w, 'r, 'b, B> {
         }
     }
 
-    fn symbol(&mut self, alloc: Global, at: At, place: u32) -> Result<Made<B::Out>, AllocError> {
-        match at {
+    fn symbol(&mut self, alloc: Global, at: Part, place: u32) -> Result<Made<B::Out>, AllocError> {
+        match at.at {
             At::Ignored => Ok(Made::Nothing),
-            At::Pair(w, r) => match aim(self.writer, w, self.reader, r) {
+            At::Pair(w, r) => match self.plan.aim(self.plan.place_of(at), w, r) {
                 Aim::Fault(kind) => Ok(Made::Faulty(faulty(alloc, kind))),
                 Aim::To(branch, q) => {
-                    make_symbol(
-                        alloc,
-                        self.builder,
-                        self.writer,
-                        w,
-                        place,
-                        self.reader,
-                        branch,
-                        q,
-                    )
+                    let symbol = self.plan.symbol(self.plan.place_of(at), w, place, q);
+                    make_symbol(alloc, self.builder, symbol, branch)
                 }
             },
         }
     }
 
-    fn branch_at(&self, at: At, branch: u32) -> At {
-        match at {
+    fn branch_at(&self, at: Part, branch: u32) -> Part {
+        let below = match at.at {
             At::Ignored => At::Ignored,
-            At::Pair(w, r) => At::Pair(branch_of(self.writer, w, branch), r),
+            At::Pair(w, r) => At::Pair(self.plan.branch(w, branch), r),
+        };
+        Part {
+            at: below,
+            place: at.place,
+            branch: Some(branch),
         }
     }
 
     fn branch(
         &mut self,
         _alloc: Global,
-        _at: At,
+        _at: Part,
         _branch: u32,
         value: Made<B::Out>,
     ) -> Result<Made<B::Out>, AllocError> {
@@ -223,67 +227,79 @@ impl<'w, 'r, 'b, B: Build> Make for Resolving<'w, 'r, 'b, B> {
         }
     }
 
-    fn items(&mut self, alloc: Global, at: At) -> Result<Run<B::Items>, AllocError> {
-        start_items(alloc, self.builder, self.writer, self.reader, at)
+    fn items(&mut self, alloc: Global, at: Part) -> Result<(Run<B::Items>, u32), AllocError> {
+        start_items(alloc, self.builder, self.plan, at)
     }
 
-    fn item_at(&self, items: &Run<B::Items>) -> At {
-        next_part(items)
+    fn item_at(&self, items: &(Run<B::Items>, u32)) -> Part {
+        next_part(&items.0, items.1)
     }
 
     fn item(
         &mut self,
         alloc: Global,
-        items: &mut Run<B::Items>,
+        items: &mut (Run<B::Items>, u32),
         value: Made<B::Out>,
     ) -> Result<(), AllocError> {
-        put_item(alloc, self.builder, items, value)
+        put_item(alloc, self.builder, &mut items.0, value)
     }
 
-    fn array(&mut self, alloc: Global, items: Run<B::Items>) -> Result<Made<B::Out>, AllocError> {
-        make_array(alloc, self.builder, items)
+    fn array(
+        &mut self,
+        alloc: Global,
+        items: (Run<B::Items>, u32),
+    ) -> Result<Made<B::Out>, AllocError> {
+        make_array(alloc, self.builder, items.0)
     }
 
-    fn entries(&mut self, alloc: Global, at: At) -> Result<Run<B::Entries>, AllocError> {
-        start_entries(alloc, self.builder, self.writer, self.reader, at)
+    fn entries(&mut self, alloc: Global, at: Part) -> Result<(Run<B::Entries>, u32), AllocError> {
+        start_entries(alloc, self.builder, self.plan, at)
     }
 
-    fn entry_at(&self, entries: &Run<B::Entries>) -> At {
-        next_part(entries)
+    fn entry_at(&self, entries: &(Run<B::Entries>, u32)) -> Part {
+        next_part(&entries.0, entries.1)
     }
 
     fn entry(
         &mut self,
         alloc: Global,
-        entries: &mut Run<B::Entries>,
+        entries: &mut (Run<B::Entries>, u32),
         key: &str,
         value: Made<B::Out>,
     ) -> Result<(), AllocError> {
-        put_entry(alloc, self.builder, entries, key, value)
+        put_entry(alloc, self.builder, &mut entries.0, key, value)
     }
 
-    fn map(&mut self, alloc: Global, entries: Run<B::Entries>) -> Result<Made<B::Out>, AllocError> {
-        make_map(alloc, self.builder, entries)
+    fn map(
+        &mut self,
+        alloc: Global,
+        entries: (Run<B::Entries>, u32),
+    ) -> Result<Made<B::Out>, AllocError> {
+        make_map(alloc, self.builder, entries.0)
     }
 
-    fn fields(&mut self, alloc: Global, at: At) -> Result<Slots<B::Out>, AllocError> {
-        Ok(start_fields::<B>(alloc, self.writer, self.reader, at))
+    fn fields(&mut self, alloc: Global, at: Part) -> Result<Filling<B::Out>, AllocError> {
+        Ok(start_filling::<B>(alloc, self.plan, at))
     }
 
-    fn field_at(&self, fields: &Slots<B::Out>) -> At {
-        next_field_part(self.writer, self.reader, fields)
+    fn field_at(&self, fields: &Filling<B::Out>) -> Part {
+        fields.next
     }
 
     fn field(
         &mut self,
         _alloc: Global,
-        fields: &mut Slots<B::Out>,
+        fields: &mut Filling<B::Out>,
         value: Made<B::Out>,
     ) -> Result<(), AllocError> {
-        put_field::<B>(fields, value)
+        fill_next::<B>(self.plan, fields, value)
     }
 
-    fn record(&mut self, alloc: Global, fields: Slots<B::Out>) -> Result<Made<B::Out>, AllocError> {
-        make_record(alloc, self.builder, self.writer, self.reader, fields)
+    fn record(
+        &mut self,
+        alloc: Global,
+        fields: Filling<B::Out>,
+    ) -> Result<Made<B::Out>, AllocError> {
+        make_record(alloc, self.builder, self.plan, fields.place, fields.slots)
     }
 }

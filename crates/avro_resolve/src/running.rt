@@ -3,25 +3,28 @@ ghost use Rattle.avro_schema.specs.Node.{Node, node_at};
 ghost use Rattle.avro_schema.specs.Seen.{entries_from, values_from};
 ghost use Rattle.avro_schema.specs.SeenSchema.{schema_nodes};
 ghost use Rattle.avro_schema.specs.Value.{Value};
-ghost use Rattle.avro_resolve.specs.Guided.{EntriesStandAs, ItemsStandAs, StandsAs, next_at};
+ghost use Rattle.avro_resolve.specs.Guided.{EntriesStandAs, ItemsStandAs, StandsAs, next_at, part_below};
 
 use crate::failing::{faulty, step_out};
-use crate::guided::{Aim, At, Made, Run};
+use crate::guided::{Aim, At, Made, Part, Run};
 use crate::making::wrap;
-use crate::pairs::aim;
-use crate::parts::{items_of, values_of};
+use crate::plan::Plan;
 use avro_binary::Build;
-use avro_schema::Schema;
 use std::alloc::{AllocError, Global};
 
-/// What the next item or entry is for.
-pub fn next_part<I>(run: &Run<I>) -> At
-    ensures { result ≡ next_at run.now }
+/// What the next item or entry is for, whose pair may be kept at a place.
+pub fn next_part<I>(run: &Run<I>, place: u32) -> Part
+    ensures { result ≡ part_below (next_at run.now) place }
 {
-    match run {
+    let at = match run {
         Run::Good(_, _, _, a, b) => At::Pair(*a, *b),
         Run::Faulty(_) => At::Ignored,
         Run::Nothing => At::Ignored,
+    };
+    Part {
+        at,
+        place,
+        branch: None,
     }
 }
 
@@ -29,21 +32,21 @@ pub fn next_part<I>(run: &Run<I>) -> At
 pub fn start_items<B: Build>(
     alloc: Global,
     builder: &mut B,
-    writer: &Schema,
-    reader: &Schema,
-    at: At,
-) -> Result<Run<B::Items>, AllocError>
-    ensures { (nodes : List Node) (place : ℕ) → IfOk result (λ run. ItemsStandAs B.items_stand_for (schema_nodes writer.now) (schema_nodes reader.now) nodes place at run []) }
+    plan: &Plan<'_>,
+    part: Part,
+) -> Result<(Run<B::Items>, u32), AllocError>
+    ensures { (nodes : List Node) (place : ℕ) → IfOk result (λ run. ItemsStandAs B.items_stand_for (schema_nodes plan.now.0) (schema_nodes plan.now.1) nodes place part.at run.0 []) }
 {
-    match at {
-        At::Ignored => Ok(Run::Nothing),
-        At::Pair(w, r) => match aim(writer, w, reader, r) {
-            Aim::Fault(kind) => Ok(Run::Faulty(faulty(alloc, kind))),
+    let place = plan.place_of(part);
+    match part.at {
+        At::Ignored => Ok((Run::Nothing, 0)),
+        At::Pair(w, r) => match plan.aim(place, w, r) {
+            Aim::Fault(kind) => Ok((Run::Faulty(faulty(alloc, kind)), 0)),
             Aim::To(branch, q) => {
-                let a = items_of(writer, w);
-                let b = items_of(reader, q);
+                let (a, b) = plan.items(w, q);
                 let kept = builder.items(alloc)?;
-                Ok(Run::Good(kept, 0, branch, a, b))
+                let below = plan.place_below(place, 0);
+                Ok((Run::Good(kept, 0, branch, a, b), below))
             }
         },
     }
@@ -102,21 +105,21 @@ pub fn make_array<B: Build>(
 pub fn start_entries<B: Build>(
     alloc: Global,
     builder: &mut B,
-    writer: &Schema,
-    reader: &Schema,
-    at: At,
-) -> Result<Run<B::Entries>, AllocError>
-    ensures { (nodes : List Node) (place : ℕ) → IfOk result (λ run. EntriesStandAs B.entries_stand_for (schema_nodes writer.now) (schema_nodes reader.now) nodes place at run []) }
+    plan: &Plan<'_>,
+    part: Part,
+) -> Result<(Run<B::Entries>, u32), AllocError>
+    ensures { (nodes : List Node) (place : ℕ) → IfOk result (λ run. EntriesStandAs B.entries_stand_for (schema_nodes plan.now.0) (schema_nodes plan.now.1) nodes place part.at run.0 []) }
 {
-    match at {
-        At::Ignored => Ok(Run::Nothing),
-        At::Pair(w, r) => match aim(writer, w, reader, r) {
-            Aim::Fault(kind) => Ok(Run::Faulty(faulty(alloc, kind))),
+    let place = plan.place_of(part);
+    match part.at {
+        At::Ignored => Ok((Run::Nothing, 0)),
+        At::Pair(w, r) => match plan.aim(place, w, r) {
+            Aim::Fault(kind) => Ok((Run::Faulty(faulty(alloc, kind)), 0)),
             Aim::To(branch, q) => {
-                let a = values_of(writer, w);
-                let b = values_of(reader, q);
+                let (a, b) = plan.values(w, q);
                 let kept = builder.entries(alloc)?;
-                Ok(Run::Good(kept, 0, branch, a, b))
+                let below = plan.place_below(place, 0);
+                Ok((Run::Good(kept, 0, branch, a, b), below))
             }
         },
     }

@@ -1,13 +1,14 @@
-ghost use Rattle.std.specs.Prelude.{◌≡◌, true, slice_get, unwrap_or, bytes_eq};
+ghost use Rattle.std.specs.Prelude.{◌≡◌, List, Some, true, slice_get, unwrap_or, bytes_eq};
 ghost use Rattle.std.specs.List.{flat_map};
 ghost use Rattle.avro_schema.specs.Distinct.{are_distinct};
 ghost use Rattle.avro_schema.specs.WellFormed.{field_names};
-ghost use Rattle.avro_schema.specs.Node.{node_at, field_places};
+ghost use Rattle.avro_schema.specs.Node.{FieldNode, node_at, field_places};
 ghost use Rattle.avro_schema.specs.Seen.{seen_fields, field_of};
 ghost use Rattle.avro_schema.specs.SeenSchema.{schema_nodes};
-ghost use Rattle.avro_resolve.specs.Source.{field_place, source_of, missing_field};
+ghost use Rattle.avro_resolve.specs.Source.{field_place, is_place, source_of, missing_field};
 ghost use Rattle.avro_resolve.specs.Resolve.{fields_at};
 ghost use Rattle.avro_resolve.specs.Pairs.{field_for};
+ghost use Rattle.avro_resolve.specs.Planned.{AreSources};
 
 use crate::guided::At;
 use avro_schema::{Field, Node, NodeId, RecordNode, Schema};
@@ -87,20 +88,52 @@ fn node_of_field(fields: &[Field], place: usize) -> NodeId
     }
 }
 
+/// The source of the reader's field at a place, as it is kept or else by name.
+pub fn source_kept(
+    writes: &[Field],
+    sources: &[Option<usize>],
+    place: usize,
+    f: &Field,
+) -> Option<usize>
+    ensures { (rs : List FieldNode) → AreSources (seen_fields writes.now) rs sources.now → slice_get rs place ≡ Some (field_of f.now)
+        → result ≡ source_of (seen_fields writes.now) (field_of f.now) }
+{
+    if place < sources.len() {
+        sources[place]
+    } else {
+        source_among(writes, f)
+    }
+}
+
 /// What the writer's field at a place is for.
 pub fn part_for(writer: &[Field], reader: &[Field], place: usize) -> At
     ensures { result ≡ field_for (seen_fields writer.now) (seen_fields reader.now) place }
 {
+    part_among(writer, reader, &[], place)
+}
+
+/// The same, by the sources of the reader's fields as far as they are kept.
+pub fn part_among(writer: &[Field], reader: &[Field], sources: &[Option<usize>], place: usize) -> At
+    requires { AreSources (seen_fields writer.now) (seen_fields reader.now) sources.now }
+    ensures { result ≡ field_for (seen_fields writer.now) (seen_fields reader.now) place }
+{
     let node = node_of_field(writer, place);
-    for f in reader {
-        match source_among(writer, f) {
-            Some(k) => {
-                if k == place {
-                    return At::Pair(node, f.node);
-                }
-            }
-            None => {}
+    for index in 0..reader.len() {
+        let f = &reader[index];
+        if takes(writer, sources, index, f, place) {
+            return At::Pair(node, f.node);
         }
     }
     At::Ignored
+}
+
+/// Whether the writer's field at a place is the source of a reader's field, which is the one at an index.
+fn takes(writer: &[Field], sources: &[Option<usize>], index: usize, f: &Field, place: usize) -> bool
+    ensures { (rs : List FieldNode) → AreSources (seen_fields writer.now) rs sources.now → slice_get rs index ≡ Some (field_of f.now)
+        → result ≡ is_place (source_of (seen_fields writer.now) (field_of f.now)) place }
+{
+    match source_kept(writer, sources, index, f) {
+        Some(k) => k == place,
+        None => false,
+    }
 }

@@ -1,11 +1,11 @@
 use Rattle.std.proofs.Common.{◌≡◌, ◌+◌, [], drop, rules}
 use Rattle.avro_schema.specs.Seen.{seen_fields}
-use Rattle.avro_resolve.proofs.Slots.{distinct_here, distinct_after, slots_here, no_values_yet, values_more, values_all}
+use Rattle.avro_resolve.proofs.Slots.{distinct_here, distinct_after, slots_here, seen_at, no_values_yet, values_more, values_all}
 use Rattle.avro_resolve.proofs.filling.fill.Goals as goal
 
-pub loop-f-init : goal.loop-f-init
-loop-f-init g c = (
-  c.requires,
+pub loop-place-init : goal.loop-place-init
+loop-place-init g c = (
+  c.requires.distinct,
   λ found all. (
     λ h is k src. all k,
     let none : c.new-values.result.items ≡ [] = search rules in
@@ -13,23 +13,24 @@ loop-f-init g c = (
   ),
 )
 
-pub loop-f-preserved : goal.loop-f-preserved
-loop-f-preserved g c =
+pub loop-place-preserved : goal.loop-place-preserved
+loop-place-preserved g c =
     let S = g.B.Build.stands_for in
     let ws = seen_fields c.args.writes.now in
     let reads = c.args.reads.now in
-    let i = c.loop-f.f-index in
-    let f = c.f-item.result in
-    let low = c.loop-f-test.true in
-    let is = c.f-item.is in
-    let distinct = c.loop-f.invariant.0 in (
+    let i = c.loop-place.place in
+    let f = c.index-reads-place.result in
+    let low = c.loop-place-test.true in
+    let is = c.index-reads-place.is in
+    let distinct = c.loop-place.invariant.0 in (
       distinct_after ws reads i f low is distinct,
       λ found all.
-          let before = c.loop-f.invariant.1 found all in
-          let taken = c.in_ok-value.ensures found (seen_fields (drop (i + 1) reads)) (distinct_here ws reads i f low is distinct) (slots_here ws reads i f low is S found _ before.0) in
-          (taken.0, values_more ws reads i f low is S found c.loop-f.values.items c.push.new.self.items c.in_ok-value.value c.in_ok-push.ensures.items taken.1 before.1),
+          let before = c.loop-place.invariant.1 found all in
+          let src = c.source_kept-source.ensures (seen_fields reads) c.requires.sources (seen_at reads i f low is) in
+          let taken = c.in_ok-value.ensures ws found (seen_fields (drop (i + 1) reads)) src (distinct_here ws reads i f low is distinct) (slots_here ws reads i f low is S found _ before.0) in
+          (taken.0, values_more ws reads i f low is S found c.loop-place.values.items c.push.new.self.items c.in_ok-value.value c.in_ok-push.ensures.items taken.1 before.1),
     )
 
 pub returns : goal.returns
 returns g c = λ found all.
-    values_all g.B.Build.stands_for (seen_fields c.args.writes.now) found c.args.reads.now c.loop-f.f-index c.loop-f.values.items c.loop-f-test.false (c.loop-f.invariant.1 found all).1
+    values_all g.B.Build.stands_for (seen_fields c.args.writes.now) found c.args.reads.now c.loop-place.place c.loop-place.values.items c.loop-place-test.false (c.loop-place.invariant.1 found all).1

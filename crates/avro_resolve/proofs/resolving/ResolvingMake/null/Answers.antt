@@ -7,6 +7,6 @@ use Rattle.avro_resolve.proofs.resolving.ResolvingMake.null.Goals as goal
 
 pub returns-in_ok-out-in-To-clause-stands : goal.returns-in_ok-out-in-To-clause-stands
 returns-in_ok-out-in-To-clause-stands g c = λ nodes.
-    leaf_made g.B.Build.stands_for (schema_nodes c.args.self.now.writer.now) (schema_nodes c.args.self.now.reader.now) nodes Node.null c.args.at c.in-Pair.w c.in-Pair.r
+    leaf_made g.B.Build.stands_for (schema_nodes c.args.self.now.plan.now.0) (schema_nodes c.args.self.now.plan.now.1) nodes Node.null c.args.at.at c.in-Pair.w c.in-Pair.r
     c.in-To.branch c.in-To.field-1 Value.null (λ q. Ok Value.null) c.wrap.result c.in-Pair.is refl c.in-To.ensures
     (c.wrap.ensures Value.null c.in_ok-out-in-To.ensures)

@@ -1,0 +1,18 @@
+use Rattle.std.proofs.Common.{◌≡◌, [], rules}
+use Rattle.avro_schema.specs.SeenSchema.{schema_nodes}
+use Rattle.avro_resolve.specs.Planned.{IsPrepared}
+use Rattle.avro_resolve.proofs.Planning.{holds_none, holds_push}
+use Rattle.avro_resolve.proofs.preparing.prepare_all.Goals as goal
+
+pub loop-pair-init : goal.loop-pair-init
+loop-pair-init c =
+    let none : c.new-kept.result.items ≡ [] = search rules in
+    holds_none (λ k p. IsPrepared (schema_nodes c.args.writer.now) (schema_nodes c.args.reader.now) p) none
+
+pub loop-pair-preserved : goal.loop-pair-preserved
+loop-pair-preserved c =
+    holds_push (λ k p. IsPrepared (schema_nodes c.args.writer.now) (schema_nodes c.args.reader.now) p) c.loop-pair.kept.items c.push.new.self.items c.in_ok-prepared.prepared c.loop-pair.pair-index
+    c.in_ok-push.ensures.items c.loop-pair.invariant c.in_ok-prepared.ensures
+
+pub returns : goal.returns
+returns c = c.loop-pair.invariant.0

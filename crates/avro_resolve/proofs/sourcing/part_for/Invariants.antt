@@ -1,7 +1,0 @@
-use Rattle.std.proofs.Common.{◌≡◌, drop}
-use Rattle.avro_schema.specs.Seen.{seen_fields}
-use Rattle.avro_resolve.specs.Source.{reader_field}
-use Rattle.avro_resolve.proofs.sourcing.part_for.Given as goal
-
-abbrev pub invariant-loop-f : goal.invariant-loop-f
-invariant-loop-f l = reader_field (seen_fields l.writer) (seen_fields l.reader) l.place ≡ reader_field (seen_fields l.writer) (seen_fields (drop l.f-index l.reader)) l.place

@@ -1,0 +1,31 @@
+-- What a plan keeps of pairs of nodes.
+use Rattle.std.specs.Prelude.{◌≡◌, ℕ, List, Option, Some, slice_get}
+use Rattle.avro_schema.specs.Node.{Node, FieldNode, node_at}
+use Rattle.avro_resolve.specs.Pairs.{IsAim, IsSymbol, field_for}
+use Rattle.avro_resolve.specs.Resolve.{enum_as, symbol_at, fields_at}
+use Rattle.avro_resolve.specs.Source.{source_of, missing_field}
+use Rattle.avro_resolve.specs.declared.guided.At.{At}
+use Rattle.avro_resolve.specs.declared.prepared.Prepared.{Prepared}
+
+-- each is the source of the reader's field at its place
+abbrev pub AreSources : List FieldNode → List FieldNode → List (Option ℕ) → Type 0
+AreSources ws rs sources = (k : ℕ) (s : Option ℕ) → slice_get sources k ≡ Some s → (f : FieldNode) → slice_get rs k ≡ Some f → s ≡ source_of ws f
+
+-- each is what the writer's field at its place is for
+abbrev pub AreFor : List FieldNode → List FieldNode → List At → Type 0
+AreFor ws rs parts = (k : ℕ) (at : At) → slice_get parts k ≡ Some at → at ≡ field_for ws rs k
+
+-- each is the reader's symbol for the writer's at its place
+abbrev pub AreSymbols : Node → Node → List (Option ℕ) → Type 0
+AreSymbols w q symbols = (k : ℕ) (s : Option ℕ) → slice_get symbols k ≡ Some s → IsSymbol (enum_as (symbol_at w k) q) s
+
+-- what is kept of a pair of nodes is what they are to each other
+pub record IsPrepared (writer reader : List Node) (p : Prepared) : Type 0 where
+  pub aims : IsAim writer reader (node_at writer p.w.0) (node_at reader p.r.0) p.aim
+  pub complete : p.missing ≡ missing_field (fields_at (node_at writer p.w.0)) (fields_at (node_at reader p.q.0))
+  pub fields : AreFor (fields_at (node_at writer p.w.0)) (fields_at (node_at reader p.q.0)) p.fields.items
+  pub sources : AreSources (fields_at (node_at writer p.w.0)) (fields_at (node_at reader p.q.0)) p.sources.items
+  pub symbols : AreSymbols (node_at writer p.w.0) (node_at reader p.q.0) p.symbols.items
+
+abbrev pub ArePrepared : List Node → List Node → List Prepared → Type 0
+ArePrepared writer reader pairs = (k : ℕ) (p : Prepared) → slice_get pairs k ≡ Some p → IsPrepared writer reader p

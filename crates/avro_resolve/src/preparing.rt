@@ -1,0 +1,136 @@
+ghost use Rattle.std.specs.Prelude.{◌≡◌, IfOk};
+ghost use Rattle.avro_schema.specs.Node.{node_at};
+ghost use Rattle.avro_schema.specs.Seen.{seen_fields};
+ghost use Rattle.avro_schema.specs.SeenSchema.{schema_nodes};
+ghost use Rattle.avro_resolve.specs.Planned.{AreFor, ArePrepared, AreSources, AreSymbols, IsPrepared};
+
+use crate::guided::{Aim, At};
+use crate::ordering::{PlacedPair, in_order, parts_of, place_in};
+use crate::pairs::aim;
+use crate::prepared::Prepared;
+use crate::sourcing::{fields_of, missing, part_among, source_among};
+use crate::symbols::symbol_for;
+use avro_schema::{Field, Node, NodeId, Schema};
+use std::alloc::{AllocError, Global};
+
+/// What a plan keeps of some pairs of nodes, and the place of the roots' pair among them.
+pub fn prepare_all(
+    alloc: Global,
+    writer: &Schema,
+    reader: &Schema,
+    pairs: &[(NodeId, NodeId)],
+) -> Result<(Vec<Prepared>, u32), AllocError>
+    ensures { IfOk result (λ r. ArePrepared (schema_nodes writer.now) (schema_nodes reader.now) r.0.items) }
+{
+    let order = in_order(alloc, pairs)?;
+    let root = place_in(&order, writer.root(), reader.root());
+    let mut kept = Vec::new(alloc);
+    for pair in pairs {
+        let prepared = prepare(alloc, writer, pair.0, reader, pair.1, &order)?;
+        kept.push(prepared)?;
+    }
+    Ok((kept, root))
+}
+
+/// What a plan keeps of a pair of nodes.
+fn prepare(
+    alloc: Global,
+    writer: &Schema,
+    w: NodeId,
+    reader: &Schema,
+    r: NodeId,
+    order: &[PlacedPair],
+) -> Result<Prepared, AllocError>
+    ensures { IfOk result (λ p. IsPrepared (schema_nodes writer.now) (schema_nodes reader.now) p) }
+{
+    let leads = aim(writer, w, reader, r);
+    let q = target(leads);
+    let writes = fields_of(writer, w);
+    let reads = fields_of(reader, q);
+    let sources = find_sources(alloc, writes, reads)?;
+    let fields = find_fields(alloc, writes, reads, &sources)?;
+    let symbols = find_symbols(alloc, writer, w, reader, q)?;
+    let parts = parts_of(alloc, writer, w, reader, r, q, &fields, order)?;
+    Ok(Prepared {
+        w,
+        r,
+        q,
+        aim: leads,
+        missing: missing(writes, reads),
+        fields,
+        sources,
+        symbols,
+        parts,
+    })
+}
+
+/// The reader's node that a pair leads to.
+fn target(aim: Aim) -> NodeId {
+    match aim {
+        Aim::To(_, q) => q,
+        Aim::Fault(_) => NodeId(0),
+    }
+}
+
+/// The sources of a reader's fields.
+fn find_sources(
+    alloc: Global,
+    writes: &[Field],
+    reads: &[Field],
+) -> Result<Vec<Option<usize>>, AllocError>
+    ensures { IfOk result (λ found. AreSources (seen_fields writes.now) (seen_fields reads.now) found.items) }
+{
+    let mut found = Vec::new(alloc);
+    for place in 0..reads.len() {
+        found.push(source_among(writes, &reads[place]))?;
+    }
+    Ok(found)
+}
+
+/// What the writer's fields are for, by the sources of the reader's.
+fn find_fields(
+    alloc: Global,
+    writes: &[Field],
+    reads: &[Field],
+    sources: &[Option<usize>],
+) -> Result<Vec<At>, AllocError>
+    requires { AreSources (seen_fields writes.now) (seen_fields reads.now) sources.now }
+    ensures { IfOk result (λ found. AreFor (seen_fields writes.now) (seen_fields reads.now) found.items) }
+{
+    let mut found = Vec::new(alloc);
+    for place in 0..writes.len() {
+        found.push(part_among(writes, reads, sources, place))?;
+    }
+    Ok(found)
+}
+
+/// The reader's symbols for a writer's.
+fn find_symbols(
+    alloc: Global,
+    writer: &Schema,
+    w: NodeId,
+    reader: &Schema,
+    q: NodeId,
+) -> Result<Vec<Option<u32>>, AllocError>
+    ensures { IfOk result (λ found. AreSymbols (node_at (schema_nodes writer.now) w.0) (node_at (schema_nodes reader.now) q.0) found.items) }
+{
+    let mut found = Vec::new(alloc);
+    for symbol in 0..symbol_count(writer, w) {
+        found.push(symbol_for(writer, w, symbol, reader, q))?;
+    }
+    Ok(found)
+}
+
+/// How many symbols a node has.
+fn symbol_count(schema: &Schema, id: NodeId) -> u32 {
+    if !schema.has(id) {
+        return 0;
+    }
+    match schema.node(id) {
+        Node::Enum(enumeration) => match u32::try_from(enumeration.symbols.len()) {
+            Ok(count) => count,
+            Err(_) => 0,
+        },
+        _ => 0,
+    }
+}
