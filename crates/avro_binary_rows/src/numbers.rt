@@ -37,21 +37,46 @@ fn ints_are_read(rt: HostRuntime) {
         (&[0xff, 0xff, 0xff, 0xff, 0x10], Err(VarError::OutOfRange)),
         (&[0x80, 0x00], Ok((0, 2))),
         (&[0x80], Err(VarError::EndOfInput)),
+        (&[0x8a, 0x00], Ok((5, 2))),
+        (&[0x8a, 0x80, 0x80, 0x80, 0x00], Ok((5, 5))),
+        (
+            &[0x8a, 0x80, 0x80, 0x80, 0x80, 0x00],
+            Err(VarError::OutOfRange),
+        ),
+        (&[0x8a, 0x80, 0x80, 0x80, 0x10], Err(VarError::OutOfRange)),
+        (&[0x8a, 0x80, 0x80, 0x80], Err(VarError::EndOfInput)),
     ] {
         assert_eq!(rt; read_int(bytes), wanted);
     }
 }
 
 #[test]
-fn other_longs_are_refused(rt: HostRuntime) {
+fn padded_longs_are_read(rt: HostRuntime) {
     for (bytes, wanted) in [
-        (&[][..], VarError::EndOfInput),
-        (&[0x80u8], VarError::EndOfInput),
+        (&[][..], Err(VarError::EndOfInput)),
+        (&[0x80u8], Err(VarError::EndOfInput)),
         (
             &[0xff, 0xff, 0xff, 0xff, 0xff, 0xff, 0xff, 0xff, 0xff, 0x02],
-            VarError::OutOfRange,
+            Err(VarError::OutOfRange),
         ),
+        (&[0x80, 0x00], Ok((0, 2))),
+        (&[0x81, 0x80, 0x00, 0x05], Ok((-1, 3))),
+        (
+            &[0x80, 0x80, 0x80, 0x80, 0x80, 0x80, 0x80, 0x80, 0x80, 0x00],
+            Ok((0, 10)),
+        ),
+        (
+            &[0x80, 0x80, 0x80, 0x80, 0x80, 0x80, 0x80, 0x80, 0x80, 0x02],
+            Err(VarError::OutOfRange),
+        ),
+        (
+            &[
+                0x80, 0x80, 0x80, 0x80, 0x80, 0x80, 0x80, 0x80, 0x80, 0x80, 0x00,
+            ],
+            Err(VarError::OutOfRange),
+        ),
+        (&[0x80, 0x80], Err(VarError::EndOfInput)),
     ] {
-        assert_eq!(rt; read_long(bytes), Err(wanted));
+        assert_eq!(rt; read_long(bytes), wanted);
     }
 }
