@@ -1,3 +1,5 @@
+//! Schemas that are built node by node.
+
 use avro_name::{FullName, NameError, Namespace};
 use avro_schema::{
     Datum, Draft, DraftError, EnumNode, Field, FixedNode, Node, NodeId, RecordNode, Schema,
@@ -5,46 +7,49 @@ use avro_schema::{
 use std::alloc::{AllocError, Global};
 use std::test::Fail;
 
+/// A node without aliases and defaults, in words.
+#[derive(Clone, Copy)]
+enum Shape {
+    Null,
+    Int,
+    Long,
+    Bytes,
+    Str,
+    Array(u32),
+    Map(u32),
+    Union(&'static [u32]),
+    Record(&'static str, &'static [(&'static str, u32)]),
+    Enum(&'static [&'static str], Option<u32>),
+    Fixed(&'static str, u32),
+}
+
 /// The fullname of a text in the null namespace.
 fn name(alloc: Global, text: &str) -> Result<FullName, NameError> {
     FullName::read(alloc, text, &Namespace::null(alloc))
 }
 
-/// Texts of one's own.
-fn texts(alloc: Global, words: &[&str]) -> Result<Vec<String>, AllocError> {
-    let mut texts = Vec::new(alloc);
-    for word in words {
-        texts.push(String::from_str(alloc, word)?)?;
-    }
-    Ok(texts)
-}
-
-/// A field without aliases.
-pub(crate) fn field(
+/// A field with no alias, or with one.
+fn field(
     alloc: Global,
     name: &str,
+    alias: Option<&str>,
     node: u32,
     default: Option<Datum>,
 ) -> Result<Field, AllocError> {
+    let mut aliases = Vec::new(alloc);
+    if let Some(text) = alias {
+        aliases.push(String::from_str(alloc, text)?)?;
+    }
     Ok(Field {
         name: String::from_str(alloc, name)?,
-        aliases: Vec::new(alloc),
+        aliases,
         node: NodeId(node),
         default,
     })
 }
 
-/// Fields without aliases and defaults, of their names and nodes.
-pub(crate) fn fields(alloc: Global, named: &[(&str, u32)]) -> Result<Vec<Field>, AllocError> {
-    let mut list = Vec::new(alloc);
-    for (name, node) in named {
-        list.push(field(alloc, name, *node, None)?)?;
-    }
-    Ok(list)
-}
-
 /// A record without aliases.
-pub(crate) fn record(alloc: Global, text: &str, fields: Vec<Field>) -> Result<Node, NameError> {
+fn record(alloc: Global, text: &str, fields: Vec<Field>) -> Result<Node, NameError> {
     Ok(Node::Record(RecordNode {
         name: name(alloc, text)?,
         aliases: Vec::new(alloc),
@@ -52,229 +57,219 @@ pub(crate) fn record(alloc: Global, text: &str, fields: Vec<Field>) -> Result<No
     }))
 }
 
-/// An enum E.
-pub(crate) fn enumeration(
-    alloc: Global,
-    symbols: &[&str],
-    default: Option<u32>,
-) -> Result<Node, Fail> {
+/// A record of these fields.
+fn record_of(alloc: Global, text: &str, named: &[(&str, u32)]) -> Result<Node, Fail> {
+    let mut fields = Vec::new(alloc);
+    for (name, node) in named {
+        fields.push(field(alloc, name, None, *node, None)?)?;
+    }
+    Ok(record(alloc, text, fields)?)
+}
+
+/// An enum E of these symbols.
+fn enum_of(alloc: Global, words: &[&str], default: Option<u32>) -> Result<Node, Fail> {
+    let mut symbols = Vec::new(alloc);
+    for word in words {
+        symbols.push(String::from_str(alloc, word)?)?;
+    }
     Ok(Node::Enum(EnumNode {
         name: name(alloc, "E")?,
         aliases: Vec::new(alloc),
-        symbols: texts(alloc, symbols)?,
+        symbols,
         default,
     }))
 }
 
-/// A fixed without aliases.
-pub(crate) fn fixed(alloc: Global, text: &str, size: u32) -> Result<Node, NameError> {
-    Ok(Node::Fixed(FixedNode {
-        name: name(alloc, text)?,
-        aliases: Vec::new(alloc),
-        size,
-    }))
-}
-
-/// A union of these nodes.
-pub(crate) fn union(alloc: Global, places: &[u32]) -> Result<Node, AllocError> {
-    let mut branches = Vec::new(alloc);
-    for place in places {
-        branches.push(NodeId(*place))?;
-    }
-    Ok(Node::Union(branches))
+/// The node of a shape.
+fn node_of(alloc: Global, shape: &Shape) -> Result<Node, Fail> {
+    Ok(match shape {
+        Shape::Null => Node::Null,
+        Shape::Int => Node::Int,
+        Shape::Long => Node::Long,
+        Shape::Bytes => Node::Bytes,
+        Shape::Str => Node::Str,
+        Shape::Array(items) => Node::Array(NodeId(*items)),
+        Shape::Map(values) => Node::Map(NodeId(*values)),
+        Shape::Union(numbers) => {
+            let mut branches = Vec::new(alloc);
+            for number in *numbers {
+                branches.push(NodeId(*number))?;
+            }
+            Node::Union(branches)
+        }
+        Shape::Record(text, named) => record_of(alloc, text, named)?,
+        Shape::Enum(words, default) => enum_of(alloc, words, *default)?,
+        Shape::Fixed(text, size) => Node::Fixed(FixedNode {
+            name: name(alloc, text)?,
+            aliases: Vec::new(alloc),
+            size: *size,
+        }),
+    })
 }
 
 /// The schema of these nodes.
-pub(crate) fn finished(alloc: Global, nodes: Vec<Node>) -> Result<Schema, DraftError> {
+fn finished(alloc: Global, shapes: &[Shape]) -> Result<Result<Schema, DraftError>, Fail> {
     let mut draft = Draft::new(alloc);
-    for node in nodes {
-        draft.add(node)?;
+    for shape in shapes {
+        draft.add(node_of(alloc, shape)?)?;
     }
-    draft.finish()
-}
-
-/// A record with a field of each of ten nodes behind it, the enum with a default.
-fn record_of_all(alloc: Global) -> Result<Node, Fail> {
-    let mut parts = fields(
-        alloc,
-        &[("a", 1), ("m", 3), ("u", 5), ("f", 8), ("b", 9), ("s", 10)],
-    )?;
-    parts.push(field(alloc, "e", 7, Some(Datum::Enum(1)))?)?;
-    Ok(record(alloc, "R", parts)?)
+    Ok(draft.finish())
 }
 
 #[test]
 fn each_kind_of_node_is_built(rt: HostRuntime) -> Result<(), Fail> {
-    let alloc = rt.alloc();
-    let mut draft = Draft::new(alloc);
-    draft.add(record_of_all(alloc)?)?;
-    draft.add(Node::Array(NodeId(2)))?;
-    draft.add(Node::Int)?;
-    draft.add(Node::Map(NodeId(4)))?;
-    draft.add(Node::Long)?;
-    draft.add(union(alloc, &[6, 0])?)?;
-    draft.add(Node::Null)?;
-    draft.add(enumeration(alloc, &["A", "B"], Some(1))?)?;
-    draft.add(fixed(alloc, "F", 1_048_576)?)?;
-    draft.add(Node::Bytes)?;
-    draft.add(Node::Str)?;
-    let schema = draft.finish()?;
+    let shapes = [
+        Shape::Record(
+            "R",
+            &[
+                ("a", 1),
+                ("m", 3),
+                ("u", 5),
+                ("e", 7),
+                ("f", 8),
+                ("b", 9),
+                ("s", 10),
+            ],
+        ),
+        Shape::Array(2),
+        Shape::Int,
+        Shape::Map(4),
+        Shape::Long,
+        Shape::Union(&[6, 0]),
+        Shape::Null,
+        Shape::Enum(&["A", "B"], Some(1)),
+        Shape::Fixed("F", 1_048_576),
+        Shape::Bytes,
+        Shape::Str,
+    ];
+    let schema = finished(rt.alloc(), &shapes)??;
     assert_eq!(rt; schema.len(), 11);
     assert!(rt; *schema.node(schema.root()) != Node::Null);
     Ok(())
 }
 
 #[test]
-fn edges_go_forward_or_to_a_named_type(rt: HostRuntime) -> Result<(), Fail> {
-    let alloc = rt.alloc();
-    let back_to_record = vec![in alloc;
-        record(alloc, "R", fields(alloc, &[("f", 1)])?)?,
-        Node::Array(NodeId(0)),
-    ]?;
-    assert!(rt; finished(alloc, back_to_record).is_ok());
-    let unknown = Some(DraftError::UnknownNode);
-    let back_to_array = vec![in alloc; Node::Array(NodeId(1)), Node::Array(NodeId(0))]?;
-    assert_eq!(rt; finished(alloc, back_to_array).err(), unknown);
-    let to_no_node = vec![in alloc; Node::Map(NodeId(1))]?;
-    assert_eq!(rt; finished(alloc, to_no_node).err(), unknown);
-    Ok(())
-}
-
-#[test]
-fn names_are_defined_once(rt: HostRuntime) -> Result<(), Fail> {
-    let alloc = rt.alloc();
-    let twice = vec![in alloc;
-        record(alloc, "R", fields(alloc, &[("f", 1), ("g", 2)])?)?,
-        fixed(alloc, "F", 1)?,
-        fixed(alloc, "F", 2)?,
-    ]?;
-    assert_eq!(rt;
-        finished(alloc, twice).err(),
-        Some(DraftError::DuplicateName)
-    );
-    Ok(())
-}
-
-#[test]
-fn unions_keep_their_rules(rt: HostRuntime) -> Result<(), Fail> {
-    let alloc = rt.alloc();
-    let good = vec![in alloc; union(alloc, &[1, 2])?, Node::Null, Node::Int]?;
-    assert!(rt; finished(alloc, good).is_ok());
-    let invalid = Some(DraftError::InvalidUnion);
-    let empty = vec![in alloc; union(alloc, &[])?]?;
-    assert_eq!(rt; finished(alloc, empty).err(), invalid);
-    let nested = vec![in alloc; union(alloc, &[1])?, union(alloc, &[2])?, Node::Null]?;
-    assert_eq!(rt; finished(alloc, nested).err(), invalid);
-    let arrays = vec![in alloc;
-        union(alloc, &[1, 3])?,
-        Node::Array(NodeId(2)),
-        Node::Int,
-        Node::Array(NodeId(4)),
-        Node::Long,
-    ]?;
-    assert_eq!(rt; finished(alloc, arrays).err(), invalid);
-    Ok(())
-}
-
-#[test]
-fn symbols_keep_their_rules(rt: HostRuntime) -> Result<(), Fail> {
-    let alloc = rt.alloc();
-    for (symbols, default, error) in [
-        (&[][..], None, DraftError::InvalidSymbols),
-        (&["A", "A"], None, DraftError::InvalidSymbols),
-        (&["A"], Some(1), DraftError::InvalidSymbols),
-        (&["A", "1"], None, DraftError::InvalidName),
-    ] {
-        let nodes = vec![in alloc; enumeration(alloc, symbols, default)?]?;
-        assert_eq!(rt; finished(alloc, nodes).err(), Some(error));
-    }
-    let large = vec![in alloc; fixed(alloc, "F", 1_048_577)?]?;
-    assert_eq!(rt;
-        finished(alloc, large).err(),
-        Some(DraftError::LimitExceeded)
-    );
-    Ok(())
-}
-
-/// The fault of a record of these fields, which go to an int.
-fn fault_of_fields(alloc: Global, list: Vec<Field>) -> Result<Option<DraftError>, Fail> {
-    let nodes = vec![in alloc; record(alloc, "R", list)?, Node::Int]?;
-    Ok(finished(alloc, nodes).err())
-}
-
-#[test]
-fn fields_keep_their_rules(rt: HostRuntime) -> Result<(), Fail> {
-    let alloc = rt.alloc();
-    for (named, fault) in [
-        (&[("x", 1), ("y", 1)][..], None),
-        (&[("x", 1), ("x", 1)], Some(DraftError::DuplicateField)),
-        (&[("a-b", 1)], Some(DraftError::InvalidName)),
-    ] {
-        let list = fields(alloc, named)?;
-        assert_eq!(rt; fault_of_fields(alloc, list)?, fault);
+fn nodes_keep_their_rules(rt: HostRuntime) -> Result<(), Fail> {
+    let rows: [(&[Shape], Option<DraftError>); 17] = [
+        // Edges go forward, or to a named type.
+        (&[Shape::Record("R", &[("f", 1)]), Shape::Array(0)], None),
+        (
+            &[Shape::Array(1), Shape::Array(0)],
+            Some(DraftError::UnknownNode),
+        ),
+        (&[Shape::Map(1)], Some(DraftError::UnknownNode)),
+        // Names are defined once.
+        (
+            &[
+                Shape::Record("R", &[("f", 1), ("g", 2)]),
+                Shape::Fixed("F", 1),
+                Shape::Fixed("F", 2),
+            ],
+            Some(DraftError::DuplicateName),
+        ),
+        // Unions have branches, none of them a union, and no two of one kind.
+        (&[Shape::Union(&[1, 2]), Shape::Null, Shape::Int], None),
+        (&[Shape::Union(&[])], Some(DraftError::InvalidUnion)),
+        (
+            &[Shape::Union(&[1]), Shape::Union(&[2]), Shape::Null],
+            Some(DraftError::InvalidUnion),
+        ),
+        (
+            &[
+                Shape::Union(&[1, 3]),
+                Shape::Array(2),
+                Shape::Int,
+                Shape::Array(4),
+                Shape::Long,
+            ],
+            Some(DraftError::InvalidUnion),
+        ),
+        // Symbols are distinct names, the default one of them.
+        (&[Shape::Enum(&[], None)], Some(DraftError::InvalidSymbols)),
+        (
+            &[Shape::Enum(&["A", "A"], None)],
+            Some(DraftError::InvalidSymbols),
+        ),
+        (
+            &[Shape::Enum(&["A"], Some(1))],
+            Some(DraftError::InvalidSymbols),
+        ),
+        (
+            &[Shape::Enum(&["A", "1"], None)],
+            Some(DraftError::InvalidName),
+        ),
+        (
+            &[Shape::Fixed("F", 1_048_577)],
+            Some(DraftError::LimitExceeded),
+        ),
+        // Fields have distinct names.
+        (
+            &[Shape::Record("R", &[("x", 1), ("y", 1)]), Shape::Int],
+            None,
+        ),
+        (
+            &[Shape::Record("R", &[("x", 1), ("x", 1)]), Shape::Int],
+            Some(DraftError::DuplicateField),
+        ),
+        (
+            &[Shape::Record("R", &[("a-b", 1)]), Shape::Int],
+            Some(DraftError::InvalidName),
+        ),
+        (&[], Some(DraftError::LimitExceeded)),
+    ];
+    for (shapes, fault) in rows {
+        assert_eq!(rt; finished(rt.alloc(), shapes)?.err(), fault);
     }
     Ok(())
+}
+
+/// The fault of a record of one field, with this alias or default, before these other nodes.
+fn fault_of_field(
+    alloc: Global,
+    alias: Option<&str>,
+    default: Option<Datum>,
+    others: &[Shape],
+) -> Result<Option<DraftError>, Fail> {
+    let fields = vec![in alloc; field(alloc, "x", alias, 1, default)?]?;
+    let mut draft = Draft::new(alloc);
+    draft.add(record(alloc, "R", fields)?)?;
+    for shape in others {
+        draft.add(node_of(alloc, shape)?)?;
+    }
+    Ok(draft.finish().err())
 }
 
 #[test]
 fn a_field_has_no_alias_that_is_its_name(rt: HostRuntime) -> Result<(), Fail> {
-    let alloc = rt.alloc();
-    let own_alias = Field {
-        name: String::from_str(alloc, "x")?,
-        aliases: texts(alloc, &["x"])?,
-        node: NodeId(1),
-        default: None,
-    };
-    let list = vec![in alloc; own_alias]?;
-    let fault = fault_of_fields(alloc, list)?;
-    assert_eq!(rt; fault, Some(DraftError::DuplicateField));
+    for (alias, fault) in [("x", Some(DraftError::DuplicateField)), ("y", None)] {
+        let found = fault_of_field(rt.alloc(), Some(alias), None, &[Shape::Int])?;
+        assert_eq!(rt; found, fault);
+    }
     Ok(())
-}
-
-/// The fault of a field of null or int with this default.
-fn fault_of_default(alloc: Global, default: Datum) -> Result<Option<DraftError>, Fail> {
-    let list = vec![in alloc; field(alloc, "f", 1, Some(default))?]?;
-    let mut draft = Draft::new(alloc);
-    draft.add(record(alloc, "R", list)?)?;
-    draft.add(union(alloc, &[2, 3])?)?;
-    draft.add(Node::Null)?;
-    draft.add(Node::Int)?;
-    Ok(draft.finish().err())
 }
 
 #[test]
 fn defaults_fit_their_field(rt: HostRuntime) -> Result<(), Fail> {
     let alloc = rt.alloc();
+    let invalid = Some(DraftError::InvalidDefault);
+    let choice = [Shape::Union(&[2, 3]), Shape::Null, Shape::Int];
     for (number, datum, fault) in [
         (0, Datum::Null, None),
         (1, Datum::Int(3), None),
-        (0, Datum::Int(3), Some(DraftError::InvalidDefault)),
+        (0, Datum::Int(3), invalid),
     ] {
         let default = Datum::Union(number, Box::new(alloc, datum)?);
-        assert_eq!(rt; fault_of_default(alloc, default)?, fault);
+        let found = fault_of_field(alloc, None, Some(default), &choice)?;
+        assert_eq!(rt; found, fault);
     }
-    Ok(())
-}
-
-/// The fault of a record whose default has an array of this item, where ints are wanted.
-fn fault_of_item(alloc: Global, item: Datum) -> Result<Option<DraftError>, Fail> {
-    let array = Datum::Array(vec![in alloc; item]?);
-    let default = Datum::Record(vec![in alloc; array]?);
-    let list = vec![in alloc; field(alloc, "f", 1, Some(default))?]?;
-    let mut draft = Draft::new(alloc);
-    draft.add(record(alloc, "R", list)?)?;
-    draft.add(record(alloc, "S", fields(alloc, &[("g", 2)])?)?)?;
-    draft.add(Node::Array(NodeId(3)))?;
-    draft.add(Node::Int)?;
-    Ok(draft.finish().err())
-}
-
-#[test]
-fn parts_of_defaults_fit_too(rt: HostRuntime) -> Result<(), Fail> {
-    let alloc = rt.alloc();
-    let invalid = Some(DraftError::InvalidDefault);
-    assert_eq!(rt; fault_of_item(alloc, Datum::Int(1))?, None);
-    assert_eq!(rt; fault_of_item(alloc, Datum::Long(1))?, invalid);
+    // Parts of defaults fit too.
+    let nested = [Shape::Record("S", &[("g", 2)]), Shape::Array(3), Shape::Int];
+    for (item, fault) in [(Datum::Int(1), None), (Datum::Long(1), invalid)] {
+        let array = Datum::Array(vec![in alloc; item]?);
+        let default = Datum::Record(vec![in alloc; array]?);
+        let found = fault_of_field(alloc, None, Some(default), &nested)?;
+        assert_eq!(rt; found, fault);
+    }
     Ok(())
 }
 

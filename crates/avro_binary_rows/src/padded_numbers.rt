@@ -1,9 +1,7 @@
-//! Numbers whose last groups are 0: they are read at each place, and written shortest.
+//! Numbers whose last groups are 0: they are read at each place.
 
 use crate::reading::{Row, wrong_row};
-use avro_binary::{decode, encode};
 use avro_schema::Limits;
-use avro_schema_json::read_schema;
 use std::test::Fail;
 
 const STRING: &str = "\"string\"";
@@ -105,18 +103,5 @@ fn padded_keys_and_positions_are_read(rt: HostRuntime) -> Result<(), Fail> {
         ("\"boolean\"", b"\x80\x00", "B3 at 0", "B3 at 0"),
     ];
     assert_eq!(rt; wrong_row(rt.alloc(), &Limits::default(), &rows)?, None);
-    Ok(())
-}
-
-#[test]
-fn padded_numbers_are_written_shortest(rt: HostRuntime) -> Result<(), Fail> {
-    let alloc = rt.alloc();
-    let schema = read_schema(alloc, LONGS.as_bytes())?;
-    let bytes = b"\x84\x00\x86\x00\xb6\x00\x80\x00";
-    let (datum, len) = decode(alloc, &schema, schema.root(), bytes, &Limits::default())?;
-    assert_eq!(rt; len, 8);
-    let mut out = Vec::new(alloc);
-    encode(alloc, &schema, schema.root(), &datum, &mut out)?;
-    assert_eq!(rt; out.as_slice(), [0x04u8, 0x06, 0x36, 0x00].as_slice());
     Ok(())
 }
