@@ -2,7 +2,8 @@ pub mod AtMatch
 pub mod Branches
 pub mod EnoughSteps
 pub mod MatchTest
-pub mod Outcomes
+pub mod Named
+mod Outcomes
 pub mod RecordFields
 pub mod Resolved
 mod RowsMatch

@@ -1,6 +1,7 @@
 //! A writer's bytes for a reader: by each reading and each builder the same as by `resolve` after `decode`.
 
-use crate::resolving_rows::{BRANCHES, FIELDS, PARTS, Row};
+use crate::resolving_parts::{FIELDS, PARTS};
+use crate::resolving_rows::{BRANCHES, Row};
 use avro_binary::{Nothing, Tree, append_plain, decode};
 use avro_display::show;
 use avro_packed::{Packed, Pieces, append};
@@ -55,7 +56,11 @@ fn told(
             append_plain(&datum, &mut encoded)?;
             let mut flat = Vec::new(alloc);
             append(&pieces, &mut flat)?;
-            if flat == encoded && flat.as_slice() == plain && packed_len == len && walked == ((), len) {
+            if flat == encoded
+                && flat.as_slice() == plain
+                && packed_len == len
+                && walked == ((), len)
+            {
                 shown(alloc, reader, &datum, len)
             } else {
                 Ok(String::new(alloc))
