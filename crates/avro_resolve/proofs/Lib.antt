@@ -3,7 +3,7 @@ pub mod Branches
 pub mod EnoughSteps
 pub mod MatchTest
 pub mod Named
-mod Outcomes
+pub mod Outcomes
 pub mod RecordFields
 pub mod Resolved
 mod RowsMatch
