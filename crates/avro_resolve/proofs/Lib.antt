@@ -2,6 +2,7 @@ pub mod AtMatch
 pub mod Branches
 pub mod EnoughSteps
 pub mod MatchTest
+pub mod Named
 pub mod Outcomes
 pub mod RecordFields
 pub mod Resolved

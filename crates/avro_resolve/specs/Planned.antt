@@ -1,9 +1,13 @@
 -- What a plan keeps of pairs of nodes.
-use Rattle.std.specs.Prelude.{◌≡◌, ℕ, List, Option, Some, slice_get}
+use Rattle.std.specs.Prelude.{◌≡◌, ℕ, List, [], Option, Some, slice_get, unwrap_or, position, bytes_eq}
+use Rattle.std.specs.Ordering.{nat_cmp}
+use Rattle.std.specs.Cmp.Lexicographic.{slice_cmp}
+use Rattle.std.specs.BTreeMap.{BTreeMap, get_by}
+use denote.Ref.{Bor}
 use Rattle.avro_schema.specs.Node.{Node, FieldNode, node_at}
 use Rattle.avro_resolve.specs.Pairs.{IsAim, IsSymbol, field_for}
-use Rattle.avro_resolve.specs.Resolve.{enum_as, symbol_at, fields_at}
-use Rattle.avro_resolve.specs.Source.{source_of, missing_field}
+use Rattle.avro_resolve.specs.Resolve.{enum_as, enum_or_default, symbol_at, fields_at}
+use Rattle.avro_resolve.specs.Source.{field_place, source_of, missing_field}
 use Rattle.avro_resolve.specs.declared.guided.At.{At}
 use Rattle.avro_resolve.specs.declared.prepared.Prepared.{Prepared}
 
@@ -29,3 +33,16 @@ pub record IsPrepared (writer reader : List Node) (p : Prepared) : Type 0 where
 
 abbrev pub ArePrepared : List Node → List Node → List Prepared → Type 0
 ArePrepared writer reader pairs = (k : ℕ) (p : Prepared) → slice_get pairs k ≡ Some p → IsPrepared writer reader p
+
+-- a map finds the first field of each name, and no other name
+abbrev pub FindsFields : List FieldNode → BTreeMap (Bor (List ℕ)) ℕ → Type 0
+FindsFields fields names = (name : List ℕ) → get_by (λ k. slice_cmp nat_cmp name k.now) names ≡ field_place fields name
+
+-- the same of symbols
+abbrev pub FindsSymbols : List (List ℕ) → BTreeMap (Bor (List ℕ)) ℕ → Type 0
+FindsSymbols symbols names = (word : List ℕ) → get_by (λ k. slice_cmp nat_cmp word k.now) names ≡ position (λ s. bytes_eq s word) symbols
+
+-- each is the place of the symbol at its place, among a reader's symbols with a default
+abbrev pub AreNamed : List (List ℕ) → List (List ℕ) → Option ℕ → List (Option ℕ) → Type 0
+AreNamed writes reads default symbols = (k : ℕ) (s : Option ℕ) → slice_get symbols k ≡ Some s
+    → IsSymbol (enum_or_default (position (λ t. bytes_eq t (unwrap_or (slice_get writes k) [])) reads) default) s

@@ -16,6 +16,7 @@ pub mod laws;
 mod leaves;
 mod making;
 mod matching;
+mod naming;
 mod ordering;
 mod pairs;
 mod parts;

@@ -5,12 +5,13 @@ ghost use Rattle.avro_schema.specs.SeenSchema.{schema_nodes};
 ghost use Rattle.avro_resolve.specs.Planned.{AreFor, ArePrepared, AreSources, AreSymbols, IsPrepared};
 
 use crate::guided::{Aim, At};
+use crate::naming::{field_names, source_in};
 use crate::ordering::{PlacedPair, in_order, parts_of, place_in};
 use crate::pairs::aim;
 use crate::prepared::Prepared;
-use crate::sourcing::{fields_of, missing, part_among, source_among};
-use crate::symbols::symbol_for;
-use avro_schema::{Field, Node, NodeId, Schema};
+use crate::sourcing::{fields_of, missing_among, part_among};
+use crate::symbols::{symbols_for, symbols_of};
+use avro_schema::{Field, NodeId, Schema};
 use std::alloc::{AllocError, Global};
 
 /// What a plan keeps of some pairs of nodes, and the place of the roots' pair among them.
@@ -56,7 +57,7 @@ fn prepare(
         r,
         q,
         aim: leads,
-        missing: missing(writes, reads),
+        missing: missing_among(writes, reads, &sources),
         fields,
         sources,
         symbols,
@@ -80,9 +81,10 @@ fn find_sources(
 ) -> Result<Vec<Option<usize>>, AllocError>
     ensures { IfOk result (λ found. AreSources (seen_fields writes.now) (seen_fields reads.now) found.items) }
 {
+    let names = field_names(alloc, writes)?;
     let mut found = Vec::new(alloc);
     for place in 0..reads.len() {
-        found.push(source_among(writes, &reads[place]))?;
+        found.push(source_in(&names, writes, &reads[place]))?;
     }
     Ok(found)
 }
@@ -114,23 +116,9 @@ fn find_symbols(
 ) -> Result<Vec<Option<u32>>, AllocError>
     ensures { IfOk result (λ found. AreSymbols (node_at (schema_nodes writer.now) w.0) (node_at (schema_nodes reader.now) q.0) found.items) }
 {
-    let mut found = Vec::new(alloc);
-    for symbol in 0..symbol_count(writer, w) {
-        found.push(symbol_for(writer, w, symbol, reader, q))?;
-    }
-    Ok(found)
-}
-
-/// How many symbols a node has.
-fn symbol_count(schema: &Schema, id: NodeId) -> u32 {
-    if !schema.has(id) {
-        return 0;
-    }
-    match schema.node(id) {
-        Node::Enum(enumeration) => match u32::try_from(enumeration.symbols.len()) {
-            Ok(count) => count,
-            Err(_) => 0,
-        },
-        _ => 0,
+    if (q.0 as usize) < reader.len() {
+        symbols_for(alloc, symbols_of(writer, w), reader.node(q))
+    } else {
+        Ok(Vec::new(alloc))
     }
 }

@@ -61,6 +61,7 @@ pub(crate) fn read_planned<B: Build>(
 ) -> Result<(B::Out, usize), ReadResolveError>
     ensures { BuildsResolved B.stands_for (schema_nodes plan.now.0) (schema_nodes plan.now.1) limits.now bytes.now result }
 {
+    // That the limit on nodes is in its range is a fact of this call, and the proof needs it.
     let _nodes = limits.nodes();
     let writer = plan.writer();
     let w = writer.root();

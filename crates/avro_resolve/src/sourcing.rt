@@ -54,9 +54,17 @@ pub fn source_among(fields: &[Field], f: &Field) -> Option<usize>
 pub fn missing(writer: &[Field], reader: &[Field]) -> Option<usize>
     ensures { result ≡ missing_field (seen_fields writer.now) (seen_fields reader.now) }
 {
+    missing_among(writer, reader, &[])
+}
+
+/// The same, by the sources of the reader's fields as far as they are kept.
+pub fn missing_among(writer: &[Field], reader: &[Field], sources: &[Option<usize>]) -> Option<usize>
+    requires { AreSources (seen_fields writer.now) (seen_fields reader.now) sources.now }
+    ensures { result ≡ missing_field (seen_fields writer.now) (seen_fields reader.now) }
+{
     for place in 0..reader.len() {
         let field = &reader[place];
-        if source_among(writer, field).is_none() && field.default.is_none() {
+        if source_at(writer, reader, sources, place, field).is_none() && field.default.is_none() {
             return Some(place);
         }
     }
@@ -103,6 +111,21 @@ pub fn source_kept(
     } else {
         source_among(writes, f)
     }
+}
+
+/// The same of a reader's field that stands at its place.
+fn source_at(
+    writer: &[Field],
+    reader: &[Field],
+    sources: &[Option<usize>],
+    place: usize,
+    f: &Field,
+) -> Option<usize>
+    requires sources { AreSources (seen_fields writer.now) (seen_fields reader.now) sources.now }
+    requires there { slice_get (seen_fields reader.now) place ≡ Some (field_of f.now) }
+    ensures { result ≡ source_of (seen_fields writer.now) (field_of f.now) }
+{
+    source_kept(writer, sources, place, f)
 }
 
 /// What the writer's field at a place is for.

@@ -1,12 +1,16 @@
-ghost use Rattle.std.specs.Prelude.{◌≡◌, ◌<◌, ◌^◌, length, position, bytes_eq, IfSome};
-ghost use Rattle.avro_schema.specs.Node.{node_at};
+ghost use Rattle.std.specs.Prelude.{◌≡◌, ◌<◌, ◌≤◌, ◌^◌, [], length, position, bytes_eq, unwrap_or, IfOk, IfSome};
+ghost use Rattle.avro_schema.specs.Node.{Node as SeenNode, node_at, symbols_of as texts_in};
 ghost use Rattle.avro_schema.specs.Seen.{node_of, texts_of};
 ghost use Rattle.avro_schema.specs.SeenSchema.{schema_nodes};
 ghost use Rattle.avro_binary.proofs.public.Choices.{HasFewChoices};
 ghost use Rattle.avro_resolve.specs.Resolve.{enum_as, enum_or_default, symbol_at};
 ghost use Rattle.avro_resolve.specs.Pairs.{IsSymbol};
+ghost use Rattle.avro_resolve.specs.Planned.{AreNamed, AreSymbols, FindsSymbols};
 
+use crate::naming::symbol_names;
 use avro_schema::{Node, NodeId, Schema};
+use std::alloc::{AllocError, Global};
+use std::collections::BTreeMap;
 
 /// The first place of a symbol.
 fn place_of(symbols: &[String], symbol: &str) -> Option<usize>
@@ -78,4 +82,75 @@ pub fn symbol_for(writer: &Schema, w: NodeId, place: u32, reader: &Schema, q: No
     } else {
         symbol_at_place(reader, q, "")
     }
+}
+
+/// The symbols of a node, and none where it has none.
+pub fn symbols_of(schema: &Schema, id: NodeId) -> &[String]
+    ensures { texts_of result.now ≡ unwrap_or (texts_in (node_at (schema_nodes schema.now) id.0)) [] }
+{
+    if !schema.has(id) {
+        return &[];
+    }
+    match schema.node(id) {
+        Node::Enum(enumeration) => &enumeration.symbols,
+        _ => &[],
+    }
+}
+
+/// The places of a reader's symbols for a writer's, of a reader's node.
+pub fn symbols_for(
+    alloc: Global,
+    writes: &[String],
+    node: &Node,
+) -> Result<Vec<Option<u32>>, AllocError>
+    requires few { HasFewChoices (node_of node.now) }
+    ensures { (w : SeenNode) → texts_of writes.now ≡ unwrap_or (texts_in w) [] → IfOk result (λ found. AreSymbols w (node_of node.now) found.items) }
+{
+    match node {
+        Node::Enum(enumeration) => {
+            symbols_among(alloc, writes, &enumeration.symbols, enumeration.default)
+        }
+        _ => Ok(Vec::new(alloc)),
+    }
+}
+
+/// The same of a reader's symbols and its default.
+fn symbols_among(
+    alloc: Global,
+    writes: &[String],
+    reads: &[String],
+    default: Option<u32>,
+) -> Result<Vec<Option<u32>>, AllocError>
+    requires few { length reads.now ≤ 2 ^ 31 }
+    ensures { IfOk result (λ found. AreNamed (texts_of writes.now) (texts_of reads.now) default found.items) }
+{
+    let names = symbol_names(alloc, reads)?;
+    let mut found = Vec::new(alloc);
+    for place in 0..writes.len() {
+        found.push(symbol_by_name(&names, reads, default, writes[place].as_str()))?;
+    }
+    Ok(found)
+}
+
+/// The place of a reader's symbol, or its default, by the names of the reader's symbols.
+fn symbol_by_name(
+    names: &BTreeMap<&str, usize>,
+    reads: &[String],
+    default: Option<u32>,
+    symbol: &str,
+) -> Option<u32>
+    requires few { length reads.now ≤ 2 ^ 31 }
+    requires names { FindsSymbols (texts_of reads.now) names.now }
+    ensures { IsSymbol (enum_or_default (position (λ s. bytes_eq s symbol.now) (texts_of reads.now)) default) result }
+{
+    or_default(place_by_name(names, reads, symbol), default)
+}
+
+/// The first place of a symbol, by the names of the symbols.
+fn place_by_name(names: &BTreeMap<&str, usize>, symbols: &[String], symbol: &str) -> Option<usize>
+    requires { FindsSymbols (texts_of symbols.now) names.now }
+    ensures place { result ≡ position (λ s. bytes_eq s symbol.now) (texts_of symbols.now) }
+    ensures below { IfSome result (λ k. k < length symbols.now) }
+{
+    names.get(symbol).copied()
 }

@@ -15,6 +15,10 @@ mod program;
 #[cfg(test)]
 mod resolving;
 #[cfg(test)]
+mod resolving_parts;
+#[cfg(test)]
+mod resolving_rows;
+#[cfg(test)]
 mod schema_command;
 #[cfg(test)]
 mod texts;

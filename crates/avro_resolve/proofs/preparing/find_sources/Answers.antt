@@ -16,9 +16,9 @@ loop-place-preserved c =
     let ws = seen_fields c.args.writes.now in
     let reads = c.args.reads.now in
     let i = c.loop-place.place in
-    holds_push (λ k s. (f : FieldNode) → slice_get (seen_fields reads) k ≡ Some f → s ≡ source_of ws f) c.loop-place.found.items c.push.new.self.items c.source_among.result i
+    holds_push (λ k s. (f : FieldNode) → slice_get (seen_fields reads) k ≡ Some f → s ≡ source_of ws f) c.loop-place.found.items c.push.new.self.items c.source_in.result i
     c.in_ok-push.ensures.items c.loop-place.invariant
-    (λ f is. c.source_among.ensures ∙ ap (source_of ws) (same_some (seen_at reads i c.index-reads-place.result c.loop-place-test.true c.index-reads-place.is) is))
+    (λ f is. c.source_in.ensures ∙ ap (source_of ws) (same_some (seen_at reads i c.index-reads-place.result c.loop-place-test.true c.index-reads-place.is) is))
 
 pub returns : goal.returns
 returns c = c.loop-place.invariant.0

@@ -13,7 +13,7 @@ returns c =
     let reads = sym c.fields_of-reads.ensures.seen in
     record {
       aims = c.aim-leads.ensures;
-      complete = c.missing.ensures ∙ ap (λ ws. missing_field ws (seen_fields c.fields_of-reads.result.now)) (sym writes)
+      complete = c.missing_among.ensures ∙ ap (λ ws. missing_field ws (seen_fields c.fields_of-reads.result.now)) (sym writes)
           ∙ ap (missing_field (fields_at (node_at (schema_nodes c.args.writer.now) c.args.w.0))) (sym reads);
       fields = parts_by c.in_ok-fields.fields.items writes reads c.in_ok-fields.ensures;
       sources = sources_by c.in_ok-sources.sources.items writes reads c.in_ok-sources.ensures;

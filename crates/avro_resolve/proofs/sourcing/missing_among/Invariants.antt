@@ -1,7 +1,7 @@
 use Rattle.std.proofs.Common.{◌≡◌, drop}
 use Rattle.avro_schema.specs.Seen.{seen_fields}
 use Rattle.avro_resolve.specs.Source.{missing_field, missing_field_from}
-use Rattle.avro_resolve.proofs.sourcing.missing.Given as goal
+use Rattle.avro_resolve.proofs.sourcing.missing_among.Given as goal
 
 abbrev pub invariant-loop-place : goal.invariant-loop-place
 invariant-loop-place l =
