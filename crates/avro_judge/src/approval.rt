@@ -1,6 +1,6 @@
-use crate::certificate::Certificate;
 use crate::certifying::certify;
 use avro_binary::{Build, ReadError};
+use avro_certificate::Certificate;
 use avro_resolve::{ReadResolveError, read_resolved};
 use avro_schema::{Limits, Memory, Schema};
 use std::alloc::Global;
@@ -18,7 +18,7 @@ impl<'a> Model for Approved<'a> {
     ghost use Rattle.avro_schema.specs.contracts.datum.Datum as datum;
     ghost use Rattle.avro_schema.specs.declared.schema.Schema.{Schema};
     ghost use Rattle.avro_schema.specs.SeenSchema.{schema_nodes};
-    ghost use Rattle.avro_judge.specs.Compatible.{AreCompatible};
+    ghost use Rattle.avro_certificate.specs.Compatible.{AreCompatible};
 
     ghost Value = { Schema × Schema };
 
@@ -43,10 +43,10 @@ impl<'a> Approved<'a> {
     ghost use Rattle.avro_binary.specs.Seen.{read_fault, UnlessOutOfMemory, Reports};
     ghost use Rattle.avro_resolve.specs.Reading.{ReadsAs};
     ghost use Rattle.avro_resolve.specs.Resolve.{resolve_root};
-    ghost use Rattle.avro_judge.specs.Closed.{is_closed};
-    ghost use Rattle.avro_judge.specs.Compatible.{AreCompatible};
-    ghost use Rattle.avro_judge.specs.Evidence.{IsEvidence};
-    ghost use Rattle.avro_judge.specs.SeenCertificate.{dead_of, pairs_in};
+    ghost use Rattle.avro_certificate.specs.Closed.{is_closed};
+    ghost use Rattle.avro_certificate.specs.Compatible.{AreCompatible};
+    ghost use Rattle.avro_certificate.specs.Evidence.{IsEvidence};
+    ghost use Rattle.avro_certificate.specs.SeenCertificate.{dead_of, pairs_in};
 
     /// The approval of two schemas that are compatible.
     pub(crate) fn of(writer: &'a Schema, reader: &'a Schema) -> Approved<'a>

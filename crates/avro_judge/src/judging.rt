@@ -7,7 +7,7 @@ ghost use Rattle.avro_schema.specs.Value.{Value, size, depth};
 ghost use Rattle.avro_resolve.specs.Fault.{ResolutionFault};
 ghost use Rattle.avro_resolve.specs.Seen.{fault_of};
 ghost use Rattle.avro_judge.specs.Answered.{IsApproved, IfApproved, IfRefuted, IsUndecided};
-ghost use Rattle.avro_judge.specs.Compatible.{AreCompatible, Errs, ErrsWith, ErrsOnlyAbove, ErrsLeastDeep};
+ghost use Rattle.avro_certificate.specs.Compatible.{AreCompatible, Errs, ErrsWith, ErrsOnlyAbove, ErrsLeastDeep};
 
 use crate::approval::Approved;
 use crate::deciding::{Judged, decide};

@@ -5,12 +5,12 @@ use Rattle.indexmap.specs.IndexSet.{keys}
 use Rattle.avro_schema.specs.Node.{Node}
 use Rattle.avro_schema.specs.Seen.{value_of}
 use Rattle.avro_schema.specs.SeenSchema.{schema_nodes}
-use Rattle.avro_judge.specs.inside.Asked.{ArePairsShown, steps_at}
-use Rattle.avro_judge.specs.inside.BuiltErrors.{BuildsError}
-use Rattle.avro_judge.specs.inside.Judged.{AreTables}
-use Rattle.avro_judge.specs.inside.Least.{Least, LeastTable, AreDataShown, AreLow, erring_of}
-use Rattle.avro_judge.specs.inside.Reached.{is_key, AreFollowed}
-use Rattle.avro_judge.specs.inside.SeenLeast.{seen_all, table_of}
+use Rattle.avro_least.specs.Asked.{ArePairsShown, steps_at}
+use Rattle.avro_least.specs.BuiltErrors.{BuildsError}
+use Rattle.avro_least.specs.FoundTables.{AreTables}
+use Rattle.avro_least.specs.Tables.{Least, LeastTable, AreDataShown, AreLow, erring_of}
+use Rattle.avro_least.specs.Reached.{is_key, AreFollowed}
+use Rattle.avro_least.specs.SeenLeast.{seen_all, table_of}
 use Rattle.avro_judge.proofs.RootJudged.{compatible, above, deep, refuting}
 use Rattle.avro_judge.proofs.deciding.judge_roots.Goals as goal
 
