@@ -102,8 +102,8 @@ impl Certificate {
         &self.dead
     }
 
-    /// The pairs of a writer's and a reader's node.
-    pub(crate) fn pairs(&self) -> &[(u32, u32)]
+    /// The pairs of a writer's and a reader's node, by their numbers.
+    pub fn pairs(&self) -> &[(u32, u32)]
         ensures pairs { pairs_of result.now ≡ pairs_in self.now }
         ensures rising { is_rising is_before (pairs_in self.now) ≡ true }
         ensures small { are_small (dead_of self.now) (pairs_in self.now) ≡ true }

@@ -86,7 +86,7 @@ fn pairs_of_numbers(
 }
 
 /// The pairs that were reached, rising.
-fn reached_pairs(
+pub(crate) fn reached_pairs(
     alloc: Global,
     writer: &Schema,
     reader: &Schema,

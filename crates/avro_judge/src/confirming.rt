@@ -5,6 +5,7 @@ ghost use Rattle.avro_certificate.specs.Closed.{is_closed};
 ghost use Rattle.avro_certificate.specs.SeenCertificate.{dead_of, pairs_in};
 
 use crate::approval::Approved;
+use crate::planning::plan_for;
 use avro_certificate::{Certificate, is_closed};
 use avro_schema::{Memory, Schema};
 use std::alloc::Global;
@@ -13,11 +14,13 @@ use std::alloc::Global;
 /// node of its schema, and the two sets are closed. Whoever made the certificate, no datum of the
 /// writer's then fails.
 ///
+/// The approval reads by a plan of the certificate's pairs.
+///
 /// # Errors
 ///
-/// None: nothing grows. The type has the answer for an implementation that makes tables.
+/// Memory ran out.
 pub fn confirm<'a>(
-    _alloc: Global,
+    alloc: Global,
     writer: &'a Schema,
     reader: &'a Schema,
     certificate: &Certificate,
@@ -30,7 +33,8 @@ pub fn confirm<'a>(
 {
     let _ = reader.len();
     if is_closed(writer, reader, certificate) {
-        Ok(Some(Approved::of(writer, reader)))
+        let plan = plan_for(alloc, writer, reader, certificate.pairs())?;
+        Ok(Some(Approved::of(writer, reader, plan)))
     } else {
         Ok(None)
     }

@@ -11,6 +11,7 @@ mod confirming;
 mod deciding;
 mod judging;
 mod limits;
+mod planning;
 mod refuting;
 mod verdict;
 

@@ -8,7 +8,7 @@ use Rattle.avro_judge.specs.declared.deciding.Judged.{Judged}
 
 -- a datum is a least one that errs, within both limits
 abbrev pub IsJudged : List Node → List Node → ℕ → ℕ → Judged → Type 0
-IsJudged writer reader limit deepest Judged.Compatible = AreCompatible writer reader
+IsJudged writer reader limit deepest (Judged.Compatible pairs) = AreCompatible writer reader
 IsJudged writer reader limit deepest Judged.Size = ErrsOnlyAbove writer reader limit
 IsJudged writer reader limit deepest Judged.Depth = ErrsLeastDeep writer reader limit deepest
 IsJudged writer reader limit deepest (Judged.Erring datum) =

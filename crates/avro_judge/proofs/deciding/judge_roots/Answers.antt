@@ -20,8 +20,8 @@ found : (writer reader : List Node) (limit : ℕ) (table : LeastTable) (keys : L
     → AreTables writer reader limit table keys entries
 found writer reader limit table keys entries d l s r b c = record { has_data = d; low = l; shown = s; root = r; below = b; closed = c }
 
-pub returns-in-None : goal.returns-in-None
-returns-in-None c = compatible (schema_nodes c.args.writer.now) (schema_nodes c.args.reader.now) c.args.limit (table_of c.args.table.now) (keys c.args.reached.now.known) (seen_all c.args.entries.now) c.count.ensures.formed c.count-count.ensures.formed (found (schema_nodes c.args.writer.now) (schema_nodes c.args.reader.now) c.args.limit (table_of c.args.table.now) (keys c.args.reached.now.known) (seen_all c.args.entries.now) c.requires.has_data c.requires.low c.requires.shown c.requires.root c.requires.below c.requires.closed)
+pub returns-in_ok-pairs-in-None : goal.returns-in_ok-pairs-in-None
+returns-in_ok-pairs-in-None c = compatible (schema_nodes c.args.writer.now) (schema_nodes c.args.reader.now) c.args.limit (table_of c.args.table.now) (keys c.args.reached.now.known) (seen_all c.args.entries.now) c.count.ensures.formed c.count-count.ensures.formed (found (schema_nodes c.args.writer.now) (schema_nodes c.args.reader.now) c.args.limit (table_of c.args.table.now) (keys c.args.reached.now.known) (seen_all c.args.entries.now) c.requires.has_data c.requires.low c.requires.shown c.requires.root c.requires.below c.requires.closed)
     (c.in-None.ensures ∙ ap (λ (n : ℕ). erring_of n (table_of c.args.table.now) (keys c.args.reached.now.known) (seen_all c.args.entries.now) 0 0) c.count-count.ensures.count)
 
 pub returns-then-least-limit : goal.returns-then-least-limit
