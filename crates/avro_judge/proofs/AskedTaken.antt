@@ -6,10 +6,10 @@ use Rattle.std.specs.List.{list_all}
 use Rattle.avro_schema.specs.Node.{Node, FieldNode, branches_of, field_places}
 use Rattle.avro_resolve.specs.Match.{is_match, first_match}
 use Rattle.avro_resolve.specs.Source.{reader_field, missing_field, source_of}
-use Rattle.avro_judge.specs.Closed.{Pair, same_pair, is_among_pairs, children_of, field_children, lacks_symbol}
-use Rattle.avro_judge.specs.inside.Asked.{Asked, rows_from, asked_inside, asked_branch, asked, row_child, asked_children}
-use Rattle.avro_judge.proofs.Tests.{and_left, and_right, or_from_left, or_from_right}
-use Rattle.avro_judge.proofs.NodeKinds.{children_of_union}
+use Rattle.avro_certificate.specs.Closed.{Pair, same_pair, is_among_pairs, children_of, field_children, lacks_symbol}
+use Rattle.avro_least.specs.Asked.{Asked, rows_from, asked_inside, asked_branch, asked, row_child, asked_children}
+use Rattle.avro_certificate.proofs.public.Tests.{and_left, and_right, or_from_left, or_from_right}
+use Rattle.avro_certificate.proofs.public.NodeKinds.{children_of_union}
 
 module _ (writer reader : List Node) (test : Pair → Bool) where
   -- the pair of a writer's field and the reader's field whose source it is

@@ -5,23 +5,23 @@ use Rattle.std.specs.Prelude.{is_none, is_some, nat_lt}
 use Rattle.std.specs.List.{list_all}
 use Rattle.avro_schema.specs.Node.{Node}
 use Rattle.avro_schema.specs.WellFormed.{is_schema}
-use Rattle.avro_judge.specs.CertificateText.{is_rising, is_before}
-use Rattle.avro_judge.specs.Closed.{Pair, is_among, is_closed}
-use Rattle.avro_judge.specs.Compatible.{AreCompatible}
-use Rattle.avro_judge.specs.Evidence.{IsEvidence, IsGreatestDead}
-use Rattle.avro_judge.specs.inside.Asked.{ArePairsShown, steps_at}
+use Rattle.avro_certificate.specs.CertificateText.{is_rising, is_before}
+use Rattle.avro_certificate.specs.Closed.{Pair, is_among, is_closed}
+use Rattle.avro_certificate.specs.Compatible.{AreCompatible}
+use Rattle.avro_certificate.specs.Evidence.{IsEvidence, IsGreatestDead}
+use Rattle.avro_least.specs.Asked.{ArePairsShown, steps_at}
 use Rattle.avro_judge.specs.inside.Evidence.{dead_below, pairs_at, AreCalm, AreOfKeys, AreCertified}
-use Rattle.avro_judge.specs.inside.Judged.{AreTables}
-use Rattle.avro_judge.specs.inside.Least.{Least, LeastTable, AreDataShown, AreLow, erring_of}
-use Rattle.avro_judge.specs.inside.Reached.{is_key, AreFollowed, IsSteppedTo}
-use Rattle.avro_judge.specs.inside.SeenLeast.{seen, table_of}
-use Rattle.avro_judge.specs.declared.kept.Least.{Least as KeptLeast}
-use Rattle.avro_judge.proofs.Decided.{errs_of}
+use Rattle.avro_least.specs.FoundTables.{AreTables}
+use Rattle.avro_least.specs.Tables.{Least, LeastTable, AreDataShown, AreLow, erring_of}
+use Rattle.avro_least.specs.Reached.{is_key, AreFollowed, IsSteppedTo}
+use Rattle.avro_least.specs.SeenLeast.{seen, table_of}
+use Rattle.avro_least.specs.declared.kept.Least.{Least as KeptLeast}
+use Rattle.avro_least.proofs.public.Decided.{errs_of}
 use Rattle.avro_judge.proofs.DeadPlaces.{dead_is, dead_greatest, dead_rising}
 use Rattle.avro_judge.proofs.Evidence.{closed_small, evidence_dead, closed_dead, evidence_live, closed_live}
 use Rattle.avro_judge.proofs.PairNumbers.{pairs_rising}
 use Rattle.avro_judge.proofs.RootJudged.{shown_at}
-use Rattle.avro_judge.proofs.Stepping.{some_nodes}
+use Rattle.avro_least.proofs.public.Stepping.{some_nodes}
 
 -- whether a place has no entry, by the entry that was looked up
 pub no_entry : (o : Option KeptLeast) (t : Option Least) (b : Bool) → seen o ≡ t → is_some o ≡ not b → is_none t ≡ b

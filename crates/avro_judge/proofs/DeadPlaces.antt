@@ -6,16 +6,16 @@ use Rattle.std.proofs.lemmas.List.Folds.{list_all-append, list_any-append}
 use Rattle.std.specs.Prelude.{nat_lt, ◌==◌, is_none, is_some}
 use Rattle.std.specs.List.{list_all}
 use Rattle.avro_schema.specs.Node.{Node, node_at}
-use Rattle.avro_judge.specs.Closed.{is_among, is_dead, is_dead_node}
-use Rattle.avro_judge.specs.CertificateText.{is_rising}
-use Rattle.avro_judge.specs.Evidence.{IsGreatestDead}
+use Rattle.avro_certificate.specs.Closed.{is_among, is_dead, is_dead_node}
+use Rattle.avro_certificate.specs.CertificateText.{is_rising}
+use Rattle.avro_certificate.specs.Evidence.{IsGreatestDead}
 use Rattle.avro_judge.specs.inside.Evidence.{dead_below}
-use Rattle.avro_judge.specs.inside.Least.{Least, LeastTable, IsLowForData, AreDataShown}
-use Rattle.avro_judge.specs.inside.SeenLeast.{table_of}
-use Rattle.avro_judge.specs.declared.kept.Least.{Least as KeptLeast}
-use Rattle.avro_judge.proofs.DeadNodes.{no_dead_datum}
-use Rattle.avro_judge.proofs.Quiet.{dead_of_none}
-use Rattle.avro_judge.proofs.Tests.{and_left, and_right, or_cases, or_from_left, or_from_right}
+use Rattle.avro_least.specs.Tables.{Least, LeastTable, IsLowForData, AreDataShown}
+use Rattle.avro_least.specs.SeenLeast.{table_of}
+use Rattle.avro_least.specs.declared.kept.Least.{Least as KeptLeast}
+use Rattle.avro_certificate.proofs.public.DeadNodes.{no_dead_datum}
+use Rattle.avro_least.proofs.public.Quiet.{dead_of_none}
+use Rattle.avro_certificate.proofs.public.Tests.{and_left, and_right, or_cases, or_from_left, or_from_right}
 
 -- what each of some numbers passes, all pass
 pub all_from : (test : ℕ → Bool) (ks : List ℕ) → ((k : ℕ) → is_among ks k ≡ true → test k ≡ true) → list_all test ks ≡ true

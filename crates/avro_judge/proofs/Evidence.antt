@@ -6,20 +6,20 @@ use Rattle.std.specs.Prelude.{nat_lt, is_none}
 use Rattle.std.specs.List.{list_all}
 use Rattle.avro_schema.specs.Node.{Node, node_at}
 use Rattle.avro_schema.specs.WellFormed.{is_schema}
-use Rattle.avro_judge.specs.CertificateText.{is_small, is_small_pair, are_small}
-use Rattle.avro_judge.specs.Closed.{Pair, same_pair, is_among, is_among_pairs, is_dead, is_dead_node, children_of, has_local_fault, is_closed, is_closed_at}
-use Rattle.avro_judge.specs.Evidence.{IsGreatestDead, roots, IsEvidence}
-use Rattle.avro_judge.specs.inside.Asked.{steps_at}
+use Rattle.avro_certificate.specs.CertificateText.{is_small, is_small_pair, are_small}
+use Rattle.avro_certificate.specs.Closed.{Pair, same_pair, is_among, is_among_pairs, is_dead, is_dead_node, children_of, has_local_fault, is_closed, is_closed_at}
+use Rattle.avro_certificate.specs.Evidence.{IsGreatestDead, roots, IsEvidence}
+use Rattle.avro_least.specs.Asked.{steps_at}
 use Rattle.avro_judge.specs.inside.Evidence.{pairs_at}
-use Rattle.avro_judge.specs.inside.Judged.{AreTables}
-use Rattle.avro_judge.specs.inside.Least.{Least, LeastTable, erring_of, pair_number}
-use Rattle.avro_judge.specs.inside.Reached.{is_key, IsSteppedTo}
+use Rattle.avro_least.specs.FoundTables.{AreTables}
+use Rattle.avro_least.specs.Tables.{Least, LeastTable, erring_of, pair_number}
+use Rattle.avro_least.specs.Reached.{is_key, IsSteppedTo}
 use Rattle.avro_judge.proofs.DeadPlaces.{all_from}
-use Rattle.avro_judge.proofs.Keys.{key_passes}
+use Rattle.avro_least.proofs.public.Keys.{key_passes}
 use Rattle.avro_judge.proofs.PairNumbers.{listed_pair, pair_listed, number_back, same_itself}
 use Rattle.avro_judge.proofs.ReachedPairs.{IsStanding, standing_quiet, child_standing, standing, root_lives, IsMet, met}
-use Rattle.avro_judge.proofs.Stepping.{within_of_key}
-use Rattle.avro_judge.proofs.Tests.{and_left, and_right, or_from_left, or_from_right, all_among, all_among_pairs}
+use Rattle.avro_least.proofs.public.Stepping.{within_of_key}
+use Rattle.avro_certificate.proofs.public.Tests.{and_left, and_right, or_from_left, or_from_right, all_among, all_among_pairs}
 
 -- what each of some pairs passes, all pass
 all_pairs : (test : Pair → Bool) (ps : List Pair) → ((p : Pair) → is_among_pairs ps p ≡ true → test p ≡ true) → list_all test ps ≡ true

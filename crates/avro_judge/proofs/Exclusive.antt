@@ -2,7 +2,7 @@
 use Rattle.std.proofs.Common.{◌≤◌, ℕ, List, arith}
 use Rattle.avro_schema.specs.Node.{Node}
 use Rattle.avro_schema.specs.Value.{Value, size, depth}
-use Rattle.avro_judge.specs.Compatible.{AreCompatible, IsLeastToErr, ErrsOnlyAbove, ErrsLeastDeep}
+use Rattle.avro_certificate.specs.Compatible.{AreCompatible, IsLeastToErr, ErrsOnlyAbove, ErrsLeastDeep}
 
 module _ (writer reader : List Node) where
   pub not_above : (limit : ℕ) → AreCompatible writer reader → ErrsOnlyAbove writer reader limit → ⊥

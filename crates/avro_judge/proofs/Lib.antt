@@ -1,53 +1,10 @@
-pub mod AskedBuilds
 pub mod AskedCovers
 pub mod AskedTaken
-pub mod AskedValue
-pub mod AskedWithin
-pub mod Building
-pub mod Built
-pub mod BuiltErrors
-pub mod Choosing
-pub mod DeadNodes
-pub mod Decided
-pub mod Exact
-pub mod Exclusive
-pub mod Faults
-pub mod Fixed
-pub mod Keys
-pub mod LeastData
-pub mod LeastErrors
-pub mod LeastOrder
-pub mod NodeKinds
-pub mod PairRounds
-pub mod PairTable
-pub mod Quiet
-pub mod Resolving
-pub mod RootJudged
-pub mod Rounds
-mod RowsCertificate
-mod RowsClosed
-mod RowsEvidence
-mod RowsCompatible
-pub mod Shapes
-pub mod ShownData
-pub mod ShownErrors
-pub mod SoundPairs
-pub mod Sources
-pub mod Stepping
-pub mod Decimal
-pub mod Lines
-pub mod Rising
-pub mod ReadText
-pub mod Lengths
-pub mod Lookup
 pub mod Certified
-pub mod LeastPairs
 pub mod DeadPlaces
-pub mod SortedKeys
-pub mod NotedRows
+pub mod Evidence
+pub mod Exclusive
 pub mod PairNumbers
 pub mod ReachedPairs
-pub mod Evidence
-pub mod ClosedParts
-pub mod Successes
-pub mod Tests
+pub mod RootJudged
+pub mod SortedKeys

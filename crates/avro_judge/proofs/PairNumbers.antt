@@ -5,12 +5,12 @@ use Rattle.std.proofs.lemmas.Nat.{div-mul-add, mod-mul-add, div-add-mod', le-div
 use Rattle.std.proofs.Math.Nat.{div-mul-le_self}
 use Rattle.std.specs.Prelude.{nat_lt, ◌==◌}
 use Rattle.std.specs.List.{list_all}
-use Rattle.avro_judge.specs.Closed.{Pair, same_pair, is_among_pairs}
-use Rattle.avro_judge.specs.CertificateText.{is_rising, is_before}
-use Rattle.avro_judge.specs.inside.Least.{pair_number}
-use Rattle.avro_judge.specs.inside.Reached.{is_key}
+use Rattle.avro_certificate.specs.Closed.{Pair, same_pair, is_among_pairs}
+use Rattle.avro_certificate.specs.CertificateText.{is_rising, is_before}
+use Rattle.avro_least.specs.Tables.{pair_number}
+use Rattle.avro_least.specs.Reached.{is_key}
 use Rattle.avro_judge.specs.inside.Evidence.{pair_at, pairs_at}
-use Rattle.avro_judge.proofs.Tests.{and_left, and_right, or_cases, or_from_left, or_from_right, same_pair-true}
+use Rattle.avro_certificate.proofs.public.Tests.{and_left, and_right, or_cases, or_from_left, or_from_right, same_pair-true}
 
 -- a pair is that of its number
 pub number_back : (count : ℕ) (p : Pair) → p.r < count → pair_at count (pair_number count p.w p.r) ≡ p

@@ -5,16 +5,16 @@ use Rattle.std.specs.Prelude.{is_some, is_none, nat_lt}
 use Rattle.avro_schema.specs.Value.{Value, size, depth}
 use Rattle.avro_schema.specs.Node.{Node, root_of}
 use Rattle.avro_schema.specs.WellFormed.{is_schema}
-use Rattle.avro_judge.specs.Compatible.{AreCompatible, ErrsOnlyAbove, ErrsLeastDeep, IsLeastToErr}
-use Rattle.avro_judge.specs.inside.Least.{Least, LeastTable, ShowsError, IsWithin, count_of, erring_of, pair_number}
-use Rattle.avro_judge.specs.inside.Reached.{is_key}
-use Rattle.avro_judge.specs.inside.Asked.{is_known}
-use Rattle.avro_judge.specs.inside.BuiltErrors.{BuildsError}
-use Rattle.avro_judge.specs.inside.Judged.{AreTables}
-use Rattle.avro_judge.proofs.Exact.{tables_exact}
-use Rattle.avro_judge.proofs.Tests.{or_from_right}
-use Rattle.avro_judge.proofs.Stepping.{some_nodes}
-use Rattle.avro_judge.proofs.Decided.{none_errs, only_above, least_deep, least_errs}
+use Rattle.avro_certificate.specs.Compatible.{AreCompatible, ErrsOnlyAbove, ErrsLeastDeep, IsLeastToErr}
+use Rattle.avro_least.specs.Tables.{Least, LeastTable, ShowsError, IsWithin, count_of, erring_of, pair_number}
+use Rattle.avro_least.specs.Reached.{is_key}
+use Rattle.avro_least.specs.Asked.{is_known}
+use Rattle.avro_least.specs.BuiltErrors.{BuildsError}
+use Rattle.avro_least.specs.FoundTables.{AreTables}
+use Rattle.avro_least.proofs.public.Exact.{tables_exact}
+use Rattle.avro_certificate.proofs.public.Tests.{or_from_right}
+use Rattle.avro_least.proofs.public.Stepping.{some_nodes}
+use Rattle.avro_least.proofs.public.Decided.{none_errs, only_above, least_deep, least_errs}
 
 -- the roots are known
 pub root_known : (count : ℕ) (table : LeastTable) (keys : List ℕ) → 0 < count → is_key keys 0 ≡ true → is_known count table keys (record { w = 0; r = 0 }) ≡ true

@@ -7,10 +7,10 @@ use Rattle.std.specs.List.{IsDistinct, list_all}
 use Rattle.std.specs.List.Sorted.{IsPermutation, IsSorted, IsNonDecreasingBy}
 use Rattle.std.specs.Ordering.{nat_cmp}
 use Rattle.std.specs.Prelude.{nat_lt, nat_eq, ◌==◌}
-use Rattle.avro_judge.specs.CertificateText.{is_rising}
-use Rattle.avro_judge.specs.inside.Reached.{is_key}
-use Rattle.avro_judge.proofs.Keys.{each_key, key_passes}
-use Rattle.avro_judge.proofs.Rising.{rises_after, both_true, numbers_rise}
+use Rattle.avro_certificate.specs.CertificateText.{is_rising}
+use Rattle.avro_least.specs.Reached.{is_key}
+use Rattle.avro_least.proofs.public.Keys.{each_key, key_passes}
+use Rattle.avro_certificate.proofs.public.Rising.{rises_after, both_true, numbers_rise}
 
 less_of_next : (a b : ℕ) → a ≤ b → nat_eq a b ≡ false → nat_lt a b ≡ true
 less_of_next a b up apart =

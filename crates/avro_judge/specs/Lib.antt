@@ -1,12 +1,3 @@
-pub mod Compatible
-pub mod Closed
-pub mod JudgeRanges
 pub mod Answered
-pub mod Evidence
+pub mod JudgeRanges
 pub mod inside
-pub mod CertificateText
-pub mod SeenPair
-pub mod SeenCertificate
-pub mod CertificateRead
-pub mod CertificateLines
-pub mod CertificateSets

@@ -1,32 +1,35 @@
-use crate::certificate::Certificate;
 use crate::certifying::certify;
 use avro_binary::{Build, ReadError};
-use avro_resolve::{ReadResolveError, read_resolved};
+use avro_certificate::Certificate;
+use avro_resolve::{Plan, ReadResolveError};
 use avro_schema::{Limits, Memory, Schema};
 use std::alloc::Global;
 use std::marker::Model;
 
-/// Two schemas of which every datum of the first resolves into the second. Contracts see the two schemas.
+/// Two schemas of which every datum of the first resolves into the second, with a plan of reading that
+/// keeps the pairs of nodes that the roots lead to. Contracts see the two schemas.
 #[derive(Drop)]
 pub struct Approved<'a> {
     writer: &'a Schema,
     reader: &'a Schema,
+    plan: Plan<'a>,
 }
 
 impl<'a> Model for Approved<'a> {
+    ghost use Rattle.std.specs.Prelude.{◌≡◌};
     ghost use Rattle.std.specs.Coded.{codes};
     ghost use Rattle.avro_schema.specs.contracts.datum.Datum as datum;
     ghost use Rattle.avro_schema.specs.declared.schema.Schema.{Schema};
     ghost use Rattle.avro_schema.specs.SeenSchema.{schema_nodes};
-    ghost use Rattle.avro_judge.specs.Compatible.{AreCompatible};
+    ghost use Rattle.avro_certificate.specs.Compatible.{AreCompatible};
 
     ghost Value = { Schema × Schema };
 
     ghost coded = { Prim.hlevel (codes, datum.the_row.coded) };
 
-    ghost view = { λ a. (a.writer.now, a.reader.now) };
+    ghost view = { λ a. a.plan };
 
-    ghost invariant = { λ a. AreCompatible (schema_nodes a.writer.now) (schema_nodes a.reader.now) };
+    ghost invariant = { λ a. AreCompatible (schema_nodes a.plan.0) (schema_nodes a.plan.1) × (a.plan ≡ (a.writer.now, a.reader.now)) };
 }
 
 impl<'a> Approved<'a> {
@@ -43,17 +46,22 @@ impl<'a> Approved<'a> {
     ghost use Rattle.avro_binary.specs.Seen.{read_fault, UnlessOutOfMemory, Reports};
     ghost use Rattle.avro_resolve.specs.Reading.{ReadsAs};
     ghost use Rattle.avro_resolve.specs.Resolve.{resolve_root};
-    ghost use Rattle.avro_judge.specs.Closed.{is_closed};
-    ghost use Rattle.avro_judge.specs.Compatible.{AreCompatible};
-    ghost use Rattle.avro_judge.specs.Evidence.{IsEvidence};
-    ghost use Rattle.avro_judge.specs.SeenCertificate.{dead_of, pairs_in};
+    ghost use Rattle.avro_certificate.specs.Closed.{is_closed};
+    ghost use Rattle.avro_certificate.specs.Compatible.{AreCompatible};
+    ghost use Rattle.avro_certificate.specs.Evidence.{IsEvidence};
+    ghost use Rattle.avro_certificate.specs.SeenCertificate.{dead_of, pairs_in};
 
-    /// The approval of two schemas that are compatible.
-    pub(crate) fn of(writer: &'a Schema, reader: &'a Schema) -> Approved<'a>
-        requires { AreCompatible (schema_nodes writer.now) (schema_nodes reader.now) }
+    /// The approval of two schemas that are compatible, by a plan of theirs.
+    pub(crate) fn of(writer: &'a Schema, reader: &'a Schema, plan: Plan<'a>) -> Approved<'a>
+        requires compatible { AreCompatible (schema_nodes writer.now) (schema_nodes reader.now) }
+        requires theirs { plan ≡ (writer.now, reader.now) }
         ensures { result ≡ (writer.now, reader.now) }
     {
-        Approved { writer, reader }
+        Approved {
+            writer,
+            reader,
+            plan,
+        }
     }
 
     /// Reads a datum of the writer's from the front of bytes, and answers what a builder builds of what it
@@ -82,7 +90,7 @@ impl<'a> Approved<'a> {
         ensures breaks { (fault : ReadFault) → Breaks (schema_nodes self.now.0) limits.now (root_of (schema_nodes self.now.0)) bytes.now fault
             → UnlessOutOfMemory result (Reports result fault) }
     {
-        match read_resolved(alloc, self.writer, self.reader, bytes, limits, builder) {
+        match self.plan.read(alloc, bytes, limits, builder) {
             Ok(answer) => Ok(answer),
             Err(ReadResolveError::Read(e)) => Err(e),
             Err(ReadResolveError::Resolve(_)) => unreachable!(),

@@ -4,23 +4,22 @@ ghost use Rattle.std.specs.Prelude.{◌≡◌, ◌*◌, ◌++◌, ◌∷◌, ℕ
 ghost use Rattle.std.specs.List.{list_all};
 ghost use Rattle.indexmap.specs.IndexSet.{keys};
 ghost use Rattle.avro_schema.specs.SeenSchema.{schema_nodes};
-ghost use Rattle.avro_judge.specs.CertificateText.{is_rising};
-ghost use Rattle.avro_judge.specs.Closed.{is_closed};
-ghost use Rattle.avro_judge.specs.Compatible.{AreCompatible};
-ghost use Rattle.avro_judge.specs.Evidence.{IsEvidence};
-ghost use Rattle.avro_judge.specs.SeenCertificate.{dead_of, pairs_in};
-ghost use Rattle.avro_judge.specs.SeenPair.{pairs_of};
-ghost use Rattle.avro_judge.specs.inside.Asked.{ArePairsShown, steps_at};
+ghost use Rattle.avro_certificate.specs.CertificateText.{is_rising};
+ghost use Rattle.avro_certificate.specs.Closed.{is_closed};
+ghost use Rattle.avro_certificate.specs.Compatible.{AreCompatible};
+ghost use Rattle.avro_certificate.specs.Evidence.{IsEvidence};
+ghost use Rattle.avro_certificate.specs.SeenCertificate.{dead_of, pairs_in};
+ghost use Rattle.avro_certificate.specs.SeenPair.{pairs_of};
+ghost use Rattle.avro_least.specs.Asked.{ArePairsShown, steps_at};
 ghost use Rattle.avro_judge.specs.inside.Evidence.{dead_below, pairs_at, AreCalm, AreOfKeys};
-ghost use Rattle.avro_judge.specs.inside.Least.{AreDataShown, AreLow, erring_of};
-ghost use Rattle.avro_judge.specs.inside.Reached.{is_key, AreFollowed, IsSteppedTo};
-ghost use Rattle.avro_judge.specs.inside.SeenLeast.{seen_all, table_of};
+ghost use Rattle.avro_least.specs.Tables.{AreDataShown, AreLow, erring_of};
+ghost use Rattle.avro_least.specs.Reached.{is_key, AreFollowed, IsSteppedTo};
+ghost use Rattle.avro_least.specs.SeenLeast.{seen_all, table_of};
 
-use crate::certificate::Certificate;
-use crate::erring::{least_errors, pair_entry};
-use crate::kept::Least;
-use crate::least::{count, entry, least_data};
-use crate::reach::{Reached, reach, readers, writers};
+use avro_certificate::Certificate;
+use avro_least::{
+    Least, Reached, count, entry, least_data, least_errors, pair_entry, reach, readers, writers,
+};
 use avro_schema::{Memory, NodeId, Schema};
 use indexmap::IndexSet;
 use std::alloc::Global;
@@ -87,7 +86,7 @@ fn pairs_of_numbers(
 }
 
 /// The pairs that were reached, rising.
-fn reached_pairs(
+pub(crate) fn reached_pairs(
     alloc: Global,
     writer: &Schema,
     reader: &Schema,

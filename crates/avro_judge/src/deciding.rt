@@ -4,25 +4,22 @@ ghost use Rattle.std.specs.Prelude.{◌≡◌, ◌≤◌, ◌*◌, true, length,
 ghost use Rattle.std.specs.List.{list_all};
 ghost use Rattle.indexmap.specs.IndexSet.{keys};
 ghost use Rattle.avro_schema.specs.SeenSchema.{schema_nodes};
-ghost use Rattle.avro_judge.specs.inside.Asked.{ArePairsShown, steps_at};
+ghost use Rattle.avro_least.specs.Asked.{ArePairsShown, steps_at};
 ghost use Rattle.avro_judge.specs.inside.Judged.{IsJudged};
-ghost use Rattle.avro_judge.specs.inside.Least.{AreDataShown, AreLow, erring_of};
-ghost use Rattle.avro_judge.specs.inside.Reached.{AreFollowed, is_key};
-ghost use Rattle.avro_judge.specs.inside.SeenLeast.{seen_all, table_of};
+ghost use Rattle.avro_least.specs.Tables.{AreDataShown, AreLow, erring_of};
+ghost use Rattle.avro_least.specs.Reached.{AreFollowed, is_key};
+ghost use Rattle.avro_least.specs.SeenLeast.{seen_all, table_of};
 
-use crate::build_error::build_error;
-use crate::erring::{least_errors, pair_entry};
-use crate::kept::Least;
-use crate::least::{count, least_data};
-use crate::reach::{Reached, reach};
+use crate::certifying::reached_pairs;
+use avro_least::{Least, Reached, build_error, count, least_data, least_errors, pair_entry, reach};
 use avro_schema::{Datum, Memory, NodeId, Schema};
 use std::alloc::Global;
 
 /// What is decided of two schemas.
 #[derive(Debug, Drop)]
 pub(crate) enum Judged {
-    /// No datum errs.
-    Compatible,
+    /// No datum errs; the numbers of the pairs of nodes that the roots lead to.
+    Compatible(Vec<(u32, u32)>),
     /// Each datum that errs has more nodes than the limit.
     Size,
     /// Each least datum that errs is too deep.
@@ -56,7 +53,10 @@ fn judge_roots(
     let count = count(reader);
     let root = NodeId(0);
     match pair_entry(table, count, &reached.known, entries, root, root) {
-        None => Ok(Judged::Compatible),
+        None => {
+            let pairs = reached_pairs(alloc, writer, reader, reached)?;
+            Ok(Judged::Compatible(pairs))
+        }
         Some(least) => {
             if least.nodes > limit {
                 return Ok(Judged::Size);

@@ -7,11 +7,12 @@ ghost use Rattle.avro_schema.specs.Value.{Value, size, depth};
 ghost use Rattle.avro_resolve.specs.Fault.{ResolutionFault};
 ghost use Rattle.avro_resolve.specs.Seen.{fault_of};
 ghost use Rattle.avro_judge.specs.Answered.{IsApproved, IfApproved, IfRefuted, IsUndecided};
-ghost use Rattle.avro_judge.specs.Compatible.{AreCompatible, Errs, ErrsWith, ErrsOnlyAbove, ErrsLeastDeep};
+ghost use Rattle.avro_certificate.specs.Compatible.{AreCompatible, Errs, ErrsWith, ErrsOnlyAbove, ErrsLeastDeep};
 
 use crate::approval::Approved;
 use crate::deciding::{Judged, decide};
 use crate::limits::JudgeLimits;
+use crate::planning::plan_for;
 use crate::verdict::{Cause, Refutation, Verdict};
 use avro_resolve::{Fault, ResolveError, resolve};
 use avro_schema::{Datum, Memory, Schema};
@@ -88,7 +89,10 @@ pub fn judge<'a>(
     let depth = limits.limits().depth();
     match decide(alloc, writer, reader, limits.size(), depth) {
         Err(e) => Err(e),
-        Ok(Judged::Compatible) => Ok(Verdict::Approved(Approved::of(writer, reader))),
+        Ok(Judged::Compatible(pairs)) => {
+            let plan = plan_for(alloc, writer, reader, &pairs)?;
+            Ok(Verdict::Approved(Approved::of(writer, reader, plan)))
+        }
         Ok(Judged::Size) => Ok(Verdict::Undecided(Cause::Size)),
         Ok(Judged::Depth) => Ok(Verdict::Undecided(Cause::Depth)),
         Ok(Judged::Erring(datum)) => {

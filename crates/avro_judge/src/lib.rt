@@ -6,25 +6,18 @@
 #![tactic(auto)]
 
 mod approval;
-mod asking;
-mod build;
-mod build_error;
-mod certificate;
 mod certifying;
+mod confirming;
 mod deciding;
-mod erring;
 mod judging;
-mod kept;
-pub mod laws;
-mod least;
-pub mod least_laws;
 mod limits;
-mod reach;
+mod planning;
 mod refuting;
 mod verdict;
 
 pub use approval::Approved;
-pub use certificate::{CertError, Certificate, confirm};
+pub use avro_certificate::{CertError, Certificate};
+pub use confirming::confirm;
 pub use judging::judge;
 pub use limits::JudgeLimits;
 pub use refuting::check_refutation;

@@ -3,7 +3,7 @@ ghost use Rattle.std.specs.Option.{IfSome, IfNone};
 ghost use Rattle.avro_schema.specs.Seen.{value_of};
 ghost use Rattle.avro_schema.specs.SeenSchema.{schema_nodes};
 ghost use Rattle.avro_resolve.specs.Seen.{fault_of};
-ghost use Rattle.avro_judge.specs.Compatible.{ErrsWith, Errs};
+ghost use Rattle.avro_certificate.specs.Compatible.{ErrsWith, Errs};
 
 use avro_resolve::{Fault, ResolveError, resolve};
 use avro_schema::{Datum, Memory, Schema, fits};

@@ -1,12 +1,12 @@
 -- The lists of a certificate, as they are made of the tables.
 use Rattle.std.specs.Prelude.{◌≡◌, ℕ, zero, suc, ◌/◌, ◌%◌, true, cond, Option, None, List, [], ◌∷◌, ◌++◌, length, map, is_none, nat_lt}
 use Rattle.avro_schema.specs.Node.{Node}
-use Rattle.avro_judge.specs.CertificateText.{is_rising, is_before, are_small}
-use Rattle.avro_judge.specs.Closed.{Pair, is_closed}
-use Rattle.avro_judge.specs.Evidence.{IsEvidence}
-use Rattle.avro_judge.specs.inside.Judged.{AreTables}
-use Rattle.avro_judge.specs.inside.Least.{Least, LeastTable, erring_of}
-use Rattle.avro_judge.specs.inside.Reached.{is_key}
+use Rattle.avro_certificate.specs.CertificateText.{is_rising, is_before, are_small}
+use Rattle.avro_certificate.specs.Closed.{Pair, is_closed}
+use Rattle.avro_certificate.specs.Evidence.{IsEvidence}
+use Rattle.avro_least.specs.FoundTables.{AreTables}
+use Rattle.avro_least.specs.Tables.{Least, LeastTable, erring_of}
+use Rattle.avro_least.specs.Reached.{is_key}
 
 -- the pair of a number
 abbrev pub pair_at : ℕ → ℕ → Pair

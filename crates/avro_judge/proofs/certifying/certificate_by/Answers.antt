@@ -1,8 +1,8 @@
 use Rattle.std.proofs.Common.{ℕ, sym, ◌∙◌, ap}
 use Rattle.indexmap.specs.IndexSet.{keys}
 use Rattle.avro_schema.specs.SeenSchema.{schema_nodes}
-use Rattle.avro_judge.specs.inside.Least.{erring_of}
-use Rattle.avro_judge.specs.inside.SeenLeast.{seen_all, table_of}
+use Rattle.avro_least.specs.Tables.{erring_of}
+use Rattle.avro_least.specs.SeenLeast.{seen_all, table_of}
 use Rattle.avro_judge.proofs.Certified.{tables_of, roots_calm}
 use Rattle.avro_judge.proofs.certifying.certificate_by.Goals as goal
 

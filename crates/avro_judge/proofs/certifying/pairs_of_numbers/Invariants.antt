@@ -1,7 +1,7 @@
 use Rattle.std.proofs.Common.{◌≡◌, ◌++◌, drop, length}
 use Rattle.avro_schema.specs.SeenSchema.{schema_nodes}
 use Rattle.avro_judge.specs.inside.Evidence.{pairs_at}
-use Rattle.avro_judge.specs.SeenPair.{pairs_of}
+use Rattle.avro_certificate.specs.SeenPair.{pairs_of}
 use Rattle.avro_judge.proofs.certifying.pairs_of_numbers.Given as goal
 
 abbrev pub invariant-loop-number : goal.invariant-loop-number

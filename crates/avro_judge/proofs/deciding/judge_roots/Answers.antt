@@ -5,12 +5,12 @@ use Rattle.indexmap.specs.IndexSet.{keys}
 use Rattle.avro_schema.specs.Node.{Node}
 use Rattle.avro_schema.specs.Seen.{value_of}
 use Rattle.avro_schema.specs.SeenSchema.{schema_nodes}
-use Rattle.avro_judge.specs.inside.Asked.{ArePairsShown, steps_at}
-use Rattle.avro_judge.specs.inside.BuiltErrors.{BuildsError}
-use Rattle.avro_judge.specs.inside.Judged.{AreTables}
-use Rattle.avro_judge.specs.inside.Least.{Least, LeastTable, AreDataShown, AreLow, erring_of}
-use Rattle.avro_judge.specs.inside.Reached.{is_key, AreFollowed}
-use Rattle.avro_judge.specs.inside.SeenLeast.{seen_all, table_of}
+use Rattle.avro_least.specs.Asked.{ArePairsShown, steps_at}
+use Rattle.avro_least.specs.BuiltErrors.{BuildsError}
+use Rattle.avro_least.specs.FoundTables.{AreTables}
+use Rattle.avro_least.specs.Tables.{Least, LeastTable, AreDataShown, AreLow, erring_of}
+use Rattle.avro_least.specs.Reached.{is_key, AreFollowed}
+use Rattle.avro_least.specs.SeenLeast.{seen_all, table_of}
 use Rattle.avro_judge.proofs.RootJudged.{compatible, above, deep, refuting}
 use Rattle.avro_judge.proofs.deciding.judge_roots.Goals as goal
 
@@ -20,8 +20,8 @@ found : (writer reader : List Node) (limit : ℕ) (table : LeastTable) (keys : L
     → AreTables writer reader limit table keys entries
 found writer reader limit table keys entries d l s r b c = record { has_data = d; low = l; shown = s; root = r; below = b; closed = c }
 
-pub returns-in-None : goal.returns-in-None
-returns-in-None c = compatible (schema_nodes c.args.writer.now) (schema_nodes c.args.reader.now) c.args.limit (table_of c.args.table.now) (keys c.args.reached.now.known) (seen_all c.args.entries.now) c.count.ensures.formed c.count-count.ensures.formed (found (schema_nodes c.args.writer.now) (schema_nodes c.args.reader.now) c.args.limit (table_of c.args.table.now) (keys c.args.reached.now.known) (seen_all c.args.entries.now) c.requires.has_data c.requires.low c.requires.shown c.requires.root c.requires.below c.requires.closed)
+pub returns-in_ok-pairs-in-None : goal.returns-in_ok-pairs-in-None
+returns-in_ok-pairs-in-None c = compatible (schema_nodes c.args.writer.now) (schema_nodes c.args.reader.now) c.args.limit (table_of c.args.table.now) (keys c.args.reached.now.known) (seen_all c.args.entries.now) c.count.ensures.formed c.count-count.ensures.formed (found (schema_nodes c.args.writer.now) (schema_nodes c.args.reader.now) c.args.limit (table_of c.args.table.now) (keys c.args.reached.now.known) (seen_all c.args.entries.now) c.requires.has_data c.requires.low c.requires.shown c.requires.root c.requires.below c.requires.closed)
     (c.in-None.ensures ∙ ap (λ (n : ℕ). erring_of n (table_of c.args.table.now) (keys c.args.reached.now.known) (seen_all c.args.entries.now) 0 0) c.count-count.ensures.count)
 
 pub returns-then-least-limit : goal.returns-then-least-limit

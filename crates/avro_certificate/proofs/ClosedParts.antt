@@ -1,0 +1,95 @@
+-- What a pair must hold, whole and part by part.
+use Rattle.std.proofs.Common.{◌≡◌, ℕ, zero, suc, ◌<◌, get_or, Bool, true, false, not, ◌&&◌, ◌||◌, List, [], ◌∷◌, Option, Some, None, cond, Vec, refl, sym, ap, ◌∙◌, arith}
+use Rattle.std.specs.Prelude.{is_some, slice_get, unwrap_or, nat_lt, length}
+use Rattle.std.specs.List.{list_all}
+use Rattle.avro_schema.specs.Node.{Node, FieldNode, node_at, branches_of, field_places}
+use Rattle.avro_schema.specs.Seen.{seen_fields, node_of}
+use Rattle.avro_schema.specs.declared.schema.Node.{Node as KeptNode}
+use Rattle.avro_schema.specs.declared.schema.NodeId.{NodeId}
+use Rattle.std.specs.declared.alloc.Global.{Global}
+use Rattle.std.proofs.lemmas.Bool.{true≢false, false≢true}
+use Rattle.avro_schema.specs.declared.schema.Field.{Field}
+use Rattle.avro_resolve.specs.Match.{is_match}
+use Rattle.avro_resolve.specs.Source.{source_of, missing_field_from}
+use Rattle.avro_certificate.specs.Closed.{Pair, is_among, has_local_fault, has_fault_of_kind, children_of, field_children, is_closed_at}
+use Rattle.avro_certificate.specs.inside.ClosedParts.{stands, closed_fields, closed_inside}
+use Rattle.avro_certificate.proofs.public.NodeKinds.{fault_of_others}
+
+and_true : (b : Bool) → b ≡ (b && true)
+and_true true = refl
+and_true false = refl
+
+-- a union is no plain node
+no_union : (places : List ℕ) → branches_of (Node.union places) ≡ None → ⊥
+no_union places h = grind arith
+
+module _ (dead : List ℕ) (pairs : List Pair) where
+  step : (f : FieldNode) (fields theirs : List FieldNode) (place : ℕ) (o : Option ℕ) → source_of fields f ≡ o
+      → closed_fields dead pairs fields theirs ≡ (not (is_some (missing_field_from (suc place) fields theirs)) && list_all (stands dead pairs) (field_children fields theirs))
+      → closed_fields dead pairs fields (f ∷ theirs) ≡ (not (is_some (missing_field_from place fields (f ∷ theirs))) && list_all (stands dead pairs) (field_children fields (f ∷ theirs)))
+  step f fields theirs place None e rest = rw e (default (is_some f.default) rest)
+    where
+      default : (b : Bool)
+          → closed_fields dead pairs fields theirs ≡ (not (is_some (missing_field_from (suc place) fields theirs)) && list_all (stands dead pairs) (field_children fields theirs))
+          → (b && closed_fields dead pairs fields theirs) ≡ (not (is_some (cond b (missing_field_from (suc place) fields theirs) (Some place))) && list_all (stands dead pairs) (field_children fields theirs))
+      default true h = h
+      default false h = refl
+  step f fields theirs place (Some source) e rest =
+      rw e (swapped (stands dead pairs (record { w = unwrap_or (slice_get (field_places fields) source) 0; r = f.node })) _ _ _ rest)
+    where
+      swapped : (s c m k : Bool) → c ≡ (m && k) → (s && c) ≡ (m && (s && k))
+      swapped true c m k h = h
+      swapped false c true k h = refl
+      swapped false c false k h = refl
+
+  fields_are : (fields theirs : List FieldNode) (place : ℕ)
+      → closed_fields dead pairs fields theirs ≡ (not (is_some (missing_field_from place fields theirs)) && list_all (stands dead pairs) (field_children fields theirs))
+  fields_are fields [] place = refl
+  fields_are fields (f ∷ theirs) place = step f fields theirs place (source_of fields f) refl (fields_are fields theirs (suc place))
+
+  -- two plain nodes that match
+  inside_is : (writer reader : List Node) (w r : ℕ) (n q : Node) → branches_of n ≡ None → branches_of q ≡ None
+      → closed_inside dead pairs n q ≡ (not (has_fault_of_kind n q) && list_all (stands dead pairs) (children_of writer reader w r n q))
+  inside_is writer reader w r (Node.union ps) _ h k = absurd (no_union ps h)
+  inside_is writer reader w r _ (Node.union ps) h k = absurd (no_union ps k)
+  inside_is writer reader w r (Node.array a) (Node.array b) h k = and_true _
+  inside_is writer reader w r (Node.map_of a) (Node.map_of b) h k = and_true _
+  inside_is writer reader w r (Node.record_of a xs fields) (Node.record_of b ys theirs) h k = fields_are fields theirs 0
+  inside_is writer reader w r (Node.enum a xs symbols x) (Node.enum b ys theirs y) h k = and_true _
+  inside_is writer reader w r _ _ h k = refl
+
+  -- two plain nodes
+  pub plain_is : (writer reader : List Node) (w r : ℕ) (n q : Node) → branches_of n ≡ None → branches_of q ≡ None → is_match writer reader n q ≡ true
+      → closed_inside dead pairs n q ≡ (not (has_local_fault writer reader n q) && list_all (stands dead pairs) (children_of writer reader w r n q))
+  plain_is writer reader w r n q h k m =
+      inside_is writer reader w r n q h k
+      ∙ ap (λ b. not (not b || has_fault_of_kind n q) && list_all (stands dead pairs) (children_of writer reader w r n q)) (sym m)
+      ∙ ap (λ b. not b && list_all (stands dead pairs) (children_of writer reader w r n q)) (sym (fault_of_others writer reader n q h k))
+
+-- the node of a field
+pub field_at : (fs : List Field) (k : ℕ) (d : Field) → k < length fs → (get_or fs k d).node.0 ≡ unwrap_or (slice_get (field_places (seen_fields fs)) k) 0
+field_at [] k d here = absurd (omega arith)
+field_at (f ∷ fs) zero d here = refl
+field_at (f ∷ fs) (suc k) d here = field_at fs k d (omega arith)
+
+three : (a b c x : Bool) → a ≡ true → b ≡ true → c ≡ false → x ≡ (a && b && (c || x))
+three true true false x h k m = refl
+three true true true x h k m = absurd (true≢false m)
+three true false c x h k m = absurd (false≢true k)
+three false b c x h k m = absurd (false≢true h)
+
+-- a kept node that is no union
+pub plain_kept : (n : KeptNode) → ((x : Vec NodeId Global) → n ≡ KeptNode.Union x → ⊥) → branches_of (node_of n) ≡ None
+plain_kept (KeptNode.Union ids) h = absurd (h ids refl)
+plain_kept _ h = refl
+
+-- a pair of nodes of which the writer's is not dead, and none is a union
+pub live_pair : (writer reader : List Node) (dead : List ℕ) (pairs : List Pair) (w r : ℕ) (n q : Node) (b : Bool) → n ≡ node_at writer w → q ≡ node_at reader r
+    → branches_of n ≡ None → branches_of q ≡ None → is_match writer reader (node_at writer w) (node_at reader r) ≡ true → b ≡ closed_inside dead pairs n q
+    → nat_lt w (length writer) ≡ true → nat_lt r (length reader) ≡ true → is_among dead w ≡ false
+    → b ≡ is_closed_at writer reader dead pairs (record { w = w; r = r })
+live_pair writer reader dead pairs w r n q b n_is q_is h k m e in_writer in_reader live =
+    e ∙ plain_is dead pairs writer reader w r n q h k (ap (λ x. is_match writer reader x q) n_is ∙ ap (λ y. is_match writer reader (node_at writer w) y) q_is ∙ m)
+    ∙ ap (λ x. not (has_local_fault writer reader x q) && list_all (stands dead pairs) (children_of writer reader w r x q)) n_is
+    ∙ ap (λ y. not (has_local_fault writer reader (node_at writer w) y) && list_all (stands dead pairs) (children_of writer reader w r (node_at writer w) y)) q_is
+    ∙ three (nat_lt w (length writer)) (nat_lt r (length reader)) (is_among dead w) _ in_writer in_reader live

@@ -1,0 +1,167 @@
+-- Numbers in decimal, digit by digit.
+use Rattle.std.proofs.Common.{◌≡◌, ℕ, zero, suc, ◌+◌, ◌*◌, ◌/◌, ◌%◌, ◌<◌, ◌≤◌, Bool, true, false, ◌⊎◌, inl, inr, List, [], ◌∷◌, ◌++◌, length, get_or, take, map, cond, refl, sym, ap, ◌∙◌, subst, arith, add-one, take-suc, take_all}
+use Rattle.std.proofs.lemmas.Bool.{eqb-true}
+use Rattle.std.proofs.lemmas.Int.Digits.{digits_of_step, first_digits_of, all_below_base_digits_of, length-digits_of_step}
+use Rattle.std.proofs.lemmas.Grind.{common_steps}
+use Rattle.std.specs.Prelude.{◌==◌, min}
+use Rattle.std.specs.Int.Digits.{digits_of, AllBelowBase}
+use Rattle.avro_certificate.specs.CertificateText.{decimal}
+use Rattle.avro_certificate.specs.CertificateLines.{bounded}
+
+not_zero : (n : ℕ) → 0 < n → (n == 0) ≡ false
+not_zero n h = decided (n == 0) refl
+  where
+    decided : (b : Bool) → (n == 0) ≡ b → b ≡ false
+    decided true e = let z : n ≡ 0 = eqb-true n 0 e in absurd (omega arith)
+    decided false e = refl
+
+pub above_zero : (n : ℕ) → 0 < n → decimal n ≡ map (λ d. 48 + d) (digits_of 10 n)
+above_zero n h = ap (λ b. cond b (48 ∷ []) (map (λ d. 48 + d) (digits_of 10 n))) (not_zero n h)
+
+map-append : (f : ℕ → ℕ) (xs ys : List ℕ) → map f (xs ++ ys) ≡ map f xs ++ map f ys
+map-append f [] ys = refl
+map-append f (x ∷ xs) ys = ap (λ l. f x ∷ l) (map-append f xs ys)
+
+-- a number of one digit
+pub decimal_digit : (d : ℕ) → d < 10 → decimal d ≡ (48 + d) ∷ []
+decimal_digit zero h = refl
+decimal_digit (suc d) h =
+    above_zero (suc d) (omega arith)
+    ∙ ap (map (λ e. 48 + e)) (digits_of_step 10 (suc d) (omega arith) (omega arith))
+    ∙ (let q : suc d / 10 ≡ 0 = omega arith in let r : suc d % 10 ≡ suc d = omega arith in rw (q, r) refl)
+
+-- a digit more
+pub decimal_push : (n d : ℕ) → 0 < n → d < 10 → decimal (n * 10 + d) ≡ decimal n ++ ((48 + d) ∷ [])
+decimal_push n d some small =
+    let q : (n * 10 + d) / 10 ≡ n = omega arith in
+    let r : (n * 10 + d) % 10 ≡ d = omega arith in
+    above_zero (n * 10 + d) (omega arith)
+    ∙ ap (map (λ e. 48 + e)) (digits_of_step 10 (n * 10 + d) (omega arith) (omega arith))
+    ∙ map-append (λ e. 48 + e) (digits_of 10 ((n * 10 + d) / 10)) (((n * 10 + d) % 10) ∷ [])
+    ∙ ap (λ k. map (λ e. 48 + e) (digits_of 10 k) ++ ((48 + (n * 10 + d) % 10) ∷ [])) q
+    ∙ ap (λ k. map (λ e. 48 + e) (digits_of 10 n) ++ ((48 + k) ∷ [])) r
+    ∙ ap (λ l. l ++ ((48 + d) ∷ [])) (sym (above_zero n some))
+
+digit_at : (ds : List ℕ) (i : ℕ) → AllBelowBase 10 ds → i < length ds → (48 ≤ get_or (map (λ d. 48 + d) ds) i 0) × (get_or (map (λ d. 48 + d) ds) i 0 < 58)
+digit_at [] i all here = absurd (omega arith)
+digit_at (d ∷ ds) zero all here = (omega arith, omega arith)
+digit_at (d ∷ ds) (suc i) all here = digit_at ds i all.1 (omega arith)
+
+length-map : (f : ℕ → ℕ) (xs : List ℕ) → length (map f xs) ≡ length xs
+length-map f [] = refl
+length-map f (x ∷ xs) = ap suc (length-map f xs)
+
+pub length_digits : (n : ℕ) → 0 < n → length (decimal n) ≡ length (digits_of 10 n)
+length_digits n h = ap length (above_zero n h) ∙ length-map (λ d. 48 + d) (digits_of 10 n)
+
+-- each byte is a digit
+pub decimal_digits : (n i : ℕ) → i < length (decimal n) → (48 ≤ get_or (decimal n) i 0) × (get_or (decimal n) i 0 < 58)
+decimal_digits zero zero here = (omega arith, omega arith)
+decimal_digits zero (suc i) here = absurd (omega arith)
+decimal_digits (suc n) i here =
+    let e = above_zero (suc n) (omega arith) in
+    let within : i < length (digits_of 10 (suc n)) = omega (arith, length_digits (suc n) (omega arith)) in
+    subst (λ (l : List ℕ). (48 ≤ get_or l i 0) × (get_or l i 0 < 58)) (sym e)
+    (digit_at (digits_of 10 (suc n)) i (all_below_base_digits_of 10 (suc n) (omega arith)) within)
+
+-- there is a digit
+pub decimal_some : (n : ℕ) → 0 < length (decimal n)
+decimal_some zero = omega arith
+decimal_some (suc n) = omega (arith, length_digits (suc n) (omega arith), length-digits_of_step 10 (suc n) (omega arith) (omega arith))
+
+first_of_map : (ds : List ℕ) → 0 < length ds → get_or (map (λ d. 48 + d) ds) 0 0 ≡ 48 + get_or ds 0 0
+first_of_map [] h = absurd (omega arith)
+first_of_map (d ∷ ds) h = refl
+
+-- no number but 0 begins with the digit 0
+pub decimal_first : (n : ℕ) → 0 < n → 48 < get_or (decimal n) 0 0
+decimal_first n h =
+    let some : 0 < length (digits_of 10 n) = omega (arith, length-digits_of_step 10 n (omega arith) h) in
+    omega (arith, ap (λ (l : List ℕ). get_or l 0 0) (above_zero n h), first_of_map (digits_of 10 n) some, first_digits_of 10 n (omega arith) h)
+
+-- the number that is kept, digit by digit
+pub bounded_digit : (d : ℕ) → d < 10 → min 4096 (0 * 10 + d) ≡ bounded d
+bounded_digit d h = grind (arith, common_steps)
+
+pub bounded_push : (n d : ℕ) → d < 10 → min 4096 (bounded n * 10 + d) ≡ bounded (n * 10 + d)
+bounded_push n d h = grind (arith, common_steps)
+
+pub bounded_zero : (n : ℕ) → bounded n ≡ 0 → n ≡ 0
+bounded_zero n h = grind (arith, common_steps)
+
+-- The first bytes of a text are a number, of which this is kept.
+abbrev pub Begins : List ℕ → ℕ → ℕ → Type 0
+Begins bs i number = (i ≡ 0 → number ≡ 0) × (0 < i → (n : ℕ) × (take i bs ≡ decimal n) × (number ≡ bounded n))
+
+one_more : (bs : List ℕ) (i : ℕ) → i < length bs → take (i + 1) bs ≡ take i bs ++ (get_or bs i 0 ∷ [])
+one_more bs i here = rw add-one (take-suc bs i 0 here)
+
+-- one digit more
+pub begins_more : (bs : List ℕ) (i number d : ℕ) → i < length bs → get_or bs i 0 ≡ 48 + d → d < 10 → Begins bs i number → (0 < i → number ≡ 0 → ⊥)
+    → Begins bs (i + 1) (min 4096 (number * 10 + d))
+begins_more bs i number d here digit small begun more = (λ z. absurd (omega arith), λ _. longer (order_zero i))
+  where
+    order_zero : (k : ℕ) → (k ≡ 0) ⊎ (0 < k)
+    order_zero zero = inl refl
+    order_zero (suc k) = inr (omega arith)
+
+    longer : (i ≡ 0) ⊎ (0 < i) → (n : ℕ) × (take (i + 1) bs ≡ decimal n) × (min 4096 (number * 10 + d) ≡ bounded n)
+    longer (inl z) = (
+      d,
+      one_more bs i here ∙ ap (λ c. take i bs ++ (c ∷ [])) digit ∙ ap (λ k. take k bs ++ ((48 + d) ∷ [])) z ∙ sym (decimal_digit d small),
+      ap (λ k. min 4096 (k * 10 + d)) (begun.0 z) ∙ bounded_digit d small,
+    )
+    longer (inr some) =
+        let before = begun.1 some in
+        let n = before.0 in
+        let above : 0 < n = positive n (λ z. more some (before.2 ∙ ap bounded z)) in (
+          n * 10 + d,
+          one_more bs i here ∙ ap (λ c. take i bs ++ (c ∷ [])) digit ∙ ap (λ l. l ++ ((48 + d) ∷ [])) before.1 ∙ sym (decimal_push n d above small),
+          ap (λ k. min 4096 (k * 10 + d)) before.2 ∙ bounded_push n d small,
+        )
+      where
+        positive : (k : ℕ) → (k ≡ 0 → ⊥) → 0 < k
+        positive zero h = absurd (h refl)
+        positive (suc k) h = omega arith
+
+-- a text with a byte that is no digit is no number
+pub no_digit : (bs : List ℕ) (i n : ℕ) → i < length bs → (48 ≤ get_or bs i 0 → get_or bs i 0 < 58 → ⊥) → bs ≡ decimal n → ⊥
+no_digit bs i n here other e =
+    let in_digits = decimal_digits n i (subst (λ (l : List ℕ). i < length l) e here) in
+    let same = ap (λ (l : List ℕ). get_or l i 0) e in
+    other (omega (arith, same, in_digits.0)) (omega (arith, same, in_digits.1))
+
+first_of_take : (bs : List ℕ) (i : ℕ) → 0 < i → get_or (take i bs) 0 0 ≡ get_or bs 0 0
+first_of_take [] zero h = absurd (omega arith)
+first_of_take [] (suc i) h = refl
+first_of_take (b ∷ bs) zero h = absurd (omega arith)
+first_of_take (b ∷ bs) (suc i) h = refl
+
+-- nor one with digits behind a leading zero
+pub no_leading_zero : (bs : List ℕ) (i n : ℕ) → 0 < i → i < length bs → Begins bs i 0 → bs ≡ decimal n → ⊥
+no_leading_zero bs i n some here begun e =
+    let before = begun.1 some in
+    let zeros : take i bs ≡ decimal 0 = before.1 ∙ ap decimal (bounded_zero before.0 (sym before.2)) in
+    let first : get_or bs 0 0 ≡ 48 = sym (first_of_take bs i some) ∙ ap (λ (l : List ℕ). get_or l 0 0) zeros in
+    let single : length (take i bs) ≡ 1 = ap length zeros in
+    cases n e first single
+  where
+    cases : (m : ℕ) → bs ≡ decimal m → get_or bs 0 0 ≡ 48 → length (take i bs) ≡ 1 → ⊥
+    cases zero e first single = let one : length bs ≡ 1 = ap length e in omega arith
+    cases (suc m) e first single = let above = decimal_first (suc m) (omega arith) in omega (arith, ap (λ (l : List ℕ). get_or l 0 0) e, above)
+
+-- nor an empty one
+pub no_empty : (bs : List ℕ) (n : ℕ) → length bs ≡ 0 → bs ≡ decimal n → ⊥
+no_empty bs n none e = omega (arith, decimal_some n, ap length e)
+
+-- a whole text
+pub begins_whole : (bs : List ℕ) (number : ℕ) → 0 < length bs → Begins bs (length bs) number → (n : ℕ) × (bs ≡ decimal n) × (number ≡ bounded n)
+begins_whole bs number some begun =
+    let whole = begun.1 some in
+    (whole.0, sym (take_all (length bs) bs (omega arith)) ∙ whole.1, whole.2)
+
+-- the last digit, behind the others
+pub decimal_step : (n : ℕ) → 10 ≤ n → decimal n ≡ decimal (n / 10) ++ ((48 + n % 10) ∷ [])
+decimal_step n big =
+    let whole : n ≡ n / 10 * 10 + n % 10 = omega arith in
+    ap decimal whole ∙ decimal_push (n / 10) (n % 10) (omega arith) (omega arith)

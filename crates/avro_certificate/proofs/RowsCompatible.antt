@@ -1,0 +1,104 @@
+-- Pairs of schemas that are compatible, and pairs with a least datum that errs.
+use Rattle.std.proofs.Common.{◌≡◌, refl, ◌≤◌, pos, true, [], ◌∷◌, Ok, Err, arith}
+use Rattle.std.proofs.lemmas.Bool.{false≢true, and_parts}
+use Rattle.std.specs.Str.{is_utf8, chars}
+use lib.Utf8.{encode}
+use Rattle.avro_schema.specs.Value.{Value, no_values, value, size}
+use Rattle.avro_schema.specs.Node.{Node, root_of}
+use Rattle.avro_schema.specs.Fits.{fits}
+use Rattle.avro_schema.proofs.public.RowsSchemas.{one_value, array_of_int, array_of_string, record_of_itself, record_of_int}
+use Rattle.avro_resolve.specs.Fault.{no_match, not_utf8}
+use Rattle.avro_certificate.specs.Compatible.{AreCompatible, IsLeastToErr}
+
+-- each datum has a node
+size_positive : (v : Value) → 1 ≤ size v
+size_positive Value.null = omega arith
+size_positive (Value.boolean b) = omega arith
+size_positive (Value.int i) = omega arith
+size_positive (Value.long i) = omega arith
+size_positive (Value.bytes b) = omega arith
+size_positive (Value.string t) = omega arith
+size_positive (Value.array vs) = omega arith
+size_positive (Value.map_of es) = omega arith
+size_positive (Value.union k v) = omega arith
+size_positive (Value.record_of vs) = omega arith
+size_positive (Value.enum k) = omega arith
+size_positive (Value.fixed b) = omega arith
+
+long_refutes_int : IsLeastToErr (Node.long ∷ []) (Node.int ∷ []) (Value.long (pos 0))
+long_refutes_int = record {
+  errs = (record { cause = no_match; path = [] }, record { fitting = refl; faulty = refl });
+  least = λ w fault e. size_positive w;
+}
+
+int_array_refutes_string_array : IsLeastToErr array_of_int array_of_string (Value.array no_values)
+int_array_refutes_string_array = record {
+  errs = (record { cause = no_match; path = [] }, record { fitting = refl; faulty = refl });
+  least = λ w fault e. size_positive w;
+}
+
+bytes_refute_string : IsLeastToErr (Node.bytes ∷ []) (Node.string ∷ []) (Value.bytes (255 ∷ []))
+unfolding is_utf8 chars encode
+bytes_refute_string = record {
+  errs = (record { cause = not_utf8; path = [] }, record { fitting = refl; faulty = refl });
+  least = λ w fault e. size_positive w;
+}
+
+-- a record of one int has two nodes
+record_of_int-size : (v : Value) → fits record_of_int (root_of record_of_int) v ≡ true → 2 ≤ size v
+record_of_int-size Value.null e = absurd (false≢true e)
+record_of_int-size (Value.boolean b) e = absurd (false≢true e)
+record_of_int-size (Value.int i) e = absurd (false≢true e)
+record_of_int-size (Value.long i) e = absurd (false≢true e)
+record_of_int-size (Value.bytes b) e = absurd (false≢true e)
+record_of_int-size (Value.string t) e = absurd (false≢true e)
+record_of_int-size (Value.array vs) e = absurd (false≢true (and_parts _ _ e).1)
+record_of_int-size (Value.map_of es) e = absurd (false≢true (and_parts _ _ e).1)
+record_of_int-size (Value.union k v) e = absurd (false≢true e)
+record_of_int-size (Value.record_of no_values) e = absurd (false≢true e)
+record_of_int-size (Value.record_of (value v vs)) e = omega (arith, size_positive v)
+record_of_int-size (Value.enum k) e = absurd (false≢true e)
+record_of_int-size (Value.fixed b) e = absurd (false≢true (and_parts _ _ e).1)
+
+record_refutes_int : IsLeastToErr record_of_int (Node.int ∷ []) (Value.record_of (one_value (Value.int (pos 0))))
+record_refutes_int = record {
+  errs = (record { cause = no_match; path = [] }, record { fitting = refl; faulty = refl });
+  least = λ w fault e. record_of_int-size w e.fitting;
+}
+
+-- an int fits, and nothing else
+int_goes_with_long : AreCompatible (Node.int ∷ []) (Node.long ∷ [])
+int_goes_with_long Value.null fault e = false≢true e.fitting
+int_goes_with_long (Value.boolean b) fault e = false≢true e.fitting
+int_goes_with_long (Value.int i) fault e = ok_is_no_err e.faulty
+  where
+    ok_is_no_err : {A B : Type 0} {a : A} {b : B} → Ok a ≡ Err b → ⊥
+    ok_is_no_err h = cc
+int_goes_with_long (Value.long i) fault e = false≢true e.fitting
+int_goes_with_long (Value.bytes b) fault e = false≢true e.fitting
+int_goes_with_long (Value.string t) fault e = false≢true e.fitting
+int_goes_with_long (Value.array vs) fault e = false≢true (and_parts _ _ e.fitting).1
+int_goes_with_long (Value.map_of es) fault e = false≢true (and_parts _ _ e.fitting).1
+int_goes_with_long (Value.union k v) fault e = false≢true e.fitting
+int_goes_with_long (Value.record_of vs) fault e = false≢true e.fitting
+int_goes_with_long (Value.enum k) fault e = false≢true e.fitting
+int_goes_with_long (Value.fixed b) fault e = false≢true (and_parts _ _ e.fitting).1
+
+-- the record would hold a datum of its own
+record_of_itself-no_datum : (v : Value) → fits record_of_itself (root_of record_of_itself) v ≡ true → ⊥
+record_of_itself-no_datum Value.null e = false≢true e
+record_of_itself-no_datum (Value.boolean b) e = false≢true e
+record_of_itself-no_datum (Value.int i) e = false≢true e
+record_of_itself-no_datum (Value.long i) e = false≢true e
+record_of_itself-no_datum (Value.bytes b) e = false≢true e
+record_of_itself-no_datum (Value.string t) e = false≢true e
+record_of_itself-no_datum (Value.array vs) e = false≢true (and_parts _ _ e).1
+record_of_itself-no_datum (Value.map_of es) e = false≢true (and_parts _ _ e).1
+record_of_itself-no_datum (Value.union k v) e = false≢true e
+record_of_itself-no_datum (Value.record_of no_values) e = false≢true e
+record_of_itself-no_datum (Value.record_of (value v vs)) e = record_of_itself-no_datum v (and_parts _ _ e).0
+record_of_itself-no_datum (Value.enum k) e = false≢true e
+record_of_itself-no_datum (Value.fixed b) e = false≢true (and_parts _ _ e).1
+
+record_of_itself-compatible : AreCompatible record_of_itself (Node.int ∷ [])
+record_of_itself-compatible v fault e = record_of_itself-no_datum v e.fitting

@@ -1,0 +1,8 @@
+pub mod DeadNodes
+pub mod NodeKinds
+pub mod Resolving
+pub mod Rising
+pub mod Shapes
+pub mod SoundPairs
+pub mod Successes
+pub mod Tests

@@ -1,0 +1,126 @@
+-- When a resolution succeeds.
+use Rattle.std.proofs.Common.{◌≡◌, ℕ, ℤ, Bool, true, false, List, [], ◌∷◌, Option, Some, None, Result, Ok, Err, length, refl, sym, ◌∙◌, inl, inr, cond, arith}
+use Rattle.std.proofs.lemmas.Bool.{false≢true, true≢false, ltb-true, lt-ltb, cond-true}
+use Rattle.std.proofs.lemmas.Slice.Eq.{bytes_eq-Decides}
+use Rattle.std.specs.Prelude.{is_some, slice_get, unwrap_or, nat_lt, position, bytes_eq}
+use Rattle.std.specs.List.{list_any, position_or_len}
+use Rattle.avro_schema.specs.Value.{Value}
+use Rattle.avro_schema.specs.Node.{Node, FieldNode, branches_of}
+use Rattle.avro_schema.specs.Fits.{is_bytes_node}
+use Rattle.avro_resolve.specs.Fault.{ResolutionFault, fault_here, no_match}
+use Rattle.avro_resolve.specs.Match.{is_match}
+use Rattle.avro_resolve.specs.Resolve.{Resolved, inside, result_map, both, matched, through, int_as, bytes_as, string_as, enum_or_default, record_or_missing, Sourced, with_sourced, field_values}
+use Rattle.avro_certificate.specs.Closed.{has_fault_of_kind, lacks_symbol}
+use Rattle.avro_certificate.proofs.public.Tests.{not_false, or_cases, or_from_left, or_from_right, none_at, prefix_len_below}
+
+-- a result that is no fault
+abbrev pub Succeeds : {A : Type 0} → Result A ResolutionFault → Type 0
+Succeeds (Ok a) = Unit {0}
+Succeeds (Err e) = ⊥
+
+-- inside a part
+pub succeeds_inside : {A : Type 0} (step : ℕ) (x : Result A ResolutionFault) → Succeeds x → Succeeds (inside step x)
+succeeds_inside step (Ok a) h = tt
+succeeds_inside step (Err e) h = h
+
+-- with another value
+pub succeeds_map : {A B : Type 0} (f : A → B) (x : Result A ResolutionFault) → Succeeds x → Succeeds (result_map f x)
+succeeds_map f (Ok a) h = tt
+succeeds_map f (Err e) h = h
+
+-- one result and then another
+pub succeeds_both : {A B C : Type 0} (f : A → B → C) (x : Result A ResolutionFault) (y : Result B ResolutionFault)
+    → Succeeds x → Succeeds y → Succeeds (both f x y)
+succeeds_both f (Ok a) (Ok b) h k = tt
+succeeds_both f (Ok a) (Err e) h k = k
+succeeds_both f (Err e) y h k = h
+
+-- nodes that match
+pub succeeds_matched : (writer reader : List Node) (w r : Node) (resolve : Node → Resolved) → is_match writer reader w r ≡ true
+    → Succeeds (resolve r) → Succeeds (matched writer reader w r resolve)
+succeeds_matched writer reader w r resolve h s = chosen (is_match writer reader w r) h
+  where
+    chosen : (b : Bool) → b ≡ true → Succeeds (cond b (resolve r) (Err (fault_here no_match)))
+    chosen true e = s
+    chosen false e = absurd (false≢true e)
+
+-- where the reader's node is no union
+pub through_plain : (writer reader : List Node) (w r : Node) (resolve : Node → Resolved) → branches_of r ≡ None
+    → Succeeds (matched writer reader w r resolve) → Succeeds (through writer reader w r resolve)
+through_plain writer reader w (Node.union places) resolve plain s = absurd (grind arith)
+through_plain writer reader w _ resolve plain s = s
+
+-- and back
+pub matched_plain : (writer reader : List Node) (w r : Node) (resolve : Node → Resolved) → branches_of r ≡ None
+    → Succeeds (through writer reader w r resolve) → Succeeds (matched writer reader w r resolve)
+matched_plain writer reader w (Node.union places) resolve plain s = absurd (grind arith)
+matched_plain writer reader w _ resolve plain s = s
+
+-- an int
+pub succeeds_int : (i : ℤ) (q : Node) → Succeeds (int_as i q)
+succeeds_int i Node.long = tt
+succeeds_int i _ = tt
+
+-- bytes, but not for a string
+pub succeeds_bytes : (b : List ℕ) (n q : Node) → is_bytes_node n ≡ true → has_fault_of_kind n q ≡ false → Succeeds (bytes_as b q)
+succeeds_bytes b Node.bytes Node.string h faultless = absurd (true≢false faultless)
+succeeds_bytes b Node.bytes _ h faultless = tt
+succeeds_bytes b _ _ h faultless = absurd (false≢true h)
+
+-- a text
+pub succeeds_string : (t : List ℕ) (q : Node) → Succeeds (string_as t q)
+succeeds_string t Node.bytes = tt
+succeeds_string t _ = tt
+
+-- equality of texts is symmetric
+pub bytes_eq-sym : (a b : List ℕ) → bytes_eq a b ≡ bytes_eq b a
+bytes_eq-sym a b = same (bytes_eq a b) (bytes_eq b a)
+    (λ h. (bytes_eq-Decides b a).1 (sym ((bytes_eq-Decides a b).0 h))) (λ h. (bytes_eq-Decides a b).1 (sym ((bytes_eq-Decides b a).0 h)))
+  where
+    same : (x y : Bool) → (x ≡ true → y ≡ true) → (y ≡ true → x ≡ true) → x ≡ y
+    same true true f g = refl
+    same false false f g = refl
+    same true false f g = sym (f refl)
+    same false true f g = g refl
+
+-- tests that agree pass alike
+list_any-same : {A : Type 0} (f g : A → Bool) (xs : List A) → ((x : A) → f x ≡ g x) → list_any f xs ≡ true → list_any g xs ≡ true
+list_any-same f g [] same h = h
+list_any-same f g (x ∷ xs) same h = elim (or_cases (f x) (list_any f xs) h) [
+  | inl first ↦ or_from_left (g x) (list_any g xs) (sym (same x) ∙ first)
+  | inr later ↦ or_from_right (g x) (list_any g xs) (list_any-same f g xs same later)
+]
+
+-- a symbol that the reader does not lack has a place there
+found_symbol : (s : List ℕ) (theirs : List (List ℕ)) → list_any (bytes_eq s) theirs ≡ true
+    → (place : ℕ) × (position (λ t. bytes_eq t s) theirs ≡ Some place)
+found_symbol s theirs h =
+    let there : list_any (λ t. bytes_eq t s) theirs ≡ true = list_any-same (bytes_eq s) (λ t. bytes_eq t s) theirs (bytes_eq-sym s) h in
+    let below = prefix_len_below (λ t. bytes_eq t s) theirs there in
+    (position_or_len (λ t. bytes_eq t s) theirs, cond-true _ _ _ (lt-ltb (position_or_len (λ t. bytes_eq t s) theirs) (length theirs) below))
+
+-- a symbol that the reader has, or its default
+pub succeeds_enum : (symbols theirs : List (List ℕ)) (k : ℕ) (default : Option ℕ) → nat_lt k (length symbols) ≡ true
+    → lacks_symbol symbols theirs default ≡ false
+    → Succeeds (enum_or_default (position (λ t. bytes_eq t (unwrap_or (slice_get symbols k) [])) theirs) default)
+succeeds_enum symbols theirs k (Some place) within lacks = either (position (λ t. bytes_eq t (unwrap_or (slice_get symbols k) [])) theirs)
+  where
+    either : (o : Option ℕ) → Succeeds (enum_or_default o (Some place))
+    either None = tt
+    either (Some p) = tt
+succeeds_enum symbols theirs k None within lacks =
+    let found = found_symbol (unwrap_or (slice_get symbols k) []) theirs (not_false _ (none_at _ symbols k [] lacks (ltb-true k (length symbols) within))) in
+    rw found.1 tt
+
+-- a record without a missing field
+pub succeeds_record : (writer reader : List FieldNode) (missing : Option ℕ) (sourced : Result Sourced ResolutionFault) → is_some missing ≡ false
+    → Succeeds sourced → Succeeds (record_or_missing writer reader missing sourced)
+succeeds_record writer reader None sourced h s = succeeds_map (λ found. Value.record_of (field_values writer found reader)) sourced s
+succeeds_record writer reader (Some place) sourced h s = absurd (true≢false h)
+
+-- a writer's field, some reader's source or not
+pub succeeds_sourced : (o : Option FieldNode) (place : ℕ) (resolve : FieldNode → Resolved) (later : Result Sourced ResolutionFault)
+    → ((f : FieldNode) → o ≡ Some f → Succeeds (resolve f)) → Succeeds later → Succeeds (with_sourced o place resolve later)
+succeeds_sourced None place resolve later here s = s
+succeeds_sourced (Some f) place resolve later here s =
+    succeeds_both (λ v found. (place, v) ∷ found) (inside place (resolve f)) later (succeeds_inside place (resolve f) (here f refl)) s

@@ -1,0 +1,20 @@
+use Rattle.std.proofs.Common.{◌≡◌, ◌+◌, ◌/◌, ◌%◌, [], ◌∷◌, arith, append_assoc}
+use Rattle.avro_certificate.specs.CertificateText.{decimal}
+use Rattle.avro_certificate.proofs.Decimal.{decimal_digit, decimal_step}
+use Rattle.avro_certificate.proofs.writing.+write_number.Goals as goal
+use Rattle.avro_certificate.proofs.writing.+write_number.Goals.{then-number-ge10+in_ok-write_number, else-number-ge10}
+
+pub returns : goal.returns
+returns t c = elim c.if-number-ge10.branch [
+  | then-number-ge10+in_ok-write_number w ↦
+      cc (
+        c.in_ok-push.ensures.items,
+        w.in_ok-write_number.ensures,
+        w.text-is,
+        decimal_step c.args.number w.if-number-ge10.true,
+        append_assoc c.args.text.now.items (decimal (c.args.number / 10)) ((48 + c.args.number % 10) ∷ []),
+      )
+  | else-number-ge10 w ↦
+      let low : c.args.number % 10 ≡ c.args.number = omega (arith, w.if-number-ge10.false) in
+      cc (c.in_ok-push.ensures.items, w.text-is, decimal_digit c.args.number (omega (arith, w.if-number-ge10.false)), low)
+]

@@ -1,0 +1,30 @@
+-- What a refusal of a certificate's text says of it.
+use Rattle.std.specs.Prelude.{◌≡◌, ℕ, ◌<◌, ◌⊎◌, false, List, length, Ok, Err}
+use Rattle.std.specs.declared.result.Result.{Result}
+use Rattle.avro_certificate.specs.Closed.{Pair}
+use Rattle.avro_certificate.specs.CertificateText.{CertText, certificate_text, are_small}
+use Rattle.avro_certificate.specs.declared.error.CertError.{CertError}
+use Rattle.avro_certificate.specs.declared.kept.Certificate.{Certificate}
+
+-- the text is no certificate's, or too long to be read
+abbrev pub IsMalformed : List ℕ → Type 0
+IsMalformed text = (268435456 < length text) ⊎ ((dead : List ℕ) (pairs : List Pair) → CertText dead pairs text → ⊥)
+
+-- the text has the lines of a certificate, and some number is over 4,095
+pub record HasGreatNumber (text : List ℕ) : Type 0 where
+  pub dead : List ℕ
+  pub pairs : List Pair
+  pub written : text ≡ certificate_text dead pairs
+  pub great : are_small dead pairs ≡ false
+
+-- what a refusal says; memory that runs out says nothing
+abbrev pub Refuses : CertError → List ℕ → Type 0
+Refuses CertError.Malformed text = IsMalformed text
+Refuses CertError.NumberTooLarge text = HasGreatNumber text
+Refuses CertError.OutOfMemory text = Unit {0}
+
+-- P of the certificate that was read, unless memory ran out
+abbrev pub UnlessOutOfMemory : Result Certificate CertError → (Certificate → Type 0) → Type 0
+UnlessOutOfMemory (Ok certificate) P = P certificate
+UnlessOutOfMemory (Err CertError.OutOfMemory) P = Unit {0}
+UnlessOutOfMemory (Err e) P = ⊥

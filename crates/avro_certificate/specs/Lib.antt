@@ -1,0 +1,10 @@
+pub mod Closed
+pub mod Compatible
+pub mod Evidence
+pub mod CertificateText
+pub mod SeenPair
+pub mod SeenCertificate
+pub mod CertificateRead
+pub mod CertificateLines
+pub mod CertificateSets
+pub mod inside

@@ -1,0 +1,217 @@
+//! Whether the sets of a certificate are closed over two schemas.
+
+ghost use Rattle.std.specs.Prelude.{◌≡◌, ◌&&◌, nat_lt, length, map, unwrap_or, slice_get};
+ghost use Rattle.std.specs.List.{list_all, list_any};
+ghost use Rattle.avro_schema.specs.Node.{node_at, field_places};
+ghost use Rattle.avro_schema.specs.Seen.{node_of, places_of, seen_fields, field_of};
+ghost use Rattle.avro_schema.specs.SeenSchema.{schema_nodes};
+ghost use Rattle.avro_resolve.specs.Match.{first_match_at};
+ghost use Rattle.avro_certificate.specs.Closed.{is_among, is_dead, is_dead_node, is_closed, is_closed_at};
+ghost use Rattle.avro_certificate.specs.inside.ClosedParts.{stands, closed_branch, closed_inside, closed_fields, closed_source};
+ghost use Rattle.avro_certificate.specs.SeenCertificate.{dead_of, pairs_in};
+ghost use Rattle.avro_certificate.specs.SeenPair.{pair_of};
+
+use crate::kept::Certificate;
+use crate::lookup::{has, has_dead};
+use crate::symbols::lacks_symbol;
+use avro_resolve::{first_match, matches, source};
+use avro_schema::{Field, Node, NodeId, RecordNode, Schema};
+
+/// Whether a certificate shows that no datum of a writer's schema fails for a reader's: its nodes are
+/// nodes of the writer's that no datum has, the roots are accounted for, and each pair is closed.
+pub fn is_closed(writer: &Schema, reader: &Schema, certificate: &Certificate) -> bool
+    ensures { result ≡ is_closed (schema_nodes writer.now) (schema_nodes reader.now) (dead_of certificate.now) (pairs_in certificate.now) }
+{
+    is_dead(writer, certificate)
+        && has(certificate, 0, 0)
+        && pairs_closed(writer, reader, certificate)
+}
+
+/// Whether each dead node is a node of the writer's that no datum has.
+fn is_dead(writer: &Schema, certificate: &Certificate) -> bool
+    ensures { result ≡ is_dead (schema_nodes writer.now) (dead_of certificate.now) }
+{
+    let dead = certificate.dead();
+    for number in dead {
+        if !is_dead_place(writer, certificate, NodeId(*number)) {
+            return false;
+        }
+    }
+    true
+}
+
+fn is_dead_place(writer: &Schema, certificate: &Certificate, id: NodeId) -> bool
+    ensures { result ≡ (nat_lt id.0 (length (schema_nodes writer.now)) && is_dead_node (dead_of certificate.now) (node_at (schema_nodes writer.now) id.0)) }
+{
+    if !writer.has(id) {
+        return false;
+    }
+    match writer.node(id) {
+        Node::Record(record) => has_dead_field(certificate, &record.fields),
+        Node::Union(places) => has_dead_branches(certificate, places),
+        _ => false,
+    }
+}
+
+fn has_dead_field(certificate: &Certificate, fields: &[Field]) -> bool
+    ensures { result ≡ list_any (is_among (dead_of certificate.now)) (field_places (seen_fields fields.now)) }
+{
+    for field in fields {
+        if has_dead(certificate, field.node.0) {
+            return true;
+        }
+    }
+    false
+}
+
+fn has_dead_branches(certificate: &Certificate, places: &[NodeId]) -> bool
+    ensures { result ≡ list_all (is_among (dead_of certificate.now)) (places_of places.now) }
+{
+    for place in places {
+        if !has_dead(certificate, place.0) {
+            return false;
+        }
+    }
+    true
+}
+
+fn pairs_closed(writer: &Schema, reader: &Schema, certificate: &Certificate) -> bool
+    ensures { result ≡ list_all (is_closed_at (schema_nodes writer.now) (schema_nodes reader.now) (dead_of certificate.now) (pairs_in certificate.now)) (pairs_in certificate.now) }
+{
+    let pairs = certificate.pairs();
+    for pair in pairs {
+        if !is_closed_at(writer, reader, certificate, *pair) {
+            return false;
+        }
+    }
+    true
+}
+
+/// Whether a pair is one of nodes, and closed where its writer's node is not dead.
+fn is_closed_at(
+    writer: &Schema,
+    reader: &Schema,
+    certificate: &Certificate,
+    pair: (u32, u32),
+) -> bool
+    ensures { result ≡ is_closed_at (schema_nodes writer.now) (schema_nodes reader.now) (dead_of certificate.now) (pairs_in certificate.now) (pair_of pair) }
+{
+    let w = NodeId(pair.0);
+    let r = NodeId(pair.1);
+    if !writer.has(w) || !reader.has(r) {
+        return false;
+    }
+    if has_dead(certificate, w.0) {
+        return true;
+    }
+    match writer.node(w) {
+        Node::Union(places) => has_branches(certificate, places, r),
+        n => match reader.node(r) {
+            Node::Union(places) => has_first_match(writer, w, reader, r, certificate, places),
+            q => matches(writer, w, reader, r) && is_closed_inside(certificate, n, q),
+        },
+    }
+}
+
+/// Whether each branch of a writer's union is accounted for with the reader's node.
+fn has_branches(certificate: &Certificate, places: &[NodeId], r: NodeId) -> bool
+    ensures { result ≡ list_all (stands (dead_of certificate.now) (pairs_in certificate.now)) (map (λ place. record { w = place; r = r.0 }) (places_of places.now)) }
+{
+    for place in places {
+        if !has(certificate, place.0, r.0) {
+            return false;
+        }
+    }
+    true
+}
+
+/// Whether a branch of a reader's union matches, and the first that does is accounted for.
+fn has_first_match(
+    writer: &Schema,
+    w: NodeId,
+    reader: &Schema,
+    r: NodeId,
+    certificate: &Certificate,
+    places: &[NodeId],
+) -> bool
+    ensures { result ≡ closed_branch (dead_of certificate.now) (pairs_in certificate.now) w.0 (places_of places.now)
+        (first_match_at (schema_nodes writer.now) (schema_nodes reader.now) (node_at (schema_nodes writer.now) w.0) (node_at (schema_nodes reader.now) r.0)) }
+{
+    match first_match(writer, w, reader, r) {
+        None => false,
+        Some(k) => has(certificate, w.0, branch_or_root(places, k)),
+    }
+}
+
+/// Whether two nodes that match, and are no unions, have no fault of their own and their parts are
+/// accounted for.
+fn is_closed_inside(certificate: &Certificate, n: &Node, q: &Node) -> bool
+    ensures { result ≡ closed_inside (dead_of certificate.now) (pairs_in certificate.now) (node_of n.now) (node_of q.now) }
+{
+    match n {
+        Node::Bytes => !matches!(q, Node::Str),
+        Node::Array(a) => match q {
+            Node::Array(b) => has(certificate, a.0, b.0),
+            _ => true,
+        },
+        Node::Map(a) => match q {
+            Node::Map(b) => has(certificate, a.0, b.0),
+            _ => true,
+        },
+        Node::Record(a) => match q {
+            Node::Record(b) => has_sources(certificate, a, &b.fields),
+            _ => true,
+        },
+        Node::Enum(a) => match q {
+            Node::Enum(b) => !lacks_symbol(&a.symbols, &b.symbols, b.default),
+            _ => true,
+        },
+        _ => true,
+    }
+}
+
+/// Whether each of the reader's fields has a source that is accounted for, or a default.
+fn has_sources(certificate: &Certificate, writer: &RecordNode, theirs: &[Field]) -> bool
+    ensures { result ≡ closed_fields (dead_of certificate.now) (pairs_in certificate.now) (seen_fields writer.now.fields.items) (seen_fields theirs.now) }
+{
+    for field in theirs {
+        if !has_source(certificate, writer, field) {
+            return false;
+        }
+    }
+    true
+}
+
+/// Whether a reader's field has a source that is accounted for, or a default.
+fn has_source(certificate: &Certificate, writer: &RecordNode, field: &Field) -> bool
+    ensures { result ≡ closed_source (dead_of certificate.now) (pairs_in certificate.now) (seen_fields writer.now.fields.items) (field_of field.now) }
+{
+    match source(writer, field) {
+        None => field.default.is_some(),
+        Some(place) => has(
+            certificate,
+            place_or_root(&writer.fields, place),
+            field.node.0,
+        ),
+    }
+}
+
+/// The number of the node of a field; past the end stands the root's.
+fn place_or_root(fields: &[Field], place: usize) -> u32
+    ensures { result ≡ unwrap_or (slice_get (field_places (seen_fields fields.now)) place) 0 }
+{
+    match fields.get(place) {
+        None => 0,
+        Some(field) => field.node.0,
+    }
+}
+
+/// The number of the node of a branch; past the end stands the root's.
+fn branch_or_root(places: &[NodeId], k: usize) -> u32
+    ensures { result ≡ unwrap_or (slice_get (places_of places.now) k) 0 }
+{
+    match places.get(k) {
+        None => 0,
+        Some(place) => place.0,
+    }
+}

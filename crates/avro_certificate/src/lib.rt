@@ -1,0 +1,22 @@
+//! Certificates: sets of nodes and of pairs of nodes which show that a reader's schema reads everything
+//! that was written under a writer's schema.
+//!
+//! A [`Certificate`] is read from a text and written to it. [`is_closed`] tells whether it shows this of
+//! two schemas, whoever made it.
+#![tactic(auto)]
+
+mod checks;
+mod closing;
+mod error;
+mod kept;
+pub mod laws;
+mod lines;
+mod lookup;
+mod sets;
+mod symbols;
+mod writing;
+
+pub use closing::is_closed;
+pub use error::CertError;
+pub use kept::Certificate;
+pub use symbols::{has_text, lacks_symbol};

@@ -1,0 +1,82 @@
+//! The lines of a certificate's text.
+
+ghost use Rattle.std.specs.Prelude.{◌≡◌, ◌≢◌, ℕ, List, ◌++◌, ◌∷◌, MatchOption, ◌<◌, ◌-◌, length, slice_index};
+ghost use Rattle.avro_certificate.specs.CertificateText.{decimal, dead_line, pair_line};
+ghost use Rattle.avro_certificate.specs.CertificateLines.{bounded, bounded_pair};
+ghost use Rattle.avro_certificate.specs.Closed.{Pair};
+ghost use Rattle.avro_certificate.specs.SeenPair.{pair_of};
+
+/// One more than the greatest number of a certificate; it stands for each greater number.
+const TOO_LARGE: u32 = 4096;
+
+/// The number that a whole text is in decimal, without leading zeros; 4,096 stands for all greater ones.
+fn number_of(numeral: &[u8]) -> Option<u32>
+    ensures { MatchOption result ((n : ℕ) → numeral.now ≢ decimal n) (λ v. (n : ℕ) × (numeral.now ≡ decimal n) × (v ≡ bounded n)) }
+{
+    let mut number = 0;
+    for (i, digit) in numeral.iter().enumerate() {
+        if !digit.is_ascii_digit() {
+            return None;
+        }
+        if i > 0 && number == 0 {
+            return None;
+        }
+        number = TOO_LARGE.min(number * 10 + u32::from(*digit - b'0'));
+    }
+    if numeral.is_empty() {
+        None
+    } else {
+        Some(number)
+    }
+}
+
+/// How many bytes stand before the first of this value.
+fn length_before(bytes: &[u8], stop: u8) -> Option<usize>
+    ensures { MatchOption result ((k : ℕ) → k < length bytes.now → slice_index bytes.now k ≢ stop)
+        (λ k. (k < length bytes.now) × (slice_index bytes.now k ≡ stop) × ((j : ℕ) → j < k → slice_index bytes.now j ≢ stop)) }
+{
+    for (i, byte) in bytes.iter().enumerate() {
+        if *byte == stop {
+            return Some(i);
+        }
+    }
+    None
+}
+
+/// What follows a word at the front of a text.
+pub(crate) fn after<'a>(text: &'a [u8], word: &[u8]) -> Option<&'a [u8]>
+    ensures { MatchOption result ((rest : List ℕ) → text.now ≢ word.now ++ rest) (λ rest. text.now ≡ word.now ++ rest.now) }
+{
+    text.strip_prefix(word)
+}
+
+/// The number at the front of a text, up to a byte that is no digit, and what follows that byte.
+fn read_number(text: &[u8], stop: u8) -> Option<(u32, &[u8])>
+    requires { stop < 48 }
+    ensures { MatchOption result ((n : ℕ) (more : List ℕ) → text.now ≢ decimal n ++ (stop ∷ more))
+        (λ r. (n : ℕ) × (text.now ≡ decimal n ++ (stop ∷ r.1.now)) × (r.0 ≡ bounded n)) }
+{
+    let length = length_before(text, stop)?;
+    let number = number_of(&text[..length])?;
+    Some((number, &text[length + 1..]))
+}
+
+/// The node of the line of a dead node at the front of a text, and what follows the line.
+pub(crate) fn read_dead_line(text: &[u8]) -> Option<(u32, &[u8])>
+    ensures { MatchOption result ((n : ℕ) (more : List ℕ) → text.now ≢ dead_line n ++ more)
+        (λ r. (n : ℕ) × (text.now ≡ dead_line n ++ r.1.now) × (r.0 ≡ bounded n)) }
+{
+    let numeral = after(text, b"dead ")?;
+    read_number(numeral, b'\n')
+}
+
+/// The pair of the line of a pair at the front of a text, and what follows the line.
+pub(crate) fn read_pair_line(text: &[u8]) -> Option<((u32, u32), &[u8])>
+    ensures { MatchOption result ((p : Pair) (more : List ℕ) → text.now ≢ pair_line p ++ more)
+        (λ r. (p : Pair) × (text.now ≡ pair_line p ++ r.1.now) × (pair_of r.0 ≡ bounded_pair p)) }
+{
+    let numerals = after(text, b"pair ")?;
+    let (writer, numeral) = read_number(numerals, b' ')?;
+    let (reader, rest) = read_number(numeral, b'\n')?;
+    Some(((writer, reader), rest))
+}

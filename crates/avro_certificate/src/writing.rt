@@ -1,0 +1,75 @@
+//! Writing the text of a certificate.
+
+ghost use Rattle.std.specs.Prelude.{◌≡◌, ◌++◌, flat_map, OnOk};
+ghost use Rattle.avro_certificate.specs.CertificateText.{decimal, dead_line, pair_line, certificate_text};
+ghost use Rattle.avro_certificate.specs.SeenPair.{pair_of, pairs_of};
+
+use std::alloc::AllocError;
+
+/// Appends the text of two lists.
+pub(crate) fn write_text(
+    text: &mut Vec<u8>,
+    dead: &[u32],
+    pairs: &[(u32, u32)],
+) -> Result<(), AllocError>
+    ensures { OnOk result (text.new.items ≡ text.old.items ++ certificate_text dead.now (pairs_of pairs.now)) }
+{
+    text.extend_from_slice(b"approval 1\n")?;
+    write_dead(text, dead)?;
+    write_pairs(text, pairs)?;
+    text.extend_from_slice(b"end\n")?;
+    Ok(())
+}
+
+/// Appends the lines of dead nodes.
+fn write_dead(text: &mut Vec<u8>, dead: &[u32]) -> Result<(), AllocError>
+    ensures { OnOk result (text.new.items ≡ text.old.items ++ flat_map dead_line dead.now) }
+{
+    for number in dead {
+        write_dead_node(text, *number)?;
+    }
+    Ok(())
+}
+
+/// Appends the line of a dead node.
+fn write_dead_node(text: &mut Vec<u8>, number: u32) -> Result<(), AllocError>
+    ensures { OnOk result (text.new.items ≡ text.old.items ++ dead_line number) }
+{
+    text.extend_from_slice(b"dead ")?;
+    write_number(text, number)?;
+    text.push(b'\n')?;
+    Ok(())
+}
+
+/// Appends the lines of pairs.
+fn write_pairs(text: &mut Vec<u8>, pairs: &[(u32, u32)]) -> Result<(), AllocError>
+    ensures { OnOk result (text.new.items ≡ text.old.items ++ flat_map pair_line (pairs_of pairs.now)) }
+{
+    for pair in pairs {
+        write_pair(text, *pair)?;
+    }
+    Ok(())
+}
+
+/// Appends the line of a pair.
+fn write_pair(text: &mut Vec<u8>, pair: (u32, u32)) -> Result<(), AllocError>
+    ensures { OnOk result (text.new.items ≡ text.old.items ++ pair_line (pair_of pair)) }
+{
+    text.extend_from_slice(b"pair ")?;
+    write_number(text, pair.0)?;
+    text.push(b' ')?;
+    write_number(text, pair.1)?;
+    text.push(b'\n')?;
+    Ok(())
+}
+
+/// Appends a number in decimal.
+fn write_number(text: &mut Vec<u8>, number: u32) -> Result<(), AllocError>
+    ensures { OnOk result (text.new.items ≡ text.old.items ++ decimal number) }
+{
+    if number >= 10 {
+        write_number(text, number / 10)?;
+    }
+    text.push(b'0' + (number % 10) as u8)?;
+    Ok(())
+}

@@ -1,5 +1,0 @@
-use Rattle.avro_judge.proofs.Rising.{numbers_rise}
-use Rattle.avro_judge.proofs.certificate.checks.numbers_rise.Goals as goal
-
-pub loop-number-init : goal.loop-number-init
-loop-number-init c = numbers_rise c.args.numbers.now

@@ -1,6 +1,0 @@
-use Rattle.avro_judge.specs.SeenPair.{pairs_of}
-use Rattle.avro_judge.proofs.Rising.{pairs_rise}
-use Rattle.avro_judge.proofs.certificate.checks.pairs_rise.Goals as goal
-
-pub loop-pair-init : goal.loop-pair-init
-loop-pair-init c = pairs_rise (pairs_of c.args.pairs.now)

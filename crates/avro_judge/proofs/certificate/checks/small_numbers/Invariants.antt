@@ -1,7 +1,0 @@
-use Rattle.std.proofs.Common.{◌≡◌, drop}
-use Rattle.std.specs.List.{list_all}
-use Rattle.avro_judge.specs.CertificateText.{is_small}
-use Rattle.avro_judge.proofs.certificate.checks.small_numbers.Given as goal
-
-abbrev pub invariant-loop-number : goal.invariant-loop-number
-invariant-loop-number l = list_all is_small (drop l.number-index l.numbers) ≡ list_all is_small l.numbers

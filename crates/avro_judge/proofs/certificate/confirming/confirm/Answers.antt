@@ -1,9 +1,0 @@
-use Rattle.std.proofs.Common.{sym, ◌∙◌}
-use Rattle.avro_schema.specs.SeenSchema.{schema_nodes}
-use Rattle.avro_judge.specs.SeenCertificate.{dead_of, pairs_in}
-use Rattle.avro_judge.proofs.Resolving.{closed_compatible}
-use Rattle.avro_judge.proofs.certificate.confirming.confirm.Goals as goal
-
-pub of-requires : goal.of-requires
-of-requires c = closed_compatible (schema_nodes c.args.writer.now) (schema_nodes c.args.reader.now) (dead_of c.args.certificate.now) (pairs_in c.args.certificate.now)
-    c.len.ensures.formed (sym c.is_closed.ensures ∙ c.if-is_closed.true)

@@ -1,5 +1,0 @@
-use Rattle.avro_judge.proofs.Decimal.{Begins}
-use Rattle.avro_judge.proofs.certificate.lines.number_of.Given as goal
-
-abbrev pub invariant-loop-i : goal.invariant-loop-i
-invariant-loop-i l = Begins l.numeral l.i l.number

@@ -1,0 +1,453 @@
+-- What is built of each thing that a pair may ask for.
+use Rattle.std.proofs.Common.{◌≡◌, ℕ, suc, ◌+◌, ◌≤◌, ◌<◌, Bool, true, false, cond, List, [], ◌∷◌, ◌++◌, Option, Some, None, Result, inl, inr, length, drop, refl, sym, ◌∙◌, ap, subst, arith}
+use Rattle.std.proofs.lemmas.Bool.{and_from, false≢true, true≢false, eq-eqb, eqb-true}
+use Rattle.std.proofs.lemmas.List.Folds.{list_all-map, list_all-append}
+use Rattle.std.proofs.lemmas.Option.{slice_get_within}
+use Rattle.std.specs.Prelude.{slice_get, is_some, max, unwrap_or, option_map, map, flat_map, ◌==◌}
+use Rattle.std.specs.List.{list_all}
+use Rattle.avro_name.specs.Name.{Name}
+use Rattle.avro_schema.specs.Value.{Value, value, size, depth, values_size, values_depth}
+use Rattle.avro_schema.specs.Seen.{values_from}
+use Rattle.avro_schema.specs.Node.{Node, FieldNode, node_at, branches_of, field_places}
+use Rattle.avro_schema.specs.Fits.{fits, fields_fit}
+use Rattle.avro_binary.proofs.public.Choices.{HasFewChoices-from_is_schema}
+use Rattle.avro_resolve.specs.Fault.{ResolutionFault}
+use Rattle.avro_resolve.specs.Match.{is_match, first_match}
+use Rattle.avro_resolve.specs.Source.{reader_field, missing_field}
+use Rattle.avro_resolve.specs.Resolve.{Resolved, Sourced, matched, into_branch, fields_at, branch_node, record_or_missing, resolve, resolve_sources}
+use Rattle.avro_certificate.specs.Closed.{Pair, lacks_symbol}
+use Rattle.avro_least.specs.Tables.{Least, LeastTable, ErringTable, IsWithin, count_of, around, together, best_of, all_of, no_parts, one}
+use Rattle.avro_least.specs.Asked.{Row, row_child, Asked, rows_from, asked_inside, asked_branch, asked, err_of_row, err_of_rows, asked_value, asked_children}
+use Rattle.avro_least.specs.Built.{Builds}
+use Rattle.avro_least.specs.BuiltErrors.{IsLone, part_value, IsErringOf, AreExact, BuildsError, is_same, BuildsAsked, BuildsRow, BuildsRows, part_of_row, total_from}
+use Rattle.avro_certificate.proofs.public.Tests.{and_left, and_right, all_at}
+use Rattle.avro_certificate.proofs.public.Shapes.{plain_branch, first_match_within}
+use Rattle.avro_least.proofs.LeastErrors.{through_is_matched}
+use Rattle.avro_least.proofs.ShownData.{lesser_either}
+use Rattle.avro_least.proofs.ShownErrors.{IsFault, the_fault, is_fault, fault_inside, fault_map, fault_later, fault_matched, value_of_plain, plain_form, field_faults}
+use Rattle.avro_certificate.proofs.public.Resolving.{slice_get_of_drop, drop_more}
+use Rattle.avro_least.proofs.Building.{around_is, together_is}
+use Rattle.avro_least.proofs.Built.{few_branches}
+use Rattle.avro_least.proofs.BuiltErrors.{whole_errs, lone_errs, part_errs, not_same, asked_of_union, asked_of_plain, asks_inside}
+
+some_least : (a b : Least) → Some a ≡ Some b → a ≡ b
+some_least a b e = cc
+
+-- an entry within the limit
+the_entry : (limit : ℕ) (o : Option Least) → IsWithin limit o → (e : Least) × (o ≡ Some e) × (e.nodes ≤ limit)
+the_entry limit None h = absurd h
+the_entry limit (Some e) h = (e, refl, h)
+
+-- a node around
+around_numbers : (e b : Least) (s d : ℕ) → Some (record { nodes = s; depth = d }) ≡ Some b → e.nodes ≡ suc b.nodes → e.depth ≡ suc b.depth
+    → e ≡ record { nodes = suc s; depth = suc d }
+around_numbers e b s d same n l =
+    let is : record { nodes = s; depth = d } ≡ b = some_least (record { nodes = s; depth = d }) b same in
+    λ i. record { nodes = (n ∙ ap (λ (x : Least). suc x.nodes) (sym is)) i; depth = (l ∙ ap (λ (x : Least). suc x.depth) (sym is)) i }
+
+numbers_of : (e : Least) (s d : ℕ) → s ≡ e.nodes → d ≡ e.depth → e ≡ record { nodes = s; depth = d }
+numbers_of e s d n l = λ i. record { nodes = sym n i; depth = sym l i }
+
+not_equal : (i j : ℕ) → (i ≡ j → ⊥) → (i == j) ≡ false
+not_equal i j h = by (i == j) refl
+  where
+    by : (t : Bool) → (i == j) ≡ t → (i == j) ≡ false
+    by true e = absurd (h (eqb-true i j e))
+    by false e = e
+
+module _ (writer reader : List Node) (limit : ℕ) (table : LeastTable) (erring : ErringTable) where
+  -- what the pair asks for comes to its entry
+  step_of : (known : Pair → Bool) → AreExact writer reader limit table erring known → (w r : ℕ) (a : Asked) → a ≡ asked writer reader (node_at writer w) (node_at reader r)
+      → known (record { w = w; r = r }) ≡ true → IsWithin limit (erring w r) → asked_value limit table erring w r a ≡ erring w r
+  step_of known ex w r a is kn within = subst (λ (x : Asked). asked_value limit table erring w r x ≡ erring w r) (sym is) (ex.exact w r kn within)
+
+  closed_of : (known : Pair → Bool) → AreExact writer reader limit table erring known → (w r : ℕ) (a : Asked) → a ≡ asked writer reader (node_at writer w) (node_at reader r)
+      → known (record { w = w; r = r }) ≡ true → IsWithin limit (erring w r) → list_all known (asked_children w r a) ≡ true
+  closed_of known ex w r a is kn within = subst (λ (x : Asked). list_all known (asked_children w r x) ≡ true) (sym is) (ex.closed w r kn within)
+
+  pub none_left : (left w r : ℕ) (a : Asked) (v : Value) → left ≡ 0 → BuildsAsked writer reader limit table erring left w r a v
+  none_left left w r a v none ns is known ex kn within few = absurd (omega (arith, none, few, ex.some w r kn within))
+
+  pub quiet_builds : (left w r : ℕ) (v : Value) → BuildsAsked writer reader limit table erring left w r Asked.quiet v
+  quiet_builds left w r v ns is known ex kn within few =
+      let step : None ≡ erring w r = step_of known ex w r Asked.quiet is kn within in
+      absurd (subst (λ (o : Option Least). IsWithin limit o) (sym step) within)
+
+  pub whole_builds : (left w r : ℕ) (v : Value) → Builds writer table left w v → BuildsAsked writer reader limit table erring left w r Asked.whole v
+  whole_builds left w r v b ns is known ex kn within few =
+      let step : table w ≡ erring w r = step_of known ex w r Asked.whole is kn within in
+      let least = b limit ex.formed ex.low ex.shown (subst (λ (o : Option Least). IsWithin limit o) (sym step) within)
+      (subst (λ (o : Option Least). count_of o ≤ left) (sym step) few) in
+      record {
+        fitting = least.fitting;
+        faulty = the_fault (resolve writer reader (node_at writer w) (node_at reader r) v) (whole_errs writer reader (node_at writer w) (node_at reader r) v least.fitting is);
+        numbers = sym step ∙ least.numbers;
+      }
+
+  pub lone_builds : (left w r : ℕ) (v : Value) → IsLone (node_at writer w) (node_at reader r) v → BuildsAsked writer reader limit table erring left w r Asked.lone v
+  lone_builds left w r v own ns is known ex kn within few =
+      let step : Some one ≡ erring w r = step_of known ex w r Asked.lone is kn within in
+      let errs = lone_errs writer reader (node_at writer w) (node_at reader r) v (HasFewChoices-from_is_schema writer ex.formed w) is own in
+      record {
+        fitting = errs.fitting;
+        faulty = the_fault (resolve writer reader (node_at writer w) (node_at reader r) v) errs.faulty;
+        numbers = sym step ∙ ap Some (numbers_of one (size v) (depth v) errs.nodes_is errs.depth_is);
+      }
+
+  pub part_builds : (left less w r a b : ℕ) (v : Value) → left ≤ suc less → BuildsError writer reader limit table erring less a b v
+      → BuildsAsked writer reader limit table erring left w r (Asked.part a b) (part_value (node_at writer w) v)
+  part_builds left less w r a b v more h ns is known ex kn within few =
+      let step : around limit (erring a b) ≡ erring w r = step_of known ex w r (Asked.part a b) is kn within in
+      let found = the_entry limit (erring w r) within in
+      let inner = around_is limit (erring a b) found.0 (step ∙ found.1) found.2 in
+      let child = and_left (known (record { w = a; r = b })) true (closed_of known ex w r (Asked.part a b) is kn within) in
+      let all : found.0.nodes ≤ left = subst (λ (o : Option Least). count_of o ≤ left) found.1 few in
+      let part = h known ex child (subst (λ (o : Option Least). IsWithin limit o) (sym inner.is) (omega (arith, found.2, inner.nodes)))
+      (subst (λ (o : Option Least). count_of o ≤ less) (sym inner.is) (omega (arith, all, more, inner.nodes))) in
+      let errs = part_errs writer reader (node_at writer w) (node_at reader r) a b v is part.fitting
+      (is_fault (resolve writer reader (node_at writer a) (node_at reader b) v) part.faulty.0 part.faulty.1) in
+      record {
+        fitting = errs.fitting;
+        faulty = the_fault (resolve writer reader (node_at writer w) (node_at reader r) (part_value (node_at writer w) v)) errs.faulty;
+        numbers = found.1 ∙ ap Some (around_numbers found.0 inner.inner (size v) (depth v) (sym part.numbers ∙ inner.is) inner.nodes inner.depth
+            ∙ (λ i. record { nodes = sym errs.nodes_is i; depth = sym errs.depth_is i }));
+      }
+
+  -- a writer's union
+  union_asked : (n q : Node) (places : List ℕ) → Asked.branches places ≡ asked writer reader n q → n ≡ Node.union places
+  union_asked (Node.union ps) q places e = ap Node.union (sym (ap branches_in e))
+    where
+      branches_in : Asked → List ℕ
+      branches_in (Asked.branches ps) = ps
+      branches_in _ = []
+  union_asked n q places e = absurd (by n q refl e)
+    where
+      inside_no : (n q : Node) → Asked.branches places ≡ asked_inside n q → ⊥
+      inside_no (Node.record_of a xs fields) (Node.record_of b ys theirs) s = chosen (is_some (missing_field fields theirs)) s
+        where
+          chosen : (t : Bool) → Asked.branches places ≡ cond t Asked.whole (Asked.fields (rows_from fields theirs 0 (field_places fields))) → ⊥
+          chosen true s = grind arith
+          chosen false s = grind arith
+      inside_no (Node.enum a xs symbols x) (Node.enum b ys theirs y) s = chosen (lacks_symbol symbols theirs y) s
+        where
+          chosen : (t : Bool) → Asked.branches places ≡ cond t Asked.lone Asked.quiet → ⊥
+          chosen true s = grind arith
+          chosen false s = grind arith
+      inside_no _ _ s = grind arith
+
+      by : (n q : Node) → branches_of n ≡ None → Asked.branches places ≡ asked writer reader n q → ⊥
+      by n (Node.union ps) plain s = chosen (first_match writer reader n ps) (s ∙ asked_of_union writer reader n ps plain)
+        where
+          chosen : (o : Option ℕ) → Asked.branches places ≡ asked_branch ps o → ⊥
+          chosen None s = grind arith
+          chosen (Some k) s = grind arith
+      by n q plain s = chosen (is_match writer reader n q) (s ∙ asked_of_plain writer reader n q plain refl)
+        where
+          chosen : (t : Bool) → Asked.branches places ≡ cond t (asked_inside n q) Asked.whole → ⊥
+          chosen true s = inside_no n q s
+          chosen false s = grind arith
+
+  branch_errs : (n q : Node) (places : List ℕ) (k p : ℕ) (v : Value) → n ≡ Node.union places → slice_get places k ≡ Some p → fits writer (node_at writer p) v ≡ true
+      → IsFault (resolve writer reader (node_at writer p) q v) → (fits writer n (Value.union k v) ≡ true) × IsFault (resolve writer reader n q (Value.union k v))
+  branch_errs n q places k p v is here fit f = subst (λ (m : Node). (fits writer m (Value.union k v) ≡ true) × IsFault (resolve writer reader m q (Value.union k v))) (sym is)
+      (rw here fit, rw here (fault_inside 0 (resolve writer reader (node_at writer p) q v) f))
+
+  pub branches_builds : (left less w r : ℕ) (places : List ℕ) (k : ℕ) (v whole : Value) → left ≤ suc less → (k < 4294967296 → whole ≡ Value.union k v)
+      → (is_some (best_of (λ p. erring p r) places) ≡ true
+      → (p : ℕ) × (slice_get places k ≡ Some p) × (erring p r ≡ best_of (λ p. erring p r) places) × BuildsError writer reader limit table erring less p r v)
+      → BuildsAsked writer reader limit table erring left w r (Asked.branches places) whole
+  branches_builds left less w r places k v whole more made found ns is known ex kn within few =
+      let step : around limit (best_of (λ p. erring p r) places) ≡ erring w r = step_of known ex w r (Asked.branches places) is kn within in
+      let entry = the_entry limit (erring w r) within in
+      let inner = around_is limit (best_of (λ p. erring p r) places) entry.0 (step ∙ entry.1) entry.2 in
+      let best = found (subst (λ (o : Option Least). is_some o ≡ true) (sym inner.is) refl) in
+      let same : erring best.0 r ≡ Some inner.inner = best.2 ∙ inner.is in
+      let all : entry.0.nodes ≤ left = subst (λ (o : Option Least). count_of o ≤ left) entry.1 few in
+      let child = all_at (λ p. known (record { w = p; r = r })) places k best.0
+      (sym (list_all-map known (λ p. record { w = p; r = r }) places) ∙ closed_of known ex w r (Asked.branches places) is kn within) best.1 in
+      let part = best.3 known ex child (subst (λ (o : Option Least). IsWithin limit o) (sym same) (omega (arith, entry.2, inner.nodes)))
+      (subst (λ (o : Option Least). count_of o ≤ less) (sym same) (omega (arith, all, more, inner.nodes))) in
+      let node : node_at writer w ≡ Node.union places = union_asked (node_at writer w) (node_at reader r) places is in
+      let small = few_branches writer ex.formed w places node in
+      let whole_is : whole ≡ Value.union k v = made (omega (arith, slice_get_within places k best.0 best.1, small)) in
+      let errs = branch_errs (node_at writer w) (node_at reader r) places k best.0 v node best.1 part.fitting
+      (is_fault (resolve writer reader (node_at writer best.0) (node_at reader r) v) part.faulty.0 part.faulty.1) in
+      subst (λ (x : Value). IsErringOf writer reader erring w r x) (sym whole_is) (record {
+        fitting = errs.0;
+        faulty = the_fault (resolve writer reader (node_at writer w) (node_at reader r) (Value.union k v)) errs.1;
+        numbers = entry.1 ∙ ap Some (around_numbers entry.0 inner.inner (size v) (depth v) (sym part.numbers ∙ same) inner.nodes inner.depth);
+      })
+
+  -- a reader's union
+  into_errs : (n q : Node) (places : List ℕ) (k b : ℕ) (v : Value) → branches_of n ≡ None → q ≡ Node.union places → first_match writer reader n places ≡ Some k → slice_get places k ≡ Some b
+      → branches_of (node_at reader b) ≡ None → fits writer n v ≡ true → IsFault (resolve writer reader n (node_at reader b) v) → IsFault (resolve writer reader n q v)
+  into_errs n q places k b v plain is first here their_plain fit f =
+      let form = plain_form writer reader n v (value_of_plain writer n v plain fit) in
+      let own : unwrap_or (slice_get places k) 0 ≡ b = ap (λ (o : Option ℕ). unwrap_or o 0) here in
+      subst (λ (m : Node). IsFault (resolve writer reader n m v)) (sym is)
+      (subst (λ (x : Resolved). IsFault x) (sym (form.1 (Node.union places)))
+      (subst (λ (o : Option ℕ). IsFault (into_branch writer reader n places o form.0)) (sym first)
+      (fault_map (Value.union k) (matched writer reader n (branch_node reader places k) form.0)
+      (subst (λ (p : ℕ). IsFault (matched writer reader n (node_at reader p) form.0)) (sym own)
+      (subst (λ (x : Resolved). IsFault x) (form.1 (node_at reader b) ∙ through_is_matched writer reader n (node_at reader b) form.0 their_plain) f)))))
+
+  pub record IsIntoUnion (n q : Node) (p : ℕ) : Type 0 where
+    pub plain : branches_of n ≡ None
+    pub places : List ℕ
+    pub is : q ≡ Node.union places
+    pub branch : ℕ
+    pub first : first_match writer reader n places ≡ Some branch
+    pub here : slice_get places branch ≡ Some p
+
+  same_place : (a b : ℕ) → Asked.same a ≡ Asked.same b → a ≡ b
+  same_place a b e = ap place_of e
+    where
+      place_of : Asked → ℕ
+      place_of (Asked.same q) = q
+      place_of _ = 0
+
+  same_asked : (n q : Node) (p : ℕ) → Asked.same p ≡ asked writer reader n q → IsIntoUnion n q p
+  same_asked (Node.union ps) q p e = absurd (grind arith)
+  same_asked n q p e = by n q refl e
+    where
+      by : (n q : Node) → branches_of n ≡ None → Asked.same p ≡ asked writer reader n q → IsIntoUnion n q p
+      by n (Node.union ps) plain s = chosen (first_match writer reader n ps) refl (s ∙ asked_of_union writer reader n ps plain)
+        where
+          chosen : (o : Option ℕ) → first_match writer reader n ps ≡ o → Asked.same p ≡ asked_branch ps o → IsIntoUnion n (Node.union ps) p
+          chosen None m s = absurd (grind arith)
+          chosen (Some k) m s =
+              let found = first_match_within writer reader n ps k m in
+              let own : p ≡ unwrap_or (slice_get ps k) 0 = same_place p (unwrap_or (slice_get ps k) 0) s in
+              record {
+                plain = plain;
+                places = ps;
+                is = refl;
+                branch = k;
+                first = m;
+                here = found.1 ∙ ap Some (sym (own ∙ ap (λ (o : Option ℕ). unwrap_or o 0) found.1));
+              }
+      by n q plain s = absurd (true≢false (ap is_same s ∙ not_same writer reader n q refl))
+
+  pub same_builds : (left w r q : ℕ) (v : Value) → Asked.same q ≡ asked writer reader (node_at writer w) (node_at reader r)
+      → (branches_of (node_at reader q) ≡ None → BuildsError writer reader limit table erring left w q v) → BuildsError writer reader limit table erring left w r v
+  same_builds left w r q v is h known ex kn within few =
+      let step : erring w q ≡ erring w r = step_of known ex w r (Asked.same q) is kn within in
+      let into = same_asked (node_at writer w) (node_at reader r) q is in
+      let plain : branches_of (node_at reader q) ≡ None = plain_branch reader r into.places into.branch q ex.theirs into.is into.here in
+      let child = and_left (known (record { w = w; r = q })) true (closed_of known ex w r (Asked.same q) is kn within) in
+      let part = h plain known ex child (subst (λ (o : Option Least). IsWithin limit o) (sym step) within) (subst (λ (o : Option Least). count_of o ≤ left) (sym step) few) in
+      record {
+        fitting = part.fitting;
+        faulty = the_fault (resolve writer reader (node_at writer w) (node_at reader r) v)
+            (into_errs (node_at writer w) (node_at reader r) into.places into.branch q v into.plain into.is into.first into.here plain part.fitting
+            (is_fault (resolve writer reader (node_at writer w) (node_at reader q) v) part.faulty.0 part.faulty.1));
+        numbers = sym step ∙ part.numbers;
+      }
+
+  -- past the chosen field stand the least data
+  total_past : (k i : ℕ) (rows : List Row) → k < i → total_from limit table erring k i rows ≡ all_of limit table (map (λ r. r.node) rows)
+  total_past k i [] h = refl
+  total_past k i (row ∷ rows) h = rw (not_equal i k (λ e. omega (arith, e, h)), total_past k (suc i) rows (omega (arith, h))) refl
+
+  -- some field's total is the best
+  pub some_total : (i : ℕ) (rows : List Row) (e : Least) → err_of_rows limit table erring rows ≡ Some e → e.nodes ≤ limit
+      → (k : ℕ) × (k < length rows) × (total_from limit table erring (i + k) i rows ≡ Some e)
+  some_total i [] e is few = absurd (grind arith)
+  some_total i (row ∷ rows) e is few =
+      elim (lesser_either (together limit (err_of_row erring row) (all_of limit table (map (λ r. r.node) rows)))
+      (together limit (table row.node) (err_of_rows limit table erring rows)) (subst (λ (o : Option Least). is_some o ≡ true) (sym is) refl)) [
+        | inl first ↦
+            let at : (i == i + 0) ≡ true = eq-eqb i (i + 0) (omega arith) in
+            (0, omega arith, rw (at, total_past (i + 0) (suc i) rows (omega arith)) (sym first.1 ∙ is))
+        | inr later ↦
+            let both = together_is limit (table row.node) (err_of_rows limit table erring rows) e (sym later.1 ∙ is) few in
+            let rest = some_total (suc i) rows both.second both.second_is (omega (arith, few, both.nodes)) in
+            let at : (i == i + suc rest.0) ≡ false = not_equal i (i + suc rest.0) (λ h. omega (arith, h)) in
+            let moved : total_from limit table erring (i + suc rest.0) (suc i) rows ≡ err_of_rows limit table erring rows =
+            subst (λ (n : ℕ). total_from limit table erring n (suc i) rows ≡ err_of_rows limit table erring rows) (omega arith) (rest.2 ∙ sym both.second_is) in
+            (suc rest.0, omega (arith, rest.1), rw (at, moved) (sym later.1 ∙ is))
+      ]
+
+  -- the fields, of which the chosen one errs
+  record RowsErr (fields theirs : List FieldNode) (place k : ℕ) (ps : List ℕ) (vs : List Value) (e : Least) : Type 0 where
+    fitting : fields_fit writer ps (values_from vs) ≡ true
+    nodes_is : values_size (values_from vs) ≡ e.nodes
+    depth_is : values_depth (values_from vs) ≡ e.depth
+    faulty : place ≤ k → k < place + length ps → IsFault (resolve_sources writer reader fields theirs place (values_from vs))
+
+  -- one field
+  record RowIs (fields theirs : List FieldNode) (place : ℕ) (chosen : Bool) (p : ℕ) (v : Value) (e : Least) : Type 0 where
+    fitting : fits writer (node_at writer p) v ≡ true
+    numbers : record { nodes = size v; depth = depth v } ≡ e
+    faulty : chosen ≡ true → (f : FieldNode) × (reader_field fields theirs place ≡ Some f) × IsFault (resolve writer reader (node_at writer p) (node_at reader f.node) v)
+
+  module _ (known : Pair → Bool) (ex : AreExact writer reader limit table erring known) (less : ℕ) where
+    row_is : (fields theirs : List FieldNode) (place : ℕ) (chosen : Bool) (p : ℕ) (v : Value) (e : Least) → (o : Option FieldNode) → reader_field fields theirs place ≡ o
+        → BuildsRow writer reader limit table erring less chosen (record { node = p; theirs = option_map (λ f. f.node) o }) v
+        → list_all known (row_child (record { node = p; theirs = option_map (λ f. f.node) o })) ≡ true
+        → part_of_row table erring chosen (record { node = p; theirs = option_map (λ f. f.node) o }) ≡ Some e → e.nodes ≤ limit → e.nodes ≤ less
+        → RowIs fields theirs place chosen p v e
+    row_is fields theirs place true p v e None found b kn is few small = absurd (grind arith)
+    row_is fields theirs place true p v e (Some f) found b kn is few small =
+        let own = b.errs refl f.node refl known ex (and_left (known (record { w = p; r = f.node })) true kn)
+        (subst (λ (o : Option Least). IsWithin limit o) (sym is) few) (subst (λ (o : Option Least). count_of o ≤ less) (sym is) small) in
+        record {
+          fitting = own.fitting;
+          numbers = some_least (record { nodes = size v; depth = depth v }) e (sym own.numbers ∙ is);
+          faulty = λ t. (f, found, is_fault (resolve writer reader (node_at writer p) (node_at reader f.node) v) own.faulty.0 own.faulty.1);
+        }
+    row_is fields theirs place false p v e o found b kn is few small =
+        let own = b.fits_in refl limit ex.formed ex.low ex.shown (subst (λ (o : Option Least). IsWithin limit o) (sym is) few) (subst (λ (o : Option Least). count_of o ≤ less) (sym is) small) in
+        record {
+          fitting = own.fitting;
+          numbers = some_least (record { nodes = size v; depth = depth v }) e (sym own.numbers ∙ is);
+          faulty = λ t. absurd (false≢true t);
+        }
+
+    rows_err : (fields theirs : List FieldNode) (place k : ℕ) (ps : List ℕ) (vs : List Value) → drop place (field_places fields) ≡ ps
+        → BuildsRows writer reader limit table erring less k place (rows_from fields theirs place ps) vs
+        → list_all known (flat_map row_child (rows_from fields theirs place ps)) ≡ true
+        → (e : Least) → total_from limit table erring k place (rows_from fields theirs place ps) ≡ Some e → e.nodes ≤ limit → e.nodes ≤ less
+        → RowsErr fields theirs place k ps vs e
+    rows_err fields theirs place k [] [] at b kn e is few small =
+        let same : no_parts ≡ e = some_least no_parts e is in
+        record { fitting = refl; nodes_is = ap (λ (l : Least). l.nodes) same; depth_is = ap (λ (l : Least). l.depth) same; faulty = λ from to. absurd (omega (arith, from, to)) }
+    rows_err fields theirs place k [] (v ∷ vs) at b kn e is few small = absurd b
+    rows_err fields theirs place k (p ∷ ps) [] at b kn e is few small = absurd b
+    rows_err fields theirs place k (p ∷ ps) (v ∷ vs) at b kn e is few small =
+        let both = together_is limit (part_of_row table erring (place == k) (record { node = p; theirs = option_map (λ f. f.node) (reader_field fields theirs place) }))
+        (total_from limit table erring k (suc place) (rows_from fields theirs (suc place) ps)) e is few in
+        let parts = sym (list_all-append known (row_child (record { node = p; theirs = option_map (λ g. g.node) (reader_field fields theirs place) })) (flat_map row_child (rows_from fields theirs (suc place) ps))) ∙ kn in
+        let own = row_is fields theirs place (place == k) p v both.first (reader_field fields theirs place) refl b.0
+        (and_left (list_all known (row_child (record { node = p; theirs = option_map (λ g. g.node) (reader_field fields theirs place) }))) (list_all known (flat_map row_child (rows_from fields theirs (suc place) ps))) parts)
+        both.first_is (omega (arith, few, both.nodes)) (omega (arith, small, both.nodes)) in
+        let rest = rows_err fields theirs (suc place) k ps vs (drop_more (field_places fields) ps place p at) b.1
+        (and_right (list_all known (row_child (record { node = p; theirs = option_map (λ g. g.node) (reader_field fields theirs place) }))) (list_all known (flat_map row_child (rows_from fields theirs (suc place) ps))) parts)
+        both.second both.second_is (omega (arith, few, both.nodes)) (omega (arith, small, both.nodes)) in
+        let count : size v ≡ both.first.nodes = ap (λ (l : Least). l.nodes) own.numbers in
+        let level : depth v ≡ both.first.depth = ap (λ (l : Least). l.depth) own.numbers in
+        record {
+          fitting = and_from (fits writer (node_at writer p) v) (fields_fit writer ps (values_from vs)) own.fitting rest.fitting;
+          nodes_is = omega (arith, count, rest.nodes_is, both.nodes);
+          depth_is = ap (λ (n : ℕ). max n (values_depth (values_from vs))) level ∙ ap (max both.first.depth) rest.depth_is ∙ sym both.depth;
+          faulty = λ from to. chosen (place == k) refl own.faulty rest.faulty from to;
+        }
+      where
+        chosen : (t : Bool) → (place == k) ≡ t
+            → (t ≡ true → (f : FieldNode) × (reader_field fields theirs place ≡ Some f) × IsFault (resolve writer reader (node_at writer p) (node_at reader f.node) v))
+            → (suc place ≤ k → k < suc place + length ps → IsFault (resolve_sources writer reader fields theirs (suc place) (values_from vs)))
+            → place ≤ k → k < place + length (p ∷ ps) → IsFault (resolve_sources writer reader fields theirs place (value v (values_from vs)))
+        chosen true m here later from to =
+            let found = here refl in
+            field_faults writer reader fields theirs place p found.0 v (values_from vs) found.1 (slice_get_of_drop (field_places fields) ps place p at) found.2
+        chosen false m here later from to =
+            let apart : place ≡ k → ⊥ = λ e. true≢false (sym (eq-eqb place k e) ∙ m) in
+            fault_later (reader_field fields theirs place) place _ (resolve_sources writer reader fields theirs (suc place) (values_from vs))
+            (later (omega (arith, from, apart)) (omega (arith, to)))
+
+  -- two records
+  record IsRecords (n q : Node) (rows : List Row) : Type 0 where
+    name : Name
+    other : Name
+    aliases : List Name
+    others : List Name
+    fields : List FieldNode
+    theirs : List FieldNode
+    from_is : n ≡ Node.record_of name aliases fields
+    to_is : q ≡ Node.record_of other others theirs
+    none : is_some (missing_field fields theirs) ≡ false
+    rows_is : rows ≡ rows_from fields theirs 0 (field_places fields)
+
+  abbrev rows_in : Asked → List Row
+  rows_in (Asked.fields rows) = rows
+  rows_in _ = []
+
+  records_inside : (n q : Node) (rows : List Row) → Asked.fields rows ≡ asked_inside n q → IsRecords n q rows
+  records_inside (Node.record_of a xs fields) (Node.record_of b ys theirs) rows e = chosen (is_some (missing_field fields theirs)) refl e
+    where
+      chosen : (t : Bool) → is_some (missing_field fields theirs) ≡ t → Asked.fields rows ≡ cond t Asked.whole (Asked.fields (rows_from fields theirs 0 (field_places fields)))
+          → IsRecords (Node.record_of a xs fields) (Node.record_of b ys theirs) rows
+      chosen true m s = absurd (grind arith)
+      chosen false m s = record { name = a; other = b; aliases = xs; others = ys; fields = fields; theirs = theirs; from_is = refl; to_is = refl; none = m; rows_is = ap rows_in s }
+  records_inside (Node.enum a xs symbols x) (Node.enum b ys theirs y) rows e = absurd (chosen (lacks_symbol symbols theirs y) e)
+    where
+      chosen : (t : Bool) → Asked.fields rows ≡ cond t Asked.lone Asked.quiet → ⊥
+      chosen true s = grind arith
+      chosen false s = grind arith
+  records_inside _ _ rows e = absurd (grind arith)
+
+  records_union : (n : Node) (places : List ℕ) (rows : List Row) → branches_of n ≡ None → Asked.fields rows ≡ asked writer reader n (Node.union places) → ⊥
+  records_union n places rows plain e = chosen (first_match writer reader n places) (e ∙ asked_of_union writer reader n places plain)
+    where
+      chosen : (o : Option ℕ) → Asked.fields rows ≡ asked_branch places o → ⊥
+      chosen None s = grind arith
+      chosen (Some k) s = grind arith
+
+  records_asked : (n q : Node) (rows : List Row) → Asked.fields rows ≡ asked writer reader n q → (is_match writer reader n q ≡ true) × IsRecords n q rows
+  records_asked (Node.union places) q rows e = absurd (grind arith)
+  records_asked n q rows e = by n q refl e
+    where
+      by : (n q : Node) → branches_of n ≡ None → Asked.fields rows ≡ asked writer reader n q → (is_match writer reader n q ≡ true) × IsRecords n q rows
+      by n (Node.union places) plain s = absurd (records_union n places rows plain s)
+      by n q plain s =
+          let own = asks_inside writer reader n q plain refl (Asked.fields rows) s (λ t. grind arith) in
+          (own.0, records_inside n q rows own.1)
+
+  rows_count : (fields theirs : List FieldNode) (place : ℕ) (ps : List ℕ) → length (rows_from fields theirs place ps) ≡ length ps
+  rows_count fields theirs place [] = refl
+  rows_count fields theirs place (p ∷ ps) = ap suc (rows_count fields theirs (suc place) ps)
+
+  -- the finished record
+  record_errs : (n q : Node) (rows : List Row) (k : ℕ) (vs : List Value) (e : Least) (is : IsRecords n q rows) → k < length rows → RowsErr is.fields is.theirs 0 k (field_places is.fields) vs e
+      → (fits writer n (Value.record_of (values_from vs)) ≡ true) × IsFault (resolve writer reader n q (Value.record_of (values_from vs)))
+  record_errs n q rows k vs e is within errs = (
+    subst (λ (m : Node). fits writer m (Value.record_of (values_from vs)) ≡ true) (sym is.from_is) errs.fitting,
+    subst (λ (m : Node). IsFault (resolve writer reader m q (Value.record_of (values_from vs)))) (sym is.from_is)
+        (subst (λ (m : Node). IsFault (resolve writer reader (Node.record_of is.name is.aliases is.fields) m (Value.record_of (values_from vs)))) (sym is.to_is)
+        (fault_matched writer reader (Node.record_of is.name is.aliases is.fields) (Node.record_of is.other is.others is.theirs)
+        (λ q. record_or_missing is.fields (fields_at q) (missing_field is.fields (fields_at q)) (resolve_sources writer reader is.fields (fields_at q) 0 (values_from vs)))
+        (not_missing (missing_field is.fields is.theirs) (resolve_sources writer reader is.fields is.theirs 0 (values_from vs)) (errs.faulty (omega arith) count)))),
+  )
+    where
+      not_missing : (o : Option ℕ) (x : Result Sourced ResolutionFault) → IsFault x → IsFault (record_or_missing is.fields is.theirs o x)
+      not_missing None x f = fault_map _ x f
+      not_missing (Some place) x f = tt
+
+      count : k < 0 + length (field_places is.fields)
+      count = omega (arith, within, ap length is.rows_is ∙ rows_count is.fields is.theirs 0 (field_places is.fields))
+
+  pub fields_builds : (left less w r : ℕ) (rows : List Row) (k : ℕ) (vs : List Value) → left ≤ suc less → BuildsRows writer reader limit table erring less k 0 rows vs
+      → ((j : ℕ) → j < length rows → total_from limit table erring j 0 rows ≡ err_of_rows limit table erring rows
+      → (k < length rows) × (total_from limit table erring k 0 rows ≡ err_of_rows limit table erring rows))
+      → BuildsAsked writer reader limit table erring left w r (Asked.fields rows) (Value.record_of (values_from vs))
+  fields_builds left less w r rows k vs more built choice ns is known ex kn within few =
+      let step : around limit (err_of_rows limit table erring rows) ≡ erring w r = step_of known ex w r (Asked.fields rows) is kn within in
+      let entry = the_entry limit (erring w r) within in
+      let inner = around_is limit (err_of_rows limit table erring rows) entry.0 (step ∙ entry.1) entry.2 in
+      let all : entry.0.nodes ≤ left = subst (λ (o : Option Least). count_of o ≤ left) entry.1 few in
+      let exists = some_total 0 rows inner.inner inner.is (omega (arith, entry.2, inner.nodes)) in
+      let place : 0 + exists.0 ≡ exists.0 = omega arith in
+      let chosen = choice exists.0 exists.1 (subst (λ (j : ℕ). total_from limit table erring j 0 rows ≡ err_of_rows limit table erring rows) place (exists.2 ∙ sym inner.is)) in
+      let found = records_asked (node_at writer w) (node_at reader r) rows is in
+      let own = found.1 in
+      let errs : RowsErr own.fields own.theirs 0 k (field_places own.fields) vs inner.inner =
+      rows_err known ex less own.fields own.theirs 0 k (field_places own.fields) vs refl
+      (subst (λ (rs : List Row). BuildsRows writer reader limit table erring less k 0 rs vs) own.rows_is built)
+      (subst (λ (rs : List Row). list_all known (flat_map row_child rs) ≡ true) own.rows_is (closed_of known ex w r (Asked.fields rows) is kn within))
+      inner.inner (subst (λ (rs : List Row). total_from limit table erring k 0 rs ≡ Some inner.inner) own.rows_is (chosen.1 ∙ inner.is))
+      (omega (arith, entry.2, inner.nodes)) (omega (arith, all, more, inner.nodes)) in
+      let whole = record_errs (node_at writer w) (node_at reader r) rows k vs inner.inner own chosen.0 errs in
+      record {
+        fitting = whole.0;
+        faulty = the_fault (resolve writer reader (node_at writer w) (node_at reader r) (Value.record_of (values_from vs))) whole.1;
+        numbers = entry.1 ∙ ap Some (around_numbers entry.0 inner.inner (values_size (values_from vs)) (values_depth (values_from vs))
+            (ap Some (λ i. record { nodes = errs.nodes_is i; depth = errs.depth_is i })) inner.nodes inner.depth);
+      }
+
+  pub rows_more : (less k i : ℕ) (rows : List Row) (vs : List Value) (row : Row) (v : Value) → BuildsRows writer reader limit table erring less k i rows vs
+      → BuildsRow writer reader limit table erring less (i + length rows == k) row v → BuildsRows writer reader limit table erring less k i (rows ++ row ∷ []) (vs ++ v ∷ [])
+  rows_more less k i [] [] row v h own = (subst (λ (n : ℕ). BuildsRow writer reader limit table erring less (n == k) row v) (omega arith) own, tt)
+  rows_more less k i [] (x ∷ vs) row v h own = absurd h
+  rows_more less k i (y ∷ rows) [] row v h own = absurd h
+  rows_more less k i (y ∷ rows) (x ∷ vs) row v h own =
+      (h.0, rows_more less k (suc i) rows vs row v h.1 (subst (λ (n : ℕ). BuildsRow writer reader limit table erring less (n == k) row v) (omega arith) own))

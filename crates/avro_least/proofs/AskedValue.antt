@@ -1,0 +1,116 @@
+-- What a pair asks for comes to what the pair's entry is by the others.
+use Rattle.std.proofs.Common.{◌≡◌, ℕ, suc, Bool, true, false, cond, List, [], ◌∷◌, Option, Some, None, refl, sym, ◌∙◌, ap, arith}
+use Rattle.std.proofs.lemmas.List.Folds.{list_all-append}
+use Rattle.std.specs.Prelude.{is_some, option_map, map, flat_map}
+use Rattle.std.specs.List.{list_all}
+use Rattle.avro_schema.specs.Node.{Node, FieldNode, branches_of, field_places}
+use Rattle.avro_resolve.specs.Match.{is_match, first_match}
+use Rattle.avro_resolve.specs.Source.{reader_field, missing_field}
+use Rattle.avro_certificate.specs.Closed.{Pair, lacks_symbol}
+use Rattle.avro_least.specs.Tables.{LeastTable, ErringTable, around, best_of, err_of, err_inside, err_of_field, err_of_fields, one}
+use Rattle.avro_least.specs.Asked.{Row, Asked, rows_from, asked_inside, asked_branch, asked, err_of_row, err_of_rows, asked_value, row_child, asked_children}
+use Rattle.avro_certificate.proofs.public.Tests.{and_left, and_right}
+use Rattle.avro_least.proofs.LeastErrors.{err_of_plain, err_of_none, err_of_some}
+
+module _ (limit : ℕ) (table : LeastTable) (erring : ErringTable) where
+  -- the nodes of the rows are those of the fields
+  row_nodes : (ws rs : List FieldNode) (place : ℕ) (ps : List ℕ) → map (λ r. r.node) (rows_from ws rs place ps) ≡ ps
+  row_nodes ws rs place [] = refl
+  row_nodes ws rs place (p ∷ ps) = ap (λ qs. p ∷ qs) (row_nodes ws rs (suc place) ps)
+
+  row_value : (p : ℕ) (o : Option FieldNode) → err_of_row erring (record { node = p; theirs = option_map (λ f. f.node) o }) ≡ err_of_field erring p o
+  row_value p None = refl
+  row_value p (Some f) = refl
+
+  rows_value : (ws rs : List FieldNode) (place : ℕ) (ps : List ℕ) → err_of_rows limit table erring (rows_from ws rs place ps) ≡ err_of_fields limit table erring ws rs place ps
+  rows_value ws rs place [] = refl
+  rows_value ws rs place (p ∷ ps) =
+      rw (rows_value ws rs (suc place) ps, row_nodes ws rs (suc place) ps, row_value p (reader_field ws rs place)) refl
+
+  inside_value : (w r : ℕ) (n q : Node) → asked_value limit table erring w r (asked_inside n q) ≡ err_inside limit table erring w n q
+  inside_value w r Node.bytes Node.string = refl
+  inside_value w r (Node.enum a xs symbols x) (Node.enum b ys theirs y) = chosen (lacks_symbol symbols theirs y)
+    where
+      chosen : (t : Bool) → asked_value limit table erring w r (cond t Asked.lone Asked.quiet) ≡ cond t (Some one) None
+      chosen true = refl
+      chosen false = refl
+  inside_value w r (Node.record_of a xs fs) (Node.record_of b ys theirs) = chosen (is_some (missing_field fs theirs))
+    where
+      chosen : (t : Bool) → asked_value limit table erring w r (cond t Asked.whole (Asked.fields (rows_from fs theirs 0 (field_places fs))))
+          ≡ cond t (table w) (around limit (err_of_fields limit table erring fs theirs 0 (field_places fs)))
+      chosen true = refl
+      chosen false = ap (around limit) (rows_value fs theirs 0 (field_places fs))
+  inside_value w r (Node.array a) (Node.array b) = refl
+  inside_value w r (Node.map_of a) (Node.map_of b) = refl
+  inside_value w r _ _ = refl
+
+  plain_value : (w r : ℕ) (n q : Node) (t : Bool) → asked_value limit table erring w r (cond t (asked_inside n q) Asked.whole)
+      ≡ cond t (err_inside limit table erring w n q) (table w)
+  plain_value w r n q true = inside_value w r n q
+  plain_value w r n q false = refl
+
+  branch_value : (writer reader : List Node) (w r : ℕ) (n : Node) (places : List ℕ) → branches_of n ≡ None → (o : Option ℕ) → first_match writer reader n places ≡ o
+      → asked_value limit table erring w r (asked_branch places o) ≡ err_of writer reader limit table erring w r n (Node.union places)
+  branch_value writer reader w r n places plain None e = sym (err_of_none writer reader limit table erring w r n places plain e)
+  branch_value writer reader w r n places plain (Some k) e = sym (err_of_some writer reader limit table erring w r n places k plain e)
+
+  asked_plain : (writer reader : List Node) (n q : Node) → branches_of n ≡ None → branches_of q ≡ None
+      → asked writer reader n q ≡ cond (is_match writer reader n q) (asked_inside n q) Asked.whole
+  asked_plain writer reader (Node.union ps) _ h k = absurd (grind arith)
+  asked_plain writer reader _ (Node.union ps) h k = absurd (grind arith)
+  asked_plain writer reader Node.null Node.null h k = refl
+  asked_plain writer reader _ _ h k = refl
+
+  asked_union : (writer reader : List Node) (n : Node) (places : List ℕ) → branches_of n ≡ None
+      → asked writer reader n (Node.union places) ≡ asked_branch places (first_match writer reader n places)
+  asked_union writer reader (Node.union ps) places h = absurd (grind arith)
+  asked_union writer reader _ places h = refl
+
+  pub value_is : (writer reader : List Node) (w r : ℕ) (n q : Node)
+      → asked_value limit table erring w r (asked writer reader n q) ≡ err_of writer reader limit table erring w r n q
+  value_is writer reader w r (Node.union places) q = refl
+  value_is writer reader w r n q = by_reader n q refl
+    where
+      by_reader : (n q : Node) → branches_of n ≡ None → asked_value limit table erring w r (asked writer reader n q) ≡ err_of writer reader limit table erring w r n q
+      by_reader n (Node.union places) plain =
+          ap (asked_value limit table erring w r) (asked_union writer reader n places plain)
+          ∙ branch_value writer reader w r n places plain (first_match writer reader n places) refl
+      by_reader n q plain =
+          ap (asked_value limit table erring w r) (asked_plain writer reader n q plain refl)
+          ∙ plain_value w r n q (is_match writer reader n q)
+          ∙ sym (err_of_plain writer reader limit table erring w r n q plain refl)
+
+-- what is asked for depends on the pairs that are taken only
+module _ (limit : ℕ) (table : LeastTable) (erring other : ErringTable) (test : Pair → Bool)
+    (agree : (c : Pair) → test c ≡ true → erring c.w c.r ≡ other c.w c.r) where
+  best_same : (r : ℕ) (ps : List ℕ) → list_all test (map (λ p. record { w = p; r = r }) ps) ≡ true → best_of (λ p. erring p r) ps ≡ best_of (λ p. other p r) ps
+  best_same r [] h = refl
+  best_same r (p ∷ ps) h = rw (agree (record { w = p; r = r }) (and_left _ (list_all test (map (λ p. record { w = p; r = r }) ps)) h), best_same r ps (and_right (test (record { w = p; r = r })) _ h)) refl
+
+  row_same : (row : Row) → list_all test (row_child row) ≡ true → err_of_row erring row ≡ err_of_row other row
+  row_same row h = by_place row.theirs refl
+    where
+      by_place : (o : Option ℕ) → row.theirs ≡ o → err_of_row erring row ≡ err_of_row other row
+      by_place None e = rw e refl
+      by_place (Some q) e = rw e (agree (record { w = row.node; r = q }) (and_left (test (record { w = row.node; r = q })) true (taken e)))
+        where
+          taken : row.theirs ≡ Some q → list_all test (record { w = row.node; r = q } ∷ []) ≡ true
+          taken e = sym (ap (list_all test) (child e)) ∙ h
+            where
+              child : row.theirs ≡ Some q → row_child row ≡ record { w = row.node; r = q } ∷ []
+              child e = rw e refl
+
+  rows_same : (rows : List Row) → list_all test (flat_map row_child rows) ≡ true → err_of_rows limit table erring rows ≡ err_of_rows limit table other rows
+  rows_same [] h = refl
+  rows_same (row ∷ rows) h =
+      let parts = sym (list_all-append test (row_child row) (flat_map row_child rows)) ∙ h in
+      rw (row_same row (and_left _ _ parts), rows_same rows (and_right (list_all test (row_child row)) _ parts)) refl
+
+  pub value_same : (w r : ℕ) (a : Asked) → list_all test (asked_children w r a) ≡ true → asked_value limit table erring w r a ≡ asked_value limit table other w r a
+  value_same w r Asked.quiet h = refl
+  value_same w r Asked.whole h = refl
+  value_same w r Asked.lone h = refl
+  value_same w r (Asked.same q) h = agree (record { w = w; r = q }) (and_left (test (record { w = w; r = q })) true h)
+  value_same w r (Asked.part a b) h = ap (around limit) (agree (record { w = a; r = b }) (and_left (test (record { w = a; r = b })) true h))
+  value_same w r (Asked.branches ps) h = ap (around limit) (best_same r ps h)
+  value_same w r (Asked.fields rows) h = ap (around limit) (rows_same rows h)

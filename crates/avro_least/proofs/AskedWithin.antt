@@ -1,0 +1,131 @@
+-- The pairs that a pair of nodes asks for are pairs of nodes.
+use Rattle.std.proofs.Common.{◌≡◌, ℕ, zero, suc, ◌+◌, Bool, true, false, cond, ◌&&◌, List, [], ◌∷◌, Option, Some, None, length, refl, sym, subst, arith}
+use Rattle.std.proofs.lemmas.Bool.{and_from, and_parts}
+use Rattle.std.specs.Prelude.{slice_get, unwrap_or, is_some, map, flat_map, nat_lt}
+use Rattle.std.specs.List.{list_all}
+use Rattle.avro_schema.specs.Node.{Node, FieldNode, node_at, field_places, edges_of}
+use Rattle.avro_schema.specs.WellFormed.{is_schema, is_edge, is_good_node, are_good_nodes}
+use Rattle.avro_resolve.specs.Match.{is_match, first_match}
+use Rattle.avro_resolve.specs.Source.{reader_field, missing_field, is_place, source_of}
+use Rattle.avro_certificate.specs.Closed.{Pair, lacks_symbol}
+use Rattle.avro_least.specs.Asked.{Asked, rows_from, asked_inside, asked_branch, asked, row_child, asked_children}
+use Rattle.avro_certificate.proofs.public.Tests.{and_left, and_right}
+use Rattle.avro_certificate.proofs.public.Shapes.{first_match_within}
+
+good-all : (nodes : List Node) → is_schema nodes ≡ true → are_good_nodes nodes 0 nodes ≡ true
+good-all nodes h = grind arith
+
+edges-from : (nodes : List Node) (from place : ℕ) (ns : List Node) (k : ℕ) → are_good_nodes nodes from ns ≡ true → place ≡ from + k
+    → list_all (is_edge nodes place) (edges_of (unwrap_or (slice_get ns k) Node.null)) ≡ true
+edges-from nodes from place [] k h e = refl
+edges-from nodes from place (n ∷ ns) zero h e =
+    let same : from ≡ place = omega arith in
+    subst (λ (i : ℕ). list_all (is_edge nodes i) (edges_of n) ≡ true) same (grind arith)
+edges-from nodes from place (n ∷ ns) (suc k) h e =
+    edges-from nodes (suc from) place ns k (and_parts (is_good_node nodes from n) (are_good_nodes nodes (suc from) ns) h).1 (omega arith)
+
+-- numbers that are nodes
+abbrev pub are_within : List Node → List ℕ → Bool
+are_within nodes ps = list_all (λ p. nat_lt p (length nodes)) ps
+
+edges_within : (nodes : List Node) (from : ℕ) (ps : List ℕ) → list_all (is_edge nodes from) ps ≡ true → are_within nodes ps ≡ true
+edges_within nodes from [] h = refl
+edges_within nodes from (p ∷ ps) h =
+    and_from (nat_lt p (length nodes)) (are_within nodes ps) (and_left _ _ (and_left (is_edge nodes from p) (list_all (is_edge nodes from) ps) h))
+    (edges_within nodes from ps (and_right (is_edge nodes from p) (list_all (is_edge nodes from) ps) h))
+
+-- the edges of a schema's node
+pub node_within : (nodes : List Node) (place : ℕ) → is_schema nodes ≡ true → are_within nodes (edges_of (node_at nodes place)) ≡ true
+node_within nodes place h = edges_within nodes place (edges_of (node_at nodes place)) (edges-from nodes 0 place nodes place (good-all nodes h) (omega arith))
+
+within_at : (nodes : List Node) (ps : List ℕ) (k p : ℕ) → are_within nodes ps ≡ true → slice_get ps k ≡ Some p → nat_lt p (length nodes) ≡ true
+within_at nodes [] k p h e = absurd (grind arith)
+within_at nodes (q ∷ qs) zero p h e = subst (λ (x : ℕ). nat_lt x (length nodes) ≡ true) (some_same q p e) (and_left _ (are_within nodes qs) h)
+  where
+    some_same : (a b : ℕ) → Some a ≡ Some b → a ≡ b
+    some_same a b e = cc
+within_at nodes (q ∷ qs) (suc k) p h e = within_at nodes qs k p (and_right (nat_lt q (length nodes)) (are_within nodes qs) h) e
+
+module _ (writer reader : List Node) where
+  abbrev pub is_within : Pair → Bool
+  is_within c = nat_lt c.w (length writer) && nat_lt c.r (length reader)
+
+  one_within : (w r : ℕ) → nat_lt w (length writer) ≡ true → nat_lt r (length reader) ≡ true → list_all is_within (record { w = w; r = r } ∷ []) ≡ true
+  one_within w r h k = and_from (is_within (record { w = w; r = r })) true (and_from (nat_lt w (length writer)) (nat_lt r (length reader)) h k) refl
+
+  -- the node of some reader's field
+  field_within : (ws rs : List FieldNode) (place : ℕ) (f : FieldNode) → are_within reader (field_places rs) ≡ true → reader_field ws rs place ≡ Some f
+      → nat_lt f.node (length reader) ≡ true
+  field_within ws [] place f h e = absurd (grind arith)
+  field_within ws (g ∷ gs) place f h e =
+      chosen (is_place (source_of ws g) place) e (field_within ws gs place f (and_right (nat_lt g.node (length reader)) (are_within reader (field_places gs)) h))
+    where
+      chosen : (t : Bool) → cond t (Some g) (reader_field ws gs place) ≡ Some f → (reader_field ws gs place ≡ Some f → nat_lt f.node (length reader) ≡ true)
+          → nat_lt f.node (length reader) ≡ true
+      chosen true e later = subst (λ (x : FieldNode). nat_lt x.node (length reader) ≡ true) (some_same g f e) (and_left _ (are_within reader (field_places gs)) h)
+        where
+          some_same : (a b : FieldNode) → Some a ≡ Some b → a ≡ b
+          some_same a b e = cc
+      chosen false e later = later e
+
+  rows_within : (ws rs : List FieldNode) (place : ℕ) (ps : List ℕ) → are_within reader (field_places rs) ≡ true → are_within writer ps ≡ true
+      → list_all is_within (flat_map row_child (rows_from ws rs place ps)) ≡ true
+  rows_within ws rs place [] h k = refl
+  rows_within ws rs place (p ∷ ps) h k =
+      by_field (reader_field ws rs place) refl (rows_within ws rs (suc place) ps h (and_right (nat_lt p (length writer)) (are_within writer ps) k))
+    where
+      by_field : (o : Option FieldNode) → reader_field ws rs place ≡ o
+          → list_all is_within (flat_map row_child (rows_from ws rs (suc place) ps)) ≡ true
+          → list_all is_within (flat_map row_child (rows_from ws rs place (p ∷ ps))) ≡ true
+      by_field None e rest = rw e rest
+      by_field (Some f) e rest = rw e (and_from (is_within (record { w = p; r = f.node })) (list_all is_within (flat_map row_child (rows_from ws rs (suc place) ps)))
+          (and_from (nat_lt p (length writer)) (nat_lt f.node (length reader)) (and_left (nat_lt p (length writer)) (are_within writer ps) k) (field_within ws rs place f h e)) rest)
+
+  inside_within : (w r : ℕ) (n q : Node) → are_within writer (edges_of n) ≡ true → are_within reader (edges_of q) ≡ true
+      → list_all is_within (asked_children w r (asked_inside n q)) ≡ true
+  inside_within w r Node.bytes Node.string h k = refl
+  inside_within w r (Node.enum a xs symbols x) (Node.enum b ys theirs y) h k = chosen (lacks_symbol symbols theirs y)
+    where
+      chosen : (t : Bool) → list_all is_within (asked_children w r (cond t Asked.lone Asked.quiet)) ≡ true
+      chosen true = refl
+      chosen false = refl
+  inside_within w r (Node.record_of a xs fs) (Node.record_of b ys theirs) h k = chosen (is_some (missing_field fs theirs))
+    where
+      chosen : (t : Bool) → list_all is_within (asked_children w r (cond t Asked.whole (Asked.fields (rows_from fs theirs 0 (field_places fs))))) ≡ true
+      chosen true = refl
+      chosen false = rows_within fs theirs 0 (field_places fs) k h
+  inside_within w r (Node.array a) (Node.array b) h k = one_within a b (and_left (nat_lt a (length writer)) true h) (and_left (nat_lt b (length reader)) true k)
+  inside_within w r (Node.map_of a) (Node.map_of b) h k = one_within a b (and_left (nat_lt a (length writer)) true h) (and_left (nat_lt b (length reader)) true k)
+  inside_within w r _ _ h k = refl
+
+  plain_within : (w r : ℕ) (n q : Node) (t : Bool) → are_within writer (edges_of n) ≡ true → are_within reader (edges_of q) ≡ true
+      → list_all is_within (asked_children w r (cond t (asked_inside n q) Asked.whole)) ≡ true
+  plain_within w r n q true h k = inside_within w r n q h k
+  plain_within w r n q false h k = refl
+
+  branch_within : (w r : ℕ) (n : Node) (places : List ℕ) → nat_lt w (length writer) ≡ true → are_within reader places ≡ true
+      → (o : Option ℕ) → first_match writer reader n places ≡ o → list_all is_within (asked_children w r (asked_branch places o)) ≡ true
+  branch_within w r n places h k None e = refl
+  branch_within w r n places h k (Some i) e =
+      let found = first_match_within writer reader n places i e in
+      one_within w (unwrap_or (slice_get places i) 0) h
+      (subst (λ (o : Option ℕ). nat_lt (unwrap_or o 0) (length reader) ≡ true) (sym found.1) (within_at reader places i found.0 k found.1))
+
+  branches_within : (r : ℕ) (ps : List ℕ) → nat_lt r (length reader) ≡ true → are_within writer ps ≡ true → list_all is_within (map (λ p. record { w = p; r = r }) ps) ≡ true
+  branches_within r [] h k = refl
+  branches_within r (p ∷ ps) h k =
+      and_from (is_within (record { w = p; r = r })) (list_all is_within (map (λ q. record { w = q; r = r }) ps))
+      (and_from (nat_lt p (length writer)) (nat_lt r (length reader)) (and_left (nat_lt p (length writer)) (are_within writer ps) k) h)
+      (branches_within r ps h (and_right (nat_lt p (length writer)) (are_within writer ps) k))
+
+  pub children_within : (w r : ℕ) (n q : Node) → nat_lt w (length writer) ≡ true → nat_lt r (length reader) ≡ true
+      → are_within writer (edges_of n) ≡ true → are_within reader (edges_of q) ≡ true
+      → list_all is_within (asked_children w r (asked writer reader n q)) ≡ true
+  children_within w r (Node.union places) q here there h k = branches_within r places there h
+  children_within w r n q here there h k = by_reader n q h k
+    where
+      by_reader : (n q : Node) → are_within writer (edges_of n) ≡ true → are_within reader (edges_of q) ≡ true
+          → list_all is_within (asked_children w r (asked writer reader n q)) ≡ true
+      by_reader (Node.union places) q h k = branches_within r places there h
+      by_reader n (Node.union places) h k = branch_within w r n places here k (first_match writer reader n places) refl
+      by_reader n q h k = plain_within w r n q (is_match writer reader n q) h k

@@ -1,0 +1,232 @@
+-- A round over a table of pairs.
+use Rattle.std.proofs.Common.{◌≡◌, ℕ, zero, suc, ◌+◌, ◌*◌, ◌/◌, ◌%◌, ◌<◌, Bool, true, false, cond, ◌&&◌, ◌||◌, List, [], ◌∷◌, Option, Some, None, inl, inr, ◌⊎◌, length, get_or, refl, sym, ◌∙◌, ap, subst, arith}
+use Rattle.std.proofs.Math.ListN.{set, replicate}
+use Rattle.std.proofs.lemmas.Bool.{false≢true, and_from, ltb-true, eqb-true, cases_eq}
+use Rattle.std.proofs.lemmas.Nat.{div-mul-add, mod-mul-add}
+use Rattle.std.proofs.lemmas.Option.{slice_get-get_or, slice_get-map}
+use Rattle.std.proofs.lemmas.Iterator.Adapters.{position_from-zero}
+use Rattle.std.proofs.lemmas.List.Sums.{sum_by-set}
+use Rattle.std.proofs.lemmas.List.Quantifiers.{position-Some}
+use Rattle.std.specs.Prelude.{slice_get, unwrap_or, option_map, position, nat_lt, ◌==◌, is_some, is_none}
+use Rattle.std.specs.List.{list_all, list_any, position_from}
+use Rattle.avro_schema.specs.Node.{Node, node_at}
+use Rattle.avro_schema.specs.WellFormed.{is_schema}
+use Rattle.avro_certificate.specs.Closed.{Pair, children_of}
+use Rattle.avro_least.specs.Tables.{Least, LeastTable, ErringTable, AtMost, AreDataShown, AreErrorsShown, ShowsError, no_parts, pair_number, reached_entry, erring_of, err_of}
+use Rattle.avro_least.specs.SeenLeast.{seen, seen_all, given_entry, improves, weight, weights}
+use Rattle.avro_least.specs.declared.kept.Least.{Least as KeptLeast}
+use Rattle.avro_least.specs.Reached.{is_key}
+use Rattle.avro_least.specs.Asked.{asked_at, asked_value, children_at, live_numbers, steps_at, is_known, ArePairsShown, IsLowAtIndex}
+use Rattle.avro_certificate.proofs.public.Tests.{and_left, and_right, or_from_left, or_from_right}
+use Rattle.avro_least.proofs.Rounds.{set_here, set_other, weight_falls, improves_low}
+use Rattle.avro_least.proofs.AskedValue.{value_is, value_same}
+use Rattle.avro_least.proofs.AskedWithin.{is_within}
+use Rattle.avro_least.proofs.public.Stepping.{children_at_within}
+use Rattle.avro_least.proofs.ShownErrors.{step_errs}
+
+-- all pass what all pass
+always : {A : Type 0} (xs : List A) → list_all (λ x. true) xs ≡ true
+always [] = refl
+always (x ∷ xs) = always xs
+
+-- what has no position is not there
+no_position : (test : ℕ → Bool) (n : ℕ) (ks : List ℕ) → position_from test n ks ≡ None → list_any test ks ≡ false
+no_position test n [] e = refl
+no_position test n (k ∷ ks) e = chosen (test k) e (no_position test (n + 1) ks)
+  where
+    chosen : (t : Bool) → cond t (Some n) (position_from test (n + 1) ks) ≡ None → (position_from test (n + 1) ks ≡ None → list_any test ks ≡ false) → (t || list_any test ks) ≡ false
+    chosen true e rest = absurd (grind arith)
+    chosen false e rest = rest e
+
+-- the children that are followed are known
+module _ (writer reader : List Node) (table : LeastTable) (keys : List ℕ) where
+  pub followed_known : (cs : List Pair) → list_all (is_within writer reader) cs ≡ true → list_all (is_key keys) (live_numbers (length reader) table cs) ≡ true
+      → list_all (is_known (length reader) table keys) cs ≡ true
+  followed_known [] h k = refl
+  followed_known (c ∷ cs) h k = chosen (is_none (table c.w)) refl k (followed_known cs (and_right (is_within writer reader c) (list_all (is_within writer reader) cs) h))
+    where
+      chosen : (t : Bool) → is_none (table c.w) ≡ t
+          → list_all (is_key keys) (cond t (live_numbers (length reader) table cs) (pair_number (length reader) c.w c.r ∷ live_numbers (length reader) table cs)) ≡ true
+          → (list_all (is_key keys) (live_numbers (length reader) table cs) ≡ true → list_all (is_known (length reader) table keys) cs ≡ true)
+          → list_all (is_known (length reader) table keys) (c ∷ cs) ≡ true
+      chosen true e m later = and_from (is_known (length reader) table keys c) (list_all (is_known (length reader) table keys) cs)
+          (or_from_left (is_none (table c.w)) (nat_lt c.r (length reader) && is_key keys (pair_number (length reader) c.w c.r)) e) (later m)
+      chosen false e m later = and_from (is_known (length reader) table keys c) (list_all (is_known (length reader) table keys) cs)
+          (or_from_right (is_none (table c.w)) (nat_lt c.r (length reader) && is_key keys (pair_number (length reader) c.w c.r))
+          (and_from (nat_lt c.r (length reader)) (is_key keys (pair_number (length reader) c.w c.r))
+          (and_right (nat_lt c.w (length writer)) (nat_lt c.r (length reader)) (and_left (is_within writer reader c) (list_all (is_within writer reader) cs) h))
+          (and_left (is_key keys (pair_number (length reader) c.w c.r)) (list_all (is_key keys) (live_numbers (length reader) table cs)) m)))
+          (later (and_right (is_key keys (pair_number (length reader) c.w c.r)) (list_all (is_key keys) (live_numbers (length reader) table cs)) m))
+
+-- a table without what is not known
+abbrev pub masked : (Pair → Bool) → ErringTable → ErringTable
+masked known erring w r = cond (known (record { w = w; r = r })) (erring w r) None
+
+masked_shown : (writer reader : List Node) (limit : ℕ) (known : Pair → Bool) (erring : ErringTable) → AreErrorsShown writer reader limit known erring
+    → AreErrorsShown writer reader limit (λ c. true) (masked known erring)
+masked_shown writer reader limit known erring shown w r there some = chosen (known (record { w = w; r = r })) refl some
+  where
+    chosen : (t : Bool) → known (record { w = w; r = r }) ≡ t → is_some (cond t (erring w r) None) ≡ true
+        → ShowsError writer reader limit (node_at writer w) (node_at reader r) (cond t (erring w r) None)
+    chosen true e s = shown w r e s
+    chosen false e s = absurd (false≢true s)
+
+masked_same : (known : Pair → Bool) (erring : ErringTable) (c : Pair) → known c ≡ true → erring c.w c.r ≡ masked known erring c.w c.r
+masked_same known erring c h = rw h refl
+
+-- a step at a key
+module _ (writer reader : List Node) (limit : ℕ) (table : LeastTable) (keys : List ℕ) (entries : List (Option Least))
+    (formed : is_schema writer ≡ true) (theirs : is_schema reader ≡ true) (data_shown : AreDataShown writer limit table) where
+  pub step_at : (k : ℕ) → asked_value limit table (erring_of (length reader) table keys entries) (k / length reader) (k % length reader) (asked_at writer reader k)
+      ≡ err_of writer reader limit table (erring_of (length reader) table keys entries) (k / length reader) (k % length reader) (node_at writer (k / length reader)) (node_at reader (k % length reader))
+  step_at k = value_is limit table (erring_of (length reader) table keys entries) writer reader (k / length reader) (k % length reader) (node_at writer (k / length reader)) (node_at reader (k % length reader))
+
+  pub step_shows : (k : ℕ) → k < length writer * length reader → list_all (is_key keys) (steps_at writer reader table k) ≡ true
+      → ArePairsShown writer reader limit table keys entries → (e : Option Least)
+      → e ≡ asked_value limit table (erring_of (length reader) table keys entries) (k / length reader) (k % length reader) (asked_at writer reader k)
+      → is_some e ≡ true → ShowsError writer reader limit (node_at writer (k / length reader)) (node_at reader (k % length reader)) e
+  step_shows k below followed shown e is some =
+      let known : Pair → Bool = is_known (length reader) table keys in
+      let w : ℕ = k / length reader in
+      let r : ℕ = k % length reader in
+      let hidden : ErringTable = masked (is_known (length reader) table keys) (erring_of (length reader) table keys entries) in
+      let whole : e ≡ err_of writer reader limit table (masked (is_known (length reader) table keys) (erring_of (length reader) table keys entries)) (k / length reader) (k % length reader) (node_at writer (k / length reader)) (node_at reader (k % length reader)) =
+      is ∙ value_same limit table (erring_of (length reader) table keys entries) (masked (is_known (length reader) table keys) (erring_of (length reader) table keys entries))
+      (is_known (length reader) table keys) (masked_same (is_known (length reader) table keys) (erring_of (length reader) table keys entries))
+      (k / length reader) (k % length reader) (asked_at writer reader k)
+      (followed_known writer reader table keys (children_at writer reader k) (children_at_within writer reader table formed theirs k below) followed)
+      ∙ value_is limit table (masked (is_known (length reader) table keys) (erring_of (length reader) table keys entries)) writer reader (k / length reader) (k % length reader) (node_at writer (k / length reader)) (node_at reader (k % length reader)) in
+      subst (λ (o : Option Least). ShowsError writer reader limit (node_at writer (k / length reader)) (node_at reader (k % length reader)) o) (sym whole)
+      (step_errs writer reader limit table (masked (is_known (length reader) table keys) (erring_of (length reader) table keys entries)) (λ c. true) theirs data_shown
+      (masked_shown writer reader limit (is_known (length reader) table keys) (erring_of (length reader) table keys entries) shown)
+      (k / length reader) (k % length reader)
+      (always (children_of writer reader (k / length reader) (k % length reader) (node_at writer (k / length reader)) (node_at reader (k % length reader))))
+      (subst (λ (o : Option Least). is_some o ≡ true) whole some))
+
+-- an entry by its index
+pub given_is : (es : List (Option KeptLeast)) (i : ℕ) → unwrap_or (slice_get (seen_all es) i) (Some no_parts) ≡ given_entry (slice_get es i)
+given_is es i = ap (λ (o : Option (Option Least)). unwrap_or o (Some no_parts)) (slice_get-map seen es i) ∙ by_entry (slice_get es i)
+  where
+    by_entry : (o : Option (Option KeptLeast)) → unwrap_or (option_map seen o) (Some no_parts) ≡ given_entry o
+    by_entry None = refl
+    by_entry (Some e) = refl
+
+-- the entry of a pair, by the three things that it depends on
+module _ (count : ℕ) (table : LeastTable) (keys : List ℕ) (entries : List (Option Least)) (w r : ℕ) where
+  erring_none : table w ≡ None → erring_of count table keys entries w r ≡ None
+  erring_none e = rw e refl
+
+  erring_past : (x : Least) → table w ≡ Some x → nat_lt r count ≡ false → erring_of count table keys entries w r ≡ Some no_parts
+  erring_past x e m = rw e (rw m refl)
+
+  erring_at : (x : Least) (o : Option ℕ) → table w ≡ Some x → nat_lt r count ≡ true → position (λ k. pair_number count w r == k) keys ≡ o
+      → erring_of count table keys entries w r ≡ reached_entry entries o
+  erring_at x o e m p = rw e (rw m (ap (reached_entry entries) p))
+
+-- an entry that is set
+module _ (count : ℕ) (table : LeastTable) (keys : List ℕ) (es : List (Option KeptLeast)) (i k : ℕ) (found : Option KeptLeast)
+    (within : i < length es) (here : slice_get keys i ≡ Some k) where
+  abbrev pub IsSetAt : ℕ → ℕ → Type 0
+  IsSetAt w r = (w * count + r ≡ k) × (r < count) × (erring_of count table keys (seen_all (set es i found)) w r ≡ seen found)
+
+  pub erring_set : (w r : ℕ) → (erring_of count table keys (seen_all (set es i found)) w r ≡ erring_of count table keys (seen_all es) w r) ⊎ IsSetAt w r
+  erring_set w r = by_node (table w) refl
+    where
+      some_same : (a b : ℕ) → Some a ≡ Some b → a ≡ b
+      some_same a b e = cc
+
+      by_place : (x : Least) → table w ≡ Some x → nat_lt r count ≡ true → (o : Option ℕ) → position (λ q. pair_number count w r == q) keys ≡ o
+          → (erring_of count table keys (seen_all (set es i found)) w r ≡ erring_of count table keys (seen_all es) w r) ⊎ IsSetAt w r
+      by_place x e m None p = inl (erring_at count table keys (seen_all (set es i found)) w r x None e m p ∙ sym (erring_at count table keys (seen_all es) w r x None e m p))
+      by_place x e m (Some j) p = elim (cases_eq j i) [
+        | inl same ↦
+            let at = position-Some (λ q. pair_number count w r == q) keys j 0 p in
+            let there : slice_get keys j ≡ Some (w * count + r) = slice_get-get_or keys j 0 at.0 ∙ ap Some (sym (eqb-true (w * count + r) (get_or keys j 0) at.1)) in
+            inr (
+              some_same (w * count + r) k (sym there ∙ ap (slice_get keys) same ∙ here),
+              ltb-true r count m,
+              erring_at count table keys (seen_all (set es i found)) w r x (Some j) e m p ∙ given_is (set es i found) j
+                  ∙ ap (λ (n : ℕ). given_entry (slice_get (set es i found) n)) same ∙ ap given_entry (set_here es i found within),
+            )
+        | inr apart ↦ inl (erring_at count table keys (seen_all (set es i found)) w r x (Some j) e m p ∙ given_is (set es i found) j
+            ∙ ap given_entry (set_other es i j found apart) ∙ sym (given_is es j) ∙ sym (erring_at count table keys (seen_all es) w r x (Some j) e m p))
+      ]
+
+      by_test : (x : Least) → table w ≡ Some x → (t : Bool) → nat_lt r count ≡ t
+          → (erring_of count table keys (seen_all (set es i found)) w r ≡ erring_of count table keys (seen_all es) w r) ⊎ IsSetAt w r
+      by_test x e true m = by_place x e m (position (λ q. pair_number count w r == q) keys) refl
+      by_test x e false m = inl (erring_past count table keys (seen_all (set es i found)) w r x e m ∙ sym (erring_past count table keys (seen_all es) w r x e m))
+
+      by_node : (o : Option Least) → table w ≡ o
+          → (erring_of count table keys (seen_all (set es i found)) w r ≡ erring_of count table keys (seen_all es) w r) ⊎ IsSetAt w r
+      by_node None e = inl (erring_none count table keys (seen_all (set es i found)) w r e ∙ sym (erring_none count table keys (seen_all es) w r e))
+      by_node (Some x) e = by_test x e (nat_lt r count) refl
+
+pub pair_set_shown : (writer reader : List Node) (limit : ℕ) (table : LeastTable) (keys : List ℕ) (es : List (Option KeptLeast)) (i k : ℕ) (found : Option KeptLeast)
+    → i < length es → slice_get keys i ≡ Some k → ArePairsShown writer reader limit table keys (seen_all es)
+    → (is_some (seen found) ≡ true → ShowsError writer reader limit (node_at writer (k / length reader)) (node_at reader (k % length reader)) (seen found))
+    → ArePairsShown writer reader limit table keys (seen_all (set es i found))
+pair_set_shown writer reader limit table keys es i k found within here shown own w r known some = elim (erring_set (length reader) table keys es i k found within here w r) [
+  | inl same ↦ subst (λ (o : Option Least). ShowsError writer reader limit (node_at writer w) (node_at reader r) o) (sym same)
+      (shown w r known (subst (λ (o : Option Least). is_some o ≡ true) same some))
+  | inr new ↦
+      let theirs : k / length reader ≡ w = ap (λ (n : ℕ). n / length reader) (sym new.0) ∙ div-mul-add w (length reader) r new.1 in
+      let ours : k % length reader ≡ r = ap (λ (n : ℕ). n % length reader) (sym new.0) ∙ mod-mul-add w (length reader) r new.1 in
+      subst (λ (o : Option Least). ShowsError writer reader limit (node_at writer w) (node_at reader r) o) (sym new.2)
+      (subst (λ (x : ℕ). ShowsError writer reader limit (node_at writer x) (node_at reader r) (seen found)) theirs
+      (subst (λ (y : ℕ). ShowsError writer reader limit (node_at writer (k / length reader)) (node_at reader y) (seen found)) ours
+      (own (subst (λ (o : Option Least). is_some o ≡ true) new.2 some))))
+]
+
+pub pair_set_falls : (es : List (Option KeptLeast)) (i : ℕ) (found : Option KeptLeast) → i < length es → improves (seen found) (given_entry (slice_get es i)) ≡ true
+    → weights (set es i found) < weights es
+pair_set_falls es i found within better =
+    let lighter : weight found < weight (get_or es i None) =
+    weight_falls found (get_or es i None)
+    (subst (λ (o : Option (Option KeptLeast)). improves (seen found) (given_entry o) ≡ true) (slice_get-get_or es i None within) better) in
+    omega (arith, lighter, sum_by-set weight es i found None within)
+
+pub pair_stays_low : (writer reader : List Node) (limit : ℕ) (table : LeastTable) (keys : List ℕ) (es : List (Option KeptLeast)) (i key : ℕ) (found : Option KeptLeast)
+    → slice_get keys i ≡ Some key
+    → seen found ≡ asked_value limit table (erring_of (length reader) table keys (seen_all es)) (key / length reader) (key % length reader) (asked_at writer reader key)
+    → improves (seen found) (given_entry (slice_get es i)) ≡ false → IsLowAtIndex writer reader limit table keys (seen_all es) i
+pair_stays_low writer reader limit table keys es i key found here is worse k there s d m =
+    let same : k ≡ key = some_same k key (sym there ∙ here) in
+    subst (λ (e : Option Least). AtMost e s d) (sym (given_is es i))
+    (improves_low (seen found) (given_entry (slice_get es i)) s d worse
+    (subst (λ (e : Option Least). AtMost e s d)
+    (sym (is ∙ value_is limit table (erring_of (length reader) table keys (seen_all es)) writer reader (key / length reader) (key % length reader) (node_at writer (key / length reader)) (node_at reader (key % length reader))))
+    (subst (λ (n : ℕ). AtMost (err_of writer reader limit table (erring_of (length reader) table keys (seen_all es)) (n / length reader) (n % length reader) (node_at writer (n / length reader)) (node_at reader (n % length reader))) s d) same m)))
+  where
+    some_same : (a b : ℕ) → Some a ≡ Some b → a ≡ b
+    some_same a b e = cc
+
+-- at the start no pair that was reached has an entry
+pub start_pairs : (writer reader : List Node) (limit n : ℕ) (table : LeastTable) (keys : List ℕ) → n ≡ length keys
+    → ArePairsShown writer reader limit table keys (seen_all (replicate {A = Option KeptLeast} n None))
+start_pairs writer reader limit n table keys same w r known some =
+    absurd (false≢true (subst (λ (o : Option Least). is_some o ≡ true) (none (table w) refl) some))
+  where
+    slice_get-replicate : (n p : ℕ) → p < n → slice_get (replicate {A = Option KeptLeast} n None) p ≡ Some None
+    slice_get-replicate zero p h = absurd (omega (arith, h))
+    slice_get-replicate (suc n) zero h = refl
+    slice_get-replicate (suc n) (suc p) h = slice_get-replicate n p (omega (arith, h))
+
+    at : (x : Least) → table w ≡ Some x → nat_lt r (length reader) ≡ true → is_key keys (pair_number (length reader) w r) ≡ true
+        → (o : Option ℕ) → position (λ q. pair_number (length reader) w r == q) keys ≡ o
+        → erring_of (length reader) table keys (seen_all (replicate {A = Option KeptLeast} n None)) w r ≡ None
+    at x e m there None p = absurd (false≢true (sym (no_position (λ q. pair_number (length reader) w r == q) 0 keys
+        (sym (position_from-zero (λ q. pair_number (length reader) w r == q) keys) ∙ p)) ∙ there))
+    at x e m there (Some j) p =
+        erring_at (length reader) table keys (seen_all (replicate {A = Option KeptLeast} n None)) w r x (Some j) e m p
+        ∙ given_is (replicate {A = Option KeptLeast} n None) j
+        ∙ ap given_entry (slice_get-replicate n j (omega (arith, same, (position-Some (λ q. pair_number (length reader) w r == q) keys j 0 p).0)))
+
+    none : (o : Option Least) → table w ≡ o → erring_of (length reader) table keys (seen_all (replicate {A = Option KeptLeast} n None)) w r ≡ None
+    none None e = erring_none (length reader) table keys (seen_all (replicate {A = Option KeptLeast} n None)) w r e
+    none (Some x) e =
+        let live : (nat_lt r (length reader) && is_key keys (pair_number (length reader) w r)) ≡ true =
+        subst (λ (o : Option Least). (is_none o || (nat_lt r (length reader) && is_key keys (pair_number (length reader) w r))) ≡ true) e known in
+        at x e (and_left (nat_lt r (length reader)) (is_key keys (pair_number (length reader) w r)) live)
+        (and_right (nat_lt r (length reader)) (is_key keys (pair_number (length reader) w r)) live)
+        (position (λ q. pair_number (length reader) w r == q) keys) refl

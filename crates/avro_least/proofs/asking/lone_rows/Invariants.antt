@@ -1,0 +1,10 @@
+use Rattle.std.proofs.Common.{◌≡◌, [], drop, ◌++◌}
+use Rattle.avro_schema.specs.Node.{field_places}
+use Rattle.avro_schema.specs.Seen.{seen_fields}
+use Rattle.avro_least.specs.Asked.{rows_from}
+use Rattle.avro_least.specs.SeenAsk.{rows_of}
+use Rattle.avro_least.proofs.asking.lone_rows.Given as goal
+
+abbrev pub invariant-loop-i : goal.invariant-loop-i
+invariant-loop-i l = rows_from (seen_fields l.writer) [] 0 (field_places (seen_fields l.writer))
+    ≡ rows_of l.rows.items ++ rows_from (seen_fields l.writer) [] l.i (field_places (seen_fields (drop l.i l.writer)))

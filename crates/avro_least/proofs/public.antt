@@ -1,0 +1,6 @@
+pub mod Decided
+pub mod Exact
+pub mod Keys
+pub mod Quiet
+pub mod Sources
+pub mod Stepping

@@ -1,0 +1,129 @@
+-- What a pair of nodes asks for, once all names are compared.
+use Rattle.std.specs.Prelude.{◌≡◌, true, ℕ, zero, suc, cond, List, [], ◌∷◌, Option, Some, None, slice_get, unwrap_or, option_map, map, is_some, is_none, Bool, ◌||◌, ◌&&◌, nat_lt, length, ◌/◌, ◌%◌, flat_map}
+use Rattle.avro_schema.specs.Node.{Node, FieldNode, node_at, field_places}
+use Rattle.avro_resolve.specs.Match.{is_match, first_match}
+use Rattle.avro_resolve.specs.Source.{reader_field, missing_field}
+use Rattle.avro_certificate.specs.Closed.{Pair, lacks_symbol}
+use Rattle.avro_least.specs.Tables.{Least, LeastTable, ErringTable, one, around, together, lesser, best_of, all_of, pair_number, AreErrorsShown, erring_of, IsLowPair, no_parts}
+use Rattle.avro_least.specs.Reached.{is_key}
+
+-- a writer's field, and the reader's field whose source it is
+pub record Row : Type 0 where
+  pub node : ℕ
+  pub theirs : Option ℕ
+
+pub data Asked : Type 0 where
+  -- nothing: no datum errs
+  quiet : Asked
+  -- the writer's least datum: each datum errs
+  whole : Asked
+  -- a datum of one node
+  lone : Asked
+  -- the same writer's node against another reader's
+  same : ℕ → Asked
+  -- one part
+  part : ℕ → ℕ → Asked
+  -- one of the writer's branches
+  branches : List ℕ → Asked
+  -- one of the fields, and the others
+  fields : List Row → Asked
+
+abbrev pub rows_from : List FieldNode → List FieldNode → ℕ → List ℕ → List Row
+rows_from ws rs place [] = []
+rows_from ws rs place (p ∷ ps) = record { node = p; theirs = option_map (λ f. f.node) (reader_field ws rs place) } ∷ rows_from ws rs (suc place) ps
+
+-- the row at a place names a reader's field
+abbrev pub noted : List Row → ℕ → ℕ → List Row
+noted [] k q = []
+noted (row ∷ rows) zero q = record { node = row.node; theirs = Some q } ∷ rows
+noted (row ∷ rows) (suc k) q = row ∷ noted rows k q
+
+-- of two nodes that match and are no unions
+abbrev pub asked_inside : Node → Node → Asked
+asked_inside Node.bytes Node.string = lone
+asked_inside (Node.enum a xs symbols x) (Node.enum b ys theirs y) = cond (lacks_symbol symbols theirs y) lone quiet
+asked_inside (Node.record_of a xs fs) (Node.record_of b ys theirs) =
+    cond (is_some (missing_field fs theirs)) whole (fields (rows_from fs theirs 0 (field_places fs)))
+asked_inside (Node.array a) (Node.array b) = part a b
+asked_inside (Node.map_of a) (Node.map_of b) = part a b
+asked_inside n q = quiet
+
+abbrev pub asked_branch : List ℕ → Option ℕ → Asked
+asked_branch places None = whole
+asked_branch places (Some k) = same (unwrap_or (slice_get places k) 0)
+
+abbrev pub asked : List Node → List Node → Node → Node → Asked
+asked writer reader (Node.union places) q = branches places
+asked writer reader n (Node.union places) = asked_branch places (first_match writer reader n places)
+asked writer reader n q = cond (is_match writer reader n q) (asked_inside n q) whole
+
+-- what it comes to
+abbrev pub err_of_row : ErringTable → Row → Option Least
+err_of_row erring row = of_place row.theirs
+  where
+    of_place : Option ℕ → Option Least
+    of_place None = None
+    of_place (Some q) = erring row.node q
+
+abbrev pub err_of_rows : ℕ → LeastTable → ErringTable → List Row → Option Least
+err_of_rows limit table erring [] = None
+err_of_rows limit table erring (row ∷ rows) =
+    lesser (together limit (err_of_row erring row) (all_of limit table (map (λ r. r.node) rows)))
+    (together limit (table row.node) (err_of_rows limit table erring rows))
+
+abbrev pub asked_value : ℕ → LeastTable → ErringTable → ℕ → ℕ → Asked → Option Least
+asked_value limit table erring w r quiet = None
+asked_value limit table erring w r whole = table w
+asked_value limit table erring w r lone = Some one
+asked_value limit table erring w r (same q) = erring w q
+asked_value limit table erring w r (part a b) = around limit (erring a b)
+asked_value limit table erring w r (branches places) = around limit (best_of (λ p. erring p r) places)
+asked_value limit table erring w r (fields rows) = around limit (err_of_rows limit table erring rows)
+
+-- the pairs that it takes
+abbrev pub row_child : Row → List Pair
+row_child row = of_place row.theirs
+  where
+    of_place : Option ℕ → List Pair
+    of_place None = []
+    of_place (Some q) = record { w = row.node; r = q } ∷ []
+
+abbrev pub asked_children : ℕ → ℕ → Asked → List Pair
+asked_children w r (same q) = record { w = w; r = q } ∷ []
+asked_children w r (part a b) = record { w = a; r = b } ∷ []
+asked_children w r (branches places) = map (λ p. record { w = p; r = r }) places
+asked_children w r (fields rows) = flat_map row_child rows
+asked_children w r _ = []
+
+-- by its number
+abbrev pub asked_at : List Node → List Node → ℕ → Asked
+asked_at writer reader k = asked writer reader (node_at writer (k / length reader)) (node_at reader (k % length reader))
+
+abbrev pub children_at : List Node → List Node → ℕ → List Pair
+children_at writer reader k = asked_children (k / length reader) (k % length reader) (asked_at writer reader k)
+
+-- a pair of nodes of the schemas whose number is there, unless the writer's is dead
+abbrev pub is_known : ℕ → LeastTable → List ℕ → Pair → Bool
+is_known count table keys c = is_none (table c.w) || (nat_lt c.r count && is_key keys (pair_number count c.w c.r))
+
+-- the numbers of the pairs whose writer's node is not dead
+abbrev pub live_numbers : ℕ → LeastTable → List Pair → List ℕ
+live_numbers count table [] = []
+live_numbers count table (c ∷ cs) = cond (is_none (table c.w)) (live_numbers count table cs) (pair_number count c.w c.r ∷ live_numbers count table cs)
+
+abbrev pub steps_at : List Node → List Node → LeastTable → ℕ → List ℕ
+steps_at writer reader table k = live_numbers (length reader) table (children_at writer reader k)
+
+-- what each key asks for, up to a place
+abbrev pub AreAsked : List Node → List Node → List ℕ → List Asked → Type 0
+AreAsked writer reader keys asks = (i k : ℕ) → slice_get keys i ≡ Some k → nat_lt i (length asks) ≡ true → slice_get asks i ≡ Some (asked_at writer reader k)
+
+-- each entry of the pairs that were reached has a datum that errs
+abbrev pub ArePairsShown : List Node → List Node → ℕ → LeastTable → List ℕ → List (Option Least) → Type 0
+ArePairsShown writer reader limit table keys entries =
+    AreErrorsShown writer reader limit (is_known (length reader) table keys) (erring_of (length reader) table keys entries)
+
+-- no step lowers the entry at an index
+abbrev pub IsLowAtIndex : List Node → List Node → ℕ → LeastTable → List ℕ → List (Option Least) → ℕ → Type 0
+IsLowAtIndex writer reader limit table keys entries i = (k : ℕ) → slice_get keys i ≡ Some k
+    → IsLowPair writer reader limit table (erring_of (length reader) table keys entries) k (unwrap_or (slice_get entries i) (Some no_parts))

@@ -1,0 +1,9 @@
+pub mod Tables
+pub mod SeenLeast
+pub mod Asked
+pub mod SeenAsk
+pub mod Reached
+pub mod FoundTables
+pub mod Leaf
+pub mod Built
+pub mod BuiltErrors

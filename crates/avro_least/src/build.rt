@@ -1,0 +1,200 @@
+//! A least datum, by its table.
+
+ghost use Rattle.std.specs.Prelude.{◌≡◌, ◌<◌, ◌≤◌, ℕ, true, length, IfOk, OnOk, [], ◌∷◌, ◌++◌, Some, slice_get, is_some, map};
+ghost use Rattle.std.proofs.Math.ListN.{replicate};
+ghost use Rattle.avro_schema.specs.Seen.{value_of, values_from, node_of, places_of, seen_fields};
+ghost use Rattle.avro_least.specs.Tables.{best_of};
+ghost use Rattle.avro_least.specs.SeenLeast.{seen, table_of};
+ghost use Rattle.avro_schema.specs.Value.{Value};
+ghost use Rattle.avro_least.specs.Leaf.{leaf_value};
+ghost use Rattle.avro_schema.specs.Node.{Node as SeenNode};
+ghost use Rattle.avro_schema.specs.SeenSchema.{schema_nodes};
+ghost use Rattle.avro_least.specs.Built.{Builds, BuildsAt, BuildsRecord};
+
+use crate::asking::node_or;
+use crate::kept::Least;
+use crate::least::{best_of, entry};
+use avro_schema::{Datum, Field, Memory, Node, NodeId, Schema};
+use std::alloc::Global;
+
+/// Whether two entries are equal.
+pub(crate) fn are_same(a: Option<Least>, b: Option<Least>) -> bool
+    ensures same { result ≡ true → seen a ≡ seen b }
+    ensures told { seen a ≡ seen b → result ≡ true }
+{
+    match a {
+        None => b.is_none(),
+        Some(x) => match b {
+            None => false,
+            Some(y) => x.nodes == y.nodes && x.depth == y.depth,
+        },
+    }
+}
+
+/// The first place of the best entry.
+fn best_place(table: &[Option<Least>], places: &[NodeId]) -> usize
+    ensures { is_some (best_of (table_of table.now) (places_of places.now)) ≡ true
+        → (p : ℕ) × (slice_get (places_of places.now) result ≡ Some p) × (table_of table.now p ≡ best_of (table_of table.now) (places_of places.now)) }
+{
+    let best = best_of(table, places);
+    for i in 0..places.len() {
+        if are_same(entry(table, places[i]), best) {
+            return i;
+        }
+    }
+    0
+}
+
+/// So many zeros.
+fn zeros(alloc: Global, count: u32) -> Result<Vec<u8>, Memory>
+    ensures { IfOk result (λ z. z.items ≡ replicate count 0) }
+{
+    let mut zeros: Vec<u8> = Vec::new(alloc);
+    for done in 0..count {
+        if zeros.push(0).is_err() {
+            return Err(Memory);
+        }
+    }
+    Ok(zeros)
+}
+
+/// The bytes of a fixed.
+fn fixed(alloc: Global, count: u32) -> Result<Datum, Memory>
+    ensures { IfOk result (λ d. value_of d ≡ Value.fixed (replicate count 0)) }
+{
+    Ok(Datum::Fixed(zeros(alloc, count)?))
+}
+
+/// The least datum of a node without parts.
+fn leaf(alloc: Global, node: &Node) -> Result<Datum, Memory>
+    ensures { IfOk result (λ d. value_of d ≡ leaf_value (node_of node.now)) }
+{
+    match node {
+        Node::Null => Ok(Datum::Null),
+        Node::Boolean => Ok(Datum::Bool(false)),
+        Node::Int => Ok(Datum::Int(0)),
+        Node::Long => Ok(Datum::Long(0)),
+        Node::Bytes => Ok(Datum::Bytes(Vec::new(alloc))),
+        Node::Str => Ok(Datum::Str(String::new(alloc))),
+        Node::Array(_) => Ok(Datum::Array(Vec::new(alloc))),
+        Node::Map(_) => Ok(Datum::Map(Vec::new(alloc))),
+        Node::Union(_) => Ok(Datum::Null),
+        Node::Record(_) => Ok(Datum::Null),
+        Node::Enum(_) => Ok(Datum::Enum(0)),
+        Node::Fixed(f) => fixed(alloc, f.size),
+    }
+}
+
+/// A place as a datum holds it; a schema has no place past the greatest `u32`.
+pub(crate) fn as_place(k: usize) -> u32
+    ensures { k < 4294967296 → result ≡ k }
+{
+    match u32::try_from(k) {
+        Ok(place) => place,
+        Err(_) => u32::MAX,
+    }
+}
+
+/// A value in a union.
+pub(crate) fn wrap(alloc: Global, k: usize, value: Datum) -> Result<Datum, Memory>
+    ensures { IfOk result (λ d. k < 4294967296 → value_of d ≡ Value.union k (value_of value)) }
+{
+    match Box::new(alloc, value) {
+        Ok(value) => Ok(Datum::Union(as_place(k), value)),
+        Err(_) => Err(Memory),
+    }
+}
+
+/// The place at an index.
+pub(crate) fn place_at(places: &[NodeId], k: usize) -> NodeId
+    ensures { (p : ℕ) → slice_get (places_of places.now) k ≡ Some p → result.0 ≡ p }
+{
+    match places.get(k) {
+        None => NodeId(0),
+        Some(place) => *place,
+    }
+}
+
+/// A record.
+pub(crate) fn make_record(values: Vec<Datum>) -> Datum
+    ensures { value_of result ≡ Value.record_of (values_from (map value_of values.items)) }
+{
+    Datum::Record(values)
+}
+
+/// Adds a datum.
+pub(crate) fn push_datum(values: &mut Vec<Datum>, value: Datum) -> Result<(), Memory>
+    ensures { OnOk result (values.new.items ≡ values.old.items ++ value ∷ []) }
+{
+    if values.push(value).is_err() {
+        return Err(Memory);
+    }
+    Ok(())
+}
+
+/// A least datum of a node, of no more nodes than are left.
+#[cycle(build)]
+pub(crate) fn build(
+    alloc: Global,
+    schema: &Schema,
+    table: &[Option<Least>],
+    id: NodeId,
+    left: u32,
+) -> Result<Datum, Memory>
+    ensures { IfOk result (λ d. Builds (schema_nodes schema.now) (table_of table.now) left id.0 (value_of d)) }
+{
+    if left == 0 {
+        return Ok(Datum::Null);
+    }
+    let null = Node::Null;
+    match node_or(schema, id, &null) {
+        Node::Union(places) => {
+            let value = build_branch(alloc, schema, table, places, left - 1)?;
+            Ok(value)
+        }
+        Node::Record(record) => {
+            let value = build_record(alloc, schema, table, &record.fields, left - 1)?;
+            Ok(value)
+        }
+        node => {
+            let value = leaf(alloc, node)?;
+            Ok(value)
+        }
+    }
+}
+
+/// A least datum of a union.
+#[cycle(build)]
+fn build_branch(
+    alloc: Global,
+    schema: &Schema,
+    table: &[Option<Least>],
+    places: &[NodeId],
+    left: u32,
+) -> Result<Datum, Memory>
+    ensures { IfOk result (λ d. BuildsAt (schema_nodes schema.now) (table_of table.now) left (SeenNode.union (places_of places.now)) (value_of d)) }
+{
+    let k = best_place(table, places);
+    let value = build(alloc, schema, table, place_at(places, k), left)?;
+    let whole = wrap(alloc, k, value)?;
+    Ok(whole)
+}
+
+/// A least datum of a record.
+#[cycle(build)]
+fn build_record(
+    alloc: Global,
+    schema: &Schema,
+    table: &[Option<Least>],
+    fields: &[Field],
+    left: u32,
+) -> Result<Datum, Memory>
+    ensures { IfOk result (λ d. BuildsRecord (schema_nodes schema.now) (table_of table.now) left (seen_fields fields.now) (value_of d)) }
+{
+    let mut values = Vec::new(alloc);
+    for i in 0..fields.len() {
+        let value = build(alloc, schema, table, fields[i].node, left)?;
+        push_datum(&mut values, value)?;
+    }
+    Ok(make_record(values))
+}

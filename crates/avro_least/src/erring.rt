@@ -1,0 +1,252 @@
+//! The least data that err at pairs of nodes.
+
+ghost use Rattle.std.specs.Prelude.{◌≡◌, ◌<◌, ◌≤◌, ◌*◌, ℕ, Bool, true, false, List, Option, length, nat_lt, slice_get, map, Some, None, IfOk, position, ◌==◌, cond};
+ghost use Rattle.std.specs.List.{list_all};
+ghost use Rattle.indexmap.specs.IndexSet.{keys};
+ghost use Rattle.avro_schema.specs.Seen.{places_of};
+ghost use Rattle.avro_schema.specs.SeenSchema.{schema_nodes};
+ghost use Rattle.avro_schema.specs.WellFormed.{is_schema};
+ghost use Rattle.avro_least.specs.Tables.{erring_of, reached_entry, pair_number, no_parts, best_of, AreDataShown, AreLow, IsLowForData};
+ghost use Rattle.avro_least.specs.SeenLeast.{seen, given_entry, seen_all, table_of, weights};
+ghost use Rattle.avro_least.specs.Reached.{is_key, AreFollowed};
+ghost use Rattle.avro_least.specs.Asked.{Asked, Row, asked_at, asked_value, err_of_row, err_of_rows, steps_at, AreAsked, ArePairsShown, IsLowAtIndex};
+ghost use Rattle.avro_least.specs.SeenAsk.{ask_of, asks_of, row_of, rows_of};
+
+use crate::asking::{Ask, FieldAsk};
+use crate::kept::Least;
+use crate::least::{around, count, entry, improves, lesser, together, unknown};
+use crate::reaching::{Reached, number, readers, writers};
+use avro_schema::{Memory, NodeId, Schema};
+use indexmap::IndexSet;
+use std::alloc::Global;
+
+/// The entry at an index; past the end stands the least of all.
+fn entry_at(entries: &[Option<Least>], i: usize) -> Option<Least>
+    ensures { seen result ≡ given_entry (slice_get entries.now i) }
+{
+    match entries.get(i) {
+        None => Some(Least { nodes: 0, depth: 0 }),
+        Some(e) => *e,
+    }
+}
+
+/// The entry of a pair by its number.
+fn numbered_entry(known: &IndexSet<u64>, entries: &[Option<Least>], key: u64) -> Option<Least>
+    ensures { seen result ≡ reached_entry (seen_all entries.now) (position (λ k. key == k) (keys known.now)) }
+{
+    match known.get_index_of(&key) {
+        None => Some(Least { nodes: 0, depth: 0 }),
+        Some(i) => entry_at(entries, i),
+    }
+}
+
+/// The entry of a pair whose writer's node is not dead.
+fn live_entry(
+    count: u32,
+    known: &IndexSet<u64>,
+    entries: &[Option<Least>],
+    w: NodeId,
+    r: NodeId,
+) -> Option<Least>
+    ensures { seen result ≡ cond (nat_lt r.0 count) (reached_entry (seen_all entries.now) (position (λ k. pair_number count w.0 r.0 == k) (keys known.now))) (Some no_parts) }
+{
+    if r.0 < count {
+        numbered_entry(known, entries, number(count, w, r))
+    } else {
+        Some(Least { nodes: 0, depth: 0 })
+    }
+}
+
+/// The entry of a pair, by the table of least data and the entries of the pairs that were reached; it has
+/// none where no datum fails.
+pub fn pair_entry(
+    table: &[Option<Least>],
+    count: u32,
+    known: &IndexSet<u64>,
+    entries: &[Option<Least>],
+    w: NodeId,
+    r: NodeId,
+) -> Option<Least>
+    ensures { seen result ≡ erring_of count (table_of table.now) (keys known.now) (seen_all entries.now) w.0 r.0 }
+{
+    match entry(table, w) {
+        None => None,
+        Some(_) => live_entry(count, known, entries, w, r),
+    }
+}
+
+/// The best of a writer's branches.
+pub(crate) fn best_branch(
+    table: &[Option<Least>],
+    count: u32,
+    known: &IndexSet<u64>,
+    entries: &[Option<Least>],
+    places: &[NodeId],
+    r: NodeId,
+) -> Option<Least>
+    ensures { seen result ≡ best_of (λ p. erring_of count (table_of table.now) (keys known.now) (seen_all entries.now) p r.0) (places_of places.now) }
+{
+    let mut best = None;
+    let mut i = places.len();
+    while i > 0 {
+        i -= 1;
+        best = lesser(pair_entry(table, count, known, entries, places[i], r), best);
+    }
+    best
+}
+
+/// The entry of a field, where it is some reader's source.
+pub(crate) fn row_entry(
+    table: &[Option<Least>],
+    count: u32,
+    known: &IndexSet<u64>,
+    entries: &[Option<Least>],
+    row: FieldAsk,
+) -> Option<Least>
+    ensures { seen result ≡ err_of_row (erring_of count (table_of table.now) (keys known.now) (seen_all entries.now)) (row_of row) }
+{
+    match row.theirs {
+        None => None,
+        Some(theirs) => pair_entry(table, count, known, entries, row.node, theirs),
+    }
+}
+
+/// The best of a record's fields, the least data of the others beside it.
+pub(crate) fn best_field(
+    limit: u32,
+    table: &[Option<Least>],
+    count: u32,
+    known: &IndexSet<u64>,
+    entries: &[Option<Least>],
+    rows: &[FieldAsk],
+) -> Option<Least>
+    requires { limit ≤ 16777216 }
+    ensures { seen result ≡ err_of_rows limit (table_of table.now) (erring_of count (table_of table.now) (keys known.now) (seen_all entries.now)) (rows_of rows.now) }
+{
+    let mut all = Some(Least { nodes: 0, depth: 0 });
+    let mut best = None;
+    let mut i = rows.len();
+    while i > 0 {
+        i -= 1;
+        let own = entry(table, rows[i].node);
+        let first = together(limit, row_entry(table, count, known, entries, rows[i]), all);
+        best = lesser(first, together(limit, own, best));
+        all = together(limit, own, all);
+    }
+    best
+}
+
+/// What a pair's entry is by the others.
+fn value_of_ask(
+    limit: u32,
+    table: &[Option<Least>],
+    count: u32,
+    known: &IndexSet<u64>,
+    entries: &[Option<Least>],
+    w: NodeId,
+    r: NodeId,
+    ask: &Ask,
+) -> Option<Least>
+    requires { limit ≤ 16777216 }
+    ensures { seen result ≡ asked_value limit (table_of table.now) (erring_of count (table_of table.now) (keys known.now) (seen_all entries.now)) w.0 r.0 (ask_of ask.now) }
+{
+    match ask {
+        Ask::Quiet => None,
+        Ask::Whole => entry(table, w),
+        Ask::Lone => Some(Least { nodes: 1, depth: 1 }),
+        Ask::Same(q) => pair_entry(table, count, known, entries, w, *q),
+        Ask::Part(a, b) => around(limit, pair_entry(table, count, known, entries, *a, *b)),
+        Ask::Branches(places) => around(
+            limit,
+            best_branch(table, count, known, entries, places, r),
+        ),
+        Ask::Fields(rows) => around(limit, best_field(limit, table, count, known, entries, rows)),
+    }
+}
+
+/// What the pair at an index asks for.
+fn ask_at_index(reached: &Reached, i: usize) -> &Ask
+    requires { i < length reached.now.asks.items }
+    ensures { slice_get reached.now.asks.items i ≡ Some result.now }
+{
+    &reached.asks[i]
+}
+
+/// Improves the entries where a step does, in reverse order of discovery, and tells whether one was.
+fn pair_round(
+    writer: &Schema,
+    reader: &Schema,
+    limit: u32,
+    table: &[Option<Least>],
+    reached: &Reached,
+    entries: &mut [Option<Least>],
+) -> bool
+    requires range { limit ≤ 16777216 }
+    requires data { AreDataShown (schema_nodes writer.now) limit (table_of table.now) }
+    requires below { list_all (λ k. nat_lt k (length (schema_nodes writer.now) * length (schema_nodes reader.now))) (keys reached.now.known) ≡ true }
+    requires closed { AreFollowed (steps_at (schema_nodes writer.now) (schema_nodes reader.now) (table_of table.now)) (keys reached.now.known) (length (keys reached.now.known)) }
+    requires asks { length reached.now.asks.items ≡ length (keys reached.now.known) }
+    requires asked { AreAsked (schema_nodes writer.now) (schema_nodes reader.now) (keys reached.now.known) (asks_of reached.now.asks.items) }
+    requires one_each { length entries.old ≡ length (keys reached.now.known) }
+    requires shown { ArePairsShown (schema_nodes writer.now) (schema_nodes reader.now) limit (table_of table.now) (keys reached.now.known) (seen_all entries.old) }
+    ensures one_each { length entries.new ≡ length (keys reached.now.known) }
+    ensures shown { ArePairsShown (schema_nodes writer.now) (schema_nodes reader.now) limit (table_of table.now) (keys reached.now.known) (seen_all entries.new) }
+    ensures kept { result ≡ false → entries.new ≡ entries.old }
+    ensures falls { result ≡ true → weights entries.new < weights entries.old }
+    ensures low { result ≡ false → (i : ℕ) → IsLowAtIndex (schema_nodes writer.now) (schema_nodes reader.now) limit (table_of table.now) (keys reached.now.known) (seen_all entries.new) i }
+{
+    let _ = count(writer);
+    let count = count(reader);
+    let mut changed = false;
+    let mut i = reached.known.len();
+    while i > 0 {
+        i -= 1;
+        match reached.known.get_index(i) {
+            None => unreachable!(),
+            Some(key) => {
+                let key = *key;
+                let w = writers(writer, reader, key);
+                let r = readers(reader, key);
+                let ask = ask_at_index(reached, i);
+                let found = value_of_ask(limit, table, count, &reached.known, entries, w, r, ask);
+                if improves(found, entry_at(entries, i)) {
+                    entries[i] = found;
+                    changed = true;
+                }
+            }
+        }
+    }
+    changed
+}
+
+/// A table of the least data that fail at each pair that was reached, by the table of least data.
+///
+/// # Errors
+///
+/// Memory ran out.
+pub fn least_errors(
+    alloc: Global,
+    writer: &Schema,
+    reader: &Schema,
+    limit: u32,
+    table: &[Option<Least>],
+    reached: &Reached,
+) -> Result<Vec<Option<Least>>, Memory>
+    requires range { limit ≤ 16777216 }
+    requires data { AreDataShown (schema_nodes writer.now) limit (table_of table.now) }
+    requires least { IsLowForData (schema_nodes writer.now) limit (table_of table.now) }
+    requires below { list_all (λ k. nat_lt k (length (schema_nodes writer.now) * length (schema_nodes reader.now))) (keys reached.now.known) ≡ true }
+    requires closed { AreFollowed (steps_at (schema_nodes writer.now) (schema_nodes reader.now) (table_of table.now)) (keys reached.now.known) (length (keys reached.now.known)) }
+    requires asks { length reached.now.asks.items ≡ length (keys reached.now.known) }
+    requires asked { AreAsked (schema_nodes writer.now) (schema_nodes reader.now) (keys reached.now.known) (asks_of reached.now.asks.items) }
+    ensures shown { IfOk result (λ t. ArePairsShown (schema_nodes writer.now) (schema_nodes reader.now) limit (table_of table.now) (keys reached.now.known) (seen_all t.items)) }
+    ensures low { IfOk result (λ t. AreLow (schema_nodes writer.now) (schema_nodes reader.now) limit (table_of table.now)
+        (erring_of (length (schema_nodes reader.now)) (table_of table.now) (keys reached.now.known) (seen_all t.items))) }
+{
+    let mut entries = unknown(alloc, reached.known.len())?;
+    let mut changed = true;
+    while changed {
+        changed = pair_round(writer, reader, limit, table, reached, &mut entries);
+    }
+    Ok(entries)
+}

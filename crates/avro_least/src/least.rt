@@ -1,0 +1,201 @@
+//! The least data of a schema's nodes.
+
+ghost use Rattle.std.specs.Prelude.{◌≡◌, ◌<◌, ◌≤◌, ℕ, Bool, true, false, length, IfOk, Some, None};
+ghost use Rattle.std.proofs.Math.ListN.{replicate};
+ghost use Rattle.avro_schema.specs.Seen.{node_of, places_of, seen_fields};
+ghost use Rattle.avro_schema.specs.Node.{Node as SeenNode, field_places};
+ghost use Rattle.avro_schema.specs.SeenSchema.{schema_nodes};
+ghost use Rattle.avro_schema.specs.WellFormed.{is_schema};
+ghost use Rattle.avro_least.specs.Tables.{capped, around, together, lesser, best_of, all_of, least_datum, IsLowForData, AreDataShown, Least as SeenLeast};
+ghost use Rattle.avro_least.specs.SeenLeast.{seen, table_of, improves, IsLowAt, weights};
+
+use crate::kept::Least;
+use avro_schema::{Field, Memory, Node, NodeId, Schema};
+use std::alloc::Global;
+
+/// The same, where numbers above the limit count as one.
+fn capped(limit: u32, nodes: u32, depth: u32) -> Least
+    requires range { limit ≤ 16777216 }
+    requires flat { depth ≤ nodes }
+    ensures { seen (Some result) ≡ Some (capped limit (record { nodes = nodes; depth = depth })) }
+{
+    if nodes <= limit {
+        Least { nodes, depth }
+    } else {
+        Least {
+            nodes: limit + 1,
+            depth: 0,
+        }
+    }
+}
+
+/// One node around.
+pub(crate) fn around(limit: u32, entry: Option<Least>) -> Option<Least>
+    requires { limit ≤ 16777216 }
+    ensures { seen result ≡ around limit (seen entry) }
+{
+    match entry {
+        None => None,
+        Some(e) => Some(capped(limit, e.nodes + 1, e.depth + 1)),
+    }
+}
+
+/// One beside the other.
+pub(crate) fn together(limit: u32, first: Option<Least>, second: Option<Least>) -> Option<Least>
+    requires { limit ≤ 16777216 }
+    ensures { seen result ≡ together limit (seen first) (seen second) }
+{
+    match first {
+        None => None,
+        Some(a) => match second {
+            None => None,
+            Some(b) => Some(capped(limit, a.nodes + b.nodes, a.depth.max(b.depth))),
+        },
+    }
+}
+
+/// Whether the first is an entry below the second.
+pub(crate) fn improves(found: Option<Least>, old: Option<Least>) -> bool
+    ensures { result ≡ improves (seen found) (seen old) }
+{
+    match found {
+        None => false,
+        Some(a) => match old {
+            None => true,
+            Some(b) => a.nodes < b.nodes || (a.nodes == b.nodes && a.depth < b.depth),
+        },
+    }
+}
+
+/// The lesser, the first of equals.
+pub(crate) fn lesser(first: Option<Least>, second: Option<Least>) -> Option<Least>
+    ensures { seen result ≡ lesser (seen first) (seen second) }
+{
+    match first {
+        None => second,
+        Some(a) => match second {
+            None => Some(a),
+            Some(b) => {
+                if b.nodes < a.nodes || (b.nodes == a.nodes && b.depth < a.depth) {
+                    Some(b)
+                } else {
+                    Some(a)
+                }
+            }
+        },
+    }
+}
+
+/// The entry of a node; it has none where the node has no data.
+pub fn entry(table: &[Option<Least>], place: NodeId) -> Option<Least>
+    ensures { seen result ≡ table_of table.now place.0 }
+{
+    match table.get(place.0 as usize) {
+        None => Some(Least { nodes: 1, depth: 1 }),
+        Some(e) => *e,
+    }
+}
+
+/// The best of some places.
+pub(crate) fn best_of(table: &[Option<Least>], places: &[NodeId]) -> Option<Least>
+    ensures { seen result ≡ best_of (table_of table.now) (places_of places.now) }
+{
+    let mut best = None;
+    let mut i = places.len();
+    while i > 0 {
+        i -= 1;
+        best = lesser(entry(table, places[i]), best);
+    }
+    best
+}
+
+/// All fields together.
+fn all_of(limit: u32, table: &[Option<Least>], fields: &[Field]) -> Option<Least>
+    requires { limit ≤ 16777216 }
+    ensures { seen result ≡ all_of limit (table_of table.now) (field_places (seen_fields fields.now)) }
+{
+    let mut all = Some(Least { nodes: 0, depth: 0 });
+    let mut i = fields.len();
+    while i > 0 {
+        i -= 1;
+        all = together(limit, entry(table, fields[i].node), all);
+    }
+    all
+}
+
+/// A node's entry by those of its parts.
+fn least_of(limit: u32, table: &[Option<Least>], node: &Node) -> Option<Least>
+    requires { limit ≤ 16777216 }
+    ensures { seen result ≡ least_datum limit (table_of table.now) (node_of node.now) }
+{
+    match node {
+        Node::Union(places) => around(limit, best_of(table, places)),
+        Node::Record(record) => around(limit, all_of(limit, table, &record.fields)),
+        _ => Some(Least { nodes: 1, depth: 1 }),
+    }
+}
+
+/// Improves the entries where a step does, from the last place on, and tells whether one was.
+fn round(writer: &Schema, limit: u32, table: &mut [Option<Least>]) -> bool
+    requires range { limit ≤ 16777216 }
+    requires one_each { length table.old ≡ length (schema_nodes writer.now) }
+    requires shown { AreDataShown (schema_nodes writer.now) limit (table_of table.old) }
+    ensures one_each { length table.new ≡ length (schema_nodes writer.now) }
+    ensures shown { AreDataShown (schema_nodes writer.now) limit (table_of table.new) }
+    ensures kept { result ≡ false → table.new ≡ table.old }
+    ensures falls { result ≡ true → weights table.new < weights table.old }
+    ensures low { result ≡ false → IsLowForData (schema_nodes writer.now) limit (table_of table.new) }
+{
+    let count = count(writer);
+    let mut changed = false;
+    let mut i = count;
+    while i > 0 {
+        i -= 1;
+        let found = least_of(limit, table, writer.node(NodeId(i)));
+        if improves(found, entry(table, NodeId(i))) {
+            table[i as usize] = found;
+            changed = true;
+        }
+    }
+    changed
+}
+
+/// The number of nodes of a schema.
+pub fn count(schema: &Schema) -> u32
+    ensures count { result ≡ length (schema_nodes schema.now) }
+    ensures formed { is_schema (schema_nodes schema.now) ≡ true }
+{
+    schema.len() as u32
+}
+
+/// A table without an entry.
+pub(crate) fn unknown(alloc: Global, count: usize) -> Result<Vec<Option<Least>>, Memory>
+    ensures { IfOk result (λ t. t.items ≡ replicate count None) }
+{
+    let mut table = Vec::new(alloc);
+    for done in 0..count {
+        if table.push(None).is_err() {
+            return Err(Memory);
+        }
+    }
+    Ok(table)
+}
+
+/// A table of the least data of each node; data of more nodes than the limit count as one.
+///
+/// # Errors
+///
+/// Memory ran out.
+pub fn least_data(alloc: Global, writer: &Schema, limit: u32) -> Result<Vec<Option<Least>>, Memory>
+    requires range { limit ≤ 16777216 }
+    ensures one_each { IfOk result (λ t. length t.items ≡ length (schema_nodes writer.now)) }
+    ensures shown { IfOk result (λ t. AreDataShown (schema_nodes writer.now) limit (table_of t.items)) }
+    ensures low { IfOk result (λ t. IsLowForData (schema_nodes writer.now) limit (table_of t.items)) }
+{
+    let mut table = unknown(alloc, writer.len())?;
+    let mut changed = true;
+    while changed {
+        changed = round(writer, limit, &mut table);
+    }
+    Ok(table)
+}

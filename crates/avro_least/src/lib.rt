@@ -1,0 +1,22 @@
+//! The least data of a writer's schema that fail for a reader's, as tables: of the least data of each
+//! node, and of the least data that fail at each pair of nodes that the roots lead to.
+//!
+//! [`least_data`] makes the first table, [`reach`] finds the pairs, and [`least_errors`] makes the second
+//! table. [`build_error`] builds a datum by them.
+#![tactic(auto)]
+
+mod asking;
+mod build;
+mod build_errors;
+mod erring;
+mod kept;
+pub mod laws;
+mod least;
+mod reaching;
+
+pub use asking::{Ask, FieldAsk};
+pub use build_errors::build_error;
+pub use erring::{least_errors, pair_entry};
+pub use kept::Least;
+pub use least::{count, entry, least_data};
+pub use reaching::{Reached, reach, readers, writers};
