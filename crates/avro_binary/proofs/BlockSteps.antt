@@ -4,7 +4,7 @@ use Rattle.std.specs.Prelude.{neg_ℤ}
 use Rattle.std.specs.List.{concat}
 use Rattle.avro_zigzag.specs.Number.{SpellsLong}
 use Rattle.avro_binary.specs.Blocks.{IsInBlocks, counted as counted_block, sized as sized_block}
-use Rattle.avro_binary.specs.Fault.{ReadFault, end_of_input, invalid_number, invalid_boolean, invalid_text, unknown_index, invalid_length, wrong_block_size, duplicate_key, limit_exceeded, behind}
+use Rattle.avro_binary.specs.Fault.{ReadFault, wrong_block_size, behind}
 use Rattle.avro_binary.specs.Breaks.{HeadBreaks, BlocksBreak, head_breaks, item_fails, size_differs, later_breaks, Head, counted, sized, head_count, head_bytes, IsHead, HasSize, Left}
 use Rattle.avro_binary.specs.BlockHeads.{IsHeadOrEnd, IsBlock, IsBlockOrEnd, EndsBlock}
 use Rattle.avro_binary.specs.CursorValue.{CursorValue, Passes}
@@ -12,7 +12,7 @@ use Rattle.avro_binary.specs.CursorReads.{Moves, ReportsFault, left_at, FindsRun
 use Rattle.avro_binary.specs.Elements.{Refuses}
 use Rattle.avro_binary.specs.declared.block.Block.{Block}
 use Rattle.avro_binary.specs.declared.error.ReadError.{ReadError}
-use Rattle.avro_binary.proofs.OneFaultParts.{behind-append}
+use Rattle.avro_binary.proofs.Behind.{behind-none, behind-append}
 use Rattle.avro_binary.proofs.RunLaws.{IsRun}
 use Rattle.avro_binary.proofs.RunSteps.{moves-none, moves-passed, moves-join, report_moved}
 
@@ -68,17 +68,6 @@ as_error A e = Err e
 pub has_size : {A : Type 0} (x : A) (place : ℕ) (head : Head) (n : ℕ) → EndsBlock place head n (ended x) → HasSize head n
 has_size x place (counted count count_bytes) n ends = tt
 has_size x place (sized count size count_bytes size_bytes) n ends = ends
-
-pub behind-none : (f : ReadFault) → f ≡ behind 0 f
-behind-none (end_of_input place) = ap end_of_input (omega arith)
-behind-none (invalid_number place) = ap invalid_number (omega arith)
-behind-none (invalid_boolean place) = ap invalid_boolean (omega arith)
-behind-none (invalid_text place) = ap invalid_text (omega arith)
-behind-none (unknown_index place) = ap unknown_index (omega arith)
-behind-none (invalid_length place) = ap invalid_length (omega arith)
-behind-none (wrong_block_size place) = ap wrong_block_size (omega arith)
-behind-none (duplicate_key place) = ap duplicate_key (omega arith)
-behind-none limit_exceeded = refl
 
 -- a block before others
 pub block_first : (left : ℕ) (head : Head) (block later : List (List ℕ)) (rest : List ℕ) → IsHead left head → length block ≡ head_count head

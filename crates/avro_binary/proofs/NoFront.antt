@@ -20,7 +20,7 @@ use Rattle.avro_binary.specs.Encoding.{Spells, EachSpelled, Encodes}
 use Rattle.avro_binary.specs.Fault.{ReadFault, limit_exceeded}
 use Rattle.avro_binary.specs.Breaks.{ChildBreaks, BooleanBreaks, FixedBreaks, IndexBreaks, BranchBreaks, FieldsBreak, ItemsAreWhole, EntriesAreWhole, EntryBreaks, NodeBreaks, BreaksWithin, Breaks}
 use Rattle.avro_binary.proofs.Front.{told}
-use Rattle.avro_binary.proofs.FrontBlocks.{same_behind, same_from_pos}
+use Rattle.avro_binary.proofs.Fronts.{same_behind, same_from_pos}
 use Rattle.avro_binary.proofs.KindOf.{bytes_value, string_value, array_value, map_value, union_value, record_value, enum_value, fixed_value}
 use Rattle.avro_binary.proofs.public.Choices.{HasFewChoices, HasFewChoices-from_is_schema}
 use Rattle.avro_binary.proofs.NoFrontBlocks.{behind_limit, blocks_none}

@@ -14,13 +14,14 @@ use Rattle.avro_binary.specs.Fault.{ReadFault}
 use Rattle.avro_binary.specs.Breaks.{ChildBreaks, IndexBreaks, BranchBreaks, FieldsBreak, ItemsAreWhole, EntriesAreWhole, EntryBreaks, NodeBreaks, BreaksWithin, Breaks, all_left}
 use Rattle.avro_binary.proofs.public.Choices.{HasFewChoices, HasFewChoices-from_is_schema}
 use Rattle.avro_binary.proofs.Front.{told}
-use Rattle.avro_binary.proofs.FrontBlocks.{same_behind, same_from_pos}
+use Rattle.avro_binary.proofs.Fronts.{same_behind, same_from_pos}
 use Rattle.avro_binary.proofs.NoFront.{none_within, slice_get-middle}
 use Rattle.avro_binary.proofs.NoFrontItems.{AreSmall, AreSmall-first, AreSmall-others, NoneAt}
 use Rattle.avro_binary.proofs.NoFrontParts.{index_none}
 use Rattle.avro_binary.proofs.OneFaultBlocks.{blocks_one}
 use Rattle.avro_binary.proofs.OneFaultItems.{OneAt, values_one, entries_one}
-use Rattle.avro_binary.proofs.OneFaultParts.{same_moved, int_one, long_one, boolean_one, fixed_one, content_one, index_one}
+use Rattle.avro_binary.proofs.Behind.{same_moved}
+use Rattle.avro_binary.proofs.ElementLaws.{int_part, long_part, boolean_part, fixed_part, content_part, index_part}
 
 -- ---- Unions
 
@@ -30,7 +31,7 @@ branch_below before branch after places e = omega (arith, ap length e, length-ap
 union_one : (nodes : List Node) (left : LimitValues) (child : ChildBreaks) (places bytes : List ℕ) (f g : ReadFault) → ((p : ℕ) → OneAt (λ c. child c (node_at nodes p)))
     → length places ≤ 2 ^ 31 → IndexBreaks (length places) bytes f ⊎ BranchBreaks nodes left child places bytes f
     → IndexBreaks (length places) bytes g ⊎ BranchBreaks nodes left child places bytes g → f ≡ g
-union_one nodes left child places bytes f g one few (inl b) (inl c) = index_one (length places) bytes f g b c
+union_one nodes left child places bytes f g one few (inl b) (inl c) = (index_part (length places)).one_fault bytes f g b c
 union_one nodes left child places bytes f g one few (inl b) (inr c) =
     absurd (index_none (length places) bytes f (length c.before) c.number c.breaks.rest b (branch_below c.before c.branch c.after places c.places_are) few c.spelled c.breaks.split)
 union_one nodes left child places bytes f g one few (inr b) (inl c) =
@@ -135,21 +136,21 @@ node_one : (nodes : List Node) (left : LimitValues) (child : ChildBreaks) (n : N
     → ((p : ℕ) → NoneAt (Unit {0}) nodes (node_at nodes p) left.depth left.blob (λ c. child c (node_at nodes p))) → ((p : ℕ) → OneAt (λ c. child c (node_at nodes p)))
     → HasFewChoices n → NodeBreaks nodes left child n bytes f → NodeBreaks nodes left child n bytes g → f ≡ g
 node_one nodes left child Node.null bytes f g none one few b c = absurd b
-node_one nodes left child Node.boolean bytes f g none one few b c = boolean_one bytes f g b c
-node_one nodes left child Node.int bytes f g none one few b c = int_one bytes f g b c
-node_one nodes left child Node.long bytes f g none one few b c = long_one bytes f g b c
-node_one nodes left child Node.bytes bytes f g none one few b c = content_one (λ content. true) left.blob bytes f g b c
-node_one nodes left child Node.string bytes f g none one few b c = content_one is_utf8 left.blob bytes f g b c
+node_one nodes left child Node.boolean bytes f g none one few b c = boolean_part.one_fault bytes f g b c
+node_one nodes left child Node.int bytes f g none one few b c = int_part.one_fault bytes f g b c
+node_one nodes left child Node.long bytes f g none one few b c = long_part.one_fault bytes f g b c
+node_one nodes left child Node.bytes bytes f g none one few b c = (content_part (λ content. true) left.blob).one_fault bytes f g b c
+node_one nodes left child Node.string bytes f g none one few b c = (content_part is_utf8 left.blob).one_fault bytes f g b c
 node_one nodes left child (Node.array place) bytes f g none one few b c =
     let n = node_at nodes place in
-    blocks_one (ItemsAreWhole nodes left n) (λ state. child state.nodes n) (values_one nodes n left (λ q. child q n) (none place) (one place)) (all_left left) bytes f g b c
+    blocks_one (ItemsAreWhole nodes left n) (λ state. child state.nodes n) (values_one nodes n left (λ q. child q n) (none place) (one place)) b g c
 node_one nodes left child (Node.map_of place) bytes f g none one few b c =
     let n = node_at nodes place in
-    blocks_one (EntriesAreWhole nodes left n) (EntryBreaks left child n) (entries_one nodes n left child (none place) (one place)) (all_left left) bytes f g b c
+    blocks_one (EntriesAreWhole nodes left n) (EntryBreaks left child n) (entries_one nodes n left child (none place) (one place)) b g c
 node_one nodes left child (Node.union places) bytes f g none one few b c = union_one nodes left child places bytes f g one few b c
 node_one nodes left child (Node.record_of name aliases fields) bytes f g none one few b c = record_one nodes left child (field_places fields) bytes f g none one b c
-node_one nodes left child (Node.enum name aliases symbols default) bytes f g none one few b c = index_one (length symbols) bytes f g b c
-node_one nodes left child (Node.fixed name aliases count) bytes f g none one few b c = fixed_one count left.blob bytes f g b c
+node_one nodes left child (Node.enum name aliases symbols default) bytes f g none one few b c = (index_part (length symbols)).one_fault bytes f g b c
+node_one nodes left child (Node.fixed name aliases count) bytes f g none one few b c = (fixed_part count left.blob).one_fault bytes f g b c
 
 -- bytes that break as a node have one fault
 pub one_within : (nodes : List Node) (few : (p : ℕ) → HasFewChoices (node_at nodes p)) (blob depth : ℕ) (n : Node) → HasFewChoices n

@@ -16,7 +16,7 @@ use Rattle.avro_binary.specs.Elements.{IsKey}
 use Rattle.avro_binary.specs.CursorReads.{Moves, FindsValue, ReportsFault, left_at, ValuesRun, EntriesRun, value_breaks, entry_breaks, FindsRun, RunBreaks}
 use Rattle.avro_binary.specs.declared.error.ReadError.{ReadError}
 use Rattle.avro_binary.proofs.ElementLaws.{is_text-from_string}
-use Rattle.avro_binary.proofs.OneFaultParts.{behind-add}
+use Rattle.avro_binary.proofs.Behind.{behind-add}
 use Rattle.avro_binary.proofs.RunLaws.{IsRun, distinct-push}
 
 -- ---- Moves
