@@ -6,7 +6,7 @@ use Rattle.avro_binary.specs.Elements.{IsIndex}
 use Rattle.avro_binary.proofs.CountSteps.{inside_of, finds_inside, counted_found, counted_refused}
 use Rattle.avro_binary.proofs.LeafReads.{symbol_found, symbol_refused}
 use Rattle.avro_binary.proofs.NodeSteps.{enter_refused}
-use Rattle.avro_binary.proofs.reading.read_symbol.Goals as goal
+use Rattle.avro_binary.proofs.leaves.read_symbol.Goals as goal
 
 pub returns-in_err-count : goal.returns-in_err-count
 returns-in_err-count g c = λ nodes name aliases texts default same.

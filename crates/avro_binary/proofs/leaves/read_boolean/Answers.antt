@@ -6,7 +6,7 @@ use Rattle.avro_binary.specs.Elements.{IsBoolean}
 use Rattle.avro_binary.proofs.CountSteps.{inside_of, finds_inside, counted_found, counted_refused}
 use Rattle.avro_binary.proofs.LeafReads.{boolean_found, boolean_refused}
 use Rattle.avro_binary.proofs.NodeSteps.{enter_refused}
-use Rattle.avro_binary.proofs.reading.read_boolean.Goals as goal
+use Rattle.avro_binary.proofs.leaves.read_boolean.Goals as goal
 
 pub returns-in_err-count : goal.returns-in_err-count
 returns-in_err-count g c = λ nodes.

@@ -5,7 +5,7 @@ use Rattle.avro_binary.specs.CursorReads.{left_node}
 use Rattle.avro_binary.proofs.CountSteps.{inside_of, passes_inside, counted_found, counted_refused}
 use Rattle.avro_binary.proofs.LeafReads.{fixed_found, fixed_refused}
 use Rattle.avro_binary.proofs.NodeSteps.{enter_refused}
-use Rattle.avro_binary.proofs.reading.read_fixed.Goals as goal
+use Rattle.avro_binary.proofs.leaves.read_fixed.Goals as goal
 
 pub returns-in_err-count : goal.returns-in_err-count
 returns-in_err-count g c = λ nodes name aliases.

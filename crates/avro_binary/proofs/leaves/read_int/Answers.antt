@@ -8,7 +8,7 @@ use Rattle.avro_binary.specs.Elements.{IsInt}
 use Rattle.avro_binary.proofs.CountSteps.{inside_of, finds_inside, counted_found, counted_refused}
 use Rattle.avro_binary.proofs.LeafReads.{int_found, int_refused}
 use Rattle.avro_binary.proofs.NodeSteps.{enter_refused}
-use Rattle.avro_binary.proofs.reading.read_int.Goals as goal
+use Rattle.avro_binary.proofs.leaves.read_int.Goals as goal
 
 pub returns-in_err-count : goal.returns-in_err-count
 returns-in_err-count g c = λ nodes.
