@@ -131,7 +131,7 @@ entries_same nodes n (entry k v es) (entry l w fs) items told h s t =
     cc
 
 -- the values of the same fields
-fields_same : (nodes : List Node) (places : List ℕ) (vs ws : Values) (items others : List (List ℕ)) (x y : List ℕ) → FieldsTold nodes places vs
+pub fields_same : (nodes : List Node) (places : List ℕ) (vs ws : Values) (items others : List (List ℕ)) (x y : List ℕ) → FieldsTold nodes places vs
     → fields_fit nodes places vs ≡ true → fields_fit nodes places ws ≡ true → EachSpelled vs items → EachSpelled ws others → concat items ++ x ≡ concat others ++ y
     → (concat items ≡ concat others) × (vs ≡ ws)
 fields_same nodes [] no_values no_values items others x y told g h s t e = (ap concat (s ∙ sym t), refl)

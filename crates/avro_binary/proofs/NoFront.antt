@@ -69,7 +69,7 @@ union_none W nodes left child places bytes f k place v number first rest none fe
 
 -- ---- Records
 
-fields_none : (W : Type 0) (nodes : List Node) (d b : ℕ) (child : ChildBreaks) (before : List ℕ) (field : ℕ) (after : List ℕ) (vs ws : Values)
+pub fields_none : (W : Type 0) (nodes : List Node) (d b : ℕ) (child : ChildBreaks) (before : List ℕ) (field : ℕ) (after : List ℕ) (vs ws : Values)
     (items others : List (List ℕ)) (c : ℕ) (rest x : List ℕ) (f : ReadFault) → ((p : ℕ) → NoneAt W nodes (node_at nodes p) d b (λ q. child q (node_at nodes p)))
     → fields_fit nodes before vs ≡ true → EachSpelled vs items → fields_fit nodes (before ++ field ∷ after) ws ≡ true → EachSpelled ws others
     → (W → AreSmall d c b ws) → child (c - values_size vs) (node_at nodes field) rest f → (f ≡ limit_exceeded → W) → concat items ++ rest ≡ concat others ++ x → ⊥

@@ -38,7 +38,7 @@ BlocksView are_whole item_breaks Later left bytes f =
     ⊎ ((head : Head) × (rest : List ℕ) × IsHead left.nodes head × (bytes ≡ head_bytes head ++ rest) × BehindHead are_whole item_breaks Later left head bytes f)
 
 -- one of two numbers is the smaller, or they are the same
-compared : (m n : ℕ) → (m < n) ⊎ (n < m) ⊎ (m ≡ n)
+pub compared : (m n : ℕ) → (m < n) ⊎ (n < m) ⊎ (m ≡ n)
 compared m n = elim (cases_lt m n) [
   | inl below ↦ inl below
   | inr from ↦ elim (cases_lt n m) [ inl above ↦ inr (inl above) | inr to ↦ inr (inr (omega arith)) ]

@@ -12,6 +12,7 @@ use Rattle.avro_zigzag.specs.Number.{SpellsLong}
 use Rattle.avro_schema.proofs.public.RowsSchemas.{simply, one_value, two_values, array_of_long, array_of_null, map_of_int, long_or_int, long_and_string, three_symbols, record_of_itself}
 use Rattle.avro_binary.specs.Fault.{ReadFault, end_of_input, invalid_number, invalid_boolean, invalid_text, unknown_index, invalid_length, wrong_block_size, duplicate_key, limit_exceeded}
 use Rattle.avro_binary.specs.Breaks.{Left, ItemsAreWhole, EntriesAreWhole, Breaks, BreaksWithin, length_breaks, negative, too_long, cut, invalid, unknown, twice, string_breaks, key_breaks, value_breaks, counted, sized, count_fails, count_least, count_over, size_fails, size_negative, head_breaks, item_fails, size_differs, later_breaks}
+use Rattle.avro_binary.proofs.RunLaws.{values_run, entries_run}
 use Rattle.avro_binary.proofs.RowsNumbers.{spells, starts_with}
 
 -- limits of common use
@@ -23,36 +24,11 @@ abbrev RootBreaks : List Node → List ℕ → ReadFault → Type 0
 RootBreaks nodes bytes f = Breaks nodes ample (root_of nodes) bytes f
 
 -- nothing whole, and one item or entry that is
-no_item : {nodes : List Node} {limits : LimitValues} {n : Node} (left : Left) → ItemsAreWhole nodes limits n left 0 [] (record { nodes = left.nodes - 0; keys = left.keys })
-no_item left = record {
-  values = no_values;
-  items = [];
-  counted = refl;
-  fitting = refl;
-  spelled = refl;
-  bytes_are = refl;
-  deep = omega arith;
-  many = omega arith;
-  long = omega arith;
-  leaves = refl;
-}
+no_item : {nodes : List Node} {limits : LimitValues} {n : Node} (left : Left) → ItemsAreWhole nodes limits n left 0 [] left
+no_item {nodes = nodes} {limits = limits} {n = n} left = let run = values_run nodes limits n in run.whole left left [] [] (run.none left tt)
 
-no_entry : {nodes : List Node} {limits : LimitValues} {n : Node} (left : Left) → are_distinct bytes_eq (left.keys ++ []) ≡ true
-    → EntriesAreWhole nodes limits n left 0 [] (record { nodes = left.nodes - 0; keys = left.keys ++ [] })
-no_entry left apart = record {
-  entries = no_entries;
-  items = [];
-  counted = refl;
-  texts = refl;
-  distinct = apart;
-  fitting = refl;
-  spelled = refl;
-  bytes_are = refl;
-  deep = omega arith;
-  many = omega arith;
-  long = omega arith;
-  leaves = refl;
-}
+no_entry : {nodes : List Node} {limits : LimitValues} {n : Node} (left : Left) → are_distinct bytes_eq left.keys ≡ true → EntriesAreWhole nodes limits n left 0 [] left
+no_entry {nodes = nodes} {limits = limits} {n = n} left apart = let run = entries_run nodes limits n in run.whole left left [] [] (run.none left apart)
 
 abbrev inside : LimitValues
 inside = record { depth = 127; nodes = 1048575; blob = 16777216 }
