@@ -4,7 +4,7 @@ use Rattle.std.specs.Prelude.{neg_ℤ}
 use Rattle.std.specs.List.{concat}
 use Rattle.avro_zigzag.specs.Number.{SpellsLong}
 use Rattle.avro_binary.specs.Blocks.{IsInBlocks, counted as counted_block, sized as sized_block}
-use Rattle.avro_binary.specs.Fault.{ReadFault, end_of_input, invalid_number, invalid_boolean, invalid_text, unknown_index, invalid_length, wrong_block_size, duplicate_key, limit_exceeded, behind}
+use Rattle.avro_binary.specs.Fault.{ReadFault, wrong_block_size, behind}
 use Rattle.avro_binary.specs.Breaks.{HeadBreaks, BlocksBreak, head_breaks, item_fails, size_differs, later_breaks, Head, counted, sized, head_count, head_bytes, IsHead, HasSize, Left}
 use Rattle.avro_binary.specs.BlockHeads.{IsHeadOrEnd, IsBlock, IsBlockOrEnd, EndsBlock}
 use Rattle.avro_binary.specs.CursorValue.{CursorValue, Passes}
@@ -12,8 +12,8 @@ use Rattle.avro_binary.specs.CursorReads.{Moves, ReportsFault, left_at, FindsRun
 use Rattle.avro_binary.specs.Elements.{Refuses}
 use Rattle.avro_binary.specs.declared.block.Block.{Block}
 use Rattle.avro_binary.specs.declared.error.ReadError.{ReadError}
-use Rattle.avro_binary.proofs.OneFaultParts.{behind-append}
-use Rattle.avro_binary.proofs.RunLaws.{IsRun}
+use Rattle.avro_binary.proofs.Behind.{behind-none, behind-append}
+use Rattle.avro_binary.proofs.RunLaws.{Kind}
 use Rattle.avro_binary.proofs.RunSteps.{moves-none, moves-passed, moves-join, report_moved}
 
 -- ---- Heads
@@ -69,17 +69,6 @@ pub has_size : {A : Type 0} (x : A) (place : ℕ) (head : Head) (n : ℕ) → En
 has_size x place (counted count count_bytes) n ends = tt
 has_size x place (sized count size count_bytes size_bytes) n ends = ends
 
-pub behind-none : (f : ReadFault) → f ≡ behind 0 f
-behind-none (end_of_input place) = ap end_of_input (omega arith)
-behind-none (invalid_number place) = ap invalid_number (omega arith)
-behind-none (invalid_boolean place) = ap invalid_boolean (omega arith)
-behind-none (invalid_text place) = ap invalid_text (omega arith)
-behind-none (unknown_index place) = ap unknown_index (omega arith)
-behind-none (invalid_length place) = ap invalid_length (omega arith)
-behind-none (wrong_block_size place) = ap wrong_block_size (omega arith)
-behind-none (duplicate_key place) = ap duplicate_key (omega arith)
-behind-none limit_exceeded = refl
-
 -- a block before others
 pub block_first : (left : ℕ) (head : Head) (block later : List (List ℕ)) (rest : List ℕ) → IsHead left head → length block ≡ head_count head
     → HasSize head (length (concat block)) → IsInBlocks later rest → IsInBlocks (block ++ later) (head_bytes head ++ concat block ++ rest)
@@ -96,97 +85,64 @@ block_first left (sized count size count_bytes size_bytes) block later rest is s
 
 -- ---- The blocks so far
 
-pub record BlocksDone {E : Type 0} (run : Left → List E → List (List ℕ) → Left → Type 0) (are_whole : Left → ℕ → List ℕ → Left → Type 0) (item_breaks : Left → List ℕ → ReadFault → Type 0) (start now : CursorValue) (keys : List (List ℕ)) (xs : List E) : Type 0 where
+pub record BlocksDone {E : Type 0} (kind : Kind E) (start now : CursorValue) (keys : List (List ℕ)) (xs : List E) : Type 0 where
   pub items : List (List ℕ)
   pub front : List ℕ
-  pub stand : run (left_at start []) xs items (left_at now keys)
+  pub stand : kind.run (left_at start []) xs items (left_at now keys)
   pub moves : Moves start front now
   -- what ends the blocks behind them ends them all, and what breaks them does
   pub ends : (later : List (List ℕ)) (bytes : List ℕ) → IsInBlocks later bytes → IsInBlocks (items ++ later) (front ++ bytes)
-  pub breaks : (f : ReadFault) → BlocksBreak are_whole item_breaks (left_at now keys) now.bytes f
-      → BlocksBreak are_whole item_breaks (left_at start []) start.bytes (behind (length front) f)
+  pub breaks : (f : ReadFault) → BlocksBreak kind.are_whole kind.item_breaks (left_at now keys) now.bytes f
+      → BlocksBreak kind.are_whole kind.item_breaks (left_at start []) start.bytes (behind (length front) f)
 
-module _ {E : Type 0} (run : Left → List E → List (List ℕ) → Left → Type 0) (are_whole : Left → ℕ → List ℕ → Left → Type 0) (ready : Left → Type 0) (laws : IsRun run are_whole ready) (item_breaks : Left → List ℕ → ReadFault → Type 0) where
-  pub blocks_none : (at : CursorValue) → ready (left_at at []) → BlocksDone run are_whole item_breaks at at [] []
-  blocks_none at h = record {
-    items = [];
-    front = [];
-    stand = laws.none (left_at at []) h;
-    moves = moves-none at;
-    ends = λ later bytes b. b;
-    breaks = λ f b. subst (λ (g : ReadFault). BlocksBreak are_whole item_breaks (left_at at []) at.bytes g) (behind-none f) b;
-  }
+-- no blocks
+pub blocks_none : {E : Type 0} (kind : Kind E) (at : CursorValue) → kind.ready (left_at at []) → BlocksDone kind at at [] []
+blocks_none kind at h = record {
+  items = [];
+  front = [];
+  stand = kind.laws.none (left_at at []) h;
+  moves = moves-none at;
+  ends = λ later bytes b. b;
+  breaks = λ f b. subst (λ (g : ReadFault). BlocksBreak kind.are_whole kind.item_breaks (left_at at []) at.bytes g) (behind-none f) b;
+}
 
-  module _ (start now mid : CursorValue) (keys : List (List ℕ)) (xs : List E) (done : BlocksDone run are_whole item_breaks start now keys xs) (block : Block) (head : HeadRead now mid block) where
+module _ {E : Type 0} {kind : Kind E} {start now : CursorValue} {keys : List (List ℕ)} {xs : List E} (done : BlocksDone kind start now keys xs) where
+  -- how the blocks break, of which these are done
+  abbrev AllBreak : List ℕ → ReadFault → Type 0
+  AllBreak = BlocksBreak kind.are_whole kind.item_breaks (left_at start [])
+
+  abbrev RestBreaks : List ℕ → ReadFault → Type 0
+  RestBreaks = BlocksBreak kind.are_whole kind.item_breaks (left_at now keys)
+
+  -- a head breaks
+  pub head_refused : (e : ReadError) → Refuses (HeadBreaks now.nodes) now e → ReportsFault AllBreak start e
+  head_refused e refused =
+      report_moved start now done.front e (HeadBreaks now.nodes) AllBreak done.moves (λ f h. done.breaks f (head_breaks h)) (rw (refused.2) (refused.0, refused.1, refl))
+
+  module _ {mid : CursorValue} {block : Block} (head : HeadRead now mid block) where
+    -- the limits of the items are those of the node
+    pub depth_kept : start.depth ≡ mid.depth
+    depth_kept = sym (head.passes.depth ∙ done.moves.depth)
+
+    pub blob_kept : start.blob ≡ mid.blob
+    blob_kept = sym (head.passes.blob ∙ done.moves.blob)
+
     -- what a run behind the head is of
-    run_behind : (ys : List E) (items : List (List ℕ)) (left : Left) → run (left_at mid keys) ys items left → run (left_at now keys) ys items left
-    run_behind ys items left r = subst (λ (n : ℕ). run (record { nodes = n; keys = keys }) ys items left) head.passes.nodes r
+    run_behind : (ys : List E) (items : List (List ℕ)) (left : Left) → kind.run (left_at mid keys) ys items left → kind.run (left_at now keys) ys items left
+    run_behind ys items left r = subst (λ (n : ℕ). kind.run (record { nodes = n; keys = keys }) ys items left) head.passes.nodes r
 
-    whole_behind : (ys : List E) (items : List (List ℕ)) (left : Left) → run (left_at mid keys) ys items left → are_whole (left_at now keys) (length ys) (concat items) left
-    whole_behind ys items left r = laws.whole (left_at now keys) left ys items (run_behind ys items left r)
+    whole_behind : (ys : List E) (items : List (List ℕ)) (left : Left) → kind.run (left_at mid keys) ys items left → kind.are_whole (left_at now keys) (length ys) (concat items) left
+    whole_behind ys items left r = kind.laws.whole (left_at now keys) left ys items (run_behind ys items left r)
 
     split_behind : (front rest : List ℕ) → mid.bytes ≡ front ++ rest → now.bytes ≡ head_bytes head.head ++ front ++ rest
     split_behind front rest e = head.passes.split ∙ ap (λ (k : List ℕ). head_bytes head.head ++ k) e ∙ sym (append_assoc (head_bytes head.head) front rest)
 
-    module _ (after : CursorValue) (then_keys : List (List ℕ)) (ys : List E) (found : FindsRun run mid after keys then_keys ys) (counted_is : length ys ≡ block.count) where
-      count_is : length ys ≡ head_count head.head
-      count_is = counted_is ∙ head.counted
-
-      whole : are_whole (left_at now keys) (head_count head.head) (concat found.items) (left_at after then_keys)
-      whole =
-          subst (λ (n : ℕ). are_whole (left_at now keys) n (concat found.items) (left_at after then_keys)) count_is
-          (whole_behind ys found.items (left_at after then_keys) found.stand)
-
-      -- the place behind the items
-      pub place_is : after.place ≡ now.place + length (head_bytes head.head) + length (concat found.items)
-      place_is = let p = head.passes.place in let q = found.moves.place in omega arith
-
-      -- one more block
-      pub blocks_push : HasSize head.head (length (concat found.items)) → BlocksDone run are_whole item_breaks start after then_keys (xs ++ ys)
-      blocks_push has =
-          let part : List ℕ = head_bytes head.head ++ concat found.items in
-          let split = split_behind (concat found.items) after.bytes found.moves.split in
-          record {
-            items = done.items ++ found.items;
-            front = done.front ++ part;
-            stand = laws.joins (left_at start []) (left_at now keys) (left_at after then_keys) xs ys done.items found.items done.stand
-                (run_behind ys found.items (left_at after then_keys) found.stand);
-            moves = moves-join start now after done.front part done.moves
-                (moves-join now mid after (head_bytes head.head) (concat found.items) (moves-passed now mid (head_bytes head.head) head.passes) found.moves);
-            ends = λ later bytes b.
-                let counted_items : length found.items ≡ head_count head.head = laws.counted (left_at mid keys) (left_at after then_keys) ys found.items found.stand ∙ count_is in
-                let one = done.ends (found.items ++ later) (part ++ bytes) (block_first now.nodes head.head found.items later bytes head.is_head counted_items has b) in
-                subst (λ (q : List ℕ). IsInBlocks (done.items ++ found.items ++ later) q) (sym (append_assoc done.front part bytes))
-                (subst (λ (is : List (List ℕ)). IsInBlocks is (done.front ++ (part ++ bytes))) (sym (append_assoc done.items found.items later)) one);
-            breaks = λ f b.
-                let one = later_breaks head.head (concat found.items) after.bytes (left_at after then_keys) f head.is_head whole has split b refl in
-                subst (λ (g : ReadFault). BlocksBreak are_whole item_breaks (left_at start []) start.bytes g) (sym (behind-append done.front part f))
-                (done.breaks (behind (length part) f) one);
-          }
-
-      -- the size of the block is another
-      pub size_refused : (A : Type 0) (e : ReadError) → EndsBlock now.place head.head (length (concat found.items)) (as_error A e)
-          → ReportsFault (BlocksBreak are_whole item_breaks (left_at start [])) start e
-      size_refused A e ends = report_moved start now done.front e (BlocksBreak are_whole item_breaks (left_at now keys)) (BlocksBreak are_whole item_breaks (left_at start [])) done.moves
-          done.breaks (size-differs A e head.head head.is_head whole (split_behind (concat found.items) after.bytes found.moves.split) ends)
-        where
-          size-differs : (B : Type 0) (error : ReadError) (h : Head) → IsHead now.nodes h → are_whole (left_at now keys) (head_count h) (concat found.items) (left_at after then_keys)
-              → now.bytes ≡ head_bytes h ++ concat found.items ++ after.bytes → EndsBlock now.place h (length (concat found.items)) (as_error B error)
-              → ReportsFault (BlocksBreak are_whole item_breaks (left_at now keys)) now error
-          size-differs B error (counted count count_bytes) is w split ended_so = absurd cc
-          size-differs B error (sized count size count_bytes size_bytes) is w split ended_so =
-              rw (ended_so.1) (
-                wrong_block_size (length count_bytes),
-                size_differs count size count_bytes size_bytes (concat found.items) after.bytes (left_at after then_keys) is w split ended_so.0,
-                refl,
-              )
-
     -- an item of the block breaks
-    pub item_refused : (e : ReadError) → ReportsFault (RunBreaks run item_breaks (left_at mid keys) block.count) mid e
-        → ReportsFault (BlocksBreak are_whole item_breaks (left_at start [])) start e
-    item_refused e reported =
-        report_moved start now done.front e (BlocksBreak are_whole item_breaks (left_at now keys)) (BlocksBreak are_whole item_breaks (left_at start [])) done.moves done.breaks
-        (report_moved now mid (head_bytes head.head) e (RunBreaks run item_breaks (left_at mid keys) block.count) (BlocksBreak are_whole item_breaks (left_at now keys))
+    pub item_refused : (count : ℕ) (e : ReadError) → count ≡ block.count → ReportsFault (RunBreaks kind.run kind.item_breaks (left_at mid keys) count) mid e
+        → ReportsFault AllBreak start e
+    item_refused count e same_count reported =
+        report_moved start now done.front e RestBreaks AllBreak done.moves done.breaks
+        (report_moved now mid (head_bytes head.head) e (RunBreaks kind.run kind.item_breaks (left_at mid keys) count) RestBreaks
         (moves-passed now mid (head_bytes head.head) head.passes)
         (λ f r.
         item_fails head.head (length r.xs) (concat r.items) r.then_left head.is_head (let few = r.few in let same = head.counted in omega arith)
@@ -198,9 +154,61 @@ module _ {E : Type 0} (run : Left → List E → List (List ℕ) → Left → Ty
           moved = ap (behind (length (head_bytes head.head))) r.next.moved ∙ sym (behind-append (head_bytes head.head) (concat r.items) r.next.fault);
         })) reported)
 
-  -- a head breaks
-  pub head_refused : (start now : CursorValue) (keys : List (List ℕ)) (xs : List E) → BlocksDone run are_whole item_breaks start now keys xs → (e : ReadError)
-      → Refuses (HeadBreaks now.nodes) now e → ReportsFault (BlocksBreak are_whole item_breaks (left_at start [])) start e
-  head_refused start now keys xs done e refused =
-      report_moved start now done.front e (HeadBreaks now.nodes) (BlocksBreak are_whole item_breaks (left_at start [])) done.moves
-      (λ f h. done.breaks f (head_breaks h)) (rw (refused.2) (refused.0, refused.1, refl))
+    module _ {after : CursorValue} {then_keys : List (List ℕ)} {ys : List E} (found : FindsRun kind.run mid after keys then_keys ys) (counted_is : length ys ≡ block.count) where
+      whole : kind.are_whole (left_at now keys) (head_count head.head) (concat found.items) (left_at after then_keys)
+      whole =
+          subst (λ (n : ℕ). kind.are_whole (left_at now keys) n (concat found.items) (left_at after then_keys)) (counted_is ∙ head.counted)
+          (whole_behind ys found.items (left_at after then_keys) found.stand)
+
+      -- the place behind the items
+      pub place_is : after.place ≡ now.place + length (head_bytes head.head) + length (concat found.items)
+      place_is = let p = head.passes.place in let q = found.moves.place in omega arith
+
+      -- fewer nodes are left behind the block
+      pub block_smaller : after.nodes < now.nodes
+      block_smaller =
+          let few = kind.laws.few (left_at mid keys) (left_at after then_keys) ys found.items found.stand in
+          let same = head.passes.nodes in
+          let some = some-head now.nodes head.head head.is_head in
+          let k = head.counted in
+          omega arith
+
+      -- one more block
+      pub blocks_push : HasSize head.head (length (concat found.items)) → BlocksDone kind start after then_keys (xs ++ ys)
+      blocks_push has =
+          let part : List ℕ = head_bytes head.head ++ concat found.items in
+          let split = split_behind (concat found.items) after.bytes found.moves.split in
+          record {
+            items = done.items ++ found.items;
+            front = done.front ++ part;
+            stand = kind.laws.joins (left_at start []) (left_at now keys) (left_at after then_keys) xs ys done.items found.items done.stand
+                (run_behind ys found.items (left_at after then_keys) found.stand);
+            moves = moves-join start now after done.front part done.moves
+                (moves-join now mid after (head_bytes head.head) (concat found.items) (moves-passed now mid (head_bytes head.head) head.passes) found.moves);
+            ends = λ later bytes b.
+                let counted_items : length found.items ≡ head_count head.head = kind.laws.counted (left_at mid keys) (left_at after then_keys) ys found.items found.stand ∙ (counted_is ∙ head.counted) in
+                let one = done.ends (found.items ++ later) (part ++ bytes) (block_first now.nodes head.head found.items later bytes head.is_head counted_items has b) in
+                subst (λ (q : List ℕ). IsInBlocks (done.items ++ found.items ++ later) q) (sym (append_assoc done.front part bytes))
+                (subst (λ (is : List (List ℕ)). IsInBlocks is (done.front ++ (part ++ bytes))) (sym (append_assoc done.items found.items later)) one);
+            breaks = λ f b.
+                let one = later_breaks head.head (concat found.items) after.bytes (left_at after then_keys) f head.is_head whole has split b refl in
+                subst (λ (g : ReadFault). BlocksBreak kind.are_whole kind.item_breaks (left_at start []) start.bytes g) (sym (behind-append done.front part f))
+                (done.breaks (behind (length part) f) one);
+          }
+
+
+      -- the size of the block is another
+      pub size_refused : (A : Type 0) (e : ReadError) → EndsBlock now.place head.head (length (concat found.items)) (as_error A e) → ReportsFault AllBreak start e
+      size_refused A e ends = report_moved start now done.front e RestBreaks AllBreak done.moves
+          done.breaks (size-differs A e head.head head.is_head whole (split_behind (concat found.items) after.bytes found.moves.split) ends)
+        where
+          size-differs : (B : Type 0) (error : ReadError) (h : Head) → IsHead now.nodes h → kind.are_whole (left_at now keys) (head_count h) (concat found.items) (left_at after then_keys)
+              → now.bytes ≡ head_bytes h ++ concat found.items ++ after.bytes → EndsBlock now.place h (length (concat found.items)) (as_error B error)
+              → ReportsFault RestBreaks now error
+          size-differs B error (counted count count_bytes) is w split ended_so = absurd cc
+          size-differs B error (sized count size count_bytes size_bytes) is w split ended_so =
+              rw (ended_so.1) (
+                wrong_block_size (length count_bytes),
+                size_differs count size count_bytes size_bytes (concat found.items) after.bytes (left_at after then_keys) is w split ended_so.0,
+                refl,
+              )

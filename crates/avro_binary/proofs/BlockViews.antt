@@ -1,108 +1,74 @@
--- What the bytes of blocks begin with.
-use Rattle.std.proofs.Common.{◌≡◌, ◌≢◌, ℕ, zero, suc, ◌-◌, ◌^◌, ◌<◌, ◌≤◌, ℤ, pos, negsuc, true, List, [], ◌∷◌, ◌++◌, length, refl, sym, ap, ◌∙◌, append_assoc, length-append, arith}
-use Rattle.std.specs.Prelude.{neg_ℤ, nat_abs}
+-- What the bytes of blocks begin with: a head and the items of its block, or the end.
+use Rattle.std.proofs.Common.{◌≡◌, ℕ, ◌+◌, ◌≤◌, List, [], ◌++◌, length, Option, Some, None, refl, sym, ap, ◌∙◌, subst, append_assoc, append-nil, length-append, arith}
 use Rattle.std.specs.List.{concat}
-use Rattle.std.proofs.lemmas.Bool.Decides.{nat_tests}
-use Rattle.avro_zigzag.specs.Number.{SpellsLong, is_long}
-use Rattle.avro_zigzag.proofs.public.Spelling.{one_spelling_lem}
-use Rattle.avro_binary.specs.Blocks.{IsInBlocks}
+use Rattle.avro_binary.specs.Blocks.{IsInBlocks, no_more, counted, sized}
 use Rattle.avro_binary.specs.Breaks.{Head, head_count, head_bytes, IsHead, HasSize}
-use Rattle.avro_binary.proofs.FrontBlocks.{joined_three, joined_four, same_behind, same_from_pos, same_from_neg, neg-apart}
+use Rattle.avro_binary.specs.BlockHeads.{IsHeadOrEnd}
+use Rattle.avro_binary.proofs.Fronts.{same_behind}
+use Rattle.avro_binary.proofs.HeadLaws.{head_part}
 
--- a number below 2^63, and the same negated, is a long
-pub pos-long : (n : ℕ) → n < 2 ^ 63 → is_long (pos n) ≡ true
-pos-long n h = grind (arith, nat_tests)
+-- what stands behind a head, or behind the end
+abbrev BehindHead : Option Head → List (List ℕ) → List ℕ → Type 0
+BehindHead None items rest = (items ≡ []) × (rest ≡ [])
+BehindHead (Some head) items rest =
+    (block later : List (List ℕ)) × (more : List ℕ) × (items ≡ block ++ later) × (length block ≡ head_count head) × (rest ≡ concat block ++ more)
+    × IsInBlocks later more × HasSize head (length (concat block))
 
-pub neg-long : (n : ℕ) → n < 2 ^ 63 → is_long (neg_ℤ (pos n)) ≡ true
-neg-long zero h = refl
-neg-long (suc n) h = grind (arith, nat_tests)
-
-pub neg-not_least : (n : ℕ) → n < 2 ^ 63 → neg_ℤ (pos n) ≢ negsuc (2 ^ 63 - 1)
-neg-not_least zero h e = cc
-neg-not_least (suc n) h e = let same : n ≡ 2 ^ 63 - 1 = cc in omega arith
-
-pub neg-abs : (n : ℕ) → nat_abs (neg_ℤ (pos n)) ≡ n
-neg-abs zero = refl
-neg-abs (suc n) = refl
-
--- the number at the front of blocks
-pub record FirstNumber (items : List (List ℕ)) (front : List ℕ) : Type 0 where
-  pub v : ℤ
+-- the head at the front of blocks, or the end
+pub record FirstHead (items : List (List ℕ)) (front : List ℕ) : Type 0 where
+  pub head : Option Head
   pub number : List ℕ
   pub rest : List ℕ
-  pub spelled : SpellsLong v number
+  pub stands : IsHeadOrEnd (length items) head number
   pub split : front ≡ number ++ rest
-  pub in_range : is_long v ≡ true
-  pub not_least : v ≢ negsuc (2 ^ 63 - 1)
-  pub few : nat_abs v ≤ length items
+  pub behind : BehindHead head items rest
 
-pub first_number : (items : List (List ℕ)) (front : List ℕ) → IsInBlocks items front → FirstNumber items front
-first_number _ front (IsInBlocks.no_more s) = record {
-  v = pos 0;
-  number = front;
-  rest = [];
-  spelled = s;
-  split = sym (append-nil front);
-  in_range = refl;
-  not_least = λ e. cc;
-  few = omega arith;
-}
-  where
-    append-nil : (xs : List ℕ) → xs ++ [] ≡ xs
-    append-nil [] = refl
-    append-nil (x ∷ xs) = ap (λ (ys : List ℕ). x ∷ ys) (append-nil xs)
-first_number items front (IsInBlocks.counted block later count rest e some few s split blocks) = record {
-  v = pos (length block);
+pub first_head : (items : List (List ℕ)) (front : List ℕ) → IsInBlocks items front → FirstHead items front
+first_head _ front (no_more s) = record { head = None; number = front; rest = []; stands = s; split = sym (append-nil front); behind = (refl, refl) }
+first_head items front (counted block later count rest e some few s split blocks) = record {
+  head = Some (Head.counted (length block) count);
   number = count;
   rest = concat block ++ rest;
-  spelled = s;
+  stands = ((some, few, omega (arith, ap length e, length-append block later), s), refl);
   split = split ∙ append_assoc count (concat block) rest;
-  in_range = pos-long (length block) few;
-  not_least = λ e. cc;
-  few = omega (arith, ap length e, length-append block later);
+  behind = (block, later, rest, e, refl, refl, blocks, tt);
 }
-first_number items front (IsInBlocks.sized block later count size rest e some few short s t split blocks) = record {
-  v = neg_ℤ (pos (length block));
-  number = count;
-  rest = size ++ (concat block ++ rest);
-  spelled = s;
-  split = split ∙ append_assoc (count ++ size) (concat block) rest ∙ append_assoc count size (concat block ++ rest);
-  in_range = neg-long (length block) few;
-  not_least = neg-not_least (length block) few;
-  few = omega (arith, neg-abs (length block), ap length e, length-append block later);
+first_head items front (sized block later count size rest e some few short s t split blocks) = record {
+  head = Some (Head.sized (length block) (length (concat block)) count size);
+  number = count ++ size;
+  rest = concat block ++ rest;
+  stands = ((some, few, omega (arith, ap length e, length-append block later), short, s, t), refl);
+  split = split ∙ append_assoc (count ++ size) (concat block) rest;
+  behind = (block, later, rest, e, refl, refl, blocks, refl);
 }
 
--- the size behind a negative count
-pub record FirstSize (bytes : List ℕ) : Type 0 where
-  pub size : ℕ
-  pub number : List ℕ
-  pub rest : List ℕ
-  pub spelled : SpellsLong (pos size) number
-  pub split : bytes ≡ number ++ rest
-  pub short : size < 2 ^ 63
+-- so where more nodes are left
+pub head-among : (m n : ℕ) (head : Option Head) (bytes : List ℕ) → m ≤ n → IsHeadOrEnd m head bytes → IsHeadOrEnd n head bytes
+head-among m n None bytes l is = is
+head-among m n (Some (Head.counted count number)) bytes l is = let few = is.0.2 in ((is.0.0, is.0.1, omega arith, is.0.3), is.1)
+head-among m n (Some (Head.sized count size number more)) bytes l is = let few = is.0.2 in ((is.0.0, is.0.1, omega arith, is.0.3, is.0.4, is.0.5), is.1)
 
-pub first_size : (items : List (List ℕ)) (front count x y : List ℕ) (n : ℕ) → IsInBlocks items front → SpellsLong (negsuc n) count → front ++ y ≡ count ++ x → FirstSize x
-first_size _ front count x y n (IsInBlocks.no_more s) t e = let same = (one_spelling_lem (pos 0) (negsuc n) front count y x s t e).1 in absurd cc
-first_size items front count x y n (IsInBlocks.counted block later count' rest e' some few s split blocks) t e =
-    let joined : count' ++ (concat block ++ (rest ++ y)) ≡ count ++ x = sym (joined_three count' (concat block) rest y) ∙ ap (λ (f : List ℕ). f ++ y) (sym split) ∙ e in
-    let same = (one_spelling_lem (pos (length block)) (negsuc n) count' count (concat block ++ (rest ++ y)) x s t joined).1 in absurd cc
-first_size items front count x y n (IsInBlocks.sized block later count' size rest e' some few short s u split blocks) t e =
-    let joined : count' ++ (size ++ (concat block ++ (rest ++ y))) ≡ count ++ x = sym (joined_four count' size (concat block) rest y) ∙ ap (λ (f : List ℕ). f ++ y) (sym split) ∙ e in
-    let same = one_spelling_lem (neg_ℤ (pos (length block))) (negsuc n) count' count (size ++ (concat block ++ (rest ++ y))) x s t joined in
-    record {
-      size = length (concat block);
-      number = size;
-      rest = concat block ++ (rest ++ y);
-      spelled = u;
-      split = sym (same_behind count' count (size ++ (concat block ++ (rest ++ y))) x same.0 joined);
-      short = short;
-    }
+-- a head at the front of blocks is theirs
+pub head_at : (left : ℕ) (head : Option Head) (number : List ℕ) (items : List (List ℕ)) (front x y : List ℕ) → IsHeadOrEnd left head number → IsInBlocks items front
+    → front ++ y ≡ number ++ x → (rest : List ℕ) × (front ≡ number ++ rest) × (x ≡ rest ++ y) × BehindHead head items rest
+head_at left head number items front x y is blocks e =
+    let first = first_head items front blocks in
+    let all = left + length items in
+    let joined : number ++ x ≡ first.number ++ (first.rest ++ y) = sym e ∙ ap (λ (f : List ℕ). f ++ y) first.split ∙ append_assoc first.number first.rest y in
+    let same = (head_part all).one head first.head number first.number x (first.rest ++ y) (head-among left all head number (omega arith) is)
+    (head-among (length items) all first.head first.number (omega arith) first.stands) joined in (
+      first.rest,
+      first.split ∙ ap (λ (f : List ℕ). f ++ first.rest) (sym same.0),
+      same_behind number first.number x (first.rest ++ y) same.0 joined,
+      subst (λ (h : Option Head). BehindHead h items first.rest) (sym same.1) first.behind,
+    )
 
 -- the block behind a head
-pub record FirstBlock (head : Head) (items : List (List ℕ)) (x y : List ℕ) : Type 0 where
+pub record FirstBlock (head : Head) (items : List (List ℕ)) (front x y : List ℕ) : Type 0 where
   pub block : List (List ℕ)
   pub later : List (List ℕ)
   pub rest : List ℕ
+  pub front_is : front ≡ head_bytes head ++ (concat block ++ rest)
   pub items_are : items ≡ block ++ later
   pub counted : length block ≡ head_count head
   pub split : x ≡ concat block ++ (rest ++ y)
@@ -110,47 +76,18 @@ pub record FirstBlock (head : Head) (items : List (List ℕ)) (x y : List ℕ) :
   pub has_size : HasSize head (length (concat block))
 
 pub first_block : (left : ℕ) (head : Head) (items : List (List ℕ)) (front x y : List ℕ) → IsHead left head → IsInBlocks items front
-    → front ++ y ≡ head_bytes head ++ x → FirstBlock head items x y
-first_block left (Head.counted count bytes) _ front x y h (IsInBlocks.no_more s) e =
-    let same = same_from_pos 0 count (one_spelling_lem (pos 0) (pos count) front bytes y x s h.3 e).1 in absurd (omega (arith, h.0))
-first_block left (Head.counted count bytes) items front x y h (IsInBlocks.counted block later count' rest e' some few s split blocks) e =
-    let joined : count' ++ (concat block ++ (rest ++ y)) ≡ bytes ++ x = sym (joined_three count' (concat block) rest y) ∙ ap (λ (f : List ℕ). f ++ y) (sym split) ∙ e in
-    let same = one_spelling_lem (pos (length block)) (pos count) count' bytes (concat block ++ (rest ++ y)) x s h.3 joined in
+    → front ++ y ≡ head_bytes head ++ x → FirstBlock head items front x y
+first_block left head items front x y is blocks e =
+    let at = head_at left (Some head) (head_bytes head) items front x y (is, refl) blocks e in
+    let rest = at.3.2 in
     record {
-      block = block;
-      later = later;
+      block = at.3.0;
+      later = at.3.1;
       rest = rest;
-      items_are = e';
-      counted = same_from_pos (length block) count same.1;
-      split = sym (same_behind count' bytes (concat block ++ (rest ++ y)) x same.0 joined);
-      blocks = blocks;
-      has_size = tt;
-    }
-first_block left (Head.counted count bytes) items front x y h (IsInBlocks.sized block later count' size rest e' some few short s u split blocks) e =
-    let joined : count' ++ (size ++ (concat block ++ (rest ++ y))) ≡ bytes ++ x = sym (joined_four count' size (concat block) rest y) ∙ ap (λ (f : List ℕ). f ++ y) (sym split) ∙ e in
-    let same = one_spelling_lem (neg_ℤ (pos (length block))) (pos count) count' bytes (size ++ (concat block ++ (rest ++ y))) x s h.3 joined in
-    absurd (neg-apart (length block) count some same.1)
-first_block left (Head.sized count length' bytes size_bytes) _ front x y h (IsInBlocks.no_more s) e =
-    let same = one_spelling_lem (pos 0) (neg_ℤ (pos count)) front bytes y (size_bytes ++ x) s h.4 (e ∙ append_assoc bytes size_bytes x) in
-    absurd (neg-apart count 0 h.0 (sym same.1))
-first_block left (Head.sized count length' bytes size_bytes) items front x y h (IsInBlocks.counted block later count' rest e' some few s split blocks) e =
-    let joined : count' ++ (concat block ++ (rest ++ y)) ≡ bytes ++ (size_bytes ++ x) =
-    sym (joined_three count' (concat block) rest y) ∙ ap (λ (f : List ℕ). f ++ y) (sym split) ∙ e ∙ append_assoc bytes size_bytes x in
-    let same = one_spelling_lem (pos (length block)) (neg_ℤ (pos count)) count' bytes (concat block ++ (rest ++ y)) (size_bytes ++ x) s h.4 joined in
-    absurd (neg-apart count (length block) h.0 (sym same.1))
-first_block left (Head.sized count length' bytes size_bytes) items front x y h (IsInBlocks.sized block later count' size rest e' some few short s u split blocks) e =
-    let joined : count' ++ (size ++ (concat block ++ (rest ++ y))) ≡ bytes ++ (size_bytes ++ x) =
-    sym (joined_four count' size (concat block) rest y) ∙ ap (λ (f : List ℕ). f ++ y) (sym split) ∙ e ∙ append_assoc bytes size_bytes x in
-    let same = one_spelling_lem (neg_ℤ (pos (length block))) (neg_ℤ (pos count)) count' bytes (size ++ (concat block ++ (rest ++ y))) (size_bytes ++ x) s h.4 joined in
-    let behind_count = same_behind count' bytes (size ++ (concat block ++ (rest ++ y))) (size_bytes ++ x) same.0 joined in
-    let sizes = one_spelling_lem (pos (length (concat block))) (pos length') size size_bytes (concat block ++ (rest ++ y)) x u h.5 behind_count in
-    record {
-      block = block;
-      later = later;
-      rest = rest;
-      items_are = e';
-      counted = same_from_neg (length block) count same.1;
-      split = sym (same_behind size size_bytes (concat block ++ (rest ++ y)) x sizes.0 behind_count);
-      blocks = blocks;
-      has_size = sym (same_from_pos (length (concat block)) length' sizes.1);
+      front_is = at.1 ∙ ap (λ (f : List ℕ). head_bytes head ++ f) at.3.5;
+      items_are = at.3.3;
+      counted = at.3.4;
+      split = at.2 ∙ ap (λ (f : List ℕ). f ++ y) at.3.5 ∙ append_assoc (concat at.3.0) rest y;
+      blocks = at.3.6;
+      has_size = at.3.7;
     }

@@ -3,8 +3,11 @@ use Rattle.std.proofs.Common.{◌≡◌, ℕ, suc, ◌-◌, List, Ok, Err, ap, s
 use Rattle.avro_schema.specs.Value.{Value}
 use Rattle.avro_schema.specs.Node.{Node}
 use Rattle.avro_binary.specs.CursorValue.{CursorValue, Passes, Counts}
-use Rattle.avro_binary.specs.CursorReads.{ReadsNode, outside, left_node}
-use Rattle.avro_binary.specs.Elements.{Finds}
+use Rattle.avro_binary.specs.CursorReads.{ReadsNode, outside, left_node, limits_at, child_breaks}
+use Rattle.avro_binary.specs.Elements.{Refuses, Finds}
+use Rattle.avro_binary.specs.Fault.{ReadFault}
+use Rattle.avro_binary.specs.Breaks.{NodeBreaks}
+use Rattle.avro_binary.proofs.LeafReads.{leaf_refused}
 use Rattle.avro_binary.specs.declared.error.ReadError.{ReadError}
 
 -- a cursor in the node that it counts, of one that counted it
@@ -38,7 +41,10 @@ module _ {R : Type 0} {stands : R → Value → Type 0} (nodes : List Node) wher
       subst (λ (a : CursorValue). ReadsNode stands nodes n before a (Ok r)) (left-inside before counted after c same)
       (subst (λ (b : CursorValue). ReadsNode stands nodes n b (left_node (inside_of after)) (Ok r)) (outside-inside before counted c) reads)
 
-  pub counted_refused : (n : Node) (before counted elsewhere after : CursorValue) (error : ReadError) → Counts before counted
-      → ReadsNode stands nodes n (outside (inside_of counted)) elsewhere (Err error) → ReadsNode stands nodes n before after (Err error)
-  counted_refused n before counted elsewhere after error c reads =
-      subst (λ (b : CursorValue). ReadsNode stands nodes n b after (Err error)) (outside-inside before counted c) (record { found = tt; refused = reads.refused })
+  -- a fault of the element is one of the node that was counted
+  pub counted_refused : {before counted after : CursorValue} {error : ReadError} (n : Node) (B : List ℕ → ReadFault → Type 0) → Counts before counted
+      → ((f : ReadFault) → B counted.bytes f → NodeBreaks nodes (limits_at (inside_of counted)) (child_breaks nodes (limits_at (inside_of counted))) n counted.bytes f)
+      → Refuses B counted error → ReadsNode stands nodes n before after (Err error)
+  counted_refused {counted = counted} {after = after} {error = error} n B c step refused =
+      let reads = leaf_refused {R = R} {stands = stands} nodes n (inside_of counted) after B error step refused in
+      subst (λ (b : CursorValue). ReadsNode stands nodes n b after (Err error)) (outside-inside _ counted c) (record { found = tt; refused = reads.refused })

@@ -16,7 +16,8 @@ use Rattle.avro_binary.specs.Seen.{read_fault}
 use Rattle.avro_binary.specs.CursorValue.{CursorValue, Passes}
 use Rattle.avro_binary.specs.Elements.{IsBoolean, IsInt, IsLong, IsContent, IsIndex, ReadsElement, ContentStands}
 use Rattle.avro_binary.specs.declared.error.ReadError.{ReadError}
-use Rattle.avro_binary.proofs.ElementLaws.{element_found, element_refused, int_part, long_part, boolean_part, index_part}
+use Rattle.avro_binary.proofs.HeadLaws.{long-below}
+use Rattle.avro_binary.proofs.ElementLaws.{long_count, element_found, element_refused, int_part, long_part, boolean_part, index_part}
 
 pub int_found : (before after : CursorValue) (bytes : List ℕ) (value answer : ℤ) (len : ℕ) → bytes ≡ before.bytes → answer ≡ value
     → SpellsInt value (take len bytes) → is_int value ≡ true → Passes before (take len before.bytes) after
@@ -126,15 +127,12 @@ content_stands blob n len bytes content s small enough inside is =
       number = take len bytes;
       rest = drop n (drop len bytes);
       spelled = rw size s.spelled;
-      countable = let h = long-count n s.in_range in omega arith;
+      countable = let h = long-below n s.in_range in omega arith;
       within = omega arith;
       split = sym (take-append-drop len bytes) ∙ ap (λ (k : List ℕ). take len bytes ++ k) (sym (take-append-drop n (drop len bytes)) ∙ ap (λ (k : List ℕ). k ++ drop n (drop len bytes)) (sym is))
           ∙ sym (append_assoc (take len bytes) content (drop n (drop len bytes)));
       both = (λ i. sym (length-take-le len bytes inside) i + sym size i);
     }
-  where
-    long-count : (m : ℕ) → is_long (pos m) ≡ true → m < 2 ^ 63
-    long-count m h = omega (arith, is_long-zigzag (pos m) h)
 
 -- a content that stands at the front is an element
 pub content_is : (is_content : List ℕ → Bool) (blob : ℕ) (bytes content : List ℕ) (len : ℕ) → ContentStands blob bytes content len → is_content content ≡ true
@@ -159,9 +157,6 @@ content_invalid is_content blob bytes content len place offset s wrong at =
       invalid (length content) s.number (content ++ s.rest) starts s.within (omega (arith, length-append content s.rest)) (ap is_content (take-append_seam content s.rest) ∙ wrong),
       ap (λ (k : ℕ). Some (invalid_text k)) (at ∙ ap (λ (k : ℕ). place + k) number),
     )
-  where
-    long_count : (n : ℕ) → n < 2 ^ 63 → is_long (pos n) ≡ true
-    long_count n h = search (rules, tests)
 
 -- a test that does not hold
 pub not_utf8 : (content : List ℕ) → ¬ (IsUtf8 content) → is_utf8 content ≡ false

@@ -1,7 +1,6 @@
 -- The elements of encodings: at most one stands at the front of bytes, it has no fault there, and there is one fault at most.
 use Rattle.std.proofs.Common.{◌≡◌, ℕ, ◌^◌, ◌<◌, ◌≤◌, ℤ, pos, negsuc, Bool, true, false, cond, List, [], ◌∷◌, ◌++◌, length, take, Ok, Err, Option, Some, None, refl, sym, ap, ◌∙◌, subst, arith, rules, tests, nat_lt, if◌then◌else◌, inl, inr, length-append, append_assoc}
 use Rattle.std.proofs.lemmas.Bool.{and_parts}
-use Rattle.std.proofs.lemmas.List.{append_cancel_left}
 use Rattle.std.specs.Str.{is_utf8}
 use Rattle.std.proofs.Math.Seq.{take-append_seam}
 use Rattle.avro_zigzag.proofs.public.Spelling.{one_spelling_lem}
@@ -9,7 +8,7 @@ use Rattle.avro_zigzag.proofs.public.Faults.{long-excludes_fault, int-excludes_f
 use Rattle.avro_schema.specs.Fits.{is_long, is_count, is_text}
 use Rattle.avro_schema.proofs.public.FitsParts.{is_count-below}
 use Rattle.avro_binary.specs.Encoding.{SpellsBytes}
-use Rattle.avro_binary.proofs.Front.{same_front}
+use Rattle.avro_binary.proofs.Fronts.{same_front, same_behind}
 use Rattle.avro_binary.specs.Fault.{ReadFault, end_of_input, invalid_text, invalid_length, limit_exceeded, behind}
 use Rattle.avro_binary.specs.Breaks.{number_fault, IntBreaks, LongBreaks, BooleanBreaks, FixedBreaks, StartsWithLong, ContentBreaks, length_breaks, negative, too_long, cut, invalid, is_index, IndexBreaks, number_breaks, unknown}
 use Rattle.avro_binary.specs.Seen.{read_fault}
@@ -113,12 +112,16 @@ fixed_part count blob = record {
   one_fault = fixed-one_fault count blob;
 }
 
+-- a number below 2^63 is a long
+pub long_count : (n : ℕ) → n < 2 ^ 63 → is_long (pos n) ≡ true
+long_count n h = search (rules, tests)
+
 -- the long at the front is one
 pub head_same : (v w : ℤ) (bytes n m r s : List ℕ) → StartsWithLong v bytes n r → StartsWithLong w bytes m s → (n ≡ m) × (v ≡ w) × (r ≡ s)
 head_same v w bytes n m r s a b =
     let joined : n ++ r ≡ m ++ s = sym a.split ∙ b.split in
     let same = one_spelling_lem v w n m r s a.spelled b.spelled joined in
-    (same.0, same.1, append_cancel_left m r s (ap (λ (k : List ℕ). k ++ r) (sym same.0) ∙ joined))
+    (same.0, same.1, same_behind n m r s same.0 joined)
 
 pub no_long_fault : (v : ℤ) (bytes number rest : List ℕ) (f : ReadFault) → StartsWithLong v bytes number rest → LongBreaks bytes f → ⊥
 no_long_fault v bytes number rest f s b = long-excludes_fault v bytes number rest b.0 s.in_range s.spelled s.split b.1
@@ -189,9 +192,6 @@ module _ (is_content : List ℕ → Bool) (blob : ℕ) where
     in_range = long_count (length content) p.countable;
     split = ap (λ (k : List ℕ). k ++ rest) p.spelled.2 ∙ append_assoc p.spelled.0 content rest;
   }
-    where
-      long_count : (n : ℕ) → n < 2 ^ 63 → is_long (pos n) ≡ true
-      long_count n h = search (rules, tests)
 
   content-excludes : (content front rest : List ℕ) (f : ReadFault) → IsContent is_content blob content front → ContentBreaks is_content blob (front ++ rest) f → ⊥
   content-excludes content front rest f p b =

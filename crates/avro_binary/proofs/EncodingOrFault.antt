@@ -8,85 +8,41 @@ use Rattle.avro_schema.specs.Fits.{LimitValues, is_within}
 use Rattle.avro_schema.specs.Distinct.{are_distinct}
 use Rattle.avro_binary.specs.Encoding.{Encodes}
 use Rattle.avro_binary.specs.Fault.{ReadFault, wrong_block_size, limit_exceeded, behind}
-use Rattle.avro_binary.specs.Breaks.{Breaks, BreaksWithin, KeyBreaks, HeadBreaks, ItemsAreWhole, EntriesAreWhole, Head, counted, sized, head_count, HasSize}
+use Rattle.avro_binary.specs.Breaks.{BlocksBreak, Breaks, BreaksWithin, KeyBreaks, HeadBreaks, ItemsAreWhole, EntriesAreWhole, Head, counted, sized, head_count, HasSize}
 use Rattle.avro_binary.specs.BlockHeads.{IsHeadOrEnd, IsBlock, EndsBlock}
 use Rattle.avro_binary.specs.CursorValue.{CursorValue, Passes}
-use Rattle.avro_binary.specs.CursorReads.{ReportsFault, ReadsNode, outside, left_node, left_at, limits_at, ValuesRun, EntriesRun, value_breaks, entry_breaks, FindsRun, RunBreaks}
+use Rattle.avro_binary.specs.CursorReads.{Moves, ReportsFault, ReadsNode, outside, left_node, left_at, limits_at, ValuesRun, EntriesRun, value_breaks, entry_breaks, FindsRun, RunBreaks}
 use Rattle.avro_binary.specs.declared.block.Block.{Block}
 use Rattle.avro_binary.specs.declared.error.ReadError.{ReadError}
 use Rattle.avro_binary.proofs.PartOrFault.{AreBytes, rest_are, below_or, key_or_fault, head_or_fault}
-use Rattle.avro_binary.proofs.RunLaws.{values_run, entries_run}
+use Rattle.avro_binary.proofs.RunLaws.{Kind, values_kind, entries_kind}
 use Rattle.avro_binary.proofs.RunSteps.{moves-passed, moves-join, run_none, run_push, run_breaks, value_run, value_report, entry_run, key_report, entry_report}
-use Rattle.avro_binary.proofs.BlockSteps.{HeadRead, EndRead, as_error}
-use Rattle.avro_binary.proofs.NodeSteps.{enter_refused, ArrayDone, MapDone, array_none, map_none, array_found, map_found, array_head_refused, map_head_refused, depth_kept, blob_kept, map_depth_kept, map_blob_kept, map_distinct, array_item_refused, map_item_refused, array_smaller, map_smaller, array_size_refused, map_size_refused, array_push, map_push}
+use Rattle.avro_binary.proofs.BlockSteps.{BlocksDone, HeadRead, EndRead, as_error, blocks_none, head_refused, item_refused, size_refused, blob_kept, block_smaller, blocks_push}
+use Rattle.avro_binary.proofs.NodeSteps.{enter_refused, array_found, map_found}
 use Rattle.avro_binary.proofs.ExactReads.{front_of, within-from}
 use Rattle.avro_binary.proofs.NodeOrFault.{AnyValue, Children, IsOfFault, IsReady, Reads, boolean_reads, bytes_reads, error-reports, error_at, error_of, fixed_reads, found_by, int_reads, long_reads, moved_to, null_reads, of-fault, passes_to, ready_passed, record_reads, refused_by, refuses, reported, reports, string_reads, symbol_reads, union_reads, value_moves}
 
 -- ---- Items and entries of a block
 
-module _ (nodes : List Node) (place : ℕ) (limits : LimitValues) (start : CursorValue) (child : Children nodes start.depth) (d : limits.depth ≡ start.depth) (b : limits.blob ≡ start.blob) (count : ℕ) where
-  abbrev one_of : Node
-  one_of = node_at nodes place
+module _ {E : Type 0} (kind : Kind E) (d blob : ℕ) where
+  -- one more is read, where so much depth is left, or its fault is reported
+  abbrev OneRead : CursorValue → List (List ℕ) → Type 0
+  OneRead now keys =
+      ((after : CursorValue) × (then_keys : List (List ℕ)) × (x : E) × (item : List ℕ) × kind.run (left_at now keys) (x ∷ []) (item ∷ []) (left_at after then_keys) × Moves now item after × IsReady d after)
+      ⊎ ((e : ReadError) × IsOfFault e × ReportsFault (kind.item_breaks (left_at now keys)) now e)
 
-  abbrev ItemsRead : Type 0
-  ItemsRead = (after : CursorValue) × (xs : List Value) × (length xs ≡ count) × FindsRun (ValuesRun nodes limits one_of) start after [] [] xs × IsReady start.depth after
+  abbrev ReadsOne : Type 0
+  ReadsOne = (now : CursorValue) (keys : List (List ℕ)) → IsReady d now → now.blob ≡ blob → kind.ready (left_at now keys) → OneRead now keys
 
-  abbrev ItemsRefused : Type 0
-  ItemsRefused = (e : ReadError) × IsOfFault e × ReportsFault (RunBreaks (ValuesRun nodes limits one_of) (value_breaks nodes limits one_of) (left_at start []) count) start e
-
-  items_read : (more : ℕ) (now : CursorValue) (xs : List Value) → length xs + more ≡ count → FindsRun (ValuesRun nodes limits one_of) start now [] [] xs → IsReady start.depth now
-      → ItemsRead ⊎ ItemsRefused
-  items_read zero now xs sum run ready = inl (now, xs, omega arith, run, ready)
-  items_read (suc more) now xs sum run ready = elim (child place now ready) [
-    | inl g ↦ items_read more g.0 (xs ++ g.1 ∷ []) (omega (arith, length-append xs (g.1 ∷ [])))
-        (run_push (ValuesRun nodes limits one_of) (ItemsAreWhole nodes limits one_of) (λ left. Unit {0}) (values_run nodes limits one_of) start now g.0 [] [] [] xs g.1 g.2.front run
-        (value_run nodes limits one_of now g.0 [] g.1 g.2 (d ∙ sym run.moves.depth) (b ∙ sym run.moves.blob)) g.2.moves) (value_moves nodes one_of now start.depth ready g)
-    | inr f ↦ inr (
-      f.0,
-      f.1,
-      run_breaks (ValuesRun nodes limits one_of) (ItemsAreWhole nodes limits one_of) (λ left. Unit {0}) (values_run nodes limits one_of) (value_breaks nodes limits one_of) start now [] [] xs count
-          f.0 run (omega arith) (value_report nodes limits one_of now [] f.0 (d ∙ sym run.moves.depth) (b ∙ sym run.moves.blob) f.2),
-    )
-  ]
-
-  module _ (before : List (List ℕ)) where
-    abbrev EntriesRead : Type 0
-    EntriesRead = (after : CursorValue) × (keys : List (List ℕ)) × (xs : List (List ℕ × Value)) × (length xs ≡ count) × FindsRun (EntriesRun nodes limits one_of) start after before keys xs × IsReady start.depth after
-
-    abbrev EntriesRefused : Type 0
-    EntriesRefused = (e : ReadError) × IsOfFault e × ReportsFault (RunBreaks (EntriesRun nodes limits one_of) (entry_breaks nodes limits one_of) (left_at start before) count) start e
-
-    entry_refused : (now : CursorValue) (keys : List (List ℕ)) (xs : List (List ℕ × Value)) → length xs < count → FindsRun (EntriesRun nodes limits one_of) start now before keys xs
-        → (e : ReadError) → IsOfFault e → ReportsFault (entry_breaks nodes limits one_of (left_at now keys)) now e → EntriesRead ⊎ EntriesRefused
-    entry_refused now keys xs few run e is r =
-        inr (
-          e,
-          is,
-          run_breaks (EntriesRun nodes limits one_of) (EntriesAreWhole nodes limits one_of) (λ left. are_distinct bytes_eq left.keys ≡ true) (entries_run nodes limits one_of) (entry_breaks nodes limits one_of)
-              start now before keys xs count e run few r,
-        )
-
-    entries_read : (more : ℕ) (now : CursorValue) (keys : List (List ℕ)) (xs : List (List ℕ × Value)) → length xs + more ≡ count → FindsRun (EntriesRun nodes limits one_of) start now before keys xs
-        → IsReady start.depth now → EntriesRead ⊎ EntriesRefused
-    entries_read zero now keys xs sum run ready = inl (now, keys, xs, omega arith, run, ready)
-    entries_read (suc more) now keys xs sum run ready =
-        let deep = d ∙ sym run.moves.depth in
-        let long = b ∙ sym run.moves.blob in
-        elim (key_or_fault keys now.blob now.bytes ready.are) [
-          | inr f ↦ entry_refused now keys xs (omega arith) run (error_at now f.0) (of-fault now f.0) (key_report nodes limits one_of now keys (error_at now f.0) long (reports (KeyBreaks keys now.blob) now f.0 f.1))
-          | inl k ↦
-              let mid = moved_to now k.1 k.2 in
-              let passes = passes_to now k.1 k.2 k.4 in
-              elim (child place mid (ready_passed start.depth now k.1 k.2 ready k.4)) [
-                | inr f ↦ entry_refused now keys xs (omega arith) run f.0 f.1 (entry_report nodes limits one_of now mid keys k.0 k.1 f.0 k.3 passes deep long f.2)
-                | inl g ↦ entries_read more g.0 (keys ++ k.0 ∷ []) (xs ++ (k.0, g.1) ∷ []) (omega (arith, length-append xs ((k.0, g.1) ∷ [])))
-                    (run_push (EntriesRun nodes limits one_of) (EntriesAreWhole nodes limits one_of) (λ left. are_distinct bytes_eq left.keys ≡ true) (entries_run nodes limits one_of) start now g.0 before keys (keys ++ k.0 ∷ []) xs (k.0, g.1)
-                    (k.1 ++ g.2.front) run
-                    (entry_run nodes limits one_of now mid g.0 keys k.0 k.1 g.1 g.2 ((entries_run nodes limits one_of).prepared _ _ xs run.items run.stand) k.3 passes deep long)
-                    (moves-join now mid g.0 k.1 g.2.front (moves-passed now mid k.1 passes) g.2.moves))
-                    (value_moves nodes one_of mid start.depth (ready_passed start.depth now k.1 k.2 ready k.4) g)
-              ]
-        ]
+  module _ (one : ReadsOne) (start : CursorValue) (long : start.blob ≡ blob) (before : List (List ℕ)) (count : ℕ) where
+    run_read : (more : ℕ) (now : CursorValue) (keys : List (List ℕ)) (xs : List E) → length xs + more ≡ count → FindsRun kind.run start now before keys xs → IsReady d now
+        → ((after : CursorValue) × (keys_after : List (List ℕ)) × (ys : List E) × (length ys ≡ count) × FindsRun kind.run start after before keys_after ys × IsReady d after)
+        ⊎ ((e : ReadError) × IsOfFault e × ReportsFault (RunBreaks kind.run kind.item_breaks (left_at start before) count) start e)
+    run_read zero now keys xs sum run ready = inl (now, keys, xs, omega arith, run, ready)
+    run_read (suc more) now keys xs sum run ready = elim (one now keys ready (run.moves.blob ∙ long) (kind.laws.prepared _ _ xs run.items run.stand)) [
+      | inl g ↦ run_read more g.0 g.1 (xs ++ g.2 ∷ []) (omega (arith, length-append xs (g.2 ∷ []))) (run_push kind run g.0 g.1 g.2 g.3 g.4 g.5) g.6
+      | inr f ↦ inr (f.0, f.1, run_breaks kind run count f.0 (omega arith) f.2)
+    ]
 
 -- ---- Blocks
 
@@ -134,78 +90,79 @@ head_of now head front rest is split = record {
 end_of : (now : CursorValue) (front rest : List ℕ) → IsHeadOrEnd now.nodes None front → now.bytes ≡ front ++ rest → EndRead now (moved_to now front rest)
 end_of now front rest is split = record { front = front; spelled = is; passes = passes_to now front rest split }
 
-module _ (nodes : List Node) (place : ℕ) (c : CursorValue) (ready : IsReady c.depth c) (child : Children nodes c.depth) where
-  array_refused_by : (now : CursorValue) (e : ReadError) → IsOfFault e → ReadsNode AnyValue nodes (Node.array place) (outside c) (left_node now) (Err e) → Reads nodes (Node.array place) (outside c)
-  array_refused_by now e is reads = refused_by nodes (Node.array place) (outside c) (left_node now) e is reads
+module _ {E : Type 0} (kind : Kind E) (d blob : ℕ) (one : ReadsOne kind d blob) (c : CursorValue) (long : c.blob ≡ blob) where
+  abbrev BlocksRead : Type 0
+  BlocksRead =
+      ((now after : CursorValue) × (keys : List (List ℕ)) × (xs : List E) × BlocksDone kind c now keys xs × EndRead now after)
+      ⊎ ((e : ReadError) × IsOfFault e × ReportsFault (BlocksBreak kind.are_whole kind.item_breaks (left_at c [])) c e)
 
-  item_blocks : (fuel : ℕ) (now : CursorValue) (xs : List Value) → ArrayDone nodes place c now [] xs → now.nodes < fuel → IsReady c.depth now → Reads nodes (Node.array place) (outside c)
-  item_blocks zero now xs done h now_ready = absurd (omega arith)
-  item_blocks (suc fuel) now xs done h now_ready = elim (head_or_fault now.nodes now.bytes now_ready.are) [
-    | inr f ↦ array_refused_by now (error_at now f.0) (of-fault now f.0)
-        (array_head_refused nodes place c now xs done now (error_at now f.0) (refuses (HeadBreaks now.nodes) now f.0 f.1))
-    | inl g ↦ elim (g.0) as (λ o. IsHeadOrEnd now.nodes o g.1 → Reads nodes (Node.array place) (outside c)) [
-      | None ↦ λ is. found_by nodes (Node.array place) (outside c) (left_node (moved_to now g.1 g.2))
-          (array_found nodes place c now (moved_to now g.1 g.2) [] xs tt done (end_of now g.1 g.2 is g.4) ready.many tt)
+  blocks_read : (fuel : ℕ) (now : CursorValue) (keys : List (List ℕ)) (xs : List E) → BlocksDone kind c now keys xs → now.nodes < fuel → IsReady d now → BlocksRead
+  blocks_read zero now keys xs done h ready = absurd (omega arith)
+  blocks_read (suc fuel) now keys xs done h ready = elim (head_or_fault now.nodes now.bytes ready.are) [
+    | inr f ↦ inr (error_at now f.0, of-fault now f.0, head_refused done (error_at now f.0) (refuses (HeadBreaks now.nodes) now f.0 f.1))
+    | inl g ↦ elim (g.0) as (λ o. IsHeadOrEnd now.nodes o g.1 → BlocksRead) [
+      | None ↦ λ is. inl (now, moved_to now g.1 g.2, keys, xs, done, end_of now g.1 g.2 is g.4)
       | Some head ↦ λ is.
           let mid = moved_to now g.1 g.2 in
-          let block = block_of now.place head in
           let read = head_of now head g.1 g.2 is g.4 in
-          let n = node_at nodes place in
-          let d = depth_kept nodes place c now xs done mid block read in
-          let b = blob_kept nodes place c now xs done mid block read in
-          let mid_ready : IsReady mid.depth mid = record { deep = refl; are = rest_are g.1 g.2 now.bytes now_ready.are g.4; many = now_ready.many; long = now_ready.long } in
-          let none = run_none (ValuesRun nodes (limits_at c) n) (ItemsAreWhole nodes (limits_at c) n) (λ left. Unit {0}) (values_run nodes (limits_at c) n) mid [] tt in
-          elim (items_read nodes place (limits_at c) mid (subst (λ (k : ℕ). Children nodes k) d child) d b block.count block.count mid [] (omega arith) none mid_ready) [
-            | inr f ↦ array_refused_by mid f.0 f.1 (array_item_refused nodes place c now xs done mid block read mid block.count f.0 refl f.2)
-            | inl r ↦ elim (size_or now.place read.head (length (concat r.3.items))) [
-              | inr w ↦ array_refused_by r.0 w.0 w.1 (array_size_refused nodes place c now xs done mid block read r.0 [] r.1 r.3 r.2 (Unit {0}) w.0 w.2)
-              | inl has ↦ item_blocks fuel r.0 (xs ++ r.1) (array_push nodes place c now xs done mid block read r.0 [] r.1 r.3 r.2 has)
-                  (let less = array_smaller nodes place c now xs done mid block read r.0 [] r.1 r.3 r.2 in omega arith)
-                  (record { deep = r.4.deep ∙ sym d; are = r.4.are; many = r.4.many; long = r.4.long })
+          let count = (block_of now.place head).count in
+          let none = run_none kind mid keys (kind.laws.prepared _ _ xs done.items done.stand) in
+          elim (run_read kind d blob one mid (sym (blob_kept done read) ∙ long) keys count count mid keys [] (omega arith) none (ready_passed d now g.1 g.2 ready g.4)) [
+            | inr f ↦ inr (f.0, f.1, item_refused done read count f.0 refl f.2)
+            | inl r ↦ elim (size_or now.place read.head (length (concat r.4.items))) [
+              | inr w ↦ inr (w.0, w.1, size_refused done read r.4 r.3 (Unit {0}) w.0 w.2)
+              | inl has ↦ blocks_read fuel r.0 r.1 (xs ++ r.2) (blocks_push done read r.4 r.3 has) (let less = block_smaller done read r.4 r.3 in omega arith) r.5
             ]
           ]
     ] g.3
+  ]
+
+module _ (nodes : List Node) (place : ℕ) (c : CursorValue) (ready : IsReady c.depth c) (child : Children nodes c.depth) where
+  abbrev one_of : Node
+  one_of = node_at nodes place
+
+  value_read : ReadsOne (values_kind nodes (limits_at c) one_of) c.depth c.blob
+  value_read now keys now_ready long prepared = elim (child place now now_ready) [
+    | inl g ↦ inl (g.0, keys, g.1, g.2.front, value_run nodes (limits_at c) one_of now g.0 keys g.1 g.2 (sym now_ready.deep) (sym long), g.2.moves, value_moves nodes one_of now c.depth now_ready g)
+    | inr f ↦ inr (f.0, f.1, value_report nodes (limits_at c) one_of now keys f.0 (sym now_ready.deep) (sym long) f.2)
+  ]
+
+  entry_read : ReadsOne (entries_kind nodes (limits_at c) one_of) c.depth c.blob
+  entry_read now keys now_ready long distinct = elim (key_or_fault keys now.blob now.bytes now_ready.are) [
+    | inr f ↦ inr (error_at now f.0, of-fault now f.0, key_report nodes (limits_at c) one_of now keys (error_at now f.0) (sym long) (reports (KeyBreaks keys now.blob) now f.0 f.1))
+    | inl k ↦
+        let mid = moved_to now k.1 k.2 in
+        let passes = passes_to now k.1 k.2 k.4 in
+        let mid_ready = ready_passed c.depth now k.1 k.2 now_ready k.4 in
+        elim (child place mid mid_ready) [
+          | inr f ↦ inr (f.0, f.1, entry_report nodes (limits_at c) one_of now mid keys k.0 k.1 f.0 k.3 passes (sym now_ready.deep) (sym long) f.2)
+          | inl g ↦ inl (
+            g.0,
+            keys ++ k.0 ∷ [],
+            (k.0, g.1),
+            k.1 ++ g.2.front,
+            entry_run nodes (limits_at c) one_of now mid g.0 keys k.0 k.1 g.1 g.2 distinct k.3 passes (sym now_ready.deep) (sym long),
+            moves-join now mid g.0 k.1 g.2.front (moves-passed now mid k.1 passes) g.2.moves,
+            value_moves nodes one_of mid c.depth mid_ready g,
+          )
+        ]
   ]
 
   array_reads : Reads nodes (Node.array place) (outside c)
-  array_reads = item_blocks (suc c.nodes) c [] (array_none nodes place c) (omega arith) ready
-
-  map_refused_by : (now : CursorValue) (e : ReadError) → IsOfFault e → ReadsNode AnyValue nodes (Node.map_of place) (outside c) (left_node now) (Err e) → Reads nodes (Node.map_of place) (outside c)
-  map_refused_by now e is reads = refused_by nodes (Node.map_of place) (outside c) (left_node now) e is reads
-
-  entry_blocks : (fuel : ℕ) (now : CursorValue) (keys : List (List ℕ)) (xs : List (List ℕ × Value)) → MapDone nodes place c now keys xs → now.nodes < fuel → IsReady c.depth now
-      → Reads nodes (Node.map_of place) (outside c)
-  entry_blocks zero now keys xs done h now_ready = absurd (omega arith)
-  entry_blocks (suc fuel) now keys xs done h now_ready = elim (head_or_fault now.nodes now.bytes now_ready.are) [
-    | inr f ↦ map_refused_by now (error_at now f.0) (of-fault now f.0)
-        (map_head_refused nodes place c now keys xs done now (error_at now f.0) (refuses (HeadBreaks now.nodes) now f.0 f.1))
-    | inl g ↦ elim (g.0) as (λ o. IsHeadOrEnd now.nodes o g.1 → Reads nodes (Node.map_of place) (outside c)) [
-      | None ↦ λ is. found_by nodes (Node.map_of place) (outside c) (left_node (moved_to now g.1 g.2))
-          (map_found nodes place c now (moved_to now g.1 g.2) keys xs tt done (end_of now g.1 g.2 is g.4) ready.many tt)
-      | Some head ↦ λ is.
-          let mid = moved_to now g.1 g.2 in
-          let block = block_of now.place head in
-          let read = head_of now head g.1 g.2 is g.4 in
-          let n = node_at nodes place in
-          let d = map_depth_kept nodes place c now keys xs done mid block read in
-          let b = map_blob_kept nodes place c now keys xs done mid block read in
-          let distinct = map_distinct nodes place c now keys xs done in
-          let mid_ready : IsReady mid.depth mid = record { deep = refl; are = rest_are g.1 g.2 now.bytes now_ready.are g.4; many = now_ready.many; long = now_ready.long } in
-          let none = run_none (EntriesRun nodes (limits_at c) n) (EntriesAreWhole nodes (limits_at c) n) (λ left. are_distinct bytes_eq left.keys ≡ true) (entries_run nodes (limits_at c) n) mid keys distinct in
-          elim (entries_read nodes place (limits_at c) mid (subst (λ (k : ℕ). Children nodes k) d child) d b block.count keys block.count mid keys [] (omega arith) none mid_ready) [
-            | inr f ↦ map_refused_by mid f.0 f.1 (map_item_refused nodes place c now keys xs done mid block read mid block.count f.0 refl f.2)
-            | inl r ↦ elim (size_or now.place read.head (length (concat r.4.items))) [
-              | inr w ↦ map_refused_by r.0 w.0 w.1 (map_size_refused nodes place c now keys xs done mid block read r.0 r.1 r.2 r.4 r.3 (Unit {0}) w.0 w.2)
-              | inl has ↦ entry_blocks fuel r.0 r.1 (xs ++ r.2) (map_push nodes place c now keys xs done mid block read r.0 r.1 r.2 r.4 r.3 has)
-                  (let less = map_smaller nodes place c now keys xs done mid block read r.0 r.1 r.2 r.4 r.3 in omega arith)
-                  (record { deep = r.5.deep ∙ sym d; are = r.5.are; many = r.5.many; long = r.5.long })
-            ]
-          ]
-    ] g.3
-  ]
+  array_reads =
+      let kind = values_kind nodes (limits_at c) one_of in
+      elim (blocks_read kind c.depth c.blob value_read c refl (suc c.nodes) c [] [] (blocks_none kind c tt) (omega arith) ready) [
+        | inl g ↦ found_by nodes (Node.array place) (outside c) (left_node g.1) (array_found nodes place g.4 g.5 tt ready.many tt)
+        | inr f ↦ inr (f.0, f.1, f.2)
+      ]
 
   map_reads : Reads nodes (Node.map_of place) (outside c)
-  map_reads = entry_blocks (suc c.nodes) c [] [] (map_none nodes place c) (omega arith) ready
+  map_reads =
+      let kind = entries_kind nodes (limits_at c) one_of in
+      elim (blocks_read kind c.depth c.blob entry_read c refl (suc c.nodes) c [] [] (blocks_none kind c refl) (omega arith) ready) [
+        | inl g ↦ found_by nodes (Node.map_of place) (outside c) (left_node g.1) (map_found nodes place g.4 g.5 tt ready.many tt)
+        | inr f ↦ inr (f.0, f.1, f.2)
+      ]
 
 -- ---- All nodes
 

@@ -11,15 +11,9 @@ use Rattle.avro_schema.specs.Fits.{fits, each_fits, entries_fit, fields_fit}
 use Rattle.avro_schema.proofs.public.FitsParts.{ArrayFits-from_fits, MapFits-from_fits, UnionFits-from_fits, RecordFits-from_fits}
 use Rattle.avro_schema.proofs.public.FitsKind.{FitsKind-from_fits, null_value, boolean_value, int_value, long_value}
 use Rattle.avro_binary.specs.Encoding.{SpellsBytes, Spells, EachSpelled, EntriesSpelled, Encodes}
-use Rattle.avro_binary.proofs.FrontBlocks.{Each, IsAlone, same_behind, same_from_pos, same_blocks}
+use Rattle.avro_binary.proofs.FrontBlocks.{Each, IsAlone, same_blocks}
+use Rattle.avro_binary.proofs.Fronts.{same_front, same_behind, same_from_pos}
 use Rattle.avro_binary.proofs.KindOf.{kind_at, bytes_value, string_value, array_value, map_value, union_value, record_value, enum_value, fixed_value, enum-from_symbols_of, fixed-from_fixed_length}
-
--- fronts of one length
-pub same_front : (a b x y : List ℕ) → length a ≡ length b → a ++ x ≡ b ++ y → (a ≡ b) × (x ≡ y)
-same_front [] [] x y l e = (refl, e)
-same_front [] (d ∷ b) x y l e = absurd (omega arith)
-same_front (c ∷ a) [] x y l e = absurd (omega arith)
-same_front (c ∷ a) (d ∷ b) x y l e = let tail : a ++ x ≡ b ++ y = cc in let rest = same_front a b x y (omega arith) tail in (cc, rest.1)
 
 -- a length and its bytes
 pub same_bytes : (v w a b x y : List ℕ) → SpellsBytes v a → SpellsBytes w b → a ++ x ≡ b ++ y → (a ≡ b) × (v ≡ w)
@@ -137,7 +131,7 @@ entries_same nodes n (entry k v es) (entry l w fs) items told h s t =
     cc
 
 -- the values of the same fields
-fields_same : (nodes : List Node) (places : List ℕ) (vs ws : Values) (items others : List (List ℕ)) (x y : List ℕ) → FieldsTold nodes places vs
+pub fields_same : (nodes : List Node) (places : List ℕ) (vs ws : Values) (items others : List (List ℕ)) (x y : List ℕ) → FieldsTold nodes places vs
     → fields_fit nodes places vs ≡ true → fields_fit nodes places ws ≡ true → EachSpelled vs items → EachSpelled ws others → concat items ++ x ≡ concat others ++ y
     → (concat items ≡ concat others) × (vs ≡ ws)
 fields_same nodes [] no_values no_values items others x y told g h s t e = (ap concat (s ∙ sym t), refl)

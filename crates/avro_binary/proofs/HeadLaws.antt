@@ -13,7 +13,7 @@ use Rattle.avro_binary.specs.CursorValue.{CursorValue, Passes}
 use Rattle.avro_binary.specs.BlockHeads.{IsHeadOrEnd, IsBlockOrEnd, ReadsHead}
 use Rattle.avro_binary.specs.declared.block.Block.{Block}
 use Rattle.avro_binary.specs.declared.error.ReadError.{ReadError}
-use Rattle.avro_binary.proofs.ElementLaws.{IsPart, long_part, head_same, no_long_fault}
+use Rattle.avro_binary.proofs.ElementLaws.{IsPart, long_count, long_part, head_same, no_long_fault}
 
 -- the fault of a size
 pub data SizeBreaks (bytes : List ℕ) : ReadFault → Type 0 where
@@ -109,9 +109,6 @@ abbrev head_size_bytes : Option Head → List ℕ
 head_size_bytes None = []
 head_size_bytes (Some (counted count count_bytes)) = []
 head_size_bytes (Some (sized count size count_bytes size_bytes)) = size_bytes
-
-long_count : (n : ℕ) → n < 2 ^ 63 → is_long (pos n) ≡ true
-long_count n h = search (rules, tests)
 
 long_negated : (n : ℕ) → n < 2 ^ 63 → is_long (neg_ℤ (pos n)) ≡ true
 long_negated zero h = refl

@@ -104,32 +104,6 @@ module _ {R : Type 0} {stands : R → Value → Type 0} (nodes : List Node) wher
           spelled = is.0;
         }) refl refl (omega arith) passes s
 
-  module _ (before after : CursorValue) (e : ReadError) where
-    pub boolean_refused : Refuses BooleanBreaks before e → ReadsNode stands nodes Node.boolean (outside before) (left_node after) (Err e)
-    boolean_refused refused = leaf_refused Node.boolean before after BooleanBreaks e (λ f b. b) refused
-
-    pub int_refused : Refuses IntBreaks before e → ReadsNode stands nodes Node.int (outside before) (left_node after) (Err e)
-    int_refused refused = leaf_refused Node.int before after IntBreaks e (λ f b. b) refused
-
-    pub long_refused : Refuses LongBreaks before e → ReadsNode stands nodes Node.long (outside before) (left_node after) (Err e)
-    long_refused refused = leaf_refused Node.long before after LongBreaks e (λ f b. b) refused
-
-    pub bytes_refused : Refuses (BytesBreaks before.blob) before e → ReadsNode stands nodes Node.bytes (outside before) (left_node after) (Err e)
-    bytes_refused refused = leaf_refused Node.bytes before after (BytesBreaks before.blob) e (λ f b. b) refused
-
-    pub string_refused : Refuses (StringBreaks before.blob) before e → ReadsNode stands nodes Node.string (outside before) (left_node after) (Err e)
-    string_refused refused = leaf_refused Node.string before after (StringBreaks before.blob) e (λ f b. b) refused
-
-    pub symbol_refused : (name : Name) (aliases : List Name) (symbols : List (List ℕ)) (default : Option ℕ) (choices : ℕ) → choices ≡ length symbols
-        → Refuses (IndexBreaks choices) before e → ReadsNode stands nodes (Node.enum name aliases symbols default) (outside before) (left_node after) (Err e)
-    symbol_refused name aliases symbols default choices same refused =
-        leaf_refused (Node.enum name aliases symbols default) before after (IndexBreaks choices) e
-        (λ f b. subst (λ (n : ℕ). IndexBreaks n before.bytes f) same b) refused
-
-    pub fixed_refused : (name : Name) (aliases : List Name) (count : ℕ) → Refuses (FixedBreaks count before.blob) before e
-        → ReadsNode stands nodes (Node.fixed name aliases count) (outside before) (left_node after) (Err e)
-    fixed_refused name aliases count refused = leaf_refused (Node.fixed name aliases count) before after (FixedBreaks count before.blob) e (λ f b. b) refused
-
   -- null takes no bytes
   pub null_found : (at : CursorValue) (r : R) → stands r Value.null → ReadsNode stands nodes Node.null (outside at) (left_node at) (Ok r)
   null_found at r s = leaf_found Node.null at at Value.null [] r (record { fitting = refl; spelled = refl }) refl refl (omega arith)

@@ -20,7 +20,7 @@ use Rattle.avro_binary.specs.Encoding.{Spells, EachSpelled, Encodes}
 use Rattle.avro_binary.specs.Fault.{ReadFault, limit_exceeded}
 use Rattle.avro_binary.specs.Breaks.{ChildBreaks, BooleanBreaks, FixedBreaks, IndexBreaks, BranchBreaks, FieldsBreak, ItemsAreWhole, EntriesAreWhole, EntryBreaks, NodeBreaks, BreaksWithin, Breaks}
 use Rattle.avro_binary.proofs.Front.{told}
-use Rattle.avro_binary.proofs.FrontBlocks.{same_behind, same_from_pos}
+use Rattle.avro_binary.proofs.Fronts.{same_behind, same_from_pos}
 use Rattle.avro_binary.proofs.KindOf.{bytes_value, string_value, array_value, map_value, union_value, record_value, enum_value, fixed_value}
 use Rattle.avro_binary.proofs.public.Choices.{HasFewChoices, HasFewChoices-from_is_schema}
 use Rattle.avro_binary.proofs.NoFrontBlocks.{behind_limit, blocks_none}
@@ -69,7 +69,7 @@ union_none W nodes left child places bytes f k place v number first rest none fe
 
 -- ---- Records
 
-fields_none : (W : Type 0) (nodes : List Node) (d b : ℕ) (child : ChildBreaks) (before : List ℕ) (field : ℕ) (after : List ℕ) (vs ws : Values)
+pub fields_none : (W : Type 0) (nodes : List Node) (d b : ℕ) (child : ChildBreaks) (before : List ℕ) (field : ℕ) (after : List ℕ) (vs ws : Values)
     (items others : List (List ℕ)) (c : ℕ) (rest x : List ℕ) (f : ReadFault) → ((p : ℕ) → NoneAt W nodes (node_at nodes p) d b (λ q. child q (node_at nodes p)))
     → fields_fit nodes before vs ≡ true → EachSpelled vs items → fields_fit nodes (before ++ field ∷ after) ws ≡ true → EachSpelled ws others
     → (W → AreSmall d c b ws) → child (c - values_size vs) (node_at nodes field) rest f → (f ≡ limit_exceeded → W) → concat items ++ rest ≡ concat others ++ x → ⊥

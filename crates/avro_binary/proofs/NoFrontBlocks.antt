@@ -1,17 +1,11 @@
 -- Blocks that break begin with no blocks of any items.
-use Rattle.std.proofs.Common.{◌≡◌, ℕ, ◌-◌, ◌^◌, ◌<◌, ◌≤◌, ℤ, pos, negsuc, List, [], ◌∷◌, ◌++◌, length, refl, sym, ap, ◌∙◌, subst, append_assoc, append-nil, length-append, arith}
-use Rattle.std.specs.Prelude.{nat_abs}
+use Rattle.std.proofs.Common.{◌≡◌, ℕ, ◌+◌, ◌<◌, ◌≤◌, List, [], ◌∷◌, ◌++◌, length, refl, sym, ap, ◌∙◌, subst, append_assoc, append-nil, length-append, arith}
 use Rattle.std.specs.List.{concat}
-use Rattle.avro_zigzag.proofs.public.Faults.{long-excludes_fault}
-use Rattle.avro_zigzag.proofs.public.Spelling.{one_spelling_lem}
 use Rattle.avro_binary.specs.Blocks.{IsInBlocks}
-use Rattle.avro_binary.specs.Fault.{ReadFault, limit_exceeded, behind}
-use Rattle.avro_binary.specs.Breaks.{Left, LongBreaks, StartsWithLong, Head, head_bytes, HeadBreaks, BlocksBreak}
-use Rattle.avro_binary.proofs.BlockViews.{first_number, first_size, first_block, pos-long}
-
--- no long in range begins bytes that break as a long
-pub long_none : (v : ℤ) (bytes front rest : List ℕ) (f : ReadFault) → StartsWithLong v bytes front rest → LongBreaks bytes f → ⊥
-long_none v bytes front rest f s b = long-excludes_fault v bytes front rest b.0 s.in_range s.spelled s.split b.1
+use Rattle.avro_binary.specs.Fault.{ReadFault, invalid_length, limit_exceeded, behind}
+use Rattle.avro_binary.specs.Breaks.{Left, Head, head_bytes, HeadBreaks, BlocksBreak}
+use Rattle.avro_binary.proofs.BlockViews.{first_head, head-among, first_block}
+use Rattle.avro_binary.proofs.HeadLaws.{head_part}
 
 -- a limit behind bytes is a limit
 pub behind_limit : (f fault : ReadFault) (n : ℕ) (W : Type 0) → f ≡ behind n fault → (f ≡ limit_exceeded → W) → fault ≡ limit_exceeded → W
@@ -63,29 +57,27 @@ module _ (W : Type 0) (are_whole : Left → ℕ → List ℕ → Left → Type 0
         subst (λ (a : List (List ℕ)). Follows left (a ++ later)) empty cut.follows,
       )
 
+  -- no head that breaks begins blocks, where as many nodes are left as they have items
+  head_apart : (nodes : ℕ) (bytes : List ℕ) (f : ReadFault) → HeadBreaks nodes bytes f → (items : List (List ℕ)) (front y : List ℕ) → IsInBlocks items front
+      → bytes ≡ front ++ y → length items ≤ nodes → ⊥
+  head_apart nodes bytes f b items front y blocks e few =
+      let first = first_head items front blocks in
+      let split : bytes ≡ first.number ++ (first.rest ++ y) = e ∙ ap (λ (g : List ℕ). g ++ y) first.split ∙ append_assoc first.number first.rest y in
+      (head_part nodes).excludes first.head first.number (first.rest ++ y) f (head-among (length items) nodes first.head first.number few first.stands)
+      (subst (λ (k : List ℕ). HeadBreaks nodes k f) split b)
+
   head_none : (left : Left) (bytes : List ℕ) (f : ReadFault) → HeadBreaks left.nodes bytes f → (f ≡ limit_exceeded → W)
       → (items : List (List ℕ)) (front y : List ℕ) → Follows left items → IsInBlocks items front → bytes ≡ front ++ y → ⊥
-  head_none left bytes f (HeadBreaks.count_fails b) limit items front y follows blocks e =
-      let first = first_number items front blocks in
-      let split : bytes ≡ first.number ++ (first.rest ++ y) = e ∙ ap (λ (g : List ℕ). g ++ y) first.split ∙ append_assoc first.number first.rest y in
-      long-excludes_fault first.v bytes first.number (first.rest ++ y) b.0 first.in_range first.spelled split b.1
-  head_none left bytes _ (HeadBreaks.count_least number rest s) limit items front y follows blocks e =
-      let first = first_number items front blocks in
-      let split : number ++ rest ≡ first.number ++ (first.rest ++ y) = sym s.split ∙ e ∙ ap (λ (g : List ℕ). g ++ y) first.split ∙ append_assoc first.number first.rest y in
-      first.not_least (sym (one_spelling_lem (negsuc (2 ^ 63 - 1)) first.v number first.number rest (first.rest ++ y) s.spelled first.spelled split).1)
   head_none left bytes _ (HeadBreaks.count_over v number rest s not_least many) limit items front y follows blocks e =
-      let first = first_number items front blocks in
-      let split : number ++ rest ≡ first.number ++ (first.rest ++ y) = sym s.split ∙ e ∙ ap (λ (g : List ℕ). g ++ y) first.split ∙ append_assoc first.number first.rest y in
-      let same = (one_spelling_lem v first.v number first.number rest (first.rest ++ y) s.spelled first.spelled split).1 in
-      omega (arith, many, ap nat_abs same, first.few, kind.few left items follows (limit refl))
+      head_apart left.nodes bytes limit_exceeded (HeadBreaks.count_over v number rest s not_least many) items front y blocks e (kind.few left items follows (limit refl))
+  head_none left bytes f (HeadBreaks.count_fails b) limit items front y follows blocks e =
+      head_apart (length items) bytes f (HeadBreaks.count_fails b) items front y blocks e (omega arith)
+  head_none left bytes _ (HeadBreaks.count_least number rest s) limit items front y follows blocks e =
+      head_apart (length items) bytes (invalid_length 0) (HeadBreaks.count_least number rest s) items front y blocks e (omega arith)
   head_none left bytes f (HeadBreaks.size_fails n number s few less after) limit items front y follows blocks e =
-      let first = first_size items front number after.rest y n blocks s (sym e ∙ after.split) in
-      let starts : StartsWithLong (pos first.size) after.rest first.number first.rest = record { spelled = first.spelled; in_range = pos-long first.size first.short; split = first.split } in
-      long_none (pos first.size) after.rest first.number first.rest after.fault starts after.breaks
+      head_apart (left.nodes + length items) bytes f (HeadBreaks.size_fails n number s few (omega arith) after) items front y blocks e (omega arith)
   head_none left bytes _ (HeadBreaks.size_negative n m number size behind_count rest s few less split t) limit items front y follows blocks e =
-      let first = first_size items front number behind_count y n blocks s (sym e ∙ split) in
-      let same = (one_spelling_lem (pos first.size) (negsuc m) first.number size first.rest rest first.spelled t.spelled (sym first.split ∙ t.split)).1 in
-      cc
+      head_apart (left.nodes + length items) bytes (invalid_length (length number)) (HeadBreaks.size_negative n m number size behind_count rest s few (omega arith) split t) items front y blocks e (omega arith)
 
   pub blocks_none : {left : Left} {bytes : List ℕ} {f : ReadFault} → BlocksBreak are_whole item_breaks left bytes f → (f ≡ limit_exceeded → W)
       → (items : List (List ℕ)) (front y : List ℕ) → Follows left items → IsInBlocks items front → bytes ≡ front ++ y → ⊥

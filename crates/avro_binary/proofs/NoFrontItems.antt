@@ -13,7 +13,7 @@ use Rattle.avro_schema.proofs.public.Parts.{size-positive}
 use Rattle.avro_binary.specs.Encoding.{SpellsBytes, Spells, EachSpelled, EntriesSpelled}
 use Rattle.avro_binary.specs.Fault.{ReadFault, limit_exceeded}
 use Rattle.avro_binary.specs.Breaks.{Left, ItemsAreWhole, EntriesAreWhole, KeyBreaks, EntryBreaks, ChildBreaks}
-use Rattle.avro_binary.proofs.FrontBlocks.{same_behind}
+use Rattle.avro_binary.proofs.Fronts.{same_behind}
 use Rattle.avro_binary.proofs.Front.{told, same_bytes, same_entry}
 use Rattle.avro_binary.proofs.NoFrontBlocks.{IsCut, ItemsFollow, behind_limit}
 use Rattle.avro_binary.proofs.NoFrontParts.{content_none, not_before}

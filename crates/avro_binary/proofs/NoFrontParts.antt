@@ -14,8 +14,8 @@ use Rattle.avro_schema.specs.Distinct.{are_distinct}
 use Rattle.avro_binary.specs.Encoding.{SpellsBytes}
 use Rattle.avro_binary.specs.Fault.{ReadFault, limit_exceeded}
 use Rattle.avro_binary.specs.Breaks.{ContentBreaks, StartsWithLong, IndexBreaks, is_index}
-use Rattle.avro_binary.proofs.FrontBlocks.{same_behind, same_from_pos}
-use Rattle.avro_binary.proofs.BlockViews.{pos-long}
+use Rattle.avro_binary.proofs.Fronts.{same_behind, same_from_pos}
+use Rattle.avro_binary.proofs.ElementLaws.{long_count, index_part}
 
 -- ---- A length and its content
 
@@ -33,7 +33,7 @@ pub content_none : (W : Type 0) (is_content : List ℕ → Bool) (blob : ℕ) (b
     → length content < 2 ^ 63 → is_content content ≡ true → bytes ≡ front ++ rest → ⊥
 content_none W is_content blob bytes f content front rest (ContentBreaks.length_breaks b) limit small s few good e =
     let split : bytes ≡ s.0 ++ (content ++ rest) = e ∙ ap (λ (g : List ℕ). g ++ rest) s.2 ∙ append_assoc s.0 content rest in
-    long-excludes_fault (pos (length content)) bytes s.0 (content ++ rest) b.0 (pos-long (length content) few) s.1 split b.1
+    long-excludes_fault (pos (length content)) bytes s.0 (content ++ rest) b.0 (long_count (length content) few) s.1 split b.1
 content_none W is_content blob bytes _ content front rest (ContentBreaks.negative n number x t) limit small s few good e =
     let same = (content_at (negsuc n) bytes number x content front rest t s e).0 in cc
 content_none W is_content blob bytes _ content front rest (ContentBreaks.too_long n number x t over) limit small s few good e =
@@ -56,16 +56,10 @@ pos-int k choices below few = grind (arith, nat_tests)
 pub below-from_test : (k n : ℕ) → nat_lt k n ≡ true → k < n
 below-from_test k n h = grind (arith, nat_tests)
 
-pub is_index-below : (k choices : ℕ) → k < choices → nat_lt k choices ≡ true
-is_index-below k choices h = grind (arith, nat_tests)
-
 pub index_none : (choices : ℕ) (bytes : List ℕ) (f : ReadFault) (k : ℕ) (front rest : List ℕ) → IndexBreaks choices bytes f → k < choices → choices ≤ 2 ^ 31
     → SpellsInt (pos k) front → bytes ≡ front ++ rest → ⊥
-index_none choices bytes f k front rest (IndexBreaks.number_breaks b) below few s e =
-    int-excludes_fault (pos k) bytes front rest b.0 (pos-int k choices below few) s e b.1
-index_none choices bytes _ k front rest (IndexBreaks.unknown v number x t in_range split bad) below few s e =
-    let same = (one_spelling_lem v (pos k) number front x rest t s (sym split ∙ e)).1 in
-    false≢true (sym bad ∙ ap (is_index choices) same ∙ is_index-below k choices below)
+index_none choices bytes f k front rest b below few s e =
+    (index_part choices).excludes k front rest f (below, (pos-int k choices below few, s)) (subst (λ (q : List ℕ). IndexBreaks choices q f) e b)
 
 -- ---- Keys
 

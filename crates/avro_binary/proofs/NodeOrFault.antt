@@ -7,14 +7,14 @@ use Rattle.avro_name.specs.Name.{Name}
 use Rattle.avro_schema.specs.Value.{Value}
 use Rattle.avro_schema.specs.Node.{Node, FieldNode, node_at, field_places}
 use Rattle.avro_binary.specs.Fault.{ReadFault, end_of_input, invalid_number, invalid_boolean, invalid_text, unknown_index, invalid_length, wrong_block_size, duplicate_key, limit_exceeded, behind}
-use Rattle.avro_binary.specs.Breaks.{BreaksWithin, BooleanBreaks, IntBreaks, LongBreaks, BytesBreaks, StringBreaks, IndexBreaks, FixedBreaks}
+use Rattle.avro_binary.specs.Breaks.{BreaksWithin, NodeBreaks, BooleanBreaks, IntBreaks, LongBreaks, BytesBreaks, StringBreaks, IndexBreaks, FixedBreaks}
 use Rattle.avro_binary.specs.Seen.{read_fault}
 use Rattle.avro_binary.specs.CursorValue.{CursorValue, Passes}
-use Rattle.avro_binary.specs.CursorReads.{Moves, FindsValue, ReportsFault, ReadsNode, outside, left_node}
+use Rattle.avro_binary.specs.CursorReads.{Moves, FindsValue, ReportsFault, ReadsNode, outside, left_node, limits_at, child_breaks}
 use Rattle.avro_binary.specs.Elements.{Refuses, Finds, IsBoolean, IsInt, IsLong, IsBytes, IsString, IsFixed, IsIndex}
 use Rattle.avro_binary.specs.declared.error.ReadError.{ReadError}
 use Rattle.avro_binary.proofs.PartOrFault.{AreBytes, front_are, rest_are, each_below, PartOrFault, int_or_fault, long_or_fault, boolean_or_fault, fixed_or_fault, content_or_fault, index_or_fault}
-use Rattle.avro_binary.proofs.LeafReads.{boolean_found, int_found, long_found, bytes_found, string_found, symbol_found, fixed_found, boolean_refused, int_refused, long_refused, bytes_refused, string_refused, symbol_refused, fixed_refused, null_found}
+use Rattle.avro_binary.proofs.LeafReads.{leaf_refused, boolean_found, int_found, long_found, bytes_found, string_found, symbol_found, fixed_found, null_found}
 use Rattle.avro_binary.proofs.NodeSteps.{branch_unread, branch_refused, union_found, FieldsDone, fields_none, fields_push, field_breaks, record_found, record_refused}
 use Rattle.std.specs.Str.{is_utf8}
 
@@ -128,10 +128,10 @@ value_moves nodes n c d ready found =
 module _ (nodes : List Node) (c : CursorValue) (ready : IsReady c.depth c) where
   leaf : {A : Type 0} (n : Node) (IsElement : A → List ℕ → Type 0) (B : List ℕ → ReadFault → Type 0) → PartOrFault IsElement B c.bytes
       → ((x : A) (front rest : List ℕ) → IsElement x front → c.bytes ≡ front ++ rest → ReadsNode AnyValue nodes n (outside c) (left_node (moved_to c front rest)) (Ok tt))
-      → ((e : ReadError) → Refuses B c e → ReadsNode AnyValue nodes n (outside c) (left_node c) (Err e)) → Reads nodes n (outside c)
-  leaf n IsElement B part found refused = elim part [
+      → ((f : ReadFault) → B c.bytes f → NodeBreaks nodes (limits_at c) (child_breaks nodes (limits_at c)) n c.bytes f) → Reads nodes n (outside c)
+  leaf n IsElement B part found step = elim part [
     | inl g ↦ found_by nodes n (outside c) (left_node (moved_to c g.1 g.2)) (found g.0 g.1 g.2 g.3 g.4)
-    | inr f ↦ refused_by nodes n (outside c) (left_node c) (error_at c f.0) (of-fault c f.0) (refused (error_at c f.0) (refuses B c f.0 f.1))
+    | inr f ↦ refused_by nodes n (outside c) (left_node c) (error_at c f.0) (of-fault c f.0) (leaf_refused nodes n c c B (error_at c f.0) step (refuses B c f.0 f.1))
   ]
 
   pub null_reads : Reads nodes Node.null (outside c)
@@ -140,39 +140,39 @@ module _ (nodes : List Node) (c : CursorValue) (ready : IsReady c.depth c) where
   pub boolean_reads : Reads nodes Node.boolean (outside c)
   boolean_reads = leaf Node.boolean IsBoolean BooleanBreaks (boolean_or_fault c.bytes)
       (λ b front rest is split. boolean_found nodes c (moved_to c front rest) tt b (front, is, passes_to c front rest split) tt)
-      (λ e r. boolean_refused nodes c c e r)
+      (λ f b. b)
 
   pub int_reads : Reads nodes Node.int (outside c)
   int_reads = leaf Node.int IsInt IntBreaks (int_or_fault c.bytes ready.are)
       (λ v front rest is split. int_found nodes c (moved_to c front rest) tt v (front, is, passes_to c front rest split) tt)
-      (λ e r. int_refused nodes c c e r)
+      (λ f b. b)
 
   pub long_reads : Reads nodes Node.long (outside c)
   long_reads = leaf Node.long IsLong LongBreaks (long_or_fault c.bytes ready.are)
       (λ v front rest is split. long_found nodes c (moved_to c front rest) tt v (front, is, passes_to c front rest split) tt)
-      (λ e r. long_refused nodes c c e r)
+      (λ f b. b)
 
   pub bytes_reads : Reads nodes Node.bytes (outside c)
   bytes_reads = leaf Node.bytes (IsBytes c.blob) (BytesBreaks c.blob) (content_or_fault (λ content. true) c.blob c.bytes ready.are)
       (λ content front rest is split. bytes_found nodes c (moved_to c front rest) tt content front is (passes_to c front rest split)
       (each_below content (rest_are is.spelled.0 content front (front_are front rest c.bytes ready.are split) is.spelled.2)) tt)
-      (λ e r. bytes_refused nodes c c e r)
+      (λ f b. b)
 
   pub string_reads : Reads nodes Node.string (outside c)
   string_reads = leaf Node.string (IsString c.blob) (StringBreaks c.blob) (content_or_fault is_utf8 c.blob c.bytes ready.are)
       (λ content front rest is split. string_found nodes c (moved_to c front rest) tt content front is (passes_to c front rest split) tt)
-      (λ e r. string_refused nodes c c e r)
+      (λ f b. b)
 
   pub symbol_reads : (name : Name) (aliases : List Name) (symbols : List (List ℕ)) (default : Option ℕ) → Reads nodes (Node.enum name aliases symbols default) (outside c)
   symbol_reads name aliases symbols default = leaf (Node.enum name aliases symbols default) (IsIndex (length symbols)) (IndexBreaks (length symbols)) (index_or_fault (length symbols) c.bytes ready.are)
       (λ k front rest is split. symbol_found nodes c (moved_to c front rest) tt name aliases symbols default (length symbols) k refl (front, is, passes_to c front rest split) tt)
-      (λ e r. symbol_refused nodes c c e name aliases symbols default (length symbols) refl r)
+      (λ f b. b)
 
   pub fixed_reads : (name : Name) (aliases : List Name) (count : ℕ) → Reads nodes (Node.fixed name aliases count) (outside c)
   fixed_reads name aliases count = leaf (Node.fixed name aliases count) (IsFixed count c.blob) (FixedBreaks count c.blob) (fixed_or_fault count c.blob c.bytes)
       (λ content front rest is split. fixed_found nodes c (moved_to c front rest) tt name aliases count content front is (passes_to c front rest split)
       (let small = is.2 in let long = ready.long in omega arith) (each_below content (subst (λ (k : List ℕ). AreBytes k) is.0 (front_are front rest c.bytes ready.are split))) tt)
-      (λ e r. fixed_refused nodes c c e name aliases count r)
+      (λ f b. b)
 
 -- ---- Unions and records
 

@@ -5,7 +5,8 @@ use Rattle.std.specs.List.{concat}
 use Rattle.std.proofs.lemmas.List.Folds.{concat-append}
 use Rattle.avro_name.specs.Name.{Name}
 use Rattle.avro_zigzag.specs.Number.{SpellsInt, SpellsLong}
-use Rattle.avro_schema.specs.Value.{Value, values_size, values_depth, values_longest_blob, values_count, entries_count, keys_of}
+use Rattle.avro_binary.specs.Encoding.{Encodes}
+use Rattle.avro_schema.specs.Value.{Value, size, depth, longest_blob, values_size, values_depth, values_longest_blob, values_count, entries_count, keys_of}
 use Rattle.avro_schema.specs.Node.{Node, FieldNode, node_at, field_places}
 use Rattle.avro_schema.specs.Fits.{fields_fit, is_count}
 use Rattle.avro_schema.specs.Seen.{values_from, entries_from, seen_fields, places_of, texts_of}
@@ -25,9 +26,9 @@ use Rattle.avro_binary.specs.declared.block.Block.{Block}
 use Rattle.avro_binary.specs.CursorReads.{Moves, FindsValue, FindsRun, RunBreaks, ReportsFault, ReadsNode, outside, left_node, left_at, limits_at, ValuesRun, EntriesRun, value_breaks, entry_breaks, child_breaks}
 use Rattle.avro_binary.specs.declared.error.ReadError.{ReadError}
 use Rattle.avro_binary.proofs.ElementLaws.{is_count-from_below}
-use Rattle.avro_binary.proofs.RunLaws.{values_run, entries_run, values_count-from, entries_count-from, values_size-append, values_depth-append, values_blob-append, EachSpelled-append, fields_fit-push}
+use Rattle.avro_binary.proofs.RunLaws.{Kind, values_kind, entries_kind, values_count-from, entries_count-from, values_size-append, values_depth-append, values_blob-append, EachSpelled-append, fields_fit-push}
 use Rattle.avro_binary.proofs.RunSteps.{moves-none, moves-passed, moves-join, moves-same, report_moved, breaks_within-same}
-use Rattle.avro_binary.proofs.BlockSteps.{BlocksDone, EndRead, HeadRead, some-head, as_error, blocks_none, blocks_push, head_refused, item_refused, size_refused}
+use Rattle.avro_binary.proofs.BlockSteps.{BlocksDone, EndRead}
 
 -- ---- Entering and leaving
 
@@ -72,217 +73,64 @@ module _ {R : Type 0} {stands : R → Value → Type 0} (nodes : List Node) (n :
 
 -- the blocks of an array so far
 abbrev pub ArrayDone : List Node → ℕ → CursorValue → CursorValue → List (List ℕ) → List Value → Type 0
-ArrayDone nodes place start now keys xs =
-    let n = node_at nodes place in
-    let limits = limits_at start in
-    BlocksDone (ValuesRun nodes limits n) (ItemsAreWhole nodes limits n) (value_breaks nodes limits n) start now keys xs
+ArrayDone nodes place start now keys xs = BlocksDone (values_kind nodes (limits_at start) (node_at nodes place)) start now keys xs
 
 -- the same of a map, with the keys so far
 abbrev pub MapDone : List Node → ℕ → CursorValue → CursorValue → List (List ℕ) → List (List ℕ × Value) → Type 0
-MapDone nodes place start now keys xs =
-    let n = node_at nodes place in
-    let limits = limits_at start in
-    BlocksDone (EntriesRun nodes limits n) (EntriesAreWhole nodes limits n) (entry_breaks nodes limits n) start now keys xs
+MapDone nodes place start now keys xs = BlocksDone (entries_kind nodes (limits_at start) (node_at nodes place)) start now keys xs
 
 -- blocks that no more come behind
 ended : (items : List (List ℕ)) (front end : List ℕ) → ((later : List (List ℕ)) (bytes : List ℕ) → IsInBlocks later bytes → IsInBlocks (items ++ later) (front ++ bytes))
     → SpellsLong (pos 0) end → IsInBlocks items (front ++ end)
 ended items front end ends s = subst (λ (is : List (List ℕ)). IsInBlocks is (front ++ end)) (append-nil items) (ends [] end (no_more s))
 
-module _ {R : Type 0} {stands : R → Value → Type 0} (nodes : List Node) (place : ℕ) (start now after : CursorValue) (keys : List (List ℕ)) where
-  pub array_found : (xs : List Value) (r : R) → ArrayDone nodes place start now keys xs → EndRead now after → start.nodes < 2 ^ 32 → stands r (Value.array (values_from xs))
-      → ReadsNode stands nodes (Node.array place) (outside start) (left_node after) (Ok r)
-  array_found xs r done end small s =
-      let n = node_at nodes place in
-      let limits = limits_at start in
-      let few = (values_run nodes limits n).few (left_at start []) (left_at now keys) xs done.items done.stand in
-      let counted : is_count (values_count (values_from xs)) ≡ true = ap is_count (values_count-from xs) ∙ is_count-from_below (length xs) (omega arith) in
-      let moved = moves-join start now after done.front end.front done.moves (moves-passed now after end.front end.passes) in
-      record {
-        found = (
-          Value.array (values_from xs),
-          record {
-            front = done.front ++ end.front;
-            encoded = record {
-              fitting = rw (counted, done.stand.fitting) refl;
-              spelled = (done.items, done.stand.spelled, ended done.items done.front end.front done.ends end.spelled);
-            };
-            deep = let d = done.stand.deep in omega arith;
-            many = let m = done.stand.many in let p = end.passes.nodes in omega arith;
-            long = done.stand.long;
-            moves = record { split = moved.split; place = moved.place; depth = ap suc moved.depth; blob = moved.blob };
-          },
-          s,
-        );
-        refused = tt;
-      }
+-- blocks and their end are those of a datum
+blocks_found : {R : Type 0} {stands : R → Value → Type 0} {E : Type 0} {kind : Kind E} {start now after : CursorValue} {keys : List (List ℕ)} {xs : List E} (nodes : List Node) (n : Node)
+    → (done : BlocksDone kind start now keys xs) (end : EndRead now after) (v : Value) (r : R) → Encodes nodes n v (done.front ++ end.front) → depth v ≤ suc start.depth
+    → suc start.nodes ≡ after.nodes + size v → longest_blob v ≤ start.blob → stands r v → ReadsNode stands nodes n (outside start) (left_node after) (Ok r)
+blocks_found {start = start} {now = now} {after = after} nodes n done end v r encoded deep many long s =
+    let moved = moves-join start now after done.front end.front done.moves (moves-passed now after end.front end.passes) in
+    record {
+      found = (
+        v,
+        record {
+          front = done.front ++ end.front;
+          encoded = encoded;
+          deep = deep;
+          many = many;
+          long = long;
+          moves = record { split = moved.split; place = moved.place; depth = ap suc moved.depth; blob = moved.blob };
+        },
+        s,
+      );
+      refused = tt;
+    }
 
-  pub map_found : (xs : List (List ℕ × Value)) (r : R) → MapDone nodes place start now keys xs → EndRead now after → start.nodes < 2 ^ 32 → stands r (Value.map_of (entries_from xs))
+module _ {R : Type 0} {stands : R → Value → Type 0} {start now after : CursorValue} {keys : List (List ℕ)} (nodes : List Node) (place : ℕ) where
+  pub array_found : {xs : List Value} → ArrayDone nodes place start now keys xs → EndRead now after → (r : R) → start.nodes < 2 ^ 32 → stands r (Value.array (values_from xs))
+      → ReadsNode stands nodes (Node.array place) (outside start) (left_node after) (Ok r)
+  array_found {xs = xs} done end r small s =
+      let few = (values_kind nodes (limits_at start) (node_at nodes place)).laws.few (left_at start []) (left_at now keys) xs done.items done.stand in
+      let counted : is_count (values_count (values_from xs)) ≡ true = ap is_count (values_count-from xs) ∙ is_count-from_below (length xs) (omega arith) in
+      blocks_found nodes (Node.array place) done end (Value.array (values_from xs)) r
+      (record {
+        fitting = rw (counted, done.stand.fitting) refl;
+        spelled = (done.items, done.stand.spelled, ended done.items done.front end.front done.ends end.spelled);
+      })
+      (let d = done.stand.deep in omega arith) (let m = done.stand.many in let p = end.passes.nodes in omega arith) done.stand.long s
+
+  pub map_found : {xs : List (List ℕ × Value)} → MapDone nodes place start now keys xs → EndRead now after → (r : R) → start.nodes < 2 ^ 32 → stands r (Value.map_of (entries_from xs))
       → ReadsNode stands nodes (Node.map_of place) (outside start) (left_node after) (Ok r)
-  map_found xs r done end small s =
-      let n = node_at nodes place in
-      let limits = limits_at start in
-      let few = (entries_run nodes limits n).few (left_at start []) (left_at now keys) xs done.items done.stand in
+  map_found {xs = xs} done end r small s =
+      let few = (entries_kind nodes (limits_at start) (node_at nodes place)).laws.few (left_at start []) (left_at now keys) xs done.items done.stand in
       let counted : is_count (entries_count (entries_from xs)) ≡ true = ap is_count (entries_count-from xs) ∙ is_count-from_below (length xs) (omega arith) in
       let distinct : are_distinct bytes_eq (keys_of (entries_from xs)) ≡ true = ap (are_distinct bytes_eq) (sym done.stand.keys) ∙ done.stand.distinct in
-      let moved = moves-join start now after done.front end.front done.moves (moves-passed now after end.front end.passes) in
-      record {
-        found = (
-          Value.map_of (entries_from xs),
-          record {
-            front = done.front ++ end.front;
-            encoded = record {
-              fitting = rw (counted, done.stand.texts, distinct, done.stand.fitting) refl;
-              spelled = (done.items, done.stand.spelled, ended done.items done.front end.front done.ends end.spelled);
-            };
-            deep = let d = done.stand.deep in omega arith;
-            many = let m = done.stand.many in let p = end.passes.nodes in omega arith;
-            long = done.stand.long;
-            moves = record { split = moved.split; place = moved.place; depth = ap suc moved.depth; blob = moved.blob };
-          },
-          s,
-        );
-        refused = tt;
-      }
-
-  -- the blocks break
-  pub array_refused : (e : ReadError)
-      → ReportsFault (BlocksBreak (ItemsAreWhole nodes (limits_at start) (node_at nodes place)) (value_breaks nodes (limits_at start) (node_at nodes place)) (left_at start [])) start e
-      → ReadsNode stands nodes (Node.array place) (outside start) (left_node after) (Err e)
-  array_refused e reported = record { found = tt; refused = reported }
-
-  pub map_refused : (e : ReadError)
-      → ReportsFault (BlocksBreak (EntriesAreWhole nodes (limits_at start) (node_at nodes place)) (entry_breaks nodes (limits_at start) (node_at nodes place)) (left_at start [])) start e
-      → ReadsNode stands nodes (Node.map_of place) (outside start) (left_node after) (Err e)
-  map_refused e reported = record { found = tt; refused = reported }
-
-module _ (nodes : List Node) (place : ℕ) (start : CursorValue) where
-  -- an array of which nothing was read
-  pub array_none : ArrayDone nodes place start start [] []
-  array_none =
-      let n = node_at nodes place in
-      let limits = limits_at start in
-      blocks_none (ValuesRun nodes limits n) (ItemsAreWhole nodes limits n) (λ left. Unit {0}) (values_run nodes limits n) (value_breaks nodes limits n) start tt
-
-  pub map_none : MapDone nodes place start start [] []
-  map_none =
-      let n = node_at nodes place in
-      let limits = limits_at start in
-      blocks_none (EntriesRun nodes limits n) (EntriesAreWhole nodes limits n) (λ left. are_distinct bytes_eq left.keys ≡ true) (entries_run nodes limits n) (entry_breaks nodes limits n) start refl
-
-  module _ (now : CursorValue) (xs : List Value) (done : ArrayDone nodes place start now [] xs) where
-    pub array_head_refused : {R : Type 0} {stands : R → Value → Type 0} (after : CursorValue) (e : ReadError) → Refuses (HeadBreaks now.nodes) now e → ReadsNode stands nodes (Node.array place) (outside start) (left_node after) (Err e)
-    array_head_refused after e refused =
-        let n = node_at nodes place in
-        let limits = limits_at start in
-        array_refused nodes place start now after [] e
-        (head_refused (ValuesRun nodes limits n) (ItemsAreWhole nodes limits n) (λ left. Unit {0}) (values_run nodes limits n) (value_breaks nodes limits n) start now [] xs done e refused)
-
-    module _ (mid : CursorValue) (block : Block) (head : HeadRead now mid block) where
-      -- the limits of the items are those of the array
-      pub depth_kept : start.depth ≡ mid.depth
-      depth_kept = sym (head.passes.depth ∙ done.moves.depth)
-
-      pub blob_kept : start.blob ≡ mid.blob
-      blob_kept = sym (head.passes.blob ∙ done.moves.blob)
-
-      pub array_item_refused : {R : Type 0} {stands : R → Value → Type 0} (after : CursorValue) (count : ℕ) (e : ReadError) → count ≡ block.count
-          → ReportsFault (RunBreaks (ValuesRun nodes (limits_at start) (node_at nodes place)) (value_breaks nodes (limits_at start) (node_at nodes place)) (left_at mid []) count) mid e
-          → ReadsNode stands nodes (Node.array place) (outside start) (left_node after) (Err e)
-      array_item_refused after count e same reported =
-          let n = node_at nodes place in
-          let limits = limits_at start in
-          array_refused nodes place start now after [] e
-          (item_refused (ValuesRun nodes limits n) (ItemsAreWhole nodes limits n) (λ left. Unit {0}) (values_run nodes limits n) (value_breaks nodes limits n) start now mid [] xs done block head e
-          (subst (λ (k : ℕ). ReportsFault (RunBreaks (ValuesRun nodes limits n) (value_breaks nodes limits n) (left_at mid []) k) mid e) same reported))
-
-      module _ (after : CursorValue) (then_keys : List (List ℕ)) (ys : List Value) (found : FindsRun (ValuesRun nodes (limits_at start) (node_at nodes place)) mid after [] then_keys ys) (counted : length ys ≡ block.count) where
-        pub array_place : after.place ≡ now.place + length (head_bytes head.head) + length (concat found.items)
-        array_place = let p = head.passes.place in let q = found.moves.place in omega arith
-
-        -- fewer nodes are left behind the block
-        pub array_smaller : after.nodes < now.nodes
-        array_smaller =
-            let few = (values_run nodes (limits_at start) (node_at nodes place)).few (left_at mid []) (left_at after then_keys) ys found.items found.stand in
-            let same = head.passes.nodes in
-            let some = some-head now.nodes head.head head.is_head in
-            let k = head.counted in
-            omega arith
-
-        pub array_size_refused : {R : Type 0} {stands : R → Value → Type 0} (A : Type 0) (e : ReadError) → EndsBlock now.place head.head (length (concat found.items)) (as_error A e)
-            → ReadsNode stands nodes (Node.array place) (outside start) (left_node after) (Err e)
-        array_size_refused A e ends =
-            let n = node_at nodes place in
-            let limits = limits_at start in
-            array_refused nodes place start now after [] e
-            (size_refused (ValuesRun nodes limits n) (ItemsAreWhole nodes limits n) (λ left. Unit {0}) (values_run nodes limits n) (value_breaks nodes limits n) start now mid [] xs done block head
-            after then_keys ys found counted A e ends)
-
-        pub array_push : HasSize head.head (length (concat found.items)) → ArrayDone nodes place start after [] (xs ++ ys)
-        array_push has =
-            let n = node_at nodes place in
-            let limits = limits_at start in
-            subst (λ (keys : List (List ℕ)). ArrayDone nodes place start after keys (xs ++ ys)) found.stand.keys
-            (blocks_push (ValuesRun nodes limits n) (ItemsAreWhole nodes limits n) (λ left. Unit {0}) (values_run nodes limits n) (value_breaks nodes limits n) start now mid [] xs done block head
-            after then_keys ys found counted has)
-
-  module _ (now : CursorValue) (keys : List (List ℕ)) (xs : List (List ℕ × Value)) (done : MapDone nodes place start now keys xs) where
-    pub map_head_refused : {R : Type 0} {stands : R → Value → Type 0} (after : CursorValue) (e : ReadError) → Refuses (HeadBreaks now.nodes) now e → ReadsNode stands nodes (Node.map_of place) (outside start) (left_node after) (Err e)
-    map_head_refused after e refused =
-        let n = node_at nodes place in
-        let limits = limits_at start in
-        map_refused nodes place start now after keys e
-        (head_refused (EntriesRun nodes limits n) (EntriesAreWhole nodes limits n) (λ left. are_distinct bytes_eq left.keys ≡ true) (entries_run nodes limits n) (entry_breaks nodes limits n)
-        start now keys xs done e refused)
-
-    pub map_distinct : are_distinct bytes_eq keys ≡ true
-    map_distinct = done.stand.distinct
-
-    module _ (mid : CursorValue) (block : Block) (head : HeadRead now mid block) where
-      pub map_depth_kept : start.depth ≡ mid.depth
-      map_depth_kept = sym (head.passes.depth ∙ done.moves.depth)
-
-      pub map_blob_kept : start.blob ≡ mid.blob
-      map_blob_kept = sym (head.passes.blob ∙ done.moves.blob)
-
-      pub map_item_refused : {R : Type 0} {stands : R → Value → Type 0} (after : CursorValue) (count : ℕ) (e : ReadError) → count ≡ block.count
-          → ReportsFault (RunBreaks (EntriesRun nodes (limits_at start) (node_at nodes place)) (entry_breaks nodes (limits_at start) (node_at nodes place)) (left_at mid keys) count) mid e
-          → ReadsNode stands nodes (Node.map_of place) (outside start) (left_node after) (Err e)
-      map_item_refused after count e same reported =
-          let n = node_at nodes place in
-          let limits = limits_at start in
-          map_refused nodes place start now after keys e
-          (item_refused (EntriesRun nodes limits n) (EntriesAreWhole nodes limits n) (λ left. are_distinct bytes_eq left.keys ≡ true) (entries_run nodes limits n) (entry_breaks nodes limits n)
-          start now mid keys xs done block head e
-          (subst (λ (k : ℕ). ReportsFault (RunBreaks (EntriesRun nodes limits n) (entry_breaks nodes limits n) (left_at mid keys) k) mid e) same reported))
-
-      module _ (after : CursorValue) (then_keys : List (List ℕ)) (ys : List (List ℕ × Value)) (found : FindsRun (EntriesRun nodes (limits_at start) (node_at nodes place)) mid after keys then_keys ys) (counted : length ys ≡ block.count) where
-        pub map_place : after.place ≡ now.place + length (head_bytes head.head) + length (concat found.items)
-        map_place = let p = head.passes.place in let q = found.moves.place in omega arith
-
-        pub map_smaller : after.nodes < now.nodes
-        map_smaller =
-            let few = (entries_run nodes (limits_at start) (node_at nodes place)).few (left_at mid keys) (left_at after then_keys) ys found.items found.stand in
-            let same = head.passes.nodes in
-            let some = some-head now.nodes head.head head.is_head in
-            let k = head.counted in
-            omega arith
-
-        pub map_size_refused : {R : Type 0} {stands : R → Value → Type 0} (A : Type 0) (e : ReadError) → EndsBlock now.place head.head (length (concat found.items)) (as_error A e)
-            → ReadsNode stands nodes (Node.map_of place) (outside start) (left_node after) (Err e)
-        map_size_refused A e ends =
-            let n = node_at nodes place in
-            let limits = limits_at start in
-            map_refused nodes place start now after keys e
-            (size_refused (EntriesRun nodes limits n) (EntriesAreWhole nodes limits n) (λ left. are_distinct bytes_eq left.keys ≡ true) (entries_run nodes limits n) (entry_breaks nodes limits n)
-            start now mid keys xs done block head after then_keys ys found counted A e ends)
-
-        pub map_push : HasSize head.head (length (concat found.items)) → MapDone nodes place start after then_keys (xs ++ ys)
-        map_push has =
-            let n = node_at nodes place in
-            let limits = limits_at start in
-            blocks_push (EntriesRun nodes limits n) (EntriesAreWhole nodes limits n) (λ left. are_distinct bytes_eq left.keys ≡ true) (entries_run nodes limits n) (entry_breaks nodes limits n)
-            start now mid keys xs done block head after then_keys ys found counted has
+      blocks_found nodes (Node.map_of place) done end (Value.map_of (entries_from xs)) r
+      (record {
+        fitting = rw (counted, done.stand.texts, distinct, done.stand.fitting) refl;
+        spelled = (done.items, done.stand.spelled, ended done.items done.front end.front done.ends end.spelled);
+      })
+      (let d = done.stand.deep in omega arith) (let m = done.stand.many in let p = end.passes.nodes in omega arith) done.stand.long s
 
 -- ---- Unions
 

@@ -10,11 +10,14 @@ use Rattle.avro_binary.specs.Encoding.{SpellsBytes, EachSpelled, EntriesSpelled}
 use Rattle.avro_binary.specs.Fault.{ReadFault}
 use Rattle.avro_binary.specs.Breaks.{Left, ItemsAreWhole, EntriesAreWhole, KeyBreaks, EntryBreaks, ChildBreaks}
 use Rattle.avro_binary.proofs.Front.{same_bytes, IsItem, IsEntryItem, each_told, entries_told, items_are, items_alone, items_same, entries_are, entries_alone, entries_same}
-use Rattle.avro_binary.proofs.FrontBlocks.{same_behind, same_run}
+use Rattle.avro_binary.proofs.FrontBlocks.{same_run}
+use Rattle.avro_binary.proofs.Fronts.{same_behind}
 use Rattle.avro_binary.proofs.NoFrontBlocks.{ItemsFollow, none_after}
 use Rattle.avro_binary.proofs.NoFrontItems.{NoneAt, ValuesFollow, values_follow, EntriesFollow, entries_follow, spelled_count, entries_spelled_count}
 use Rattle.avro_binary.proofs.OneFaultBlocks.{ItemsOne}
-use Rattle.avro_binary.proofs.OneFaultParts.{same_moved, key_one, key_none}
+use Rattle.avro_binary.proofs.Behind.{same_moved}
+use Rattle.avro_binary.proofs.ElementLaws.{string_is}
+use Rattle.avro_binary.proofs.KeySteps.{key_part}
 
 -- bytes that break as a node, where so many nodes are left, have one fault
 abbrev pub OneAt : (ℕ → List ℕ → ReadFault → Type 0) → Type 0
@@ -105,14 +108,12 @@ whole_entries_same nodes n limits left count a b x y then_left after_left is are
 -- a key that breaks is none that stands
 entry_key_none : (keys : List (List ℕ)) (blob : ℕ) (bytes : List ℕ) (f : ReadFault) (key front rest : List ℕ) → KeyBreaks keys blob bytes f → SpellsBytes key front
     → is_text key ≡ true → length key ≤ blob → list_any (bytes_eq key) keys ≡ false → bytes ≡ front ++ rest → ⊥
-entry_key_none keys blob bytes f key front rest (KeyBreaks.string_breaks b) s text short new e = key_none blob bytes f key front rest b s text short e
-entry_key_none keys blob bytes _ key front rest (KeyBreaks.twice other front' rest' t text' short' split again) s text short new e =
-    let same = (same_bytes other key front' front rest' rest t s (sym split ∙ e)).1 in
-    false≢true (sym new ∙ subst (λ (q : List ℕ). list_any (bytes_eq q) keys ≡ true) same again)
+entry_key_none keys blob bytes f key front rest b s text short new e =
+    (key_part keys blob).excludes key front rest f (string_is blob key front s text short, new) (subst (λ (k : List ℕ). KeyBreaks keys blob k f) e b)
 
 entry_one : (nodes : List Node) (n : Node) (limits : LimitValues) (child : ChildBreaks) → OneAt (λ c. child c n) → (left : Left) (bytes : List ℕ) (f g : ReadFault)
     → EntryBreaks limits child n left bytes f → EntryBreaks limits child n left bytes g → f ≡ g
-entry_one nodes n limits child one left bytes f g (EntryBreaks.key_breaks b) (EntryBreaks.key_breaks c) = key_one left.keys limits.blob bytes f g b c
+entry_one nodes n limits child one left bytes f g (EntryBreaks.key_breaks b) (EntryBreaks.key_breaks c) = (key_part left.keys limits.blob).one_fault bytes f g b c
 entry_one nodes n limits child one left bytes f g (EntryBreaks.key_breaks b) (EntryBreaks.value_breaks key front s text short new after) =
     absurd (entry_key_none left.keys limits.blob bytes f key front after.rest b s text short new after.split)
 entry_one nodes n limits child one left bytes f g (EntryBreaks.value_breaks key front s text short new after) (EntryBreaks.key_breaks c) =

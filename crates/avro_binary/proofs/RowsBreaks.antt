@@ -1,15 +1,18 @@
 -- The first faults of bytes, with their places: derived.
-use Rattle.std.proofs.Common.{inl, inr, refl, ℕ, zero, suc, ◌^◌, ◌-◌, pos, negsuc, List, [], ◌∷◌, codes, arith}
+use Rattle.std.proofs.Common.{◌≡◌, ◌<◌, inl, inr, refl, sym, ℕ, zero, suc, ◌^◌, ◌-◌, ℤ, pos, negsuc, true, List, [], ◌∷◌, ◌++◌, append-nil, bytes_eq, codes, arith}
 use Rattle.std.specs.Str.{is_utf8, chars}
 use lib.Utf8.{encode}
 use Rattle.avro_zigzag.specs.NumberFault.{ends, too_large}
 use Rattle.avro_zigzag.specs.declared.VarError.TheVariants.{EndOfInput, OutOfRange}
 use Rattle.avro_schema.specs.Value.{Value, no_values, no_entries, entry}
 use Rattle.avro_schema.specs.Node.{Node, root_of}
-use Rattle.avro_schema.specs.Fits.{LimitValues}
+use Rattle.avro_schema.specs.Distinct.{are_distinct}
+use Rattle.avro_schema.specs.Fits.{fits, LimitValues}
+use Rattle.avro_zigzag.specs.Number.{SpellsLong}
 use Rattle.avro_schema.proofs.public.RowsSchemas.{simply, one_value, two_values, array_of_long, array_of_null, map_of_int, long_or_int, long_and_string, three_symbols, record_of_itself}
 use Rattle.avro_binary.specs.Fault.{ReadFault, end_of_input, invalid_number, invalid_boolean, invalid_text, unknown_index, invalid_length, wrong_block_size, duplicate_key, limit_exceeded}
-use Rattle.avro_binary.specs.Breaks.{Breaks, BreaksWithin, length_breaks, negative, too_long, cut, invalid, unknown, twice, string_breaks, key_breaks, value_breaks, counted, sized, count_fails, count_least, count_over, size_fails, size_negative, head_breaks, item_fails, size_differs, later_breaks}
+use Rattle.avro_binary.specs.Breaks.{Left, ItemsAreWhole, EntriesAreWhole, Breaks, BreaksWithin, length_breaks, negative, too_long, cut, invalid, unknown, twice, string_breaks, key_breaks, value_breaks, counted, sized, count_fails, count_least, count_over, size_fails, size_negative, head_breaks, item_fails, size_differs, later_breaks}
+use Rattle.avro_binary.proofs.RunLaws.{values_run, entries_run}
 use Rattle.avro_binary.proofs.RowsNumbers.{spells, starts_with}
 
 -- limits of common use
@@ -19,6 +22,48 @@ ample = record { depth = 128; nodes = 1048576; blob = 16777216 }
 -- the first fault at the root
 abbrev RootBreaks : List Node → List ℕ → ReadFault → Type 0
 RootBreaks nodes bytes f = Breaks nodes ample (root_of nodes) bytes f
+
+-- nothing whole, and one item or entry that is
+no_item : {nodes : List Node} {limits : LimitValues} {n : Node} (left : Left) → ItemsAreWhole nodes limits n left 0 [] left
+no_item {nodes = nodes} {limits = limits} {n = n} left = let run = values_run nodes limits n in run.whole left left [] [] (run.none left tt)
+
+no_entry : {nodes : List Node} {limits : LimitValues} {n : Node} (left : Left) → are_distinct bytes_eq left.keys ≡ true → EntriesAreWhole nodes limits n left 0 [] left
+no_entry {nodes = nodes} {limits = limits} {n = n} left apart = let run = entries_run nodes limits n in run.whole left left [] [] (run.none left apart)
+
+abbrev inside : LimitValues
+inside = record { depth = 127; nodes = 1048575; blob = 16777216 }
+
+one_long : (v : ℤ) (item : List ℕ) (n : ℕ) → fits array_of_long Node.long (Value.long v) ≡ true → SpellsLong v item → 0 < n
+    → ItemsAreWhole array_of_long inside Node.long (record { nodes = n; keys = [] }) 1 item (record { nodes = n - 1; keys = [] })
+one_long v item n h s some = record {
+  values = one_value (Value.long v);
+  items = item ∷ [];
+  counted = refl;
+  fitting = rw h refl;
+  spelled = (item, [], s, refl, refl);
+  bytes_are = sym (append-nil item);
+  deep = omega arith;
+  many = omega arith;
+  long = omega arith;
+  leaves = refl;
+}
+
+entry_of_a : EntriesAreWhole map_of_int inside Node.int (record { nodes = 1048575; keys = [] }) 1 (2 ∷ 0x61 ∷ 2 ∷ []) (record { nodes = 1048574; keys = codes "a" ∷ [] })
+unfolding is_utf8 chars encode
+entry_of_a = record {
+  entries = entry (codes "a") (Value.int (pos 1)) no_entries;
+  items = (2 ∷ 0x61 ∷ 2 ∷ []) ∷ [];
+  counted = refl;
+  texts = refl;
+  distinct = refl;
+  fitting = refl;
+  spelled = (2 ∷ 0x61 ∷ [], 2 ∷ [], [], (2 ∷ [], spells (pos 1) _ refl, refl), spells (pos 1) _ refl, refl, refl);
+  bytes_are = refl;
+  deep = omega arith;
+  many = omega arith;
+  long = omega arith;
+  leaves = refl;
+}
 
 -- booleans
 boolean_over_one : RootBreaks (Node.boolean ∷ []) (2 ∷ []) (invalid_boolean 0)
@@ -184,51 +229,18 @@ item_cut_in_a_sized_block : RootBreaks array_of_long (3 ∷ 2 ∷ 6 ∷ 0x80 ∷
 item_cut_in_a_sized_block = item_fails (sized 2 1 (3 ∷ []) (2 ∷ [])) 1 (6 ∷ []) (record { nodes = 1048574; keys = [] })
     (omega arith, omega arith, omega arith, omega arith, spells (negsuc 1) _ refl, spells (pos 1) _ refl)
     (omega arith)
-    (record {
-      values = one_value (Value.long (pos 3));
-      items = (6 ∷ []) ∷ [];
-      counted = refl;
-      fitting = refl;
-      spelled = (6 ∷ [], [], spells (pos 3) _ refl, refl, refl);
-      bytes_are = refl;
-      deep = omega arith;
-      many = omega arith;
-      long = omega arith;
-      leaves = refl;
-    })
+    (one_long (pos 3) (6 ∷ []) 1048575 refl (spells (pos 3) _ refl) (omega arith))
     (record { rest = 0x80 ∷ []; fault = end_of_input 0; split = refl; breaks = (EndOfInput, ends refl (omega arith), refl); moved = refl })
 
 -- a later block breaks, at its place in all the bytes
 second_block_breaks : RootBreaks array_of_long (2 ∷ 6 ∷ 1 ∷ 4 ∷ 0x36 ∷ 0 ∷ []) (wrong_block_size 3)
 second_block_breaks = later_breaks (counted 1 (2 ∷ [])) (6 ∷ []) (1 ∷ 4 ∷ 0x36 ∷ 0 ∷ []) (record { nodes = 1048574; keys = [] }) (wrong_block_size 1)
     (omega arith, omega arith, omega arith, spells (pos 1) _ refl)
-    (record {
-      values = one_value (Value.long (pos 3));
-      items = (6 ∷ []) ∷ [];
-      counted = refl;
-      fitting = refl;
-      spelled = (6 ∷ [], [], spells (pos 3) _ refl, refl, refl);
-      bytes_are = refl;
-      deep = omega arith;
-      many = omega arith;
-      long = omega arith;
-      leaves = refl;
-    })
+    (one_long (pos 3) (6 ∷ []) 1048575 refl (spells (pos 3) _ refl) (omega arith))
     tt refl
     (size_differs 1 2 (1 ∷ []) (4 ∷ []) (0x36 ∷ []) (0 ∷ []) _
     (omega arith, omega arith, omega arith, omega arith, spells (negsuc 0) _ refl, spells (pos 2) _ refl)
-    (record {
-      values = one_value (Value.long (pos 27));
-      items = (0x36 ∷ []) ∷ [];
-      counted = refl;
-      fitting = refl;
-      spelled = (0x36 ∷ [], [], spells (pos 27) _ refl, refl, refl);
-      bytes_are = refl;
-      deep = omega arith;
-      many = omega arith;
-      long = omega arith;
-      leaves = refl;
-    })
+    (one_long (pos 27) (0x36 ∷ []) 1048574 refl (spells (pos 27) _ refl) (omega arith))
     refl (λ e. absurd (omega (arith, e))))
     refl
 
@@ -255,38 +267,14 @@ second_block_past_limit = later_breaks (counted 1 (2 ∷ [])) [] (4 ∷ 0 ∷ []
 -- where one level is left for the array, none is for an item
 item_too_deep : Breaks array_of_long (record { depth = 1; nodes = 9; blob = 1 }) (root_of array_of_long) (2 ∷ 6 ∷ 0 ∷ []) limit_exceeded
 item_too_deep = item_fails (counted 1 (2 ∷ [])) 0 [] _ (omega arith, omega arith, omega arith, spells (pos 1) _ refl) (omega arith)
-    (record {
-      values = no_values;
-      items = [];
-      counted = refl;
-      fitting = refl;
-      spelled = refl;
-      bytes_are = refl;
-      deep = omega arith;
-      many = omega arith;
-      long = omega arith;
-      leaves = refl;
-    })
+    (no_item _)
     (record { rest = 6 ∷ 0 ∷ []; fault = limit_exceeded; split = refl; breaks = refl; moved = refl })
 
 -- a map: the key of an entry that stands before, in this block or an earlier one
 key_twice : RootBreaks map_of_int (4 ∷ 2 ∷ 0x61 ∷ 2 ∷ 2 ∷ 0x61 ∷ 4 ∷ 0 ∷ []) (duplicate_key 4)
 unfolding is_utf8 chars encode
 key_twice = item_fails (counted 2 (4 ∷ [])) 1 (2 ∷ 0x61 ∷ 2 ∷ []) _ (omega arith, omega arith, omega arith, spells (pos 2) _ refl) (omega arith)
-    (record {
-      entries = entry (codes "a") (Value.int (pos 1)) no_entries;
-      items = (2 ∷ 0x61 ∷ 2 ∷ []) ∷ [];
-      counted = refl;
-      texts = refl;
-      distinct = refl;
-      fitting = refl;
-      spelled = (2 ∷ 0x61 ∷ [], 2 ∷ [], [], (2 ∷ [], spells (pos 1) _ refl, refl), spells (pos 1) _ refl, refl, refl);
-      bytes_are = refl;
-      deep = omega arith;
-      many = omega arith;
-      long = omega arith;
-      leaves = refl;
-    })
+    entry_of_a
     (record {
       rest = 2 ∷ 0x61 ∷ 4 ∷ 0 ∷ [];
       fault = duplicate_key 0;
@@ -300,36 +288,10 @@ unfolding is_utf8 chars encode
 key_twice_in_two_blocks = later_breaks (counted 1 (2 ∷ [])) (2 ∷ 0x61 ∷ 2 ∷ []) (2 ∷ 2 ∷ 0x61 ∷ 4 ∷ 0 ∷ [])
     (record { nodes = 1048574; keys = codes "a" ∷ [] }) (duplicate_key 1)
     (omega arith, omega arith, omega arith, spells (pos 1) _ refl)
-    (record {
-      entries = entry (codes "a") (Value.int (pos 1)) no_entries;
-      items = (2 ∷ 0x61 ∷ 2 ∷ []) ∷ [];
-      counted = refl;
-      texts = refl;
-      distinct = refl;
-      fitting = refl;
-      spelled = (2 ∷ 0x61 ∷ [], 2 ∷ [], [], (2 ∷ [], spells (pos 1) _ refl, refl), spells (pos 1) _ refl, refl, refl);
-      bytes_are = refl;
-      deep = omega arith;
-      many = omega arith;
-      long = omega arith;
-      leaves = refl;
-    })
+    entry_of_a
     tt refl
     (item_fails (counted 1 (2 ∷ [])) 0 [] _ (omega arith, omega arith, omega arith, spells (pos 1) _ refl) (omega arith)
-    (record {
-      entries = no_entries;
-      items = [];
-      counted = refl;
-      texts = refl;
-      distinct = refl;
-      fitting = refl;
-      spelled = refl;
-      bytes_are = refl;
-      deep = omega arith;
-      many = omega arith;
-      long = omega arith;
-      leaves = refl;
-    })
+    (no_entry _ refl)
     (record {
       rest = 2 ∷ 0x61 ∷ 4 ∷ 0 ∷ [];
       fault = duplicate_key 0;
@@ -343,20 +305,7 @@ key_twice_in_two_blocks = later_breaks (counted 1 (2 ∷ [])) (2 ∷ 0x61 ∷ 2 
 key_not_utf8 : RootBreaks map_of_int (2 ∷ 2 ∷ 0xff ∷ []) (invalid_text 2)
 unfolding is_utf8 chars encode
 key_not_utf8 = item_fails (counted 1 (2 ∷ [])) 0 [] _ (omega arith, omega arith, omega arith, spells (pos 1) _ refl) (omega arith)
-    (record {
-      entries = no_entries;
-      items = [];
-      counted = refl;
-      texts = refl;
-      distinct = refl;
-      fitting = refl;
-      spelled = refl;
-      bytes_are = refl;
-      deep = omega arith;
-      many = omega arith;
-      long = omega arith;
-      leaves = refl;
-    })
+    (no_entry _ refl)
     (record {
       rest = 2 ∷ 0xff ∷ [];
       fault = invalid_text 1;
@@ -368,20 +317,7 @@ key_not_utf8 = item_fails (counted 1 (2 ∷ [])) 0 [] _ (omega arith, omega arit
 value_cut : RootBreaks map_of_int (2 ∷ 2 ∷ 0x61 ∷ 0x80 ∷ []) (end_of_input 3)
 unfolding is_utf8 chars encode
 value_cut = item_fails (counted 1 (2 ∷ [])) 0 [] (record { nodes = 1048575; keys = [] }) (omega arith, omega arith, omega arith, spells (pos 1) _ refl) (omega arith)
-    (record {
-      entries = no_entries;
-      items = [];
-      counted = refl;
-      texts = refl;
-      distinct = refl;
-      fitting = refl;
-      spelled = refl;
-      bytes_are = refl;
-      deep = omega arith;
-      many = omega arith;
-      long = omega arith;
-      leaves = refl;
-    })
+    (no_entry _ refl)
     (record {
       rest = 2 ∷ 0x61 ∷ 0x80 ∷ [];
       fault = end_of_input 2;

@@ -12,8 +12,9 @@ use Rattle.avro_schema.specs.Seen.{values_from, entries_from}
 use Rattle.avro_schema.specs.Distinct.{are_distinct}
 use Rattle.avro_schema.proofs.public.Parts.{size-positive}
 use Rattle.avro_binary.specs.Encoding.{EachSpelled, EntriesSpelled}
+use Rattle.avro_binary.specs.Fault.{ReadFault}
 use Rattle.avro_binary.specs.Breaks.{Left, ItemsAreWhole, EntriesAreWhole}
-use Rattle.avro_binary.specs.CursorReads.{ValuesRun, EntriesRun}
+use Rattle.avro_binary.specs.CursorReads.{ValuesRun, EntriesRun, value_breaks, entry_breaks}
 
 -- ---- Values
 
@@ -215,3 +216,31 @@ module _ (nodes : List Node) (limits : LimitValues) (n : Node) where
     few = λ left then_left xs items r. let p = r.many in omega (arith, entries_size-count xs);
     prepared = λ left then_left xs items r. r.distinct;
   }
+
+-- ---- Kinds
+
+-- what blocks hold: how it runs and is whole, what a run needs, and how one of it breaks
+pub record Kind (E : Type 0) : Type 1 where
+  pub run : Left → List E → List (List ℕ) → Left → Type 0
+  pub are_whole : Left → ℕ → List ℕ → Left → Type 0
+  pub ready : Left → Type 0
+  pub item_breaks : Left → List ℕ → ReadFault → Type 0
+  pub laws : IsRun run are_whole ready
+
+abbrev pub values_kind : List Node → LimitValues → Node → Kind Value
+values_kind nodes limits n = record {
+  run = ValuesRun nodes limits n;
+  are_whole = ItemsAreWhole nodes limits n;
+  ready = λ left. Unit {0};
+  item_breaks = value_breaks nodes limits n;
+  laws = values_run nodes limits n;
+}
+
+abbrev pub entries_kind : List Node → LimitValues → Node → Kind (List ℕ × Value)
+entries_kind nodes limits n = record {
+  run = EntriesRun nodes limits n;
+  are_whole = EntriesAreWhole nodes limits n;
+  ready = λ left. are_distinct bytes_eq left.keys ≡ true;
+  item_breaks = entry_breaks nodes limits n;
+  laws = entries_run nodes limits n;
+}

@@ -16,8 +16,8 @@ use Rattle.avro_binary.specs.Elements.{IsKey}
 use Rattle.avro_binary.specs.CursorReads.{Moves, FindsValue, ReportsFault, left_at, ValuesRun, EntriesRun, value_breaks, entry_breaks, FindsRun, RunBreaks}
 use Rattle.avro_binary.specs.declared.error.ReadError.{ReadError}
 use Rattle.avro_binary.proofs.ElementLaws.{is_text-from_string}
-use Rattle.avro_binary.proofs.OneFaultParts.{behind-add}
-use Rattle.avro_binary.proofs.RunLaws.{IsRun, distinct-push}
+use Rattle.avro_binary.proofs.Behind.{behind-add}
+use Rattle.avro_binary.proofs.RunLaws.{Kind, distinct-push}
 
 -- ---- Moves
 
@@ -70,35 +70,35 @@ breaks_within-same nodes d d' c b b' n bytes f p q h =
 
 -- ---- Runs
 
-module _ {E : Type 0} (run : Left → List E → List (List ℕ) → Left → Type 0) (are_whole : Left → ℕ → List ℕ → Left → Type 0) (ready : Left → Type 0) (laws : IsRun run are_whole ready) where
-  pub run_none : (at : CursorValue) (keys : List (List ℕ)) → ready (left_at at keys) → FindsRun run at at keys keys []
-  run_none at keys h = record { items = []; stand = laws.none (left_at at keys) h; moves = moves-none at }
+module _ {E : Type 0} (kind : Kind E) where
+  pub run_none : (at : CursorValue) (keys : List (List ℕ)) → kind.ready (left_at at keys) → FindsRun kind.run at at keys keys []
+  run_none at keys h = record { items = []; stand = kind.laws.none (left_at at keys) h; moves = moves-none at }
 
-  -- one more item
-  pub run_push : (a b c : CursorValue) (keys then_keys last_keys : List (List ℕ)) (xs : List E) (x : E) (item : List ℕ) → FindsRun run a b keys then_keys xs
-      → run (left_at b then_keys) (x ∷ []) (item ∷ []) (left_at c last_keys) → Moves b item c → FindsRun run a c keys last_keys (xs ++ x ∷ [])
-  run_push a b c keys then_keys last_keys xs x item found one moves = record {
-    items = found.items ++ item ∷ [];
-    stand = laws.joins (left_at a keys) (left_at b then_keys) (left_at c last_keys) xs (x ∷ []) found.items (item ∷ []) found.stand one;
-    moves = moves-same a c (concat found.items ++ item) (concat (found.items ++ item ∷ []))
-        (sym (concat-append found.items (item ∷ []) ∙ ap (λ (q : List ℕ). concat found.items ++ q) (append-nil item)))
-        (moves-join a b c (concat found.items) item found.moves moves);
-  }
+  module _ {a b : CursorValue} {keys then_keys : List (List ℕ)} {xs : List E} (found : FindsRun kind.run a b keys then_keys xs) where
+    -- one more item
+    pub run_push : (c : CursorValue) (last_keys : List (List ℕ)) (x : E) (item : List ℕ) → kind.run (left_at b then_keys) (x ∷ []) (item ∷ []) (left_at c last_keys)
+        → Moves b item c → FindsRun kind.run a c keys last_keys (xs ++ x ∷ [])
+    run_push c last_keys x item one moves = record {
+      items = found.items ++ item ∷ [];
+      stand = kind.laws.joins (left_at a keys) (left_at b then_keys) (left_at c last_keys) xs (x ∷ []) found.items (item ∷ []) found.stand one;
+      moves = moves-same a c (concat found.items ++ item) (concat (found.items ++ item ∷ []))
+          (sym (concat-append found.items (item ∷ []) ∙ ap (λ (q : List ℕ). concat found.items ++ q) (append-nil item)))
+          (moves-join a b c (concat found.items) item found.moves moves);
+    }
 
-  -- the next item breaks
-  pub run_breaks : (breaks : Left → List ℕ → ReadFault → Type 0) (a b : CursorValue) (keys then_keys : List (List ℕ)) (xs : List E) (count : ℕ) (e : ReadError)
-      → FindsRun run a b keys then_keys xs → length xs < count → ReportsFault (breaks (left_at b then_keys)) b e
-      → ReportsFault (RunBreaks run breaks (left_at a keys) count) a e
-  run_breaks breaks a b keys then_keys xs count e found few reported =
-      report_moved a b (concat found.items) e (breaks (left_at b then_keys)) (RunBreaks run breaks (left_at a keys) count) found.moves
-      (λ f h. record {
-        xs = xs;
-        items = found.items;
-        then_left = left_at b then_keys;
-        few = few;
-        stand = found.stand;
-        next = record { rest = b.bytes; fault = f; split = found.moves.split; breaks = h; moved = refl };
-      }) reported
+    -- the next item breaks
+    pub run_breaks : (count : ℕ) (e : ReadError) → length xs < count → ReportsFault (kind.item_breaks (left_at b then_keys)) b e
+        → ReportsFault (RunBreaks kind.run kind.item_breaks (left_at a keys) count) a e
+    run_breaks count e few reported =
+        report_moved a b (concat found.items) e (kind.item_breaks (left_at b then_keys)) (RunBreaks kind.run kind.item_breaks (left_at a keys) count) found.moves
+        (λ f h. record {
+          xs = xs;
+          items = found.items;
+          then_left = left_at b then_keys;
+          few = few;
+          stand = found.stand;
+          next = record { rest = b.bytes; fault = f; split = found.moves.split; breaks = h; moved = refl };
+        }) reported
 
 -- one item of an array
 module _ (nodes : List Node) (limits : LimitValues) (n : Node) where

@@ -16,6 +16,7 @@ mod cursor;
 mod encode_error;
 mod error;
 mod keys;
+mod leaves;
 pub mod laws;
 mod make;
 mod nothing;

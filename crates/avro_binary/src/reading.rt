@@ -1,4 +1,4 @@
-ghost use Rattle.std.specs.Prelude.{◌≡◌, ◌<◌, ◌^◌, ℕ, slice_index, List, [], ◌++◌, Option, true, length, bytes_eq, OnOk, IfOk};
+ghost use Rattle.std.specs.Prelude.{◌≡◌, List, ℕ, [], ◌++◌, true, bytes_eq};
 ghost use Rattle.avro_name.specs.Name.{Name};
 ghost use Rattle.avro_schema.specs.Distinct.{are_distinct};
 ghost use Rattle.avro_schema.specs.Fits.{LimitValues};
@@ -13,6 +13,9 @@ ghost use Rattle.avro_binary.specs.Making.{Made};
 use crate::cursor::Cursor;
 use crate::error::ReadError;
 use crate::keys::Keys;
+use crate::leaves::{
+    read_boolean, read_bytes, read_fixed, read_int, read_long, read_null, read_symbol, read_text,
+};
 use crate::make::Make;
 use avro_schema::{Field, Node, NodeId, Schema};
 use std::alloc::{AllocError, Global};
@@ -48,188 +51,6 @@ pub fn read_place<M: Make>(
         Node::Fixed(fixed) => read_fixed(alloc, fixed.size, cursor, maker, at),
     }
 }
-
-/// Reads null.
-#[inline(always)]
-fn read_null<M: Make>(
-    alloc: Global,
-    cursor: &mut Cursor<'_>,
-    maker: &mut M,
-    at: M::At,
-) -> Result<M::Out, ReadError>
-    ensures { (nodes : List SeenNode) → ReadsNode (Made M.keeps (λ m. M.stands_for m nodes SeenNode.null at) maker.old maker.new) nodes SeenNode.null cursor.old cursor.new result }
-{
-    cursor.count()?;
-    match maker.null(alloc, at) {
-        Ok(out) => Ok(out),
-        Err(_) => Err(ReadError::OutOfMemory),
-    }
-}
-
-/// Reads a boolean.
-#[inline(always)]
-fn read_boolean<M: Make>(
-    alloc: Global,
-    cursor: &mut Cursor<'_>,
-    maker: &mut M,
-    at: M::At,
-) -> Result<M::Out, ReadError>
-    ensures { (nodes : List SeenNode) → ReadsNode (Made M.keeps (λ m. M.stands_for m nodes SeenNode.boolean at) maker.old maker.new) nodes SeenNode.boolean cursor.old cursor.new result }
-{
-    cursor.count()?;
-    match cursor.boolean() {
-        Ok(value) => {
-            match maker.boolean(alloc, at, value) {
-                Ok(out) => Ok(out),
-                Err(_) => Err(ReadError::OutOfMemory),
-            }
-        }
-        Err(error) => Err(error),
-    }
-}
-
-/// Reads an int.
-#[inline(always)]
-fn read_int<M: Make>(
-    alloc: Global,
-    cursor: &mut Cursor<'_>,
-    maker: &mut M,
-    at: M::At,
-) -> Result<M::Out, ReadError>
-    ensures { (nodes : List SeenNode) → ReadsNode (Made M.keeps (λ m. M.stands_for m nodes SeenNode.int at) maker.old maker.new) nodes SeenNode.int cursor.old cursor.new result }
-{
-    cursor.count()?;
-    match cursor.int() {
-        Ok(value) => {
-            match maker.int(alloc, at, value) {
-                Ok(out) => Ok(out),
-                Err(_) => Err(ReadError::OutOfMemory),
-            }
-        }
-        Err(error) => Err(error),
-    }
-}
-
-/// Reads a long.
-#[inline(always)]
-fn read_long<M: Make>(
-    alloc: Global,
-    cursor: &mut Cursor<'_>,
-    maker: &mut M,
-    at: M::At,
-) -> Result<M::Out, ReadError>
-    ensures { (nodes : List SeenNode) → ReadsNode (Made M.keeps (λ m. M.stands_for m nodes SeenNode.long at) maker.old maker.new) nodes SeenNode.long cursor.old cursor.new result }
-{
-    cursor.count()?;
-    match cursor.long() {
-        Ok(value) => {
-            match maker.long(alloc, at, value) {
-                Ok(out) => Ok(out),
-                Err(_) => Err(ReadError::OutOfMemory),
-            }
-        }
-        Err(error) => Err(error),
-    }
-}
-
-/// Reads bytes.
-#[inline(always)]
-fn read_bytes<M: Make>(
-    alloc: Global,
-    cursor: &mut Cursor<'_>,
-    maker: &mut M,
-    at: M::At,
-) -> Result<M::Out, ReadError>
-    ensures { (nodes : List SeenNode) → ReadsNode (Made M.keeps (λ m. M.stands_for m nodes SeenNode.bytes at) maker.old maker.new) nodes SeenNode.bytes cursor.old cursor.new result }
-{
-    cursor.count()?;
-    match cursor.bytes() {
-        Ok(content) => {
-            drop_content(content);
-            match maker.bytes(alloc, at, content) {
-                Ok(out) => Ok(out),
-                Err(_) => Err(ReadError::OutOfMemory),
-            }
-        }
-        Err(error) => Err(error),
-    }
-}
-
-/// Reads a text.
-#[inline(always)]
-fn read_text<M: Make>(
-    alloc: Global,
-    cursor: &mut Cursor<'_>,
-    maker: &mut M,
-    at: M::At,
-) -> Result<M::Out, ReadError>
-    ensures { (nodes : List SeenNode) → ReadsNode (Made M.keeps (λ m. M.stands_for m nodes SeenNode.string at) maker.old maker.new) nodes SeenNode.string cursor.old cursor.new result }
-{
-    cursor.count()?;
-    match cursor.string() {
-        Ok(text) => {
-            match maker.string(alloc, at, text) {
-                Ok(out) => Ok(out),
-                Err(_) => Err(ReadError::OutOfMemory),
-            }
-        }
-        Err(error) => Err(error),
-    }
-}
-
-/// Reads the place of a symbol, below their count.
-#[inline(always)]
-fn read_symbol<M: Make>(
-    alloc: Global,
-    symbols: usize,
-    cursor: &mut Cursor<'_>,
-    maker: &mut M,
-    at: M::At,
-) -> Result<M::Out, ReadError>
-    ensures { (nodes : List SeenNode) (name : Name) (aliases : List Name) (texts : List (List ℕ)) (default : Option ℕ) → symbols ≡ length texts
-        → ReadsNode (Made M.keeps (λ m. M.stands_for m nodes (SeenNode.enum name aliases texts default) at) maker.old maker.new) nodes (SeenNode.enum name aliases texts default) cursor.old cursor.new result }
-{
-    cursor.count()?;
-    match cursor.index(symbols) {
-        Ok(symbol) => {
-            match maker.symbol(alloc, at, symbol as u32) {
-                Ok(out) => Ok(out),
-                Err(_) => Err(ReadError::OutOfMemory),
-            }
-        }
-        Err(error) => Err(error),
-    }
-}
-
-/// Reads a fixed of this size.
-#[inline(always)]
-fn read_fixed<M: Make>(
-    alloc: Global,
-    size: u32,
-    cursor: &mut Cursor<'_>,
-    maker: &mut M,
-    at: M::At,
-) -> Result<M::Out, ReadError>
-    ensures { (nodes : List SeenNode) (name : Name) (aliases : List Name) → ReadsNode (Made M.keeps (λ m. M.stands_for m nodes (SeenNode.fixed name aliases size) at) maker.old maker.new) nodes (SeenNode.fixed name aliases size) cursor.old cursor.new result }
-{
-    cursor.count()?;
-    match cursor.fixed(size) {
-        Ok(content) => {
-            drop_content(content);
-            match maker.fixed(alloc, at, content) {
-                Ok(out) => Ok(out),
-                Err(_) => Err(ReadError::OutOfMemory),
-            }
-        }
-        Err(error) => Err(error),
-    }
-}
-
-/// Keeps nothing of a content: the type of its parameter is what says that each byte is below 256.
-#[inline(always)]
-fn drop_content(_content: &[u8])
-    ensures { (i : ℕ) → slice_index _content.now i < 2 ^ 8 }
-{}
 
 /// Reads an array.
 #[cycle(reading)]

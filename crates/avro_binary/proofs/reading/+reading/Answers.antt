@@ -13,9 +13,9 @@ use Rattle.avro_binary.specs.Breaks.{ItemsAreWhole, EntriesAreWhole}
 use Rattle.avro_binary.specs.Elements.{Finds, IsIndex}
 use Rattle.avro_binary.specs.Making.{Made}
 use Rattle.avro_binary.specs.CursorReads.{ValuesRun, EntriesRun, value_breaks, entry_breaks, limits_at}
-use Rattle.avro_binary.proofs.BlockSteps.{head_read, end_read, has_size}
-use Rattle.avro_binary.proofs.NodeSteps.{node_left, node_refused, enter_refused, array_none, map_none, array_head_refused, array_item_refused, array_size_refused, array_push, array_place, array_smaller, map_smaller, FieldsDone, fields_none, array_found, depth_kept, blob_kept, map_head_refused, map_item_refused, map_size_refused, map_push, map_place, map_found, map_depth_kept, map_blob_kept, map_distinct, branch_refused, union_found, branch_at, places-length, texts-length, null_past, fields_push, field_breaks, record_found, record_refused, places_split, places_next, places_all}
-use Rattle.avro_binary.proofs.RunLaws.{values_run, entries_run}
+use Rattle.avro_binary.proofs.BlockSteps.{head_read, end_read, has_size, blocks_none, head_refused, item_refused, size_refused, depth_kept, blob_kept, place_is, block_smaller, blocks_push}
+use Rattle.avro_binary.proofs.NodeSteps.{node_left, node_refused, enter_refused, ArrayDone, array_found, map_found, FieldsDone, fields_none, branch_refused, union_found, branch_at, places-length, texts-length, null_past, fields_push, field_breaks, record_found, record_refused, places_split, places_next, places_all}
+use Rattle.avro_binary.proofs.RunLaws.{values_kind, entries_kind}
 use Rattle.avro_binary.proofs.RunSteps.{run_none, run_push, run_breaks, value_run, value_report, entry_run, entry_report, key_report, moves-join, moves-passed}
 use Rattle.avro_binary.proofs.reading.+reading.Goals as goal
 
@@ -36,200 +36,122 @@ field_place_at (f ∷ fields) (suc k) d h = field_place_at fields k d (omega ari
 -- ---- Arrays
 
 pub read_item_blocks-loop-items-init : goal.read_item_blocks-loop-items-init
-read_item_blocks-loop-items-init g t c = ([], array_none (schema_nodes c.args.schema.now) c.args.place.0 c.args.cursor.now, c.in-Ok.ensures.kept, c.in-Ok.ensures.stands (schema_nodes c.args.schema.now) c.args.place.0)
+read_item_blocks-loop-items-init g t c =
+    let nodes = schema_nodes c.args.schema.now in
+    ([], blocks_none (values_kind nodes (limits_at c.args.cursor.now) (node_at nodes c.args.place.0)) c.args.cursor.now tt, c.in-Ok.ensures.kept, c.in-Ok.ensures.stands nodes c.args.place.0)
 
 pub read_item_blocks-returns-in_err-block : goal.read_item_blocks-returns-in_err-block
 read_item_blocks-returns-in_err-block g t c =
     let p = err_from_is_err_and c.from_residual.result c.from_residual.ensures.1 in
-    let done = c.loop-items.invariant in
-    rw (p.1, p.2) (array_head_refused (schema_nodes c.args.schema.now) c.args.place.0 c.args.cursor.now c.loop-items.cursor done.0 done.1 c.block.new.self
-    c.in_err-block.field-0.0 c.in_err-block.ensures.refused)
+    rw (p.1, p.2) (record { found = tt; refused = head_refused c.loop-items.invariant.1 c.in_err-block.field-0.0 c.in_err-block.ensures.refused })
 
 pub read_item_blocks-returns-in_err-read_items : goal.read_item_blocks-returns-in_err-read_items
 read_item_blocks-returns-in_err-read_items g t c =
-    let done = c.loop-items.invariant in
-    let nodes = schema_nodes c.args.schema.now in
-    let place = c.args.place.0 in
-    let start = c.args.cursor.now in
-    let now = c.loop-items.cursor in
-    let mid = c.block.new.self in
-    let block = c.in-Some.block in
-    let head = head_read now mid block (rw c.in-Some.is at c.in_ok-block.ensures.found) in
-    let d = depth_kept nodes place start now done.0 done.1 mid block head in
-    let b = blob_kept nodes place start now done.0 done.1 mid block head in
+    let inv = c.loop-items.invariant in
+    let done = inv.1 in
+    let head = head_read c.loop-items.cursor c.block.new.self c.in-Some.block (rw c.in-Some.is at c.in_ok-block.ensures.found) in
+    let read = c.in_err-read_items.ensures (limits_at c.args.cursor.now) (depth_kept done head) (blob_kept done head) in
     let p = err_from_is_err_and c.from_residual-in_err-read_items.result c.from_residual-in_err-read_items.ensures.1 in
-    let read = c.in_err-read_items.ensures (limits_at start) d b in
-    rw (p.1, p.2) (array_item_refused nodes place start now done.0 done.1 mid block head c.read_items.new.cursor c.count.result c.in_err-read_items.field-0.0 c.count.ensures read.refused)
+    rw (p.1, p.2) (record { found = tt; refused = item_refused done head c.count.result c.in_err-read_items.field-0.0 c.count.ensures read.refused })
 
 pub read_item_blocks-loop-items-smaller : goal.read_item_blocks-loop-items-smaller
 read_item_blocks-loop-items-smaller g t c =
-    let done = c.loop-items.invariant in
-    let nodes = schema_nodes c.args.schema.now in
-    let place = c.args.place.0 in
-    let start = c.args.cursor.now in
-    let now = c.loop-items.cursor in
-    let mid = c.block.new.self in
-    let block = c.in-Some.block in
-    let head = head_read now mid block (rw c.in-Some.is at c.in_ok-block.ensures.found) in
-    let d = depth_kept nodes place start now done.0 done.1 mid block head in
-    let b = blob_kept nodes place start now done.0 done.1 mid block head in
-    let read = c.in_ok-read_items.ensures (limits_at start) d b in
-    let ys = read.found.0 in
-    let found = read.found.3 in
-    let counted = read.found.2 ∙ c.count.ensures in
-    let after = c.read_items.new.cursor in
-    array_smaller nodes place start now done.0 done.1 mid block head after read.found.1 ys found counted
+    let inv = c.loop-items.invariant in
+    let done = inv.1 in
+    let head = head_read c.loop-items.cursor c.block.new.self c.in-Some.block (rw c.in-Some.is at c.in_ok-block.ensures.found) in
+    let read = c.in_ok-read_items.ensures (limits_at c.args.cursor.now) (depth_kept done head) (blob_kept done head) in
+    block_smaller done head read.found.3 (read.found.2 ∙ c.count.ensures)
 
 pub read_item_blocks-loop-items-preserved : goal.read_item_blocks-loop-items-preserved
 read_item_blocks-loop-items-preserved g t c =
-    let done = c.loop-items.invariant in
-    let nodes = schema_nodes c.args.schema.now in
-    let place = c.args.place.0 in
-    let start = c.args.cursor.now in
-    let now = c.loop-items.cursor in
-    let mid = c.block.new.self in
-    let block = c.in-Some.block in
-    let head = head_read now mid block (rw c.in-Some.is at c.in_ok-block.ensures.found) in
-    let d = depth_kept nodes place start now done.0 done.1 mid block head in
-    let b = blob_kept nodes place start now done.0 done.1 mid block head in
-    let read = c.in_ok-read_items.ensures (limits_at start) d b in
-    let ys = read.found.0 in
+    let inv = c.loop-items.invariant in
+    let done = inv.1 in
+    let head = head_read c.loop-items.cursor c.block.new.self c.in-Some.block (rw c.in-Some.is at c.in_ok-block.ensures.found) in
+    let read = c.in_ok-read_items.ensures (limits_at c.args.cursor.now) (depth_kept done head) (blob_kept done head) in
     let found = read.found.3 in
     let counted = read.found.2 ∙ c.count.ensures in
-    let after = c.read_items.new.cursor in
     let size = length (concat found.items) in
-    let ends = c.in_ok-end_block.ensures now.place size head.head head.is_block (array_place nodes place start now done.0 done.1 mid block head after read.found.1 ys found counted) in
-    (done.0 ++ ys, array_push nodes place start now done.0 done.1 mid block head after read.found.1 ys found counted (has_size tt now.place head.head size ends), g.met.M.Make.keeps_on c.args.maker.now c.loop-items.maker c.read_items.new.maker done.2 read.found.4.0, read.found.4.1 c.args.at done.0 done.3)
+    let ends = c.in_ok-end_block.ensures c.loop-items.cursor.place size head.head head.is_block (place_is done head found counted) in
+    (inv.0 ++ read.found.0, subst (λ (keys : List (List ℕ)). ArrayDone (schema_nodes c.args.schema.now) c.args.place.0 c.args.cursor.now c.read_items.new.cursor keys (inv.0 ++ read.found.0)) found.stand.keys (blocks_push done head found counted (has_size tt c.loop-items.cursor.place head.head size ends)), g.met.M.Make.keeps_on c.args.maker.now c.loop-items.maker c.read_items.new.maker inv.2 read.found.4.0, read.found.4.1 c.args.at inv.0 inv.3)
 
 pub read_item_blocks-returns-in_err-end_block : goal.read_item_blocks-returns-in_err-end_block
 read_item_blocks-returns-in_err-end_block g t c =
-    let done = c.loop-items.invariant in
-    let nodes = schema_nodes c.args.schema.now in
-    let place = c.args.place.0 in
-    let start = c.args.cursor.now in
-    let now = c.loop-items.cursor in
-    let mid = c.block.new.self in
-    let block = c.in-Some.block in
-    let head = head_read now mid block (rw c.in-Some.is at c.in_ok-block.ensures.found) in
-    let d = depth_kept nodes place start now done.0 done.1 mid block head in
-    let b = blob_kept nodes place start now done.0 done.1 mid block head in
-    let read = c.in_ok-read_items.ensures (limits_at start) d b in
-    let ys = read.found.0 in
+    let inv = c.loop-items.invariant in
+    let done = inv.1 in
+    let head = head_read c.loop-items.cursor c.block.new.self c.in-Some.block (rw c.in-Some.is at c.in_ok-block.ensures.found) in
+    let read = c.in_ok-read_items.ensures (limits_at c.args.cursor.now) (depth_kept done head) (blob_kept done head) in
     let found = read.found.3 in
     let counted = read.found.2 ∙ c.count.ensures in
-    let after = c.read_items.new.cursor in
     let p = err_from_is_err_and c.from_residual-in_err-end_block.result c.from_residual-in_err-end_block.ensures.1 in
-    let size = length (concat found.items) in
-    let ends = c.in_err-end_block.ensures now.place size head.head head.is_block (array_place nodes place start now done.0 done.1 mid block head after read.found.1 ys found counted) in
-    rw (p.1, p.2) (array_size_refused nodes place start now done.0 done.1 mid block head after read.found.1 ys found counted (Unit {0}) c.in_err-end_block.field-0.0 ends)
+    let ends = c.in_err-end_block.ensures c.loop-items.cursor.place (length (concat found.items)) head.head head.is_block (place_is done head found counted) in
+    rw (p.1, p.2) (record { found = tt; refused = size_refused done head found counted (Unit {0}) c.in_err-end_block.field-0.0 ends })
 
 pub read_item_blocks-returns-in-Ok-array : goal.read_item_blocks-returns-in-Ok-array
 read_item_blocks-returns-in-Ok-array g t c =
-    let done = c.loop-items.invariant in
+    let inv = c.loop-items.invariant in
     let nodes = schema_nodes c.args.schema.now in
-    let start = c.args.cursor.now in
     let end = end_read c.loop-items.cursor c.block.new.self (rw c.in_default.is at c.in_ok-block.ensures.found) in
-    array_found nodes c.args.place.0 start c.loop-items.cursor c.block.new.self [] done.0 c.in-Ok-array.out done.1 end c.nodes-nodes.ensures.in_range (g.met.M.Make.keeps_on c.args.maker.now c.loop-items.maker c.array.new.self done.2 c.in-Ok-array.ensures.kept, c.in-Ok-array.ensures.stands nodes c.args.place.0 c.args.at done.0 done.3)
+    array_found nodes c.args.place.0 inv.1 end c.in-Ok-array.out c.nodes-nodes.ensures.in_range (g.met.M.Make.keeps_on c.args.maker.now c.loop-items.maker c.array.new.self inv.2 c.in-Ok-array.ensures.kept, c.in-Ok-array.ensures.stands nodes c.args.place.0 c.args.at inv.0 inv.3)
 
 -- ---- Maps
 
 pub read_entry_blocks-loop-entries-init : goal.read_entry_blocks-loop-entries-init
-read_entry_blocks-loop-entries-init g t c = ([], [], c.new-keys.ensures, map_none (schema_nodes c.args.schema.now) c.args.place.0 c.args.cursor.now, c.in-Ok.ensures.kept, c.in-Ok.ensures.stands (schema_nodes c.args.schema.now) c.args.place.0)
+read_entry_blocks-loop-entries-init g t c =
+    let nodes = schema_nodes c.args.schema.now in
+    ([], [], c.new-keys.ensures, blocks_none (entries_kind nodes (limits_at c.args.cursor.now) (node_at nodes c.args.place.0)) c.args.cursor.now refl, c.in-Ok.ensures.kept, c.in-Ok.ensures.stands nodes c.args.place.0)
 
 pub read_entry_blocks-returns-in_err-head : goal.read_entry_blocks-returns-in_err-head
 read_entry_blocks-returns-in_err-head g t c =
     let p = err_from_is_err_and c.from_residual.result c.from_residual.ensures.1 in
-    let done = c.loop-entries.invariant in
-    rw (p.1, p.2) (map_head_refused (schema_nodes c.args.schema.now) c.args.place.0 c.args.cursor.now c.loop-entries.cursor done.1 done.0 done.3 c.block.new.self
-    c.in_err-head.field-0.0 c.in_err-head.ensures.refused)
+    rw (p.1, p.2) (record { found = tt; refused = head_refused c.loop-entries.invariant.3 c.in_err-head.field-0.0 c.in_err-head.ensures.refused })
 
 pub read_entry_blocks-returns-in-Ok-map : goal.read_entry_blocks-returns-in-Ok-map
 read_entry_blocks-returns-in-Ok-map g t c =
-    let done = c.loop-entries.invariant in
+    let inv = c.loop-entries.invariant in
+    let nodes = schema_nodes c.args.schema.now in
     let end = end_read c.loop-entries.cursor c.block.new.self (rw c.in_default.is at c.in_ok-head.ensures.found) in
-    map_found (schema_nodes c.args.schema.now) c.args.place.0 c.args.cursor.now c.loop-entries.cursor c.block.new.self done.1 done.0 c.in-Ok-map.out done.3 end c.nodes-nodes.ensures.in_range (g.met.M.Make.keeps_on c.args.maker.now c.loop-entries.maker c.map.new.self done.4 c.in-Ok-map.ensures.kept, c.in-Ok-map.ensures.stands (schema_nodes c.args.schema.now) c.args.place.0 c.args.at done.0 done.5)
+    map_found nodes c.args.place.0 inv.3 end c.in-Ok-map.out c.nodes-nodes.ensures.in_range (g.met.M.Make.keeps_on c.args.maker.now c.loop-entries.maker c.map.new.self inv.4 c.in-Ok-map.ensures.kept, c.in-Ok-map.ensures.stands nodes c.args.place.0 c.args.at inv.0 inv.5)
 
 pub read_entry_blocks-returns-in_err-read_entries : goal.read_entry_blocks-returns-in_err-read_entries
 read_entry_blocks-returns-in_err-read_entries g t c =
-    let done = c.loop-entries.invariant in
-    let nodes = schema_nodes c.args.schema.now in
-    let place = c.args.place.0 in
-    let start = c.args.cursor.now in
-    let now = c.loop-entries.cursor in
-    let mid = c.block.new.self in
-    let block = c.in-Some.head in
-    let head = head_read now mid block (rw c.in-Some.is at c.in_ok-head.ensures.found) in
-    let d = map_depth_kept nodes place start now done.1 done.0 done.3 mid block head in
-    let b = map_blob_kept nodes place start now done.1 done.0 done.3 mid block head in
-    let distinct = map_distinct nodes place start now done.1 done.0 done.3 in
+    let inv = c.loop-entries.invariant in
+    let done = inv.3 in
+    let head = head_read c.loop-entries.cursor c.block.new.self c.in-Some.head (rw c.in-Some.is at c.in_ok-head.ensures.found) in
+    let read = c.in_err-read_entries.ensures (limits_at c.args.cursor.now) inv.1 (depth_kept done head) (blob_kept done head) inv.2 done.stand.distinct in
     let p = err_from_is_err_and c.from_residual-in_err-read_entries.result c.from_residual-in_err-read_entries.ensures.1 in
-    let read = c.in_err-read_entries.ensures (limits_at start) done.1 d b done.2 distinct in
-    rw (p.1, p.2) (map_item_refused nodes place start now done.1 done.0 done.3 mid block head c.read_entries.new.cursor c.count-count.result c.in_err-read_entries.field-0.0 c.count-count.ensures read.refused)
+    rw (p.1, p.2) (record { found = tt; refused = item_refused done head c.count-count.result c.in_err-read_entries.field-0.0 c.count-count.ensures read.refused })
 
 pub read_entry_blocks-loop-entries-smaller : goal.read_entry_blocks-loop-entries-smaller
 read_entry_blocks-loop-entries-smaller g t c =
-    let done = c.loop-entries.invariant in
-    let nodes = schema_nodes c.args.schema.now in
-    let place = c.args.place.0 in
-    let start = c.args.cursor.now in
-    let now = c.loop-entries.cursor in
-    let mid = c.block.new.self in
-    let block = c.in-Some.head in
-    let head = head_read now mid block (rw c.in-Some.is at c.in_ok-head.ensures.found) in
-    let d = map_depth_kept nodes place start now done.1 done.0 done.3 mid block head in
-    let b = map_blob_kept nodes place start now done.1 done.0 done.3 mid block head in
-    let distinct = map_distinct nodes place start now done.1 done.0 done.3 in
-    let read = c.in_ok-read_entries.ensures (limits_at start) done.1 d b done.2 distinct in
-    let ys = read.found.0 in
-    let found = read.found.3 in
-    let counted = read.found.2 ∙ c.count-count.ensures in
-    let after = c.read_entries.new.cursor in
-    map_smaller nodes place start now done.1 done.0 done.3 mid block head after read.found.1 ys found counted
+    let inv = c.loop-entries.invariant in
+    let done = inv.3 in
+    let head = head_read c.loop-entries.cursor c.block.new.self c.in-Some.head (rw c.in-Some.is at c.in_ok-head.ensures.found) in
+    let read = c.in_ok-read_entries.ensures (limits_at c.args.cursor.now) inv.1 (depth_kept done head) (blob_kept done head) inv.2 done.stand.distinct in
+    block_smaller done head read.found.3 (read.found.2 ∙ c.count-count.ensures)
 
 pub read_entry_blocks-loop-entries-preserved : goal.read_entry_blocks-loop-entries-preserved
 read_entry_blocks-loop-entries-preserved g t c =
-    let done = c.loop-entries.invariant in
-    let nodes = schema_nodes c.args.schema.now in
-    let place = c.args.place.0 in
-    let start = c.args.cursor.now in
-    let now = c.loop-entries.cursor in
-    let mid = c.block.new.self in
-    let block = c.in-Some.head in
-    let head = head_read now mid block (rw c.in-Some.is at c.in_ok-head.ensures.found) in
-    let d = map_depth_kept nodes place start now done.1 done.0 done.3 mid block head in
-    let b = map_blob_kept nodes place start now done.1 done.0 done.3 mid block head in
-    let distinct = map_distinct nodes place start now done.1 done.0 done.3 in
-    let read = c.in_ok-read_entries.ensures (limits_at start) done.1 d b done.2 distinct in
-    let ys = read.found.0 in
+    let inv = c.loop-entries.invariant in
+    let done = inv.3 in
+    let head = head_read c.loop-entries.cursor c.block.new.self c.in-Some.head (rw c.in-Some.is at c.in_ok-head.ensures.found) in
+    let read = c.in_ok-read_entries.ensures (limits_at c.args.cursor.now) inv.1 (depth_kept done head) (blob_kept done head) inv.2 done.stand.distinct in
     let found = read.found.3 in
     let counted = read.found.2 ∙ c.count-count.ensures in
-    let after = c.read_entries.new.cursor in
     let size = length (concat found.items) in
-    let ends = c.in_ok-end_block.ensures now.place size head.head head.is_block (map_place nodes place start now done.1 done.0 done.3 mid block head after read.found.1 ys found counted) in
-    (done.0 ++ ys, read.found.1, read.found.4.0, map_push nodes place start now done.1 done.0 done.3 mid block head after read.found.1 ys found counted (has_size tt now.place head.head size ends), g.met.M.Make.keeps_on c.args.maker.now c.loop-entries.maker c.read_entries.new.maker done.4 read.found.4.1, read.found.4.2 c.args.at done.0 done.5)
+    let ends = c.in_ok-end_block.ensures c.loop-entries.cursor.place size head.head head.is_block (place_is done head found counted) in
+    (inv.0 ++ read.found.0, read.found.1, read.found.4.0, blocks_push done head found counted (has_size tt c.loop-entries.cursor.place head.head size ends), g.met.M.Make.keeps_on c.args.maker.now c.loop-entries.maker c.read_entries.new.maker inv.4 read.found.4.1, read.found.4.2 c.args.at inv.0 inv.5)
 
 pub read_entry_blocks-returns-in_err-end_block : goal.read_entry_blocks-returns-in_err-end_block
 read_entry_blocks-returns-in_err-end_block g t c =
-    let done = c.loop-entries.invariant in
-    let nodes = schema_nodes c.args.schema.now in
-    let place = c.args.place.0 in
-    let start = c.args.cursor.now in
-    let now = c.loop-entries.cursor in
-    let mid = c.block.new.self in
-    let block = c.in-Some.head in
-    let head = head_read now mid block (rw c.in-Some.is at c.in_ok-head.ensures.found) in
-    let d = map_depth_kept nodes place start now done.1 done.0 done.3 mid block head in
-    let b = map_blob_kept nodes place start now done.1 done.0 done.3 mid block head in
-    let distinct = map_distinct nodes place start now done.1 done.0 done.3 in
-    let read = c.in_ok-read_entries.ensures (limits_at start) done.1 d b done.2 distinct in
-    let ys = read.found.0 in
+    let inv = c.loop-entries.invariant in
+    let done = inv.3 in
+    let head = head_read c.loop-entries.cursor c.block.new.self c.in-Some.head (rw c.in-Some.is at c.in_ok-head.ensures.found) in
+    let read = c.in_ok-read_entries.ensures (limits_at c.args.cursor.now) inv.1 (depth_kept done head) (blob_kept done head) inv.2 done.stand.distinct in
     let found = read.found.3 in
     let counted = read.found.2 ∙ c.count-count.ensures in
-    let after = c.read_entries.new.cursor in
     let p = err_from_is_err_and c.from_residual-in_err-end_block.result c.from_residual-in_err-end_block.ensures.1 in
-    let size = length (concat found.items) in
-    let ends = c.in_err-end_block.ensures now.place size head.head head.is_block (map_place nodes place start now done.1 done.0 done.3 mid block head after read.found.1 ys found counted) in
-    rw (p.1, p.2) (map_size_refused nodes place start now done.1 done.0 done.3 mid block head after read.found.1 ys found counted (Unit {0}) c.in_err-end_block.field-0.0 ends)
+    let ends = c.in_err-end_block.ensures c.loop-entries.cursor.place (length (concat found.items)) head.head head.is_block (place_is done head found counted) in
+    rw (p.1, p.2) (record { found = tt; refused = size_refused done head found counted (Unit {0}) c.in_err-end_block.field-0.0 ends })
 
 -- ---- Entries
 
@@ -243,7 +165,6 @@ read_entries-returns-in_err-key g t c = λ limits before d b are distinct.
     let xs = so_far.0 in
     let keys = so_far.1 in
     let run = so_far.4 in
-    let deep = d ∙ sym run.moves.depth in
     let long = b ∙ sym run.moves.blob in
     let counted = so_far.2 in
     let before_end = c.loop-done-test.true in
@@ -251,7 +172,7 @@ read_entries-returns-in_err-key g t c = λ limits before d b are distinct.
     let p = err_from_is_err_and c.from_residual.result c.from_residual.ensures.1 in
     let e = c.in_err-key.field-0.0 in
     let read = c.in_err-key.ensures.read keys so_far.3 in
-    let refused = run_breaks (EntriesRun nodes limits n) (EntriesAreWhole nodes limits n) (λ left. are_distinct bytes_eq left.keys ≡ true) (entries_run nodes limits n) (entry_breaks nodes limits n) start now before keys xs c.args.count e run few (key_report nodes limits n now keys e long read.refused) in
+    let refused = run_breaks (entries_kind nodes limits n) run c.args.count e few (key_report nodes limits n now keys e long read.refused) in
     rw (p.1, p.2) (record { found = tt; refused = refused })
 
 pub read_entries-returns-in_err-value : goal.read_entries-returns-in_err-value
@@ -277,7 +198,7 @@ read_entries-returns-in_err-value g t c = λ limits before d b are distinct.
     let passes = read.found.2 in
     let p = err_from_is_err_and c.from_residual-in_err-value.result c.from_residual-in_err-value.ensures.1 in
     let e = c.in_err-value.field-0.0 in
-    let refused = run_breaks (EntriesRun nodes limits n) (EntriesAreWhole nodes limits n) (λ left. are_distinct bytes_eq left.keys ≡ true) (entries_run nodes limits n) (entry_breaks nodes limits n) start now before keys xs c.args.count e run few
+    let refused = run_breaks (entries_kind nodes limits n) run c.args.count e few
     (entry_report nodes limits n now mid keys key front e is passes deep long c.in_err-value.ensures.refused) in
     rw (p.1, p.2) (record { found = tt; refused = refused })
 
@@ -305,9 +226,9 @@ read_entries-loop-done-preserved g t c = (
       let after = c.read_place.new.cursor in
       let v = found.0 in
       let value = found.1 in
-      let one = entry_run nodes limits n now mid after keys key front v value ((entries_run nodes limits n).prepared _ _ xs run.items run.stand) is passes deep long in
+      let one = entry_run nodes limits n now mid after keys key front v value ((entries_kind nodes limits n).laws.prepared _ _ xs run.items run.stand) is passes deep long in
       let moved = moves-join now mid after front value.front (moves-passed now mid front passes) value.moves in
-      let more = run_push (EntriesRun nodes limits n) (EntriesAreWhole nodes limits n) (λ left. are_distinct bytes_eq left.keys ≡ true) (entries_run nodes limits n) start now after before keys (keys ++ key ∷ []) xs (key, v) (front ++ value.front) run one moved in
+      let more = run_push (entries_kind nodes limits n) run after (keys ++ key ∷ []) (key, v) (front ++ value.front) one moved in
       let counted = so_far.2 in
       let maker = c.loop-done.maker in
       let made = c.read_place.new.maker in
@@ -326,8 +247,6 @@ read_entries-returns g t c = λ limits before d b are distinct.
     let xs = so_far.0 in
     let keys = so_far.1 in
     let run = so_far.4 in
-    let deep = d ∙ sym run.moves.depth in
-    let long = b ∙ sym run.moves.blob in
     let counted = so_far.2 in
     let ended = c.loop-done-test.false in
     let inside = c.loop-done.auto._done-end in
@@ -349,8 +268,7 @@ read_items-returns-in_err-value g t c = λ limits d b.
     let few : length so_far.0 < c.args.count = omega arith in
     let e = c.in_err-value.field-0.0 in
     let reported = value_report nodes limits n now [] e (d ∙ sym so_far.2.moves.depth) (b ∙ sym so_far.2.moves.blob) c.in_err-value.ensures.refused in
-    let refused = run_breaks (ValuesRun nodes limits n) (ItemsAreWhole nodes limits n) (λ left. Unit {0}) (values_run nodes limits n) (value_breaks nodes limits n) start now [] [] so_far.0
-    c.args.count e so_far.2 few reported in
+    let refused = run_breaks (values_kind nodes limits n) so_far.2 c.args.count e few reported in
     rw (p.1, p.2) (record { found = tt; refused = refused })
 
 pub read_items-loop-done-preserved : goal.read_items-loop-done-preserved
@@ -369,7 +287,7 @@ read_items-loop-done-preserved g t c =
           let xs = so_far.0 in
           let counted = so_far.1 in
           let one = value_run nodes limits n now after [] v value (d ∙ sym so_far.2.moves.depth) (b ∙ sym so_far.2.moves.blob) in
-          let more = run_push (ValuesRun nodes limits n) (ItemsAreWhole nodes limits n) (λ left. Unit {0}) (values_run nodes limits n) start now after [] [] [] xs v value.front so_far.2 one value.moves in
+          let more = run_push (values_kind nodes limits n) so_far.2 after [] v value.front one value.moves in
           let maker = c.loop-done.maker in
           let made = c.read_place.new.maker in
           let items = c.loop-done.items in
@@ -617,7 +535,7 @@ read_items-loop-done-init g t c = (
   λ limits d b.
       let nodes = schema_nodes c.args.schema.now in
       let n = node_at nodes c.args.place.0 in
-      let none = run_none (ValuesRun nodes limits n) (ItemsAreWhole nodes limits n) (λ left. Unit {0}) (values_run nodes limits n) c.args.cursor.now [] tt in
+      let none = run_none (values_kind nodes limits n) c.args.cursor.now [] tt in
       let kept = λ (at : g.row.M-At.Denot) (us : List Value) (h : g.M.Make.items_stand_for c.args.maker.now nodes c.args.place.0 at c.args.items.now us). subst (λ (vs : List Value). g.M.Make.items_stand_for c.args.maker.now nodes c.args.place.0 at c.args.items.now vs) (sym (append-nil us)) h in
       ([], refl, none, g.met.M.Make.keeps_itself c.args.maker.now, kept),
 )
@@ -628,7 +546,7 @@ read_entries-loop-done-init g t c = (
   λ limits before d b are distinct.
       let nodes = schema_nodes c.args.schema.now in
       let n = node_at nodes c.args.place.0 in
-      let none = run_none (EntriesRun nodes limits n) (EntriesAreWhole nodes limits n) (λ left. are_distinct bytes_eq left.keys ≡ true) (entries_run nodes limits n) c.args.cursor.now before distinct in
+      let none = run_none (entries_kind nodes limits n) c.args.cursor.now before distinct in
       let kept = λ (at : g.row.M-At.Denot) (fs : List (List ℕ × Value)) (h : g.M.Make.entries_stand_for c.args.maker.now nodes c.args.place.0 at c.args.entries.now fs).
       subst (λ (es : List (List ℕ × Value)). g.M.Make.entries_stand_for c.args.maker.now nodes c.args.place.0 at c.args.entries.now es) (sym (append-nil fs)) h in
       ([], before, refl, are, none, g.met.M.Make.keeps_itself c.args.maker.now, kept),

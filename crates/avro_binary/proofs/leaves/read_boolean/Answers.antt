@@ -1,12 +1,12 @@
 use Rattle.std.proofs.Common.{Bool}
 use Rattle.std.proofs.lemmas.Result.{err_from_is_err_and}
 use Rattle.avro_schema.specs.Node.{Node}
-use Rattle.avro_binary.specs.CursorReads.{left_node}
+use Rattle.avro_binary.specs.Breaks.{BooleanBreaks}
 use Rattle.avro_binary.specs.Elements.{IsBoolean}
 use Rattle.avro_binary.proofs.CountSteps.{inside_of, finds_inside, counted_found, counted_refused}
-use Rattle.avro_binary.proofs.LeafReads.{boolean_found, boolean_refused}
+use Rattle.avro_binary.proofs.LeafReads.{boolean_found}
 use Rattle.avro_binary.proofs.NodeSteps.{enter_refused}
-use Rattle.avro_binary.proofs.reading.read_boolean.Goals as goal
+use Rattle.avro_binary.proofs.leaves.read_boolean.Goals as goal
 
 pub returns-in_err-count : goal.returns-in_err-count
 returns-in_err-count g c = λ nodes.
@@ -22,8 +22,4 @@ returns-in-Ok-boolean g c = λ nodes.
     (boolean_found nodes (inside_of counted) (inside_of after) c.in-Ok-boolean.out c.in-Ok.value (finds_inside (λ (x : Bool). x) IsBoolean counted after c.in-Ok.value found) (c.in-Ok-boolean.ensures.kept, c.in-Ok-boolean.ensures.stands nodes))
 
 pub returns-in-Err : goal.returns-in-Err
-returns-in-Err g c = λ nodes.
-    let counted = c.count.new.self in
-    let after = c.boolean.new.self in
-    counted_refused nodes (Node.boolean) c.args.cursor.now counted (left_node (inside_of after)) after c.in-Err.error c.in_ok-count.ensures.counted
-    (boolean_refused nodes (inside_of counted) (inside_of after) c.in-Err.error c.in-Err.ensures.refused)
+returns-in-Err g c = λ nodes. counted_refused nodes (Node.boolean) BooleanBreaks c.in_ok-count.ensures.counted (λ f b. b) c.in-Err.ensures.refused

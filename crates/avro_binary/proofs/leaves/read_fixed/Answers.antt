@@ -1,11 +1,11 @@
 use Rattle.std.proofs.Common.{arith}
 use Rattle.std.proofs.lemmas.Result.{err_from_is_err_and}
 use Rattle.avro_schema.specs.Node.{Node}
-use Rattle.avro_binary.specs.CursorReads.{left_node}
+use Rattle.avro_binary.specs.Breaks.{FixedBreaks}
 use Rattle.avro_binary.proofs.CountSteps.{inside_of, passes_inside, counted_found, counted_refused}
-use Rattle.avro_binary.proofs.LeafReads.{fixed_found, fixed_refused}
+use Rattle.avro_binary.proofs.LeafReads.{fixed_found}
 use Rattle.avro_binary.proofs.NodeSteps.{enter_refused}
-use Rattle.avro_binary.proofs.reading.read_fixed.Goals as goal
+use Rattle.avro_binary.proofs.leaves.read_fixed.Goals as goal
 
 pub returns-in_err-count : goal.returns-in_err-count
 returns-in_err-count g c = λ nodes name aliases.
@@ -21,8 +21,4 @@ returns-in-Ok-fixed g c = λ nodes name aliases.
     (fixed_found nodes (inside_of counted) (inside_of after) c.in-Ok-fixed.out name aliases c.args.size c.in-Ok.content.now found.0 found.1 (passes_inside counted after found.0 found.2) (omega arith) c.drop_content.ensures (c.in-Ok-fixed.ensures.kept, c.in-Ok-fixed.ensures.stands nodes name aliases c.args.size))
 
 pub returns-in-Err : goal.returns-in-Err
-returns-in-Err g c = λ nodes name aliases.
-    let counted = c.count.new.self in
-    let after = c.fixed.new.self in
-    counted_refused nodes (Node.fixed name aliases c.args.size) c.args.cursor.now counted (left_node (inside_of after)) after c.in-Err.error c.in_ok-count.ensures.counted
-    (fixed_refused nodes (inside_of counted) (inside_of after) c.in-Err.error name aliases c.args.size c.in-Err.ensures.refused)
+returns-in-Err g c = λ nodes name aliases. counted_refused nodes (Node.fixed name aliases c.args.size) (FixedBreaks c.args.size c.count.new.self.blob) c.in_ok-count.ensures.counted (λ f b. b) c.in-Err.ensures.refused

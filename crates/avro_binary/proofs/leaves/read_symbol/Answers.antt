@@ -1,12 +1,12 @@
-use Rattle.std.proofs.Common.{ℕ, ◌<◌, length, arith}
+use Rattle.std.proofs.Common.{ℕ, ◌<◌, length, subst, arith}
 use Rattle.std.proofs.lemmas.Result.{err_from_is_err_and}
 use Rattle.avro_schema.specs.Node.{Node}
-use Rattle.avro_binary.specs.CursorReads.{left_node}
+use Rattle.avro_binary.specs.Breaks.{IndexBreaks}
 use Rattle.avro_binary.specs.Elements.{IsIndex}
 use Rattle.avro_binary.proofs.CountSteps.{inside_of, finds_inside, counted_found, counted_refused}
-use Rattle.avro_binary.proofs.LeafReads.{symbol_found, symbol_refused}
+use Rattle.avro_binary.proofs.LeafReads.{symbol_found}
 use Rattle.avro_binary.proofs.NodeSteps.{enter_refused}
-use Rattle.avro_binary.proofs.reading.read_symbol.Goals as goal
+use Rattle.avro_binary.proofs.leaves.read_symbol.Goals as goal
 
 pub returns-in_err-count : goal.returns-in_err-count
 returns-in_err-count g c = λ nodes name aliases texts default same.
@@ -23,8 +23,4 @@ returns-in-Ok-symbol g c = λ nodes name aliases texts default same.
     (symbol_found nodes (inside_of counted) (inside_of after) c.in-Ok-symbol.out name aliases texts default c.args.symbols c.in-Ok.symbol same (finds_inside (λ (x : ℕ). x) (IsIndex c.args.symbols) counted after c.in-Ok.symbol found) (c.in-Ok-symbol.ensures.kept, c.in-Ok-symbol.ensures.stands nodes name aliases texts default below))
 
 pub returns-in-Err : goal.returns-in-Err
-returns-in-Err g c = λ nodes name aliases texts default same.
-    let counted = c.count.new.self in
-    let after = c.index.new.self in
-    counted_refused nodes (Node.enum name aliases texts default) c.args.cursor.now counted (left_node (inside_of after)) after c.in-Err.error c.in_ok-count.ensures.counted
-    (symbol_refused nodes (inside_of counted) (inside_of after) c.in-Err.error name aliases texts default c.args.symbols same c.in-Err.ensures.refused)
+returns-in-Err g c = λ nodes name aliases texts default same. counted_refused nodes (Node.enum name aliases texts default) (IndexBreaks c.args.symbols) c.in_ok-count.ensures.counted (λ f b. subst (λ (n : ℕ). IndexBreaks n c.count.new.self.bytes f) same b) c.in-Err.ensures.refused

@@ -1,10 +1,10 @@
 use Rattle.std.proofs.lemmas.Result.{err_from_is_err_and}
 use Rattle.avro_schema.specs.Node.{Node}
-use Rattle.avro_binary.specs.CursorReads.{left_node}
+use Rattle.avro_binary.specs.Breaks.{StringBreaks}
 use Rattle.avro_binary.proofs.CountSteps.{inside_of, passes_inside, counted_found, counted_refused}
-use Rattle.avro_binary.proofs.LeafReads.{string_found, string_refused}
+use Rattle.avro_binary.proofs.LeafReads.{string_found}
 use Rattle.avro_binary.proofs.NodeSteps.{enter_refused}
-use Rattle.avro_binary.proofs.reading.read_text.Goals as goal
+use Rattle.avro_binary.proofs.leaves.read_text.Goals as goal
 
 pub returns-in_err-count : goal.returns-in_err-count
 returns-in_err-count g c = λ nodes.
@@ -20,8 +20,4 @@ returns-in-Ok-string g c = λ nodes.
     (string_found nodes (inside_of counted) (inside_of after) c.in-Ok-string.out c.in-Ok.text.now found.0 found.1 (passes_inside counted after found.0 found.2) (c.in-Ok-string.ensures.kept, c.in-Ok-string.ensures.stands nodes))
 
 pub returns-in-Err : goal.returns-in-Err
-returns-in-Err g c = λ nodes.
-    let counted = c.count.new.self in
-    let after = c.string.new.self in
-    counted_refused nodes (Node.string) c.args.cursor.now counted (left_node (inside_of after)) after c.in-Err.error c.in_ok-count.ensures.counted
-    (string_refused nodes (inside_of counted) (inside_of after) c.in-Err.error c.in-Err.ensures.refused)
+returns-in-Err g c = λ nodes. counted_refused nodes (Node.string) (StringBreaks c.count.new.self.blob) c.in_ok-count.ensures.counted (λ f b. b) c.in-Err.ensures.refused

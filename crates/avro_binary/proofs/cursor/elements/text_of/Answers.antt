@@ -1,6 +1,6 @@
 use Rattle.std.proofs.lemmas.Str.{is_utf8-from_IsUtf8}
 use Rattle.avro_binary.proofs.CursorSteps.{not_utf8}
-use Rattle.avro_binary.proofs.cursor.text_of.Goals as goal
+use Rattle.avro_binary.proofs.cursor.elements.text_of.Goals as goal
 
 pub returns-in-Ok-clause-some : goal.returns-in-Ok-clause-some
 returns-in-Ok-clause-some c = let text = c.in-Ok.ensures.cases in (text.0, is_utf8-from_IsUtf8 c.args.content.now text.1)

@@ -4,7 +4,7 @@ use Rattle.avro_schema.specs.Node.{Node}
 use Rattle.avro_binary.proofs.CountSteps.{inside_of, counted_found}
 use Rattle.avro_binary.proofs.LeafReads.{null_found}
 use Rattle.avro_binary.proofs.NodeSteps.{enter_refused}
-use Rattle.avro_binary.proofs.reading.read_null.Goals as goal
+use Rattle.avro_binary.proofs.leaves.read_null.Goals as goal
 
 pub returns-in_err-count : goal.returns-in_err-count
 returns-in_err-count g c = λ nodes.

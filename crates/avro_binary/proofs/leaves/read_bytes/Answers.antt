@@ -1,10 +1,10 @@
 use Rattle.std.proofs.lemmas.Result.{err_from_is_err_and}
 use Rattle.avro_schema.specs.Node.{Node}
-use Rattle.avro_binary.specs.CursorReads.{left_node}
+use Rattle.avro_binary.specs.Breaks.{BytesBreaks}
 use Rattle.avro_binary.proofs.CountSteps.{inside_of, passes_inside, counted_found, counted_refused}
-use Rattle.avro_binary.proofs.LeafReads.{bytes_found, bytes_refused}
+use Rattle.avro_binary.proofs.LeafReads.{bytes_found}
 use Rattle.avro_binary.proofs.NodeSteps.{enter_refused}
-use Rattle.avro_binary.proofs.reading.read_bytes.Goals as goal
+use Rattle.avro_binary.proofs.leaves.read_bytes.Goals as goal
 
 pub returns-in_err-count : goal.returns-in_err-count
 returns-in_err-count g c = λ nodes.
@@ -20,8 +20,4 @@ returns-in-Ok-bytes g c = λ nodes.
     (bytes_found nodes (inside_of counted) (inside_of after) c.in-Ok-bytes.out c.in-Ok.content.now found.0 found.1 (passes_inside counted after found.0 found.2) c.drop_content.ensures (c.in-Ok-bytes.ensures.kept, c.in-Ok-bytes.ensures.stands nodes))
 
 pub returns-in-Err : goal.returns-in-Err
-returns-in-Err g c = λ nodes.
-    let counted = c.count.new.self in
-    let after = c.bytes.new.self in
-    counted_refused nodes (Node.bytes) c.args.cursor.now counted (left_node (inside_of after)) after c.in-Err.error c.in_ok-count.ensures.counted
-    (bytes_refused nodes (inside_of counted) (inside_of after) c.in-Err.error c.in-Err.ensures.refused)
+returns-in-Err g c = λ nodes. counted_refused nodes (Node.bytes) (BytesBreaks c.count.new.self.blob) c.in_ok-count.ensures.counted (λ f b. b) c.in-Err.ensures.refused

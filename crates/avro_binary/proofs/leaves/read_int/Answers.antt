@@ -3,12 +3,12 @@ use Rattle.std.proofs.lemmas.Int.{to_z-of_z}
 use Rattle.avro_schema.specs.Value.{Value}
 use Rattle.std.proofs.lemmas.Result.{err_from_is_err_and}
 use Rattle.avro_schema.specs.Node.{Node}
-use Rattle.avro_binary.specs.CursorReads.{left_node}
+use Rattle.avro_binary.specs.Breaks.{IntBreaks}
 use Rattle.avro_binary.specs.Elements.{IsInt}
 use Rattle.avro_binary.proofs.CountSteps.{inside_of, finds_inside, counted_found, counted_refused}
-use Rattle.avro_binary.proofs.LeafReads.{int_found, int_refused}
+use Rattle.avro_binary.proofs.LeafReads.{int_found}
 use Rattle.avro_binary.proofs.NodeSteps.{enter_refused}
-use Rattle.avro_binary.proofs.reading.read_int.Goals as goal
+use Rattle.avro_binary.proofs.leaves.read_int.Goals as goal
 
 pub returns-in_err-count : goal.returns-in_err-count
 returns-in_err-count g c = λ nodes.
@@ -26,8 +26,4 @@ returns-in-Ok-int g c = λ nodes.
     (int_found nodes (inside_of counted) (inside_of after) c.in-Ok-int.out c.in-Ok.value (finds_inside (λ (x : ℤ). x) IsInt counted after c.in-Ok.value found) (c.in-Ok-int.ensures.kept, stands))
 
 pub returns-in-Err : goal.returns-in-Err
-returns-in-Err g c = λ nodes.
-    let counted = c.count.new.self in
-    let after = c.int.new.self in
-    counted_refused nodes (Node.int) c.args.cursor.now counted (left_node (inside_of after)) after c.in-Err.error c.in_ok-count.ensures.counted
-    (int_refused nodes (inside_of counted) (inside_of after) c.in-Err.error c.in-Err.ensures.refused)
+returns-in-Err g c = λ nodes. counted_refused nodes (Node.int) IntBreaks c.in_ok-count.ensures.counted (λ f b. b) c.in-Err.ensures.refused

@@ -1,0 +1,136 @@
+ghost use Rattle.std.specs.Prelude.{◌≡◌, ◌+◌, ◌-◌, ◌^◌, ◌≤◌, ◌<◌, ℕ, length, take, drop, pos, negsuc, neg_ℤ, IfOk, true};
+ghost use Rattle.std.specs.Result.{IfErr};
+ghost use Rattle.avro_zigzag.specs.Number.{SpellsLong};
+ghost use Rattle.avro_binary.specs.BlockHeads.{IsBlock, ReadsHead, EndsBlock, signed_count};
+ghost use Rattle.avro_binary.specs.Breaks.{Head, HeadBreaks, head_bytes, StartsWithLong};
+ghost use Rattle.avro_binary.specs.Elements.{Refuses};
+
+use super::{Cursor, number_error};
+use crate::block::{Block, BlockSize};
+use crate::error::ReadError;
+use avro_zigzag::read_long;
+
+impl<'a> Cursor<'a> {
+    /// Whether the count of a block at the front is negative, its magnitude after its tests, and how
+    /// many bytes it takes.
+    fn block_count(&self) -> Result<(bool, u32, usize), ReadError>
+        ensures inside { IfOk result (λ r. r.2 ≤ length self.now.bytes) }
+        ensures within { IfOk result (λ r. r.1 ≤ self.now.nodes) }
+        ensures some { IfOk result (λ r. r.0 ≡ true → 0 < r.1) }
+        ensures small { IfOk result (λ r. r.1 < 2 ^ 63) }
+        ensures stands { IfOk result (λ r. StartsWithLong (signed_count r.0 r.1) self.now.bytes (take r.2 self.now.bytes) (drop r.2 self.now.bytes)) }
+        ensures refused { IfErr result (Refuses (HeadBreaks self.now.nodes) self.now) }
+    {
+        match read_long(self.rest()) {
+            Ok((count, len)) => {
+                if count == i64::MIN {
+                    return Err(ReadError::InvalidLength {
+                        place: self.place(),
+                    });
+                }
+                let magnitude = count.unsigned_abs();
+                if magnitude > u64::from(self.nodes) {
+                    return Err(ReadError::LimitExceeded);
+                }
+                Ok((count < 0, magnitude as u32, len))
+            }
+            Err(error) => Err(number_error(error, self.place())),
+        }
+    }
+
+    /// The size of a block behind its count, after its test, and how many bytes the two take.
+    fn block_size(&self, len: usize) -> Result<(u64, usize), ReadError>
+        requires { len ≤ length self.now.bytes }
+        ensures inside { IfOk result (λ r. (len ≤ r.1) × (r.1 ≤ length self.now.bytes)) }
+        ensures stands { IfOk result (λ r. StartsWithLong (pos r.0) (drop len self.now.bytes) (take (r.1 - len) (drop len self.now.bytes)) (drop (r.1 - len) (drop len self.now.bytes))) }
+        ensures refused { (n : ℕ) → SpellsLong (negsuc n) (take len self.now.bytes) → n + 1 < 2 ^ 63 → n < self.now.nodes → IfErr result (Refuses (HeadBreaks self.now.nodes) self.now) }
+    {
+        let (_, behind) = self.rest().split_at(len);
+        match read_long(behind) {
+            Ok((size, more)) => {
+                if size < 0 {
+                    return Err(ReadError::InvalidLength {
+                        place: self.place_behind(len),
+                    });
+                }
+                Ok((size as u64, len + more))
+            }
+            Err(error) => Err(number_error(error, self.place_behind(len))),
+        }
+    }
+
+    /// Reads the head of a block, or the 0 that ends the blocks: nothing.
+    ///
+    /// # Errors
+    ///
+    /// Of the count: `EndOfInput`, `InvalidNumber`, then `InvalidLength` where it is the least of all, then
+    /// `LimitExceeded` where it is more than the nodes left; then of the size: `EndOfInput`, `InvalidNumber`,
+    /// `InvalidLength` where it is negative.
+    pub fn block(&mut self) -> Result<Option<Block>, ReadError>
+        ensures { ReadsHead self.old self.new result }
+    {
+        match self.block_count() {
+            Ok((is_sized, count, len)) => {
+                if is_sized {
+                    return self.sized_block(count, len);
+                }
+                self.pass(len);
+                if count == 0 {
+                    return Ok(None);
+                }
+                Ok(Some(Block { count, size: None }))
+            }
+            Err(error) => Err(error),
+        }
+    }
+
+    /// Reads a block's head behind whose count, of `len` bytes, a size stands.
+    fn sized_block(&mut self, count: u32, len: usize) -> Result<Option<Block>, ReadError>
+        requires inside { len ≤ length self.old.bytes }
+        requires some { 0 < count }
+        requires within { count ≤ self.old.nodes }
+        requires small { count < 2 ^ 63 }
+        requires spelled { SpellsLong (neg_ℤ (pos count)) (take len self.old.bytes) }
+        ensures { ReadsHead self.old self.new result }
+    {
+        match self.block_size(len) {
+            Ok((bytes, both)) => {
+                let place = self.place_behind(len);
+                let items = self.place_behind(both);
+                self.pass(both);
+                let size = BlockSize {
+                    bytes,
+                    place,
+                    items,
+                };
+                Ok(Some(Block {
+                    count,
+                    size: Some(size),
+                }))
+            }
+            Err(error) => Err(error),
+        }
+    }
+
+    /// Compares the size that a block's head gave, if any, with where the cursor is behind the
+    /// block's items.
+    ///
+    /// # Errors
+    ///
+    /// `WrongBlockSize`.
+    pub fn end_block(&self, block: &Block) -> Result<(), ReadError>
+        ensures { (place n : ℕ) (head : Head) → IsBlock place head block.now → self.now.place ≡ place + length (head_bytes head) + n → EndsBlock place head n result }
+    {
+        match block.size {
+            Some(size) => {
+                let place = self.place();
+                if place >= size.items && (place - size.items) as u64 == size.bytes {
+                    Ok(())
+                } else {
+                    Err(ReadError::WrongBlockSize { place: size.place })
+                }
+            }
+            None => Ok(()),
+        }
+    }
+}
