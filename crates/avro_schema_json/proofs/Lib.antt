@@ -19,3 +19,4 @@ mod KnownFound
 pub mod MadeSound
 pub mod MisfitsSeen
 pub mod DefaultsFit
+pub mod RepeatsSeen

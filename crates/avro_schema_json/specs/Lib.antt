@@ -16,6 +16,7 @@ pub mod PlainTree
 pub mod Reading
 pub mod ReadingSeen
 pub mod Refusals
+pub mod Repeats
 pub mod SeenDefaults
 pub mod SeenRaw
 pub mod SymbolPlaces

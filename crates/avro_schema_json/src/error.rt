@@ -3,7 +3,7 @@ ghost use Rattle.avro_schema_json.specs.NameRefusal.{refusal_of_name};
 ghost use Rattle.avro_schema_json.specs.declared.error.SchemaError.TheVariants.{OutOfMemory};
 
 use avro_name::NameError;
-use avro_schema::DraftError;
+use avro_schema::{DraftError, Memory};
 use std::alloc::{AllocError, AllocFailed};
 use thiserror::Error;
 
@@ -83,6 +83,16 @@ impl From<NameError> for SchemaError {
                 SchemaError::InvalidName
             }
         }
+    }
+}
+
+impl From<Memory> for SchemaError {
+    ghost use Rattle.std.specs.Prelude.{◌≡◌};
+
+    ghost from_gives = { λ _ e. e ≡ OutOfMemory };
+
+    fn from(_error: Memory) -> SchemaError {
+        SchemaError::OutOfMemory
     }
 }
 

@@ -20,6 +20,7 @@ mod progress;
 mod raw;
 mod read;
 mod reader_text;
+mod repeats;
 mod symbol_places;
 mod texts;
 mod whole;

@@ -19,6 +19,7 @@ ghost use Rattle.avro_schema_json.specs.declared.error.SchemaError.TheVariants.{
 use crate::defaults::default_of;
 use crate::error::SchemaError;
 use crate::raw::{RawEnum, RawField, RawNode, RawRecord};
+use crate::repeats::has_repeated_branch;
 use avro_schema::{Datum, Draft, DraftError, Field, Memory, Node, RecordNode, Schema};
 use std::alloc::Global;
 use std::vec::IntoIter;
@@ -218,6 +219,9 @@ pub(crate) fn schema_of(alloc: Global, raws: Vec<RawNode<'_>>) -> Result<Schema,
         ⊎ Contains (or_else (faults_of_nodes (whole_nodes (raw_nodes_of raws.entry.items))) (unless (are_all_defaults_read (raw_nodes_of raws.entry.items)) InvalidDefault)) e) }
     ensures json { IfErr result (λ e. e ≢ NotJson) }
 {
+    if has_repeated_branch(alloc, &raws)? {
+        return Err(SchemaError::InvalidUnion);
+    }
     let defaults = match defaults_of_nodes(alloc, &raws) {
         Ok(defaults) => defaults,
         Err(_) => return Err(SchemaError::OutOfMemory),

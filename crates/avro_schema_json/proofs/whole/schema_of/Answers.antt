@@ -18,6 +18,8 @@ use Rattle.avro_schema_json.specs.Placed.{are_placed}
 use Rattle.avro_schema_json.specs.Refusals.{refusal_of}
 use Rattle.avro_schema_json.specs.SeenDefaults.{lists_seen, defaults_of_node, filled_nodes}
 use Rattle.avro_schema_json.specs.SeenRaw.{raw_nodes_of}
+use Rattle.avro_schema_json.specs.Repeats.{SomeRepeats}
+use Rattle.avro_schema_json.proofs.RepeatsSeen.{repeated-broken}
 use Rattle.avro_schema_json.proofs.FaultsThere.{there-contains, placed_whole}
 use Rattle.avro_schema_json.proofs.DeclarationLaws.{no_faults-from_is_schema}
 use Rattle.avro_schema_json.proofs.WholeSeen.{filled-whole, or_else-first, or_else-unread, too_many-contains}
@@ -70,34 +72,49 @@ of_length raws e r (inr limit) is =
     inr (subst (λ (x : SchemaError). Contains (faults_with (raw_nodes_of raws)) x) (sym same)
     (or_else-first (faults_of_nodes nodes) (unless (are_all_defaults_read (raw_nodes_of raws)) SchemaError.InvalidDefault) SchemaError.LimitExceeded found))
 
+-- a branch that stands twice
+of_repeat : (raws : List RawNode) → are_placed raws ≡ true → SomeRepeats (bare_nodes raws)
+    → (SchemaError.InvalidUnion ≡ SchemaError.OutOfMemory) ⊎ Contains (faults_with raws) SchemaError.InvalidUnion
+of_repeat raws placed repeats =
+    let nodes = whole_nodes raws in
+    let good = placed_whole (bare_nodes raws) raws ∙ placed in
+    let found = there-contains DraftError.InvalidUnion nodes good (repeated-broken (bare_nodes raws) raws repeats) (λ h. cc) in
+    inr (or_else-first (faults_of_nodes nodes) (unless (are_all_defaults_read raws) SchemaError.InvalidDefault) SchemaError.InvalidUnion found)
+
+pub returns-then-branch-clause-refused : goal.returns-then-branch-clause-refused
+returns-then-branch-clause-refused c =
+    let repeats = c.in_ok-has_repeated_branch.ensures c.if-branch.true in
+    of_repeat (raw_nodes_of c.args.raws.items) c.requires
+    (subst (λ (ns : List KeptNode). SomeRepeats (bares_of ns)) c.deref.ensures.value repeats)
+
 pub returns-in-Err-drafted-clause-refused : goal.returns-in-Err-drafted-clause-refused
 returns-in-Err-drafted-clause-refused c = of_length c.args.raws.items c.in-Err-drafted.error c.from.result c.in-Err-drafted.ensures.refused c.from.ensures
 
 pub returns-then-are_read-clause-found : goal.returns-then-are_read-clause-found
 returns-then-are_read-clause-found c =
-    let whole = whole_draft c.args.raws.items c.deref.result.now (lists_seen c.in-Ok.defaults.of_nodes.items) (draft_nodes c.in-Ok-drafted.draft)
-    c.deref.ensures.value c.in-Ok.ensures.data c.in-Ok-drafted.ensures.drafted in
+    let whole = whole_draft c.args.raws.items c.deref-2.result.now (lists_seen c.in-Ok.defaults.of_nodes.items) (draft_nodes c.in-Ok-drafted.draft)
+    c.deref-2.ensures.value c.in-Ok.ensures.data c.in-Ok-drafted.ensures.drafted in
     c.in-Ok-finish.ensures.schema ∙ whole
 
 pub returns-then-are_read-clause-formed : goal.returns-then-are_read-clause-formed
 returns-then-are_read-clause-formed c =
-    let whole = whole_draft c.args.raws.items c.deref.result.now (lists_seen c.in-Ok.defaults.of_nodes.items) (draft_nodes c.in-Ok-drafted.draft)
-    c.deref.ensures.value c.in-Ok.ensures.data c.in-Ok-drafted.ensures.drafted in
+    let whole = whole_draft c.args.raws.items c.deref-2.result.now (lists_seen c.in-Ok.defaults.of_nodes.items) (draft_nodes c.in-Ok-drafted.draft)
+    c.deref-2.ensures.value c.in-Ok.ensures.data c.in-Ok-drafted.ensures.drafted in
     ap is_schema (sym whole) ∙ c.in-Ok-finish.ensures.formed
 
 pub returns-else-are_read-clause-refused : goal.returns-else-are_read-clause-refused
 returns-else-are_read-clause-refused c =
     let raws = raw_nodes_of c.args.raws.items in
-    let whole = whole_draft c.args.raws.items c.deref.result.now (lists_seen c.in-Ok.defaults.of_nodes.items) (draft_nodes c.in-Ok-drafted.draft)
-    c.deref.ensures.value c.in-Ok.ensures.data c.in-Ok-drafted.ensures.drafted in
+    let whole = whole_draft c.args.raws.items c.deref-2.result.now (lists_seen c.in-Ok.defaults.of_nodes.items) (draft_nodes c.in-Ok-drafted.draft)
+    c.deref-2.ensures.value c.in-Ok.ensures.data c.in-Ok-drafted.ensures.drafted in
     let formed : is_schema (whole_nodes raws) ≡ true = ap is_schema (sym whole) ∙ c.in-Ok-finish.ensures.formed in
     let unread : are_all_defaults_read raws ≡ false =
-    ap (λ (ns : List KeptNode). are_all_defaults_read (raw_nodes_of ns)) (sym c.deref.ensures.value) ∙ sym c.in-Ok.ensures.read ∙ c.if-are_read.false in
+    ap (λ (ns : List KeptNode). are_all_defaults_read (raw_nodes_of ns)) (sym c.deref-2.ensures.value) ∙ sym c.in-Ok.ensures.read ∙ c.if-are_read.false in
     inr (or_else-unread (faults_of_nodes (whole_nodes raws)) (are_all_defaults_read raws) SchemaError.InvalidDefault (no_faults-from_is_schema (whole_nodes raws) formed) unread)
 
 pub returns-in-Err-finish-clause-refused : goal.returns-in-Err-finish-clause-refused
 returns-in-Err-finish-clause-refused c =
-    let whole = whole_draft c.args.raws.items c.deref.result.now (lists_seen c.in-Ok.defaults.of_nodes.items) (draft_nodes c.in-Ok-drafted.draft)
-    c.deref.ensures.value c.in-Ok.ensures.data c.in-Ok-drafted.ensures.drafted in
+    let whole = whole_draft c.args.raws.items c.deref-2.result.now (lists_seen c.in-Ok.defaults.of_nodes.items) (draft_nodes c.in-Ok-drafted.draft)
+    c.deref-2.ensures.value c.in-Ok.ensures.data c.in-Ok-drafted.ensures.drafted in
     of_draft (raw_nodes_of c.args.raws.items) (draft_nodes c.in-Ok-drafted.draft) c.in-Err-finish.error c.from-in-Err-finish.result whole c.requires
     c.in-Err-finish.ensures.faulty c.from-in-Err-finish.ensures

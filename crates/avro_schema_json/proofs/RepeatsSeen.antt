@@ -1,0 +1,170 @@
+-- A union in which a branch stands twice is a fault of the whole nodes.
+use Rattle.std.proofs.Common.{◌≡◌, ℕ, zero, suc, ◌+◌, ◌*◌, ◌<◌, Bool, true, false, not, ◌&&◌, List, [], ◌∷◌, length, map, filter_map, Option, Some, None, get_or, ◌⊎◌, inl, inr, refl, sym, ap, subst, ◌∙◌, arith, nat_lt}
+use Rattle.std.specs.Prelude.{slice_get, bytes_eq, is_some}
+use Rattle.std.specs.List.{list_all, list_any, cons_option}
+use Rattle.std.specs.Ordering.{nat_cmp}
+use Rattle.std.specs.BTreeSet.{BTreeSet, contains}
+use Rattle.std.proofs.lemmas.Bool.{and_parts, or_parts, false≢true, not-true, false_from_ne_true}
+use Rattle.std.proofs.lemmas.Bool.Decides.{Decides-eqb}
+use Rattle.std.proofs.lemmas.Slice.Eq.{bytes_eq-Decides}
+use Rattle.std.proofs.lemmas.List.{length-map}
+use Rattle.avro_schema.specs.Distinct.{are_distinct}
+use Rattle.avro_schema.specs.Faulty.{has_invalid_union, SomeIsBroken}
+use Rattle.avro_schema.specs.Node.{Node, node_at, branches_of}
+use Rattle.avro_schema.specs.Seen.{places_of}
+use Rattle.avro_schema.specs.declared.schema.NodeId.{NodeId}
+use Rattle.avro_schema.specs.SeenKind.{kind_at, has_kind}
+use Rattle.avro_schema.specs.WellFormed.{is_union, BranchKind, unnamed, named, branch_kind, same_kind}
+use Rattle.avro_schema.specs.declared.fault.DraftError.{DraftError}
+use Rattle.avro_schema_json.specs.Declares.{RawNode}
+use Rattle.avro_schema_json.specs.DeclaredSchema.{bare_node, whole_node}
+use Rattle.avro_schema_json.specs.OwnDefaults.{bare_of, bares_of}
+use Rattle.avro_schema_json.specs.declared.raw.RawNode.{RawNode as KeptNode}
+use Rattle.avro_schema_json.specs.Repeats.{kind_code, code_by, Repeats, SomeRepeats}
+
+-- ---- one code, one kind
+
+same_kind-self : (k : BranchKind) → same_kind k k ≡ true
+same_kind-self (unnamed a) = (Decides-eqb a a).1 refl
+same_kind-self (named name) =
+    let first : bytes_eq name.simple name.simple ≡ true = (bytes_eq-Decides name.simple name.simple).1 refl in
+    let second : bytes_eq name.namespace name.namespace ≡ true = (bytes_eq-Decides name.namespace name.namespace).1 refl in
+    rw (first, second) refl
+
+same_code : (x y : ℕ) (k j : BranchKind) → (x ≡ y → k ≡ j) → kind_code x (Some k) ≡ kind_code y (Some j) → k ≡ j
+same_code x y (unnamed a) (unnamed b) alike h = let same : a ≡ b = omega (arith, h) in ap unnamed same
+same_code x y (unnamed a) (named name) alike h = absurd (omega (arith, h))
+same_code x y (named name) (unnamed b) alike h = absurd (omega (arith, h))
+same_code x y (named name) (named other) alike h = let same : x ≡ y = omega (arith, h) in alike same
+
+has_some : {A : Type 0} (o : Option A) → is_some o ≡ true → (x : A) × (o ≡ Some x)
+has_some None h = absurd (false≢true h)
+has_some (Some x) h = (x, refl)
+
+module _ (nodes : List Node) where
+  one_kind : (p q : Option BranchKind) (k j : BranchKind) → p ≡ q → p ≡ Some k → q ≡ Some j → k ≡ j
+  one_kind p q k j a e f = cc
+
+  kinds_alike : (x y : ℕ) (k j : BranchKind) → kind_at nodes x ≡ Some k → kind_at nodes y ≡ Some j → code_by nodes x ≡ code_by nodes y → same_kind k j ≡ true
+  kinds_alike x y k j e f h =
+      let h' : kind_code x (Some k) ≡ kind_code y (Some j) = ap (kind_code x) (sym e) ∙ h ∙ ap (kind_code y) f in
+      let same : k ≡ j = same_code x y k j (λ xy. one_kind (kind_at nodes x) (kind_at nodes y) k j (ap (kind_at nodes) xy) e f) h' in
+      ap (same_kind k) (sym same) ∙ same_kind-self k
+
+  -- no later branch is of the kind of one
+  none_later : (y x : ℕ) (k : BranchKind) (xs : List ℕ) (i : ℕ) → kind_at nodes y ≡ Some k → list_all (has_kind nodes) xs ≡ true
+      → list_any (same_kind k) (filter_map (kind_at nodes) xs) ≡ false → slice_get xs i ≡ Some x → code_by nodes x ≡ code_by nodes y → ⊥
+  none_later y x k [] i e some none at h = absurd cc
+  none_later y x k (z ∷ zs) zero e some none at h =
+      let parts = and_parts (has_kind nodes z) (list_all (has_kind nodes) zs) some in
+      let found = has_some (kind_at nodes z) parts.0 in
+      let none' = subst (λ (o : Option BranchKind). list_any (same_kind k) (cons_option o (filter_map (kind_at nodes) zs)) ≡ false) found.1 none in
+      let both = or_parts (same_kind k found.0) (list_any (same_kind k) (filter_map (kind_at nodes) zs)) none' in
+      let same : x ≡ z = cc in
+      false≢true (sym both.0 ∙ kinds_alike y z k found.0 e found.1 (sym h ∙ ap (code_by nodes) same))
+  none_later y x k (z ∷ zs) (suc i) e some none at h =
+      let parts = and_parts (has_kind nodes z) (list_all (has_kind nodes) zs) some in
+      let found = has_some (kind_at nodes z) parts.0 in
+      let none' = subst (λ (o : Option BranchKind). list_any (same_kind k) (cons_option o (filter_map (kind_at nodes) zs)) ≡ false) found.1 none in
+      let both = or_parts (same_kind k found.0) (list_any (same_kind k) (filter_map (kind_at nodes) zs)) none' in
+      none_later y x k zs i e parts.1 both.1 at h
+
+  distinct_codes : (xs : List ℕ) (i j x y : ℕ) → list_all (has_kind nodes) xs ≡ true → are_distinct same_kind (filter_map (kind_at nodes) xs) ≡ true
+      → j < i → slice_get xs i ≡ Some x → slice_get xs j ≡ Some y → code_by nodes x ≡ code_by nodes y → ⊥
+  distinct_codes [] i j x y some h below at_x at_y same = absurd cc
+  distinct_codes (z ∷ zs) zero j x y some h below at_x at_y same = absurd (omega (arith, below))
+  distinct_codes (z ∷ zs) (suc i) zero x y some h below at_x at_y same =
+      let parts = and_parts (has_kind nodes z) (list_all (has_kind nodes) zs) some in
+      let found = has_some (kind_at nodes z) parts.0 in
+      let h' = subst (λ (o : Option BranchKind). are_distinct same_kind (cons_option o (filter_map (kind_at nodes) zs)) ≡ true) found.1 h in
+      let both = and_parts (not (list_any (same_kind found.0) (filter_map (kind_at nodes) zs))) (are_distinct same_kind (filter_map (kind_at nodes) zs)) h' in
+      let first : y ≡ z = cc in
+      none_later z x found.0 zs i found.1 parts.1 (not-true (list_any (same_kind found.0) (filter_map (kind_at nodes) zs)) both.0) at_x
+      (same ∙ ap (code_by nodes) first)
+  distinct_codes (z ∷ zs) (suc i) (suc j) x y some h below at_x at_y same =
+      let parts = and_parts (has_kind nodes z) (list_all (has_kind nodes) zs) some in
+      let found = has_some (kind_at nodes z) parts.0 in
+      let h' = subst (λ (o : Option BranchKind). are_distinct same_kind (cons_option o (filter_map (kind_at nodes) zs)) ≡ true) found.1 h in
+      let both = and_parts (not (list_any (same_kind found.0) (filter_map (kind_at nodes) zs))) (are_distinct same_kind (filter_map (kind_at nodes) zs)) h' in
+      distinct_codes zs i j x y parts.1 both.1 (omega (arith, below)) at_x at_y same
+
+  -- where a branch stands twice there is no union
+  repeated_branch : (places : List ℕ) → Repeats nodes places → is_union nodes places ≡ false
+  repeated_branch places r =
+      false_from_ne_true (is_union nodes places) (λ h.
+      let all = and_parts (nat_lt 0 (length places) && list_all (has_kind nodes) places) (are_distinct same_kind (filter_map (kind_at nodes) places)) h in
+      let some = and_parts (nat_lt 0 (length places)) (list_all (has_kind nodes) places) all.0 in
+      distinct_codes places r.0 r.1 r.2 r.3 some.1 all.1 r.4 r.5 r.6 r.7)
+
+-- ---- from the nodes without their defaults to the whole ones
+
+whole_kind : (nodes : List Node) (raws : List RawNode) (m : ℕ) → branch_kind (node_at (map (whole_node nodes) raws) m) ≡ branch_kind (node_at (map bare_node raws) m)
+whole_kind nodes [] m = refl
+whole_kind nodes (RawNode.plain n ∷ raws) zero = refl
+whole_kind nodes (RawNode.record_of name aliases fields ∷ raws) zero = refl
+whole_kind nodes (RawNode.plain n ∷ raws) (suc m) = whole_kind nodes raws m
+whole_kind nodes (RawNode.record_of name aliases fields ∷ raws) (suc m) = whole_kind nodes raws m
+
+whole_branches : (nodes : List Node) (raws : List RawNode) (m : ℕ) → branches_of (node_at (map (whole_node nodes) raws) m) ≡ branches_of (node_at (map bare_node raws) m)
+whole_branches nodes [] m = refl
+whole_branches nodes (RawNode.plain n ∷ raws) zero = refl
+whole_branches nodes (RawNode.record_of name aliases fields ∷ raws) zero = refl
+whole_branches nodes (RawNode.plain n ∷ raws) (suc m) = whole_branches nodes raws m
+whole_branches nodes (RawNode.record_of name aliases fields ∷ raws) (suc m) = whole_branches nodes raws m
+
+no_union : (nodes : List Node) (n : Node) (places : List ℕ) → branches_of n ≡ Some places → is_union nodes places ≡ false → has_invalid_union nodes n ≡ true
+no_union nodes (Node.union found) places is h =
+    let same : found ≡ places = cc in
+    rw (same, h) refl
+no_union nodes _ places is h = absurd cc
+
+pub repeated-broken : (nodes : List Node) (raws : List RawNode) → SomeRepeats (map bare_node raws) → SomeIsBroken DraftError.InvalidUnion (map (whole_node nodes) raws)
+repeated-broken nodes raws some =
+    let r = some.4 in
+    let whole = map (whole_node nodes) raws in
+    let code : (p : ℕ) → code_by whole p ≡ code_by (map bare_node raws) p = λ p. ap (kind_code p) (whole_kind nodes raws p) in
+    let count : length whole ≡ length (map bare_node raws) = simp length-map in
+    let broken = repeated_branch whole some.1 (r.0, r.1, r.2, r.3, r.4, r.5, r.6, code r.2 ∙ r.7 ∙ sym (code r.3)) in
+    (some.0, rw count some.2, no_union whole (node_at whole some.0) some.1 (whole_branches nodes raws some.0 ∙ some.3) broken)
+
+-- ---- as they are looked for
+
+-- each code is that of a branch before this one
+abbrev pub AreCodes : List Node → List NodeId → BTreeSet ℕ → ℕ → Type 0
+AreCodes nodes ids codes i = (m : ℕ) → contains nat_cmp codes m ≡ true
+    → (j : ℕ) × (y : ℕ) × (j < i) × (slice_get (places_of ids) j ≡ Some y) × (code_by nodes y ≡ m)
+
+place_at : (ids : List NodeId) (i : ℕ) (id : NodeId) → i < length ids → slice_get (places_of ids) i ≡ Some (get_or ids i id).0
+place_at [] i id below = absurd (omega (arith, below))
+place_at (x ∷ ids) zero id below = refl
+place_at (x ∷ ids) (suc i) id below = place_at ids i id (omega (arith, below))
+
+pub repeat-found : (nodes : List Node) (ids : List NodeId) (codes : BTreeSet ℕ) (i : ℕ) (id : NodeId) (code : ℕ) → i < length ids
+    → code ≡ code_by nodes (get_or ids i id).0 → contains nat_cmp codes code ≡ true → AreCodes nodes ids codes i → Repeats nodes (places_of ids)
+repeat-found nodes ids codes i id code below is there are =
+    let before = are code there in
+    (i, before.0, (get_or ids i id).0, before.1, before.2, place_at ids i id below, before.3, sym is ∙ sym before.4)
+
+pub repeat-next : (nodes : List Node) (ids : List NodeId) (old new : BTreeSet ℕ) (i : ℕ) (id : NodeId) (code : ℕ) → i < length ids
+    → code ≡ code_by nodes (get_or ids i id).0 → ((m : ℕ) → contains nat_cmp new m ≡ true → (contains nat_cmp old m ≡ true) ⊎ (m ≡ code))
+    → AreCodes nodes ids old i → AreCodes nodes ids new (i + 1)
+repeat-next nodes ids old new i id code below is added are = λ m there.
+    elim (added m there) [
+      | inl before ↦ (let found = are m before in (found.0, found.1, omega (arith, found.2), found.3, found.4))
+      | inr same ↦ (i, (get_or ids i id).0, omega arith, place_at ids i id below, sym is ∙ sym same)
+    ]
+
+node_here : (raws : List KeptNode) (i : ℕ) (raw : KeptNode) → i < length raws → node_at (bares_of raws) i ≡ bare_of (get_or raws i raw)
+node_here [] i raw below = absurd (omega (arith, below))
+node_here (x ∷ raws) zero raw below = refl
+node_here (x ∷ raws) (suc i) raw below = node_here raws i raw (omega (arith, below))
+
+as_many : (raws : List KeptNode) → length (bares_of raws) ≡ length raws
+as_many [] = refl
+as_many (x ∷ raws) = ap suc (as_many raws)
+
+pub some-repeats : (raws : List KeptNode) (i : ℕ) (raw : KeptNode) (places : List ℕ) → i < length raws → raw ≡ get_or raws i raw
+    → Some places ≡ branches_of (bare_of raw) → Repeats (bares_of raws) places → SomeRepeats (bares_of raws)
+some-repeats raws i raw places below at are repeats =
+    let here : node_at (bares_of raws) i ≡ bare_of raw = node_here raws i raw below ∙ ap bare_of (sym at) in
+    (i, places, omega (arith, as_many raws, below), ap branches_of here ∙ sym are, repeats)

@@ -1,0 +1,6 @@
+use Rattle.avro_schema_json.specs.OwnDefaults.{bares_of}
+use Rattle.avro_schema_json.proofs.RepeatsSeen.{AreCodes}
+use Rattle.avro_schema_json.proofs.repeats.repeats_branch.Given as goal
+
+abbrev pub invariant-loop-branch : goal.invariant-loop-branch
+invariant-loop-branch l = AreCodes (bares_of l.raws) l.branches l.codes l.branch-index

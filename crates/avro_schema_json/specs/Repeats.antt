@@ -1,0 +1,20 @@
+-- Unions in which a branch stands twice.
+use Rattle.std.specs.Prelude.{◌≡◌, ℕ, ◌+◌, ◌*◌, ◌<◌, List, length, Option, Some, None, slice_get}
+use Rattle.avro_schema.specs.Node.{Node, node_at, branches_of}
+use Rattle.avro_schema.specs.WellFormed.{BranchKind, unnamed, named, branch_kind}
+
+-- an even number for each kind without a name, an odd one for each other node
+abbrev pub kind_code : ℕ → Option BranchKind → ℕ
+kind_code place (Some (unnamed k)) = k * 2
+kind_code place (Some (named name)) = place * 2 + 1
+kind_code place None = place * 2 + 1
+
+abbrev pub code_by : List Node → ℕ → ℕ
+code_by nodes place = kind_code place (branch_kind (node_at nodes place))
+
+-- two branches have one code
+abbrev pub Repeats : List Node → List ℕ → Type 0
+Repeats nodes places = (i : ℕ) × (j : ℕ) × (x : ℕ) × (y : ℕ) × (j < i) × (slice_get places i ≡ Some x) × (slice_get places j ≡ Some y) × (code_by nodes x ≡ code_by nodes y)
+
+abbrev pub SomeRepeats : List Node → Type 0
+SomeRepeats nodes = (m : ℕ) × (places : List ℕ) × (m < length nodes) × (branches_of (node_at nodes m) ≡ Some places) × Repeats nodes places

@@ -1,0 +1,90 @@
+//! Unions in which a branch stands twice: they are refused before any default is read, since each value of
+//! a default could be tried for many branches of one kind.
+
+ghost use Rattle.std.specs.Prelude.{◌≡◌, ◌⊎◌, ℕ, true, IfOk, OnOk};
+ghost use Rattle.std.specs.Ordering.{nat_cmp};
+ghost use Rattle.std.specs.BTreeSet.{contains};
+ghost use Rattle.avro_schema.specs.Seen.{node_of, places_of};
+ghost use Rattle.avro_schema.specs.WellFormed.{branch_kind};
+ghost use Rattle.avro_schema_json.specs.OwnDefaults.{bares_of};
+ghost use Rattle.avro_schema_json.specs.Repeats.{kind_code, code_by, Repeats, SomeRepeats};
+
+use crate::defaults::{branches, raw_at};
+use crate::raw::RawNode;
+use avro_schema::{Memory, Node, NodeId};
+use std::alloc::Global;
+use std::collections::BTreeSet;
+
+/// The code of a branch: an even one for each kind without a name, an odd one for each other node.
+fn code_of(raws: &[RawNode], branch: NodeId) -> u64
+    ensures { result ≡ code_by (bares_of raws.now) branch.0 }
+{
+    let null = RawNode::Plain(Node::Null);
+    match raw_at(&*raws, &null, branch) {
+        RawNode::Plain(node) => code_of_plain(node, branch),
+        RawNode::Enum(_) => u64::from(branch.0) * 2 + 1,
+        RawNode::Record(_) => u64::from(branch.0) * 2 + 1,
+    }
+}
+
+/// The code of a branch whose node is neither an enum nor a record.
+fn code_of_plain(node: &Node, branch: NodeId) -> u64
+    ensures { result ≡ kind_code branch.0 (branch_kind (node_of node.now)) }
+{
+    match node {
+        Node::Null => 0,
+        Node::Boolean => 2,
+        Node::Int => 4,
+        Node::Long => 6,
+        Node::Bytes => 8,
+        Node::Str => 10,
+        Node::Array(_) => 12,
+        Node::Map(_) => 14,
+        Node::Union(_) => u64::from(branch.0) * 2 + 1,
+        Node::Record(_) => u64::from(branch.0) * 2 + 1,
+        Node::Enum(_) => u64::from(branch.0) * 2 + 1,
+        Node::Fixed(_) => u64::from(branch.0) * 2 + 1,
+    }
+}
+
+/// Adds a code.
+fn add(codes: &mut BTreeSet<u64>, code: u64) -> Result<(), Memory>
+    ensures { OnOk result ((m : ℕ) → contains nat_cmp codes.new m ≡ true → (contains nat_cmp codes.old m ≡ true) ⊎ (m ≡ code)) }
+{
+    match codes.insert(code) {
+        Ok(_) => Ok(()),
+        Err(_) => Err(Memory),
+    }
+}
+
+/// Whether two branches have one code.
+fn repeats_branch(alloc: Global, raws: &[RawNode], branches: &[NodeId]) -> Result<bool, Memory>
+    ensures { IfOk result (λ answer. answer ≡ true → Repeats (bares_of raws.now) (places_of branches.now)) }
+{
+    let mut codes: BTreeSet<u64> = BTreeSet::new(alloc);
+    for branch in branches {
+        let code = code_of(raws, *branch);
+        if codes.contains(&code) {
+            return Ok(true);
+        }
+        add(&mut codes, code)?;
+    }
+    Ok(false)
+}
+
+/// Whether a branch stands twice in one of the unions.
+pub(crate) fn has_repeated_branch(alloc: Global, raws: &[RawNode]) -> Result<bool, Memory>
+    ensures { IfOk result (λ answer. answer ≡ true → SomeRepeats (bares_of raws.now)) }
+{
+    for raw in raws {
+        match branches(raw) {
+            Some(branches) => {
+                if repeats_branch(alloc, raws, branches)? {
+                    return Ok(true);
+                }
+            }
+            None => {}
+        }
+    }
+    Ok(false)
+}
