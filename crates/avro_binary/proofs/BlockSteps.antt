@@ -196,7 +196,6 @@ module _ {E : Type 0} {kind : Kind E} {start now : CursorValue} {keys : List (Li
                 (done.breaks (behind (length part) f) one);
           }
 
-
       -- the size of the block is another
       pub size_refused : (A : Type 0) (e : ReadError) → EndsBlock now.place head.head (length (concat found.items)) (as_error A e) → ReportsFault AllBreak start e
       size_refused A e ends = report_moved start now done.front e RestBreaks AllBreak done.moves

@@ -1,5 +1,5 @@
 -- What the calls of a cursor answer, from what they read.
-use Rattle.std.proofs.Common.{◌≡◌, ℕ, ◌+◌, ◌-◌, ◌^◌, ◌<◌, ◌≤◌, ℤ, pos, negsuc, ◌<ℤ◌, Bool, true, false, List, [], ◌∷◌, ◌++◌, length, take, drop, Ok, Err, Some, None, refl, sym, ap, ◌∙◌, subst, arith, rules, tests, length-append, add-zero, slice_get, append_assoc, length-take-le}
+use Rattle.std.proofs.Common.{◌≡◌, ℕ, ◌+◌, ◌-◌, ◌<◌, ◌≤◌, ℤ, pos, negsuc, ◌<ℤ◌, Bool, true, false, List, [], ◌∷◌, ◌++◌, length, take, drop, Ok, Err, Some, None, refl, sym, ap, ◌∙◌, subst, arith, length-append, add-zero, slice_get, append_assoc, length-take-le}
 use Rattle.std.proofs.lemmas.List.{take-append-drop}
 use Rattle.std.proofs.lemmas.Int.{ints}
 use Rattle.std.proofs.Math.Seq.{take-append_seam}
@@ -8,7 +8,6 @@ use Rattle.std.proofs.lemmas.Str.{IsUtf8-from_is_utf8}
 use Rattle.avro_zigzag.specs.Number.{SpellsInt, SpellsLong}
 use Rattle.avro_zigzag.specs.NumberFault.{LongFails, IntFails}
 use Rattle.avro_zigzag.specs.declared.VarError.{VarError}
-use Rattle.avro_zigzag.proofs.public.Spelling.{is_long-zigzag}
 use Rattle.avro_schema.specs.Fits.{is_int, is_long}
 use Rattle.avro_binary.specs.Fault.{ReadFault, end_of_input, invalid_boolean, invalid_text, unknown_index, invalid_length, limit_exceeded, behind}
 use Rattle.avro_binary.specs.Breaks.{number_fault, IntBreaks, LongBreaks, BooleanBreaks, is_index, IndexBreaks, number_breaks, unknown, StartsWithLong, ContentBreaks, negative, too_long, cut, invalid}

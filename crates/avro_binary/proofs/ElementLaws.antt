@@ -13,7 +13,7 @@ use Rattle.avro_binary.specs.Fault.{ReadFault, end_of_input, invalid_text, inval
 use Rattle.avro_binary.specs.Breaks.{number_fault, IntBreaks, LongBreaks, BooleanBreaks, FixedBreaks, StartsWithLong, ContentBreaks, length_breaks, negative, too_long, cut, invalid, is_index, IndexBreaks, number_breaks, unknown}
 use Rattle.avro_binary.specs.Seen.{read_fault}
 use Rattle.avro_binary.specs.CursorValue.{CursorValue, Passes}
-use Rattle.avro_binary.specs.Elements.{IsBoolean, IsInt, IsLong, IsContent, IsFixed, IsIndex, IsBytes, IsString, ReadsElement}
+use Rattle.avro_binary.specs.Elements.{IsBoolean, IsInt, IsLong, IsContent, IsFixed, IsIndex, IsString, ReadsElement}
 use Rattle.avro_binary.specs.declared.error.ReadError.{ReadError}
 
 pub record IsPart {A : Type 0} (IsElement : A → List ℕ → Type 0) (ElementBreaks : List ℕ → ReadFault → Type 0) : Type 0 where

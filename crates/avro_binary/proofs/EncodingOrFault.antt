@@ -1,26 +1,25 @@
 -- Bytes begin with an encoding of a node within limits, or have a first fault: reading them as the code does, with a
 -- mathematical function for the calls.
-use Rattle.std.proofs.Common.{◌≡◌, ◌≢◌, ◌⊎◌, inl, inr, ℕ, zero, suc, ◌+◌, ◌^◌, ◌<◌, true, List, [], ◌∷◌, ◌++◌, length, Some, None, Err, refl, sym, ◌∙◌, subst, arith, length-append, bytes_eq}
+use Rattle.std.proofs.Common.{◌≡◌, ◌≢◌, ◌⊎◌, inl, inr, ℕ, zero, suc, ◌+◌, ◌^◌, ◌<◌, true, List, [], ◌∷◌, ◌++◌, length, Some, None, refl, sym, ◌∙◌, subst, arith, length-append}
 use Rattle.std.specs.List.{concat}
 use Rattle.avro_schema.specs.Value.{Value}
 use Rattle.avro_schema.specs.Node.{Node, node_at}
 use Rattle.avro_schema.specs.Fits.{LimitValues, is_within}
-use Rattle.avro_schema.specs.Distinct.{are_distinct}
 use Rattle.avro_binary.specs.Encoding.{Encodes}
 use Rattle.avro_binary.specs.Fault.{ReadFault, wrong_block_size, limit_exceeded, behind}
-use Rattle.avro_binary.specs.Breaks.{BlocksBreak, Breaks, BreaksWithin, KeyBreaks, HeadBreaks, ItemsAreWhole, EntriesAreWhole, Head, counted, sized, head_count, HasSize}
+use Rattle.avro_binary.specs.Breaks.{BlocksBreak, Breaks, BreaksWithin, KeyBreaks, HeadBreaks, Head, counted, sized, head_count, HasSize}
 use Rattle.avro_binary.specs.BlockHeads.{IsHeadOrEnd, IsBlock, EndsBlock}
 use Rattle.avro_binary.specs.CursorValue.{CursorValue, Passes}
-use Rattle.avro_binary.specs.CursorReads.{Moves, ReportsFault, ReadsNode, outside, left_node, left_at, limits_at, ValuesRun, EntriesRun, value_breaks, entry_breaks, FindsRun, RunBreaks}
+use Rattle.avro_binary.specs.CursorReads.{Moves, ReportsFault, outside, left_node, left_at, limits_at, FindsRun, RunBreaks}
 use Rattle.avro_binary.specs.declared.block.Block.{Block}
 use Rattle.avro_binary.specs.declared.error.ReadError.{ReadError}
-use Rattle.avro_binary.proofs.PartOrFault.{AreBytes, rest_are, below_or, key_or_fault, head_or_fault}
+use Rattle.avro_binary.proofs.PartOrFault.{AreBytes, below_or, key_or_fault, head_or_fault}
 use Rattle.avro_binary.proofs.RunLaws.{Kind, values_kind, entries_kind}
 use Rattle.avro_binary.proofs.RunSteps.{moves-passed, moves-join, run_none, run_push, run_breaks, value_run, value_report, entry_run, key_report, entry_report}
 use Rattle.avro_binary.proofs.BlockSteps.{BlocksDone, HeadRead, EndRead, as_error, blocks_none, head_refused, item_refused, size_refused, blob_kept, block_smaller, blocks_push}
 use Rattle.avro_binary.proofs.NodeSteps.{enter_refused, array_found, map_found}
 use Rattle.avro_binary.proofs.ExactReads.{front_of, within-from}
-use Rattle.avro_binary.proofs.NodeOrFault.{AnyValue, Children, IsOfFault, IsReady, Reads, boolean_reads, bytes_reads, error-reports, error_at, error_of, fixed_reads, found_by, int_reads, long_reads, moved_to, null_reads, of-fault, passes_to, ready_passed, record_reads, refused_by, refuses, reported, reports, string_reads, symbol_reads, union_reads, value_moves}
+use Rattle.avro_binary.proofs.NodeOrFault.{Children, IsOfFault, IsReady, Reads, boolean_reads, bytes_reads, error-reports, error_at, error_of, fixed_reads, found_by, int_reads, long_reads, moved_to, null_reads, of-fault, passes_to, ready_passed, record_reads, refused_by, refuses, reported, reports, string_reads, symbol_reads, union_reads, value_moves}
 
 -- ---- Items and entries of a block
 

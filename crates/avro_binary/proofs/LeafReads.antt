@@ -1,5 +1,5 @@
 -- What reading a datum without parts answers, from the element that it is.
-use Rattle.std.proofs.Common.{◌≡◌, ℕ, zero, suc, ◌<◌, ◌≤◌, ◌^◌, ℤ, Bool, true, List, [], ◌∷◌, length, get_or, Ok, Err, Option, refl, ap, subst, arith, nat_lt}
+use Rattle.std.proofs.Common.{◌≡◌, ℕ, zero, suc, ◌<◌, ◌≤◌, ◌^◌, ℤ, Bool, true, List, [], ◌∷◌, length, get_or, Ok, Err, Option, refl, ap, arith, nat_lt}
 use Rattle.std.specs.Prelude.{◌==◌}
 use Rattle.std.specs.List.{list_all}
 use Rattle.std.proofs.lemmas.Bool.Decides.{nat_tests}
@@ -9,7 +9,7 @@ use Rattle.avro_schema.specs.Node.{Node}
 use Rattle.avro_schema.specs.Fits.{are_bytes}
 use Rattle.avro_binary.specs.Encoding.{Encodes}
 use Rattle.avro_binary.specs.Fault.{ReadFault}
-use Rattle.avro_binary.specs.Breaks.{NodeBreaks, BooleanBreaks, IntBreaks, LongBreaks, BytesBreaks, StringBreaks, IndexBreaks, FixedBreaks}
+use Rattle.avro_binary.specs.Breaks.{NodeBreaks}
 use Rattle.avro_binary.specs.CursorValue.{CursorValue, Passes}
 use Rattle.avro_binary.specs.CursorReads.{ReadsNode, outside, left_node, limits_at, child_breaks}
 use Rattle.avro_binary.specs.Elements.{Refuses, Finds, IsBoolean, IsInt, IsLong, IsBytes, IsString, IsIndex, IsFixed}

@@ -7,13 +7,13 @@ use Rattle.std.proofs.lemmas.Bool.{and_parts, false≢true, or_cases, or_left, o
 use Rattle.std.proofs.lemmas.Bool.Decides.{nat_tests}
 use Rattle.std.proofs.lemmas.Slice.Eq.{bytes_eq-Decides}
 use Rattle.avro_zigzag.specs.Number.{SpellsInt}
-use Rattle.avro_zigzag.proofs.public.Faults.{long-excludes_fault, int-excludes_fault}
+use Rattle.avro_zigzag.proofs.public.Faults.{long-excludes_fault}
 use Rattle.avro_zigzag.proofs.public.Spelling.{one_spelling_lem}
 use Rattle.avro_schema.specs.Fits.{is_int}
 use Rattle.avro_schema.specs.Distinct.{are_distinct}
 use Rattle.avro_binary.specs.Encoding.{SpellsBytes}
 use Rattle.avro_binary.specs.Fault.{ReadFault, limit_exceeded}
-use Rattle.avro_binary.specs.Breaks.{ContentBreaks, StartsWithLong, IndexBreaks, is_index}
+use Rattle.avro_binary.specs.Breaks.{ContentBreaks, StartsWithLong, IndexBreaks}
 use Rattle.avro_binary.proofs.Fronts.{same_behind, same_from_pos}
 use Rattle.avro_binary.proofs.ElementLaws.{long_count, index_part}
 

@@ -17,13 +17,11 @@ use Rattle.avro_schema.specs.Distinct.{are_distinct}
 use Rattle.avro_binary.specs.Blocks.{IsInBlocks, no_more}
 use Rattle.avro_binary.specs.Encoding.{EachSpelled}
 use Rattle.avro_binary.specs.Fault.{limit_exceeded}
-use Rattle.avro_binary.specs.Breaks.{BreaksWithin, NodeBreaks, HeadBreaks, BlocksBreak, ItemsAreWhole, EntriesAreWhole, FieldsBreak, IndexBreaks, head_bytes, HasSize}
+use Rattle.avro_binary.specs.Breaks.{BreaksWithin, NodeBreaks, FieldsBreak, IndexBreaks}
 use Rattle.avro_binary.specs.Seen.{read_fault}
 use Rattle.avro_binary.specs.CursorValue.{CursorValue, Enters}
 use Rattle.avro_binary.specs.Elements.{Refuses, Finds, IsIndex}
-use Rattle.avro_binary.specs.BlockHeads.{EndsBlock}
-use Rattle.avro_binary.specs.declared.block.Block.{Block}
-use Rattle.avro_binary.specs.CursorReads.{Moves, FindsValue, FindsRun, RunBreaks, ReportsFault, ReadsNode, outside, left_node, left_at, limits_at, ValuesRun, EntriesRun, value_breaks, entry_breaks, child_breaks}
+use Rattle.avro_binary.specs.CursorReads.{Moves, FindsValue, ReportsFault, ReadsNode, outside, left_node, left_at, limits_at, child_breaks}
 use Rattle.avro_binary.specs.declared.error.ReadError.{ReadError}
 use Rattle.avro_binary.proofs.ElementLaws.{is_count-from_below}
 use Rattle.avro_binary.proofs.RunLaws.{Kind, values_kind, entries_kind, values_count-from, entries_count-from, values_size-append, values_depth-append, values_blob-append, EachSpelled-append, fields_fit-push}

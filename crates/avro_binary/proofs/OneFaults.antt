@@ -1,17 +1,14 @@
 -- Bytes have at most one fault, as a node of a schema and within limits.
-use Rattle.std.proofs.Common.{◌≡◌, ◌⊎◌, inl, inr, ℕ, zero, suc, ◌+◌, ◌-◌, ◌^◌, ◌<◌, ◌≤◌, pos, true, List, [], ◌∷◌, ◌++◌, length, sym, ap, ◌∙◌, subst, append_assoc, length-append, arith}
-use Rattle.std.specs.Prelude.{slice_get}
+use Rattle.std.proofs.Common.{◌≡◌, ◌⊎◌, inl, inr, ℕ, zero, suc, ◌-◌, ◌^◌, ◌<◌, ◌≤◌, pos, true, List, [], ◌∷◌, ◌++◌, length, sym, ap, ◌∙◌, subst, length-append, arith}
 use Rattle.std.specs.List.{concat}
 use Rattle.std.specs.Str.{is_utf8}
-use Rattle.std.proofs.lemmas.Bool.{and_parts, false≢true}
 use Rattle.avro_zigzag.proofs.public.Spelling.{one_spelling_lem}
-use Rattle.avro_schema.specs.Value.{Values, no_values, value, size, values_size}
+use Rattle.avro_schema.specs.Value.{Values, values_size}
 use Rattle.avro_schema.specs.Node.{Node, node_at, field_places}
-use Rattle.avro_schema.specs.Fits.{fits, fields_fit, LimitValues}
+use Rattle.avro_schema.specs.Fits.{fields_fit, LimitValues}
 use Rattle.avro_schema.specs.WellFormed.{is_schema}
-use Rattle.avro_binary.specs.Encoding.{EachSpelled}
 use Rattle.avro_binary.specs.Fault.{ReadFault}
-use Rattle.avro_binary.specs.Breaks.{ChildBreaks, IndexBreaks, BranchBreaks, FieldsBreak, ItemsAreWhole, EntriesAreWhole, EntryBreaks, NodeBreaks, BreaksWithin, Breaks, all_left}
+use Rattle.avro_binary.specs.Breaks.{ChildBreaks, IndexBreaks, BranchBreaks, FieldsBreak, ItemsAreWhole, EntriesAreWhole, EntryBreaks, NodeBreaks, BreaksWithin, Breaks}
 use Rattle.avro_binary.proofs.public.Choices.{HasFewChoices, HasFewChoices-from_is_schema}
 use Rattle.avro_binary.proofs.Front.{fields_same, fields_told}
 use Rattle.avro_binary.proofs.Fronts.{same_front, same_behind, same_from_pos}

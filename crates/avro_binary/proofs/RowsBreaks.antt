@@ -1,5 +1,5 @@
 -- The first faults of bytes, with their places: derived.
-use Rattle.std.proofs.Common.{◌≡◌, ◌<◌, inl, inr, refl, sym, ℕ, zero, suc, ◌^◌, ◌-◌, ℤ, pos, negsuc, true, List, [], ◌∷◌, ◌++◌, append-nil, bytes_eq, codes, arith}
+use Rattle.std.proofs.Common.{◌≡◌, ◌<◌, inl, inr, refl, sym, ℕ, zero, suc, ◌^◌, ◌-◌, ℤ, pos, negsuc, true, List, [], ◌∷◌, append-nil, bytes_eq, codes, arith}
 use Rattle.std.specs.Str.{is_utf8, chars}
 use lib.Utf8.{encode}
 use Rattle.avro_zigzag.specs.NumberFault.{ends, too_large}

@@ -9,7 +9,7 @@ use Rattle.avro_schema.specs.Node.{Node}
 use Rattle.avro_schema.specs.Fits.{LimitValues}
 use Rattle.avro_schema.specs.Distinct.{are_distinct}
 use Rattle.avro_binary.specs.Fault.{ReadFault, behind}
-use Rattle.avro_binary.specs.Breaks.{BreaksWithin, KeyBreaks, key_breaks, value_breaks as value_of_entry_breaks, Left}
+use Rattle.avro_binary.specs.Breaks.{BreaksWithin, KeyBreaks, key_breaks, value_breaks as value_of_entry_breaks}
 use Rattle.avro_binary.specs.Seen.{read_fault}
 use Rattle.avro_binary.specs.CursorValue.{CursorValue, Passes}
 use Rattle.avro_binary.specs.Elements.{IsKey}

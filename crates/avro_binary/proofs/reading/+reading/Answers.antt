@@ -1,18 +1,16 @@
-use Rattle.std.proofs.Common.{zero, suc, get_or, ◌+◌, drop, Bool, false, nat_lt, rules, tests, ◌≡◌, refl, sym, ap, ◌∙◌, subst, ℕ, List, [], ◌∷◌, ◌++◌, ◌<◌, ◌≤◌, length, take, arith, bytes_eq, true, length-append, append_assoc, append-nil}
+use Rattle.std.proofs.Common.{zero, suc, get_or, ◌+◌, drop, Bool, false, nat_lt, rules, tests, ◌≡◌, refl, sym, ap, ◌∙◌, subst, ℕ, List, [], ◌∷◌, ◌++◌, ◌<◌, ◌≤◌, length, take, arith, true, length-append, append_assoc, append-nil}
 use Rattle.std.specs.Prelude.{IsTrue, Some, slice_get}
 use Rattle.std.specs.List.{concat}
 use Rattle.std.proofs.lemmas.Bool.{false≢true}
 use Rattle.avro_schema.specs.declared.schema.Field.{Field}
 use Rattle.std.proofs.lemmas.Result.{err_from_is_err_and}
-use Rattle.avro_schema.specs.Distinct.{are_distinct}
 use Rattle.avro_schema.specs.Value.{Value}
 use Rattle.avro_schema.specs.Node.{Node, node_at, field_places}
 use Rattle.avro_schema.specs.Seen.{node_of, places_of, seen_fields, texts_of}
 use Rattle.avro_schema.specs.SeenSchema.{schema_nodes}
-use Rattle.avro_binary.specs.Breaks.{ItemsAreWhole, EntriesAreWhole}
 use Rattle.avro_binary.specs.Elements.{Finds, IsIndex}
 use Rattle.avro_binary.specs.Making.{Made}
-use Rattle.avro_binary.specs.CursorReads.{ValuesRun, EntriesRun, value_breaks, entry_breaks, limits_at}
+use Rattle.avro_binary.specs.CursorReads.{limits_at}
 use Rattle.avro_binary.proofs.BlockSteps.{head_read, end_read, has_size, blocks_none, head_refused, item_refused, size_refused, depth_kept, blob_kept, place_is, block_smaller, blocks_push}
 use Rattle.avro_binary.proofs.NodeSteps.{node_left, node_refused, enter_refused, ArrayDone, array_found, map_found, FieldsDone, fields_none, branch_refused, union_found, branch_at, places-length, texts-length, null_past, fields_push, field_breaks, record_found, record_refused, places_split, places_next, places_all}
 use Rattle.avro_binary.proofs.RunLaws.{values_kind, entries_kind}
