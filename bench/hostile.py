@@ -200,7 +200,7 @@ def symbols(size):
 
 
 def tries(size):
-    """An array of numbers, of a union of one fixed again and again, and int, which is refused once they are tried."""
+    """An array of numbers, of a union of one fixed again and again, and int, which is refused before they are tried."""
     of_all = [fixed("B")] + ["B"] * (size // 8) + ["int"]
     field = {"name": "f", "type": {"type": "array", "items": of_all}, "default": []}
     schema = {"type": "record", "name": "R", "fields": [field]}
