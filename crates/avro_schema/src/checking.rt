@@ -161,6 +161,7 @@ fn check_record(
     ensures good { OnOk result (is_good_node (nodes_of nodes.now) place (node_of (kept.Record record_node.now)) ≡ true) }
     ensures broken { IfErr result (λ e. IsBroken e (nodes_of nodes.now) place (node_of (kept.Record record_node.now))) }
 {
+    // A name that is read is known to be a fullname, which the rules of the node ask of it.
     let _ = record_node.name.simple();
     read_names(&record_node.aliases);
     if !are_field_edges(nodes, place, &record_node.fields) {
@@ -189,6 +190,7 @@ fn check_enum(
     ensures good { OnOk result (is_good_node (nodes_of nodes.now) place (node_of (kept.Enum enumeration.now)) ≡ true) }
     ensures broken { IfErr result (λ e. IsBroken e (nodes_of nodes.now) place (node_of (kept.Enum enumeration.now))) }
 {
+    // A name that is read is known to be a fullname, which the rules of the node ask of it.
     let _ = enumeration.name.simple();
     read_names(&enumeration.aliases);
     let count = enumeration.symbols.len();
@@ -221,6 +223,7 @@ fn check_fixed(nodes: &[Node], place: usize, fixed: &FixedNode) -> Result<(), Dr
     ensures good { OnOk result (is_good_node (nodes_of nodes.now) place (node_of (kept.Fixed fixed.now)) ≡ true) }
     ensures broken { IfErr result (λ e. IsBroken e (nodes_of nodes.now) place (node_of (kept.Fixed fixed.now))) }
 {
+    // A name that is read is known to be a fullname, which the rules of the node ask of it.
     let _ = fixed.name.simple();
     read_names(&fixed.aliases);
     if fixed.size as usize > MAX_COUNT {

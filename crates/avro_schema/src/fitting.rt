@@ -63,6 +63,7 @@ fn fits_node(alloc: Global, nodes: &[Node], node: &Node, datum: &Datum) -> Resul
 fn fits_int(node: &Node, value: &i32) -> bool
     ensures { (nodes : List SeenNode) → result ≡ value_fits nodes (node_of node.now) (Value.int value.now) }
 {
+    // A number that is read is known to be in its range.
     let _value = *value;
     matches!(node, Node::Int)
 }
@@ -71,6 +72,7 @@ fn fits_int(node: &Node, value: &i32) -> bool
 fn fits_long(node: &Node, value: &i64) -> bool
     ensures { (nodes : List SeenNode) → result ≡ value_fits nodes (node_of node.now) (Value.long value.now) }
 {
+    // A number that is read is known to be in its range.
     let _value = *value;
     matches!(node, Node::Long)
 }

@@ -65,6 +65,7 @@ pub(crate) fn read_names(names: &[FullName])
     ensures { list_all is_full_name names.now ≡ true }
 {
     for name in names {
+        // A name that is read is known to be a fullname; nothing is done with its part.
         let _ = name.simple();
     }
 }

@@ -107,6 +107,7 @@ impl Schema {
         ensures in_schema { result.0 < length (schema_nodes self.now) }
         ensures formed { is_schema (schema_nodes self.now) ≡ true }
     {
+        // Nodes that are reached are known to be a schema.
         let _ = &self.nodes;
         NodeId(0)
     }
