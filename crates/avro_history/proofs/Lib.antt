@@ -1,0 +1,5 @@
+pub mod ConfirmedSoFar
+pub mod Fronts
+pub mod ReadSoFar
+pub mod Refusals
+pub mod Written
