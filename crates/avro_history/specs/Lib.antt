@@ -1,0 +1,5 @@
+pub mod HistoryText
+pub mod SeenHistory
+pub mod HistoryRead
+pub mod ConfirmedHistory
+pub mod inside

@@ -1,0 +1,12 @@
+-- How contracts see a history: as the sets of its certificates.
+use Rattle.std.specs.Prelude.{List, map}
+use Rattle.avro_certificate.specs.SeenCertificate.{dead_of, pairs_in}
+use Rattle.avro_certificate.specs.declared.kept.Certificate.{Certificate}
+use Rattle.avro_history.specs.HistoryText.{Sets}
+use Rattle.avro_history.specs.declared.history.HistoryCert.{HistoryCert}
+
+abbrev pub set_of : Certificate → Sets
+set_of c = record { dead = dead_of c; pairs = pairs_in c }
+
+abbrev pub sets_of : HistoryCert → List Sets
+sets_of h = map set_of h.certificates.items

@@ -1,0 +1,48 @@
+//! Reading the certificates of a history.
+
+ghost use Rattle.std.specs.Prelude.{◌≡◌, ◌≢◌, ℕ, true, List, ◌++◌, map, IfOk, MatchOption};
+ghost use Rattle.std.specs.Result.{IfErr};
+ghost use Rattle.avro_history.specs.HistoryText.{Sets, all_small};
+ghost use Rattle.avro_history.specs.HistoryRead.{UnlessOutOfMemory};
+ghost use Rattle.avro_history.specs.SeenHistory.{set_of};
+ghost use Rattle.avro_history.specs.inside.CertificatesRead.{AreLines, RefusesLines};
+
+use crate::cutting::split_certificate;
+use avro_judge::{CertError, Certificate};
+use std::alloc::Global;
+
+/// What follows a line at the front of a text.
+pub(crate) fn after<'a>(text: &'a [u8], line: &[u8]) -> Option<&'a [u8]>
+    ensures { MatchOption result ((rest : List ℕ) → text.now ≢ line.now ++ rest) (λ rest. text.now ≡ line.now ++ rest.now) }
+{
+    text.strip_prefix(line)
+}
+
+/// The certificates of a text that ends with a line `end` of its own. A number that is too large is told
+/// only where the whole text has its form.
+pub(crate) fn read_certificates(alloc: Global, text: &[u8]) -> Result<Vec<Certificate>, CertError>
+    ensures found { IfOk result (λ v. AreLines (map set_of v.items) text.now) }
+    ensures small { IfOk result (λ v. all_small (map set_of v.items) ≡ true) }
+    ensures complete { (sets : List Sets) → AreLines sets text.now → all_small sets ≡ true
+        → UnlessOutOfMemory result (λ v. map set_of v.items ≡ sets) }
+    ensures refused { IfErr result (λ e. RefusesLines e text.now) }
+{
+    let mut certificates = Vec::new(alloc);
+    let mut is_too_large = false;
+    let mut rest = text;
+    while rest != b"end\n".as_slice() {
+        let (front, more) = split_certificate(rest);
+        match Certificate::read(alloc, front) {
+            Ok(certificate) => certificates.push(certificate)?,
+            Err(CertError::NumberTooLarge) => is_too_large = true,
+            Err(CertError::Malformed) => return Err(CertError::Malformed),
+            Err(CertError::OutOfMemory) => return Err(CertError::OutOfMemory),
+        }
+        rest = more;
+    }
+    if is_too_large {
+        Err(CertError::NumberTooLarge)
+    } else {
+        Ok(certificates)
+    }
+}
