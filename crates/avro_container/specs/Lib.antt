@@ -14,3 +14,4 @@ pub mod BlockTaken
 pub mod DatumRead
 pub mod DataRead
 pub mod Parts
+pub mod HeaderTaken

@@ -14,6 +14,8 @@ mod device;
 mod error;
 mod filling;
 mod header;
+mod header_read;
+mod header_taken;
 mod limits;
 mod numbers;
 mod part_error;
