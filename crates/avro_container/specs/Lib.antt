@@ -14,3 +14,5 @@ pub mod BlockTaken
 pub mod DatumRead
 pub mod DataRead
 pub mod Parts
+pub mod HeaderParts
+pub mod MetadataParts
