@@ -2,4 +2,5 @@ pub mod ConfirmedSoFar
 pub mod Fronts
 pub mod ReadSoFar
 pub mod Refusals
+mod RowsHistory
 pub mod Written
