@@ -4,7 +4,7 @@ use clap::{Arg, ArgAction, ArgMatches, Command};
 use std::alloc::{AllocError, Global};
 
 /// What the words ask for.
-#[derive(Clone, Copy, Debug)]
+#[derive(Debug, Drop)]
 pub(crate) enum Request<'a> {
     /// Whether the reader's schema takes all data of the writer's; a certificate of a yes goes into a
     /// file.
@@ -19,11 +19,29 @@ pub(crate) enum Request<'a> {
         reader: &'a str,
         certificate: &'a str,
     },
+    /// Whether the reader's schema takes all data of each of several writers', and what is done with
+    /// their certificates.
+    History {
+        writers: Vec<&'a str>,
+        reader: &'a str,
+        evidence: Evidence<'a>,
+    },
     /// Whether a text declares a schema, and what is asked of it.
     Schema {
         file: &'a str,
         shown: Shown,
     },
+}
+
+/// What is done with the certificates of a history.
+#[derive(Clone, Copy, Debug)]
+pub(crate) enum Evidence<'a> {
+    /// None is made.
+    Left,
+    /// Those of a yes for each writer's schema go into a file.
+    Written(&'a str),
+    /// Those of a file are to show that the reader's schema takes all data.
+    Given(&'a str),
 }
 
 /// What is shown of a schema.
@@ -44,6 +62,15 @@ pub(crate) fn request_of<'a>(
 ) -> Result<Request<'a>, Failure<'a>> {
     let mut command = program(alloc)?;
     let matches = command.try_get_matches_from_mut(words)?;
+    if let Some(history) = matches.subcommand_matches("history") {
+        return match history_in(alloc, history)? {
+            Some(request) => Ok(request),
+            None => Err(Failure::Usage(command.error(
+                ErrorKind::TooFewValues,
+                "at least two schemas are required",
+            )?)),
+        };
+    }
     match request_in(&matches) {
         Some(request) => Ok(request),
         None => Err(Failure::Usage(command.error(
@@ -80,6 +107,41 @@ fn request_in<'a>(matches: &ArgMatches<'a>) -> Option<Request<'a>> {
         reader,
         certificate: judge.get_str("certificate"),
     })
+}
+
+/// The request of the words of a history, where there are two files at least.
+fn history_in<'a>(
+    alloc: Global,
+    history: &ArgMatches<'a>,
+) -> Result<Option<Request<'a>>, AllocError> {
+    let mut writers = Vec::new(alloc);
+    if let Some(files) = history.get_strs("files") {
+        for file in files {
+            writers.push(*file)?;
+        }
+    }
+    let Some(reader) = writers.pop() else {
+        return Ok(None);
+    };
+    if writers.is_empty() {
+        return Ok(None);
+    }
+    Ok(Some(Request::History {
+        writers,
+        reader,
+        evidence: evidence_in(history),
+    }))
+}
+
+/// What is to be done with the certificates of a history.
+fn evidence_in<'a>(history: &ArgMatches<'a>) -> Evidence<'a> {
+    if let Some(file) = history.get_str("certificates") {
+        return Evidence::Written(file);
+    }
+    if let Some(file) = history.get_str("confirm") {
+        return Evidence::Given(file);
+    }
+    Evidence::Left
 }
 
 /// What is to be shown of a schema.
@@ -135,7 +197,34 @@ fn program<'a>(alloc: Global) -> Result<Command<'a>, AllocError> {
         .subcommand_required(true)
         .subcommand(judge)?
         .subcommand(confirm)?
+        .subcommand(history_command(alloc)?)?
         .subcommand(schema)
+}
+
+/// The command over a history of schemas.
+fn history_command<'a>(alloc: Global) -> Result<Command<'a>, AllocError> {
+    let files = Arg::new(alloc, "files")
+        .value_name("SCHEMA")
+        .required(true)
+        .num_args(1..)
+        .action(ArgAction::Append)
+        .help("Files of the schemas, two at least; the last one is the reader's");
+    let certificates = Arg::new(alloc, "certificates")
+        .long("certificates")
+        .value_name("OUT")
+        .action(ArgAction::Set)
+        .help("File that a yes for each schema writes the certificates into")
+        .conflicts_with("confirm")?;
+    let confirm = Arg::new(alloc, "confirm")
+        .long("confirm")
+        .value_name("CERT")
+        .action(ArgAction::Set)
+        .help("File of certificates that are to show it; nothing is judged");
+    Command::new(alloc, "history")
+        .about("Tells whether the last schema takes all data of each earlier one")
+        .arg(files)?
+        .arg(certificates)?
+        .arg(confirm)
 }
 
 /// The argument for the writer's schema.

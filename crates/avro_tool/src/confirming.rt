@@ -1,13 +1,10 @@
 use crate::Finding;
 use crate::failure::Failure;
 use crate::schema_file::{bytes_of, read_schema_file};
-use avro_judge::{Certificate, confirm};
+use avro_judge::{CertError, Certificate, confirm};
 use std::io;
 use std::io::Write;
 use std::rt::Files;
-
-/// The greatest length of a certificate's text.
-const MAX_TEXT: u64 = 268_435_456;
 
 /// Tells whether the certificate of a file confirms the schemas of two files.
 pub(crate) fn confirm_files<'a, R: Files + AllocGlobal, O: Write>(
@@ -20,9 +17,19 @@ pub(crate) fn confirm_files<'a, R: Files + AllocGlobal, O: Write>(
     let writer = read_schema_file(rt, writer)?;
     let reader = read_schema_file(rt, reader)?;
     let certificate = read_certificate_file(rt, certificate)?;
-    let printed = match confirm(rt.alloc(), &writer, &reader, &certificate)? {
-        Some(_) => print_finding(out, "confirmed", Finding::Yes),
-        None => print_finding(out, "not confirmed", Finding::No),
+    let is_confirmed = confirm(rt.alloc(), &writer, &reader, &certificate)?.is_some();
+    tell_confirmed(out, is_confirmed)
+}
+
+/// Prints whether a certificate confirms what it is for.
+pub(crate) fn tell_confirmed<'a, O: Write>(
+    out: &mut O,
+    is_confirmed: bool,
+) -> Result<Finding, Failure<'a>> {
+    let printed = if is_confirmed {
+        print_finding(out, "confirmed", Finding::Yes)
+    } else {
+        print_finding(out, "not confirmed", Finding::No)
     };
     match printed {
         Ok(finding) => Ok(finding),
@@ -30,16 +37,31 @@ pub(crate) fn confirm_files<'a, R: Files + AllocGlobal, O: Write>(
     }
 }
 
-/// The certificate in a file. At most one byte more than a text may have is read, once.
+/// The certificate in a file.
 fn read_certificate_file<'a, R: Files + AllocGlobal>(
     rt: &R,
     word: &'a str,
 ) -> Result<Certificate, Failure<'a>> {
-    match bytes_of(rt, word, MAX_TEXT) {
-        Ok(bytes) => match Certificate::read(rt.alloc(), &bytes) {
-            Ok(certificate) => Ok(certificate),
-            Err(e) => Err(Failure::of_certificate(word, e)),
-        },
+    let bytes = bytes_of_certificates(rt, word)?;
+    match Certificate::read(rt.alloc(), &bytes) {
+        Ok(certificate) => Ok(certificate),
+        Err(e) => Err(Failure::of_certificate(word, e)),
+    }
+}
+
+/// The bytes of a file of certificates. At most one byte more than a text may have is read, once; a
+/// longer text is refused.
+pub(crate) fn bytes_of_certificates<'a, R: Files + AllocGlobal>(
+    rt: &R,
+    word: &'a str,
+) -> Result<Vec<u8>, Failure<'a>> {
+    match bytes_of(rt, word, Certificate::MAX_LEN as u64) {
+        Ok(bytes) => {
+            if bytes.len() > Certificate::MAX_LEN {
+                return Err(Failure::of_certificate(word, CertError::Malformed));
+            }
+            Ok(bytes)
+        }
         Err(e) => Err(Failure::of_reading(word, &e)),
     }
 }

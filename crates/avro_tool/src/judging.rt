@@ -77,12 +77,17 @@ fn print_no<O: Write>(out: &mut O, refutation: &Refutation, display: &str) -> io
 }
 
 fn print_undecided<O: Write>(out: &mut O, cause: Cause) -> io::Result<Finding> {
-    let name = match cause {
-        Cause::Pairs => "Pairs",
-        Cause::Size => "Size",
-        Cause::Depth => "Depth",
-    };
+    let name = name_of(cause);
     writeln!(out, "undecided {name}")?;
     out.flush()?;
     Ok(Finding::Undecided)
+}
+
+/// The name of a cause.
+pub(crate) fn name_of(cause: Cause) -> &'static str {
+    match cause {
+        Cause::Pairs => "Pairs",
+        Cause::Size => "Size",
+        Cause::Depth => "Depth",
+    }
 }

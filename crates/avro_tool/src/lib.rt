@@ -4,6 +4,7 @@
 mod command;
 mod confirming;
 mod failure;
+mod history;
 mod judging;
 mod schema_file;
 mod showing;
@@ -29,6 +30,17 @@ impl Finding {
             Finding::Good | Finding::Yes => 0,
             Finding::No => 1,
             Finding::Undecided => 2,
+        }
+    }
+
+    /// What was found of several: a no goes before an undecided, and that before a yes.
+    fn and(self, other: Finding) -> Finding {
+        if self == Finding::No || other == Finding::No {
+            Finding::No
+        } else if self == Finding::Undecided {
+            Finding::Undecided
+        } else {
+            other
         }
     }
 }
@@ -77,6 +89,11 @@ fn answer<'a, R: Files + AllocGlobal, O: Write>(
             reader,
             certificate,
         } => confirming::confirm_files(rt, writer, reader, certificate, out),
+        Request::History {
+            writers,
+            reader,
+            evidence,
+        } => history::history_of_files(rt, &writers, reader, evidence, out),
         Request::Schema { file, shown } => showing::show_schema(rt, file, shown, out),
     }
 }

@@ -1,4 +1,4 @@
-//! Tests of verdicts and of the program: worked rows of judging and of certificates, and the texts and
+//! Tests of verdicts and of the program: worked rows of judging, of certificates and of histories, and the texts and
 //! statuses of the program.
 #![tactic(auto)]
 
@@ -6,6 +6,8 @@
 mod certificate_command;
 #[cfg(test)]
 mod certificates;
+#[cfg(test)]
+mod history;
 #[cfg(test)]
 mod judging;
 #[cfg(test)]

@@ -1,0 +1,138 @@
+use crate::Finding;
+use crate::command::Evidence;
+use crate::confirming::{bytes_of_certificates, tell_confirmed};
+use crate::failure::Failure;
+use crate::judging::name_of;
+use crate::schema_file::read_schema_file;
+use avro_history::{HistoryCert, confirm_history};
+use avro_judge::{Approved, JudgeLimits, Verdict, judge};
+use avro_schema::Schema;
+use std::io::Write;
+use std::rt::Files;
+use std::{fs, io};
+
+/// Tells of the schemas of several files whether that of the last one takes all data of each: by
+/// judging them, or by the certificates of a file.
+pub(crate) fn history_of_files<'a, R: Files + AllocGlobal, O: Write>(
+    rt: &R,
+    writers: &[&'a str],
+    reader: &'a str,
+    evidence: Evidence<'a>,
+    out: &mut O,
+) -> Result<Finding, Failure<'a>> {
+    let schemas = read_schema_files(rt, writers)?;
+    let reader = read_schema_file(rt, reader)?;
+    match evidence {
+        Evidence::Given(word) => {
+            let history = read_history_file(rt, word)?;
+            let approvals = confirm_history(rt.alloc(), &schemas, &reader, &history)?;
+            tell_confirmed(out, approvals.is_some())
+        }
+        Evidence::Written(word) => {
+            let (finding, approvals) = judge_each(rt, writers, &schemas, &reader, out)?;
+            if finding == Finding::Yes {
+                write_history_file(rt, &approvals, word)?;
+            }
+            Ok(finding)
+        }
+        Evidence::Left => {
+            let (finding, _) = judge_each(rt, writers, &schemas, &reader, out)?;
+            Ok(finding)
+        }
+    }
+}
+
+/// The schemas of files, in order.
+fn read_schema_files<'a, R: Files + AllocGlobal>(
+    rt: &R,
+    words: &[&'a str],
+) -> Result<Vec<Schema>, Failure<'a>> {
+    let mut schemas = Vec::new(rt.alloc());
+    for word in words {
+        let schema = read_schema_file(rt, word)?;
+        if schemas.push(schema).is_err() {
+            return Err(Failure::OutOfMemory);
+        }
+    }
+    Ok(schemas)
+}
+
+/// Judges each writer's schema once, and prints a line for each, in order. The answer has what was found
+/// of all, and the approvals.
+fn judge_each<'a, 's, R: AllocGlobal, O: Write>(
+    rt: &R,
+    words: &[&'a str],
+    writers: &'s [Schema],
+    reader: &'s Schema,
+    out: &mut O,
+) -> Result<(Finding, Vec<Approved<'s>>), Failure<'a>> {
+    let limits = JudgeLimits::default();
+    let mut finding = Finding::Yes;
+    let mut approvals = Vec::new(rt.alloc());
+    for (word, writer) in words.iter().zip(writers) {
+        let verdict = judge(rt.alloc(), writer, reader, &limits)?;
+        match print_verdict(out, word, &verdict) {
+            Ok(found) => finding = finding.and(found),
+            Err(_) => return Err(Failure::CannotPrint),
+        }
+        if let Verdict::Approved(approved) = verdict {
+            if approvals.push(approved).is_err() {
+                return Err(Failure::OutOfMemory);
+            }
+        }
+    }
+    Ok((finding, approvals))
+}
+
+/// Prints the line of a writer's schema.
+fn print_verdict<O: Write>(out: &mut O, word: &str, verdict: &Verdict<'_>) -> io::Result<Finding> {
+    let finding = match verdict {
+        Verdict::Approved(_) => {
+            writeln!(out, "{word} yes")?;
+            Finding::Yes
+        }
+        Verdict::Refuted(_) => {
+            writeln!(out, "{word} no")?;
+            Finding::No
+        }
+        Verdict::Undecided(cause) => {
+            let name = name_of(*cause);
+            writeln!(out, "{word} undecided {name}")?;
+            Finding::Undecided
+        }
+    };
+    out.flush()?;
+    Ok(finding)
+}
+
+/// Writes the certificates of approvals into a file, in order.
+fn write_history_file<'a, R: Files + AllocGlobal>(
+    rt: &R,
+    approvals: &[Approved<'_>],
+    word: &'a str,
+) -> Result<(), Failure<'a>> {
+    let mut certificates = Vec::new(rt.alloc());
+    for approved in approvals {
+        let certificate = approved.certificate(rt.alloc())?;
+        if certificates.push(certificate).is_err() {
+            return Err(Failure::OutOfMemory);
+        }
+    }
+    let text = HistoryCert::new(certificates).write(rt.alloc())?;
+    match fs::write(rt, word, &text) {
+        Ok(()) => Ok(()),
+        Err(e) => Err(Failure::of_writing(word, &e)),
+    }
+}
+
+/// The history in a file.
+fn read_history_file<'a, R: Files + AllocGlobal>(
+    rt: &R,
+    word: &'a str,
+) -> Result<HistoryCert, Failure<'a>> {
+    let bytes = bytes_of_certificates(rt, word)?;
+    match HistoryCert::read(rt.alloc(), &bytes) {
+        Ok(history) => Ok(history),
+        Err(e) => Err(Failure::of_certificate(word, e)),
+    }
+}
