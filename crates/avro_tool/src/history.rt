@@ -5,8 +5,9 @@ use crate::failure::Failure;
 use crate::judging::name_of;
 use crate::schema_file::read_schema_file;
 use avro_history::{HistoryCert, confirm_history};
-use avro_judge::{Approved, JudgeLimits, Verdict, judge};
-use avro_schema::Schema;
+use avro_judge::{Certificate, JudgeLimits, Verdict, judge};
+use avro_schema::{Memory, Schema};
+use std::alloc::Global;
 use std::io::Write;
 use std::rt::Files;
 use std::{fs, io};
@@ -29,14 +30,14 @@ pub(crate) fn history_of_files<'a, R: Files + AllocGlobal, O: Write>(
             tell_confirmed(out, approvals.is_some())
         }
         Evidence::Written(word) => {
-            let (finding, approvals) = judge_each(rt, writers, &schemas, &reader, out)?;
+            let (finding, certificates) = judge_each(rt, writers, &schemas, &reader, true, out)?;
             if finding == Finding::Yes {
-                write_history_file(rt, &approvals, word)?;
+                write_history_file(rt, certificates, word)?;
             }
             Ok(finding)
         }
         Evidence::Left => {
-            let (finding, _) = judge_each(rt, writers, &schemas, &reader, out)?;
+            let (finding, _) = judge_each(rt, writers, &schemas, &reader, false, out)?;
             Ok(finding)
         }
     }
@@ -58,30 +59,44 @@ fn read_schema_files<'a, R: Files + AllocGlobal>(
 }
 
 /// Judges each writer's schema once, and prints a line for each, in order. The answer has what was found
-/// of all, and the approvals.
-fn judge_each<'a, 's, R: AllocGlobal, O: Write>(
+/// of all, and the certificates of the approvals where they are asked for.
+fn judge_each<'a, R: AllocGlobal, O: Write>(
     rt: &R,
     words: &[&'a str],
-    writers: &'s [Schema],
-    reader: &'s Schema,
+    writers: &[Schema],
+    reader: &Schema,
+    is_asked: bool,
     out: &mut O,
-) -> Result<(Finding, Vec<Approved<'s>>), Failure<'a>> {
+) -> Result<(Finding, Vec<Certificate>), Failure<'a>> {
     let limits = JudgeLimits::default();
     let mut finding = Finding::Yes;
-    let mut approvals = Vec::new(rt.alloc());
+    let mut certificates = Vec::new(rt.alloc());
     for (word, writer) in words.iter().zip(writers) {
         let verdict = judge(rt.alloc(), writer, reader, &limits)?;
         match print_verdict(out, word, &verdict) {
             Ok(found) => finding = finding.and(found),
             Err(_) => return Err(Failure::CannotPrint),
         }
-        if let Verdict::Approved(approved) = verdict {
-            if approvals.push(approved).is_err() {
-                return Err(Failure::OutOfMemory);
-            }
+        if is_asked {
+            keep_certificate(rt.alloc(), &verdict, &mut certificates)?;
         }
     }
-    Ok((finding, approvals))
+    Ok((finding, certificates))
+}
+
+/// Keeps the certificate of a verdict that approves.
+fn keep_certificate(
+    alloc: Global,
+    verdict: &Verdict<'_>,
+    certificates: &mut Vec<Certificate>,
+) -> Result<(), Memory> {
+    if let Verdict::Approved(approved) = verdict {
+        let certificate = approved.certificate(alloc)?;
+        if certificates.push(certificate).is_err() {
+            return Err(Memory);
+        }
+    }
+    Ok(())
 }
 
 /// Prints the line of a writer's schema.
@@ -105,19 +120,12 @@ fn print_verdict<O: Write>(out: &mut O, word: &str, verdict: &Verdict<'_>) -> io
     Ok(finding)
 }
 
-/// Writes the certificates of approvals into a file, in order.
+/// Writes certificates into a file, in order.
 fn write_history_file<'a, R: Files + AllocGlobal>(
     rt: &R,
-    approvals: &[Approved<'_>],
+    certificates: Vec<Certificate>,
     word: &'a str,
 ) -> Result<(), Failure<'a>> {
-    let mut certificates = Vec::new(rt.alloc());
-    for approved in approvals {
-        let certificate = approved.certificate(rt.alloc())?;
-        if certificates.push(certificate).is_err() {
-            return Err(Failure::OutOfMemory);
-        }
-    }
     let text = HistoryCert::new(certificates).write(rt.alloc())?;
     match fs::write(rt, word, &text) {
         Ok(()) => Ok(()),
