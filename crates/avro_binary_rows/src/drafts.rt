@@ -148,77 +148,81 @@ fn each_kind_of_node_is_built(rt: HostRuntime) -> Result<(), Fail> {
     Ok(())
 }
 
+/// Whether nodes have this fault, or are a schema where there is none.
+fn have_fault(alloc: Global, shapes: &[Shape], fault: Option<DraftError>) -> Result<bool, Fail> {
+    Ok(finished(alloc, shapes)?.err() == fault)
+}
+
 #[test]
-fn nodes_keep_their_rules(rt: HostRuntime) -> Result<(), Fail> {
-    let rows: [(&[Shape], Option<DraftError>); 17] = [
-        // Edges go forward, or to a named type.
-        (&[Shape::Record("R", &[("f", 1)]), Shape::Array(0)], None),
+fn edges_go_forward_or_to_a_named_type(rt: HostRuntime) -> Result<(), Fail> {
+    let alloc = rt.alloc();
+    let unknown = Some(DraftError::UnknownNode);
+    let twice = Some(DraftError::DuplicateName);
+    let back_to_record = [Shape::Record("R", &[("f", 1)]), Shape::Array(0)];
+    assert!(rt; have_fault(alloc, &back_to_record, None)?);
+    let back_to_array = [Shape::Array(1), Shape::Array(0)];
+    assert!(rt; have_fault(alloc, &back_to_array, unknown)?);
+    assert!(rt; have_fault(alloc, &[Shape::Map(1)], unknown)?);
+    let defined_twice = [
+        Shape::Record("R", &[("f", 1), ("g", 2)]),
+        Shape::Fixed("F", 1),
+        Shape::Fixed("F", 2),
+    ];
+    assert!(rt; have_fault(alloc, &defined_twice, twice)?);
+    Ok(())
+}
+
+#[test]
+fn unions_keep_their_rules(rt: HostRuntime) -> Result<(), Fail> {
+    let alloc = rt.alloc();
+    let invalid = Some(DraftError::InvalidUnion);
+    let good = [Shape::Union(&[1, 2]), Shape::Null, Shape::Int];
+    assert!(rt; have_fault(alloc, &good, None)?);
+    assert!(rt; have_fault(alloc, &[Shape::Union(&[])], invalid)?);
+    let nested = [Shape::Union(&[1]), Shape::Union(&[2]), Shape::Null];
+    assert!(rt; have_fault(alloc, &nested, invalid)?);
+    let arrays = [
+        Shape::Union(&[1, 3]),
+        Shape::Array(2),
+        Shape::Int,
+        Shape::Array(4),
+        Shape::Long,
+    ];
+    assert!(rt; have_fault(alloc, &arrays, invalid)?);
+    Ok(())
+}
+
+#[test]
+fn symbols_and_fields_keep_their_rules(rt: HostRuntime) -> Result<(), Fail> {
+    for (shape, fault) in [
+        (Shape::Enum(&[], None), Some(DraftError::InvalidSymbols)),
         (
-            &[Shape::Array(1), Shape::Array(0)],
-            Some(DraftError::UnknownNode),
-        ),
-        (&[Shape::Map(1)], Some(DraftError::UnknownNode)),
-        // Names are defined once.
-        (
-            &[
-                Shape::Record("R", &[("f", 1), ("g", 2)]),
-                Shape::Fixed("F", 1),
-                Shape::Fixed("F", 2),
-            ],
-            Some(DraftError::DuplicateName),
-        ),
-        // Unions have branches, none of them a union, and no two of one kind.
-        (&[Shape::Union(&[1, 2]), Shape::Null, Shape::Int], None),
-        (&[Shape::Union(&[])], Some(DraftError::InvalidUnion)),
-        (
-            &[Shape::Union(&[1]), Shape::Union(&[2]), Shape::Null],
-            Some(DraftError::InvalidUnion),
-        ),
-        (
-            &[
-                Shape::Union(&[1, 3]),
-                Shape::Array(2),
-                Shape::Int,
-                Shape::Array(4),
-                Shape::Long,
-            ],
-            Some(DraftError::InvalidUnion),
-        ),
-        // Symbols are distinct names, the default one of them.
-        (&[Shape::Enum(&[], None)], Some(DraftError::InvalidSymbols)),
-        (
-            &[Shape::Enum(&["A", "A"], None)],
+            Shape::Enum(&["A", "A"], None),
             Some(DraftError::InvalidSymbols),
         ),
         (
-            &[Shape::Enum(&["A"], Some(1))],
+            Shape::Enum(&["A"], Some(1)),
             Some(DraftError::InvalidSymbols),
         ),
         (
-            &[Shape::Enum(&["A", "1"], None)],
+            Shape::Enum(&["A", "1"], None),
             Some(DraftError::InvalidName),
         ),
         (
-            &[Shape::Fixed("F", 1_048_577)],
+            Shape::Fixed("F", 1_048_577),
             Some(DraftError::LimitExceeded),
         ),
-        // Fields have distinct names.
+        (Shape::Record("R", &[("x", 1), ("y", 1)]), None),
         (
-            &[Shape::Record("R", &[("x", 1), ("y", 1)]), Shape::Int],
-            None,
-        ),
-        (
-            &[Shape::Record("R", &[("x", 1), ("x", 1)]), Shape::Int],
+            Shape::Record("R", &[("x", 1), ("x", 1)]),
             Some(DraftError::DuplicateField),
         ),
         (
-            &[Shape::Record("R", &[("a-b", 1)]), Shape::Int],
+            Shape::Record("R", &[("a-b", 1)]),
             Some(DraftError::InvalidName),
         ),
-        (&[], Some(DraftError::LimitExceeded)),
-    ];
-    for (shapes, fault) in rows {
-        assert_eq!(rt; finished(rt.alloc(), shapes)?.err(), fault);
+    ] {
+        assert!(rt; have_fault(rt.alloc(), &[shape, Shape::Int], fault)?);
     }
     Ok(())
 }
