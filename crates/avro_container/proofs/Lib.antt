@@ -8,4 +8,5 @@ pub mod Standing
 pub mod Places
 pub mod Data
 pub mod Headers
+pub mod PackedData
 mod RowsFile

@@ -14,3 +14,6 @@ pub mod BlockTaken
 pub mod DatumRead
 pub mod DataRead
 pub mod Parts
+pub mod HeaderTaken
+pub mod TaskSeen
+pub mod DataPacked

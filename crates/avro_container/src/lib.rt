@@ -16,10 +16,12 @@ mod filling;
 mod header;
 mod limits;
 mod numbers;
+mod packing;
 mod part_error;
 mod putting;
 mod read_input;
 mod sink;
+mod task;
 mod write_output;
 
 pub use block::Block;
