@@ -9,4 +9,9 @@ pub mod Places
 pub mod Data
 pub mod Headers
 pub mod PackedData
+pub mod BlocksPacked
+pub mod BlocksCopied
+pub mod HeadersCopied
+pub mod StepLaws
+pub mod CopySteps
 mod RowsFile

@@ -17,3 +17,8 @@ pub mod Parts
 pub mod HeaderTaken
 pub mod TaskSeen
 pub mod DataPacked
+pub mod Moved
+pub mod BlockCopied
+pub mod HeaderCopied
+pub mod CopierSeen
+pub mod Copying
