@@ -8,4 +8,10 @@ pub mod Standing
 pub mod Places
 pub mod Data
 pub mod Headers
+pub mod Behind
+pub mod PropertyRuns
+pub mod Taken
+pub mod Texts
+pub mod HeadStops
+pub mod MetadataRuns
 mod RowsFile

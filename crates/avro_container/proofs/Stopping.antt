@@ -27,7 +27,7 @@ count_stops number ended bytes PartError.Ended f out over told cut is =
 count_stops number ended bytes PartError.Device f out over told cut is = absurd (none_some f is)
 count_stops number ended bytes PartError.OutOfMemory f out over told cut is = absurd (none_some f is)
 
-below_zero : (v : ℤ) → v <ℤ pos 0 → (n : ℕ) × (v ≡ negsuc n)
+pub below_zero : (v : ℤ) → v <ℤ pos 0 → (n : ℕ) × (v ≡ negsuc n)
 below_zero (pos n) h = absurd (grind (arith, ints))
 below_zero (negsuc n) h = (n, refl)
 

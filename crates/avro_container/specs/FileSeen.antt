@@ -1,5 +1,6 @@
 -- How contracts see the errors of a file.
 use Rattle.std.specs.Prelude.{ℕ, Option, Some, None, option_map}
+use Rattle.avro_binary.specs.Fault.{invalid_number}
 use Rattle.avro_binary.specs.Seen.{read_fault}
 use Rattle.avro_resolve.specs.Seen.{fault_of}
 use Rattle.avro_container.specs.declared.error.CopyError.{CopyError}
@@ -46,3 +47,11 @@ part_fault number PartError.Limit = Some (in_block number limit_passed)
 part_fault number PartError.Ended = Some (in_block number cut_block)
 part_fault number PartError.Device = None
 part_fault number PartError.OutOfMemory = None
+
+-- the fault that a header has where a part of its metadata is not taken, whose number stands at a place
+abbrev pub header_part_fault : ℕ → PartError → Option FileFault
+header_part_fault place PartError.OutOfRange = Some (in_header (invalid_metadata (invalid_number place)))
+header_part_fault place PartError.Limit = Some (in_header long_header)
+header_part_fault place PartError.Ended = Some (in_header cut_header)
+header_part_fault place PartError.Device = None
+header_part_fault place PartError.OutOfMemory = None

@@ -15,3 +15,5 @@ pub mod DatumRead
 pub mod DataRead
 pub mod Parts
 pub mod HeaderTaken
+pub mod HeaderParts
+pub mod MetadataParts

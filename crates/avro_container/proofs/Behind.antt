@@ -1,0 +1,235 @@
+-- Faults behind bytes, and parts that are stopped behind others.
+use Rattle.std.proofs.Common.{◌≡◌, ◌≢◌, ℕ, Bool, ◌+◌, ◌-◌, ◌^◌, ◌<◌, ◌≤◌, max, ℤ, ◌<ℤ◌, pos, negsuc, List, [], ◌++◌, length, take, drop, Some, append-nil, refl, sym, ap, subst, ◌∙◌, arith, length-append, append_assoc, length-take-le}
+use Rattle.std.proofs.lemmas.List.{drop-drop, length-drop, take-append-le}
+use Rattle.avro_zigzag.specs.NumberFault.{LongFails}
+use Rattle.avro_zigzag.specs.declared.VarError.TheVariants.{EndOfInput, OutOfRange}
+use Rattle.avro_binary.specs.Fault.{ReadFault, end_of_input, invalid_number, invalid_boolean, invalid_text, unknown_index, invalid_length, wrong_block_size, duplicate_key, limit_exceeded, behind}
+use Rattle.avro_binary.specs.Breaks.{LongBreaks, StartsWithLong, ContentBreaks}
+use Rattle.avro_container.specs.declared.part_error.PartError.{PartError}
+use Rattle.avro_container.specs.declared.error.CopyError.{CopyError}
+use Rattle.avro_container.specs.FileFault.{FileFault, in_header, invalid_metadata, long_header, cut_header}
+use Rattle.avro_container.specs.FileSeen.{file_fault, header_part_fault}
+use Rattle.avro_container.specs.Filled.{GrowsBy, TakesAtMost, UnlessDevice}
+use Rattle.avro_container.specs.HeaderFails.{ContentWants}
+use Rattle.avro_container.specs.HeaderParts.{Takes, Refused, PartStops, LengthBreaks, LengthWants, ContentFrom}
+use Rattle.avro_container.proofs.Taking.{GrowsBy-chain, TakesAtMost-later, TakesAtMost-from_grown, unless_failed}
+use Rattle.avro_container.proofs.Cut.{grown-behind}
+use Rattle.avro_container.proofs.Heads.{starts-grown}
+use Rattle.avro_container.proofs.Stopping.{some_inj, none_some, below_zero}
+
+pub behind-add : (a b : ℕ) (f : ReadFault) → behind (a + b) f ≡ behind a (behind b f)
+behind-add a b (end_of_input place) = ap end_of_input (omega arith)
+behind-add a b (invalid_number place) = ap invalid_number (omega arith)
+behind-add a b (invalid_boolean place) = ap invalid_boolean (omega arith)
+behind-add a b (invalid_text place) = ap invalid_text (omega arith)
+behind-add a b (unknown_index place) = ap unknown_index (omega arith)
+behind-add a b (invalid_length place) = ap invalid_length (omega arith)
+behind-add a b (wrong_block_size place) = ap wrong_block_size (omega arith)
+behind-add a b (duplicate_key place) = ap duplicate_key (omega arith)
+behind-add a b limit_exceeded = refl
+
+pub behind-append : (a b : List ℕ) (f : ReadFault) → behind (length (a ++ b)) f ≡ behind (length a) (behind (length b) f)
+behind-append a b f = ap (λ (n : ℕ). behind n f) (length-append a b) ∙ behind-add (length a) (length b) f
+
+pub behind-none : (f : ReadFault) → f ≡ behind 0 f
+behind-none (end_of_input place) = ap end_of_input (omega arith)
+behind-none (invalid_number place) = ap invalid_number (omega arith)
+behind-none (invalid_boolean place) = ap invalid_boolean (omega arith)
+behind-none (invalid_text place) = ap invalid_text (omega arith)
+behind-none (unknown_index place) = ap unknown_index (omega arith)
+behind-none (invalid_length place) = ap invalid_length (omega arith)
+behind-none (wrong_block_size place) = ap wrong_block_size (omega arith)
+behind-none (duplicate_key place) = ap duplicate_key (omega arith)
+behind-none limit_exceeded = refl
+
+-- what is no end of input is none behind other bytes
+still_no_end : (k : ℕ) (f : ReadFault) → ((place : ℕ) → f ≢ end_of_input place) → (place : ℕ) → behind k f ≢ end_of_input place
+still_no_end k (end_of_input there) h place e = h there refl
+still_no_end k (invalid_number there) h place e = cc
+still_no_end k (invalid_boolean there) h place e = cc
+still_no_end k (invalid_text there) h place e = cc
+still_no_end k (unknown_index there) h place e = cc
+still_no_end k (invalid_length there) h place e = cc
+still_no_end k (wrong_block_size there) h place e = cc
+still_no_end k (duplicate_key there) h place e = cc
+still_no_end k limit_exceeded h place e = cc
+
+-- ---- Calls, one behind another
+
+module _ {I : Type 0} (gives : I → List ℕ → I → Type 0) (failures : I → ℕ) (chain : (s t u : I) (front back : List ℕ) → gives s front t → gives t back u → gives s (front ++ back) u) (limit : ℕ) where
+  pub takes_then : (a b c : I) (old mid new : List ℕ) → Takes gives failures limit a b old mid → Takes gives failures limit b c mid new → Takes gives failures limit a c old new
+  takes_then a b c old mid new p q = record {
+    grown = GrowsBy-chain gives chain a b c old mid new p.grown q.grown;
+    limited = omega (arith, p.limited, q.limited);
+    works = q.works ∙ p.works;
+  }
+
+  pub then_refused : (a b c : I) (old mid new : List ℕ) (e : CopyError) → Takes gives failures limit a b old mid → Refused gives failures limit b c mid new e
+      → Refused gives failures limit a c old new e
+  then_refused a b c old mid new e p q = record {
+    grown = λ other. GrowsBy-chain gives chain a b c old mid new p.grown (q.grown other);
+    lost = TakesAtMost-later gives chain a b c old mid limit p.grown q.lost p.limited;
+    limited = omega (arith, p.limited, q.limited);
+    fails = λ is same. q.fails is (same ∙ sym p.works);
+    no_output = q.no_output;
+    first = q.first;
+  }
+
+  -- what was taken is refused
+  pub own_refused : (a b : I) (old new : List ℕ) (e : CopyError) → e ≢ CopyError.InputFailed → e ≢ CopyError.OutputFailed → e ≢ CopyError.FailedBefore
+      → Takes gives failures limit a b old new → Refused gives failures limit a b old new e
+  own_refused a b old new e no_input no_output first p = record {
+    grown = λ _. p.grown;
+    lost = TakesAtMost-from_grown gives a b old new limit p.grown p.limited;
+    limited = p.limited;
+    fails = λ is. absurd (no_input is);
+    no_output = no_output;
+    first = first;
+  }
+
+pub part_refused : {I : Type 0} (gives : I → List ℕ → I → Type 0) (failures : I → ℕ) (limit : ℕ) (a b : I) (old new : List ℕ) (e : PartError) (r : CopyError)
+    → (e ≡ PartError.Device → r ≡ CopyError.InputFailed) → (r ≡ CopyError.InputFailed → e ≡ PartError.Device) → r ≢ CopyError.OutputFailed → r ≢ CopyError.FailedBefore
+    → UnlessDevice e (GrowsBy gives a b old new) → TakesAtMost gives a b (limit - length old) → length new ≤ max (length old) limit
+    → (e ≡ PartError.Device → failures b ≢ failures a) → Refused gives failures limit a b old new r
+part_refused gives failures limit a b old new e r failed device no_output first taken lost limited fails = record {
+  grown = unless_failed e r failed taken;
+  lost = lost;
+  limited = limited;
+  fails = λ is. fails (device is);
+  no_output = no_output;
+  first = first;
+}
+
+-- ---- Parts that are stopped
+
+-- a part at the front of a whole, behind what stands before it
+pub stops-whole : (limit at from : ℕ) (ended : Type 0) (bytes front : List ℕ) (P Q P' Q' : List ℕ → ReadFault → Type 0) (f : FileFault)
+    → from ≡ at + length front → drop at bytes ≡ front ++ drop from bytes
+    → ((rest : List ℕ) (g : ReadFault) → P rest g → P' (front ++ rest) (behind (length front) g))
+    → ((rest : List ℕ) (g : ReadFault) → Q rest g → Q' (front ++ rest) (behind (length front) g))
+    → PartStops limit from ended bytes P Q f → PartStops limit at ended bytes P' Q' f
+stops-whole limit at from ended bytes front P Q P' Q' f place split up wup (PartStops.broken g b none is) =
+    PartStops.broken (behind (length front) g) (subst (λ (r : List ℕ). P' r (behind (length front) g)) (sym split) (up (drop from bytes) g b))
+    (still_no_end (length front) g none)
+    (is ∙ ap (λ (n : ℕ). in_header (invalid_metadata (behind n g))) place ∙ ap (λ (h : ReadFault). in_header (invalid_metadata h)) (behind-add at (length front) g))
+stops-whole limit at from ended bytes front P Q P' Q' _ place split up wup (PartStops.too_long there w over) =
+    PartStops.too_long (length front + there) (subst (λ (r : List ℕ). Q' r (end_of_input (length front + there))) (sym split) (wup (drop from bytes) (end_of_input there) w))
+    (omega (arith, over, place))
+stops-whole limit at from ended bytes front P Q P' Q' _ place split up wup (PartStops.is_cut there w fits told) =
+    PartStops.is_cut (length front + there) (subst (λ (r : List ℕ). Q' r (end_of_input (length front + there))) (sym split) (wup (drop from bytes) (end_of_input there) w))
+    (omega (arith, fits, place)) told
+
+-- the same place
+pub stops-as : (limit at : ℕ) (ended : Type 0) (bytes : List ℕ) (P Q P' Q' : List ℕ → ReadFault → Type 0) (f : FileFault)
+    → ((g : ReadFault) → P (drop at bytes) g → P' (drop at bytes) g) → ((g : ReadFault) → Q (drop at bytes) g → Q' (drop at bytes) g)
+    → PartStops limit at ended bytes P Q f → PartStops limit at ended bytes P' Q' f
+stops-as limit at ended bytes P Q P' Q' f up wup (PartStops.broken g b none is) = PartStops.broken g (up g b) none is
+stops-as limit at ended bytes P Q P' Q' _ up wup (PartStops.too_long there w over) = PartStops.too_long there (wup (end_of_input there) w) over
+stops-as limit at ended bytes P Q P' Q' _ up wup (PartStops.is_cut there w fits told) = PartStops.is_cut there (wup (end_of_input there) w) fits told
+
+-- a number that is not taken
+pub number_stops : (limit at : ℕ) (ended : Type 0) (bytes : List ℕ) (e : PartError) (f : FileFault) → at ≤ limit
+    → (e ≡ PartError.OutOfRange → LongFails (drop at bytes) OutOfRange)
+    → (e ≡ PartError.Limit → limit ≤ length bytes) → (e ≡ PartError.Limit → LongFails (drop at bytes) EndOfInput)
+    → (e ≡ PartError.Ended → ended) → (e ≡ PartError.Ended → length bytes < limit) → (e ≡ PartError.Ended → LongFails (drop at bytes) EndOfInput)
+    → header_part_fault at e ≡ Some f → PartStops limit at ended bytes LongBreaks LengthWants f
+number_stops limit at ended bytes PartError.OutOfRange f inside out over over_cut told below cut is =
+    PartStops.broken (invalid_number 0) (OutOfRange, out refl, refl) (λ place q. cc)
+    (sym (some_inj _ _ is) ∙ ap (λ (n : ℕ). in_header (invalid_metadata (invalid_number n))) (omega arith))
+number_stops limit at ended bytes PartError.Limit f inside out over over_cut told below cut is =
+    let past = over refl in
+    subst (PartStops limit at ended bytes LongBreaks LengthWants) (some_inj _ _ is) (PartStops.too_long 0 (LengthWants.in_number (over_cut refl)) (omega (arith, past)))
+number_stops limit at ended bytes PartError.Ended f inside out over over_cut told below cut is =
+    let short = below refl in
+    subst (PartStops limit at ended bytes LongBreaks LengthWants) (some_inj _ _ is) (PartStops.is_cut 0 (LengthWants.in_number (cut refl)) (omega (arith, short, inside)) (told refl))
+number_stops limit at ended bytes PartError.Device f inside out over over_cut told below cut is = absurd (none_some f is)
+number_stops limit at ended bytes PartError.OutOfMemory f inside out over over_cut told below cut is = absurd (none_some f is)
+
+pub length_stops : (limit at : ℕ) (ended : Type 0) (bytes : List ℕ) (f : FileFault) → PartStops limit at ended bytes LongBreaks LengthWants f → PartStops limit at ended bytes LengthBreaks LengthWants f
+length_stops limit at ended bytes f stops =
+    stops-as limit at ended bytes LongBreaks LengthWants LengthBreaks LengthWants f (λ g b. LengthBreaks.number_breaks b) (λ g w. w) stops
+
+-- a length as the first part of a content
+pub length_first : (limit at : ℕ) (ended : Type 0) (bytes : List ℕ) (is_content : List ℕ → Bool) (f : FileFault)
+    → PartStops limit at ended bytes LengthBreaks LengthWants f → PartStops limit at ended bytes (ContentBreaks is_content (2 ^ 63)) ContentWants f
+length_first limit at ended bytes is_content f stops =
+    stops-as limit at ended bytes LengthBreaks LengthWants (ContentBreaks is_content (2 ^ 63)) ContentWants f breaks wants stops
+  where
+    breaks : (g : ReadFault) → LengthBreaks (drop at bytes) g → ContentBreaks is_content (2 ^ 63) (drop at bytes) g
+    breaks _ (LengthBreaks.number_breaks b) = ContentBreaks.length_breaks b
+    breaks _ (LengthBreaks.is_negative n number rest starts) = ContentBreaks.negative n number rest starts
+
+    wants : (g : ReadFault) → LengthWants (drop at bytes) g → ContentWants (drop at bytes) g
+    wants _ (LengthWants.in_number cut) = ContentWants.in_length cut
+
+-- a content behind its length
+pub content_from : {I : Type 0} (gives : I → List ℕ → I → Type 0) (a b : I) (mid new : List ℕ) (at count len : ℕ) → GrowsBy gives a b mid new → at + len ≤ length mid
+    → StartsWithLong (pos count) (drop at mid) (take len (drop at mid)) (drop len (drop at mid)) → StartsWithLong (pos count) (drop at new) (take len (drop at new)) (drop (at + len) new)
+content_from gives a b mid new at count len p inside s =
+    let behind : drop at new ≡ drop at mid ++ p.bytes = grown-behind gives a b mid new at p (omega (arith, inside)) in
+    let left = length-drop at mid in
+    let short : len ≤ length (drop at mid) = omega (arith, left, inside) in
+    let grown : GrowsBy gives a b (drop at mid) (drop at new) = record { bytes = p.bytes; taken = p.taken; grown = behind } in
+    let starts = starts-grown gives a b (drop at mid) (drop at new) (pos count) len grown short s in
+    let same : take len (drop at new) ≡ take len (drop at mid) = ap (take len) behind ∙ take-append-le len (drop at mid) p.bytes short in
+    let rest : drop len (drop at new) ≡ drop (at + len) new = drop-drop len at new in
+    subst (λ (n : List ℕ). StartsWithLong (pos count) (drop at new) n (drop (at + len) new)) (sym same)
+    (subst (λ (r : List ℕ). StartsWithLong (pos count) (drop at new) (take len (drop at mid)) r) rest starts)
+
+pub content_stops : (limit at count len : ℕ) (ended : Type 0) (bytes : List ℕ) (is_content : List ℕ → Bool) (e : PartError) (f : FileFault)
+    → at + len ≤ length bytes → StartsWithLong (pos count) (drop at bytes) (take len (drop at bytes)) (drop (at + len) bytes) → length bytes ≤ limit
+    → e ≢ PartError.OutOfRange → (e ≡ PartError.Limit → limit < at + len + count)
+    → (e ≡ PartError.Ended → ended) → (e ≡ PartError.Ended → length bytes < at + len + count) → (e ≡ PartError.Ended → at + len + count ≤ limit)
+    → header_part_fault at e ≡ Some f → PartStops limit at ended bytes (ContentBreaks is_content (2 ^ 63)) ContentWants f
+content_stops limit at count len ended bytes is_content PartError.OutOfRange f inside starts fits out over told short near is = absurd (out refl)
+content_stops limit at count len ended bytes is_content PartError.Limit f inside starts fits out over told short near is =
+    let past = over refl in
+    let number = take len (drop at bytes) in
+    let long : length number ≡ len = length-take-le len (drop at bytes) (omega (arith, length-drop at bytes, inside)) in
+    subst (PartStops limit at ended bytes (ContentBreaks is_content (2 ^ 63)) ContentWants) (some_inj _ _ is)
+    (PartStops.too_long (length number + count) (ContentWants.in_content count number (drop (at + len) bytes) starts (omega (arith, length-drop (at + len) bytes, past, fits)) refl)
+    (omega (arith, past, long)))
+content_stops limit at count len ended bytes is_content PartError.Ended f inside starts fits out over told short near is =
+    let below = short refl in
+    let within = near refl in
+    let number = take len (drop at bytes) in
+    let long : length number ≡ len = length-take-le len (drop at bytes) (omega (arith, length-drop at bytes, inside)) in
+    subst (PartStops limit at ended bytes (ContentBreaks is_content (2 ^ 63)) ContentWants) (some_inj _ _ is)
+    (PartStops.is_cut (length number + count) (ContentWants.in_content count number (drop (at + len) bytes) starts (omega (arith, length-drop (at + len) bytes, below)) refl)
+    (omega (arith, within, below, long)) (told refl))
+content_stops limit at count len ended bytes is_content PartError.Device f inside starts fits out over told short near is = absurd (none_some f is)
+content_stops limit at count len ended bytes is_content PartError.OutOfMemory f inside starts fits out over told short near is = absurd (none_some f is)
+
+-- a length below 0
+pub negative_length : (limit at : ℕ) (ended : Type 0) (bytes : List ℕ) (v : ℤ) (front rest : List ℕ) (f : FileFault) → v <ℤ pos 0
+    → StartsWithLong v (drop at bytes) front rest → Some (in_header (invalid_metadata (invalid_length at))) ≡ Some f
+    → PartStops limit at ended bytes LengthBreaks LengthWants f
+negative_length limit at ended bytes v front rest f below starts is =
+    let n = below_zero v below in
+    PartStops.broken (invalid_length 0) (LengthBreaks.is_negative n.0 front rest (subst (λ w. StartsWithLong w (drop at bytes) front rest) n.1 starts)) (λ place q. cc)
+    (sym (some_inj _ _ is) ∙ ap (λ (n : ℕ). in_header (invalid_metadata (invalid_length n))) (omega arith))
+
+pub content_starts : (at count len : ℕ) (bytes : List ℕ) → at + len + count ≤ length bytes
+    → StartsWithLong (pos count) (drop at bytes) (take len (drop at bytes)) (drop (at + len) bytes) → ContentFrom at (at + len) (at + len + count) bytes
+content_starts at count len bytes inside starts =
+    let size : count ≡ at + len + count - (at + len) = omega arith in
+    let front : len ≡ at + len - at = omega arith in
+    record {
+      begins = omega arith;
+      ordered = omega arith;
+      inside = inside;
+      starts = subst (λ (k : ℕ). StartsWithLong (pos (at + len + count - (at + len))) (drop at bytes) (take k (drop at bytes)) (drop (at + len) bytes)) front
+          (subst (λ (n : ℕ). StartsWithLong (pos n) (drop at bytes) (take len (drop at bytes)) (drop (at + len) bytes)) size starts);
+    }
+
+-- what reports a fault is not that the input failed
+pub reports_not_failed : (e : CopyError) (f : FileFault) → file_fault e ≡ Some f → e ≢ CopyError.InputFailed
+reports_not_failed e f is q = none_some f (sym (ap file_fault q) ∙ is)
+
+pub takes_none : {I : Type 0} (gives : I → List ℕ → I → Type 0) (failures : I → ℕ) → ((s : I) → gives s [] s) → (limit : ℕ) (s : I) (bytes : List ℕ)
+    → Takes gives failures limit s s bytes bytes
+takes_none gives failures none limit s bytes = record {
+  grown = record { bytes = []; taken = none s; grown = sym (append-nil bytes) };
+  limited = omega arith;
+  works = refl;
+}
