@@ -14,4 +14,6 @@ pub mod Taken
 pub mod Texts
 pub mod HeadStops
 pub mod MetadataRuns
+pub mod MetadataTaken
+pub mod HeaderStops
 mod RowsFile

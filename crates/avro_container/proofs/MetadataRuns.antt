@@ -23,7 +23,7 @@ use Rattle.avro_container.proofs.PropertyRuns.{names-append, each-append, concat
 
 -- ---- Each property has a byte at least
 
-groups-some : (most n : ℕ) (bytes : List ℕ) → AreGroups most n bytes → 0 < length bytes
+pub groups-some : (most n : ℕ) (bytes : List ℕ) → AreGroups most n bytes → 0 < length bytes
 groups-some most n [] g = absurd (false-true g.groups)
   where
     false-true : false ≡ true → ⊥
@@ -56,7 +56,7 @@ block_first left (sized count size count_bytes size_bytes) block later rest is s
     (subst (λ (n : ℕ). SpellsLong (neg_ℤ (pos n)) count_bytes) (sym same) is.4) (subst (λ (n : ℕ). SpellsLong (pos n) size_bytes) has is.5) refl blocks
 
 -- the properties of a block are whole
-block_whole : (left : Left) (head : Head) (ps : List Property) (body : List ℕ) → PropertiesRun left ps body → length ps ≡ head_count head → head_count head ≤ left.nodes
+pub block_whole : (left : Left) (head : Head) (ps : List Property) (body : List ℕ) → PropertiesRun left ps body → length ps ≡ head_count head → head_count head ≤ left.nodes
     → EntriesAreWhole metadata_nodes entry_limits Node.bytes left (head_count head) body (left_after left ps)
 block_whole left head ps body run same few =
     subst (λ (n : ℕ). EntriesAreWhole metadata_nodes entry_limits Node.bytes left n body (left_after left ps)) same (run_whole left ps body run (omega (arith, same, few)))

@@ -18,6 +18,7 @@ mod header;
 mod header_read;
 mod header_taken;
 mod limits;
+mod metadata;
 mod names;
 mod numbers;
 mod part_error;
