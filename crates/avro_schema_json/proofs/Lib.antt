@@ -20,3 +20,4 @@ pub mod MadeSound
 pub mod MisfitsSeen
 pub mod DefaultsFit
 pub mod RepeatsSeen
+pub mod ChoicesSeen

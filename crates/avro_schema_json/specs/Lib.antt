@@ -1,3 +1,4 @@
+pub mod Choices
 pub mod Declaration
 pub mod DeclaredAttributes
 pub mod DeclaredDefaults

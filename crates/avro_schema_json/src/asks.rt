@@ -49,67 +49,6 @@ impl Asked {
     }
 }
 
-/// Whether JSON is looked into for two or more of some branches, so that what one finds may be looked at
-/// again for another. Where no part has parts of its own, each branch is tried in place: that costs no more
-/// than its parts.
-pub(crate) fn may_repeat(raws: &[RawNode], tree: &Value, places: &[NodeId]) -> bool {
-    if is_flat(tree) {
-        return false;
-    }
-    let mut is_one = false;
-    for place in places {
-        if may_enter(raws, tree, *place) {
-            if is_one {
-                return true;
-            }
-            is_one = true;
-        }
-    }
-    false
-}
-
-/// Whether JSON has no part that is an array or an object.
-fn is_flat(tree: &Value) -> bool {
-    match tree {
-        Value::Array(items) => are_leaves(items),
-        Value::Object(members) => {
-            for (_, member) in members.iter() {
-                if has_parts(member) {
-                    return false;
-                }
-            }
-            true
-        }
-        _ => true,
-    }
-}
-
-/// Whether none of some items is an array or an object.
-fn are_leaves(items: &[Value]) -> bool {
-    for item in items {
-        if has_parts(item) {
-            return false;
-        }
-    }
-    true
-}
-
-/// Whether JSON is an array or an object.
-fn has_parts(tree: &Value) -> bool {
-    tree.is_array() || tree.is_object()
-}
-
-/// Whether JSON is looked into for the node at a place: an array for an array, an object for a map or a
-/// record.
-fn may_enter(raws: &[RawNode], tree: &Value, place: NodeId) -> bool {
-    match raws.get(place.0 as usize) {
-        Some(RawNode::Plain(Node::Array(_))) => tree.is_array(),
-        Some(RawNode::Plain(Node::Map(_))) => tree.is_object(),
-        Some(RawNode::Record(_)) => tree.is_object(),
-        _ => false,
-    }
-}
-
 /// The nodes that are asked, a union by its branches.
 pub(crate) fn own_places(
     alloc: Global,

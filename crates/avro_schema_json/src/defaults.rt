@@ -4,14 +4,14 @@ ghost use Rattle.std.specs.Prelude.{◌≡◌, true, length, Some, option_map, I
 ghost use Rattle.avro_schema.specs.Node.{Node as SeenNode, node_at, branches_of as branches_in};
 ghost use Rattle.avro_schema.specs.Seen.{value_of, values_of, entries_of, node_of, places_of};
 ghost use Rattle.avro_schema.specs.Value.{Value as SeenValue};
-ghost use Rattle.avro_schema_json.specs.DeclaredDefaults.{default_of as default_by, each_default, entries_default as each_entry, default_under, fields_default as each_field, object_default as default_of_object, items_default as default_of_items, member_keys, names_only, first_fit};
-ghost use Rattle.avro_schema_json.specs.Misfits.{AreMisfits};
+ghost use Rattle.avro_schema_json.specs.DeclaredDefaults.{default_of as default_by, each_default, entries_default as each_entry, default_under, fields_default as each_field, object_default as default_of_object, items_default as default_of_items, member_keys, names_only};
+ghost use Rattle.avro_schema_json.specs.Choices.{first_of, IsTable};
 ghost use Rattle.avro_schema_json.specs.OwnDefaults.{own_default as own_default_by, default_of_fields, bare_of, bares_of, fields_seen};
 ghost use Rattle.serde_json.specs.View.{view, items_view, members_view};
 
+use crate::choices::{Choice, Choices, choices_at};
 use crate::fields::Fields;
-use crate::misfit::has;
-use crate::misfits::skipped_branches;
+use crate::likely::{fitting_choices, likely_choices};
 use crate::plain_defaults::{
     boolean_default, enum_default, null_default, number_default, text_default,
 };
@@ -20,70 +20,87 @@ use crate::texts::copy_of_text;
 use avro_schema::{Datum, Memory, Node, NodeId};
 use serde_json::{Map, Value};
 use std::alloc::Global;
-use std::collections::BTreeSet;
 
-/// The default that JSON is for the node at a place, or nothing where it is none. A union takes it
-/// as one of the first branch that it fits.
+/// The default that JSON is for a node, or nothing where it is none. A union takes it as one of the first
+/// branch that it fits.
 #[cycle(defaults)]
 pub(crate) fn default_of(
     alloc: Global,
     raws: &[RawNode],
+    table: &[Option<Choices>],
     tree: &Value,
-    place: NodeId,
+    node: NodeId,
 ) -> Result<Option<Datum>, Memory>
-    ensures { IfOk result (λ datum. option_map value_of datum ≡ default_by (bares_of raws.now) (view tree.now) (node_at (bares_of raws.now) place.0)) }
+    requires { IsTable (bares_of raws.now) table.now }
+    ensures { IfOk result (λ datum. option_map value_of datum
+        ≡ default_by (bares_of raws.now) (view tree.now) (node_at (bares_of raws.now) node.0)) }
 {
-    let null = RawNode::Plain(Node::Null);
-    let node = raw_at(&*raws, &null, place);
-    match branches(node) {
-        None => own_default(alloc, raws, tree, node),
-        Some(places) => {
-            let misfits = skipped_branches(alloc, raws, tree, places)?;
-            branch_default(alloc, raws, tree, places, &misfits)
-        }
+    match choices_at(table, node) {
+        None => default_at(alloc, raws, table, tree, node),
+        Some(choices) => union_default(alloc, raws, table, tree, choices.for_tree(tree)),
     }
 }
 
-/// The default that JSON is for the first of some branches that it fits. Those that are known not to
-/// fit are not tried.
+/// The default that JSON is for the first of some branches that it fits. Where there are several for an
+/// object, those that it plainly does not fit are left out, and of the others those that it is known not
+/// to fit.
+#[cycle(defaults)]
+fn union_default(
+    alloc: Global,
+    raws: &[RawNode],
+    table: &[Option<Choices>],
+    tree: &Value,
+    choices: &[Choice],
+) -> Result<Option<Datum>, Memory>
+    requires { IsTable (bares_of raws.now) table.now }
+    ensures { IfOk result (λ datum. option_map value_of datum
+        ≡ first_of (bares_of raws.now) (own_default_by (bares_of raws.now) (view tree.now)) choices.now) }
+{
+    if choices.len() < 2 || !tree.is_object() {
+        return branch_default(alloc, raws, table, tree, choices);
+    }
+    let likely = likely_choices(alloc, raws, tree, choices)?;
+    let left = fitting_choices(alloc, raws, tree, &likely)?;
+    branch_default(alloc, raws, table, tree, &left)
+}
+
+/// The default that JSON is for the first of some branches that it fits.
 #[cycle(defaults)]
 fn branch_default(
     alloc: Global,
     raws: &[RawNode],
+    table: &[Option<Choices>],
     tree: &Value,
-    places: &[NodeId],
-    misfits: &BTreeSet<u32>,
+    choices: &[Choice],
 ) -> Result<Option<Datum>, Memory>
-    requires { AreMisfits (bares_of raws.now) (view tree.now) misfits.now }
+    requires { IsTable (bares_of raws.now) table.now }
     ensures { IfOk result (λ datum. option_map value_of datum
-        ≡ first_fit (bares_of raws.now) (own_default_by (bares_of raws.now) (view tree.now)) 0 (places_of places.now)) }
+        ≡ first_of (bares_of raws.now) (own_default_by (bares_of raws.now) (view tree.now)) choices.now) }
 {
-    for i in 0..places.len() {
-        let place = places[i];
-        if has(misfits, place) {
-            continue;
-        }
-        match default_at(alloc, raws, tree, place)? {
-            Some(datum) => return in_branch(alloc, i, datum),
+    for choice in choices {
+        match default_at(alloc, raws, table, tree, choice.node)? {
+            Some(datum) => return in_branch(alloc, choice.branch, datum),
             None => {}
         }
     }
     Ok(None)
 }
 
-/// The default that JSON is for the node at a place itself.
+/// The default that JSON is for a node itself.
 #[cycle(defaults)]
 fn default_at(
     alloc: Global,
     raws: &[RawNode],
+    table: &[Option<Choices>],
     tree: &Value,
-    place: NodeId,
+    node: NodeId,
 ) -> Result<Option<Datum>, Memory>
-    ensures { IfOk result (λ datum. option_map value_of datum ≡ own_default_by (bares_of raws.now) (view tree.now) (node_at (bares_of raws.now) place.0)) }
+    requires { IsTable (bares_of raws.now) table.now }
+    ensures { IfOk result (λ datum. option_map value_of datum
+        ≡ own_default_by (bares_of raws.now) (view tree.now) (node_at (bares_of raws.now) node.0)) }
 {
     let null = RawNode::Plain(Node::Null);
-    let node = raw_at(&*raws, &null, place);
-    own_default(alloc, raws, tree, node)
+    own_default(alloc, raws, table, tree, raw_at(&*raws, &null, node))
 }
 
 /// The node at a place, or the given node, that of null, where there is none.
@@ -112,16 +129,12 @@ pub(crate) fn branches<'a>(node: &'a RawNode<'_>) -> Option<&'a [NodeId]>
     }
 }
 
-/// A datum as one of a union, of this branch. A branch past the range of numbers would be past any
-/// memory.
-fn in_branch(alloc: Global, branch: usize, datum: Datum) -> Result<Option<Datum>, Memory>
+/// A datum as one of a union, of this branch.
+fn in_branch(alloc: Global, branch: u32, datum: Datum) -> Result<Option<Datum>, Memory>
     ensures { IfOk result (λ whole. option_map value_of whole ≡ Some (SeenValue.union branch (value_of datum))) }
 {
-    match u32::try_from(branch) {
-        Ok(branch) => match Box::new(alloc, datum) {
-            Ok(boxed) => Ok(Some(Datum::Union(branch, boxed))),
-            Err(_) => Err(Memory),
-        },
+    match Box::new(alloc, datum) {
+        Ok(boxed) => Ok(Some(Datum::Union(branch, boxed))),
         Err(_) => Err(Memory),
     }
 }
@@ -131,17 +144,19 @@ fn in_branch(alloc: Global, branch: usize, datum: Datum) -> Result<Option<Datum>
 fn own_default(
     alloc: Global,
     raws: &[RawNode],
+    table: &[Option<Choices>],
     tree: &Value,
     node: &RawNode,
 ) -> Result<Option<Datum>, Memory>
+    requires { IsTable (bares_of raws.now) table.now }
     ensures { IfOk result (λ datum. option_map value_of datum ≡ own_default_by (bares_of raws.now) (view tree.now) (bare_of node.now)) }
 {
     match node {
-        RawNode::Plain(node) => plain_default(alloc, raws, tree, node),
+        RawNode::Plain(node) => plain_default(alloc, raws, table, tree, node),
         RawNode::Enum(raw) => Ok(enum_default(tree, raw)),
         RawNode::Record(record) => match tree {
             Value::Object(members) => {
-                record_default(alloc, raws, members, Fields::Raw(&record.fields))
+                record_default(alloc, raws, table, members, Fields::Raw(&record.fields))
             }
             _ => Ok(None),
         },
@@ -153,9 +168,11 @@ fn own_default(
 fn plain_default(
     alloc: Global,
     raws: &[RawNode],
+    table: &[Option<Choices>],
     tree: &Value,
     node: &Node,
 ) -> Result<Option<Datum>, Memory>
+    requires { IsTable (bares_of raws.now) table.now }
     ensures { IfOk result (λ datum. option_map value_of datum ≡ own_default_by (bares_of raws.now) (view tree.now) (node_of node.now)) }
 {
     match tree {
@@ -163,8 +180,8 @@ fn plain_default(
         Value::Bool(value) => Ok(boolean_default(*value, node)),
         Value::Number(number) => Ok(number_default(*number, node)),
         Value::String(text) => text_default(alloc, text.as_str(), node),
-        Value::Array(items) => items_default(alloc, raws, items, node),
-        Value::Object(members) => object_default(alloc, raws, members, node),
+        Value::Array(items) => items_default(alloc, raws, table, items, node),
+        Value::Object(members) => object_default(alloc, raws, table, members, node),
     }
 }
 
@@ -173,14 +190,16 @@ fn plain_default(
 fn items_default(
     alloc: Global,
     raws: &[RawNode],
+    table: &[Option<Choices>],
     items: &Vec<Value>,
     node: &Node,
 ) -> Result<Option<Datum>, Memory>
+    requires { IsTable (bares_of raws.now) table.now }
     ensures { IfOk result (λ datum. option_map value_of datum
         ≡ default_of_items (bares_of raws.now) (λ m. each_default (bares_of raws.now) (items_view items.now.items) m) (node_of node.now)) }
 {
     match node {
-        Node::Array(place) => match item_defaults(alloc, raws, items, *place)? {
+        Node::Array(place) => match item_defaults(alloc, raws, table, items, *place)? {
             Some(values) => Ok(Some(Datum::Array(values))),
             None => Ok(None),
         },
@@ -193,15 +212,17 @@ fn items_default(
 fn item_defaults(
     alloc: Global,
     raws: &[RawNode],
+    table: &[Option<Choices>],
     items: &Vec<Value>,
     place: NodeId,
 ) -> Result<Option<Vec<Datum>>, Memory>
+    requires { IsTable (bares_of raws.now) table.now }
     ensures { IfOk result (λ values. option_map (λ vs. values_of vs.items) values
         ≡ each_default (bares_of raws.now) (items_view items.now.items) (node_at (bares_of raws.now) place.0)) }
 {
     let mut values: Vec<Datum> = Vec::new(alloc);
     for item in items {
-        let Some(value) = default_of(alloc, raws, item, place)? else {
+        let Some(value) = default_of(alloc, raws, table, item, place)? else {
             return Ok(None);
         };
         match values.push(value) {
@@ -217,20 +238,22 @@ fn item_defaults(
 fn object_default(
     alloc: Global,
     raws: &[RawNode],
+    table: &[Option<Choices>],
     members: &Map<String, Value>,
     node: &Node,
 ) -> Result<Option<Datum>, Memory>
+    requires { IsTable (bares_of raws.now) table.now }
     ensures { IfOk result (λ datum. option_map value_of datum
         ≡ default_of_object (bares_of raws.now) (λ m. each_entry (bares_of raws.now) (members_view members.now.entries) m)
         (λ key. default_under (bares_of raws.now) key (members_view members.now.entries)) (member_keys (members_view members.now.entries)) (node_of node.now)) }
 {
     match node {
-        Node::Map(place) => match entry_defaults(alloc, raws, members, *place)? {
+        Node::Map(place) => match entry_defaults(alloc, raws, table, members, *place)? {
             Some(entries) => Ok(Some(Datum::Map(entries))),
             None => Ok(None),
         },
         Node::Record(record) => {
-            record_default(alloc, raws, members, Fields::Whole(&record.fields))
+            record_default(alloc, raws, table, members, Fields::Whole(&record.fields))
         }
         _ => Ok(None),
     }
@@ -241,15 +264,17 @@ fn object_default(
 fn entry_defaults(
     alloc: Global,
     raws: &[RawNode],
+    table: &[Option<Choices>],
     members: &Map<String, Value>,
     place: NodeId,
 ) -> Result<Option<Vec<(String, Datum)>>, Memory>
+    requires { IsTable (bares_of raws.now) table.now }
     ensures { IfOk result (λ entries. option_map (λ es. entries_of es.items) entries
         ≡ each_entry (bares_of raws.now) (members_view members.now.entries) (node_at (bares_of raws.now) place.0)) }
 {
     let mut entries: Vec<(String, Datum)> = Vec::new(alloc);
     for (key, tree) in members.iter() {
-        let Some(value) = default_of(alloc, raws, tree, place)? else {
+        let Some(value) = default_of(alloc, raws, table, tree, place)? else {
             return Ok(None);
         };
         match entries.push((copy_of_text(alloc, key.as_str())?, value)) {
@@ -265,13 +290,15 @@ fn entry_defaults(
 fn record_default(
     alloc: Global,
     raws: &[RawNode],
+    table: &[Option<Choices>],
     members: &Map<String, Value>,
     fields: Fields<'_>,
 ) -> Result<Option<Datum>, Memory>
+    requires { IsTable (bares_of raws.now) table.now }
     ensures { IfOk result (λ datum. option_map value_of datum
         ≡ default_of_fields (bares_of raws.now) (members_view members.now.entries) (fields_seen fields.entry)) }
 {
-    let Some(values) = field_defaults(alloc, raws, members, fields)? else {
+    let Some(values) = field_defaults(alloc, raws, table, members, fields)? else {
         return Ok(None);
     };
     if names_fields(alloc, members, fields)? {
@@ -303,9 +330,11 @@ pub(crate) fn names_fields(
 fn field_defaults(
     alloc: Global,
     raws: &[RawNode],
+    table: &[Option<Choices>],
     members: &Map<String, Value>,
     fields: Fields<'_>,
 ) -> Result<Option<Vec<Datum>>, Memory>
+    requires { IsTable (bares_of raws.now) table.now }
     ensures { IfOk result (λ values. option_map (λ vs. values_of vs.items) values
         ≡ each_field (bares_of raws.now) (λ key. default_under (bares_of raws.now) key (members_view members.now.entries)) (fields_seen fields.entry)) }
 {
@@ -317,7 +346,7 @@ fn field_defaults(
         let Some(tree) = members.get(name) else {
             return Ok(None);
         };
-        let Some(value) = default_of(alloc, raws, tree, place)? else {
+        let Some(value) = default_of(alloc, raws, table, tree, place)? else {
             return Ok(None);
         };
         match values.push(value) {

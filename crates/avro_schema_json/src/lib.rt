@@ -5,6 +5,7 @@
 
 mod asks;
 mod attributes;
+mod choices;
 mod declarations;
 mod defaults;
 mod error;
@@ -12,6 +13,7 @@ mod fields;
 mod floats;
 pub mod laws;
 mod leaves;
+mod likely;
 mod misfit;
 mod misfits;
 mod name_table;

@@ -10,7 +10,7 @@ ghost use Rattle.avro_schema_json.specs.OwnDefaults.{own_default as own_default_
 ghost use Rattle.serde_json.specs.Data.{Data, Items};
 ghost use Rattle.serde_json.specs.View.{view, items_view, members_view};
 
-use crate::asks::{asked_items, asked_members, may_repeat, own_places};
+use crate::asks::{asked_items, asked_members, own_places};
 use crate::misfit::{is_array_misfit, is_leaf_misfit, is_object_misfit};
 use crate::raw::RawNode;
 use avro_schema::{Memory, NodeId};
@@ -18,25 +18,9 @@ use serde_json::{Map, Value};
 use std::alloc::Global;
 use std::collections::{BTreeMap, BTreeSet};
 
-/// The branches that need not be tried: those that JSON is no default of, where two or more would look into
-/// it. JSON without parts, and that which one branch alone looks into, is tried in place.
-pub(crate) fn skipped_branches(
-    alloc: Global,
-    raws: &[RawNode],
-    tree: &Value,
-    places: &[NodeId],
-) -> Result<BTreeSet<u32>, Memory>
-    ensures { IfOk result (λ skipped. AreMisfits (bares_of raws.now) (view tree.now) skipped) }
-{
-    if may_repeat(raws, tree, places) {
-        return misfits_of(alloc, raws, tree, places);
-    }
-    Ok(BTreeSet::new(alloc))
-}
-
 /// The nodes that JSON is no default of, among those that are asked of it, unions by their branches.
 #[cycle(misfits)]
-fn misfits_of(
+pub(crate) fn misfits_of(
     alloc: Global,
     raws: &[RawNode],
     tree: &Value,

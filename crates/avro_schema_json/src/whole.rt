@@ -10,12 +10,14 @@ ghost use Rattle.avro_schema.specs.declared.fault.DraftError.TheVariants.{LimitE
 ghost use Rattle.avro_schema_json.specs.DeclaredAttributes.{unless};
 ghost use Rattle.avro_schema_json.specs.DeclaredFaults.{faults_of_nodes, or_else};
 ghost use Rattle.avro_schema_json.specs.DeclaredSchema.{field_default, is_default_read, are_defaults_read, are_all_defaults_read, whole_nodes};
+ghost use Rattle.avro_schema_json.specs.Choices.{IsTable};
 ghost use Rattle.avro_schema_json.specs.OwnDefaults.{bares_of};
 ghost use Rattle.avro_schema_json.specs.Placed.{are_placed};
 ghost use Rattle.avro_schema_json.specs.SeenDefaults.{data_seen, lists_seen, defaults_of_node as node_defaults_by, first_or, others_of, filled_fields, filled_node, filled_nodes};
 ghost use Rattle.avro_schema_json.specs.SeenRaw.{raw_field_of, raw_fields_of, raw_node_of, raw_nodes_of};
 ghost use Rattle.avro_schema_json.specs.declared.error.SchemaError.TheVariants.{InvalidDefault, NotJson, OutOfMemory};
 
+use crate::choices::{Choices, table_of};
 use crate::defaults::default_of;
 use crate::error::SchemaError;
 use crate::raw::{RawEnum, RawField, RawNode, RawRecord};
@@ -42,12 +44,14 @@ struct Defaults {
 fn default_of_field(
     alloc: Global,
     raws: &[RawNode],
+    table: &[Option<Choices>],
     field: &RawField,
 ) -> Result<Option<Datum>, Memory>
+    requires { IsTable (bares_of raws.now) table.now }
     ensures { IfOk result (λ datum. option_map value_of datum ≡ field_default (bares_of raws.now) (raw_field_of field.now)) }
 {
     match field.default {
-        Some(tree) => default_of(alloc, raws, tree, field.node),
+        Some(tree) => default_of(alloc, raws, table, tree, field.node),
         None => Ok(None),
     }
 }
@@ -56,15 +60,17 @@ fn default_of_field(
 fn defaults_of_fields(
     alloc: Global,
     raws: &[RawNode],
+    table: &[Option<Choices>],
     fields: &[RawField],
 ) -> Result<NodeDefaults, Memory>
+    requires { IsTable (bares_of raws.now) table.now }
     ensures data { IfOk result (λ defaults. data_seen defaults.of_fields.items ≡ map (field_default (bares_of raws.now)) (raw_fields_of fields.now)) }
     ensures read { IfOk result (λ defaults. defaults.are_read ≡ list_all (is_default_read (bares_of raws.now)) (raw_fields_of fields.now)) }
 {
     let mut of_fields: Vec<Option<Datum>> = Vec::new(alloc);
     let mut are_read = true;
     for field in fields {
-        let default = default_of_field(alloc, raws, field)?;
+        let default = default_of_field(alloc, raws, table, field)?;
         are_read = are_read && (default.is_some() || !field.default.is_some());
         match of_fields.push(default) {
             Ok(()) => {}
@@ -78,7 +84,13 @@ fn defaults_of_fields(
 }
 
 /// The defaults of a node.
-fn defaults_of_node(alloc: Global, raws: &[RawNode], raw: &RawNode) -> Result<NodeDefaults, Memory>
+fn defaults_of_node(
+    alloc: Global,
+    raws: &[RawNode],
+    table: &[Option<Choices>],
+    raw: &RawNode,
+) -> Result<NodeDefaults, Memory>
+    requires { IsTable (bares_of raws.now) table.now }
     ensures data { IfOk result (λ defaults. data_seen defaults.of_fields.items ≡ node_defaults_by (bares_of raws.now) (raw_node_of raw.now)) }
     ensures read { IfOk result (λ defaults. defaults.are_read ≡ are_defaults_read (bares_of raws.now) (raw_node_of raw.now)) }
 {
@@ -91,12 +103,17 @@ fn defaults_of_node(alloc: Global, raws: &[RawNode], raw: &RawNode) -> Result<No
             of_fields: Vec::new(alloc),
             are_read: true,
         }),
-        RawNode::Record(record) => defaults_of_fields(alloc, raws, &record.fields),
+        RawNode::Record(record) => defaults_of_fields(alloc, raws, table, &record.fields),
     }
 }
 
 /// The defaults of all nodes.
-fn defaults_of_nodes(alloc: Global, raws: &[RawNode]) -> Result<Defaults, Memory>
+fn defaults_of_nodes(
+    alloc: Global,
+    raws: &[RawNode],
+    table: &[Option<Choices>],
+) -> Result<Defaults, Memory>
+    requires { IsTable (bares_of raws.now) table.now }
     ensures data { IfOk result (λ defaults. lists_seen defaults.of_nodes.items ≡ map (node_defaults_by (bares_of raws.now)) (raw_nodes_of raws.now)) }
     ensures read { IfOk result (λ defaults. defaults.are_read ≡ are_all_defaults_read (raw_nodes_of raws.now)) }
 {
@@ -106,7 +123,7 @@ fn defaults_of_nodes(alloc: Global, raws: &[RawNode]) -> Result<Defaults, Memory
         let NodeDefaults {
             of_fields,
             are_read: are_these_read,
-        } = defaults_of_node(alloc, raws, raw)?;
+        } = defaults_of_node(alloc, raws, table, raw)?;
         are_read = are_read && are_these_read;
         match of_nodes.push(of_fields) {
             Ok(()) => {}
@@ -114,6 +131,15 @@ fn defaults_of_nodes(alloc: Global, raws: &[RawNode]) -> Result<Defaults, Memory
         }
     }
     Ok(Defaults { of_nodes, are_read })
+}
+
+/// The defaults of all nodes, once the branches of unions are gathered.
+fn read_defaults(alloc: Global, raws: &[RawNode]) -> Result<Defaults, Memory>
+    ensures data { IfOk result (λ defaults. lists_seen defaults.of_nodes.items ≡ map (node_defaults_by (bares_of raws.now)) (raw_nodes_of raws.now)) }
+    ensures read { IfOk result (λ defaults. defaults.are_read ≡ are_all_defaults_read (raw_nodes_of raws.now)) }
+{
+    let table = table_of(alloc, raws)?;
+    defaults_of_nodes(alloc, raws, &table)
 }
 
 /// The next default, or none where the list ends.
@@ -222,11 +248,7 @@ pub(crate) fn schema_of(alloc: Global, raws: Vec<RawNode<'_>>) -> Result<Schema,
     if has_repeated_branch(alloc, &raws)? {
         return Err(SchemaError::InvalidUnion);
     }
-    let defaults = match defaults_of_nodes(alloc, &raws) {
-        Ok(defaults) => defaults,
-        Err(_) => return Err(SchemaError::OutOfMemory),
-    };
-    let Defaults { of_nodes, are_read } = defaults;
+    let Defaults { of_nodes, are_read } = read_defaults(alloc, &raws)?;
     let draft = match drafted(alloc, raws, of_nodes) {
         Ok(draft) => draft,
         Err(error) => return Err(SchemaError::from(error)),

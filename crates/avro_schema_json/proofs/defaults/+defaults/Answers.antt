@@ -12,19 +12,6 @@ use Rattle.avro_schema_json.proofs.DefaultSteps.{item_next, items_end, entry_nex
 use Rattle.avro_schema_json.proofs.MisfitsSeen.{branch-skip}
 use Rattle.avro_schema_json.proofs.defaults.+defaults.Goals as goal
 
-pub default_of-returns : goal.default_of-returns
-default_of-returns t c =
-    let nodes = bares_of c.args.raws.now in
-    let n = node_at nodes c.args.place.0 in
-    let places = places_of c.in-Some.places.now in
-    let here : branches_of n ≡ Some places = ap branches_of (sym c.raw_at-node.ensures) ∙ sym c.in-Some.ensures in
-    rw (default-union nodes (view c.args.tree.now) n places here) c.branch_default.ensures
-
-pub branch_default-loop-i-preserved-then-has : goal.branch_default-loop-i-preserved-then-has
-branch_default-loop-i-preserved-then-has t c =
-    branch-skip (bares_of c.args.raws.now) (view c.args.tree.now) c.args.places.now c.loop-i.i _ c.args.misfits.now c.has.result _ c.loop-i-test.true
-    c.has.ensures c.if-has.true c.requires c.loop-i.invariant
-
 pub item_defaults-loop-item-preserved : goal.item_defaults-loop-item-preserved
 item_defaults-loop-item-preserved t c =
     let l = c.loop-item in

@@ -1,8 +1,8 @@
 use Rattle.std.proofs.Common.{◌≡◌, ℕ, List, Option, drop, option_map}
 use Rattle.avro_schema.specs.Node.{Node, node_at}
-use Rattle.avro_schema.specs.Seen.{places_of}
 use Rattle.avro_schema.specs.Value.{Value}
-use Rattle.avro_schema_json.specs.DeclaredDefaults.{first_fit, each_default, entries_default, fields_default, default_under}
+use Rattle.avro_schema_json.specs.DeclaredDefaults.{each_default, entries_default, fields_default, default_under}
+use Rattle.avro_schema_json.specs.Choices.{first_of}
 use Rattle.avro_schema_json.specs.OwnDefaults.{bares_of, fields_seen, own_default}
 use Rattle.serde_json.specs.View.{view, items_view, members_view}
 use Rattle.avro_schema_json.proofs.DefaultsSeen.{after_values, after_entries}
@@ -28,7 +28,7 @@ invariant-field_defaults-loop-i l =
     let under : List ℕ → Option (Node → Option Value) = λ key. default_under nodes key (members_view l.members.entries) in
     option_map (after_values l.values.items) (fields_default nodes under (drop l.i (fields_seen l.fields))) ≡ fields_default nodes under (fields_seen l.fields)
 
-abbrev pub invariant-branch_default-loop-i : goal.invariant-branch_default-loop-i
-invariant-branch_default-loop-i l =
+abbrev pub invariant-branch_default-loop-choice : goal.invariant-branch_default-loop-choice
+invariant-branch_default-loop-choice l =
     let nodes = bares_of l.raws in
-    first_fit nodes (own_default nodes (view l.tree)) l.i (places_of (drop l.i l.places)) ≡ first_fit nodes (own_default nodes (view l.tree)) 0 (places_of l.places)
+    first_of nodes (own_default nodes (view l.tree)) (drop l.choice-index l.choices) ≡ first_of nodes (own_default nodes (view l.tree)) l.choices
