@@ -13,4 +13,5 @@ pub mod PropertyRuns
 pub mod Taken
 pub mod Texts
 pub mod HeadStops
+pub mod PackedData
 mod RowsFile

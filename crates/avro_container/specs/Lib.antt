@@ -16,3 +16,6 @@ pub mod DataRead
 pub mod Parts
 pub mod HeaderParts
 pub mod MetadataParts
+pub mod HeaderTaken
+pub mod TaskSeen
+pub mod DataPacked

@@ -18,12 +18,14 @@ mod header;
 mod limits;
 mod names;
 mod numbers;
+mod packing;
 mod part_error;
 mod properties;
 mod properties_head;
 mod putting;
 mod read_input;
 mod sink;
+mod task;
 mod write_output;
 
 pub use block::Block;
