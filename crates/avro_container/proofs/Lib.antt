@@ -14,4 +14,9 @@ pub mod Taken
 pub mod Texts
 pub mod HeadStops
 pub mod PackedData
+pub mod BlocksPacked
+pub mod BlocksCopied
+pub mod HeadersCopied
+pub mod StepLaws
+pub mod CopySteps
 mod RowsFile

@@ -19,3 +19,8 @@ pub mod MetadataParts
 pub mod HeaderTaken
 pub mod TaskSeen
 pub mod DataPacked
+pub mod Moved
+pub mod BlockCopied
+pub mod HeaderCopied
+pub mod CopierSeen
+pub mod Copying

@@ -7,8 +7,11 @@ use Rattle.avro_binary.specs.Encoding.{plain}
 use Rattle.avro_container.specs.File.{Property, metadata_value, magic}
 
 -- a text as its bytes, and bytes
+abbrev pub property_of : (String Global × Vec ℕ Global) → Property
+property_of e = record { name = string_bytes e.0; content = e.1.items }
+
 abbrev pub properties_of : List (String Global × Vec ℕ Global) → List Property
-properties_of entries = map (λ e. record { name = string_bytes e.0; content = e.1.items }) entries
+properties_of entries = map property_of entries
 
 -- the metadata, in order, in one block where there is some, and the marker
 abbrev pub header_part : List Property → List ℕ → List ℕ

@@ -88,7 +88,7 @@ impl Sink {
         if self.failed {
             return Err(CopyError::FailedBefore);
         }
-        match self.put_block(output, count, body) {
+        match put_block(output, &mut self.room, &self.sync, count, body) {
             Ok(()) => Ok(()),
             Err(error) => {
                 self.failed = true;
@@ -96,32 +96,32 @@ impl Sink {
             }
         }
     }
+}
 
-    /// Puts a block at once.
-    fn put_block<O: Output>(
-        &mut self,
-        output: &mut O,
-        count: u32,
-        body: &[u8],
-    ) -> Result<(), CopyError>
-        ensures put { OnOk result (O.keeps output.old (block_part self.old.sync count body.now) output.new) }
-        ensures front { OnErr result (PutsFrontOf O.keeps output.old output.new (block_part self.old.sync count body.now)) }
-        ensures told { IfErr result (λ e. file_fault e ≡ None) }
-        ensures no_input { result ≢ Err CopyError.InputFailed }
-        ensures works { OnOk result (O.failures output.new ≡ O.failures output.old) }
-        ensures fails { result ≡ Err CopyError.OutputFailed → (O.failures output.new ≢ O.failures output.old) ⊎ O.stuck output.new }
-        ensures first { result ≢ Err CopyError.FailedBefore }
-        ensures same { (self.new.sync ≡ self.old.sync) × (self.new.failed ≡ self.old.failed) }
-    {
-        self.room.clear();
-        match append_block(&self.sync, count, body, &mut self.room) {
-            Ok(()) => {}
-            Err(_) => return Err(CopyError::OutOfMemory),
-        }
-        match put_all(output, &self.room) {
-            Ok(()) => Ok(()),
-            Err(_) => Err(CopyError::OutputFailed),
-        }
+/// Puts a block at once, by way of a room that is kept from block to block.
+pub(crate) fn put_block<O: Output>(
+    output: &mut O,
+    room: &mut Vec<u8>,
+    sync: &[u8; 16],
+    count: u32,
+    body: &[u8],
+) -> Result<(), CopyError>
+    ensures put { OnOk result (O.keeps output.old (block_part sync.now count body.now) output.new) }
+    ensures front { OnErr result (PutsFrontOf O.keeps output.old output.new (block_part sync.now count body.now)) }
+    ensures told { IfErr result (λ e. file_fault e ≡ None) }
+    ensures no_input { result ≢ Err CopyError.InputFailed }
+    ensures works { OnOk result (O.failures output.new ≡ O.failures output.old) }
+    ensures fails { result ≡ Err CopyError.OutputFailed → (O.failures output.new ≢ O.failures output.old) ⊎ O.stuck output.new }
+    ensures first { result ≢ Err CopyError.FailedBefore }
+{
+    room.clear();
+    match append_block(sync, count, body, room) {
+        Ok(()) => {}
+        Err(_) => return Err(CopyError::OutOfMemory),
+    }
+    match put_all(output, room) {
+        Ok(()) => Ok(()),
+        Err(_) => Err(CopyError::OutputFailed),
     }
 }
 
