@@ -19,4 +19,7 @@ pub mod BlocksCopied
 pub mod HeadersCopied
 pub mod StepLaws
 pub mod CopySteps
+pub mod MetadataRuns
+pub mod MetadataTaken
+pub mod HeaderStops
 mod RowsFile

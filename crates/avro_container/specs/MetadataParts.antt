@@ -1,15 +1,19 @@
 -- The blocks of a header's metadata that were taken.
 use Rattle.std.specs.Prelude.{◌≡◌, ℕ, ◌+◌, ◌^◌, ◌<◌, ◌≤◌, pos, neg_ℤ, true, false, List, ◌++◌, length, bytes_eq}
+use Rattle.std.specs.Prelude.{String}
+use Rattle.std.specs.BTreeSet.{BTreeSet}
+use Rattle.std.specs.declared.alloc.Global.{Global}
 use Rattle.avro_zigzag.specs.Number.{SpellsLong}
-use Rattle.avro_schema.specs.Node.{Node}
+use Rattle.avro_schema.specs.Node.{Node, root_of}
 use Rattle.avro_schema.specs.Distinct.{are_distinct}
 use Rattle.avro_binary.specs.Blocks.{IsInBlocks}
+use Rattle.avro_binary.specs.Encoding.{Encodes}
 use Rattle.avro_binary.specs.Fault.{ReadFault, behind}
 use Rattle.avro_binary.specs.Breaks.{Left, all_left, Head, head_count, head_bytes, IsHead, HasSize, BlocksBreak, EntriesAreWhole}
-use Rattle.avro_container.specs.File.{Property, metadata_nodes}
+use Rattle.avro_container.specs.File.{Property, metadata_nodes, metadata_value}
 use Rattle.avro_container.specs.HeaderFails.{PropertyWants, entry_limits}
 use Rattle.avro_container.specs.declared.properties_head.PropertiesHead.{PropertiesHead}
-use Rattle.avro_container.specs.HeaderParts.{Stretch, names_of, EachProperty, PropertiesRun, left_after, PropertyBreaks}
+use Rattle.avro_container.specs.HeaderParts.{AreNames, Stretch, names_of, EachProperty, PropertiesRun, left_after, PropertyBreaks}
 
 abbrev pub Blocks : (Left → List ℕ → ReadFault → Type 0) → Left → List ℕ → ReadFault → Type 0
 Blocks item left bytes f = BlocksBreak (EntriesAreWhole metadata_nodes entry_limits Node.bytes) item left bytes f
@@ -45,3 +49,16 @@ pub data TakesHead (at : ℕ) (bytes : List ℕ) : PropertiesHead → Type 0 whe
       → SpellsLong (pos h.count) front → TakesHead at bytes h
   sized : {h : PropertiesHead} (front size : List ℕ) → 0 < h.count → h.count < 2 ^ 63 → h.is_sized ≡ true → Stretch at (front ++ size) h.start bytes
       → SpellsLong (neg_ℤ (pos h.count)) front → SpellsLong (pos h.size) size → h.size < 2 ^ 63 → h.place ≡ at + length front → TakesHead at bytes h
+
+-- The blocks so far stand behind the magic.
+pub record MetadataSoFar (at : ℕ) (bytes : List ℕ) (names : BTreeSet (String Global)) (ps : List Property) : Type 0 where
+  pub front : List ℕ
+  pub run : MetadataRun ps front
+  pub stretch : Stretch 4 front at bytes
+  pub named : AreNames names (names_of ps)
+
+-- The whole metadata stands behind the magic.
+pub record MetadataEnds (end : ℕ) (bytes : List ℕ) (ps : List Property) : Type 0 where
+  pub metadata : List ℕ
+  pub stretch : Stretch 4 metadata end bytes
+  pub spelled : Encodes metadata_nodes (root_of metadata_nodes) (metadata_value ps) metadata

@@ -22,6 +22,7 @@ mod header;
 mod header_put;
 mod header_taken;
 mod limits;
+mod metadata;
 mod names;
 mod numbers;
 mod opening;

@@ -1,0 +1,143 @@
+-- The blocks of a header's metadata, one behind another.
+use Rattle.std.proofs.Common.{◌≡◌, ◌≢◌, ℕ, zero, suc, ◌+◌, ◌-◌, ◌^◌, ◌<◌, ◌≤◌, pos, Bool, true, false, ◌&&◌, List, [], ◌∷◌, ◌++◌, length, take, drop, refl, sym, ap, subst, ◌∙◌, arith, append_assoc, append-nil, length-append, bytes_eq}
+use Rattle.std.specs.Prelude.{neg_ℤ}
+use Rattle.std.specs.List.{concat, list_all}
+use Rattle.std.proofs.lemmas.List.{length-drop}
+use Rattle.std.proofs.lemmas.Bool.Decides.{nat_tests}
+use Rattle.avro_zigzag.specs.Number.{SpellsLong, AreGroups, are_groups}
+use Rattle.avro_schema.specs.Value.{Value, keys_of, entries_count}
+use Rattle.avro_schema.specs.Node.{Node, root_of}
+use Rattle.avro_schema.specs.Fits.{fits, is_count, is_text, entries_fit}
+use Rattle.avro_schema.specs.Distinct.{are_distinct}
+use Rattle.avro_binary.specs.Blocks.{IsInBlocks, no_more, counted as counted_block, sized as sized_block}
+use Rattle.avro_binary.specs.Encoding.{Encodes}
+use Rattle.avro_binary.specs.Fault.{ReadFault, end_of_input, wrong_block_size, behind}
+use Rattle.avro_binary.specs.Breaks.{Left, all_left, Head, counted, sized, head_count, head_bytes, IsHead, HasSize, HeadBreaks, BlocksBreak, BreaksAfter, EntriesAreWhole}
+use Rattle.avro_container.specs.File.{Property, property_entries, metadata_nodes, metadata_value}
+use Rattle.avro_container.specs.FileFault.{FileFault}
+use Rattle.avro_container.specs.HeaderFails.{PropertyWants, entry_limits}
+use Rattle.avro_container.specs.HeaderParts.{Stretch, names_of, IsProperty, EachProperty, PropertiesRun, left_after, PropertyBreaks, RunStops, PartStops}
+use Rattle.avro_container.specs.MetadataParts.{Blocks, BlockRun, MetadataRun, metadata_left}
+use Rattle.avro_container.proofs.Behind.{behind-append, behind-none, stops-whole}
+use Rattle.avro_container.proofs.PropertyRuns.{names-append, each-append, concat-append, each-counted, each-spelled, each-texts, each-fit, entries-counted, keys-names, and-intro, run_whole}
+
+-- ---- Each property has a byte at least
+
+pub groups-some : (most n : ℕ) (bytes : List ℕ) → AreGroups most n bytes → 0 < length bytes
+groups-some most n [] g = absurd (false-true g.groups)
+  where
+    false-true : false ≡ true → ⊥
+    false-true e = cc
+groups-some most n (b ∷ bytes) g = omega arith
+
+each-long : (ps : List Property) (items : List (List ℕ)) → EachProperty ps items → length ps ≤ length (concat items)
+each-long [] items s = omega arith
+each-long (p ∷ ps) items s =
+    let name = s.2.named.spelled in
+    let one = groups-some 10 _ name.0 name.1 in
+    let named : length s.2.name ≡ length name.0 + length p.name = ap length name.2 ∙ length-append name.0 p.name in
+    let first : length s.0 ≡ length s.2.name + length s.2.content = ap length s.2.split ∙ length-append s.2.name s.2.content in
+    let all : length (concat items) ≡ length s.0 + length (concat s.1) = ap (λ (is : List (List ℕ)). length (concat is)) s.4 ∙ length-append s.0 (concat s.1) in
+    omega (arith, one, named, first, all, each-long ps s.1 s.3)
+
+-- ---- A block before others
+
+block_first : (left : ℕ) (head : Head) (block later : List (List ℕ)) (rest : List ℕ) → IsHead left head → length block ≡ head_count head
+    → HasSize head (length (concat block)) → IsInBlocks later rest → IsInBlocks (block ++ later) (head_bytes head ++ concat block ++ rest)
+block_first left (counted count count_bytes) block later rest is same size blocks =
+    let some = is.0 in
+    let few = is.1 in
+    counted_block block later count_bytes rest refl (omega arith) (omega arith) (subst (λ (n : ℕ). SpellsLong (pos n) count_bytes) (sym same) is.3) refl blocks
+block_first left (sized count size count_bytes size_bytes) block later rest is same has blocks =
+    let some = is.0 in
+    let few = is.1 in
+    let short = is.3 in
+    sized_block block later count_bytes size_bytes rest refl (omega arith) (omega arith) (let s : size ≡ length (concat block) = has in omega arith)
+    (subst (λ (n : ℕ). SpellsLong (neg_ℤ (pos n)) count_bytes) (sym same) is.4) (subst (λ (n : ℕ). SpellsLong (pos n) size_bytes) has is.5) refl blocks
+
+-- the properties of a block are whole
+pub block_whole : (left : Left) (head : Head) (ps : List Property) (body : List ℕ) → PropertiesRun left ps body → length ps ≡ head_count head → head_count head ≤ left.nodes
+    → EntriesAreWhole metadata_nodes entry_limits Node.bytes left (head_count head) body (left_after left ps)
+block_whole left head ps body run same few =
+    subst (λ (n : ℕ). EntriesAreWhole metadata_nodes entry_limits Node.bytes left n body (left_after left ps)) same (run_whole left ps body run (omega (arith, same, few)))
+
+pub head_few : (left : ℕ) (head : Head) → IsHead left head → head_count head ≤ left
+head_few left (counted count count_bytes) is = is.2
+head_few left (sized count size count_bytes size_bytes) is = is.2
+
+-- what breaks behind a block breaks it and what follows
+block_later : (item : Left → List ℕ → ReadFault → Type 0) (left : Left) (b : BlockRun left) (rest : List ℕ) (f : ReadFault)
+    → Blocks item (left_after left b.properties) rest f → Blocks item left ((head_bytes b.head ++ b.body) ++ rest) (behind (length (head_bytes b.head ++ b.body)) f)
+block_later item left b rest f later =
+    BlocksBreak.later_breaks b.head b.body rest (left_after left b.properties) f b.is_head (block_whole left b.head b.properties b.body b.run b.counted (head_few left.nodes b.head b.is_head)) b.has_size
+    refl later refl
+
+left_twice : (ps qs : List Property) → left_after (metadata_left ps) qs ≡ metadata_left (ps ++ qs)
+left_twice ps qs = λ i. record { nodes = nodes i; keys = sym (names-append ps qs) i }
+  where
+    nodes : 2 ^ 64 - 1 - length ps - length qs ≡ 2 ^ 64 - 1 - length (ps ++ qs)
+    nodes = omega (arith, length-append ps qs)
+
+-- ---- The metadata so far
+
+pub metadata_none : MetadataRun [] []
+metadata_none = record {
+  items = [];
+  each = refl;
+  distinct = refl;
+  few = omega arith;
+  ends = λ later bytes b. b;
+  breaks = λ rest f b. subst (λ (g : ReadFault). Blocks PropertyBreaks (all_left entry_limits) rest g) (behind-none f) b;
+  wants = λ rest f b. subst (λ (g : ReadFault). Blocks PropertyWants (all_left entry_limits) rest g) (behind-none f) b;
+}
+
+module _ (item : Left → List ℕ → ReadFault → Type 0) (ps : List Property) (front : List ℕ) (b : BlockRun (metadata_left ps))
+    (so_far : (rest : List ℕ) (f : ReadFault) → Blocks item (metadata_left ps) rest f → Blocks item (all_left entry_limits) (front ++ rest) (behind (length front) f)) where
+  lift : (rest : List ℕ) (f : ReadFault) → Blocks item (metadata_left (ps ++ b.properties)) rest f
+      → Blocks item (all_left entry_limits) ((front ++ (head_bytes b.head ++ b.body)) ++ rest) (behind (length (front ++ (head_bytes b.head ++ b.body))) f)
+  lift rest f later =
+      let part = head_bytes b.head ++ b.body in
+      let one = block_later item (metadata_left ps) b rest f (subst (λ (l : Left). Blocks item l rest f) (sym (left_twice ps b.properties)) later) in
+      subst (λ (g : ReadFault). Blocks item (all_left entry_limits) ((front ++ part) ++ rest) g) (sym (behind-append front part f))
+      (subst (λ (r : List ℕ). Blocks item (all_left entry_limits) r (behind (length front) (behind (length part) f))) (sym (append_assoc front part rest))
+      (so_far (part ++ rest) (behind (length part) f) one))
+
+pub metadata_push : (ps : List Property) (front : List ℕ) (run : MetadataRun ps front) (b : BlockRun (metadata_left ps)) → MetadataRun (ps ++ b.properties) (front ++ (head_bytes b.head ++ b.body))
+metadata_push ps front run b =
+    let part = head_bytes b.head ++ b.body in
+    record {
+      items = run.items ++ b.run.items;
+      each = each-append ps b.properties run.items b.run.items run.each b.run.each;
+      distinct = ap (are_distinct bytes_eq) (names-append ps b.properties) ∙ b.run.distinct;
+      few =
+          let body : length b.body ≡ length (concat b.run.items) = ap length b.run.bytes_are in
+          omega (arith, run.few, each-long b.properties b.run.items b.run.each, body, length-append ps b.properties, length-append front part, length-append (head_bytes b.head) b.body);
+      ends = λ later bytes blocks.
+          let size : HasSize b.head (length (concat b.run.items)) = subst (λ (r : List ℕ). HasSize b.head (length r)) b.run.bytes_are b.has_size in
+          let one = block_first (metadata_left ps).nodes b.head b.run.items later bytes b.is_head (each-counted b.properties b.run.items b.run.each ∙ b.counted) size blocks in
+          let same : head_bytes b.head ++ concat b.run.items ≡ part = ap (λ (r : List ℕ). head_bytes b.head ++ r) (sym b.run.bytes_are) in
+          let two : IsInBlocks (b.run.items ++ later) (part ++ bytes) = subst (λ (r : List ℕ). IsInBlocks (b.run.items ++ later) (r ++ bytes)) same one in
+          subst (λ (q : List ℕ). IsInBlocks ((run.items ++ b.run.items) ++ later) q) (sym (append_assoc front part bytes))
+          (subst (λ (is : List (List ℕ)). IsInBlocks is (front ++ (part ++ bytes))) (sym (append_assoc run.items b.run.items later)) (run.ends (b.run.items ++ later) (part ++ bytes) two));
+      breaks = lift PropertyBreaks ps front b run.breaks;
+      wants = lift PropertyWants ps front b run.wants;
+    }
+
+-- the metadata ends
+pub metadata_whole : (ps : List Property) (front last : List ℕ) → MetadataRun ps front → SpellsLong (pos 0) last → length ps < 2 ^ 63
+    → Encodes metadata_nodes (root_of metadata_nodes) (metadata_value ps) (front ++ last)
+metadata_whole ps front last run zero few = record {
+  fitting =
+      let entries = property_entries ps in
+      and-intro (is_count (entries_count entries)) _ (is_count-from (entries_count entries) (omega (arith, few, entries-counted ps)))
+      (and-intro (list_all is_text (keys_of entries)) _ (each-texts ps run.items run.each)
+      (and-intro (are_distinct bytes_eq (keys_of entries)) _ (ap (are_distinct bytes_eq) (keys-names ps) ∙ run.distinct) (each-fit ps run.items run.each)));
+  spelled = (
+    run.items,
+    each-spelled ps run.items run.each,
+    subst (λ (is : List (List ℕ)). IsInBlocks is (front ++ last)) (append-nil run.items) (run.ends [] last (no_more zero)),
+  );
+}
+  where
+    is_count-from : (n : ℕ) → n < 2 ^ 63 → is_count n ≡ true
+    is_count-from n h = grind (arith, nat_tests)

@@ -1,0 +1,108 @@
+//! Taking the metadata of a header.
+
+ghost use Rattle.std.specs.Prelude.{◌≡◌, ◌+◌, ◌^◌, ◌<◌, ◌≤◌, true, false, max, length, IfOk, Some};
+ghost use Rattle.std.specs.Result.{IfErr};
+ghost use Rattle.avro_binary.specs.Breaks.{all_left};
+ghost use Rattle.avro_container.specs.FileFault.{FileFault};
+ghost use Rattle.avro_container.specs.FileSeen.{file_fault};
+ghost use Rattle.avro_container.specs.HeaderFails.{PropertyWants, entry_limits};
+ghost use Rattle.avro_container.specs.HeaderParts.{PartStops, PropertyBreaks, Refused, Takes};
+ghost use Rattle.avro_container.specs.Held.{held};
+ghost use Rattle.avro_container.specs.MetadataParts.{Blocks, MetadataEnds, MetadataSoFar};
+ghost use Rattle.avro_container.specs.Parts.{properties_of};
+
+use crate::buffer::Buffer;
+use crate::device::Input;
+use crate::error::CopyError;
+use crate::filling::Reach;
+use crate::properties::{Properties, take_properties};
+use crate::properties_head::take_properties_head;
+use avro_binary::ReadError;
+use std::alloc::Global;
+use std::collections::BTreeSet;
+
+/// Takes the block of properties that begins behind so many bytes, and answers whether there is one and where it ends. Where
+/// there is none, the metadata ends there.
+///
+/// # Errors
+///
+/// `InvalidMetadata`, `LimitExceeded`, `CutHeader`; `InputFailed`, `OutOfMemory`.
+fn take_metadata_block<I: Input>(
+    alloc: Global,
+    input: &mut I,
+    buffer: &mut Buffer,
+    at: usize,
+    properties: &mut Properties,
+    reach: Reach,
+) -> Result<(bool, usize), CopyError>
+    requires begins { at ≤ length (held buffer.old) }
+    requires small { reach.limit + reach.ahead < 2 ^ 62 }
+    requires fits { length (held buffer.old) ≤ reach.limit }
+    ensures further { IfOk result (λ r. (at < r.1) × (r.1 ≤ length (held buffer.new))) }
+    ensures more { IfOk result (λ r. r.0 ≡ true → MetadataSoFar at (held buffer.old) properties.old.names (properties_of properties.old.entries.items)
+        → MetadataSoFar r.1 (held buffer.new) properties.new.names (properties_of properties.new.entries.items)) }
+    ensures end { IfOk result (λ r. r.0 ≡ false → MetadataSoFar at (held buffer.old) properties.old.names (properties_of properties.old.entries.items)
+        → MetadataEnds r.1 (held buffer.new) (properties_of properties.new.entries.items)) }
+    ensures within { IfOk result (λ r. length (held buffer.new) ≤ max (length (held buffer.old)) (r.1 + reach.ahead)) }
+    ensures took { IfOk result (λ _. Takes I.gives I.failures reach.limit input.old input.new (held buffer.old) (held buffer.new)) }
+    ensures lost { IfErr result (λ e. Refused I.gives I.failures reach.limit input.old input.new (held buffer.old) (held buffer.new) e) }
+    ensures refused { IfErr result (λ e. (f : FileFault) → file_fault e ≡ Some f → MetadataSoFar at (held buffer.old) properties.old.names (properties_of properties.old.entries.items)
+        → PartStops reach.limit 4 (I.ended input.new) (held buffer.new) (Blocks PropertyBreaks (all_left entry_limits)) (Blocks PropertyWants (all_left entry_limits)) f) }
+{
+    let head = match take_properties_head(input, buffer, at, reach) {
+        Ok(head) => head,
+        Err(error) => return Err(error),
+    };
+    if head.count == 0 {
+        return Ok((false, head.start));
+    }
+    let start = head.start;
+    let end = match take_properties(alloc, input, buffer, start, head.count, properties, reach) {
+        Ok(end) => end,
+        Err(error) => return Err(error),
+    };
+    if head.is_sized && (end - start) as u64 != head.size {
+        return Err(CopyError::InvalidMetadata(ReadError::WrongBlockSize {
+            place: head.place,
+        }));
+    }
+    Ok((true, end))
+}
+
+/// Takes the metadata behind the magic, and answers its properties in order and where it ends.
+///
+/// # Errors
+///
+/// `InvalidMetadata`, `LimitExceeded`, `CutHeader`; `InputFailed`, `OutOfMemory`.
+pub(crate) fn take_metadata<I: Input>(
+    alloc: Global,
+    input: &mut I,
+    buffer: &mut Buffer,
+    reach: Reach,
+) -> Result<(Vec<(String, Vec<u8>)>, usize), CopyError>
+    requires begins { 4 ≤ length (held buffer.old) }
+    requires small { reach.limit + reach.ahead < 2 ^ 62 }
+    requires fits { length (held buffer.old) ≤ reach.limit }
+    ensures found { IfOk result (λ r. MetadataEnds r.1 (held buffer.new) (properties_of r.0.items)) }
+    ensures within { IfOk result (λ r. length (held buffer.new) ≤ max (length (held buffer.old)) (r.1 + reach.ahead)) }
+    ensures took { IfOk result (λ _. Takes I.gives I.failures reach.limit input.old input.new (held buffer.old) (held buffer.new)) }
+    ensures lost { IfErr result (λ e. Refused I.gives I.failures reach.limit input.old input.new (held buffer.old) (held buffer.new) e) }
+    ensures refused { IfErr result (λ e. (f : FileFault) → file_fault e ≡ Some f
+        → PartStops reach.limit 4 (I.ended input.new) (held buffer.new) (Blocks PropertyBreaks (all_left entry_limits)) (Blocks PropertyWants (all_left entry_limits)) f) }
+{
+    let mut properties = Properties {
+        entries: Vec::new(alloc),
+        names: BTreeSet::new(alloc),
+    };
+    let mut at = 4;
+    loop {
+        match take_metadata_block(alloc, input, buffer, at, &mut properties, reach) {
+            Ok((true, end)) => at = end,
+            Ok((false, end)) => {
+                let Properties { entries, names: _ } = properties;
+                return Ok((entries, end));
+            }
+            Err(error) => return Err(error),
+        }
+    }
+}
