@@ -22,14 +22,14 @@ IfBlock (Ok (Step.Block n)) P = P n
 IfBlock r P = Unit {0}
 
 -- A whole file was taken, and its copy was put.
-abbrev pub CopiesFile : {I O : Type 0} → (I → List ℕ → I → Type 0) → (O → List ℕ → O → Type 0) → I → I → O → O → Job → Type 0 → ℕ → ℕ → Type 0
-CopiesFile gives keeps input input_after output output_after job ended items blocks =
-    Moved gives keeps input input_after output output_after (CopiedWhole job ended items blocks)
+abbrev pub CopiesFile : {I O : Type 0} → (I → List ℕ → I → Type 0) → (O → List ℕ → O → Type 0) → I → I → O → O → Job → FileLimitValues → Type 0 → ℕ → ℕ → Type 0
+CopiesFile gives keeps input input_after output output_after job limits ended items blocks =
+    Moved gives keeps input input_after output output_after (CopiedWhole job limits ended items blocks)
 
 -- Nothing was put, or a front of the copy of the header and the blocks with which the bytes that were taken begin.
-abbrev pub CopiesFront : {I O : Type 0} → (I → List ℕ → I → Type 0) → (O → List ℕ → O → Type 0) → I → I → O → O → Job → Type 0
-CopiesFront gives keeps input input_after output output_after job =
-    Moved gives keeps input input_after output output_after (PutInAll job)
+abbrev pub CopiesFront : {I O : Type 0} → (I → List ℕ → I → Type 0) → (O → List ℕ → O → Type 0) → I → I → O → O → Job → FileLimitValues → Type 0
+CopiesFront gives keeps input input_after output output_after job limits =
+    Moved gives keeps input input_after output output_after (PutInAll job limits)
 
 -- A fault of the file was told: it stands there, and exactly what stands before it was copied.
 abbrev pub CopiesUpTo : {I O : Type 0} → (I → List ℕ → I → Type 0) → (O → List ℕ → O → Type 0) → I → I → O → O → Job → FileLimitValues → Type 0 → FileFault → Type 0

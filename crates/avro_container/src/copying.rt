@@ -30,8 +30,9 @@ pub fn copy<'a, I: Input, O: Output>(
     limits: &FileLimits,
 ) -> Result<Counts, CopyError>
     ensures whole { IfOk result (λ counts. CopiesFile I.gives O.keeps input.old input.new output.old output.new
-        (job_from reader.entry sync) (I.ended input.new) counts.items counts.blocks) }
-    ensures front { OnErr result (CopiesFront I.gives O.keeps input.old input.new output.old output.new (job_from reader.entry sync)) }
+        (job_from reader.entry sync) limits.now (I.ended input.new) counts.items counts.blocks) }
+    ensures front { OnErr result (CopiesFront I.gives O.keeps input.old input.new output.old output.new
+        (job_from reader.entry sync) limits.now) }
     ensures fault { IfErr result (λ e. (f : FileFault) → file_fault e ≡ Some f → CopiesUpTo I.gives O.keeps input.old input.new output.old output.new
         (job_from reader.entry sync) limits.now (I.ended input.new) f) }
     ensures input_fails { result ≡ Err CopyError.InputFailed → I.failures input.new ≢ I.failures input.old }
