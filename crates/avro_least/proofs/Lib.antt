@@ -17,3 +17,4 @@ pub mod Rounds
 pub mod ShownData
 pub mod ShownErrors
 pub mod public
+pub mod NamesAsked

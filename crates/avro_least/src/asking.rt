@@ -5,15 +5,17 @@ ghost use Rattle.avro_schema.specs.Node.{Node as SeenNode, node_at, field_places
 ghost use Rattle.avro_schema.specs.Seen.{node_of, places_of, seen_fields, texts_of};
 ghost use Rattle.avro_schema.specs.SeenSchema.{schema_nodes};
 ghost use Rattle.avro_resolve.specs.Match.{is_match, first_match};
+ghost use Rattle.avro_resolve.specs.Planned.{FindsFields};
 ghost use Rattle.avro_resolve.specs.Source.{missing_field};
 ghost use Rattle.avro_certificate.specs.Closed.{lacks_symbol};
 ghost use Rattle.avro_least.specs.Asked.{Asked, asked, asked_inside, asked_branch, noted, rows_from};
 ghost use Rattle.avro_least.specs.SeenAsk.{ask_of, rows_of};
 
-use avro_certificate::lacks_symbol;
-use avro_resolve::{first_match, matches, source};
-use avro_schema::{Field, Memory, Node, NodeId, RecordNode, Schema};
+use crate::asking_names::{lacks_by_name, names_of};
+use avro_resolve::{first_match, matches, source_in};
+use avro_schema::{Field, Memory, Node, NodeId, Schema};
 use std::alloc::Global;
+use std::collections::BTreeMap;
 
 /// A writer's field, and the reader's field whose source it is.
 #[derive(Clone, Copy, Debug)]
@@ -56,11 +58,12 @@ pub(crate) fn node_or<'a>(schema: &'a Schema, id: NodeId, null: &'a Node) -> &'a
 }
 
 /// Whether some reader's field has neither a source nor a default.
-fn misses_field(writer: &RecordNode, reader: &RecordNode) -> bool
-    ensures { result ≡ is_some (missing_field (seen_fields writer.now.fields.items) (seen_fields reader.now.fields.items)) }
+fn misses_field(names: &BTreeMap<&str, usize>, writer: &[Field], reader: &[Field]) -> bool
+    requires { FindsFields (seen_fields writer.now) names.now }
+    ensures { result ≡ is_some (missing_field (seen_fields writer.now) (seen_fields reader.now)) }
 {
-    for field in &reader.fields {
-        if source(writer, field).is_none() && field.default.is_none() {
+    for field in reader {
+        if source_in(names, writer, field).is_none() && field.default.is_none() {
             return true;
         }
     }
@@ -98,15 +101,21 @@ fn note(rows: &mut Vec<FieldAsk>, place: usize, theirs: NodeId)
 
 /// Each writer's field, beside the reader's field whose source it is: the first, so that they are noted
 /// from the last on.
-fn rows(alloc: Global, writer: &RecordNode, reader: &[Field]) -> Result<Vec<FieldAsk>, Memory>
-    ensures { IfOk result (λ rows. rows_of rows.items ≡ rows_from (seen_fields writer.now.fields.items) (seen_fields reader.now) 0 (field_places (seen_fields writer.now.fields.items))) }
+fn rows(
+    alloc: Global,
+    names: &BTreeMap<&str, usize>,
+    writer: &[Field],
+    reader: &[Field],
+) -> Result<Vec<FieldAsk>, Memory>
+    requires { FindsFields (seen_fields writer.now) names.now }
+    ensures { IfOk result (λ rows. rows_of rows.items ≡ rows_from (seen_fields writer.now) (seen_fields reader.now) 0 (field_places (seen_fields writer.now))) }
 {
-    let mut rows = lone_rows(alloc, &writer.fields)?;
+    let mut rows = lone_rows(alloc, writer)?;
     let mut i = reader.len();
     while i > 0 {
         i -= 1;
         let field = &reader[i];
-        match source(writer, field) {
+        match source_in(names, writer, field) {
             None => {}
             Some(place) => note(&mut rows, place, field.node),
         }
@@ -115,24 +124,30 @@ fn rows(alloc: Global, writer: &RecordNode, reader: &[Field]) -> Result<Vec<Fiel
 }
 
 /// What two records ask for.
-fn ask_fields(alloc: Global, writer: &RecordNode, reader: &RecordNode) -> Result<Ask, Memory>
-    ensures { IfOk result (λ a. ask_of a ≡ cond (is_some (missing_field (seen_fields writer.now.fields.items) (seen_fields reader.now.fields.items))) Asked.whole
-        (Asked.fields (rows_from (seen_fields writer.now.fields.items) (seen_fields reader.now.fields.items) 0 (field_places (seen_fields writer.now.fields.items))))) }
+fn ask_fields(alloc: Global, writer: &[Field], reader: &[Field]) -> Result<Ask, Memory>
+    ensures { IfOk result (λ a. ask_of a ≡ cond (is_some (missing_field (seen_fields writer.now) (seen_fields reader.now))) Asked.whole
+        (Asked.fields (rows_from (seen_fields writer.now) (seen_fields reader.now) 0 (field_places (seen_fields writer.now))))) }
 {
-    if misses_field(writer, reader) {
+    let names = names_of(alloc, writer)?;
+    if misses_field(&names, writer, reader) {
         return Ok(Ask::Whole);
     }
-    Ok(Ask::Fields(rows(alloc, writer, &reader.fields)?))
+    Ok(Ask::Fields(rows(alloc, &names, writer, reader)?))
 }
 
 /// What two enums ask for.
-fn ask_symbols(symbols: &[String], theirs: &[String], default: Option<u32>) -> Ask
-    ensures { ask_of result ≡ cond (lacks_symbol (texts_of symbols.now) (texts_of theirs.now) default) Asked.lone Asked.quiet }
+fn ask_symbols(
+    alloc: Global,
+    symbols: &[String],
+    theirs: &[String],
+    default: Option<u32>,
+) -> Result<Ask, Memory>
+    ensures { IfOk result (λ a. ask_of a ≡ cond (lacks_symbol (texts_of symbols.now) (texts_of theirs.now) default) Asked.lone Asked.quiet) }
 {
-    if lacks_symbol(symbols, theirs, default) {
-        Ask::Lone
+    if lacks_by_name(alloc, symbols, theirs, default)? {
+        Ok(Ask::Lone)
     } else {
-        Ask::Quiet
+        Ok(Ask::Quiet)
     }
 }
 
@@ -155,11 +170,11 @@ fn ask_inside(alloc: Global, w: &Node, r: &Node) -> Result<Ask, Memory>
             _ => Ok(Ask::Quiet),
         },
         Node::Record(a) => match r {
-            Node::Record(b) => ask_fields(alloc, a, b),
+            Node::Record(b) => ask_fields(alloc, &a.fields, &b.fields),
             _ => Ok(Ask::Quiet),
         },
         Node::Enum(a) => match r {
-            Node::Enum(b) => Ok(ask_symbols(&a.symbols, &b.symbols, b.default)),
+            Node::Enum(b) => ask_symbols(alloc, &a.symbols, &b.symbols, b.default),
             _ => Ok(Ask::Quiet),
         },
         _ => Ok(Ask::Quiet),

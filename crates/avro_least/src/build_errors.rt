@@ -2,7 +2,7 @@
 
 ghost use Rattle.std.specs.Prelude.{◌≡◌, ◌+◌, ◌<◌, ◌≤◌, ℕ, true, false, Bool, length, IfOk, OnOk, [], ◌∷◌, ◌++◌, Some, slice_get, is_some, map};
 ghost use Rattle.indexmap.specs.IndexSet.{keys};
-ghost use Rattle.avro_schema.specs.Seen.{value_of, values_from, node_of, places_of, texts_of};
+ghost use Rattle.avro_schema.specs.Seen.{value_of, values_from, node_of, places_of};
 ghost use Rattle.avro_schema.specs.Value.{Value, entry, no_entries};
 ghost use Rattle.avro_schema.specs.Node.{Node as SeenNode, node_at};
 ghost use Rattle.avro_schema.specs.SeenSchema.{schema_nodes};
@@ -10,29 +10,17 @@ ghost use Rattle.avro_least.specs.Asked.{Asked, asked, err_of_rows};
 ghost use Rattle.avro_least.specs.Tables.{best_of, erring_of};
 ghost use Rattle.avro_least.specs.SeenAsk.{ask_of, row_of, rows_of};
 ghost use Rattle.avro_least.specs.SeenLeast.{seen, seen_all, table_of};
-ghost use Rattle.avro_least.specs.BuiltErrors.{IsLone, first_from, is_lacking, lone_value, part_value, BuildsError, BuildsAsked, BuildsRow, BuildsRows, part_of_row, total_from};
+ghost use Rattle.avro_least.specs.BuiltErrors.{IsLone, lone_value, part_value, BuildsError, BuildsAsked, BuildsRow, BuildsRows, part_of_row, total_from};
 
 use crate::asking::{Ask, FieldAsk, make_ask, node_or};
+use crate::asking_names::first_lacking;
 use crate::build::{are_same, as_place, build, make_record, place_at, push_datum, wrap};
 use crate::erring::{best_branch, best_field, pair_entry, row_entry};
 use crate::kept::Least;
 use crate::least::{entry, together};
 use crate::reaching::Reached;
-use avro_certificate::has_text;
 use avro_schema::{Datum, Memory, Node, NodeId, Schema};
 use std::alloc::Global;
-
-/// The first of the writer's symbols that the reader lacks.
-fn first_lacking(symbols: &[String], theirs: &[String]) -> usize
-    ensures { result ≡ first_from (is_lacking (texts_of theirs.now)) 0 (texts_of symbols.now) }
-{
-    for i in 0..symbols.len() {
-        if !has_text(theirs, symbols[i].as_str()) {
-            return i;
-        }
-    }
-    symbols.len()
-}
 
 /// A byte.
 fn one_byte(alloc: Global, byte: u8) -> Result<Datum, Memory>
@@ -52,7 +40,10 @@ fn lone(alloc: Global, from: &Node, to: &Node) -> Result<Datum, Memory>
 {
     match from {
         Node::Enum(a) => match to {
-            Node::Enum(b) => Ok(Datum::Enum(as_place(first_lacking(&a.symbols, &b.symbols)))),
+            Node::Enum(b) => {
+                let place = first_lacking(alloc, &a.symbols, &b.symbols)?;
+                Ok(Datum::Enum(as_place(place)))
+            }
             _ => one_byte(alloc, 255),
         },
         _ => one_byte(alloc, 255),

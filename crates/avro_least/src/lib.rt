@@ -6,6 +6,7 @@
 #![tactic(auto)]
 
 mod asking;
+mod asking_names;
 mod build;
 mod build_errors;
 mod erring;

@@ -22,3 +22,4 @@ pub mod MapEntries
 pub mod RecordSlots
 pub mod OnePass
 pub mod Planning
+pub mod FieldsNoted

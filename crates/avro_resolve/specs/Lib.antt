@@ -8,3 +8,4 @@ pub mod Pairs
 pub mod Ends
 pub mod Guided
 pub mod Planned
+pub mod Noting

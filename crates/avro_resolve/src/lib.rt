@@ -4,12 +4,14 @@
 //! [`resolve`] answers it of a datum that is at hand. [`read_resolved`] answers it of bytes, which are
 //! read once: a builder gets each part as it is for the reader, and no writer's datum is made.
 //! [`decode_resolved`] is the same with the datum as the answer. A [`Plan`] reads as [`read_resolved`]
-//! does, by what it found ahead of some pairs of nodes.
+//! does, by what it found ahead of some pairs of nodes: of those that it is given, or of those that the
+//! roots lead to.
 #![tactic(auto)]
 
 mod error;
 mod failing;
 mod filling;
+mod found;
 mod guided;
 mod keeping;
 pub mod laws;
@@ -30,9 +32,11 @@ mod resolving;
 mod running;
 mod sourcing;
 mod symbols;
+mod walking;
 
 pub use error::{Fault, FaultKind, ReadResolveError, ResolveError};
 pub use matching::matches;
+pub use naming::{field_names, source_in, symbol_names};
 pub use pairs::first_match;
 pub use plan::Plan;
 pub use read::{decode_resolved, read_resolved};

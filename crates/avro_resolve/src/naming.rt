@@ -10,6 +10,10 @@ use std::collections::BTreeMap;
 
 /// The place of each field, to look names up in. Fields are gone through from the last, so that the first
 /// place of a name stays.
+///
+/// # Errors
+///
+/// Memory ran out.
 pub fn field_names<'f>(
     alloc: Global,
     fields: &'f [Field],
@@ -29,6 +33,10 @@ pub fn field_names<'f>(
 }
 
 /// The place of each symbol, to look symbols up in.
+///
+/// # Errors
+///
+/// Memory ran out.
 pub fn symbol_names<'s>(
     alloc: Global,
     symbols: &'s [String],

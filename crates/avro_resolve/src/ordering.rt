@@ -1,5 +1,6 @@
-use crate::guided::At;
+use crate::guided::{Aim, At};
 use crate::parts::{items_of, values_of};
+use crate::prepared::Prepared;
 use avro_schema::{Node, NodeId, Schema};
 use std::alloc::{AllocError, Global};
 
@@ -37,54 +38,61 @@ pub fn place_in(order: &[PlacedPair], w: NodeId, r: NodeId) -> u32 {
     }
 }
 
-/// The places of the pairs of the parts of a pair that leads to a reader's node.
-pub fn parts_of(
+/// How many parts a pair of nodes has: none where nothing is made of them.
+pub fn count_of_parts(writer: &Schema, pair: &Prepared) -> usize {
+    if !writer.has(pair.w) {
+        return 0;
+    }
+    match writer.node(pair.w) {
+        Node::Union(branches) => branches.len(),
+        node => count_at(node, pair),
+    }
+}
+
+/// The same of a writer's node that is no union.
+fn count_at(node: &Node, pair: &Prepared) -> usize {
+    if matches!(pair.aim, Aim::Fault(_)) || pair.missing.is_some() {
+        return 0;
+    }
+    match node {
+        Node::Array(_) => 1,
+        Node::Map(_) => 1,
+        Node::Record(_) => pair.fields.len(),
+        _ => 0,
+    }
+}
+
+/// What a part of a pair of nodes is for: its items, its values, one of its branches or one of its fields.
+pub fn part_at(writer: &Schema, reader: &Schema, pair: &Prepared, part: usize) -> At {
+    if !writer.has(pair.w) {
+        return At::Ignored;
+    }
+    match writer.node(pair.w) {
+        Node::Array(items) => At::Pair(*items, items_of(reader, pair.q)),
+        Node::Map(values) => At::Pair(*values, values_of(reader, pair.q)),
+        Node::Union(branches) => match branches.get(part) {
+            Some(branch) => At::Pair(*branch, pair.r),
+            None => At::Ignored,
+        },
+        Node::Record(_) => match pair.fields.get(part) {
+            Some(field) => *field,
+            None => At::Ignored,
+        },
+        _ => At::Ignored,
+    }
+}
+
+/// The places of the pairs of the parts of a pair.
+pub fn places_of_parts(
     alloc: Global,
     writer: &Schema,
-    w: NodeId,
     reader: &Schema,
-    r: NodeId,
-    q: NodeId,
-    fields: &[At],
+    pair: &Prepared,
     order: &[PlacedPair],
 ) -> Result<Vec<u32>, AllocError> {
     let mut parts = Vec::new(alloc);
-    if !writer.has(w) {
-        return Ok(parts);
-    }
-    match writer.node(w) {
-        Node::Array(part) => parts.push(place_in(order, *part, items_of(reader, q)))?,
-        Node::Map(part) => parts.push(place_in(order, *part, values_of(reader, q)))?,
-        Node::Union(branches) => return branch_places(alloc, branches, r, order),
-        Node::Record(_) => return field_places(alloc, fields, order),
-        _ => {}
-    }
-    Ok(parts)
-}
-
-/// The places of the pairs of a writer's branches.
-fn branch_places(
-    alloc: Global,
-    branches: &[NodeId],
-    r: NodeId,
-    order: &[PlacedPair],
-) -> Result<Vec<u32>, AllocError> {
-    let mut parts = Vec::new(alloc);
-    for branch in branches {
-        parts.push(place_in(order, *branch, r))?;
-    }
-    Ok(parts)
-}
-
-/// The places of the pairs of a writer's fields.
-fn field_places(
-    alloc: Global,
-    fields: &[At],
-    order: &[PlacedPair],
-) -> Result<Vec<u32>, AllocError> {
-    let mut parts = Vec::new(alloc);
-    for field in fields {
-        let place = match *field {
+    for part in 0..count_of_parts(writer, pair) {
+        let place = match part_at(writer, reader, pair, part) {
             At::Ignored => 0,
             At::Pair(w, r) => place_in(order, w, r),
         };

@@ -5,6 +5,7 @@ use crate::parts::{branch_of, items_of, values_of};
 use crate::prepared::Prepared;
 use crate::preparing::prepare_all;
 use crate::read::read_planned;
+use crate::walking::prepare_reached;
 use avro_binary::Build;
 use avro_schema::{Limits, Memory, NodeId, Schema};
 use std::alloc::Global;
@@ -66,6 +67,29 @@ impl<'a> Plan<'a> {
                 reader,
                 pairs: kept,
                 root,
+            }),
+            Err(_) => Err(Memory),
+        }
+    }
+
+    /// The plan that keeps the pairs of nodes that the roots lead to.
+    ///
+    /// # Errors
+    ///
+    /// Memory ran out.
+    pub fn reached(
+        alloc: Global,
+        writer: &'a Schema,
+        reader: &'a Schema,
+    ) -> Result<Plan<'a>, Memory>
+        ensures { IfOk result (λ plan. plan ≡ (writer.now, reader.now)) }
+    {
+        match prepare_reached(alloc, writer, reader) {
+            Ok(kept) => Ok(Plan {
+                writer,
+                reader,
+                pairs: kept,
+                root: 0,
             }),
             Err(_) => Err(Memory),
         }

@@ -2,14 +2,15 @@ ghost use Rattle.std.specs.Prelude.{◌≡◌, IfOk};
 ghost use Rattle.avro_schema.specs.Node.{node_at};
 ghost use Rattle.avro_schema.specs.Seen.{seen_fields};
 ghost use Rattle.avro_schema.specs.SeenSchema.{schema_nodes};
+ghost use Rattle.avro_resolve.specs.Noting.{AreIgnored, noted};
 ghost use Rattle.avro_resolve.specs.Planned.{AreFor, ArePrepared, AreSources, AreSymbols, IsPrepared};
 
 use crate::guided::{Aim, At};
 use crate::naming::{field_names, source_in};
-use crate::ordering::{PlacedPair, in_order, parts_of, place_in};
+use crate::ordering::{PlacedPair, in_order, place_in, places_of_parts};
 use crate::pairs::aim;
 use crate::prepared::Prepared;
-use crate::sourcing::{fields_of, missing_among, part_among};
+use crate::sourcing::{fields_of, missing_among, node_of_field, source_kept};
 use crate::symbols::{symbols_for, symbols_of};
 use avro_schema::{Field, NodeId, Schema};
 use std::alloc::{AllocError, Global};
@@ -27,20 +28,35 @@ pub fn prepare_all(
     let root = place_in(&order, writer.root(), reader.root());
     let mut kept = Vec::new(alloc);
     for pair in pairs {
-        let prepared = prepare(alloc, writer, pair.0, reader, pair.1, &order)?;
+        let prepared = prepare_among(alloc, writer, pair.0, reader, pair.1, &order)?;
         kept.push(prepared)?;
     }
     Ok((kept, root))
 }
 
-/// What a plan keeps of a pair of nodes.
-fn prepare(
+/// What a plan keeps of a pair of nodes that is one of some pairs.
+fn prepare_among(
     alloc: Global,
     writer: &Schema,
     w: NodeId,
     reader: &Schema,
     r: NodeId,
     order: &[PlacedPair],
+) -> Result<Prepared, AllocError>
+    ensures { IfOk result (λ p. IsPrepared (schema_nodes writer.now) (schema_nodes reader.now) p) }
+{
+    let mut prepared = prepare(alloc, writer, w, reader, r)?;
+    prepared.parts = places_of_parts(alloc, writer, reader, &prepared, order)?;
+    Ok(prepared)
+}
+
+/// What a plan keeps of a pair of nodes, but for the places of its parts.
+pub fn prepare(
+    alloc: Global,
+    writer: &Schema,
+    w: NodeId,
+    reader: &Schema,
+    r: NodeId,
 ) -> Result<Prepared, AllocError>
     ensures { IfOk result (λ p. IsPrepared (schema_nodes writer.now) (schema_nodes reader.now) p) }
 {
@@ -51,7 +67,6 @@ fn prepare(
     let sources = find_sources(alloc, writes, reads)?;
     let fields = find_fields(alloc, writes, reads, &sources)?;
     let symbols = find_symbols(alloc, writer, w, reader, q)?;
-    let parts = parts_of(alloc, writer, w, reader, r, q, &fields, order)?;
     Ok(Prepared {
         w,
         r,
@@ -61,7 +76,7 @@ fn prepare(
         fields,
         sources,
         symbols,
-        parts,
+        parts: Vec::new(alloc),
     })
 }
 
@@ -89,7 +104,8 @@ fn find_sources(
     Ok(found)
 }
 
-/// What the writer's fields are for, by the sources of the reader's.
+/// What the writer's fields are for, by the sources of the reader's, and nothing behind the last, where
+/// reading asks too. The reader's fields are gone through from the last, so that the first stays.
 fn find_fields(
     alloc: Global,
     writes: &[Field],
@@ -99,11 +115,41 @@ fn find_fields(
     requires { AreSources (seen_fields writes.now) (seen_fields reads.now) sources.now }
     ensures { IfOk result (λ found. AreFor (seen_fields writes.now) (seen_fields reads.now) found.items) }
 {
-    let mut found = Vec::new(alloc);
-    for place in 0..writes.len() {
-        found.push(part_among(writes, reads, sources, place))?;
+    let mut found = all_ignored(alloc, writes.len() + 1)?;
+    let mut left = reads.len();
+    while left > 0 {
+        left -= 1;
+        let f = &reads[left];
+        match source_kept(writes, sources, left, f) {
+            Some(place) => note(
+                &mut found,
+                place,
+                At::Pair(node_of_field(writes, place), f.node),
+            ),
+            None => {}
+        }
     }
     Ok(found)
+}
+
+/// So many parts that are for nothing.
+fn all_ignored(alloc: Global, count: usize) -> Result<Vec<At>, AllocError>
+    ensures { IfOk result (λ found. AreIgnored found.items) }
+{
+    let mut found = Vec::new(alloc);
+    for _place in 0..count {
+        found.push(At::Ignored)?;
+    }
+    Ok(found)
+}
+
+/// Notes what the part at a place is for.
+fn note(found: &mut Vec<At>, place: usize, at: At)
+    ensures { found.new.items ≡ noted found.old.items place at }
+{
+    if place < found.len() {
+        found[place] = at;
+    }
 }
 
 /// The reader's symbols for a writer's.

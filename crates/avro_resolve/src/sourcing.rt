@@ -86,7 +86,7 @@ pub fn fields_of(schema: &Schema, id: NodeId) -> &[Field]
 }
 
 /// The node of the field at a place.
-fn node_of_field(fields: &[Field], place: usize) -> NodeId
+pub fn node_of_field(fields: &[Field], place: usize) -> NodeId
     ensures { result.0 ≡ unwrap_or (slice_get (field_places (seen_fields fields.now)) place) 0 }
 {
     if place < fields.len() {

@@ -88,8 +88,23 @@ fn all_pairs(alloc: Global) -> Result<Vec<(NodeId, NodeId)>, AllocError> {
     Ok(pairs)
 }
 
-/// What all readings answer of a row: without a plan, and with plans of no pair, of all pairs, and of some of them again
-/// and again. Where they differ, what each of two answers.
+/// What a plan's readings answer.
+fn planned(
+    alloc: Global,
+    plan: &Plan<'_>,
+    reader: &Schema,
+    bytes: &[u8],
+    plain: &[u8],
+) -> Result<String, Fail> {
+    let limits = Limits::default();
+    let tree = plan.read(alloc, bytes, &limits, &mut Tree);
+    let packed = plan.read(alloc, bytes, &limits, &mut Packed);
+    let walked = plan.read(alloc, bytes, &limits, &mut Nothing);
+    told(alloc, reader, plain, tree, packed, walked)
+}
+
+/// What all readings answer of a row: without a plan, and with plans of no pair, of all pairs, of some of them again
+/// and again, and of those that the roots lead to. Where they differ, what each of two answers.
 fn answer(alloc: Global, row: &Row, all: &[(NodeId, NodeId)]) -> Result<String, Fail> {
     let (writer, reader, bytes, _, plain) = *row;
     let writer = read_schema(alloc, writer.as_bytes())?;
@@ -107,13 +122,15 @@ fn answer(alloc: Global, row: &Row, all: &[(NodeId, NodeId)]) -> Result<String, 
     let again = [root, (NodeId(1), NodeId(1)), root, root];
     for pairs in [&[][..], all, &again[..]] {
         let plan = Plan::new(alloc, &writer, &reader, pairs)?;
-        let tree = plan.read(alloc, bytes, &limits, &mut Tree);
-        let packed = plan.read(alloc, bytes, &limits, &mut Packed);
-        let walked = plan.read(alloc, bytes, &limits, &mut Nothing);
-        let found = told(alloc, &reader, plain, tree, packed, walked)?;
+        let found = planned(alloc, &plan, &reader, bytes, plain)?;
         if found != text {
             return Ok(format!(in alloc; "{text}, but by {} pairs: {found}", pairs.len())?);
         }
+    }
+    let plan = Plan::reached(alloc, &writer, &reader)?;
+    let found = planned(alloc, &plan, &reader, bytes, plain)?;
+    if found != text {
+        return Ok(format!(in alloc; "{text}, but by the pairs that were reached: {found}")?);
     }
     Ok(text)
 }

@@ -7,7 +7,7 @@ use Rattle.avro_least.proofs.asking.rows.Given as goal
 
 abbrev pub invariant-loop-i : goal.invariant-loop-i
 invariant-loop-i l = (l.i ≤ length l.reader)
-    × (rows_of l.rows.items ≡ rows_from (seen_fields l.writer.fields.items) (seen_fields (drop l.i l.reader)) 0 (field_places (seen_fields l.writer.fields.items)))
+    × (rows_of l.rows.items ≡ rows_from (seen_fields l.writer) (seen_fields (drop l.i l.reader)) 0 (field_places (seen_fields l.writer)))
 
 abbrev pub decreases-loop-i : goal.decreases-loop-i
 decreases-loop-i l = l.i

@@ -1,18 +1,32 @@
-use Rattle.std.proofs.Common.{◌≡◌, [], rules}
+use Rattle.std.proofs.Common.{◌≡◌, ◌<◌, ◌+◌, ◌-◌, ◌∙◌, length, sym, subst, arith, ℕ}
 use Rattle.avro_schema.specs.Seen.{seen_fields}
-use Rattle.avro_resolve.specs.Pairs.{field_for}
-use Rattle.avro_resolve.proofs.Planning.{holds_none, holds_push}
+use Rattle.avro_resolve.proofs.FieldsNoted.{AreForFrom, for_past, for_noted}
+use Rattle.avro_resolve.proofs.Slots.{seen_at}
 use Rattle.avro_resolve.proofs.preparing.find_fields.Goals as goal
 
-pub loop-place-init : goal.loop-place-init
-loop-place-init c =
-    let none : c.new-found.result.items ≡ [] = search rules in
-    holds_none (λ k at. at ≡ field_for (seen_fields c.args.writes.now) (seen_fields c.args.reads.now) k) none
+pub loop-left-preserved-in-Some : goal.loop-left-preserved-in-Some
+loop-left-preserved-in-Some c =
+    let l = c.loop-left in
+    let ws = seen_fields c.args.writes.now in
+    let reads = c.args.reads.now in
+    let f = c.index-reads-left.result in
+    let one : l.left ≡ l.left - 1 + 1 = omega (arith, c.loop-left-test.true) in
+    let low : l.left - 1 < length reads = omega (arith, c.loop-left-test.true, l.invariant.0) in
+    let from = sym (c.source_kept.ensures (seen_fields reads) c.requires (seen_at reads (l.left - 1) f low c.index-reads-left.is)) ∙ c.in-Some.is in (
+      omega (arith, l.invariant.0),
+      for_noted ws reads (l.left - 1) f low c.index-reads-left.is l.found.items c.note.new.found.items c.in-Some.place c.node_of_field.result from c.node_of_field.ensures c.note.ensures
+          (subst (λ (n : ℕ). AreForFrom ws reads n l.found.items) one l.invariant.1),
+    )
 
-pub loop-place-preserved : goal.loop-place-preserved
-loop-place-preserved c =
-    holds_push (λ k at. at ≡ field_for (seen_fields c.args.writes.now) (seen_fields c.args.reads.now) k) c.loop-place.found.items c.push.new.self.items c.part_among.result c.loop-place.place
-    c.in_ok-push.ensures.items c.loop-place.invariant c.part_among.ensures
-
-pub returns : goal.returns
-returns c = c.loop-place.invariant.0
+pub loop-left-preserved : goal.loop-left-preserved
+loop-left-preserved c =
+    let l = c.loop-left in
+    let ws = seen_fields c.args.writes.now in
+    let reads = c.args.reads.now in
+    let f = c.index-reads-left.result in
+    let one : l.left ≡ l.left - 1 + 1 = omega (arith, c.loop-left-test.true) in
+    let low : l.left - 1 < length reads = omega (arith, c.loop-left-test.true, l.invariant.0) in
+    let none = sym (c.source_kept.ensures (seen_fields reads) c.requires (seen_at reads (l.left - 1) f low c.index-reads-left.is)) ∙ c.in-None.is in (
+      omega (arith, l.invariant.0),
+      for_past ws reads (l.left - 1) f low c.index-reads-left.is l.found.items none (subst (λ (n : ℕ). AreForFrom ws reads n l.found.items) one l.invariant.1),
+    )

@@ -1,8 +1,10 @@
-use Rattle.std.proofs.Common.{◌≡◌, length}
+use Rattle.std.proofs.Common.{◌≤◌, length}
 use Rattle.avro_schema.specs.Seen.{seen_fields}
-use Rattle.avro_resolve.specs.Pairs.{field_for}
-use Rattle.avro_resolve.proofs.Planning.{Holds}
+use Rattle.avro_resolve.proofs.FieldsNoted.{AreForFrom}
 use Rattle.avro_resolve.proofs.preparing.find_fields.Given as goal
 
-abbrev pub invariant-loop-place : goal.invariant-loop-place
-invariant-loop-place l = Holds (λ k at. at ≡ field_for (seen_fields l.writes) (seen_fields l.reads) k) l.found.items × (length l.found.items ≡ l.place)
+abbrev pub invariant-loop-left : goal.invariant-loop-left
+invariant-loop-left l = (l.left ≤ length l.reads) × AreForFrom (seen_fields l.writes) l.reads l.left l.found.items
+
+abbrev pub decreases-loop-left : goal.decreases-loop-left
+decreases-loop-left l = l.left

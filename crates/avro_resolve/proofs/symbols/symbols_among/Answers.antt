@@ -1,4 +1,4 @@
-use Rattle.std.proofs.Common.{◌≡◌, ◌∙◌, [], sym, subst, rules}
+use Rattle.std.proofs.Common.{◌∙◌, [], sym, subst}
 use Rattle.std.specs.Prelude.{bytes_eq, position, slice_get, unwrap_or}
 use Rattle.avro_schema.specs.Seen.{texts_of}
 use Rattle.avro_resolve.specs.Pairs.{IsSymbol}

@@ -1,0 +1,11 @@
+use Rattle.std.proofs.Common.{length, refl}
+use Rattle.avro_schema.specs.SeenSchema.{schema_nodes}
+use Rattle.avro_resolve.specs.Planned.{IsPrepared}
+use Rattle.avro_resolve.proofs.Planning.{holds_push}
+use Rattle.avro_resolve.proofs.walking.prepare_reached.Goals as goal
+
+pub loop-round-preserved : goal.loop-round-preserved
+loop-round-preserved c =
+    let before = c.loop-round.kept.items in
+    (holds_push (λ k p. IsPrepared (schema_nodes c.args.writer.now) (schema_nodes c.args.reader.now) p) before c.push.new.self.items c.in_ok-prepared-in-Some.prepared (length before)
+    c.in_ok-push-in-Some.ensures.items (c.loop-round.invariant, refl) c.in_ok-prepared-in-Some.ensures).0
