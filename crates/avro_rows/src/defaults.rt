@@ -45,11 +45,7 @@ const READ: [(&str, &str, &str); 23] = [
         "\"B\"",
         "Enum(1)",
     ),
-    (
-        "\"bytes\"",
-        "\"\\u00ff\\u0000A\"",
-        "Bytes([255, 0, 65])",
-    ),
+    ("\"bytes\"", "\"\\u00ff\\u0000A\"", "Bytes([255, 0, 65])"),
     (
         r#"{"type":"fixed","name":"F","size":2}"#,
         "\"\\u0080z\"",
@@ -83,11 +79,7 @@ const READ: [(&str, &str, &str); 23] = [
         "Union(1, Long(3000000000))",
     ),
     (r#"["int","long"]"#, "3", "Union(0, Int(3))"),
-    (
-        r#"["bytes","string"]"#,
-        "\"a\"",
-        "Union(0, Bytes([97]))",
-    ),
+    (r#"["bytes","string"]"#, "\"a\"", "Union(0, Bytes([97]))"),
     (
         r#"["bytes","string"]"#,
         "\"\\u20ac\"",
@@ -131,11 +123,7 @@ const REFUSED: [(&str, &str, &str); 15] = [
     ("\"long\"", "9223372036854775808", "S9"),
     ("\"string\"", "1", "S9"),
     ("\"bytes\"", "\"\\u0100\"", "S9"),
-    (
-        r#"{"type":"fixed","name":"F","size":2}"#,
-        "\"a\"",
-        "S9",
-    ),
+    (r#"{"type":"fixed","name":"F","size":2}"#, "\"a\"", "S9"),
     (
         r#"{"type":"enum","name":"E","symbols":["A"]}"#,
         "\"B\"",

@@ -20,10 +20,7 @@ const TEXTS: [(&str, &str); 29] = [
         r#"{"type":"enum","name":"E","symbols":["A","B"],"default":"B"}"#,
         "1",
     ),
-    (
-        r#"[{"type":"fixed","name":"record","size":1},"long"]"#,
-        "3",
-    ),
+    (r#"[{"type":"fixed","name":"record","size":1},"long"]"#, "3"),
     (r#"{"type":"record","name":"R","fields":[]}"#, "1"),
     (r#"{"type":"fixed","name":"F","size":1048576}"#, "1"),
     (r#"{"type":"fixed","name":"F","size":1048577}"#, "S12"),
@@ -43,10 +40,7 @@ const TEXTS: [(&str, &str); 29] = [
         r#"[{"type":"fixed","name":"F","size":1},{"type":"array","items":{"type":"fixed","name":"F","size":1}}]"#,
         "S3",
     ),
-    (
-        r#"{"type":"enum","name":"int","symbols":["A"]}"#,
-        "S4",
-    ),
+    (r#"{"type":"enum","name":"int","symbols":["A"]}"#, "S4"),
     (r#"{"type":"enum","name":"E","symbols":["1"]}"#, "S4"),
     (
         r#"{"type":"fixed","name":"F","aliases":["a.b-c"],"size":1}"#,
@@ -100,10 +94,7 @@ const BROKEN: [(&str, &str); 17] = [
     (r#"["int","int"]"#, "S6"),
     (r#"["int",["null"]]"#, "S6"),
     (r#"{"type":"enum","name":"E","symbols":[]}"#, "S7"),
-    (
-        r#"{"type":"enum","name":"E","symbols":["A","A"]}"#,
-        "S7",
-    ),
+    (r#"{"type":"enum","name":"E","symbols":["A","A"]}"#, "S7"),
     (
         r#"{"type":"enum","name":"E","symbols":["A"],"default":"B"}"#,
         "S7",

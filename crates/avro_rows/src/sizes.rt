@@ -92,13 +92,7 @@ fn built(alloc: Global, shape: Shape, count: usize) -> Result<String, AllocError
     match shape {
         Shape::Brackets => nested(alloc, "[", "", "]", count),
         Shape::Blanks => padded_int(alloc, count),
-        Shape::Arrays => nested(
-            alloc,
-            r#"{"type":"array","items":"#,
-            r#""int""#,
-            "}",
-            count,
-        ),
+        Shape::Arrays => nested(alloc, r#"{"type":"array","items":"#, r#""int""#, "}", count),
         Shape::Fields => record_of_ints(alloc, count),
         Shape::Unions => unions_with_default(alloc, count),
     }
