@@ -62,6 +62,7 @@ fn runs_are_told(rt: HostRuntime) -> Result<(), Fail> {
 
 #[test]
 fn other_words_are_usage(rt: HostRuntime) -> Result<(), Fail> {
+    fs::write(&rt, "int.avsc", "\"int\"")?;
     for line in USAGE {
         let ran = outcome_of(&rt, line)?;
         assert_eq!(rt; ran.status, 64, "{line}");
