@@ -16,49 +16,51 @@ fn agree(alloc: Global, text: &str, bytes: &[u8], limits: &Limits) -> Result<boo
     Ok(decoded == built && passed == walked.map(|len| ((), len)))
 }
 
+/// Schemas' texts, and bytes that are read or refused.
+const KINDS: [(&str, &[u8]); 16] = [
+    ("\"null\"", b""),
+    ("\"boolean\"", b"\x01"),
+    ("\"boolean\"", b"\x02"),
+    ("\"int\"", b"\xfe\xff\xff\xff\x0f"),
+    ("\"long\"", b"\x80\x01\xff"),
+    ("\"bytes\"", b"\x04\xff\x00"),
+    ("\"string\"", b"\x06foo"),
+    ("\"string\"", b"\x02\xff"),
+    (
+        "{\"type\":\"fixed\",\"name\":\"F\",\"size\":2}",
+        b"\x01\x02",
+    ),
+    (
+        "{\"type\":\"enum\",\"name\":\"E\",\"symbols\":[\"A\",\"B\"]}",
+        b"\x02",
+    ),
+    ("[\"null\",\"string\"]", b"\x02\x02a"),
+    (
+        "{\"type\":\"array\",\"items\":\"long\"}",
+        b"\x03\x04\x06\x36\x00",
+    ),
+    (
+        "{\"type\":\"array\",\"items\":\"long\"}",
+        b"\x03\x06\x06\x36\x00",
+    ),
+    (
+        "{\"type\":\"map\",\"values\":\"int\"}",
+        b"\x04\x02a\x02\x02b\x04\x00",
+    ),
+    (
+        "{\"type\":\"map\",\"values\":\"int\"}",
+        b"\x04\x02a\x02\x02a\x04\x00",
+    ),
+    (
+        "{\"type\":\"record\",\"name\":\"R\",\"fields\":[{\"name\":\"a\",\"type\":\"long\"},{\"name\":\"b\",\"type\":[\"null\",\"R\"]}]}",
+        b"\x36\x02\x06\x00",
+    ),
+];
+
 #[test]
 fn builders_read_each_kind(rt: HostRuntime) -> Result<(), Fail> {
     let limits = Limits::default();
-    let rows: [(&str, &[u8]); 16] = [
-        ("\"null\"", b""),
-        ("\"boolean\"", b"\x01"),
-        ("\"boolean\"", b"\x02"),
-        ("\"int\"", b"\xfe\xff\xff\xff\x0f"),
-        ("\"long\"", b"\x80\x01\xff"),
-        ("\"bytes\"", b"\x04\xff\x00"),
-        ("\"string\"", b"\x06foo"),
-        ("\"string\"", b"\x02\xff"),
-        (
-            "{\"type\":\"fixed\",\"name\":\"F\",\"size\":2}",
-            b"\x01\x02",
-        ),
-        (
-            "{\"type\":\"enum\",\"name\":\"E\",\"symbols\":[\"A\",\"B\"]}",
-            b"\x02",
-        ),
-        ("[\"null\",\"string\"]", b"\x02\x02a"),
-        (
-            "{\"type\":\"array\",\"items\":\"long\"}",
-            b"\x03\x04\x06\x36\x00",
-        ),
-        (
-            "{\"type\":\"array\",\"items\":\"long\"}",
-            b"\x03\x06\x06\x36\x00",
-        ),
-        (
-            "{\"type\":\"map\",\"values\":\"int\"}",
-            b"\x04\x02a\x02\x02b\x04\x00",
-        ),
-        (
-            "{\"type\":\"map\",\"values\":\"int\"}",
-            b"\x04\x02a\x02\x02a\x04\x00",
-        ),
-        (
-            "{\"type\":\"record\",\"name\":\"R\",\"fields\":[{\"name\":\"a\",\"type\":\"long\"},{\"name\":\"b\",\"type\":[\"null\",\"R\"]}]}",
-            b"\x36\x02\x06\x00",
-        ),
-    ];
-    for (text, bytes) in rows {
+    for (text, bytes) in KINDS {
         assert!(rt; agree(rt.alloc(), text, bytes, &limits)?);
     }
     Ok(())

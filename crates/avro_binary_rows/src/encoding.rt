@@ -37,88 +37,93 @@ fn is_encoded(alloc: Global, schema: &Schema, datum: &Datum, plain: &[u8]) -> Re
     Ok(out.split_at_checked(2) == Some((BEFORE.as_slice(), plain)))
 }
 
+/// Schemas' texts, data of them, and what these are encoded as.
+const NUMBERS: [(&str, Datum, &[u8]); 19] = [
+    ("\"null\"", Datum::Null, &[]),
+    ("\"boolean\"", Datum::Bool(false), &[0x00]),
+    ("\"boolean\"", Datum::Bool(true), &[0x01]),
+    ("\"int\"", Datum::Int(-1), &[0x01]),
+    (
+        "\"int\"",
+        Datum::Int(i32::MIN),
+        &[0xff, 0xff, 0xff, 0xff, 0x0f],
+    ),
+    ("\"long\"", Datum::Long(0), &[0x00]),
+    ("\"long\"", Datum::Long(-1), &[0x01]),
+    ("\"long\"", Datum::Long(1), &[0x02]),
+    ("\"long\"", Datum::Long(-2), &[0x03]),
+    ("\"long\"", Datum::Long(2), &[0x04]),
+    ("\"long\"", Datum::Long(63), &[0x7e]),
+    ("\"long\"", Datum::Long(-64), &[0x7f]),
+    ("\"long\"", Datum::Long(64), &[0x80, 0x01]),
+    ("\"long\"", Datum::Long(-65), &[0x81, 0x01]),
+    (
+        "\"long\"",
+        Datum::Long(2147483647),
+        &[0xfe, 0xff, 0xff, 0xff, 0x0f],
+    ),
+    (
+        "\"long\"",
+        Datum::Long(-2147483648),
+        &[0xff, 0xff, 0xff, 0xff, 0x0f],
+    ),
+    (
+        "\"long\"",
+        Datum::Long(1 << 62),
+        &[0x80, 0x80, 0x80, 0x80, 0x80, 0x80, 0x80, 0x80, 0x80, 0x01],
+    ),
+    (
+        "\"long\"",
+        Datum::Long(i64::MIN),
+        &[0xff, 0xff, 0xff, 0xff, 0xff, 0xff, 0xff, 0xff, 0xff, 0x01],
+    ),
+    (LETTERS, Datum::Enum(1), &[0x02]),
+];
+
 #[test]
 fn numbers_are_encoded(rt: HostRuntime) -> Result<(), Fail> {
-    for (text, datum, bytes) in [
-        ("\"null\"", Datum::Null, &[][..]),
-        ("\"boolean\"", Datum::Bool(false), &[0x00u8]),
-        ("\"boolean\"", Datum::Bool(true), &[0x01]),
-        ("\"int\"", Datum::Int(-1), &[0x01]),
-        (
-            "\"int\"",
-            Datum::Int(i32::MIN),
-            &[0xff, 0xff, 0xff, 0xff, 0x0f],
-        ),
-        ("\"long\"", Datum::Long(0), &[0x00]),
-        ("\"long\"", Datum::Long(-1), &[0x01]),
-        ("\"long\"", Datum::Long(1), &[0x02]),
-        ("\"long\"", Datum::Long(-2), &[0x03]),
-        ("\"long\"", Datum::Long(2), &[0x04]),
-        ("\"long\"", Datum::Long(63), &[0x7e]),
-        ("\"long\"", Datum::Long(-64), &[0x7f]),
-        ("\"long\"", Datum::Long(64), &[0x80, 0x01]),
-        ("\"long\"", Datum::Long(-65), &[0x81, 0x01]),
-        (
-            "\"long\"",
-            Datum::Long(2147483647),
-            &[0xfe, 0xff, 0xff, 0xff, 0x0f],
-        ),
-        (
-            "\"long\"",
-            Datum::Long(-2147483648),
-            &[0xff, 0xff, 0xff, 0xff, 0x0f],
-        ),
-        (
-            "\"long\"",
-            Datum::Long(1 << 62),
-            &[0x80, 0x80, 0x80, 0x80, 0x80, 0x80, 0x80, 0x80, 0x80, 0x01],
-        ),
-        (
-            "\"long\"",
-            Datum::Long(i64::MIN),
-            &[0xff, 0xff, 0xff, 0xff, 0xff, 0xff, 0xff, 0xff, 0xff, 0x01],
-        ),
-        (LETTERS, Datum::Enum(1), &[0x02]),
-    ] {
+    for (text, datum, bytes) in NUMBERS {
         let schema = read_schema(rt.alloc(), text.as_bytes())?;
         assert!(rt; is_encoded(rt.alloc(), &schema, &datum, bytes)?, "{text}");
     }
     Ok(())
 }
 
+/// Schemas' texts, bytes that are decoded, and those that the datum is encoded as.
+const DECODED: [(&str, &[u8], &[u8]); 16] = [
+    (BYTES, b"\x84\x00\xff\x00", b"\x04\xff\x00"),
+    (BYTES, b"\x00", b"\x00"),
+    (STRING, b"\x06foo", b"\x06foo"),
+    (PAIR, b"\x80\x00", b"\x80\x00"),
+    (LONGS, b"\x03\x04\x06\x36\x00", b"\x04\x06\x36\x00"),
+    (LONGS, b"\x02\x06\x02\x36\x00", b"\x04\x06\x36\x00"),
+    (
+        LONGS,
+        b"\x84\x00\x86\x00\xb6\x00\x80\x00",
+        b"\x04\x06\x36\x00",
+    ),
+    (
+        NESTED,
+        b"\x03\x08\x02\x02\x00\x00\x00",
+        b"\x04\x02\x02\x00\x00\x00",
+    ),
+    (NESTED, b"\x00", b"\x00"),
+    (MAP, b"\x00", b"\x00"),
+    (MAP, b"\x01\x06\x02a\x02\x00", b"\x02\x02a\x02\x00"),
+    (
+        MAP,
+        b"\x02\x02b\x02\x02\x00\x02\x00",
+        b"\x04\x02b\x02\x00\x02\x00",
+    ),
+    (RECORD, b"\x36\x06foo", b"\x36\x06foo"),
+    (EMPTY, b"", b""),
+    (UNION, b"\x82\x00\x0a", b"\x02\x0a"),
+    (UNION, b"\x00", b"\x00"),
+];
+
 #[test]
 fn what_was_decoded_is_encoded_plainly(rt: HostRuntime) -> Result<(), Fail> {
-    let rows: [(&str, &[u8], &[u8]); 16] = [
-        (BYTES, b"\x84\x00\xff\x00", b"\x04\xff\x00"),
-        (BYTES, b"\x00", b"\x00"),
-        (STRING, b"\x06foo", b"\x06foo"),
-        (PAIR, b"\x80\x00", b"\x80\x00"),
-        (LONGS, b"\x03\x04\x06\x36\x00", b"\x04\x06\x36\x00"),
-        (LONGS, b"\x02\x06\x02\x36\x00", b"\x04\x06\x36\x00"),
-        (
-            LONGS,
-            b"\x84\x00\x86\x00\xb6\x00\x80\x00",
-            b"\x04\x06\x36\x00",
-        ),
-        (
-            NESTED,
-            b"\x03\x08\x02\x02\x00\x00\x00",
-            b"\x04\x02\x02\x00\x00\x00",
-        ),
-        (NESTED, b"\x00", b"\x00"),
-        (MAP, b"\x00", b"\x00"),
-        (MAP, b"\x01\x06\x02a\x02\x00", b"\x02\x02a\x02\x00"),
-        (
-            MAP,
-            b"\x02\x02b\x02\x02\x00\x02\x00",
-            b"\x04\x02b\x02\x00\x02\x00",
-        ),
-        (RECORD, b"\x36\x06foo", b"\x36\x06foo"),
-        (EMPTY, b"", b""),
-        (UNION, b"\x82\x00\x0a", b"\x02\x0a"),
-        (UNION, b"\x00", b"\x00"),
-    ];
-    for (text, bytes, plain) in rows {
+    for (text, bytes, plain) in DECODED {
         let schema = read_schema(rt.alloc(), text.as_bytes())?;
         let limits = Limits::default();
         let (datum, len) = decode(rt.alloc(), &schema, schema.root(), bytes, &limits)?;

@@ -100,44 +100,46 @@ fn contents_are_read(rt: HostRuntime) -> Result<(), Fail> {
     Ok(())
 }
 
+/// Arrays, and counts and lengths that are too great or that nothing follows.
+const ARRAYS: [Row; 16] = [
+    (LONGS, b"\x04\x06\x36\x00", "[3,27] 4", "4"),
+    (LONGS, b"\x03\x04\x06\x36\x00", "[3,27] 5", "5"),
+    (LONGS, b"\x02\x06\x02\x36\x00", "[3,27] 5", "5"),
+    (LONGS, b"\x03\x06\x06\x36\x00", "B7 at 1", "B7 at 1"),
+    (LONGS, b"\x03\x05\x06\x36\x00", "B6 at 1", "B6 at 1"),
+    (LONGS, b"\x00\x06", "[] 1", "1"),
+    (LONGS, b"\x04\x06", "B1 at 2", "B1 at 2"),
+    (NESTED, b"\x03\x08\x02\x02\x00\x00\x00", "[[1],[]] 7", "7"),
+    (
+        NESTED,
+        b"\x03\x06\x02\x02\x00\x00\x00",
+        "B7 at 1",
+        "B7 at 1",
+    ),
+    (
+        NULLS,
+        b"\x80\x80\x80\x80\x80\x80\x80\x80\x80\x01",
+        "B9",
+        "B9",
+    ),
+    (
+        NULLS,
+        b"\xff\xff\xff\xff\xff\xff\xff\xff\xff\x01",
+        "B6 at 0",
+        "B6 at 0",
+    ),
+    (NULLS, b"\x80\x80\x80\x01\x00", "B9", "B9"),
+    (NULLS, b"\xfe\xff\x7f\x02\x00", "B9", "B9"),
+    // A count of 1,048,575 items and a length of 16,777,216 bytes, with one byte behind each.
+    (INTS, b"\xfe\xff\x7f\x02", "B1 at 4", "B1 at 4"),
+    (STRING, b"\x80\x80\x80\x10a", "B1 at 4", "B1 at 4"),
+    (BYTES, b"\x80\x80\x80\x10a", "B1 at 4", "B1 at 4"),
+];
+
 #[test]
 fn arrays_are_read(rt: HostRuntime) -> Result<(), Fail> {
-    let rows: [Row; 16] = [
-        (LONGS, b"\x04\x06\x36\x00", "[3,27] 4", "4"),
-        (LONGS, b"\x03\x04\x06\x36\x00", "[3,27] 5", "5"),
-        (LONGS, b"\x02\x06\x02\x36\x00", "[3,27] 5", "5"),
-        (LONGS, b"\x03\x06\x06\x36\x00", "B7 at 1", "B7 at 1"),
-        (LONGS, b"\x03\x05\x06\x36\x00", "B6 at 1", "B6 at 1"),
-        (LONGS, b"\x00\x06", "[] 1", "1"),
-        (LONGS, b"\x04\x06", "B1 at 2", "B1 at 2"),
-        (NESTED, b"\x03\x08\x02\x02\x00\x00\x00", "[[1],[]] 7", "7"),
-        (
-            NESTED,
-            b"\x03\x06\x02\x02\x00\x00\x00",
-            "B7 at 1",
-            "B7 at 1",
-        ),
-        (
-            NULLS,
-            b"\x80\x80\x80\x80\x80\x80\x80\x80\x80\x01",
-            "B9",
-            "B9",
-        ),
-        (
-            NULLS,
-            b"\xff\xff\xff\xff\xff\xff\xff\xff\xff\x01",
-            "B6 at 0",
-            "B6 at 0",
-        ),
-        (NULLS, b"\x80\x80\x80\x01\x00", "B9", "B9"),
-        (NULLS, b"\xfe\xff\x7f\x02\x00", "B9", "B9"),
-        // A count of 1,048,575 items and a length of 16,777,216 bytes, with one byte behind each.
-        (INTS, b"\xfe\xff\x7f\x02", "B1 at 4", "B1 at 4"),
-        (STRING, b"\x80\x80\x80\x10a", "B1 at 4", "B1 at 4"),
-        (BYTES, b"\x80\x80\x80\x10a", "B1 at 4", "B1 at 4"),
-    ];
     let limits = Limits::default();
-    assert_eq!(rt; wrong_row(rt.alloc(), &limits, &rows)?, None);
+    assert_eq!(rt; wrong_row(rt.alloc(), &limits, &ARRAYS)?, None);
     let schema = read_schema(rt.alloc(), NULLS.as_bytes())?;
     let walked = walk(
         rt.alloc(),

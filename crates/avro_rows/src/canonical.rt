@@ -11,61 +11,62 @@ const OWN_NAMESPACE: &str =
 const OWN_NAMESPACE_FORM: &str =
     r#"{"name":"a.R","type":"record","fields":[{"name":"e","type":{"name":"E","type":"enum","symbols":["X"]}}]}"#;
 
-#[test]
-fn forms_of_worked_rows(rt: HostRuntime) -> Result<(), Fail> {
-    let alloc = rt.alloc();
-    for (text, form) in [
-        (r#"{"type":"int","doc":"x"}"#, "\"int\""),
-        (
-            r#"["null", {"type" : "boolean"}, "long", "bytes", "string"]"#,
-            r#"["null","boolean","long","bytes","string"]"#,
-        ),
-        (
-            r#"{"type":"fixed","name":"F","namespace":"a","size":16,"doc":"x"}"#,
-            r#"{"name":"a.F","type":"fixed","size":16}"#,
-        ),
-        (
-            r#"{"type":"record","name":"Node","aliases":["Old"],"doc":"d","fields":[{"type":"int","name":"value","default":3,"order":"ignore"},{"name":"next","aliases":["n"],"type":["null","Node"],"default":null}]}"#,
-            NODE,
-        ),
-        (OWN_NAMESPACE, OWN_NAMESPACE_FORM),
-        (
-            r#"{"symbols":["A","B"],"default":"B","name":"E","type":"enum","namespace":"x.y"}"#,
-            r#"{"name":"x.y.E","type":"enum","symbols":["A","B"]}"#,
-        ),
-        (
-            r#"["null",{"values":{"size":0,"name":"F","type":"fixed"},"type":"map"},{"items":"F","type":"array"}]"#,
-            r#"["null",{"type":"map","values":{"name":"F","type":"fixed","size":0}},{"type":"array","items":"F"}]"#,
-        ),
-        (
-            r#"{"type":"record","name":"R","namespace":"n","fields":[{"name":"f","type":{"type":"record","name":"S","fields":[{"name":"r","type":"R"},{"name":"s","type":"S"}]}},{"name":"g","type":"n.S"},{"name":"h","type":{"type":"record","name":"T","fields":[]}}]}"#,
-            r#"{"name":"n.R","type":"record","fields":[{"name":"f","type":{"name":"n.S","type":"record","fields":[{"name":"r","type":"n.R"},{"name":"s","type":"n.S"}]}},{"name":"g","type":"n.S"},{"name":"h","type":{"name":"n.T","type":"record","fields":[]}}]}"#,
-        ),
-    ] {
-        let schema = read_schema(alloc, text.as_bytes())?;
-        assert_eq!(rt; canonical(alloc, &schema)?.as_str(), form);
-    }
-    Ok(())
-}
+/// Texts, and their canonical forms.
+const FORMS: [(&str, &str); 14] = [
+    (r#"{"type":"int","doc":"x"}"#, "\"int\""),
+    (
+        r#"["null", {"type" : "boolean"}, "long", "bytes", "string"]"#,
+        r#"["null","boolean","long","bytes","string"]"#,
+    ),
+    (
+        r#"{"type":"fixed","name":"F","namespace":"a","size":16,"doc":"x"}"#,
+        r#"{"name":"a.F","type":"fixed","size":16}"#,
+    ),
+    (
+        r#"{"type":"record","name":"Node","aliases":["Old"],"doc":"d","fields":[{"type":"int","name":"value","default":3,"order":"ignore"},{"name":"next","aliases":["n"],"type":["null","Node"],"default":null}]}"#,
+        NODE,
+    ),
+    (OWN_NAMESPACE, OWN_NAMESPACE_FORM),
+    (
+        r#"{"symbols":["A","B"],"default":"B","name":"E","type":"enum","namespace":"x.y"}"#,
+        r#"{"name":"x.y.E","type":"enum","symbols":["A","B"]}"#,
+    ),
+    (
+        r#"["null",{"values":{"size":0,"name":"F","type":"fixed"},"type":"map"},{"items":"F","type":"array"}]"#,
+        r#"["null",{"type":"map","values":{"name":"F","type":"fixed","size":0}},{"type":"array","items":"F"}]"#,
+    ),
+    (
+        r#"{"type":"record","name":"R","namespace":"n","fields":[{"name":"f","type":{"type":"record","name":"S","fields":[{"name":"r","type":"R"},{"name":"s","type":"S"}]}},{"name":"g","type":"n.S"},{"name":"h","type":{"type":"record","name":"T","fields":[]}}]}"#,
+        r#"{"name":"n.R","type":"record","fields":[{"name":"f","type":{"name":"n.S","type":"record","fields":[{"name":"r","type":"n.R"},{"name":"s","type":"n.S"}]}},{"name":"g","type":"n.S"},{"name":"h","type":{"name":"n.T","type":"record","fields":[]}}]}"#,
+    ),
+    // Forms, which are read again as they are.
+    ("\"int\"", "\"int\""),
+    (
+        r#"{"name":"a.F","type":"fixed","size":16}"#,
+        r#"{"name":"a.F","type":"fixed","size":16}"#,
+    ),
+    (NODE, NODE),
+    (
+        r#"["null",{"type":"map","values":{"name":"F","type":"fixed","size":0}},{"type":"array","items":"F"}]"#,
+        r#"["null",{"type":"map","values":{"name":"F","type":"fixed","size":0}},{"type":"array","items":"F"}]"#,
+    ),
+    (
+        r#"{"name":"n.R","type":"record","fields":[{"name":"f","type":{"name":"n.S","type":"record","fields":[{"name":"r","type":"n.R"}]}},{"name":"g","type":"n.S"}]}"#,
+        r#"{"name":"n.R","type":"record","fields":[{"name":"f","type":{"name":"n.S","type":"record","fields":[{"name":"r","type":"n.R"}]}},{"name":"g","type":"n.S"}]}"#,
+    ),
+    // A name without a namespace of its own is read in the one around it.
+    (
+        OWN_NAMESPACE_FORM,
+        r#"{"name":"a.R","type":"record","fields":[{"name":"e","type":{"name":"a.E","type":"enum","symbols":["X"]}}]}"#,
+    ),
+];
 
 #[test]
-fn forms_read_again_are_the_same(rt: HostRuntime) -> Result<(), Fail> {
-    let alloc = rt.alloc();
-    for form in [
-        "\"int\"",
-        r#"{"name":"a.F","type":"fixed","size":16}"#,
-        NODE,
-        r#"["null",{"type":"map","values":{"name":"F","type":"fixed","size":0}},{"type":"array","items":"F"}]"#,
-        r#"{"name":"n.R","type":"record","fields":[{"name":"f","type":{"name":"n.S","type":"record","fields":[{"name":"r","type":"n.R"}]}},{"name":"g","type":"n.S"}]}"#,
-    ] {
-        let schema = read_schema(alloc, form.as_bytes())?;
-        assert_eq!(rt; canonical(alloc, &schema)?.as_str(), form);
+fn texts_have_their_canonical_forms(rt: HostRuntime) -> Result<(), Fail> {
+    for (text, form) in FORMS {
+        let schema = read_schema(rt.alloc(), text.as_bytes())?;
+        assert_eq!(rt; canonical(rt.alloc(), &schema)?.as_str(), form);
     }
-    let schema = read_schema(alloc, OWN_NAMESPACE_FORM.as_bytes())?;
-    assert_eq!(rt;
-        canonical(alloc, &schema)?.as_str(),
-        r#"{"name":"a.R","type":"record","fields":[{"name":"e","type":{"name":"a.E","type":"enum","symbols":["X"]}}]}"#
-    );
     Ok(())
 }
 

@@ -1,10 +1,30 @@
 use avro_schema::{Node, RecordNode, Schema};
 use avro_schema_json::{ReaderText, SchemaError, read_schema};
+use std::alloc::{AllocError, Global};
 use std::test::Fail;
 
 /// A record in a namespace, with aliases, and an enum that its three fields go to.
 const RECORD: &str =
     r#"{"type":"record","name":"R","namespace":"a","aliases":["S","b.T"],"fields":[{"name":"e","type":{"type":"enum","name":"E","symbols":["X"]}},{"name":"f","type":"E"},{"name":"g","type":"a.E"}]}"#;
+
+/// Texts, and what their root and the node of its last field are. A namespace is not looked at beside a dot, and a record
+/// may hold itself.
+const ROOTS: [(&str, &str); 8] = [
+    (RECORD, "2 nodes: a R, a S, b T: 1 1 1"),
+    (
+        r#"{"type":"record","name":"b.R","namespace":7,"fields":[]}"#,
+        "1 nodes: b R:",
+    ),
+    (
+        r#"{"type":"record","name":"Node","fields":[{"name":"value","type":"int"},{"name":"next","type":["null","Node"]}]}"#,
+        "4 nodes:  Node: 1 2 (3 0)",
+    ),
+    ("\"null\"", "1 nodes: Null"),
+    ("\"boolean\"", "1 nodes: Boolean"),
+    ("\"int\"", "1 nodes: Int"),
+    ("\"long\"", "1 nodes: Long"),
+    (" \t\r\n\"\\u0069nt\"\n", "1 nodes: Int"),
+];
 
 /// The record that the root of a schema is.
 pub(crate) fn root_record(schema: &Schema) -> Result<&RecordNode, &'static str> {
@@ -14,75 +34,59 @@ pub(crate) fn root_record(schema: &Schema) -> Result<&RecordNode, &'static str> 
     }
 }
 
-#[test]
-fn a_record_stands_in_its_namespace(rt: HostRuntime) -> Result<(), Fail> {
-    let schema = read_schema(rt.alloc(), RECORD.as_bytes())?;
-    assert_eq!(rt; schema.len(), 2);
-    let record = root_record(&schema)?;
-    assert_eq!(rt; record.name.namespace(), "a");
-    assert_eq!(rt; record.name.simple(), "R");
-    assert_eq!(rt; record.aliases.len(), 2);
-    assert_eq!(rt; record.aliases[0].namespace(), "a");
-    assert_eq!(rt; record.aliases[0].simple(), "S");
-    assert_eq!(rt; record.aliases[1].namespace(), "b");
-    assert_eq!(rt; record.aliases[1].simple(), "T");
-    assert_eq!(rt; record.fields.len(), 3);
+/// The names of a record, with those of its aliases.
+fn names_of(alloc: Global, record: &RecordNode) -> Result<String, AllocError> {
+    let name = &record.name;
+    let mut text = format!(in alloc; "{} {}", name.namespace(), name.simple())?;
+    for alias in &record.aliases {
+        let told = format!(in alloc; ", {} {}", alias.namespace(), alias.simple())?;
+        text.push_str(told.as_str())?;
+    }
+    Ok(text)
+}
+
+/// The numbers of the nodes of a record's fields, and of the branches of those that are unions.
+fn nodes_of(alloc: Global, schema: &Schema, record: &RecordNode) -> Result<String, AllocError> {
+    let mut text = String::new(alloc);
     for field in &record.fields {
-        assert_eq!(rt; field.node.0, 1);
-    }
-    Ok(())
-}
-
-#[test]
-fn a_namespace_is_not_looked_at_beside_a_dot(rt: HostRuntime) -> Result<(), Fail> {
-    let text = r#"{"type":"record","name":"b.R","namespace":7,"fields":[]}"#;
-    let schema = read_schema(rt.alloc(), text.as_bytes())?;
-    assert_eq!(rt; schema.len(), 1);
-    let record = root_record(&schema)?;
-    assert_eq!(rt; record.name.namespace(), "b");
-    assert_eq!(rt; record.name.simple(), "R");
-    Ok(())
-}
-
-#[test]
-fn a_record_may_hold_itself(rt: HostRuntime) -> Result<(), Fail> {
-    let text =
-        r#"{"type":"record","name":"Node","fields":[{"name":"value","type":"int"},{"name":"next","type":["null","Node"]}]}"#;
-    let schema = read_schema(rt.alloc(), text.as_bytes())?;
-    assert_eq!(rt; schema.len(), 4);
-    let record = root_record(&schema)?;
-    assert_eq!(rt; record.fields.len(), 2);
-    let next = record.fields[1].node;
-    assert!(rt; schema.has(next));
-    match schema.node(next) {
-        Node::Union(branches) => {
-            assert_eq!(rt; branches.len(), 2);
-            assert_eq!(rt; (branches[0].0, branches[1].0), (3, 0));
+        let told = format!(in alloc; " {}", field.node.0)?;
+        text.push_str(told.as_str())?;
+        if schema.has(field.node) {
+            text.push_str(branches_told(alloc, schema.node(field.node))?.as_str())?;
         }
-        _ => assert!(rt; false),
     }
-    Ok(())
+    Ok(text)
+}
+
+/// The branches of a union of two.
+fn branches_told(alloc: Global, node: &Node) -> Result<String, AllocError> {
+    match node {
+        Node::Union(branches) if branches.len() == 2 => {
+            format!(in alloc; " ({} {})", branches[0].0, branches[1].0)
+        }
+        _ => Ok(String::new(alloc)),
+    }
+}
+
+/// What the root of a text is.
+fn root_told(alloc: Global, text: &str) -> Result<String, Fail> {
+    let schema = read_schema(alloc, text.as_bytes())?;
+    let count = schema.len();
+    match schema.node(schema.root()) {
+        Node::Record(record) => {
+            let names = names_of(alloc, record)?;
+            let nodes = nodes_of(alloc, &schema, record)?;
+            Ok(format!(in alloc; "{count} nodes: {names}:{nodes}")?)
+        }
+        node => Ok(format!(in alloc; "{count} nodes: {node:?}")?),
+    }
 }
 
 #[test]
-fn texts_declare_their_nodes(rt: HostRuntime) -> Result<(), Fail> {
-    for (text, nodes) in [
-        (r#"{"type":"int","doc":1,"logicalType":[]}"#, 1),
-        (r#"{"type":"array","items":"bytes"}"#, 2),
-        (r#"{"type":"map","values":["null","string"]}"#, 4),
-        (r#"{"type":"fixed","name":"F","size":0}"#, 1),
-        (
-            r#"{"type":"enum","name":"E","symbols":["A","B"],"default":"B"}"#,
-            1,
-        ),
-        (r#"[{"type":"fixed","name":"record","size":1},"long"]"#, 3),
-        (r#"{"type":"record","name":"R","fields":[]}"#, 1),
-    ] {
-        assert_eq!(rt;
-            read_schema(rt.alloc(), text.as_bytes())?.len(),
-            nodes,
-            "{text}"
-        );
+fn texts_declare_their_roots(rt: HostRuntime) -> Result<(), Fail> {
+    for (text, wanted) in ROOTS {
+        let told = root_told(rt.alloc(), text)?;
+        assert_eq!(rt; told.as_str(), wanted);
     }
     Ok(())
 }

@@ -1,17 +1,14 @@
 use crate::declared::root_record;
+use crate::schemas::counted;
 use avro_schema::Datum;
-use avro_schema_json::{SchemaError, read_schema};
+use avro_schema_json::read_schema;
 use std::alloc::{AllocError, Global};
 use std::test::Fail;
 
 /// A record with one field of a type, and a default of it.
-pub(crate) fn record_with_default(
-    alloc: Global,
-    node: &str,
-    default: &str,
-) -> Result<String, AllocError> {
+fn record_with_default(alloc: Global, node: &str, default: &str) -> Result<String, AllocError> {
     format!(in alloc;
-        "{{\"type\":\"record\",\"name\":\"R\",\"fields\":[{{\"name\":\"f\",\"type\":{node},\"default\":{default}}}]}}"
+        "{{\"type\":\"record\",\"name\":\"Outer\",\"fields\":[{{\"name\":\"f\",\"type\":{node},\"default\":{default}}}]}}"
     )
 }
 
@@ -29,99 +26,138 @@ pub(crate) fn default_read(alloc: Global, node: &str, default: &str) -> Result<D
     }
 }
 
+/// Two records whose fields are of unions.
+const TWO_RECORDS: &str =
+    r#"[{"type":"record","name":"S","fields":[{"name":"v","type":["null","int"]}]},{"type":"record","name":"T","fields":[{"name":"v","type":["string","int"]}]}]"#;
+
+/// Types and defaults, and the data that are read.
+const READ: [(&str, &str, &str); 23] = [
+    ("\"null\"", "null", "Null"),
+    ("\"boolean\"", "true", "Bool(true)"),
+    ("\"int\"", "-2147483648", "Int(-2147483648)"),
+    (
+        "\"long\"",
+        "9223372036854775807",
+        "Long(9223372036854775807)",
+    ),
+    (
+        r#"{"type":"enum","name":"E","symbols":["A","B"]}"#,
+        "\"B\"",
+        "Enum(1)",
+    ),
+    ("\"bytes\"", "\"\\u00ff\\u0000A\"", "Bytes([255, 0, 65])"),
+    (
+        r#"{"type":"fixed","name":"F","size":2}"#,
+        "\"\\u0080z\"",
+        "Fixed([128, 122])",
+    ),
+    ("\"string\"", "\"\\u20ac\"", "Str(\"\u{20ac}\")"),
+    (
+        r#"{"type":"array","items":"int"}"#,
+        "[1]",
+        "Array([Int(1)])",
+    ),
+    (r#"["int","null"]"#, "7", "Union(0, Int(7))"),
+    (
+        r#"{"type":"record","name":"S","fields":[{"name":"z","type":"int"},{"name":"a","type":"null"}]}"#,
+        r#"{"a":null,"z":5}"#,
+        "Record([Int(5), Null])",
+    ),
+    // Entries are read in the order of their keys.
+    (
+        r#"{"type":"map","values":"int"}"#,
+        r#"{"b":1,"a":2}"#,
+        "Map([(\"a\", Int(2)), (\"b\", Int(1))])",
+    ),
+    // A default is one of the first branch that it fits.
+    (r#"["null","int"]"#, "3", "Union(1, Int(3))"),
+    (r#"["null","int"]"#, "null", "Union(0, Null)"),
+    (r#"["int","null"]"#, "null", "Union(1, Null)"),
+    (
+        r#"["int","long"]"#,
+        "3000000000",
+        "Union(1, Long(3000000000))",
+    ),
+    (r#"["int","long"]"#, "3", "Union(0, Int(3))"),
+    (r#"["bytes","string"]"#, "\"a\"", "Union(0, Bytes([97]))"),
+    (
+        r#"["bytes","string"]"#,
+        "\"\\u20ac\"",
+        "Union(1, Str(\"\u{20ac}\"))",
+    ),
+    (
+        r#"{"type":"array","items":["null","int"]}"#,
+        "[5,null]",
+        "Array([Union(1, Int(5)), Union(0, Null)])",
+    ),
+    (
+        r#"{"type":"map","values":["null","int"]}"#,
+        r#"{"k":5}"#,
+        "Map([(\"k\", Union(1, Int(5)))])",
+    ),
+    (
+        r#"["null",{"type":"record","name":"S","fields":[{"name":"v","type":["null","int"]}]}]"#,
+        r#"{"v":5}"#,
+        "Union(1, Record([Union(1, Int(5))]))",
+    ),
+    (
+        TWO_RECORDS,
+        r#"{"v":"x"}"#,
+        "Union(1, Record([Union(0, Str(\"x\"))]))",
+    ),
+];
+
 #[test]
-fn defaults_of_numbers_and_symbols_are_read(rt: HostRuntime) -> Result<(), Fail> {
-    for (node, default, datum) in [
-        ("\"null\"", "null", Datum::Null),
-        ("\"boolean\"", "true", Datum::Bool(true)),
-        ("\"int\"", "-2147483648", Datum::Int(i32::MIN)),
-        ("\"long\"", "9223372036854775807", Datum::Long(i64::MAX)),
-        (
-            r#"{"type":"enum","name":"E","symbols":["A","B"]}"#,
-            "\"B\"",
-            Datum::Enum(1),
-        ),
-    ] {
-        let read = default_read(rt.alloc(), node, default)?;
-        assert_eq!(rt; read, datum, "{node}");
+fn defaults_are_read(rt: HostRuntime) -> Result<(), Fail> {
+    for (node, default, wanted) in READ {
+        let datum = default_read(rt.alloc(), node, default)?;
+        let told = format!(in rt.alloc(); "{datum:?}")?;
+        assert_eq!(rt; told.as_str(), wanted, "{node} {default}");
     }
     Ok(())
 }
 
-#[test]
-fn defaults_of_bytes_and_texts_are_read(rt: HostRuntime) -> Result<(), Fail> {
-    let alloc = rt.alloc();
-    let read = default_read(alloc, "\"bytes\"", "\"\\u00ff\\u0000A\"")?;
-    let bytes = Vec::from_slice(alloc, &[255, 0, 65])?;
-    assert_eq!(rt; read, Datum::Bytes(bytes));
-    let node = r#"{"type":"fixed","name":"F","size":2}"#;
-    let read = default_read(alloc, node, "\"\\u0080z\"")?;
-    let bytes = Vec::from_slice(alloc, &[128, 122])?;
-    assert_eq!(rt; read, Datum::Fixed(bytes));
-    let read = default_read(alloc, "\"string\"", "\"\\u20ac\"")?;
-    let text = String::from_str(alloc, "\u{20ac}")?;
-    assert_eq!(rt; read, Datum::Str(text));
-    Ok(())
-}
-
-#[test]
-fn defaults_with_parts_are_read(rt: HostRuntime) -> Result<(), Fail> {
-    let alloc = rt.alloc();
-    let read = default_read(alloc, r#"{"type":"array","items":"int"}"#, "[1]")?;
-    let items = vec![in alloc; Datum::Int(1)]?;
-    assert_eq!(rt; read, Datum::Array(items));
-    let read = default_read(alloc, r#"["int","null"]"#, "7")?;
-    let seven = Box::new(alloc, Datum::Int(7))?;
-    assert_eq!(rt; read, Datum::Union(0, seven));
-    let node =
-        r#"{"type":"record","name":"S","fields":[{"name":"z","type":"int"},{"name":"a","type":"null"}]}"#;
-    let read = default_read(alloc, node, r#"{"a":null,"z":5}"#)?;
-    let fields = vec![in alloc; Datum::Int(5), Datum::Null]?;
-    assert_eq!(rt; read, Datum::Record(fields));
-    Ok(())
-}
-
-#[test]
-fn entries_of_a_default_are_read_in_order_of_their_keys(rt: HostRuntime) -> Result<(), Fail> {
-    let alloc = rt.alloc();
-    let read = default_read(
-        alloc,
-        r#"{"type":"map","values":"int"}"#,
-        r#"{"b":1,"a":2}"#,
-    )?;
-    let a = String::from_str(alloc, "a")?;
-    let b = String::from_str(alloc, "b")?;
-    let entries = vec![in alloc; (a, Datum::Int(2)), (b, Datum::Int(1))]?;
-    assert_eq!(rt; read, Datum::Map(entries));
-    Ok(())
-}
+/// Types and defaults that are none of theirs, and the refusals' codes.
+const REFUSED: [(&str, &str, &str); 15] = [
+    ("\"int\"", "2147483648", "S9"),
+    ("\"long\"", "9223372036854775808", "S9"),
+    ("\"string\"", "1", "S9"),
+    ("\"bytes\"", "\"\\u0100\"", "S9"),
+    (r#"{"type":"fixed","name":"F","size":2}"#, "\"a\"", "S9"),
+    (
+        r#"{"type":"enum","name":"E","symbols":["A"]}"#,
+        "\"B\"",
+        "S9",
+    ),
+    (r#"{"type":"array","items":"int"}"#, r#"[1,"a"]"#, "S9"),
+    (r#"{"type":"map","values":"int"}"#, "[]", "S9"),
+    (
+        r#"{"type":"record","name":"S","fields":[{"name":"z","type":"int"}]}"#,
+        "{}",
+        "S9",
+    ),
+    (
+        r#"{"type":"record","name":"S","fields":[{"name":"z","type":"int"}]}"#,
+        r#"{"y":1,"z":1}"#,
+        "S9",
+    ),
+    (r#"["null","null"]"#, "3", "S6"),
+    (r#"["null","int"]"#, "\"x\"", "S9"),
+    (r#"["null","int"]"#, "2147483648", "S9"),
+    (
+        r#"{"type":"array","items":["null","int"]}"#,
+        r#"[3,"x"]"#,
+        "S9",
+    ),
+    (TWO_RECORDS, r#"{"v":true}"#, "S9"),
+];
 
 #[test]
 fn other_defaults_are_refused(rt: HostRuntime) -> Result<(), Fail> {
-    for (node, default) in [
-        ("\"int\"", "2147483648"),
-        ("\"long\"", "9223372036854775808"),
-        ("\"string\"", "1"),
-        ("\"bytes\"", "\"\\u0100\""),
-        (r#"{"type":"fixed","name":"F","size":2}"#, "\"a\""),
-        (r#"{"type":"enum","name":"E","symbols":["A"]}"#, "\"B\""),
-        (r#"{"type":"array","items":"int"}"#, r#"[1,"a"]"#),
-        (r#"{"type":"map","values":"int"}"#, "[]"),
-        (
-            r#"{"type":"record","name":"S","fields":[{"name":"z","type":"int"}]}"#,
-            "{}",
-        ),
-        (
-            r#"{"type":"record","name":"S","fields":[{"name":"z","type":"int"}]}"#,
-            r#"{"y":1,"z":1}"#,
-        ),
-    ] {
+    for (node, default, code) in REFUSED {
         let text = record_with_default(rt.alloc(), node, default)?;
-        let refused = read_schema(rt.alloc(), text.as_bytes()).err();
-        assert_eq!(rt; refused, Some(SchemaError::InvalidDefault), "{text}");
+        let found = counted(rt.alloc(), text.as_bytes())?;
+        assert_eq!(rt; found.as_str(), code, "{text}");
     }
-    let text = record_with_default(rt.alloc(), r#"["null","null"]"#, "3")?;
-    let refused = read_schema(rt.alloc(), text.as_bytes()).err();
-    assert_eq!(rt; refused, Some(SchemaError::InvalidUnion));
     Ok(())
 }

@@ -11,14 +11,10 @@ mod defaults;
 #[cfg(test)]
 mod displays;
 #[cfg(test)]
-mod edges;
-#[cfg(test)]
-mod first_fitting_defaults;
-#[cfg(test)]
 mod long_names;
 #[cfg(test)]
 mod names;
 #[cfg(test)]
-mod refusals;
-#[cfg(test)]
 mod schemas;
+#[cfg(test)]
+mod sizes;

@@ -1,76 +1,117 @@
 use avro_name::{FullName, NameError, Namespace};
+use avro_schema_json::SchemaError;
+use std::alloc::{AllocError, Global};
 use std::test::Fail;
 
-#[test]
-fn texts_mean_fullnames(rt: HostRuntime) -> Result<(), Fail> {
-    let alloc = rt.alloc();
-    let enclosing = Namespace::read(alloc, "a")?;
-    for (text, namespace, simple) in [
-        ("B", "a", "B"),
-        ("b.C", "b", "C"),
-        ("x.y.Z", "x.y", "Z"),
-        ("_1", "a", "_1"),
-        ("record", "a", "record"),
-    ] {
-        let name = FullName::read(alloc, text, &enclosing)?;
-        assert_eq!(rt; name.namespace(), namespace, "{text}");
-        assert_eq!(rt; name.simple(), simple, "{text}");
-        let copy = name.clone()?;
-        assert!(rt; copy == name, "{text}");
+/// Namespaces, texts inside them, and the namespace and the simple part of the fullname, or the refusal's code.
+const FULLNAMES: [(&str, &str, &str); 14] = [
+    ("a", "B", "a B"),
+    ("a", "b.C", "b C"),
+    ("a", "x.y.Z", "x.y Z"),
+    ("a", "_1", "a _1"),
+    ("a", "record", "a record"),
+    ("", "B", " B"),
+    ("a", "", "N1"),
+    ("a", "a..b", "N1"),
+    ("a", ".B", "N1"),
+    ("a", "B.", "N1"),
+    ("a", "a.b-c", "N2"),
+    ("a", "1a", "N2"),
+    ("a", "a.int", "N3"),
+    ("a", "string", "N3"),
+];
+
+/// What a text means inside a namespace, or the refusal's code.
+fn fullname_told(alloc: Global, namespace: &str, text: &str) -> Result<String, Fail> {
+    let enclosing = Namespace::read(alloc, namespace)?;
+    match FullName::read(alloc, text, &enclosing) {
+        Ok(name) => {
+            let copy = name.clone()?;
+            if copy == name {
+                Ok(format!(in alloc; "{} {}", name.namespace(), copy.simple())?)
+            } else {
+                Err(Fail::new("the copy is another name"))
+            }
+        }
+        Err(error) => Ok(format!(in alloc; "{error}")?),
     }
-    let top = FullName::read(alloc, "B", &Namespace::null(alloc))?;
-    assert_eq!(rt; top.namespace(), "");
-    Ok(())
 }
 
 #[test]
-fn texts_that_are_no_fullname_are_refused(rt: HostRuntime) -> Result<(), Fail> {
-    let enclosing = Namespace::read(rt.alloc(), "a")?;
-    for (text, error) in [
-        ("", NameError::EmptyPart),
-        ("a..b", NameError::EmptyPart),
-        (".B", NameError::EmptyPart),
-        ("B.", NameError::EmptyPart),
-        ("a.b-c", NameError::BadCharacter),
-        ("1a", NameError::BadCharacter),
-        ("a.int", NameError::PrimitiveName),
-        ("string", NameError::PrimitiveName),
-    ] {
-        let refusal = FullName::read(rt.alloc(), text, &enclosing).err();
-        assert_eq!(rt; refusal, Some(error), "{text}");
+fn texts_mean_fullnames_or_are_refused(rt: HostRuntime) -> Result<(), Fail> {
+    for (namespace, text, wanted) in FULLNAMES {
+        let told = fullname_told(rt.alloc(), namespace, text)?;
+        assert_eq!(rt; told.as_str(), wanted, "{text}");
     }
     Ok(())
+}
+
+/// Texts, and their namespaces or the refusal's code.
+const NAMESPACES: [(&str, &str); 6] = [
+    ("", "namespace "),
+    ("a", "namespace a"),
+    ("a.b", "namespace a.b"),
+    ("int.a_1", "namespace int.a_1"),
+    ("a.", "N1"),
+    ("a.b-c", "N2"),
+];
+
+/// The namespace of a text, or the refusal's code.
+fn namespace_told(alloc: Global, text: &str) -> Result<String, Fail> {
+    match Namespace::read(alloc, text) {
+        Ok(namespace) => {
+            let copy = namespace.clone()?;
+            if copy == namespace {
+                Ok(format!(in alloc; "namespace {}", namespace.as_str())?)
+            } else {
+                Err(Fail::new("the copy is another namespace"))
+            }
+        }
+        Err(error) => Ok(format!(in alloc; "{error}")?),
+    }
 }
 
 #[test]
 fn namespaces_are_names_joined_by_dots(rt: HostRuntime) -> Result<(), Fail> {
-    for text in ["", "a", "a.b", "int.a_1"] {
-        let namespace = Namespace::read(rt.alloc(), text)?;
-        assert_eq!(rt; namespace.as_str(), text);
-        let copy = namespace.clone()?;
-        assert!(rt; copy == namespace, "{text}");
-    }
-    for (text, error) in [
-        ("a.", NameError::EmptyPart),
-        ("a.b-c", NameError::BadCharacter),
-    ] {
-        assert_eq!(rt;
-            Namespace::read(rt.alloc(), text).err(),
-            Some(error),
-            "{text}"
-        );
+    for (text, wanted) in NAMESPACES {
+        let told = namespace_told(rt.alloc(), text)?;
+        assert_eq!(rt; told.as_str(), wanted, "{text}");
     }
     Ok(())
 }
 
+/// The codes of the errors of names, in the order of their variants.
+fn name_codes(alloc: Global) -> Result<String, AllocError> {
+    format!(in alloc;
+        "{} {} {} {}",
+        NameError::EmptyPart,
+        NameError::BadCharacter,
+        NameError::PrimitiveName,
+        NameError::OutOfMemory
+    )
+}
+
+/// The errors of schemas, and their codes.
+const SCHEMA_CODES: [(SchemaError, &str); 13] = [
+    (SchemaError::NotJson, "S1"),
+    (SchemaError::UnknownName, "S2"),
+    (SchemaError::DuplicateName, "S3"),
+    (SchemaError::InvalidName, "S4"),
+    (SchemaError::InvalidDeclaration, "S5"),
+    (SchemaError::InvalidUnion, "S6"),
+    (SchemaError::InvalidSymbols, "S7"),
+    (SchemaError::DuplicateField, "S8"),
+    (SchemaError::InvalidDefault, "S9"),
+    (SchemaError::UnsupportedType, "S10"),
+    (SchemaError::UnsupportedNumber, "S11"),
+    (SchemaError::LimitExceeded, "S12"),
+    (SchemaError::OutOfMemory, "S13"),
+];
+
 #[test]
-fn name_errors_are_shown_as_their_codes(rt: HostRuntime) -> Result<(), Fail> {
-    for (error, code) in [
-        (NameError::EmptyPart, "N1"),
-        (NameError::BadCharacter, "N2"),
-        (NameError::PrimitiveName, "N3"),
-        (NameError::OutOfMemory, "N4"),
-    ] {
+fn errors_are_shown_as_their_codes(rt: HostRuntime) -> Result<(), Fail> {
+    assert_eq!(rt; name_codes(rt.alloc())?.as_str(), "N1 N2 N3 N4");
+    for (error, code) in SCHEMA_CODES {
         assert_eq!(rt; format!(in rt.alloc(); "{error}")?.as_str(), code);
     }
     Ok(())

@@ -1,90 +1,115 @@
-use avro_schema::Node;
-use avro_schema_json::{SchemaError, read_schema};
+use avro_schema_json::read_schema;
 use std::alloc::{AllocError, Global};
 use std::test::Fail;
 
-#[test]
-fn primitive_types_are_read(rt: HostRuntime) -> Result<(), Fail> {
-    for (text, node) in [
-        ("\"null\"", Node::Null),
-        ("\"boolean\"", Node::Boolean),
-        ("\"int\"", Node::Int),
-        ("\"long\"", Node::Long),
-        (" \t\r\n\"\\u0069nt\"\n", Node::Int),
-    ] {
-        let schema = read_schema(rt.alloc(), text.as_bytes())?;
-        assert_eq!(rt; schema.len(), 1);
-        assert_eq!(rt; *schema.node(schema.root()), node);
+/// The number of the nodes that a text declares, or the refusal's code.
+pub(crate) fn counted(alloc: Global, text: &[u8]) -> Result<String, AllocError> {
+    match read_schema(alloc, text) {
+        Ok(schema) => format!(in alloc; "{}", schema.len()),
+        Err(error) => format!(in alloc; "{error}"),
     }
+}
+
+/// Texts that are read, or refused by what they are as a whole, by types, names and numbers.
+const TEXTS: [(&str, &str); 29] = [
+    (r#"{"type":"int","doc":1,"logicalType":[]}"#, "1"),
+    (r#"{"type":"array","items":"bytes"}"#, "2"),
+    (r#"{"type":"map","values":["null","string"]}"#, "4"),
+    (r#"{"type":"fixed","name":"F","size":0}"#, "1"),
+    (
+        r#"{"type":"enum","name":"E","symbols":["A","B"],"default":"B"}"#,
+        "1",
+    ),
+    (r#"[{"type":"fixed","name":"record","size":1},"long"]"#, "3"),
+    (r#"{"type":"record","name":"R","fields":[]}"#, "1"),
+    (r#"{"type":"fixed","name":"F","size":1048576}"#, "1"),
+    (r#"{"type":"fixed","name":"F","size":1048577}"#, "S12"),
+    ("", "S1"),
+    ("{", "S1"),
+    ("\"int\" x", "S1"),
+    ("\"int", "S1"),
+    (r#""float""#, "S10"),
+    (r#""double""#, "S10"),
+    (r#"{"type":"error","name":"E","fields":[]}"#, "S10"),
+    (r#""Foo""#, "S2"),
+    (
+        r#"{"type":"record","name":"R","namespace":"a","fields":[{"name":"e","type":{"type":"enum","name":"E","symbols":["X"]}},{"name":"g","type":"b.E"}]}"#,
+        "S2",
+    ),
+    (
+        r#"[{"type":"fixed","name":"F","size":1},{"type":"array","items":{"type":"fixed","name":"F","size":1}}]"#,
+        "S3",
+    ),
+    (r#"{"type":"enum","name":"int","symbols":["A"]}"#, "S4"),
+    (r#"{"type":"enum","name":"E","symbols":["1"]}"#, "S4"),
+    (
+        r#"{"type":"fixed","name":"F","aliases":["a.b-c"],"size":1}"#,
+        "S4",
+    ),
+    (r#"{"type":"fixed","name":"F","size":1.0}"#, "S11"),
+    (r#"{"type":"fixed","name":"F","size":1e3}"#, "S11"),
+    (r#"{"type":"fixed","name":"F","size":-0}"#, "S11"),
+    (r#"{"type":"int","x":18446744073709551615}"#, "1"),
+    (r#"{"type":"int","x":18446744073709551616}"#, "S11"),
+    (r#"{"type":"int","doc":[{"y":1.0}]}"#, "S11"),
+    (
+        r#"{"type":"record","name":"R","fields":[{"name":"f","type":"int","default":1.5}]}"#,
+        "S11",
+    ),
+];
+
+#[test]
+fn texts_are_read_or_refused(rt: HostRuntime) -> Result<(), Fail> {
+    for (text, wanted) in TEXTS {
+        let found = counted(rt.alloc(), text.as_bytes())?;
+        assert_eq!(rt; found.as_str(), wanted, "{text}");
+    }
+    let found = counted(rt.alloc(), b"\"\xff\"")?;
+    assert_eq!(rt; found.as_str(), "S1");
     Ok(())
 }
 
-#[test]
-fn other_texts_are_refused(rt: HostRuntime) -> Result<(), Fail> {
-    for (text, error) in [
-        (&b""[..], SchemaError::NotJson),
-        (b"{", SchemaError::NotJson),
-        (b"\"int\" x", SchemaError::NotJson),
-        (b"\"int", SchemaError::NotJson),
-        (b"\"\xff\"", SchemaError::NotJson),
-        (b"\"float\"", SchemaError::UnsupportedType),
-        (b"\"double\"", SchemaError::UnsupportedType),
-    ] {
-        assert_eq!(rt; read_schema(rt.alloc(), text).err(), Some(error));
-    }
-    Ok(())
-}
+/// Texts whose declarations or nodes break a rule.
+const BROKEN: [(&str, &str); 17] = [
+    ("1", "S5"),
+    ("{}", "S5"),
+    (r#"{"type":{"type":"int"}}"#, "S5"),
+    (r#"{"type":"fixed","name":"F","size":"16"}"#, "S5"),
+    (r#"{"type":"fixed","name":"F","size":-1}"#, "S5"),
+    (
+        r#"{"type":"fixed","name":"F","namespace":null,"size":1}"#,
+        "S5",
+    ),
+    (
+        r#"{"type":"enum","name":"E","symbols":["A"],"default":null}"#,
+        "S5",
+    ),
+    (r#"{"type":"array"}"#, "S5"),
+    (r#"{"type":"record","name":"R"}"#, "S5"),
+    (
+        r#"{"type":"record","name":"R","fields":[{"name":"f"}]}"#,
+        "S5",
+    ),
+    ("[]", "S6"),
+    (r#"["int","int"]"#, "S6"),
+    (r#"["int",["null"]]"#, "S6"),
+    (r#"{"type":"enum","name":"E","symbols":[]}"#, "S7"),
+    (r#"{"type":"enum","name":"E","symbols":["A","A"]}"#, "S7"),
+    (
+        r#"{"type":"enum","name":"E","symbols":["A"],"default":"B"}"#,
+        "S7",
+    ),
+    (
+        r#"{"type":"record","name":"R","fields":[{"name":"x","type":"int","aliases":["x"]}]}"#,
+        "S8",
+    ),
+];
 
 #[test]
-fn deep_texts_are_refused(rt: HostRuntime) -> Result<(), Fail> {
-    let mut nested = String::new(rt.alloc());
-    for bracket in ['[', ']'] {
-        for _ in 0..128 {
-            nested.push(bracket)?;
-        }
-    }
-    let error = read_schema(rt.alloc(), nested.as_bytes()).err();
-    assert_eq!(rt; error, Some(SchemaError::NotJson));
-    Ok(())
-}
-
-/// The text of an int, with blanks up to a length.
-pub(crate) fn padded_int(alloc: Global, len: usize) -> Result<String, AllocError> {
-    let mut text = String::from_str(alloc, "\"int\"")?;
-    for _ in text.len()..len {
-        text.push(' ')?;
-    }
-    Ok(text)
-}
-
-#[test]
-fn long_texts_are_refused(rt: HostRuntime) -> Result<(), Fail> {
-    let longest = padded_int(rt.alloc(), 1_048_576)?;
-    assert!(rt; read_schema(rt.alloc(), longest.as_bytes()).is_ok());
-    let longer = padded_int(rt.alloc(), 1_048_577)?;
-    let error = read_schema(rt.alloc(), longer.as_bytes()).err();
-    assert_eq!(rt; error, Some(SchemaError::LimitExceeded));
-    Ok(())
-}
-
-#[test]
-fn errors_are_shown_as_their_codes(rt: HostRuntime) -> Result<(), Fail> {
-    for (error, code) in [
-        (SchemaError::NotJson, "S1"),
-        (SchemaError::UnknownName, "S2"),
-        (SchemaError::DuplicateName, "S3"),
-        (SchemaError::InvalidName, "S4"),
-        (SchemaError::InvalidDeclaration, "S5"),
-        (SchemaError::InvalidUnion, "S6"),
-        (SchemaError::InvalidSymbols, "S7"),
-        (SchemaError::DuplicateField, "S8"),
-        (SchemaError::InvalidDefault, "S9"),
-        (SchemaError::UnsupportedType, "S10"),
-        (SchemaError::UnsupportedNumber, "S11"),
-        (SchemaError::LimitExceeded, "S12"),
-        (SchemaError::OutOfMemory, "S13"),
-    ] {
-        assert_eq!(rt; format!(in rt.alloc(); "{error}")?.as_str(), code);
+fn broken_declarations_are_refused(rt: HostRuntime) -> Result<(), Fail> {
+    for (text, code) in BROKEN {
+        let found = counted(rt.alloc(), text.as_bytes())?;
+        assert_eq!(rt; found.as_str(), code, "{text}");
     }
     Ok(())
 }

@@ -1,141 +1,92 @@
-use avro_binary::{ReadError, Tree};
-use avro_judge::{Cause, JudgeLimits, Verdict, judge};
-use avro_resolve::{Fault, FaultKind};
-use avro_schema::{Datum, Draft, DraftError, Limits, Node, Schema};
+use crate::judging_rows::ROWS;
+use crate::program::outcome_of;
+use avro_binary::Tree;
+use avro_display::show;
+use avro_judge::{JudgeLimits, Refutation, Verdict, judge};
+use avro_schema::{Limits, Schema, size};
+use avro_schema_json::read_schema;
 use std::alloc::Global;
+use std::fs;
 use std::test::Fail;
 
-/// A schema of one node.
-fn schema_of(alloc: Global, node: Node) -> Result<Schema, DraftError> {
-    let mut draft = Draft::new(alloc);
-    draft.add(node)?;
-    draft.finish()
+/// The lines of a refutation, as the program prints them.
+fn lines_of(alloc: Global, writer: &Schema, refutation: &Refutation) -> Result<String, Fail> {
+    let fault = &refutation.fault;
+    let nodes = size(&refutation.datum);
+    if !avro_schema::fits(alloc, writer, writer.root(), &refutation.datum)? {
+        return Err(Fail::new("the datum is none of the writer's"));
+    }
+    let display = show(alloc, writer, writer.root(), &refutation.datum)?;
+    Ok(format!(in alloc; "no\nfault {fault}\nnodes {nodes}\ndatum {display}\n")?)
+}
+
+/// The verdict of two schemas' texts, as the program prints it.
+pub(crate) fn verdict(
+    alloc: Global,
+    writer: &str,
+    reader: &str,
+    limits: &JudgeLimits,
+) -> Result<String, Fail> {
+    let writer = read_schema(alloc, writer.as_bytes())?;
+    let reader = read_schema(alloc, reader.as_bytes())?;
+    match judge(alloc, &writer, &reader, limits)? {
+        Verdict::Approved(_) => Ok(String::from_str(alloc, "yes\n")?),
+        Verdict::Refuted(refutation) => lines_of(alloc, &writer, &refutation),
+        Verdict::Undecided(cause) => Ok(format!(in alloc; "undecided {cause:?}\n")?),
+    }
 }
 
 #[test]
-fn ints_are_read_as_longs(rt: HostRuntime) -> Result<(), Fail> {
-    let alloc = rt.alloc();
-    let writer = schema_of(alloc, Node::Int)?;
-    let reader = schema_of(alloc, Node::Long)?;
+fn pairs_of_all_kinds_are_judged(rt: HostRuntime) -> Result<(), Fail> {
+    for (writer, reader, text) in ROWS {
+        let found = verdict(rt.alloc(), writer, reader, &JudgeLimits::default())?;
+        assert_eq!(rt; found.as_str(), text, "{writer} {reader}");
+    }
+    Ok(())
+}
+
+#[test]
+fn the_program_tells_the_verdicts(rt: HostRuntime) -> Result<(), Fail> {
+    for (writer, reader, text) in ROWS {
+        fs::write(&rt, "from.avsc", writer)?;
+        fs::write(&rt, "to.avsc", reader)?;
+        let ran = outcome_of(&rt, "judge from.avsc to.avsc")?;
+        assert_eq!(rt; ran.out.as_slice(), text.as_bytes(), "{writer} {reader}");
+        assert_eq!(rt; ran.status, if text == "yes\n" { 0 } else { 1 });
+        assert!(rt; ran.err.is_empty());
+    }
+    Ok(())
+}
+
+/// Pairs of schemas that are approved, a writer's bytes, and what is read: the datum and the length, or the refusal.
+const READ: [(&str, &str, &[u8], &str); 6] = [
+    (r#""int""#, r#""long""#, b"\x80\x01", "Long(64) 2"),
+    (r#""int""#, r#""long""#, b"\x80\x01\xff", "Long(64) 2"),
+    (r#""boolean""#, r#""boolean""#, b"\x00", "Bool(false) 1"),
+    (r#""boolean""#, r#""boolean""#, b"\x01\x02", "Bool(true) 1"),
+    (r#""boolean""#, r#""boolean""#, b"\x02", "B3 at 0"),
+    (r#""boolean""#, r#""boolean""#, b"", "B1 at 0"),
+];
+
+/// What is read by the approval of two schemas' texts.
+fn read_told(alloc: Global, writer: &str, reader: &str, bytes: &[u8]) -> Result<String, Fail> {
+    let writer = read_schema(alloc, writer.as_bytes())?;
+    let reader = read_schema(alloc, reader.as_bytes())?;
     let Verdict::Approved(approved) = judge(alloc, &writer, &reader, &JudgeLimits::default())?
     else {
-        return Err(Fail::new("int to long is not approved"));
+        return Err(Fail::new("the pair is not approved"));
     };
-    for bytes in [&[0x80u8, 0x01][..], &[0x80, 0x01, 0xff]] {
-        assert_eq!(rt;
-            approved.read(alloc, bytes, &Limits::default(), &mut Tree),
-            Ok((Datum::Long(64), 2))
-        );
+    match approved.read(alloc, bytes, &Limits::default(), &mut Tree) {
+        Ok((datum, len)) => Ok(format!(in alloc; "{datum:?} {len}")?),
+        Err(error) => Ok(format!(in alloc; "{error}")?),
     }
-    Ok(())
 }
 
 #[test]
-fn booleans_are_read(rt: HostRuntime) -> Result<(), Fail> {
-    let alloc = rt.alloc();
-    let schema = schema_of(alloc, Node::Boolean)?;
-    let Verdict::Approved(approved) = judge(alloc, &schema, &schema, &JudgeLimits::default())?
-    else {
-        return Err(Fail::new("boolean to boolean is not approved"));
-    };
-    for (bytes, wanted) in [
-        (&[0x00u8][..], Ok((Datum::Bool(false), 1))),
-        (&[0x01, 0x02], Ok((Datum::Bool(true), 1))),
-        (&[0x02], Err(ReadError::InvalidBoolean { place: 0 })),
-        (&[], Err(ReadError::EndOfInput { place: 0 })),
-    ] {
-        assert_eq!(rt;
-            approved.read(alloc, bytes, &Limits::default(), &mut Tree),
-            wanted
-        );
-    }
-    Ok(())
-}
-
-#[test]
-fn other_pairs_are_refuted(rt: HostRuntime) -> Result<(), Fail> {
-    let alloc = rt.alloc();
-    for (writer, reader, datum) in [
-        (Node::Long, Node::Int, Datum::Long(0)),
-        (Node::Int, Node::Boolean, Datum::Int(0)),
-        (Node::Boolean, Node::Null, Datum::Bool(false)),
-        (Node::Null, Node::Long, Datum::Null),
-    ] {
-        let writer = schema_of(alloc, writer)?;
-        let reader = schema_of(alloc, reader)?;
-        let Verdict::Refuted(refutation) = judge(alloc, &writer, &reader, &JudgeLimits::default())?
-        else {
-            return Err(Fail::new("the pair is not refuted"));
-        };
-        assert_eq!(rt; refutation.datum, datum);
-        let fault = Fault {
-            kind: FaultKind::NoMatch,
-            path: Vec::new(alloc),
-        };
-        assert_eq!(rt; refutation.fault, fault);
-    }
-    Ok(())
-}
-
-#[test]
-fn pairs_have_a_limit(rt: HostRuntime) -> Result<(), Fail> {
-    let alloc = rt.alloc();
-    let mut draft = Draft::new(alloc);
-    draft.add(Node::Int)?;
-    draft.add(Node::Long)?;
-    let writer = draft.finish()?;
-    let reader = schema_of(alloc, Node::Int)?;
-    for (pairs, approved) in [(1, false), (2, true)] {
-        let limits = JudgeLimits::new(pairs, 1, Limits::default()).ok_or("limits")?;
-        match judge(alloc, &writer, &reader, &limits)? {
-            Verdict::Approved(_) => assert!(rt; approved),
-            Verdict::Undecided(cause) => assert_eq!(rt; (cause, approved), (Cause::Pairs, false)),
-            Verdict::Refuted(_) => return Err(Fail::new("int to int is refuted")),
-        }
-    }
-    Ok(())
-}
-
-#[test]
-fn limits_of_judging_have_ranges(rt: HostRuntime) -> Result<(), Fail> {
-    let limits = Limits::new(1, 3, 1).ok_or("limits")?;
-    for (pairs, size, good) in [
-        (1, 1, true),
-        (16_777_216, 3, true),
-        (0, 1, false),
-        (16_777_217, 1, false),
-        (1, 0, false),
-        (1, 4, false),
-    ] {
-        assert_eq!(rt; JudgeLimits::new(pairs, size, limits).is_some(), good);
-    }
-    let limits = JudgeLimits::default();
-    assert_eq!(rt;
-        (limits.pairs(), limits.size(), limits.limits().depth()),
-        (4_194_304, 4096, 128)
-    );
-    Ok(())
-}
-
-#[test]
-fn faults_are_shown_with_their_paths(rt: HostRuntime) -> Result<(), Fail> {
-    let alloc = rt.alloc();
-    for (kind, steps, text) in [
-        (FaultKind::NoMatch, &[][..], "NoMatch at /"),
-        (FaultKind::NoBranch, &[0usize], "NoBranch at /0"),
-        (
-            FaultKind::MissingField(1),
-            &[12, 0],
-            "MissingField 1 at /12/0",
-        ),
-        (FaultKind::NoSymbol, &[], "NoSymbol at /"),
-        (FaultKind::NotUtf8, &[], "NotUtf8 at /"),
-    ] {
-        let fault = Fault {
-            kind,
-            path: steps.to_vec(alloc)?,
-        };
-        assert_eq!(rt; format!(in alloc; "{fault}")?.as_str(), text);
+fn approved_pairs_are_read(rt: HostRuntime) -> Result<(), Fail> {
+    for (writer, reader, bytes, text) in READ {
+        let told = read_told(rt.alloc(), writer, reader, bytes)?;
+        assert_eq!(rt; told.as_str(), text);
     }
     Ok(())
 }

@@ -3,17 +3,21 @@
 #![tactic(auto)]
 
 #[cfg(test)]
-mod certificate_command;
-#[cfg(test)]
 mod certificates;
+#[cfg(test)]
+mod confirming;
 #[cfg(test)]
 mod history;
 #[cfg(test)]
 mod judging;
 #[cfg(test)]
-mod judging_all_kinds;
+mod judging_limits;
+#[cfg(test)]
+mod judging_rows;
 #[cfg(test)]
 mod program;
+#[cfg(test)]
+mod program_rows;
 #[cfg(test)]
 mod resolving;
 #[cfg(test)]

@@ -1,4 +1,7 @@
-use crate::texts::padded_int;
+//! Runs of the program: what it answers and writes.
+
+use crate::program_rows::{FILES, RUNS, USAGE};
+use crate::texts::{padded_int, record_of_ints, unions_with_default};
 use avro_tool::run;
 use std::alloc::AllocError;
 use std::io::Write;
@@ -14,104 +17,55 @@ pub(crate) struct Outcome {
     pub err: Vec<u8>,
 }
 
-/// A run of the program over its words.
+/// A run of the program over the words of a line.
 pub(crate) fn outcome_of<R: Files + AllocGlobal>(
     rt: &R,
-    words: &[&str],
+    line: &str,
 ) -> Result<Outcome, AllocError> {
     let mut out = Vec::new(rt.alloc());
     let mut err = Vec::new(rt.alloc());
-    let words = words_of(rt, words)?;
+    let words = words_of(rt, line)?;
     let status = run(rt, &words, &mut out, &mut err);
     Ok(Outcome { status, out, err })
 }
 
-fn words_of<R: AllocGlobal>(rt: &R, words: &[&str]) -> Result<Vec<String>, AllocError> {
+/// The words of a line.
+fn words_of<R: AllocGlobal>(rt: &R, line: &str) -> Result<Vec<String>, AllocError> {
     let mut list = Vec::new(rt.alloc());
-    for word in words {
+    for word in line.split_whitespace() {
         list.push(String::from_str(rt.alloc(), word)?)?;
     }
     Ok(list)
 }
 
 #[test]
-fn verdicts_are_printed(rt: HostRuntime) -> Result<(), Fail> {
-    for (writer, reader, status, text) in [
-        ("\"int\"", "\"long\"", 0, "yes\n"),
-        ("\"null\"", " \"null\"\n", 0, "yes\n"),
-        (
-            "\"long\"",
-            "\"int\"",
-            1,
-            "no\nfault NoMatch at /\nnodes 1\ndatum 0\n",
-        ),
-        (
-            "\"boolean\"",
-            "\"null\"",
-            1,
-            "no\nfault NoMatch at /\nnodes 1\ndatum false\n",
-        ),
-    ] {
-        fs::write(&rt, "writer.avsc", writer)?;
-        fs::write(&rt, "reader.avsc", reader)?;
-        let ran = outcome_of(&rt, &["judge", "writer.avsc", "reader.avsc"])?;
-        assert_eq!(rt; ran.status, status);
-        assert_eq!(rt; ran.out.as_slice(), text.as_bytes());
-        assert!(rt; ran.err.is_empty());
+fn runs_are_told(rt: HostRuntime) -> Result<(), Fail> {
+    let alloc = rt.alloc();
+    for (file, text) in FILES {
+        fs::write(&rt, file, text)?;
     }
-    Ok(())
-}
-
-#[test]
-fn faults_are_told(rt: HostRuntime) -> Result<(), Fail> {
-    fs::write(&rt, "int.avsc", "\"int\"")?;
-    fs::write(&rt, "open.avsc", "{")?;
-    fs::write(&rt, "float.avsc", "\"float\"")?;
     fs::create_dir(&rt, "folder")?;
-    fs::write(&rt, "most.avsc", &padded_int(rt.alloc(), 1_048_576)?)?;
-    fs::write(&rt, "long.avsc", &padded_int(rt.alloc(), 1_048_577)?)?;
-    for (writer, reader, status, text) in [
-        ("most.avsc", "int.avsc", 0, ""),
-        ("long.avsc", "int.avsc", 3, "avro: long.avsc: S12\n"),
-        ("open.avsc", "int.avsc", 3, "avro: open.avsc: S1\n"),
-        ("float.avsc", "int.avsc", 3, "avro: float.avsc: S10\n"),
-        ("int.avsc", "float.avsc", 3, "avro: float.avsc: S10\n"),
-        ("float.avsc", "none.avsc", 3, "avro: float.avsc: S10\n"),
-        (
-            "none.avsc",
-            "float.avsc",
-            4,
-            "avro: none.avsc: cannot read\n",
-        ),
-        ("int.avsc", "none.avsc", 4, "avro: none.avsc: cannot read\n"),
-        ("int.avsc", "folder", 4, "avro: folder: cannot read\n"),
-    ] {
-        let ran = outcome_of(&rt, &["judge", writer, reader])?;
-        assert_eq!(rt; ran.status, status, "{writer} {reader}");
-        assert_eq!(rt; ran.err.as_slice(), text.as_bytes(), "{writer} {reader}");
-        assert_eq!(rt; ran.out.is_empty(), status != 0);
+    fs::write(&rt, "most.avsc", &padded_int(alloc, 1_048_576)?)?;
+    fs::write(&rt, "long.avsc", &padded_int(alloc, 1_048_577)?)?;
+    fs::write(&rt, "full.avsc", &record_of_ints(alloc, 4095)?)?;
+    fs::write(&rt, "over.avsc", &record_of_ints(alloc, 4096)?)?;
+    fs::write(&rt, "deep.avsc", &unions_with_default(alloc, 60)?)?;
+    for (line, status, out, err) in RUNS {
+        let ran = outcome_of(&rt, line)?;
+        assert_eq!(rt; ran.status, status, "{line}");
+        assert_eq!(rt; ran.out.as_slice(), out.as_bytes(), "{line}");
+        assert_eq!(rt; ran.err.as_slice(), err.as_bytes(), "{line}");
     }
+    assert!(rt; fs::read_to_string(&rt, "no.cert").is_err());
     Ok(())
 }
 
 #[test]
 fn other_words_are_usage(rt: HostRuntime) -> Result<(), Fail> {
-    for words in [
-        &[][..],
-        &["weigh"],
-        &["--help"],
-        &["--version"],
-        &["judge"],
-        &["judge", "--help"],
-        &["judge", "int.avsc"],
-        &["judge", "int.avsc", "long.avsc", "null.avsc"],
-        &["judge", "--fast", "int.avsc", "long.avsc"],
-        &["schema"],
-        &["schema", "--help"],
-        &["schema", "int.avsc", "long.avsc"],
-    ] {
-        let ran = outcome_of(&rt, words)?;
-        assert_eq!(rt; ran.status, 64);
+    fs::write(&rt, "int.avsc", "\"int\"")?;
+    for line in USAGE {
+        let ran = outcome_of(&rt, line)?;
+        assert_eq!(rt; ran.status, 64, "{line}");
         assert!(rt; !ran.err.is_empty());
         assert!(rt; ran.out.is_empty());
     }
@@ -143,8 +97,12 @@ impl Write for Full {
 fn a_full_output_is_told(rt: HostRuntime) -> Result<(), Fail> {
     fs::write(&rt, "int.avsc", "\"int\"")?;
     fs::write(&rt, "null.avsc", "\"null\"")?;
-    for (reader, room) in [("int.avsc", 0), ("int.avsc", 3), ("null.avsc", 5)] {
-        let words = words_of(&rt, &["judge", "int.avsc", reader])?;
+    for (line, room) in [
+        ("judge int.avsc int.avsc", 0),
+        ("judge int.avsc int.avsc", 3),
+        ("judge int.avsc null.avsc", 5),
+    ] {
+        let words = words_of(&rt, line)?;
         let mut out = Full { room };
         let mut err = Vec::new(rt.alloc());
         assert_eq!(rt; run(&rt, &words, &mut out, &mut err), 4);

@@ -25,17 +25,6 @@ pub(crate) fn record_of_ints(alloc: Global, fields: u32) -> Result<String, Alloc
     Ok(text)
 }
 
-/// A record of one field, of a type and with a default.
-pub(crate) fn record_with_default(
-    alloc: Global,
-    node: &str,
-    default: &str,
-) -> Result<String, AllocError> {
-    format!(in alloc;
-        "{{\"type\":\"record\",\"name\":\"R\",\"fields\":[{{\"name\":\"u\",\"type\":{node},\"default\":{default}}}]}}"
-    )
-}
-
 /// A record whose second field has a union as its type, each branch of which has a union of both; the field's default
 /// is that many objects inside each other, around a number that no branch takes.
 pub(crate) fn unions_with_default(alloc: Global, depth: u32) -> Result<String, AllocError> {
@@ -51,5 +40,34 @@ pub(crate) fn unions_with_default(alloc: Global, depth: u32) -> Result<String, A
         text.push_str("}")?;
     }
     text.push_str("}]}")?;
+    Ok(text)
+}
+
+/// Records of which each holds the one before twice; the first holds an enum of one symbol.
+pub(crate) fn doubled(alloc: Global, count: u32) -> Result<String, AllocError> {
+    let mut text = String::from_str(
+        alloc,
+        r#"{"type":"record","name":"R0","fields":[{"name":"f","type":{"type":"enum","name":"E","symbols":["S"]}}]}"#,
+    )?;
+    for number in 1..=count {
+        let before = number.saturating_sub(1);
+        text = format!(in alloc;
+            "{{\"type\":\"record\",\"name\":\"R{number}\",\"fields\":[{{\"name\":\"a\",\"type\":{text}}},{{\"name\":\"b\",\"type\":\"R{before}\"}}]}}"
+        )?;
+    }
+    Ok(text)
+}
+
+/// A union of records, the first without fields, each later one with a field of the one before.
+pub(crate) fn chain(alloc: Global, count: u32) -> Result<String, AllocError> {
+    let mut text = String::from_str(alloc, r#"[{"type":"record","name":"A0","fields":[]}"#)?;
+    for number in 1..count {
+        let before = number.saturating_sub(1);
+        let record = format!(in alloc;
+            ",{{\"type\":\"record\",\"name\":\"A{number}\",\"fields\":[{{\"name\":\"f\",\"type\":\"A{before}\"}}]}}"
+        )?;
+        text.push_str(record.as_str())?;
+    }
+    text.push_str("]")?;
     Ok(text)
 }

@@ -1,0 +1,126 @@
+//! Rows of verdicts.
+
+/// Pairs of schemas, and their verdicts at the default limits.
+pub(crate) const ROWS: [(&str, &str, &str); 29] = [
+    (r#""int""#, r#""long""#, "yes\n"),
+    (
+        r#""long""#,
+        r#""int""#,
+        "no\nfault NoMatch at /\nnodes 1\ndatum 0\n",
+    ),
+    (r#""string""#, r#""string""#, "yes\n"),
+    (r#""int""#, r#"["long","int"]"#, "yes\n"),
+    (
+        r#"{"type":"enum","name":"E","symbols":["A","B","C"]}"#,
+        r#"{"type":"enum","name":"E","symbols":["A","C"]}"#,
+        "no\nfault NoSymbol at /\nnodes 1\ndatum \"B\"\n",
+    ),
+    (
+        r#"{"type":"enum","name":"E","symbols":["A","B","C"]}"#,
+        r#"{"type":"enum","name":"E","symbols":["A","C"],"default":"A"}"#,
+        "yes\n",
+    ),
+    (
+        r#"{"type":"array","items":"int"}"#,
+        r#"{"type":"array","items":"string"}"#,
+        "no\nfault NoMatch at /\nnodes 1\ndatum []\n",
+    ),
+    (
+        r#"{"type":"array","items":["int"]}"#,
+        r#"{"type":"array","items":"string"}"#,
+        "no\nfault NoMatch at /0/0\nnodes 3\ndatum [{\"int\":0}]\n",
+    ),
+    (
+        r#"{"type":"record","name":"q.A","fields":[{"name":"x","type":"int"}]}"#,
+        r#"[{"type":"record","name":"p.A","fields":[{"name":"x","type":"string"}]},{"type":"record","name":"q.A","fields":[{"name":"x","type":"int"}]}]"#,
+        "no\nfault NoMatch at /0\nnodes 2\ndatum {\"x\":0}\n",
+    ),
+    (
+        r#"{"type":"record","name":"Node","fields":[{"name":"value","type":"int"},{"name":"next","type":["null","Node"]}]}"#,
+        r#"{"type":"record","name":"Node","fields":[{"name":"value","type":"long"},{"name":"next","type":["null","Node"]}]}"#,
+        "yes\n",
+    ),
+    (
+        r#"{"type":"record","name":"R","fields":[{"name":"f","type":"R"}]}"#,
+        r#""int""#,
+        "yes\n",
+    ),
+    (r#""string""#, r#""bytes""#, "yes\n"),
+    (
+        r#"{"type":"array","items":{"type":"record","name":"R","fields":[{"name":"a","type":"int"}]}}"#,
+        r#"{"type":"array","items":{"type":"record","name":"R","fields":[{"name":"a","type":"int"},{"name":"b","type":"int"}]}}"#,
+        "no\nfault MissingField 1 at /0\nnodes 3\ndatum [{\"a\":0}]\n",
+    ),
+    (
+        r#"{"type":"array","items":{"type":"record","name":"R","fields":[{"name":"a","type":"int"}]}}"#,
+        r#"{"type":"array","items":{"type":"record","name":"R","fields":[{"name":"a","type":"int"},{"name":"b","type":"int","default":7}]}}"#,
+        "yes\n",
+    ),
+    (
+        r#"{"type":"record","name":"old.P","fields":[{"name":"x","type":"int"}]}"#,
+        r#"{"type":"record","name":"new.Q","aliases":["old.P"],"fields":[{"name":"y","type":"long","aliases":["x"]}]}"#,
+        "yes\n",
+    ),
+    (
+        r#"{"type":"map","values":"int"}"#,
+        r#"{"type":"map","values":["string"]}"#,
+        "no\nfault NoBranch at /0\nnodes 2\ndatum {\"\":0}\n",
+    ),
+    (
+        r#"{"type":"record","name":"R","fields":[{"name":"x","type":"int"}]}"#,
+        r#""int""#,
+        "no\nfault NoMatch at /\nnodes 2\ndatum {\"x\":0}\n",
+    ),
+    (
+        r#"[{"type":"record","name":"p.A","fields":[{"name":"x","type":"string"}]},{"type":"record","name":"q.A","fields":[{"name":"x","type":"int"}]}]"#,
+        r#"[{"type":"record","name":"p.A","fields":[{"name":"x","type":"string"}]},{"type":"record","name":"q.A","fields":[{"name":"x","type":"int"}]}]"#,
+        "no\nfault NoMatch at /0/0\nnodes 3\ndatum {\"q.A\":{\"x\":0}}\n",
+    ),
+    (
+        r#"{"type":"record","name":"R","fields":[{"name":"a","type":"int"},{"name":"b","type":"int"}]}"#,
+        r#"{"type":"record","name":"R","fields":[{"name":"a","type":"long"}]}"#,
+        "yes\n",
+    ),
+    (
+        r#"{"type":"record","name":"R","fields":[{"name":"a","type":"int"},{"name":"b","type":"long"},{"name":"c","type":"long"}]}"#,
+        r#"{"type":"record","name":"R","fields":[{"name":"c","type":"int"},{"name":"b","type":"int"}]}"#,
+        "no\nfault NoMatch at /1\nnodes 4\ndatum {\"a\":0,\"b\":0,\"c\":0}\n",
+    ),
+    (
+        r#"["int",{"type":"record","name":"R","fields":[{"name":"f","type":"R"}]}]"#,
+        r#""long""#,
+        "yes\n",
+    ),
+    (
+        r#"{"type":"fixed","name":"F","size":2}"#,
+        r#"{"type":"fixed","name":"F","size":3}"#,
+        "no\nfault NoMatch at /\nnodes 1\ndatum \"\\u0000\\u0000\"\n",
+    ),
+    (
+        r#"{"type":"record","name":"L","fields":[{"name":"a","type":{"type":"record","name":"M","fields":[{"name":"n","type":{"type":"record","name":"N","fields":[]}}]}},{"name":"b","type":["int"]},{"name":"c","type":"long"},{"name":"d","type":"long"}]}"#,
+        r#"{"type":"record","name":"L","fields":[{"name":"b","type":["string"]},{"name":"c","type":"int"},{"name":"d","type":"int"}]}"#,
+        "no\nfault NoBranch at /1/0\nnodes 7\ndatum {\"a\":{\"n\":{}},\"b\":{\"int\":0},\"c\":0,\"d\":0}\n",
+    ),
+    (r#"["null","int"]"#, r#"["null","long"]"#, "yes\n"),
+    (
+        r#""boolean""#,
+        r#""null""#,
+        "no\nfault NoMatch at /\nnodes 1\ndatum false\n",
+    ),
+    (
+        r#""int""#,
+        r#""boolean""#,
+        "no\nfault NoMatch at /\nnodes 1\ndatum 0\n",
+    ),
+    (
+        r#""null""#,
+        r#""long""#,
+        "no\nfault NoMatch at /\nnodes 1\ndatum null\n",
+    ),
+    ("\"null\"", " \"null\"\n", "yes\n"),
+    (
+        r#""bytes""#,
+        r#""string""#,
+        "no\nfault NotUtf8 at /\nnodes 1\ndatum \"\u{ff}\"\n",
+    ),
+];
