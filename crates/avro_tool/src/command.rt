@@ -1,17 +1,19 @@
 use crate::failure::Failure;
+use crate::grammar::program;
+use clap::ArgMatches;
 use clap::error::ErrorKind;
-use clap::{Arg, ArgAction, ArgMatches, Command};
 use std::alloc::{AllocError, Global};
 
 /// What the words ask for.
 #[derive(Debug, Drop)]
 pub(crate) enum Request<'a> {
     /// Whether the reader's schema takes all data of the writer's; a certificate of a yes goes into a
-    /// file.
+    /// file, and so does a refutation of a no.
     Judge {
         writer: &'a str,
         reader: &'a str,
         certificate: Option<&'a str>,
+        refutation: Option<&'a str>,
     },
     /// Whether a certificate shows that a reader's schema takes all data of the writer's.
     Confirm {
@@ -30,6 +32,21 @@ pub(crate) enum Request<'a> {
     Schema {
         file: &'a str,
         shown: Shown,
+    },
+    /// Whether a container is valid, and how many data and blocks it has.
+    Check { file: &'a str },
+    /// The data of a container, as what they are for a reader's schema where there is one.
+    Show {
+        file: &'a str,
+        reader: Option<&'a str>,
+    },
+    /// A copy of a container, whose data are what they are for a reader's schema where there is one, and
+    /// the digits of its marker where they are given.
+    Copy {
+        input: &'a str,
+        output: &'a str,
+        reader: Option<&'a str>,
+        sync: Option<&'a str>,
     },
 }
 
@@ -99,13 +116,40 @@ fn request_in<'a>(matches: &ArgMatches<'a>) -> Option<Request<'a>> {
             certificate,
         });
     }
-    let judge = matches.subcommand_matches("judge")?;
-    let writer = judge.get_str("writer")?;
-    let reader = judge.get_str("reader")?;
-    Some(Request::Judge {
-        writer,
-        reader,
-        certificate: judge.get_str("certificate"),
+    if let Some(judge) = matches.subcommand_matches("judge") {
+        let writer = judge.get_str("writer")?;
+        let reader = judge.get_str("reader")?;
+        return Some(Request::Judge {
+            writer,
+            reader,
+            certificate: judge.get_str("certificate"),
+            refutation: judge.get_str("refutation"),
+        });
+    }
+    container_request_in(matches)
+}
+
+/// The request about a container, of words that have the form of the program's.
+fn container_request_in<'a>(matches: &ArgMatches<'a>) -> Option<Request<'a>> {
+    if let Some(check) = matches.subcommand_matches("check") {
+        let file = check.get_str("file")?;
+        return Some(Request::Check { file });
+    }
+    if let Some(show) = matches.subcommand_matches("show") {
+        let file = show.get_str("file")?;
+        return Some(Request::Show {
+            file,
+            reader: show.get_str("reader"),
+        });
+    }
+    let copy = matches.subcommand_matches("copy")?;
+    let input = copy.get_str("input")?;
+    let output = copy.get_str("output")?;
+    Some(Request::Copy {
+        input,
+        output,
+        reader: copy.get_str("reader"),
+        sync: copy.get_str("sync"),
     })
 }
 
@@ -153,94 +197,4 @@ fn shown_in(matches: &ArgMatches<'_>) -> Shown {
         return Shown::Fingerprint;
     }
     Shown::Count
-}
-
-/// The commands and their arguments.
-fn program<'a>(alloc: Global) -> Result<Command<'a>, AllocError> {
-    let evidence = Arg::new(alloc, "certificate")
-        .long("certificate")
-        .value_name("OUT")
-        .action(ArgAction::Set)
-        .help("File that a yes writes its certificate into");
-    let judge = Command::new(alloc, "judge")
-        .about("Tells whether a reader's schema takes all data of a writer's")
-        .arg(writer_file(alloc))?
-        .arg(reader_file(alloc))?
-        .arg(evidence)?;
-    let certificate = named_file(alloc, "certificate", "CERT").help("File of the certificate");
-    let confirm = Command::new(alloc, "confirm")
-        .about(
-            "Tells whether a certificate shows that a reader's schema takes all data of a writer's",
-        )
-        .arg(writer_file(alloc))?
-        .arg(reader_file(alloc))?
-        .arg(certificate)?;
-    let file = named_file(alloc, "file", "FILE").help("File of the schema");
-    let canonical = Arg::new(alloc, "canonical")
-        .long("canonical")
-        .action(ArgAction::SetTrue)
-        .help("Shows the canonical form in place of the number of nodes")
-        .conflicts_with("fingerprint")?;
-    let fingerprint = Arg::new(alloc, "fingerprint")
-        .long("fingerprint")
-        .action(ArgAction::SetTrue)
-        .help("Shows the fingerprint in place of the number of nodes");
-    let schema = Command::new(alloc, "schema")
-        .about("Tells whether a text is a schema, and its number of nodes")
-        .arg(file)?
-        .arg(canonical)?
-        .arg(fingerprint)?;
-    Command::new(alloc, "avro")
-        .about("Checks Avro schemas")
-        .no_binary_name(true)
-        .bin_name("avro")?
-        .subcommand_required(true)
-        .subcommand(judge)?
-        .subcommand(confirm)?
-        .subcommand(history_command(alloc)?)?
-        .subcommand(schema)
-}
-
-/// The command over a history of schemas.
-fn history_command<'a>(alloc: Global) -> Result<Command<'a>, AllocError> {
-    let files = Arg::new(alloc, "files")
-        .value_name("SCHEMA")
-        .required(true)
-        .num_args(1..)
-        .action(ArgAction::Append)
-        .help("Files of the schemas, two at least; the last one is the reader's");
-    let certificates = Arg::new(alloc, "certificates")
-        .long("certificates")
-        .value_name("OUT")
-        .action(ArgAction::Set)
-        .help("File that a yes for each schema writes the certificates into")
-        .conflicts_with("confirm")?;
-    let confirm = Arg::new(alloc, "confirm")
-        .long("confirm")
-        .value_name("CERT")
-        .action(ArgAction::Set)
-        .help("File of certificates that are to show it; nothing is judged");
-    Command::new(alloc, "history")
-        .about("Tells whether the last schema takes all data of each earlier one")
-        .arg(files)?
-        .arg(certificates)?
-        .arg(confirm)
-}
-
-/// The argument for the writer's schema.
-fn writer_file<'a>(alloc: Global) -> Arg<'a> {
-    named_file(alloc, "writer", "WRITER").help("File of the schema that data were written with")
-}
-
-/// The argument for the reader's schema.
-fn reader_file<'a>(alloc: Global) -> Arg<'a> {
-    named_file(alloc, "reader", "READER").help("File of the schema that they are to be read with")
-}
-
-/// A required argument that names a file.
-fn named_file<'a>(alloc: Global, id: &'a str, name: &'a str) -> Arg<'a> {
-    Arg::new(alloc, id)
-        .value_name(name)
-        .required(true)
-        .action(ArgAction::Set)
 }

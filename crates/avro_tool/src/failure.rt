@@ -1,3 +1,4 @@
+use avro_container::CopyError;
 use avro_judge::CertError;
 use avro_schema::Memory;
 use avro_schema_json::SchemaError;
@@ -13,6 +14,8 @@ pub(crate) enum Failure<'a> {
     Schema(&'a str, SchemaError),
     /// A certificate's text was refused.
     Certificate(&'a str, CertError),
+    /// A container was refused.
+    Container(&'a str, CopyError),
     /// A file could not be opened or read.
     CannotRead(&'a str),
     /// A file could not be made or written.
@@ -25,6 +28,10 @@ pub(crate) enum Failure<'a> {
     Usage(clap::Error),
     /// An argument is not UTF-8.
     NotText,
+    /// A file was to be copied into itself.
+    OneWord,
+    /// The digits of a marker are not those of 16 bytes.
+    NoMarker,
 }
 
 impl<'a> Failure<'a> {
@@ -73,13 +80,23 @@ impl<'a> Failure<'a> {
         }
     }
 
+    /// The failure of reading or writing a container.
+    pub(crate) fn of_container(word: &'a str, error: CopyError) -> Failure<'a> {
+        match error {
+            CopyError::InputFailed => Failure::CannotRead(word),
+            CopyError::OutputFailed => Failure::CannotWrite(word),
+            CopyError::OutOfMemory => Failure::OutOfMemory,
+            error => Failure::Container(word, error),
+        }
+    }
+
     /// The status that the program ends with.
     pub(crate) fn status(&self) -> u8 {
         match self {
-            Failure::Schema(..) | Failure::Certificate(..) => 3,
+            Failure::Schema(..) | Failure::Certificate(..) | Failure::Container(..) => 3,
             Failure::CannotRead(_) | Failure::CannotWrite(_) | Failure::CannotPrint => 4,
             Failure::OutOfMemory => 5,
-            Failure::Usage(_) | Failure::NotText => 64,
+            Failure::Usage(_) | Failure::NotText | Failure::OneWord | Failure::NoMarker => 64,
         }
     }
 
@@ -88,12 +105,15 @@ impl<'a> Failure<'a> {
         match self {
             Failure::Schema(word, error) => writeln!(err, "avro: {word}: {error}"),
             Failure::Certificate(word, error) => writeln!(err, "avro: {word}: {error}"),
+            Failure::Container(word, error) => writeln!(err, "avro: {word}: {error}"),
             Failure::CannotRead(word) => writeln!(err, "avro: {word}: cannot read"),
             Failure::CannotWrite(word) => writeln!(err, "avro: {word}: cannot write"),
             Failure::CannotPrint => writeln!(err, "avro: output: cannot write"),
             Failure::OutOfMemory => writeln!(err, "avro: out of memory"),
             Failure::Usage(text) => write!(err, "{text}"),
             Failure::NotText => writeln!(err, "avro: an argument is not UTF-8"),
+            Failure::OneWord => writeln!(err, "avro: IN and OUT are one word"),
+            Failure::NoMarker => writeln!(err, "avro: --sync takes 32 hexadecimal digits"),
         }
     }
 }

@@ -1,13 +1,20 @@
 //! The program `avro`, as a function over its words and two writers.
 #![tactic(auto)]
 
+mod checking;
 mod command;
 mod confirming;
+mod container_file;
+mod copying;
 mod failure;
+mod grammar;
 mod history;
 mod judging;
+mod late_file;
+mod refutation_file;
 mod schema_file;
 mod showing;
+mod showing_data;
 
 use command::{Request, request_of};
 use failure::Failure;
@@ -83,7 +90,8 @@ fn answer<'a, R: Files + AllocGlobal, O: Write>(
             writer,
             reader,
             certificate,
-        } => judging::judge_files(rt, writer, reader, certificate, out),
+            refutation,
+        } => judging::judge_files(rt, writer, reader, certificate, refutation, out),
         Request::Confirm {
             writer,
             reader,
@@ -95,5 +103,13 @@ fn answer<'a, R: Files + AllocGlobal, O: Write>(
             evidence,
         } => history::history_of_files(rt, &writers, reader, evidence, out),
         Request::Schema { file, shown } => showing::show_schema(rt, file, shown, out),
+        Request::Check { file } => checking::check_file(rt, file, out),
+        Request::Show { file, reader } => showing_data::show_file(rt, file, reader, out),
+        Request::Copy {
+            input,
+            output,
+            reader,
+            sync,
+        } => copying::copy_file(rt, input, output, reader, sync, out),
     }
 }

@@ -1,6 +1,6 @@
 use crate::failure::Failure;
 use avro_schema::Schema;
-use avro_schema_json::read_schema;
+use avro_schema_json::{ReaderText, read_schema};
 use std::io::Read;
 use std::rt::Files;
 use std::{fs, io};
@@ -19,6 +19,31 @@ pub(crate) fn read_schema_file<'a, R: Files + AllocGlobal>(
             Err(e) => Err(Failure::of_schema(word, e)),
         },
         Err(e) => Err(Failure::of_reading(word, &e)),
+    }
+}
+
+/// The schema in a file, with its text.
+pub(crate) fn read_text_file<'a, R: Files + AllocGlobal>(
+    rt: &R,
+    word: &'a str,
+) -> Result<ReaderText, Failure<'a>> {
+    match bytes_of(rt, word, MAX_TEXT) {
+        Ok(bytes) => match ReaderText::read(rt.alloc(), &bytes) {
+            Ok(text) => Ok(text),
+            Err(e) => Err(Failure::of_schema(word, e)),
+        },
+        Err(e) => Err(Failure::of_reading(word, &e)),
+    }
+}
+
+/// The schema of a reader, where a file is named for it.
+pub(crate) fn read_reader<'a, R: Files + AllocGlobal>(
+    rt: &R,
+    word: Option<&'a str>,
+) -> Result<Option<ReaderText>, Failure<'a>> {
+    match word {
+        Some(word) => Ok(Some(read_text_file(rt, word)?)),
+        None => Ok(None),
     }
 }
 

@@ -1,0 +1,22 @@
+//! Tests of container files: worked rows of reading and of copying, through the library and through the program; failing
+//! devices; and the texts and statuses of the program.
+#![tactic(auto)]
+
+#[cfg(test)]
+mod copying;
+#[cfg(test)]
+mod devices;
+#[cfg(test)]
+mod files;
+#[cfg(test)]
+mod headers;
+#[cfg(test)]
+mod parts;
+#[cfg(test)]
+mod program;
+#[cfg(test)]
+mod program_copies;
+#[cfg(test)]
+mod reading;
+#[cfg(test)]
+mod refutations;

@@ -1,0 +1,41 @@
+use crate::Finding;
+use crate::failure::Failure;
+use avro_container::{Counts, ReadInput};
+use std::fs;
+use std::io;
+use std::io::{BufReader, Write};
+use std::rt::Files;
+
+/// How many bytes are read or written at once.
+pub(crate) const ROOM: usize = 65_536;
+
+/// The container in a file, of which nothing is read yet.
+pub(crate) fn open_container<'a, R: Files + AllocGlobal>(
+    rt: &R,
+    word: &'a str,
+) -> Result<ReadInput<BufReader<R::File>>, Failure<'a>> {
+    match fs::open(rt, word) {
+        Ok(file) => match BufReader::with_capacity(rt.alloc(), ROOM, file) {
+            Ok(reader) => Ok(ReadInput::new(reader)),
+            Err(_) => Err(Failure::OutOfMemory),
+        },
+        Err(e) => Err(Failure::of_reading(word, &e)),
+    }
+}
+
+/// Prints how many data and blocks a container has.
+pub(crate) fn tell_counts<'a, O: Write>(
+    out: &mut O,
+    counts: Counts,
+) -> Result<Finding, Failure<'a>> {
+    match print_counts(out, counts) {
+        Ok(()) => Ok(Finding::Good),
+        Err(_) => Err(Failure::CannotPrint),
+    }
+}
+
+fn print_counts<O: Write>(out: &mut O, counts: Counts) -> io::Result<()> {
+    let Counts { items, blocks } = counts;
+    writeln!(out, "data {items} blocks {blocks}")?;
+    out.flush()
+}
