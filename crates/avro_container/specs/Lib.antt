@@ -9,6 +9,7 @@ pub mod Steps
 pub mod FileRanges
 pub mod Held
 pub mod FileSeen
+pub mod Named
 pub mod BlockStands
 pub mod BlockTaken
 pub mod DatumRead
