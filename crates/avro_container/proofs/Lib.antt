@@ -16,4 +16,5 @@ pub mod HeadStops
 pub mod MetadataRuns
 pub mod MetadataTaken
 pub mod HeaderStops
+pub mod HeaderEnds
 mod RowsFile

@@ -17,3 +17,4 @@ pub mod Parts
 pub mod HeaderParts
 pub mod MetadataParts
 pub mod HeaderTaken
+pub mod HeaderEnds
