@@ -6,7 +6,7 @@ use Rattle.avro_container.specs.File.{Property, HeaderValue, IsHeader, magic}
 use Rattle.avro_container.specs.FileFault.{FileFault, in_header, no_magic, no_schema, refused_schema, unknown_codec, long_header, cut_header}
 use Rattle.avro_container.specs.FileSeen.{file_fault, header_part_fault}
 use Rattle.avro_container.specs.Filled.{GrowsBy, TakesAtMost}
-use Rattle.avro_container.specs.HeaderEnds.{MarkerStops, FrameStands, SaySchema, SayNone}
+use Rattle.avro_container.specs.HeaderEnds.{BeginsHeader, MarkerStops, FrameStands, SaySchema, SayNone}
 use Rattle.avro_container.specs.HeaderFails.{HeaderFails, EndsIn, MetadataStands, IsWholeWithin}
 use Rattle.avro_container.specs.HeaderParts.{Stretch}
 use Rattle.avro_container.specs.HeaderTaken.{IsHeaderFault, TakesHeader, TakesHeaderFault}
@@ -38,8 +38,13 @@ pub magic_long : (limit : ℕ) (ended : Type 0) (bytes : List ℕ) (f : FileFaul
 magic_long limit ended bytes f begins small is = (long_header, sym (some_inj _ _ is), HeaderFails.no_room begins small)
 
 -- it still stands there
-pub magic_grown : {I : Type 0} (gives : I → List ℕ → I → Type 0) (s t : I) (old new : List ℕ) → GrowsBy gives s t old new → 4 ≤ length old → take 4 old ≡ magic → take 4 new ≡ magic
-magic_grown gives s t old new p there begins = ap (take 4) p.grown ∙ take-append-le 4 old p.bytes there ∙ begins
+pub begins_grown : {I : Type 0} (gives : I → List ℕ → I → Type 0) (s t : I) (old new : List ℕ) (limit : ℕ) → GrowsBy gives s t old new → length new ≤ max (length old) limit
+    → BeginsHeader limit old → BeginsHeader limit new
+begins_grown gives s t old new limit p limited b =
+    let long : length new ≡ length old + length p.bytes = ap length p.grown ∙ length-append old p.bytes in
+    let there = b.there in
+    let fits = b.fits in
+    record { there = omega (arith, long, there); begins = ap (take 4) p.grown ∙ take-append-le 4 old p.bytes there ∙ b.begins; fits = omega (arith, limited, fits) }
 
 -- ---- The marker
 
@@ -57,43 +62,44 @@ metadata_stands bytes end ps begins m = record {
   split = sym (take-append-drop 4 bytes) ∙ ap (λ (front : List ℕ). front ++ drop 4 bytes) begins ∙ ap (λ (rest : List ℕ). magic ++ rest) m.stretch.split;
 }
 
-pub marker_stops : (limit end : ℕ) (ended : Type 0) (bytes : List ℕ) (ps : List Property) (f : FileFault) → take 4 bytes ≡ magic → length bytes ≤ limit
-    → MetadataEnds end bytes ps → MarkerStops limit end ended bytes f → IsHeaderFault limit ended bytes f
-marker_stops limit end ended bytes ps _ begins fits m (MarkerStops.too_long short over) =
+pub marker_stops : (limit end : ℕ) (ended : Type 0) (bytes : List ℕ) (ps : List Property) (f : FileFault) → BeginsHeader limit bytes → MetadataEnds end bytes ps
+    → MarkerStops limit end ended bytes f → IsHeaderFault limit ended bytes f
+marker_stops limit end ended bytes ps _ b m (MarkerStops.too_long short over) =
     let place = m.stretch.place in
     let ends : EndsIn bytes (end + 16) =
-    EndsIn.in_marker ps m.metadata (drop end bytes) (metadata_stands bytes end ps begins m) (omega (arith, length-drop end bytes, short)) (omega (arith, place)) in
-    (long_header, refl, HeaderFails.too_long (end + 16) (subst (λ (r : List ℕ). EndsIn r (end + 16)) (sym (take_all limit bytes fits)) ends) over)
-marker_stops limit end ended bytes ps _ begins fits m (MarkerStops.is_cut short near told) =
+    EndsIn.in_marker ps m.metadata (drop end bytes) (metadata_stands bytes end ps b.begins m) (omega (arith, length-drop end bytes, short)) (omega (arith, place)) in
+    (long_header, refl, HeaderFails.too_long (end + 16) (subst (λ (r : List ℕ). EndsIn r (end + 16)) (sym (take_all limit bytes b.fits)) ends) over)
+marker_stops limit end ended bytes ps _ b m (MarkerStops.is_cut short near told) =
     let place = m.stretch.place in
     let ends : EndsIn bytes (end + 16) =
-    EndsIn.in_marker ps m.metadata (drop end bytes) (metadata_stands bytes end ps begins m) (omega (arith, length-drop end bytes, short)) (omega (arith, place)) in
+    EndsIn.in_marker ps m.metadata (drop end bytes) (metadata_stands bytes end ps b.begins m) (omega (arith, length-drop end bytes, short)) (omega (arith, place)) in
     (cut_header, refl, HeaderFails.cut (end + 16) told ends near)
 
 -- why the bytes to where it would end are not there
-pub marker_part : (limit at : ℕ) (ended : Type 0) (bytes : List ℕ) (e : PartError) (r : CopyError) (f : FileFault) → length bytes ≤ limit → (e ≡ PartError.OutOfRange → ⊥)
+pub marker_part : (limit at : ℕ) (ended : Type 0) (bytes : List ℕ) (e : PartError) (f : FileFault) → length bytes ≤ limit → (e ≡ PartError.OutOfRange → ⊥)
     → (e ≡ PartError.Limit → limit < at + 16) → (e ≡ PartError.Ended → ended) → (e ≡ PartError.Ended → length bytes < at + 16) → (e ≡ PartError.Ended → at + 16 ≤ limit)
     → header_part_fault at e ≡ Some f → MarkerStops limit at ended bytes f
-marker_part limit at ended bytes PartError.OutOfRange r f fits out over told short near is = absurd (out refl)
-marker_part limit at ended bytes PartError.Limit r f fits out over told short near is =
+marker_part limit at ended bytes PartError.OutOfRange f fits out over told short near is = absurd (out refl)
+marker_part limit at ended bytes PartError.Limit f fits out over told short near is =
     let past = over refl in
     subst (MarkerStops limit at ended bytes) (some_inj _ _ is) (MarkerStops.too_long (omega (arith, past, fits)) past)
-marker_part limit at ended bytes PartError.Ended r f fits out over told short near is =
+marker_part limit at ended bytes PartError.Ended f fits out over told short near is =
     subst (MarkerStops limit at ended bytes) (some_inj _ _ is) (MarkerStops.is_cut (short refl) (near refl) (told refl))
-marker_part limit at ended bytes PartError.Device r f fits out over told short near is = absurd (none_some f is)
-marker_part limit at ended bytes PartError.OutOfMemory r f fits out over told short near is = absurd (none_some f is)
+marker_part limit at ended bytes PartError.Device f fits out over told short near is = absurd (none_some f is)
+marker_part limit at ended bytes PartError.OutOfMemory f fits out over told short near is = absurd (none_some f is)
 
 -- ---- All three
 
-pub frame_stands : (limit end : ℕ) (bytes sync : List ℕ) (ps : List Property) → take 4 bytes ≡ magic → length bytes ≤ limit → MetadataEnds end bytes ps → end + 16 ≤ length bytes
+pub frame_stands : (limit end : ℕ) (bytes sync : List ℕ) (ps : List Property) → BeginsHeader limit bytes → MetadataEnds end bytes ps → end + 16 ≤ length bytes
     → sync ≡ take 16 (drop end bytes) → FrameStands limit bytes ps sync (end + 16)
-frame_stands limit end bytes sync ps begins fits m inside is =
+frame_stands limit end bytes sync ps b m inside is =
+    let fits = b.fits in
     let place = m.stretch.place in
     let behind : drop end bytes ≡ sync ++ drop (end + 16) bytes =
     sym (take-append-drop 16 (drop end bytes)) ∙ ap (λ (front : List ℕ). front ++ drop 16 (drop end bytes)) (sym is) ∙ ap (λ (rest : List ℕ). sync ++ rest) (drop-drop 16 end bytes) in
     record {
       metadata = m.metadata;
-      stands = subst (λ (rest : List ℕ). MetadataStands ps bytes m.metadata rest) behind (metadata_stands bytes end ps begins m);
+      stands = subst (λ (rest : List ℕ). MetadataStands ps bytes m.metadata rest) behind (metadata_stands bytes end ps b.begins m);
       marker = ap length is ∙ length-take-le 16 (drop end bytes) (omega (arith, length-drop end bytes, inside));
       place = omega (arith, place);
       inside = inside;

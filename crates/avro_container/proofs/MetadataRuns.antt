@@ -126,7 +126,7 @@ metadata_push ps front run b =
 -- the metadata ends
 pub metadata_whole : (ps : List Property) (front last : List ℕ) → MetadataRun ps front → SpellsLong (pos 0) last → length ps < 2 ^ 63
     → Encodes metadata_nodes (root_of metadata_nodes) (metadata_value ps) (front ++ last)
-metadata_whole ps front last run zero few = record {
+metadata_whole ps front last run none few = record {
   fitting =
       let entries = property_entries ps in
       and-intro (is_count (entries_count entries)) _ (is_count-from (entries_count entries) (omega (arith, few, entries-counted ps)))
@@ -135,7 +135,7 @@ metadata_whole ps front last run zero few = record {
   spelled = (
     run.items,
     each-spelled ps run.items run.each,
-    subst (λ (is : List (List ℕ)). IsInBlocks is (front ++ last)) (append-nil run.items) (run.ends [] last (no_more zero)),
+    subst (λ (is : List (List ℕ)). IsInBlocks is (front ++ last)) (append-nil run.items) (run.ends [] last (no_more none)),
   );
 }
   where

@@ -1,11 +1,17 @@
 -- The ends of a header, the magic and the marker, and what its metadata say.
-use Rattle.std.specs.Prelude.{◌≡◌, ℕ, ◌+◌, ◌<◌, ◌≤◌, true, false, List, ◌++◌, length, drop, Some, None, codes}
+use Rattle.std.specs.Prelude.{◌≡◌, ℕ, ◌+◌, ◌<◌, ◌≤◌, true, false, List, ◌++◌, length, take, drop, Some, None, codes}
 use Rattle.avro_schema.specs.Node.{Node}
 use Rattle.avro_schema_json.specs.DeclaredText.{DeclaresText}
 use Rattle.avro_schema_json.specs.declared.error.SchemaError.{SchemaError}
-use Rattle.avro_container.specs.File.{Property, property, is_plain_codec}
+use Rattle.avro_container.specs.File.{Property, property, is_plain_codec, magic}
 use Rattle.avro_container.specs.FileFault.{FileFault, in_header, no_schema, refused_schema, unknown_codec, long_header, cut_header}
 use Rattle.avro_container.specs.HeaderFails.{MetadataStands, HasSchemaFault}
+
+-- The magic stands at the front of bytes within the limit.
+pub record BeginsHeader (limit : ℕ) (bytes : List ℕ) : Type 0 where
+  pub there : 4 ≤ length bytes
+  pub begins : take 4 bytes ≡ magic
+  pub fits : length bytes ≤ limit
 
 -- The marker that should stand behind so many bytes is not there.
 pub data MarkerStops (limit at : ℕ) (ended : Type 0) (bytes : List ℕ) : FileFault → Type 0 where

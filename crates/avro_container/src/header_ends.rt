@@ -5,7 +5,7 @@ ghost use Rattle.std.specs.Result.{IfErr};
 ghost use Rattle.avro_container.specs.File.{magic};
 ghost use Rattle.avro_container.specs.FileFault.{FileFault};
 ghost use Rattle.avro_container.specs.FileSeen.{file_fault};
-ghost use Rattle.avro_container.specs.HeaderEnds.{MarkerStops};
+ghost use Rattle.avro_container.specs.HeaderEnds.{BeginsHeader, MarkerStops};
 ghost use Rattle.avro_container.specs.HeaderParts.{Refused, Takes};
 ghost use Rattle.avro_container.specs.HeaderTaken.{IsHeaderFault};
 ghost use Rattle.avro_container.specs.Held.{held};
@@ -59,9 +59,7 @@ pub(crate) fn take_magic<I: Input>(
 ) -> Result<(), CopyError>
     requires none { held buffer.old ≡ [] }
     requires small { reach.limit + reach.ahead < 2 ^ 62 }
-    ensures there { OnOk result (4 ≤ length (held buffer.new)) }
-    ensures begins { OnOk result (take 4 (held buffer.new) ≡ magic) }
-    ensures room { OnOk result (4 ≤ reach.limit) }
+    ensures begins { OnOk result (BeginsHeader reach.limit (held buffer.new)) }
     ensures within { OnOk result (length (held buffer.new) ≤ 4 + reach.ahead) }
     ensures took { OnOk result (Takes I.gives I.failures (max 4 reach.limit) input.old input.new (held buffer.old) (held buffer.new)) }
     ensures lost { IfErr result (λ e. Refused I.gives I.failures (max 4 reach.limit) input.old input.new (held buffer.old) (held buffer.new) e) }
