@@ -1,12 +1,13 @@
 -- The parts of a header that were taken, and what stops them, as a fault of the header.
-use Rattle.std.proofs.Common.{◌≡◌, ◌≢◌, ℕ, ◌+◌, ◌-◌, ◌<◌, ◌≤◌, max, List, [], ◌++◌, length, take, drop, Some, refl, sym, ap, subst, ◌∙◌, arith, append_assoc, length-append, length-take-le, take_all}
+use Rattle.std.proofs.Common.{◌≡◌, ◌≢◌, ℕ, ◌+◌, ◌-◌, ◌<◌, ◌≤◌, max, List, [], ◌++◌, length, take, drop, Some, Result, Ok, Err, true, codes, refl, sym, ap, subst, ◌∙◌, arith, append_assoc, length-append, length-take-le, take_all}
+use Rattle.std.specs.Result.{IfErr}
 use Rattle.std.proofs.lemmas.List.{take-append-drop, length-drop, drop-drop, take-append-le}
 use Rattle.avro_schema.specs.Node.{Node}
-use Rattle.avro_container.specs.File.{Property, HeaderValue, IsHeader, magic}
+use Rattle.avro_container.specs.File.{Property, property, is_plain_codec, HeaderValue, IsHeader, magic}
 use Rattle.avro_container.specs.FileFault.{FileFault, in_header, no_magic, no_schema, refused_schema, unknown_codec, long_header, cut_header}
 use Rattle.avro_container.specs.FileSeen.{file_fault, header_part_fault}
 use Rattle.avro_container.specs.Filled.{GrowsBy, TakesAtMost}
-use Rattle.avro_container.specs.HeaderEnds.{BeginsHeader, MarkerStops, FrameStands, SaySchema, SayNone}
+use Rattle.avro_container.specs.HeaderEnds.{BeginsHeader, MarkerStops, FrameStands, SaySchema, IsNoSchema, SayNone}
 use Rattle.avro_container.specs.HeaderFails.{HeaderFails, EndsIn, MetadataStands, IsWholeWithin}
 use Rattle.avro_container.specs.HeaderParts.{Stretch}
 use Rattle.avro_container.specs.HeaderTaken.{IsHeaderFault, TakesHeader, TakesHeaderFault}
@@ -111,6 +112,15 @@ whole_within limit end bytes sync ps s =
     let place = s.place in
     let within = s.within in
     record { metadata = s.metadata; sync = sync; rest = drop end bytes; stands = s.stands; marker = s.marker; within = omega (arith, place, within) }
+
+-- the text is no schema
+pub schema_stops : {T : Type 0} (r : Result T CopyError) (text : List ℕ) (ps : List Property) → property (codes "avro.schema") ps ≡ Some text
+    → is_plain_codec (property (codes "avro.codec") ps) ≡ true → IfErr r (λ e. (f : FileFault) → file_fault e ≡ Some f → IsNoSchema text f)
+    → IfErr r (λ e. (f : FileFault) → file_fault e ≡ Some f → SayNone ps f)
+schema_stops (Ok x) text ps some plain h = tt
+schema_stops (Err e) text ps some plain h = λ f is.
+    let none = h f is in
+    subst (SayNone ps) (sym none.1) (SayNone.schema_fails text none.0 some plain none.2)
 
 -- what they say is wrong
 pub says_none : (limit end : ℕ) (ended : Type 0) (bytes sync : List ℕ) (ps : List Property) (f : FileFault) → FrameStands limit bytes ps sync end → SayNone ps f

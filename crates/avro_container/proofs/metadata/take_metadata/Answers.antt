@@ -12,7 +12,7 @@ loop-end-init g c = (
   takes_none g.I.Input.gives g.I.Input.failures g.met.I.Input.none c.args.reach.limit _ (held c.args.buffer.now),
   c.requires.begins,
   omega arith,
-  metadata_start (held c.args.buffer.now) _ _ c.requires.begins (λ word. ap (list_any _) c.new-2.ensures.empty) (ap properties_of c.new.ensures),
+  metadata_start (held c.args.buffer.now) _ _ c.requires.begins (λ word. ap (list_any _) c.new-2.ensures.empty) (ap properties_of c.new.ensures.items),
 )
 
 pub returns-in-Err-clause-lost : goal.returns-in-Err-clause-lost
