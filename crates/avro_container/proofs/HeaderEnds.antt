@@ -154,22 +154,8 @@ frame_header limit end bytes sync ps nodes s says =
 
 -- ---- Into a buffer that held nothing
 
-pub all_taken : {I : Type 0} (gives : I → List ℕ → I → Type 0) (a b : I) (old new : List ℕ) → old ≡ [] → GrowsBy gives a b old new → gives a new b
+all_taken : {I : Type 0} (gives : I → List ℕ → I → Type 0) (a b : I) (old new : List ℕ) → old ≡ [] → GrowsBy gives a b old new → gives a new b
 all_taken gives a b old new none p = subst (λ (bytes : List ℕ). gives a bytes b) (sym (p.grown ∙ ap (λ (front : List ℕ). front ++ p.bytes) none)) p.taken
-
-pub most_taken : {I : Type 0} (gives : I → List ℕ → I → Type 0) (a b : I) (old : List ℕ) (limit most : ℕ) → old ≡ [] → limit ≤ most → TakesAtMost gives a b (limit - length old)
-    → TakesAtMost gives a b most
-most_taken gives a b old limit most none more p = record { bytes = p.bytes; taken = p.taken; few = omega (arith, p.few, more) }
-
--- it is what was taken
-pub header_taken : {I : Type 0} (gives : I → List ℕ → I → Type 0) (a b : I) (old new : List ℕ) (limit end : ℕ) (h : HeaderValue) → old ≡ [] → GrowsBy gives a b old new
-    → IsHeader h (take end new) → end ≤ limit → length new ≤ end → TakesHeader gives a b limit h
-header_taken gives a b old new limit end h none p is short all = record {
-  bytes = new;
-  taken = all_taken gives a b old new none p;
-  stands = subst (IsHeader h) (take_all end new all) is;
-  within = omega (arith, short, all);
-}
 
 pub fault_taken : {I : Type 0} (gives : I → List ℕ → I → Type 0) (ended : I → Type 0) (a b : I) (old new : List ℕ) (limit : ℕ) (f : FileFault) → old ≡ [] → GrowsBy gives a b old new
     → IsHeaderFault limit (ended b) new f → TakesHeaderFault gives ended a b limit f
