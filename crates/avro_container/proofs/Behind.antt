@@ -1,5 +1,5 @@
 -- Faults behind bytes, and parts that are stopped behind others.
-use Rattle.std.proofs.Common.{◌≡◌, ◌≢◌, ℕ, Bool, ◌+◌, ◌-◌, ◌^◌, ◌<◌, ◌≤◌, max, ℤ, ◌<ℤ◌, pos, negsuc, List, [], ◌++◌, length, take, drop, Some, append-nil, refl, sym, ap, subst, ◌∙◌, arith, length-append, append_assoc, length-take-le}
+use Rattle.std.proofs.Common.{◌≡◌, ◌≢◌, ℕ, Bool, ◌+◌, ◌-◌, ◌^◌, ◌<◌, ◌≤◌, max, ℤ, ◌<ℤ◌, pos, negsuc, List, [], ◌++◌, length, take, drop, Some, append-nil, refl, sym, ap, subst, ◌∙◌, arith, inl, inr, length-append, append_assoc, length-take-le}
 use Rattle.std.proofs.lemmas.List.{drop-drop, length-drop, take-append-le}
 use Rattle.avro_zigzag.specs.NumberFault.{LongFails}
 use Rattle.avro_zigzag.specs.declared.VarError.TheVariants.{EndOfInput, OutOfRange}
@@ -10,6 +10,7 @@ use Rattle.avro_container.specs.declared.error.CopyError.{CopyError}
 use Rattle.avro_container.specs.FileFault.{FileFault, in_header, invalid_metadata, long_header, cut_header}
 use Rattle.avro_container.specs.FileSeen.{file_fault, header_part_fault}
 use Rattle.avro_container.specs.Filled.{GrowsBy, TakesAtMost, UnlessDevice}
+use Rattle.avro_container.specs.Named.{IsNamed}
 use Rattle.avro_container.specs.HeaderFails.{ContentWants}
 use Rattle.avro_container.specs.HeaderParts.{Takes, Refused, PartStops, LengthBreaks, LengthWants, ContentFrom}
 use Rattle.avro_container.proofs.Taking.{GrowsBy-chain, TakesAtMost-later, TakesAtMost-from_grown, unless_failed}
@@ -73,31 +74,55 @@ module _ {I : Type 0} (gives : I → List ℕ → I → Type 0) (failures : I �
     fails = λ is same. q.fails is (same ∙ sym p.works);
     no_output = q.no_output;
     first = q.first;
+    named = q.named;
   }
 
   -- what was taken is refused
   pub own_refused : (a b : I) (old new : List ℕ) (e : CopyError) → e ≢ CopyError.InputFailed → e ≢ CopyError.OutputFailed → e ≢ CopyError.FailedBefore
-      → Takes gives failures limit a b old new → Refused gives failures limit a b old new e
-  own_refused a b old new e no_input no_output first p = record {
+      → IsNamed e → Takes gives failures limit a b old new → Refused gives failures limit a b old new e
+  own_refused a b old new e no_input no_output first named p = record {
     grown = λ _. p.grown;
     lost = TakesAtMost-from_grown gives a b old new limit p.grown p.limited;
     limited = p.limited;
     fails = λ is. absurd (no_input is);
     no_output = no_output;
     first = first;
+    named = named;
   }
+
+  -- memory ran out behind it
+  pub memory_refused : (a b : I) (old new : List ℕ) → Takes gives failures limit a b old new → Refused gives failures limit a b old new CopyError.OutOfMemory
+  memory_refused a b old new p = own_refused a b old new CopyError.OutOfMemory (λ q. cc) (λ q. cc) (λ q. cc) (inr (inr (inl refl))) p
 
 pub part_refused : {I : Type 0} (gives : I → List ℕ → I → Type 0) (failures : I → ℕ) (limit : ℕ) (a b : I) (old new : List ℕ) (e : PartError) (r : CopyError)
     → (e ≡ PartError.Device → r ≡ CopyError.InputFailed) → (r ≡ CopyError.InputFailed → e ≡ PartError.Device) → r ≢ CopyError.OutputFailed → r ≢ CopyError.FailedBefore
-    → UnlessDevice e (GrowsBy gives a b old new) → TakesAtMost gives a b (limit - length old) → length new ≤ max (length old) limit
+    → IsNamed r → UnlessDevice e (GrowsBy gives a b old new) → TakesAtMost gives a b (limit - length old) → length new ≤ max (length old) limit
     → (e ≡ PartError.Device → failures b ≢ failures a) → Refused gives failures limit a b old new r
-part_refused gives failures limit a b old new e r failed device no_output first taken lost limited fails = record {
+part_refused gives failures limit a b old new e r failed device no_output first named taken lost limited fails = record {
   grown = unless_failed e r failed taken;
   lost = lost;
   limited = limited;
   fails = λ is. fails (device is);
   no_output = no_output;
   first = first;
+  named = named;
+}
+
+-- a greater limit
+pub takes_wider : {I : Type 0} (gives : I → List ℕ → I → Type 0) (failures : I → ℕ) (limit wider : ℕ) (a b : I) (old new : List ℕ) → limit ≤ wider
+    → Takes gives failures limit a b old new → Takes gives failures wider a b old new
+takes_wider gives failures limit wider a b old new more p = record { grown = p.grown; limited = omega (arith, p.limited, more); works = p.works }
+
+pub refused_wider : {I : Type 0} (gives : I → List ℕ → I → Type 0) (failures : I → ℕ) (limit wider : ℕ) (a b : I) (old new : List ℕ) (e : CopyError) → limit ≤ wider
+    → Refused gives failures limit a b old new e → Refused gives failures wider a b old new e
+refused_wider gives failures limit wider a b old new e more p = record {
+  grown = p.grown;
+  lost = record { bytes = p.lost.bytes; taken = p.lost.taken; few = omega (arith, p.lost.few, more) };
+  limited = omega (arith, p.limited, more);
+  fails = p.fails;
+  no_output = p.no_output;
+  first = p.first;
+  named = p.named;
 }
 
 -- ---- Parts that are stopped

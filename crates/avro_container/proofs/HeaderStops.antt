@@ -6,6 +6,7 @@ use Rattle.avro_binary.specs.Breaks.{all_left}
 use Rattle.avro_container.specs.File.{magic}
 use Rattle.avro_container.specs.FileFault.{FileFault, in_header, invalid_metadata, long_header, cut_header}
 use Rattle.avro_container.specs.HeaderFails.{HeaderFails, EndsIn, MetadataBreaks, PropertyWants, entry_limits}
+use Rattle.avro_container.specs.HeaderEnds.{BeginsHeader}
 use Rattle.avro_container.specs.HeaderParts.{PartStops, PropertyBreaks}
 use Rattle.avro_container.specs.HeaderTaken.{IsHeaderFault}
 use Rattle.avro_container.specs.MetadataParts.{Blocks}
@@ -13,24 +14,24 @@ use Rattle.avro_container.specs.MetadataParts.{Blocks}
 as_metadata : (bytes : List ℕ) (f : ReadFault) → Blocks PropertyBreaks (all_left entry_limits) bytes f → MetadataBreaks bytes f
 as_metadata bytes f b = b
 
-pub header_stops : (limit : ℕ) (ended : Type 0) (bytes : List ℕ) (f : FileFault) → 4 ≤ length bytes → take 4 bytes ≡ magic → length bytes ≤ limit
+pub header_stops : (limit : ℕ) (ended : Type 0) (bytes : List ℕ) (f : FileFault) → BeginsHeader limit bytes
     → PartStops limit 4 ended bytes (Blocks PropertyBreaks (all_left entry_limits)) (Blocks PropertyWants (all_left entry_limits)) f → IsHeaderFault limit ended bytes f
-header_stops limit ended bytes f some begins fits (PartStops.broken g b none is) =
+header_stops limit ended bytes f h (PartStops.broken g b none is) =
     let rest = drop 4 bytes in
-    let split : bytes ≡ magic ++ rest = sym (take-append-drop 4 bytes) ∙ ap (λ (front : List ℕ). front ++ rest) begins in
-    let whole : take (limit - 4) rest ≡ rest = take_all (limit - 4) rest (omega (arith, length-drop 4 bytes, fits)) in (
+    let split : bytes ≡ magic ++ rest = sym (take-append-drop 4 bytes) ∙ ap (λ (front : List ℕ). front ++ rest) h.begins in
+    let whole : take (limit - 4) rest ≡ rest = take_all (limit - 4) rest (omega (arith, length-drop 4 bytes, h.fits)) in (
       invalid_metadata (behind 4 g),
       is,
       HeaderFails.metadata_breaks g rest split (subst (λ (r : List ℕ). MetadataBreaks r g) (sym whole) (as_metadata rest g b)) none refl,
     )
-header_stops limit ended bytes _ some begins fits (PartStops.too_long there w over) =
+header_stops limit ended bytes _ h (PartStops.too_long there w over) =
     let rest = drop 4 bytes in
-    let split : bytes ≡ magic ++ rest = sym (take-append-drop 4 bytes) ∙ ap (λ (front : List ℕ). front ++ rest) begins in
-    let all : take limit bytes ≡ bytes = take_all limit bytes fits in
-    let ends : EndsIn bytes (max (4 + there) (length bytes + 1)) = EndsIn.in_metadata there rest split w (omega (arith, some, length-drop 4 bytes)) in
+    let split : bytes ≡ magic ++ rest = sym (take-append-drop 4 bytes) ∙ ap (λ (front : List ℕ). front ++ rest) h.begins in
+    let all : take limit bytes ≡ bytes = take_all limit bytes h.fits in
+    let ends : EndsIn bytes (max (4 + there) (length bytes + 1)) = EndsIn.in_metadata there rest split w (omega (arith, h.there, length-drop 4 bytes)) in
     (long_header, refl, HeaderFails.too_long (max (4 + there) (length bytes + 1)) (subst (λ (r : List ℕ). EndsIn r (max (4 + there) (length bytes + 1))) (sym all) ends) over)
-header_stops limit ended bytes _ some begins fits (PartStops.is_cut there w near told) =
+header_stops limit ended bytes _ h (PartStops.is_cut there w near told) =
     let rest = drop 4 bytes in
-    let split : bytes ≡ magic ++ rest = sym (take-append-drop 4 bytes) ∙ ap (λ (front : List ℕ). front ++ rest) begins in
-    let ends : EndsIn bytes (max (4 + there) (length bytes + 1)) = EndsIn.in_metadata there rest split w (omega (arith, some, length-drop 4 bytes)) in
+    let split : bytes ≡ magic ++ rest = sym (take-append-drop 4 bytes) ∙ ap (λ (front : List ℕ). front ++ rest) h.begins in
+    let ends : EndsIn bytes (max (4 + there) (length bytes + 1)) = EndsIn.in_metadata there rest split w (omega (arith, h.there, length-drop 4 bytes)) in
     (cut_header, refl, HeaderFails.cut (max (4 + there) (length bytes + 1)) told ends near)

@@ -13,13 +13,8 @@ pub mod PropertyRuns
 pub mod Taken
 pub mod Texts
 pub mod HeadStops
-pub mod PackedData
-pub mod BlocksPacked
-pub mod BlocksCopied
-pub mod HeadersCopied
-pub mod StepLaws
-pub mod CopySteps
 pub mod MetadataRuns
 pub mod MetadataTaken
 pub mod HeaderStops
+pub mod HeaderEnds
 mod RowsFile

@@ -126,16 +126,21 @@ metadata_push ps front run b =
 -- the metadata ends
 pub metadata_whole : (ps : List Property) (front last : List ℕ) → MetadataRun ps front → SpellsLong (pos 0) last → length ps < 2 ^ 63
     → Encodes metadata_nodes (root_of metadata_nodes) (metadata_value ps) (front ++ last)
-metadata_whole ps front last run zero few = record {
+metadata_whole ps front last run none few = record {
   fitting =
       let entries = property_entries ps in
-      and-intro (is_count (entries_count entries)) _ (is_count-from (entries_count entries) (omega (arith, few, entries-counted ps)))
-      (and-intro (list_all is_text (keys_of entries)) _ (each-texts ps run.items run.each)
-      (and-intro (are_distinct bytes_eq (keys_of entries)) _ (ap (are_distinct bytes_eq) (keys-names ps) ∙ run.distinct) (each-fit ps run.items run.each)));
+      let counted = is_count (entries_count entries) in
+      let texts = list_all is_text (keys_of entries) in
+      let distinct = are_distinct bytes_eq (keys_of entries) in
+      and-intro (counted && texts && distinct) (entries_fit metadata_nodes Node.bytes entries)
+      (and-intro (counted && texts) distinct
+      (and-intro counted texts (is_count-from (entries_count entries) (omega (arith, few, entries-counted ps))) (each-texts ps run.items run.each))
+      (ap (are_distinct bytes_eq) (keys-names ps) ∙ run.distinct))
+      (each-fit ps run.items run.each);
   spelled = (
     run.items,
     each-spelled ps run.items run.each,
-    subst (λ (is : List (List ℕ)). IsInBlocks is (front ++ last)) (append-nil run.items) (run.ends [] last (no_more zero)),
+    subst (λ (is : List (List ℕ)). IsInBlocks is (front ++ last)) (append-nil run.items) (run.ends [] last (no_more none)),
   );
 }
   where

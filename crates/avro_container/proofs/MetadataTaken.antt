@@ -1,7 +1,7 @@
 -- Blocks of the metadata that are taken, and what stops them.
 use Rattle.std.proofs.Common.{◌≡◌, ◌≢◌, ℕ, ◌+◌, ◌-◌, ◌^◌, ◌<◌, ◌≤◌, pos, true, false, List, [], ◌++◌, length, drop, refl, sym, ap, subst, ◌∙◌, arith, append_assoc, length-append}
 use Rattle.std.specs.Prelude.{String, neg_ℤ}
-use Rattle.std.specs.BTreeSet.{BTreeSet}
+use Rattle.std.specs.BTreeSet.{BTreeSet, contains_text}
 use Rattle.std.specs.declared.alloc.Global.{Global}
 use Rattle.avro_binary.specs.Fault.{ReadFault, wrong_block_size, behind}
 use Rattle.avro_binary.specs.Breaks.{Left, all_left, Head, counted, sized, head_count, head_bytes, IsHead, HasSize, HeadBreaks, BlocksBreak}
@@ -13,8 +13,8 @@ use Rattle.avro_container.specs.HeaderParts.{Stretch, AreNames, names_of, Proper
 use Rattle.avro_container.specs.MetadataParts.{Blocks, BlockRun, MetadataRun, MetadataSoFar, MetadataEnds, TakesHead, metadata_left}
 use Rattle.avro_container.specs.declared.properties_head.PropertiesHead.{PropertiesHead}
 use Rattle.avro_container.proofs.Behind.{stops-whole, behind-append}
-use Rattle.avro_container.proofs.PropertyRuns.{stretch_join, stretch_grown, names-append, run_whole}
-use Rattle.avro_container.proofs.MetadataRuns.{metadata_push, metadata_whole, block_whole, head_few, groups-some}
+use Rattle.avro_container.proofs.PropertyRuns.{stretch_none, stretch_join, stretch_grown, names-append, run_whole}
+use Rattle.avro_container.proofs.MetadataRuns.{metadata_none, metadata_push, metadata_whole, block_whole, head_few, groups-some}
 
 -- the head that was taken, as a head of avro_binary
 record HeadAs (left at : ℕ) (bytes : List ℕ) (h : PropertiesHead) : Type 0 where
@@ -182,3 +182,27 @@ head_further at bytes h (TakesHead.sized front size positive small is_sized stre
     let some = groups-some 10 _ front spelled in
     let to = stretch.place in
     (omega (arith, some, to, length-append front size), stretch.inside)
+
+-- few properties fit the limit
+pub few_so_far : (limit at : ℕ) (bytes : List ℕ) (names : BTreeSet (String Global)) (ps : List Property) → MetadataSoFar at bytes names ps → length bytes ≤ limit → limit < 2 ^ 62
+    → length ps < 2 ^ 63
+few_so_far limit at bytes names ps m fits small =
+    let few = m.run.few in
+    let place = m.stretch.place in
+    let inside = m.stretch.inside in
+    omega (arith, few, place, inside, fits, small)
+
+pub head_small : (at : ℕ) (bytes : List ℕ) (h : PropertiesHead) → TakesHead at bytes h → h.count < 2 ^ 63
+head_small at bytes h (TakesHead.at_end front none stretch spelled) = omega (arith, none)
+head_small at bytes h (TakesHead.counted front positive small plain stretch spelled) = small
+head_small at bytes h (TakesHead.sized front size positive small is_sized stretch spelled sizes short place) = small
+
+-- nothing behind the magic yet
+pub metadata_start : (bytes : List ℕ) (names : BTreeSet (String Global)) (ps : List Property) → 4 ≤ length bytes → ((word : List ℕ) → contains_text names word ≡ false) → ps ≡ []
+    → MetadataSoFar 4 bytes names ps
+metadata_start bytes names ps inside none is = subst (λ (qs : List Property). MetadataSoFar 4 bytes names qs) (sym is) (record {
+  front = [];
+  run = metadata_none;
+  stretch = stretch_none 4 bytes inside;
+  named = none;
+})

@@ -86,7 +86,7 @@ pub each-counted : (ps : List Property) (items : List (List ℕ)) → EachProper
 each-counted [] items s = ap length s
 each-counted (p ∷ ps) items s = ap length s.4 ∙ ap suc (each-counted ps s.1 s.3)
 
-each-spelled : (ps : List Property) (items : List (List ℕ)) → EachProperty ps items → EntriesSpelled (property_entries ps) items
+pub each-spelled : (ps : List Property) (items : List (List ℕ)) → EachProperty ps items → EntriesSpelled (property_entries ps) items
 each-spelled [] items s = s
 each-spelled (p ∷ ps) items s =
     (s.2.name, s.2.content, s.1, s.2.named.spelled, s.2.spelled, each-spelled ps s.1 s.3, s.4 ∙ ap (λ (first : List ℕ). first ∷ s.1) s.2.split)

@@ -6,6 +6,7 @@ use Rattle.avro_zigzag.specs.declared.VarError.TheVariants.{EndOfInput}
 use Rattle.avro_schema.specs.Fits.{LimitValues, is_text}
 use Rattle.avro_schema.specs.Node.{Node, root_of}
 use Rattle.avro_schema_json.specs.declared.error.SchemaError.{SchemaError}
+use Rattle.avro_schema_json.specs.Declaration.{IsNoJson}
 use Rattle.avro_schema_json.specs.TextRefusals.{IsRefusalOf}
 use Rattle.avro_binary.specs.Encoding.{Encodes, SpellsBytes}
 use Rattle.avro_binary.specs.Fault.{ReadFault, end_of_input, behind}
@@ -55,7 +56,7 @@ pub data EndsIn (bytes : List ℕ) (need : ℕ) : Type 0 where
 
 -- a text that is no schema has this fault
 abbrev pub HasSchemaFault : List ℕ → SchemaError → Type 0
-HasSchemaFault text e = (e ≢ SchemaError.OutOfMemory) × IsRefusalOf text e
+HasSchemaFault text e = (e ≢ SchemaError.OutOfMemory) × (e ≡ SchemaError.NotJson → IsNoJson text) × IsRefusalOf text e
 
 -- the magic, this metadata and a marker stand at the front, within the limit
 pub record IsWholeWithin (limit : ℕ) (properties : List Property) (bytes : List ℕ) : Type 0 where

@@ -16,6 +16,7 @@ use Rattle.avro_container.specs.File.{Property, metadata_nodes}
 use Rattle.avro_container.specs.HeaderFails.{entry_limits}
 use Rattle.avro_container.specs.FileFault.{FileFault, in_header, invalid_metadata, long_header, cut_header}
 use Rattle.avro_container.specs.Filled.{GrowsBy, TakesAtMost}
+use Rattle.avro_container.specs.Named.{IsNamed}
 use Rattle.avro_container.specs.declared.error.CopyError.{CopyError}
 
 -- A call that takes no failing of the device: the buffer grew by what was taken, and not past the limit.
@@ -32,6 +33,7 @@ pub record Refused {I : Type 0} (gives : I → List ℕ → I → Type 0) (failu
   pub fails : e ≡ CopyError.InputFailed → failures to ≢ failures from
   pub no_output : e ≢ CopyError.OutputFailed
   pub first : e ≢ CopyError.FailedBefore
+  pub named : IsNamed e
 
 -- What keeps a part that should stand behind a number of bytes from being taken: it breaks; it goes past the limit; or the
 -- input ends in it. How it breaks, and where it would end, is handed in.

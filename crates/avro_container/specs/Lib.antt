@@ -5,10 +5,10 @@ pub mod Copied
 pub mod FileFault
 pub mod HeaderFails
 pub mod BlockFails
-pub mod Steps
 pub mod FileRanges
 pub mod Held
 pub mod FileSeen
+pub mod Named
 pub mod BlockStands
 pub mod BlockTaken
 pub mod DatumRead
@@ -17,10 +17,4 @@ pub mod Parts
 pub mod HeaderParts
 pub mod MetadataParts
 pub mod HeaderTaken
-pub mod TaskSeen
-pub mod DataPacked
-pub mod Moved
-pub mod BlockCopied
-pub mod HeaderCopied
-pub mod CopierSeen
-pub mod Copying
+pub mod HeaderEnds

@@ -8,6 +8,7 @@ ghost use Rattle.avro_container.specs.FileSeen.{file_fault, header_part_fault};
 ghost use Rattle.avro_container.specs.HeaderFails.{ContentWants};
 ghost use Rattle.avro_container.specs.HeaderParts.{ContentFrom, LengthBreaks, LengthWants, PartStops, Refused, Takes};
 ghost use Rattle.avro_container.specs.Held.{held};
+ghost use Rattle.avro_container.specs.Named.{IsNamed};
 
 use crate::buffer::Buffer;
 use crate::device::Input;
@@ -24,6 +25,7 @@ pub(crate) fn metadata_error(error: PartError, place: usize) -> CopyError
     ensures failed { error ≡ PartError.Device → result ≡ CopyError.InputFailed }
     ensures no_output { result ≢ CopyError.OutputFailed }
     ensures first { result ≢ CopyError.FailedBefore }
+    ensures named { IsNamed result }
 {
     match error {
         PartError::OutOfRange => CopyError::InvalidMetadata(ReadError::InvalidNumber { place }),

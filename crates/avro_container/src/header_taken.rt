@@ -8,11 +8,15 @@ ghost use Rattle.avro_container.specs.FileSeen.{file_fault};
 ghost use Rattle.avro_container.specs.Filled.{GrowsBy, TakesAtMost, UnlessFailed};
 ghost use Rattle.avro_container.specs.HeaderTaken.{IsHeaderFault, header_value};
 ghost use Rattle.avro_container.specs.Held.{held};
+ghost use Rattle.avro_container.specs.Named.{IsNamed};
 
 use crate::buffer::Buffer;
 use crate::device::Input;
 use crate::error::CopyError;
+use crate::filling::Reach;
 use crate::header::Header;
+use crate::header_frame::{Frame, take_frame};
+use crate::header_text::schema_of;
 use crate::limits::FileLimits;
 use std::alloc::Global;
 
@@ -43,6 +47,31 @@ pub(crate) fn take_header<I: Input>(
     ensures fails { result ≡ Err CopyError.InputFailed → I.failures input.new ≢ I.failures input.old }
     ensures no_output { result ≢ Err CopyError.OutputFailed }
     ensures first { result ≢ Err CopyError.FailedBefore }
+    ensures named { IfErr result IsNamed }
 {
-    Err(CopyError::OutOfMemory)
+    let limit = limits.header() as usize;
+    let reach = Reach {
+        limit,
+        ahead: ahead.min(limit),
+    };
+    let frame = match take_frame(alloc, input, buffer, reach) {
+        Ok(frame) => frame,
+        Err(error) => return Err(error),
+    };
+    match schema_of(alloc, &frame.metadata) {
+        Ok(schema) => {
+            let Frame {
+                metadata,
+                sync,
+                end,
+            } = frame;
+            let header = Header {
+                schema,
+                metadata,
+                sync,
+            };
+            Ok((header, end))
+        }
+        Err(error) => Err(error),
+    }
 }

@@ -1,6 +1,6 @@
 //! Taking the metadata of a header.
 
-ghost use Rattle.std.specs.Prelude.{◌≡◌, ◌+◌, ◌^◌, ◌<◌, ◌≤◌, true, false, max, length, IfOk, Some};
+ghost use Rattle.std.specs.Prelude.{◌≡◌, ◌≢◌, ◌+◌, ◌^◌, ◌<◌, ◌≤◌, true, false, max, length, IfOk, Some};
 ghost use Rattle.std.specs.Result.{IfErr};
 ghost use Rattle.avro_binary.specs.Breaks.{all_left};
 ghost use Rattle.avro_container.specs.FileFault.{FileFault};
@@ -16,10 +16,18 @@ use crate::device::Input;
 use crate::error::CopyError;
 use crate::filling::Reach;
 use crate::properties::{Properties, take_properties};
-use crate::properties_head::take_properties_head;
+use crate::properties_head::{PropertiesHead, take_properties_head};
 use avro_binary::ReadError;
 use std::alloc::Global;
 use std::collections::BTreeSet;
+
+/// Whether a block that has so many bytes is of another size than its head says.
+fn is_other_size(head: PropertiesHead, len: u64) -> bool
+    ensures other { result ≡ true → (head.is_sized ≡ true) × (len ≢ head.size) }
+    ensures same { result ≡ false → head.is_sized ≡ true → head.size ≡ len }
+{
+    head.is_sized && len != head.size
+}
 
 /// Takes the block of properties that begins behind so many bytes, and answers whether there is one and where it ends. Where
 /// there is none, the metadata ends there.
@@ -61,7 +69,7 @@ fn take_metadata_block<I: Input>(
         Ok(end) => end,
         Err(error) => return Err(error),
     };
-    if head.is_sized && (end - start) as u64 != head.size {
+    if is_other_size(head, (end - start) as u64) {
         return Err(CopyError::InvalidMetadata(ReadError::WrongBlockSize {
             place: head.place,
         }));

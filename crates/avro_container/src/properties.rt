@@ -149,6 +149,7 @@ pub(crate) fn take_properties<I: Input>(
     requires begins { at ≤ length (held buffer.old) }
     requires small { reach.limit + reach.ahead < 2 ^ 62 }
     requires fits { length (held buffer.old) ≤ reach.limit }
+    ensures further { IfOk result (λ end. (at ≤ end) × (end ≤ length (held buffer.new))) }
     ensures found { IfOk result (λ end. (left : Left) → count ≤ left.nodes → AreNames properties.old.names left.keys → are_distinct bytes_eq left.keys ≡ true
         → TakesProperties left properties.new.names count at end (held buffer.new) (properties_of properties.old.entries.items) (properties_of properties.new.entries.items)) }
     ensures within { IfOk result (λ end. length (held buffer.new) ≤ max (length (held buffer.old)) (end + reach.ahead)) }

@@ -30,7 +30,7 @@ returns-in-Err-fill-clause-lost g c =
     then_refused g.I.Input.gives g.I.Input.failures g.met.I.Input.chain c.args.reach.limit _ _ _ (held c.args.buffer.now) (held c.take_length.new.buffer) (held c.fill.new.buffer)
     c.metadata_error.result c.in-Ok.ensures.took
     (part_refused g.I.Input.gives g.I.Input.failures c.args.reach.limit _ _ _ _ c.in-Err-fill.error c.metadata_error.result
-    c.metadata_error.ensures.failed c.metadata_error.ensures.device c.metadata_error.ensures.no_output c.metadata_error.ensures.first
+    c.metadata_error.ensures.failed c.metadata_error.ensures.device c.metadata_error.ensures.no_output c.metadata_error.ensures.first c.metadata_error.ensures.named
     c.in-Err-fill.ensures.taken c.in-Err-fill.ensures.lost c.in-Err-fill.ensures.limited (λ p. c.in-Err-fill.ensures.fails (ap Err p)))
 
 pub returns-in-Err-fill-clause-refused : goal.returns-in-Err-fill-clause-refused

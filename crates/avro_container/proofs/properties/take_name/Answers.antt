@@ -4,7 +4,7 @@ use Rattle.std.specs.Prelude.{string_bytes}
 use Rattle.std.specs.BTreeSet.{contains_text}
 use Rattle.std.specs.Str.{is_utf8}
 use Rattle.avro_container.specs.Held.{held}
-use Rattle.avro_container.proofs.Behind.{own_refused}
+use Rattle.avro_container.proofs.Behind.{own_refused, memory_refused}
 use Rattle.avro_container.proofs.Stopping.{some_inj, none_some}
 use Rattle.avro_container.proofs.Taken.{takes_name, no_text_stops, twice_stops, content_key_stops}
 use Rattle.avro_container.proofs.properties.take_name.Goals as goal
@@ -29,7 +29,7 @@ returns-in-Ok-add_name-clause-found g c =
 
 pub returns-in-Err-NoText-clause-lost : goal.returns-in-Err-NoText-clause-lost
 returns-in-Err-NoText-clause-lost g c =
-    own_refused g.I.Input.gives g.I.Input.failures g.met.I.Input.chain c.args.reach.limit _ _ _ _ _ (λ q. cc) (λ q. cc) (λ q. cc) c.in-Ok.ensures.took
+    own_refused g.I.Input.gives g.I.Input.failures g.met.I.Input.chain c.args.reach.limit _ _ _ _ _ (λ q. cc) (λ q. cc) (λ q. cc) tt c.in-Ok.ensures.took
 
 pub returns-in-Err-NoText-clause-refused : goal.returns-in-Err-NoText-clause-refused
 returns-in-Err-NoText-clause-refused g c = λ f keys is are.
@@ -43,7 +43,7 @@ returns-in-Err-NoText-clause-refused g c = λ f keys is are.
 
 pub returns-in-Err-Twice-clause-lost : goal.returns-in-Err-Twice-clause-lost
 returns-in-Err-Twice-clause-lost g c =
-    own_refused g.I.Input.gives g.I.Input.failures g.met.I.Input.chain c.args.reach.limit _ _ _ _ _ (λ q. cc) (λ q. cc) (λ q. cc) c.in-Ok.ensures.took
+    own_refused g.I.Input.gives g.I.Input.failures g.met.I.Input.chain c.args.reach.limit _ _ _ _ _ (λ q. cc) (λ q. cc) (λ q. cc) tt c.in-Ok.ensures.took
 
 pub returns-in-Err-Twice-clause-refused : goal.returns-in-Err-Twice-clause-refused
 returns-in-Err-Twice-clause-refused g c = λ f keys is are.
@@ -57,7 +57,7 @@ returns-in-Err-Twice-clause-refused g c = λ f keys is are.
 
 pub returns-in-Err-OutOfMemory-clause-lost : goal.returns-in-Err-OutOfMemory-clause-lost
 returns-in-Err-OutOfMemory-clause-lost g c =
-    own_refused g.I.Input.gives g.I.Input.failures g.met.I.Input.chain c.args.reach.limit _ _ _ _ _ (λ q. cc) (λ q. cc) (λ q. cc) c.in-Ok.ensures.took
+    memory_refused g.I.Input.gives g.I.Input.failures g.met.I.Input.chain c.args.reach.limit _ _ _ _ c.in-Ok.ensures.took
 
 pub returns-in-Err-OutOfMemory-clause-refused : goal.returns-in-Err-OutOfMemory-clause-refused
 returns-in-Err-OutOfMemory-clause-refused g c = λ f keys is are. absurd (none_some f is)

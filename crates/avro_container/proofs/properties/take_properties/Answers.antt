@@ -14,6 +14,7 @@ loop-done-init g c = (
   c.requires.begins,
   omega arith,
   λ left few are distinct. properties_none left _ c.args.at (held c.args.buffer.now) _ c.requires.begins distinct are,
+  omega arith,
 )
 
 pub loop-done-preserved : goal.loop-done-preserved
@@ -28,6 +29,7 @@ loop-done-preserved g c =
       found.stretch.inside,
       omega (arith, inv.3, c.in-Ok.ensures.within, found.stretch.place),
       λ left few are distinct. properties_push g.I.Input.gives _ _ old new left _ _ c.loop-done.done c.args.at c.loop-done.end c.in-Ok.next _ _ _ took.grown (inv.4 left few are distinct) found,
+      omega (arith, inv.5, found.stretch.place),
     )
 
 pub returns-in-Err-clause-lost : goal.returns-in-Err-clause-lost

@@ -15,6 +15,7 @@ invariant-loop-done g l =
     × (length (held l.buffer) ≤ max (length (held l.initial.buffer)) (l.end + l.reach.ahead))
     × ((left : Left) → l.count ≤ left.nodes → AreNames l.initial.properties.names left.keys → are_distinct bytes_eq left.keys ≡ true
     → TakesProperties left l.properties.names l.done l.at l.end (held l.buffer) (properties_of l.initial.properties.entries.items) (properties_of l.properties.entries.items))
+    × (l.at ≤ l.end)
 
 abbrev pub decreases-loop-done : goal.decreases-loop-done
 decreases-loop-done g l = l.count - l.done

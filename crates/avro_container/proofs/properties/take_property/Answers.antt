@@ -3,7 +3,7 @@ use Rattle.std.proofs.Common.{◌≡◌, ◌-◌, ◌≤◌, length, take, drop,
 use Rattle.std.specs.Prelude.{string_bytes}
 use Rattle.avro_container.specs.Filled.{GrowsBy}
 use Rattle.avro_container.specs.Held.{held}
-use Rattle.avro_container.proofs.Behind.{own_refused, then_refused, takes_then, reports_not_failed}
+use Rattle.avro_container.proofs.Behind.{memory_refused, then_refused, takes_then, reports_not_failed}
 use Rattle.avro_container.proofs.PropertyRuns.{stretch_grown}
 use Rattle.avro_container.proofs.Stopping.{none_some}
 use Rattle.avro_container.proofs.Taken.{name_stops, value_stops, takes_property}
@@ -47,7 +47,7 @@ returns-in-Ok-add_property-clause-took g c =
 
 pub returns-in-Err-add_property-clause-lost : goal.returns-in-Err-add_property-clause-lost
 returns-in-Err-add_property-clause-lost g c =
-    own_refused g.I.Input.gives g.I.Input.failures g.met.I.Input.chain c.args.reach.limit _ _ _ _ _ (λ q. cc) (λ q. cc) (λ q. cc)
+    memory_refused g.I.Input.gives g.I.Input.failures g.met.I.Input.chain c.args.reach.limit _ _ _ _
     (takes_then g.I.Input.gives g.I.Input.failures g.met.I.Input.chain c.args.reach.limit _ _ _ (held c.args.buffer.now) (held c.take_name.new.buffer) (held c.take_content.new.buffer)
     c.in-Ok.ensures.took c.in-Ok-take_content.ensures.took)
 

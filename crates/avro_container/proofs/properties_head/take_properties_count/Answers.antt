@@ -9,7 +9,7 @@ use Rattle.avro_container.proofs.properties_head.take_properties_count.Goals as 
 pub returns-in-Err-clause-lost : goal.returns-in-Err-clause-lost
 returns-in-Err-clause-lost g c =
     part_refused g.I.Input.gives g.I.Input.failures c.args.reach.limit _ _ _ _ c.in-Err.error c.metadata_error.result
-    c.metadata_error.ensures.failed c.metadata_error.ensures.device c.metadata_error.ensures.no_output c.metadata_error.ensures.first
+    c.metadata_error.ensures.failed c.metadata_error.ensures.device c.metadata_error.ensures.no_output c.metadata_error.ensures.first c.metadata_error.ensures.named
     c.in-Err.ensures.taken c.in-Err.ensures.lost c.in-Err.ensures.limited (λ p. c.in-Err.ensures.fails (ap Err p))
 
 pub returns-in-Err-clause-refused : goal.returns-in-Err-clause-refused
@@ -23,7 +23,7 @@ returns-in-Err-clause-refused g c = λ f nodes is.
 
 pub returns-then-count-clause-lost : goal.returns-then-count-clause-lost
 returns-then-count-clause-lost g c =
-    own_refused g.I.Input.gives g.I.Input.failures g.met.I.Input.chain c.args.reach.limit _ _ _ _ _ (λ q. cc) (λ q. cc) (λ q. cc)
+    own_refused g.I.Input.gives g.I.Input.failures g.met.I.Input.chain c.args.reach.limit _ _ _ _ _ (λ q. cc) (λ q. cc) (λ q. cc) tt
     (record { grown = c.in-Ok.ensures.taken; limited = c.in-Ok.ensures.limited; works = c.in-Ok.ensures.works })
 
 pub returns-then-count-clause-refused : goal.returns-then-count-clause-refused

@@ -1,0 +1,125 @@
+//! Taking the magic and the marker of a header.
+
+ghost use Rattle.std.specs.Prelude.{◌≡◌, ◌≢◌, ◌↔◌, [], ◌+◌, ◌^◌, ◌<◌, ◌≤◌, max, length, take, drop, IfOk, OnOk, IsTrue, Some};
+ghost use Rattle.std.specs.Result.{IfErr};
+ghost use Rattle.avro_container.specs.File.{magic};
+ghost use Rattle.avro_container.specs.FileFault.{FileFault};
+ghost use Rattle.avro_container.specs.FileSeen.{file_fault};
+ghost use Rattle.avro_container.specs.HeaderEnds.{BeginsHeader, MarkerStops};
+ghost use Rattle.avro_container.specs.HeaderParts.{Refused, Takes};
+ghost use Rattle.avro_container.specs.HeaderTaken.{IsHeaderFault};
+ghost use Rattle.avro_container.specs.Held.{held};
+ghost use Rattle.avro_container.specs.Named.{IsNamed};
+
+use crate::buffer::Buffer;
+use crate::content::metadata_error;
+use crate::device::Input;
+use crate::error::{CopyError, LimitPlace};
+use crate::filling::{Reach, fill};
+use crate::part_error::PartError;
+
+/// The first bytes of a file.
+const MAGIC: [u8; 4] = [0x4f, 0x62, 0x6a, 1];
+
+/// Whether some bytes are the magic.
+fn is_magic(bytes: &[u8]) -> bool
+    ensures { IsTrue result ↔ (bytes.now ≡ magic) }
+{
+    bytes == MAGIC.as_slice()
+}
+
+/// The error of a magic that is not taken whole.
+fn magic_error(error: PartError) -> CopyError
+    ensures device { result ≡ CopyError.InputFailed → error ≡ PartError.Device }
+    ensures failed { error ≡ PartError.Device → result ≡ CopyError.InputFailed }
+    ensures memory { error ≡ PartError.OutOfMemory → result ≡ CopyError.OutOfMemory }
+    ensures ended { error ≡ PartError.Ended → result ≡ CopyError.NoMagic }
+    ensures named { IsNamed result }
+    ensures no_output { result ≢ CopyError.OutputFailed }
+    ensures first { result ≢ CopyError.FailedBefore }
+{
+    match error {
+        PartError::Device => CopyError::InputFailed,
+        PartError::OutOfMemory => CopyError::OutOfMemory,
+        PartError::Ended => CopyError::NoMagic,
+        PartError::Limit => CopyError::NoMagic,
+        PartError::OutOfRange => CopyError::NoMagic,
+    }
+}
+
+/// Takes the magic into a buffer that holds nothing. It is looked at before the limit.
+///
+/// # Errors
+///
+/// `NoMagic`, `LimitExceeded`; `InputFailed`, `OutOfMemory`.
+pub(crate) fn take_magic<I: Input>(
+    input: &mut I,
+    buffer: &mut Buffer,
+    reach: Reach,
+) -> Result<(), CopyError>
+    requires none { held buffer.old ≡ [] }
+    requires small { reach.limit + reach.ahead < 2 ^ 62 }
+    ensures begins { OnOk result (BeginsHeader reach.limit (held buffer.new)) }
+    ensures within { OnOk result (length (held buffer.new) ≤ 4 + reach.ahead) }
+    ensures took { OnOk result (Takes I.gives I.failures (max 4 reach.limit) input.old input.new (held buffer.old) (held buffer.new)) }
+    ensures lost { IfErr result (λ e. Refused I.gives I.failures (max 4 reach.limit) input.old input.new (held buffer.old) (held buffer.new) e) }
+    ensures refused { IfErr result (λ e. (f : FileFault) → file_fault e ≡ Some f → IsHeaderFault reach.limit (I.ended input.new) (held buffer.new) f) }
+{
+    let first = Reach {
+        limit: reach.limit.max(4),
+        ahead: reach.ahead,
+    };
+    match fill(input, buffer, 4, first) {
+        Ok(()) => {}
+        Err(error) => return Err(magic_error(error)),
+    }
+    let (front, _) = buffer.bytes().split_at(4);
+    if !is_magic(front) {
+        return Err(CopyError::NoMagic);
+    }
+    if reach.limit < 4 {
+        return Err(CopyError::LimitExceeded(LimitPlace::Header));
+    }
+    Ok(())
+}
+
+/// The marker that some bytes are.
+fn marker_of(bytes: &[u8]) -> [u8; 16]
+    requires { length bytes.now ≡ 16 }
+    ensures { result ≡ bytes.now }
+{
+    let mut sync = [0; 16];
+    sync.copy_from_slice(bytes);
+    sync
+}
+
+/// Takes the marker that begins behind so many bytes.
+///
+/// # Errors
+///
+/// `LimitExceeded`, `CutHeader`; `InputFailed`, `OutOfMemory`.
+pub(crate) fn take_marker<I: Input>(
+    input: &mut I,
+    buffer: &mut Buffer,
+    at: usize,
+    reach: Reach,
+) -> Result<[u8; 16], CopyError>
+    requires begins { at ≤ length (held buffer.old) }
+    requires small { reach.limit + reach.ahead < 2 ^ 62 }
+    requires fits { length (held buffer.old) ≤ reach.limit }
+    ensures inside { OnOk result (at + 16 ≤ length (held buffer.new)) }
+    ensures marker { IfOk result (λ sync. sync ≡ take 16 (drop at (held buffer.new))) }
+    ensures within { OnOk result (length (held buffer.new) ≤ max (length (held buffer.old)) (at + 16 + reach.ahead)) }
+    ensures took { OnOk result (Takes I.gives I.failures reach.limit input.old input.new (held buffer.old) (held buffer.new)) }
+    ensures lost { IfErr result (λ e. Refused I.gives I.failures reach.limit input.old input.new (held buffer.old) (held buffer.new) e) }
+    ensures refused { IfErr result (λ e. (f : FileFault) → file_fault e ≡ Some f → MarkerStops reach.limit at (I.ended input.new) (held buffer.new) f) }
+{
+    let end = at + 16;
+    match fill(input, buffer, end, reach) {
+        Ok(()) => {}
+        Err(error) => return Err(metadata_error(error, at)),
+    }
+    let (_, behind) = buffer.bytes().split_at(at);
+    let (marker, _) = behind.split_at(16);
+    Ok(marker_of(marker))
+}

@@ -1,0 +1,90 @@
+//! What the metadata of a header say: the schema and the codec.
+
+ghost use Rattle.std.specs.Prelude.{◌≡◌, ◌≢◌, codes, IfOk, IfSome, IfNone, Some, None};
+ghost use Rattle.std.specs.Result.{IfErr};
+ghost use Rattle.avro_schema.specs.SeenSchema.{schema_nodes};
+ghost use Rattle.avro_schema_json.specs.DeclaredText.{DeclaresText};
+ghost use Rattle.avro_container.specs.File.{property, is_plain_codec};
+ghost use Rattle.avro_container.specs.FileFault.{FileFault};
+ghost use Rattle.avro_container.specs.FileSeen.{file_fault};
+ghost use Rattle.avro_container.specs.HeaderEnds.{IsNoSchema, SayNone, SaySchema};
+ghost use Rattle.avro_container.specs.Named.{IsNamed};
+ghost use Rattle.avro_container.specs.Parts.{properties_of};
+
+use crate::error::CopyError;
+use avro_schema::Schema;
+use avro_schema_json::{SchemaError, read_schema};
+use std::alloc::Global;
+
+/// The content of the first property of a name, if there is one.
+fn content_of<'a>(properties: &'a [(String, Vec<u8>)], name: &str) -> Option<&'a [u8]>
+    ensures some { IfSome result (λ content. property name.now (properties_of properties.now) ≡ Some content.now) }
+    ensures none { IfNone result (property name.now (properties_of properties.now) ≡ None) }
+{
+    for (key, content) in properties {
+        if key.as_str() == name {
+            return Some(content.as_slice());
+        }
+    }
+    None
+}
+
+/// Whether the codec is `null`, or not given.
+fn has_plain_codec(properties: &[(String, Vec<u8>)]) -> bool
+    ensures { result ≡ is_plain_codec (property (codes "avro.codec") (properties_of properties.now)) }
+{
+    match content_of(properties, "avro.codec") {
+        Some(word) => word == "null".as_bytes(),
+        None => true,
+    }
+}
+
+/// The schema that a text declares.
+///
+/// # Errors
+///
+/// `InvalidSchema`; `OutOfMemory`.
+fn schema_in(alloc: Global, text: &[u8]) -> Result<Schema, CopyError>
+    ensures found { IfOk result (λ schema. DeclaresText text.now (schema_nodes schema)) }
+    ensures refused { IfErr result (λ e. (f : FileFault) → file_fault e ≡ Some f → IsNoSchema text.now f) }
+    ensures named { IfErr result IsNamed }
+    ensures no_input { IfErr result (λ e. e ≢ CopyError.InputFailed) }
+    ensures no_output { IfErr result (λ e. e ≢ CopyError.OutputFailed) }
+    ensures first { IfErr result (λ e. e ≢ CopyError.FailedBefore) }
+{
+    match read_schema(alloc, text) {
+        Ok(schema) => Ok(schema),
+        Err(error) => {
+            if error == SchemaError::OutOfMemory {
+                return Err(CopyError::OutOfMemory);
+            }
+            Err(CopyError::InvalidSchema(error))
+        }
+    }
+}
+
+/// The schema of a file, of its metadata.
+///
+/// # Errors
+///
+/// `NoSchema`, `UnknownCodec`, `InvalidSchema`; `OutOfMemory`.
+pub(crate) fn schema_of(
+    alloc: Global,
+    properties: &[(String, Vec<u8>)],
+) -> Result<Schema, CopyError>
+    ensures found { IfOk result (λ schema. SaySchema (properties_of properties.now) (schema_nodes schema)) }
+    ensures refused { IfErr result (λ e. (f : FileFault) → file_fault e ≡ Some f → SayNone (properties_of properties.now) f) }
+    ensures named { IfErr result IsNamed }
+    ensures no_input { IfErr result (λ e. e ≢ CopyError.InputFailed) }
+    ensures no_output { IfErr result (λ e. e ≢ CopyError.OutputFailed) }
+    ensures first { IfErr result (λ e. e ≢ CopyError.FailedBefore) }
+{
+    let text = match content_of(properties, "avro.schema") {
+        Some(text) => text,
+        None => return Err(CopyError::NoSchema),
+    };
+    if !has_plain_codec(properties) {
+        return Err(CopyError::UnknownCodec);
+    }
+    schema_in(alloc, text)
+}
