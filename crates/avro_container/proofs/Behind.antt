@@ -1,5 +1,5 @@
 -- Faults behind bytes, and parts that are stopped behind others.
-use Rattle.std.proofs.Common.{◌≡◌, ◌≢◌, ℕ, Bool, ◌+◌, ◌-◌, ◌^◌, ◌<◌, ◌≤◌, max, ℤ, ◌<ℤ◌, pos, negsuc, List, [], ◌++◌, length, take, drop, Some, append-nil, refl, sym, ap, subst, ◌∙◌, arith, inl, inr, length-append, append_assoc, length-take-le}
+use Rattle.std.proofs.Common.{◌≡◌, ◌≢◌, ℕ, Bool, ◌+◌, ◌-◌, ◌^◌, ◌<◌, ◌≤◌, max, ℤ, ◌<ℤ◌, pos, List, [], ◌++◌, length, take, drop, Some, append-nil, refl, sym, ap, subst, ◌∙◌, arith, inl, inr, length-append, length-take-le}
 use Rattle.std.proofs.lemmas.List.{drop-drop, length-drop, take-append-le}
 use Rattle.avro_zigzag.specs.NumberFault.{LongFails}
 use Rattle.avro_zigzag.specs.declared.VarError.TheVariants.{EndOfInput, OutOfRange}
@@ -7,7 +7,7 @@ use Rattle.avro_binary.specs.Fault.{ReadFault, end_of_input, invalid_number, inv
 use Rattle.avro_binary.specs.Breaks.{LongBreaks, StartsWithLong, ContentBreaks}
 use Rattle.avro_container.specs.declared.part_error.PartError.{PartError}
 use Rattle.avro_container.specs.declared.error.CopyError.{CopyError}
-use Rattle.avro_container.specs.FileFault.{FileFault, in_header, invalid_metadata, long_header, cut_header}
+use Rattle.avro_container.specs.FileFault.{FileFault, in_header, invalid_metadata}
 use Rattle.avro_container.specs.FileSeen.{file_fault, header_part_fault}
 use Rattle.avro_container.specs.Filled.{GrowsBy, TakesAtMost, UnlessDevice}
 use Rattle.avro_container.specs.Named.{IsNamed}

@@ -119,6 +119,16 @@ stand-more stands r done start len body outs out alone before found =
       stand = zipped-push stands outs before.values out u before.stand found.1;
     }
 
+-- what is made of data that fit fits too, where that holds of each
+pub each-fit : (nodes target : List Node) (resolve : Value → Resolved) (vs us : Values)
+    → ((v u : Value) → fits nodes (root_of nodes) v ≡ true → resolve v ≡ Ok u → fits target (root_of target) u ≡ true)
+    → each_fits nodes (root_of nodes) vs ≡ true → EachResolved resolve vs us → each_fits target (root_of target) us ≡ true
+each-fit nodes target resolve no_values us law fit e = ap (each_fits target (root_of target)) e
+each-fit nodes target resolve (value v vs) us law fit (first, others, made, more, e) =
+    let parts = and_parts (fits nodes (root_of nodes) v) (each_fits nodes (root_of nodes) vs) fit in
+    ap (each_fits target (root_of target)) e ∙ ap (λ b. b && each_fits target (root_of target) others) (law v first parts.0 made)
+    ∙ each-fit nodes target resolve vs others law parts.1 more
+
 -- ---- Faults
 
 -- a datum that is no encoding, behind data that are whole

@@ -1,20 +1,19 @@
 -- Heads of the metadata's blocks, and what stops them.
-use Rattle.std.proofs.Common.{◌≡◌, ◌≢◌, ℕ, zero, suc, ◌+◌, ◌-◌, ◌^◌, ◌<◌, ◌≤◌, ℤ, ◌<ℤ◌, pos, negsuc, Bool, true, false, List, [], ◌++◌, length, take, drop, Some, refl, sym, ap, subst, ◌∙◌, arith, length-take-le}
+use Rattle.std.proofs.Common.{◌≡◌, ℕ, zero, suc, ◌+◌, ◌-◌, ◌^◌, ◌<◌, ◌≤◌, ℤ, pos, negsuc, true, false, List, ◌++◌, length, take, drop, Some, refl, sym, ap, subst, ◌∙◌, arith, length-take-le}
 use Rattle.std.specs.Prelude.{neg_ℤ}
 use Rattle.std.proofs.lemmas.List.{length-drop, drop-drop}
 use Rattle.avro_zigzag.specs.Number.{SpellsLong}
-use Rattle.avro_zigzag.specs.NumberFault.{LongFails}
 use Rattle.avro_zigzag.specs.declared.VarError.TheVariants.{EndOfInput}
 use Rattle.avro_binary.specs.BlockHeads.{signed_count}
-use Rattle.avro_binary.specs.Fault.{ReadFault, end_of_input, invalid_number, invalid_length, behind}
-use Rattle.avro_binary.specs.Breaks.{StartsWithLong, HeadBreaks, LongBreaks, number_fault}
+use Rattle.avro_binary.specs.Fault.{ReadFault, end_of_input, invalid_length, behind}
+use Rattle.avro_binary.specs.Breaks.{StartsWithLong, HeadBreaks, LongBreaks}
 use Rattle.avro_container.specs.FileFault.{FileFault, in_header, invalid_metadata}
 use Rattle.avro_container.specs.HeaderParts.{PartStops, LengthBreaks, LengthWants, Stretch}
 use Rattle.avro_container.specs.Filled.{GrowsBy}
 use Rattle.avro_container.specs.MetadataParts.{TakesHead}
 use Rattle.avro_container.specs.declared.properties_head.PropertiesHead.{PropertiesHead}
 use Rattle.avro_container.proofs.PropertyRuns.{stretch_join, stretch_grown}
-use Rattle.avro_container.proofs.Behind.{stops-as, stops-whole, behind-none}
+use Rattle.avro_container.proofs.Behind.{stops-as, stops-whole}
 use Rattle.avro_container.proofs.Stopping.{some_inj}
 
 -- a number that fails is the count's

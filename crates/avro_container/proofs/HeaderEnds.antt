@@ -1,16 +1,15 @@
 -- The parts of a header that were taken, and what stops them, as a fault of the header.
-use Rattle.std.proofs.Common.{◌≡◌, ◌≢◌, ℕ, ◌+◌, ◌-◌, ◌<◌, ◌≤◌, max, List, [], ◌++◌, length, take, drop, Some, Result, Ok, Err, true, codes, refl, sym, ap, subst, ◌∙◌, arith, append_assoc, length-append, length-take-le, take_all}
+use Rattle.std.proofs.Common.{◌≡◌, ◌≢◌, ℕ, ◌+◌, ◌<◌, ◌≤◌, max, List, [], ◌++◌, length, take, drop, Some, Result, Ok, Err, true, codes, refl, sym, ap, subst, ◌∙◌, arith, append_assoc, length-append, length-take-le, take_all}
 use Rattle.std.specs.Result.{IfErr}
 use Rattle.std.proofs.lemmas.List.{take-append-drop, length-drop, drop-drop, take-append-le}
 use Rattle.avro_schema.specs.Node.{Node}
-use Rattle.avro_container.specs.File.{Property, property, is_plain_codec, HeaderValue, IsHeader, magic}
+use Rattle.avro_container.specs.File.{Property, property, is_plain_codec, IsHeader, magic}
 use Rattle.avro_container.specs.FileFault.{FileFault, in_header, no_magic, no_schema, refused_schema, unknown_codec, long_header, cut_header}
 use Rattle.avro_container.specs.FileSeen.{file_fault, header_part_fault}
-use Rattle.avro_container.specs.Filled.{GrowsBy, TakesAtMost}
+use Rattle.avro_container.specs.Filled.{GrowsBy}
 use Rattle.avro_container.specs.HeaderEnds.{BeginsHeader, MarkerStops, FrameStands, SaySchema, IsNoSchema, SayNone}
 use Rattle.avro_container.specs.HeaderFails.{HeaderFails, EndsIn, MetadataStands, IsWholeWithin}
-use Rattle.avro_container.specs.HeaderParts.{Stretch}
-use Rattle.avro_container.specs.HeaderTaken.{IsHeaderFault, TakesHeader, TakesHeaderFault}
+use Rattle.avro_container.specs.HeaderTaken.{IsHeaderFault, TakesHeaderFault}
 use Rattle.avro_container.specs.MetadataParts.{MetadataEnds}
 use Rattle.avro_container.specs.declared.error.CopyError.{CopyError}
 use Rattle.avro_container.specs.declared.part_error.PartError.{PartError}

@@ -17,4 +17,12 @@ pub mod MetadataRuns
 pub mod MetadataTaken
 pub mod HeaderStops
 pub mod HeaderEnds
+pub mod BlocksCopied
+pub mod BlocksPacked
+pub mod CopySteps
+pub mod HeadersCopied
+pub mod Naming
+pub mod PackedData
+pub mod StepLaws
+pub mod Stepping
 mod RowsFile

@@ -1,25 +1,23 @@
 -- The blocks of a header's metadata, one behind another.
-use Rattle.std.proofs.Common.{◌≡◌, ◌≢◌, ℕ, zero, suc, ◌+◌, ◌-◌, ◌^◌, ◌<◌, ◌≤◌, pos, Bool, true, false, ◌&&◌, List, [], ◌∷◌, ◌++◌, length, take, drop, refl, sym, ap, subst, ◌∙◌, arith, append_assoc, append-nil, length-append, bytes_eq}
+use Rattle.std.proofs.Common.{◌≡◌, ℕ, ◌+◌, ◌-◌, ◌^◌, ◌<◌, ◌≤◌, pos, true, false, ◌&&◌, List, [], ◌∷◌, ◌++◌, length, refl, sym, ap, subst, ◌∙◌, arith, append_assoc, append-nil, length-append, bytes_eq}
 use Rattle.std.specs.Prelude.{neg_ℤ}
 use Rattle.std.specs.List.{concat, list_all}
-use Rattle.std.proofs.lemmas.List.{length-drop}
 use Rattle.std.proofs.lemmas.Bool.Decides.{nat_tests}
-use Rattle.avro_zigzag.specs.Number.{SpellsLong, AreGroups, are_groups}
-use Rattle.avro_schema.specs.Value.{Value, keys_of, entries_count}
+use Rattle.avro_zigzag.specs.Number.{SpellsLong, AreGroups}
+use Rattle.avro_schema.specs.Value.{keys_of, entries_count}
 use Rattle.avro_schema.specs.Node.{Node, root_of}
-use Rattle.avro_schema.specs.Fits.{fits, is_count, is_text, entries_fit}
+use Rattle.avro_schema.specs.Fits.{is_count, is_text, entries_fit}
 use Rattle.avro_schema.specs.Distinct.{are_distinct}
 use Rattle.avro_binary.specs.Blocks.{IsInBlocks, no_more, counted as counted_block, sized as sized_block}
 use Rattle.avro_binary.specs.Encoding.{Encodes}
-use Rattle.avro_binary.specs.Fault.{ReadFault, end_of_input, wrong_block_size, behind}
-use Rattle.avro_binary.specs.Breaks.{Left, all_left, Head, counted, sized, head_count, head_bytes, IsHead, HasSize, HeadBreaks, BlocksBreak, BreaksAfter, EntriesAreWhole}
+use Rattle.avro_binary.specs.Fault.{ReadFault, behind}
+use Rattle.avro_binary.specs.Breaks.{Left, all_left, Head, counted, sized, head_count, head_bytes, IsHead, HasSize, BlocksBreak, EntriesAreWhole}
 use Rattle.avro_container.specs.File.{Property, property_entries, metadata_nodes, metadata_value}
-use Rattle.avro_container.specs.FileFault.{FileFault}
 use Rattle.avro_container.specs.HeaderFails.{PropertyWants, entry_limits}
-use Rattle.avro_container.specs.HeaderParts.{Stretch, names_of, IsProperty, EachProperty, PropertiesRun, left_after, PropertyBreaks, RunStops, PartStops}
+use Rattle.avro_container.specs.HeaderParts.{EachProperty, PropertiesRun, left_after, PropertyBreaks}
 use Rattle.avro_container.specs.MetadataParts.{Blocks, BlockRun, MetadataRun, metadata_left}
-use Rattle.avro_container.proofs.Behind.{behind-append, behind-none, stops-whole}
-use Rattle.avro_container.proofs.PropertyRuns.{names-append, each-append, concat-append, each-counted, each-spelled, each-texts, each-fit, entries-counted, keys-names, and-intro, run_whole}
+use Rattle.avro_container.proofs.Behind.{behind-append, behind-none}
+use Rattle.avro_container.proofs.PropertyRuns.{names-append, each-append, each-counted, each-spelled, each-texts, each-fit, entries-counted, keys-names, and-intro, run_whole}
 
 -- ---- Each property has a byte at least
 

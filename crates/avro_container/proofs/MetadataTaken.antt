@@ -1,6 +1,6 @@
 -- Blocks of the metadata that are taken, and what stops them.
-use Rattle.std.proofs.Common.{◌≡◌, ◌≢◌, ℕ, ◌+◌, ◌-◌, ◌^◌, ◌<◌, ◌≤◌, pos, true, false, List, [], ◌++◌, length, drop, refl, sym, ap, subst, ◌∙◌, arith, append_assoc, length-append}
-use Rattle.std.specs.Prelude.{String, neg_ℤ}
+use Rattle.std.proofs.Common.{◌≡◌, ◌≢◌, ℕ, ◌-◌, ◌^◌, ◌<◌, ◌≤◌, true, false, List, [], ◌++◌, length, drop, refl, sym, ap, subst, ◌∙◌, arith, append_assoc, length-append}
+use Rattle.std.specs.Prelude.{String}
 use Rattle.std.specs.BTreeSet.{BTreeSet, contains_text}
 use Rattle.std.specs.declared.alloc.Global.{Global}
 use Rattle.avro_binary.specs.Fault.{ReadFault, wrong_block_size, behind}
@@ -9,7 +9,7 @@ use Rattle.avro_container.specs.File.{Property}
 use Rattle.avro_container.specs.FileFault.{FileFault, in_header, invalid_metadata}
 use Rattle.avro_container.specs.Filled.{GrowsBy}
 use Rattle.avro_container.specs.HeaderFails.{PropertyWants, entry_limits}
-use Rattle.avro_container.specs.HeaderParts.{Stretch, AreNames, names_of, PropertiesRun, left_after, PropertyBreaks, RunStops, PartStops, TakesProperties}
+use Rattle.avro_container.specs.HeaderParts.{Stretch, AreNames, names_of, left_after, PropertyBreaks, RunStops, PartStops, TakesProperties}
 use Rattle.avro_container.specs.MetadataParts.{Blocks, BlockRun, MetadataRun, MetadataSoFar, MetadataEnds, TakesHead, metadata_left}
 use Rattle.avro_container.specs.declared.properties_head.PropertiesHead.{PropertiesHead}
 use Rattle.avro_container.proofs.Behind.{stops-whole, behind-append}

@@ -1,14 +1,13 @@
 -- Properties of a header's metadata, one behind another.
-use Rattle.std.proofs.Common.{◌≡◌, ℕ, zero, suc, ◌+◌, ◌-◌, ◌^◌, ◌<◌, ◌≤◌, pos, Bool, true, false, not, cond, ◌&&◌, ◌||◌, List, [], ◌∷◌, ◌++◌, length, take, drop, refl, sym, ap, subst, ◌∙◌, arith, append_assoc, append-nil, length-append, bytes_eq}
+use Rattle.std.proofs.Common.{◌≡◌, ℕ, suc, ◌+◌, ◌-◌, ◌^◌, ◌<◌, ◌≤◌, Bool, true, false, not, ◌&&◌, ◌||◌, List, [], ◌∷◌, ◌++◌, length, drop, refl, sym, ap, subst, ◌∙◌, arith, append_assoc, append-nil, length-append, bytes_eq}
 use Rattle.std.specs.List.{concat, list_any, list_all}
 use Rattle.std.specs.Cmp.Lexicographic.{nat_list_eq_equiv}
 use Rattle.std.proofs.lemmas.Bool.{and_parts}
 use Rattle.std.proofs.lemmas.Bool.Decides.{nat_tests}
-use Rattle.std.proofs.lemmas.List.Folds.{list_all-append, list_any-append}
-use Rattle.std.proofs.lemmas.List.{drop-drop, length-drop, drop-append-le}
-use Rattle.avro_schema.specs.Value.{Value, Entries, entries_size, entries_depth, entries_longest_blob, entries_count, keys_of}
+use Rattle.std.proofs.lemmas.List.Folds.{list_any-append}
+use Rattle.avro_schema.specs.Value.{Value, entries_size, entries_depth, entries_longest_blob, entries_count, keys_of}
 use Rattle.avro_schema.specs.Node.{Node}
-use Rattle.avro_schema.specs.Fits.{fits, entries_fit, is_count, is_text, are_bytes}
+use Rattle.avro_schema.specs.Fits.{fits, entries_fit, is_count, is_text}
 use Rattle.avro_schema.specs.Distinct.{are_distinct}
 use Rattle.avro_binary.specs.Encoding.{EntriesSpelled}
 use Rattle.avro_binary.specs.Breaks.{Left, EntriesAreWhole}

@@ -1,9 +1,9 @@
 -- Names and properties that are taken, and what stops them.
-use Rattle.std.proofs.Common.{◌≡◌, ◌≢◌, ℕ, zero, suc, ◌+◌, ◌-◌, ◌^◌, ◌<◌, ◌≤◌, pos, Bool, true, false, cond, ◌&&◌, ◌||◌, List, [], ◌∷◌, ◌++◌, length, take, drop, refl, sym, ap, subst, ◌∙◌, arith, append_assoc, append-nil, length-append, length-take-le, bytes_eq, get_or, nat_lt}
+use Rattle.std.proofs.Common.{◌≡◌, ℕ, zero, suc, ◌+◌, ◌-◌, ◌^◌, ◌<◌, ◌≤◌, pos, Bool, true, false, cond, ◌||◌, List, [], ◌∷◌, ◌++◌, length, take, drop, refl, sym, ap, subst, ◌∙◌, arith, append_assoc, append-nil, length-append, length-take-le, bytes_eq, get_or, nat_lt}
 use Rattle.std.specs.Prelude.{String}
 use Rattle.std.specs.declared.alloc.Global.{Global}
 use Rattle.std.specs.BTreeSet.{BTreeSet, contains_text}
-use Rattle.std.specs.List.{concat, list_any, list_all}
+use Rattle.std.specs.List.{list_any, list_all}
 use Rattle.std.specs.Str.{is_utf8}
 use Rattle.std.specs.Cmp.Lexicographic.{nat_list_eq_equiv}
 use Rattle.std.proofs.lemmas.Bool.{and_parts}
@@ -12,17 +12,17 @@ use Rattle.std.proofs.lemmas.List.Folds.{list_any-append}
 use Rattle.std.proofs.lemmas.List.{length-drop, take-append-drop, drop-drop}
 use Rattle.avro_zigzag.specs.Number.{SpellsLong}
 use Rattle.avro_schema.specs.Node.{Node}
-use Rattle.avro_schema.specs.Fits.{is_count, is_text, are_bytes}
+use Rattle.avro_schema.specs.Fits.{is_count}
 use Rattle.avro_schema.specs.Distinct.{are_distinct}
 use Rattle.avro_binary.specs.Encoding.{SpellsBytes}
-use Rattle.avro_binary.specs.Fault.{ReadFault, end_of_input, invalid_text, duplicate_key, behind}
-use Rattle.avro_binary.specs.Breaks.{Left, ContentBreaks, KeyBreaks, EntryBreaks, BreaksAfter, BreaksWithin}
+use Rattle.avro_binary.specs.Fault.{ReadFault, invalid_text, duplicate_key}
+use Rattle.avro_binary.specs.Breaks.{Left, ContentBreaks, KeyBreaks, EntryBreaks, BreaksWithin}
 use Rattle.avro_container.specs.File.{Property, metadata_nodes}
 use Rattle.avro_container.specs.FileFault.{FileFault, in_header, invalid_metadata}
 use Rattle.avro_container.specs.Filled.{GrowsBy}
-use Rattle.avro_container.specs.HeaderFails.{ContentWants, PropertyWants, entry_limits}
-use Rattle.avro_container.specs.HeaderParts.{Stretch, ContentFrom, AreNames, NameStands, names_of, IsProperty, PropertiesRun, left_after, PropertyBreaks, RunStops, PartStops, TakesName, TakesProperty, TakesProperties}
-use Rattle.avro_container.proofs.Behind.{stops-whole, stops-as, behind-append}
+use Rattle.avro_container.specs.HeaderFails.{ContentWants, PropertyWants}
+use Rattle.avro_container.specs.HeaderParts.{Stretch, ContentFrom, AreNames, NameStands, names_of, left_after, PropertyBreaks, RunStops, PartStops, TakesName, TakesProperty, TakesProperties}
+use Rattle.avro_container.proofs.Behind.{stops-whole, stops-as}
 use Rattle.avro_container.proofs.PropertyRuns.{stretch_none, stretch_join, stretch_grown, names-append, run_none, run_push, count-below}
 
 -- the content between two places, and the stretch of it with its length

@@ -1,8 +1,9 @@
 -- What reading the data of a block answers.
-use Rattle.std.specs.Prelude.{◌≡◌, ℕ, false, List, Option, Some, None}
+use Rattle.std.specs.Prelude.{◌≡◌, ℕ, true, false, List, Option, Some, None}
 use Rattle.std.specs.List.{AllZip}
 use Rattle.avro_schema.specs.Value.{Value}
-use Rattle.avro_schema.specs.Node.{Node}
+use Rattle.avro_schema.specs.Node.{Node, root_of}
+use Rattle.avro_schema.specs.Fits.{each_fits}
 use Rattle.avro_schema.specs.Seen.{values_from}
 use Rattle.avro_container.specs.BlockFails.{FileLimitValues, BlockReading, DataAreWhole, DataFail}
 use Rattle.avro_container.specs.Copied.{Resolution, unchanged, into}
@@ -22,6 +23,17 @@ reading limits nodes sync reader =
 pub record StandForData {O : Type 0} (stands : O → Value → Type 0) (r : BlockReading) (count : ℕ) (body : List ℕ) (outs : List O) : Type 0 where
   pub values : List Value
   pub whole : DataAreWhole r count body (values_from values)
+  pub stand : AllZip stands outs values
+
+-- the schema of what is read: the reader's, where there is one
+abbrev pub read_nodes : List Node → Option (List Node) → List Node
+read_nodes nodes None = nodes
+read_nodes nodes (Some reader) = reader
+
+-- each answer stands for a datum of this schema
+pub record FitAll {O : Type 0} (stands : O → Value → Type 0) (nodes : List Node) (outs : List O) : Type 0 where
+  pub values : List Value
+  pub fit : each_fits nodes (root_of nodes) (values_from values) ≡ true
   pub stand : AllZip stands outs values
 
 -- the fault is one of the data of this block

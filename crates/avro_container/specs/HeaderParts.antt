@@ -1,5 +1,5 @@
 -- What taking a part of a header does, and what stops it.
-use Rattle.std.specs.Prelude.{◌≡◌, ◌≢◌, ℕ, ◌+◌, ◌-◌, ◌^◌, ◌<◌, ◌≤◌, max, pos, negsuc, Bool, true, false, List, [], ◌∷◌, ◌++◌, length, take, drop, map, bytes_eq}
+use Rattle.std.specs.Prelude.{◌≡◌, ◌≢◌, ℕ, ◌+◌, ◌-◌, ◌^◌, ◌<◌, ◌≤◌, max, pos, negsuc, true, false, List, [], ◌∷◌, ◌++◌, length, take, drop, bytes_eq}
 use Rattle.std.specs.Prelude.{String}
 use Rattle.std.specs.List.{concat, list_any}
 use Rattle.std.specs.BTreeSet.{BTreeSet, contains_text}

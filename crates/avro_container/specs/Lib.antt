@@ -18,3 +18,11 @@ pub mod HeaderParts
 pub mod MetadataParts
 pub mod HeaderTaken
 pub mod HeaderEnds
+pub mod BlockCopied
+pub mod CopierSeen
+pub mod Copying
+pub mod DataPacked
+pub mod HeaderCopied
+pub mod Moved
+pub mod Steps
+pub mod TaskSeen

@@ -9,7 +9,7 @@ use Rattle.avro_schema.specs.Distinct.{are_distinct}
 use Rattle.avro_binary.specs.Blocks.{IsInBlocks}
 use Rattle.avro_binary.specs.Encoding.{Encodes}
 use Rattle.avro_binary.specs.Fault.{ReadFault, behind}
-use Rattle.avro_binary.specs.Breaks.{Left, all_left, Head, head_count, head_bytes, IsHead, HasSize, BlocksBreak, EntriesAreWhole}
+use Rattle.avro_binary.specs.Breaks.{Left, all_left, Head, head_count, IsHead, HasSize, BlocksBreak, EntriesAreWhole}
 use Rattle.avro_container.specs.File.{Property, metadata_nodes, metadata_value}
 use Rattle.avro_container.specs.HeaderFails.{PropertyWants, entry_limits}
 use Rattle.avro_container.specs.declared.properties_head.PropertiesHead.{PropertiesHead}

@@ -1,10 +1,13 @@
 //! A block, and reading its data.
 
-ghost use Rattle.std.specs.Prelude.{◌≡◌, None, Some, IfOk, option_map};
+ghost use Rattle.std.specs.Prelude.{◌≡◌, None, Some, Ok, IfOk, List, true, option_map};
 ghost use Rattle.std.specs.Option.{option_copied};
 ghost use Rattle.std.specs.Result.{IfErr};
+ghost use Rattle.avro_schema.specs.Fits.{fits};
+ghost use Rattle.avro_schema.specs.Node.{Node, root_of};
 ghost use Rattle.avro_schema.specs.SeenSchema.{schema_nodes};
-ghost use Rattle.avro_container.specs.DataRead.{IsDataFault, StandForData, reading};
+ghost use Rattle.avro_schema.specs.Value.{Value};
+ghost use Rattle.avro_container.specs.DataRead.{FitAll, IsDataFault, StandForData, read_nodes, reading, resolution};
 ghost use Rattle.avro_container.specs.FileFault.{FileFault};
 ghost use Rattle.avro_container.specs.FileSeen.{file_fault};
 
@@ -13,6 +16,7 @@ use crate::error::CopyError;
 use crate::header::Header;
 use crate::limits::FileLimits;
 use avro_binary::Build;
+use avro_resolve::laws::resolved_fits;
 use avro_schema_json::ReaderText;
 
 /// A block of a file, whose data are not read yet.
@@ -54,6 +58,8 @@ impl<'a> Block<'a> {
         ensures found { IfOk result (λ outs. StandForData B.stands_for
             (reading self.now.limits (schema_nodes self.now.header.now.schema) self.now.header.now.sync (option_map (λ r. schema_nodes r.1) (option_copied reader.entry)))
             self.now.count self.now.body.items outs.items) }
+        ensures fit { IfOk result (λ outs. FitAll B.stands_for
+            (read_nodes (schema_nodes self.now.header.now.schema) (option_map (λ r. schema_nodes r.1) (option_copied reader.entry))) outs.items) }
         ensures refused { IfErr result (λ e. (f : FileFault) → file_fault e ≡ Some f → IsDataFault
             (reading self.now.limits (schema_nodes self.now.header.now.schema) self.now.header.now.sync (option_map (λ r. schema_nodes r.1) (option_copied reader.entry)))
             self.now.number self.now.count self.now.body.items f) }
@@ -64,6 +70,7 @@ impl<'a> Block<'a> {
         let limits = self.limits.datum();
         let count = self.count();
         let end = self.body.len();
+        made_data_fit(reader);
         let mut answers = Vec::new(alloc);
         let mut start = 0;
         let mut datum = 0;
@@ -85,5 +92,22 @@ impl<'a> Block<'a> {
             return Err(CopyError::BytesLeft(self.number));
         }
         Ok(answers)
+    }
+}
+
+/// What a datum is for a reader is a datum of the reader's schema.
+fn made_data_fit(reader: Option<&ReaderText>)
+    ensures { (nodes : List Node) (v u : Value) → fits nodes (root_of nodes) v ≡ true
+        → resolution (option_map (λ r. schema_nodes r.1) (option_copied reader.entry)) nodes v ≡ Ok u
+        → fits (read_nodes nodes (option_map (λ r. schema_nodes r.1) (option_copied reader.entry)))
+            (root_of (read_nodes nodes (option_map (λ r. schema_nodes r.1) (option_copied reader.entry)))) u ≡ true }
+{
+    resolved_fits();
+    match reader {
+        Some(reader) => {
+            // its nodes are known to be a schema
+            let _ = reader.schema().len();
+        }
+        None => {}
     }
 }

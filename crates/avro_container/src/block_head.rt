@@ -8,6 +8,7 @@ ghost use Rattle.avro_container.specs.FileFault.{FileFault};
 ghost use Rattle.avro_container.specs.FileSeen.{file_fault};
 ghost use Rattle.avro_container.specs.Filled.{GrowsBy, TakesAtMost, UnlessFailed};
 ghost use Rattle.avro_container.specs.Held.{held};
+ghost use Rattle.avro_container.specs.Named.{IsNamed};
 
 use crate::buffer::Buffer;
 use crate::counting::{block_error, take_count};
@@ -53,7 +54,9 @@ pub(crate) fn take_head<I: Input>(
     ensures refused { IfErr result (λ e. (f : FileFault) (sync : List ℕ) → file_fault e ≡ Some f → IsBlockFault limits.now sync number (I.ended input.new) (held buffer.new) f) }
     ensures works { OnOk result (I.failures input.new ≡ I.failures input.old) }
     ensures fails { result ≡ Err CopyError.InputFailed → I.failures input.new ≢ I.failures input.old }
+    ensures no_output { result ≢ Err CopyError.OutputFailed }
     ensures first { result ≢ Err CopyError.FailedBefore }
+    ensures named { IfErr result IsNamed }
 {
     let (count, len) = match take_count(input, buffer, 0, number, reach) {
         Ok(found) => found,

@@ -5,6 +5,7 @@ ghost use Rattle.std.specs.Result.{IfErr};
 ghost use Rattle.avro_container.specs.FileSeen.{file_fault};
 ghost use Rattle.avro_container.specs.Filled.{GrowsBy, TakesAtMost, UnlessFailed};
 ghost use Rattle.avro_container.specs.Held.{held};
+ghost use Rattle.avro_container.specs.Named.{IsNamed};
 
 use crate::buffer::Buffer;
 use crate::counting::block_error;
@@ -36,7 +37,9 @@ pub(crate) fn begins_block<I: Input>(
     ensures refused { IfErr result (λ e. file_fault e ≡ None) }
     ensures works { OnOk result (I.failures input.new ≡ I.failures input.old) }
     ensures fails { result ≡ Err CopyError.InputFailed → I.failures input.new ≢ I.failures input.old }
+    ensures no_output { result ≢ Err CopyError.OutputFailed }
     ensures first { result ≢ Err CopyError.FailedBefore }
+    ensures named { IfErr result IsNamed }
 {
     match fill(input, buffer, 1, reach) {
         Ok(()) => Ok(true),

@@ -3,6 +3,7 @@ ghost use Rattle.std.specs.Result.{IfErr};
 ghost use Rattle.avro_container.specs.BlockTaken.{TakesBlock, TakesFault};
 ghost use Rattle.avro_container.specs.FileFault.{FileFault};
 ghost use Rattle.avro_container.specs.FileSeen.{file_fault};
+ghost use Rattle.avro_container.specs.Named.{IsNamed};
 
 use crate::block::Block;
 use crate::blocks_taken::take_block;
@@ -57,6 +58,8 @@ impl<'a> Blocks<'a> {
         ensures works { OnOk result (I.failures input.new ≡ I.failures input.old) }
         ensures fails { result ≡ Err CopyError.InputFailed → I.failures input.new ≢ I.failures input.old }
         ensures first { result ≢ Err CopyError.FailedBefore }
+        ensures made { IfOk result (λ found. IfSome found (λ block. (block.header ≡ self.old.header) × (block.limits ≡ self.old.limits))) }
+        ensures named { IfErr result IsNamed }
     {
         let done = self.buffer.len();
         self.buffer.pass(done);
@@ -115,6 +118,8 @@ impl<'a> Blocks<'a> {
         ensures works { OnOk result (I.failures input.new ≡ I.failures input.old) }
         ensures fails { result ≡ Err CopyError.InputFailed → I.failures input.new ≢ I.failures input.old }
         ensures only_before { result ≡ Err CopyError.FailedBefore → self.old.failed ≡ true }
+        ensures made { IfOk result (λ found. IfSome found (λ block. (block.header ≡ self.old.header) × (block.limits ≡ self.old.limits))) }
+        ensures named { IfErr result IsNamed }
     {
         if self.failed {
             return Err(CopyError::FailedBefore);

@@ -8,6 +8,7 @@ ghost use Rattle.avro_container.specs.FileFault.{FileFault};
 ghost use Rattle.avro_container.specs.FileSeen.{file_fault};
 ghost use Rattle.avro_container.specs.Filled.{GrowsBy, TakesAtMost, UnlessFailed};
 ghost use Rattle.avro_container.specs.Held.{held};
+ghost use Rattle.avro_container.specs.Named.{IsNamed};
 
 use crate::block_body::take_body;
 use crate::block_head::{BlockHead, take_head};
@@ -50,7 +51,9 @@ pub(crate) fn take_block<I: Input>(
     ensures refused { IfErr result (λ e. (f : FileFault) → file_fault e ≡ Some f → IsBlockFault limits.now sync.now number (I.ended input.new) (held buffer.new) f) }
     ensures works { OnOk result (I.failures input.new ≡ I.failures input.old) }
     ensures fails { result ≡ Err CopyError.InputFailed → I.failures input.new ≢ I.failures input.old }
+    ensures no_output { result ≢ Err CopyError.OutputFailed }
     ensures first { result ≢ Err CopyError.FailedBefore }
+    ensures named { IfErr result IsNamed }
 {
     match begins_block(input, buffer, number, reach) {
         Ok(true) => {}

@@ -8,6 +8,7 @@ ghost use Rattle.avro_container.specs.FileFault.{FileFault};
 ghost use Rattle.avro_container.specs.FileSeen.{file_fault, part_fault};
 ghost use Rattle.avro_container.specs.Filled.{GrowsBy, TakesAtMost, UnlessFailed};
 ghost use Rattle.avro_container.specs.Held.{held};
+ghost use Rattle.avro_container.specs.Named.{IsNamed};
 
 use crate::buffer::Buffer;
 use crate::device::Input;
@@ -21,8 +22,10 @@ use avro_zigzag::VarError;
 pub(crate) fn block_error(error: PartError, number: u64) -> CopyError
     ensures fault { file_fault result ≡ part_fault number error }
     ensures device { result ≡ CopyError.InputFailed → error ≡ PartError.Device }
+    ensures no_output { result ≢ CopyError.OutputFailed }
     ensures first { result ≢ CopyError.FailedBefore }
     ensures failed { error ≡ PartError.Device → result ≡ CopyError.InputFailed }
+    ensures named { IsNamed result }
 {
     match error {
         PartError::OutOfRange => {
@@ -61,7 +64,9 @@ pub(crate) fn take_count<I: Input>(
     ensures refused { IfErr result (λ e. (f : FileFault) → file_fault e ≡ Some f → CountStops number (I.ended input.new) (drop at (held buffer.new)) f) }
     ensures works { OnOk result (I.failures input.new ≡ I.failures input.old) }
     ensures fails { result ≡ Err CopyError.InputFailed → I.failures input.new ≢ I.failures input.old }
+    ensures no_output { result ≢ Err CopyError.OutputFailed }
     ensures first { result ≢ Err CopyError.FailedBefore }
+    ensures named { IfErr result IsNamed }
 {
     match take_long(input, buffer, at, reach) {
         Ok((value, len)) => {

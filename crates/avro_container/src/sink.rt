@@ -7,6 +7,7 @@ ghost use Rattle.avro_binary.specs.Encoding.{plain, plain_bytes, plain_entries};
 ghost use Rattle.avro_container.specs.File.{metadata_value, property_entries};
 ghost use Rattle.avro_container.specs.FileSeen.{file_fault};
 ghost use Rattle.avro_container.specs.Filled.{PutsFrontOf};
+ghost use Rattle.avro_container.specs.Named.{IsNamed};
 ghost use Rattle.avro_container.specs.Parts.{block_part, header_part, properties_of};
 
 use crate::device::Output;
@@ -47,6 +48,7 @@ impl Sink {
         ensures kept { IfOk result (λ sink. sink.sync ≡ sync) }
         ensures begins { IfOk result (λ sink. sink.failed ≡ false) }
         ensures first { result ≢ Err CopyError.FailedBefore }
+        ensures named { IfErr result IsNamed }
     {
         let mut room = Vec::new(alloc);
         match append_header(metadata, &sync, &mut room) {
@@ -84,6 +86,7 @@ impl Sink {
         ensures fails { result ≡ Err CopyError.OutputFailed → (O.failures output.new ≢ O.failures output.old) ⊎ O.stuck output.new }
         ensures only_before { result ≡ Err CopyError.FailedBefore → self.old.failed ≡ true }
         ensures same { self.new.sync ≡ self.old.sync }
+        ensures named { IfErr result IsNamed }
     {
         if self.failed {
             return Err(CopyError::FailedBefore);
@@ -113,6 +116,7 @@ pub(crate) fn put_block<O: Output>(
     ensures works { OnOk result (O.failures output.new ≡ O.failures output.old) }
     ensures fails { result ≡ Err CopyError.OutputFailed → (O.failures output.new ≢ O.failures output.old) ⊎ O.stuck output.new }
     ensures first { result ≢ Err CopyError.FailedBefore }
+    ensures named { IfErr result IsNamed }
 {
     room.clear();
     match append_block(sync, count, body, room) {

@@ -1,5 +1,5 @@
 -- Why a magic is not taken.
-use Rattle.std.proofs.Common.{◌≡◌, ◌≢◌, ◌≤◌, length, take, Err, ap, sym, ◌∙◌, arith}
+use Rattle.std.proofs.Common.{◌≡◌, ◌≤◌, length, take, Err, ap, sym, ◌∙◌, arith}
 use Rattle.std.proofs.lemmas.Bool.{false≢true}
 use Rattle.avro_container.specs.Held.{held}
 use Rattle.avro_container.proofs.HeaderEnds.{magic_stops, magic_differs, magic_long}

@@ -1,5 +1,5 @@
 -- Why a marker is not taken.
-use Rattle.std.proofs.Common.{◌≡◌, ◌≤◌, length, Err, ap, sym, ◌∙◌, arith}
+use Rattle.std.proofs.Common.{Err, ap, sym, ◌∙◌, arith}
 use Rattle.avro_container.specs.Held.{held}
 use Rattle.avro_container.proofs.Behind.{part_refused}
 use Rattle.avro_container.proofs.HeaderEnds.{marker_part}

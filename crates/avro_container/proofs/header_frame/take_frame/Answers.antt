@@ -1,7 +1,5 @@
 -- The magic, the metadata and the marker that were taken, or what stops them.
-use Rattle.std.proofs.Common.{◌≡◌, ◌+◌, ◌≤◌, max, length, ap, sym, ◌∙◌, arith, rules}
-use Rattle.avro_container.specs.HeaderEnds.{BeginsHeader}
-use Rattle.avro_container.specs.HeaderParts.{Takes}
+use Rattle.std.proofs.Common.{max, arith}
 use Rattle.avro_container.specs.Held.{held}
 use Rattle.avro_container.specs.Parts.{properties_of}
 use Rattle.avro_container.proofs.Behind.{then_refused, takes_then, takes_wider, refused_wider, reports_not_failed}

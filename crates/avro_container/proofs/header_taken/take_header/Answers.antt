@@ -1,5 +1,5 @@
 -- A header that was taken, or what stops it.
-use Rattle.std.proofs.Common.{◌≡◌, ℕ, subst}
+use Rattle.std.proofs.Common.{ℕ, subst}
 use Rattle.avro_schema.specs.SeenSchema.{schema_nodes}
 use Rattle.avro_container.specs.HeaderEnds.{SaySchema, SayNone}
 use Rattle.avro_container.specs.HeaderTaken.{IsHeaderFault}

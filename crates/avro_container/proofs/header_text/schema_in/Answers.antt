@@ -1,5 +1,5 @@
 -- Why a text is no schema.
-use Rattle.std.proofs.Common.{◌≡◌, ◌≢◌, Err, ap, sym, rules}
+use Rattle.std.proofs.Common.{◌≢◌, Err, ap, sym, rules}
 use Rattle.avro_schema_json.specs.declared.error.SchemaError.{SchemaError}
 use Rattle.avro_container.proofs.Stopping.{some_inj}
 use Rattle.avro_container.proofs.header_text.schema_in.Goals as goal

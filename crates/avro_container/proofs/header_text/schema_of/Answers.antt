@@ -1,5 +1,5 @@
 -- What the metadata say that is wrong.
-use Rattle.std.proofs.Common.{◌≡◌, sym, subst, ◌∙◌}
+use Rattle.std.proofs.Common.{sym, subst, ◌∙◌}
 use Rattle.avro_container.specs.HeaderEnds.{SayNone}
 use Rattle.avro_container.specs.Parts.{properties_of}
 use Rattle.avro_container.proofs.HeaderEnds.{schema_stops}

@@ -1,9 +1,9 @@
 -- One block more, and what stops the next.
-use Rattle.std.proofs.Common.{◌≡◌, ◌+◌, ◌-◌, ◌<◌, ◌≤◌, length, refl, ap, sym, ◌∙◌, arith, rules}
+use Rattle.std.proofs.Common.{ap, arith}
 use Rattle.std.specs.List.{list_any}
 use Rattle.avro_container.specs.Held.{held}
 use Rattle.avro_container.specs.Parts.{properties_of}
-use Rattle.avro_container.proofs.Behind.{then_refused, takes_then, takes_none}
+use Rattle.avro_container.proofs.Behind.{then_refused, takes_none}
 use Rattle.avro_container.proofs.MetadataTaken.{metadata_start}
 use Rattle.avro_container.proofs.metadata.take_metadata.Goals as goal
 

@@ -1,5 +1,5 @@
 -- The blocks so far stand behind the magic.
-use Rattle.std.proofs.Common.{◌≡◌, ◌+◌, ◌-◌, ◌≤◌, max, length}
+use Rattle.std.proofs.Common.{◌+◌, ◌-◌, ◌≤◌, max, length}
 use Rattle.avro_container.specs.HeaderParts.{Takes}
 use Rattle.avro_container.specs.Held.{held}
 use Rattle.avro_container.specs.MetadataParts.{MetadataSoFar}

@@ -1,9 +1,8 @@
 -- A block of the metadata that was taken, or what stops it.
-use Rattle.std.proofs.Common.{◌≡◌, ◌+◌, ◌-◌, ◌^◌, ◌<◌, ◌≤◌, true, length, refl, sym, ap, ◌∙◌, arith, rules}
-use Rattle.avro_container.specs.Filled.{GrowsBy}
+use Rattle.std.proofs.Common.{sym, arith}
 use Rattle.avro_container.specs.Held.{held}
 use Rattle.avro_container.specs.Parts.{properties_of}
-use Rattle.avro_container.specs.MetadataParts.{MetadataSoFar, metadata_left}
+use Rattle.avro_container.specs.MetadataParts.{metadata_left}
 use Rattle.avro_container.proofs.Behind.{own_refused, then_refused, takes_then, reports_not_failed}
 use Rattle.avro_container.proofs.Stopping.{some_inj}
 use Rattle.avro_container.proofs.MetadataTaken.{next_head_stops, next_run_stops, block_pushed, size_stops, metadata_ended, many_left, few_so_far, head_small, head_further}

@@ -1,6 +1,5 @@
 -- One property more, and what stops the next.
-use Rattle.std.proofs.Common.{◌≡◌, ◌+◌, ◌-◌, ◌<◌, ◌≤◌, length, ap, sym, ◌∙◌, arith, rules}
-use Rattle.avro_container.specs.Filled.{GrowsBy}
+use Rattle.std.proofs.Common.{◌<◌, arith}
 use Rattle.avro_container.specs.Held.{held}
 use Rattle.avro_container.specs.HeaderParts.{left_after}
 use Rattle.avro_container.proofs.Behind.{then_refused, takes_then, takes_none, reports_not_failed}

@@ -1,5 +1,5 @@
 -- Why a count is not taken.
-use Rattle.std.proofs.Common.{◌≡◌, negsuc, ◌^◌, ◌-◌, Err, drop, ap, sym, ◌∙◌, arith, rules, w64, FitsSigned, to_z}
+use Rattle.std.proofs.Common.{◌≡◌, negsuc, ◌^◌, ◌-◌, Err, ap, sym, ◌∙◌, arith, rules, w64, FitsSigned, to_z}
 use Rattle.std.proofs.lemmas.Int.{to_z-of_z}
 use Rattle.avro_container.specs.Held.{held}
 use Rattle.avro_container.proofs.Behind.{part_refused, own_refused, number_stops}

@@ -1,7 +1,6 @@
 -- A head, with its size where there is one.
-use Rattle.std.proofs.Common.{◌≡◌, ◌+◌, ◌≤◌, Bool, pos, true, false, take, drop, length, refl, sym, ap, subst, ◌∙◌, arith, rules}
+use Rattle.std.proofs.Common.{◌≡◌, ◌+◌, Bool, pos, true, false, take, drop, refl, subst, rules}
 use Rattle.std.specs.Prelude.{neg_ℤ}
-use Rattle.avro_zigzag.specs.Number.{SpellsLong}
 use Rattle.avro_binary.specs.BlockHeads.{signed_count}
 use Rattle.avro_binary.specs.Breaks.{StartsWithLong}
 use Rattle.avro_container.specs.Filled.{GrowsBy}

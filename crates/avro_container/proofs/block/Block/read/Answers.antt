@@ -10,9 +10,9 @@ use Rattle.avro_schema.specs.SeenSchema.{schema_nodes}
 use Rattle.avro_schema.specs.Seen.{values_from}
 use Rattle.avro_resolve.specs.declared.error.ReadResolveError.{ReadResolveError}
 use Rattle.avro_container.specs.BlockFails.{DataAreWhole}
-use Rattle.avro_container.specs.DataRead.{StandForData, reading, resolution}
+use Rattle.avro_container.specs.DataRead.{StandForData, read_nodes, reading, resolution}
 use Rattle.avro_container.specs.DatumRead.{MakesOf, ReadsDatum}
-use Rattle.avro_container.proofs.Data.{data_left, datum_fails, datum_place, same_said, stand-more, stand-none}
+use Rattle.avro_container.proofs.Data.{data_left, each-fit, datum_fails, datum_place, same_said, stand-more, stand-none}
 use Rattle.avro_container.proofs.block.Block.read.Goals as goal
 
 -- a datum is answered, and a datum is refused
@@ -82,3 +82,15 @@ returns-then-start-end-clause-refused g c = λ f is.
     data_left r c.args.self.now.number count start body (values_from stand.values) f
     (subst (λ n. DataAreWhole r n (take start body) (values_from stand.values)) all stand.whole)
     (omega (arith, c.if-start-end.true, c.len-end.ensures)) is
+
+pub returns-clause-fit : goal.returns-clause-fit
+returns-clause-fit g c =
+    let nodes = schema_nodes c.args.self.now.header.now.schema in
+    let reader : Option (List Node) = option_map (λ r. schema_nodes r.1) (option_copied c.args.reader) in
+    let stand = c.loop-datum.invariant.2 in
+    record {
+      values = stand.values;
+      fit = each-fit nodes (read_nodes nodes reader) (resolution reader nodes) stand.whole.values (values_from stand.values) (c.made_data_fit.ensures nodes)
+          stand.whole.fitting stand.whole.resolved;
+      stand = stand.stand;
+    }

@@ -1,5 +1,4 @@
 -- What stops a header.
-use Rattle.std.proofs.Common.{◌≡◌}
 use Rattle.avro_container.specs.Held.{held}
 use Rattle.avro_container.proofs.Heads.{not_failed}
 use Rattle.avro_container.proofs.HeaderEnds.{fault_taken}

@@ -1,0 +1,79 @@
+//! Copying a block.
+
+ghost use Rattle.std.specs.Prelude.{◌≡◌, ◌≢◌, ◌⊎◌, ◌+◌, ◌<◌, ◌≤◌, [], length, OnOk, OnErr, IfOk, IfSome, IfNone, Some, Err};
+ghost use Rattle.std.specs.Result.{IfErr};
+ghost use Rattle.avro_container.specs.BlockCopied.{CopiesBlock, RefusesWithin};
+ghost use Rattle.avro_container.specs.BlockFails.{max_blocks};
+ghost use Rattle.avro_container.specs.FileSeen.{file_fault};
+ghost use Rattle.avro_container.specs.Held.{held};
+ghost use Rattle.avro_container.specs.Named.{IsNamed};
+ghost use Rattle.avro_container.specs.Moved.{Moved};
+ghost use Rattle.avro_container.specs.Steps.{Stored};
+ghost use Rattle.avro_container.specs.HeaderTaken.{header_value};
+ghost use Rattle.avro_container.specs.TaskSeen.{job_of};
+
+use crate::device::{Input, Output};
+use crate::error::CopyError;
+use crate::header::Header;
+use crate::header_put::marker;
+use crate::packed_block::take_packed;
+use crate::store::Store;
+use crate::sink::put_block;
+use crate::task::Task;
+
+/// Takes the next block, behind a number of others, puts its copy, and answers how many data it has; nothing where the input
+/// ends before it.
+///
+/// # Errors
+///
+/// `InvalidCount` to `UnresolvedDatum`, `CutBlock`; `InputFailed`, `OutputFailed`, `OutOfMemory`.
+pub(crate) fn copy_block<I: Input, O: Output>(
+    input: &mut I,
+    output: &mut O,
+    store: &mut Store,
+    number: u64,
+    task: &Task,
+    header: &Header,
+) -> Result<Option<u32>, CopyError>
+    requires near { length (held store.old.buffer) ≤ task.now.limits.block + 36 }
+    ensures block { IfOk result (λ found. IfSome found (λ count. Moved I.gives O.keeps input.old input.new output.old output.new
+        (CopiesBlock (job_of task.now) task.now.limits (header_value header.now) number count (held store.old.buffer) (held store.new.buffer)))) }
+    ensures few { IfOk result (λ found. IfSome found (λ count. number < max_blocks)) }
+    ensures small { IfOk result (λ found. IfSome found (λ count. count ≤ 16777216)) }
+    ensures none { IfOk result (λ found. IfNone found (I.gives input.old [] input.new)) }
+    ensures still { IfOk result (λ found. IfNone found (output.new ≡ output.old)) }
+    ensures empty { IfOk result (λ found. IfNone found ((held store.old.buffer ≡ []) × (held store.new.buffer ≡ []))) }
+    ensures told { IfOk result (λ found. IfNone found (I.ended input.new)) }
+    ensures refused { (before : Stored) → before.header ≡ Some (header_value header.now) → before.blocks ≡ number → before.ahead ≡ held store.old.buffer
+        → IfErr result (λ e. Moved I.gives O.keeps input.old input.new output.old output.new
+        (RefusesWithin (job_of task.now) task.now.limits (I.ended input.new) before (file_fault e))) }
+    ensures limited { length (held store.new.buffer) ≤ task.now.limits.block + 36 }
+    ensures input_works { OnOk result (I.failures input.new ≡ I.failures input.old) }
+    ensures input_fails { result ≡ Err CopyError.InputFailed → I.failures input.new ≢ I.failures input.old }
+    ensures output_works { OnOk result (O.failures output.new ≡ O.failures output.old) }
+    ensures output_fails { result ≡ Err CopyError.OutputFailed → (O.failures output.new ≢ O.failures output.old) ⊎ O.stuck output.new }
+    ensures first { result ≢ Err CopyError.FailedBefore }
+    ensures named { IfErr result IsNamed }
+{
+    match take_packed(
+        input,
+        &mut store.buffer,
+        number,
+        task,
+        header,
+        &mut store.packed,
+    ) {
+        Ok(None) => Ok(None),
+        Ok(Some(head)) => {
+            let sync = marker(task, header);
+            match put_block(output, &mut store.block, &sync, head.count, &store.packed) {
+                Ok(()) => {
+                    store.buffer.pass(head.start + head.size + 16);
+                    Ok(Some(head.count))
+                }
+                Err(error) => Err(error),
+            }
+        }
+        Err(error) => Err(error),
+    }
+}

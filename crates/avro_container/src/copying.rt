@@ -1,0 +1,66 @@
+//! Copying a whole file.
+
+ghost use Rattle.std.specs.Prelude.{◌≡◌, ◌≢◌, ◌⊎◌, OnOk, Err, IfOk, OnErr, Some};
+ghost use Rattle.std.specs.Result.{IfErr};
+ghost use Rattle.avro_container.specs.Copying.{CopiesFile, CopiesFront, CopiesUpTo};
+ghost use Rattle.avro_container.specs.FileFault.{FileFault};
+ghost use Rattle.avro_container.specs.FileSeen.{file_fault};
+ghost use Rattle.avro_container.specs.Named.{IsNamed};
+ghost use Rattle.avro_container.specs.TaskSeen.{job_from};
+
+use crate::copier_type::Copier;
+use crate::device::{Input, Output};
+use crate::error::CopyError;
+use crate::limits::FileLimits;
+use crate::step::{Counts, Step};
+use avro_schema_json::ReaderText;
+use std::alloc::Global;
+
+/// Copies a whole file in one pass, and answers how many data and blocks it has: each datum as what it is for the reader,
+/// where there is one, and in its plain encoding. `sync` is the marker of the copy, or else it is the file's.
+///
+/// # Errors
+///
+/// The first fault of the file; `InputFailed`, `OutputFailed`, `OutOfMemory`.
+pub fn copy<'a, I: Input, O: Output>(
+    alloc: Global,
+    input: &mut I,
+    output: &mut O,
+    reader: Option<&'a ReaderText>,
+    sync: Option<[u8; 16]>,
+    limits: &FileLimits,
+) -> Result<Counts, CopyError>
+    ensures whole { IfOk result (λ counts. CopiesFile I.gives O.keeps input.old input.new output.old output.new
+        (job_from reader.entry sync) limits.now (I.ended input.new) counts.items counts.blocks) }
+    ensures front { OnErr result (CopiesFront I.gives O.keeps input.old input.new output.old output.new
+        (job_from reader.entry sync) limits.now) }
+    ensures fault { IfErr result (λ e. (f : FileFault) → file_fault e ≡ Some f → CopiesUpTo I.gives O.keeps input.old input.new output.old output.new
+        (job_from reader.entry sync) limits.now (I.ended input.new) f) }
+    ensures named { IfErr result IsNamed }
+    ensures input_fails { result ≡ Err CopyError.InputFailed → I.failures input.new ≢ I.failures input.old }
+    ensures output_fails { result ≡ Err CopyError.OutputFailed → (O.failures output.new ≢ O.failures output.old) ⊎ O.stuck output.new }
+    ensures output_works { OnOk result (O.failures output.new ≡ O.failures output.old) }
+    ensures first { result ≢ Err CopyError.FailedBefore }
+    ensures input_works { OnOk result (I.failures input.new ≡ I.failures input.old) }
+{
+    let mut copier = Copier::new(alloc, reader, sync, limits);
+    let mut counts = Counts {
+        items: 0,
+        blocks: 0,
+    };
+    loop {
+        match copier.step(input, output) {
+            Ok(Step::Header) => {}
+            Ok(Step::Block(count)) => {
+                counts.items += count;
+                counts.blocks += 1;
+            }
+            Ok(Step::End) => break,
+            Err(error) => return Err(error),
+        }
+    }
+    match output.flush() {
+        Ok(()) => Ok(counts),
+        Err(_fault) => Err(CopyError::OutputFailed),
+    }
+}

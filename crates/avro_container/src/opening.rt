@@ -1,0 +1,68 @@
+//! Copying a header.
+
+ghost use Rattle.std.specs.Prelude.{◌≡◌, ◌≢◌, ◌⊎◌, ◌+◌, ◌≤◌, [], None, length, OnOk, OnErr, IfOk, Err};
+ghost use Rattle.std.specs.Result.{IfErr};
+ghost use Rattle.avro_container.specs.BlockCopied.{RefusesWithin};
+ghost use Rattle.avro_container.specs.FileSeen.{file_fault};
+ghost use Rattle.avro_container.specs.HeaderCopied.{CopiesHeader};
+ghost use Rattle.avro_container.specs.HeaderTaken.{header_value};
+ghost use Rattle.avro_container.specs.Held.{held};
+ghost use Rattle.avro_container.specs.Named.{IsNamed};
+ghost use Rattle.avro_container.specs.Moved.{Moved};
+ghost use Rattle.avro_container.specs.Steps.{Stored};
+ghost use Rattle.avro_container.specs.TaskSeen.{job_of};
+
+use crate::device::{Input, Output};
+use crate::error::CopyError;
+use crate::header::Header;
+use crate::header_put::put_header;
+use crate::header_taken::take_header;
+use crate::store::Store;
+use crate::task::Task;
+use std::alloc::Global;
+
+/// Takes the header of a file, puts its copy, and answers it.
+///
+/// # Errors
+///
+/// `NoMagic` to `UnknownCodec`, `LimitExceeded`, `CutHeader`; `InputFailed`, `OutputFailed`, `OutOfMemory`.
+pub(crate) fn copy_header<I: Input, O: Output>(
+    alloc: Global,
+    input: &mut I,
+    output: &mut O,
+    store: &mut Store,
+    task: &Task,
+) -> Result<Header, CopyError>
+    requires none { held store.old.buffer ≡ [] }
+    ensures copied { IfOk result (λ header. Moved I.gives O.keeps input.old input.new output.old output.new
+        (CopiesHeader (job_of task.now) task.now.limits (header_value header) (held store.new.buffer))) }
+    ensures refused { (before : Stored) → before.header ≡ None → before.ahead ≡ []
+        → IfErr result (λ e. Moved I.gives O.keeps input.old input.new output.old output.new
+        (RefusesWithin (job_of task.now) task.now.limits (I.ended input.new) before (file_fault e))) }
+    ensures limited { length (held store.new.buffer) ≤ task.now.limits.block + 36 }
+    ensures none_left { OnErr result (held store.new.buffer ≡ []) }
+    ensures input_works { OnOk result (I.failures input.new ≡ I.failures input.old) }
+    ensures input_fails { result ≡ Err CopyError.InputFailed → I.failures input.new ≢ I.failures input.old }
+    ensures output_works { OnOk result (O.failures output.new ≡ O.failures output.old) }
+    ensures output_fails { result ≡ Err CopyError.OutputFailed → (O.failures output.new ≢ O.failures output.old) ⊎ O.stuck output.new }
+    ensures first { result ≢ Err CopyError.FailedBefore }
+    ensures named { IfErr result IsNamed }
+{
+    let ahead = task.limits.block() as usize;
+    match take_header(alloc, input, &mut store.buffer, &task.limits, ahead) {
+        Ok((header, len)) => match put_header(alloc, output, task, &header) {
+            Ok(()) => {
+                store.buffer.pass(len);
+                Ok(header)
+            }
+            Err(error) => {
+                store.forget();
+                Err(error)
+            }
+        },
+        Err(error) => {
+            store.forget();
+            Err(error)
+        }
+    }
+}

@@ -1,0 +1,76 @@
+//! Taking a block, and packing its data.
+
+ghost use Rattle.std.specs.Prelude.{◌≡◌, ◌≢◌, ◌+◌, ◌-◌, ◌^◌, ◌<◌, ◌≤◌, length, take, OnOk, OnErr, IfOk, IfSome, IfNone, Some, Err};
+ghost use Rattle.std.specs.Result.{IfErr};
+ghost use Rattle.avro_container.specs.BlockFails.{max_blocks};
+ghost use Rattle.avro_container.specs.DataPacked.{IsCopyFault, PacksBlock};
+ghost use Rattle.avro_container.specs.FileFault.{FileFault};
+ghost use Rattle.avro_container.specs.FileSeen.{file_fault};
+ghost use Rattle.avro_container.specs.Filled.{GrowsBy, TakesAtMost, UnlessFailed};
+ghost use Rattle.avro_container.specs.Held.{held};
+ghost use Rattle.avro_container.specs.Named.{IsNamed};
+ghost use Rattle.avro_container.specs.HeaderTaken.{header_value};
+ghost use Rattle.avro_container.specs.TaskSeen.{job_of};
+
+use crate::block_head::BlockHead;
+use crate::blocks_taken::take_block;
+use crate::buffer::Buffer;
+use crate::device::Input;
+use crate::error::CopyError;
+use crate::filling::Reach;
+use crate::header::Header;
+use crate::packing::pack_data;
+use crate::task::Task;
+
+/// How many bytes an input is taken ahead of a block.
+const AHEAD: usize = 65_536;
+
+/// Takes the next block whole, behind a number of others, and packs its data; nothing where the input ends before it.
+///
+/// # Errors
+///
+/// `InvalidCount` to `UnresolvedDatum`, `CutBlock`; `InputFailed`, `OutOfMemory`.
+pub(crate) fn take_packed<I: Input>(
+    input: &mut I,
+    buffer: &mut Buffer,
+    number: u64,
+    task: &Task,
+    header: &Header,
+    packed: &mut Vec<u8>,
+) -> Result<Option<BlockHead>, CopyError>
+    requires near { length (held buffer.old) ≤ task.now.limits.block + 36 }
+    ensures inside { IfOk result (λ found. IfSome found (λ head. head.start + head.size + 16 ≤ length (held buffer.new))) }
+    ensures made { IfOk result (λ found. IfSome found (λ head. PacksBlock (job_of task.now) task.now.limits (header_value header.now) head.count
+        (take (head.start + head.size + 16) (held buffer.new)) packed.new.items)) }
+    ensures few { IfOk result (λ found. IfSome found (λ head. number < max_blocks)) }
+    ensures none { IfOk result (λ found. IfNone found (length (held buffer.new) ≡ 0)) }
+    ensures told { IfOk result (λ found. IfNone found (I.ended input.new)) }
+    ensures taken { UnlessFailed result (GrowsBy I.gives input.old input.new (held buffer.old) (held buffer.new)) }
+    ensures lost { OnErr result (TakesAtMost I.gives input.old input.new (task.now.limits.block + 36 - length (held buffer.old))) }
+    ensures limited { length (held buffer.new) ≤ task.now.limits.block + 36 }
+    ensures small { IfOk result (λ found. IfSome found (λ head. head.count ≤ 16777216)) }
+    ensures refused { IfErr result (λ e. (f : FileFault) → file_fault e ≡ Some f
+        → IsCopyFault (job_of task.now) task.now.limits (header_value header.now) number (I.ended input.new) (held buffer.new) f) }
+    ensures works { OnOk result (I.failures input.new ≡ I.failures input.old) }
+    ensures fails { result ≡ Err CopyError.InputFailed → I.failures input.new ≢ I.failures input.old }
+    ensures no_output { result ≢ Err CopyError.OutputFailed }
+    ensures first { result ≢ Err CopyError.FailedBefore }
+    ensures named { IfErr result IsNamed }
+{
+    let reach = Reach {
+        limit: task.limits.block() as usize + 36,
+        ahead: AHEAD,
+    };
+    match take_block(input, buffer, number, &task.limits, header.sync(), reach) {
+        Ok(None) => Ok(None),
+        Ok(Some(head)) => {
+            let (_, rest) = buffer.bytes().split_at(head.start);
+            let (body, _) = rest.split_at(head.size);
+            match pack_data(task, header, number, head.count, body, packed) {
+                Ok(()) => Ok(Some(head)),
+                Err(error) => Err(error),
+            }
+        }
+        Err(error) => Err(error),
+    }
+}
