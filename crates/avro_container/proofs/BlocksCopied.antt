@@ -1,9 +1,7 @@
 -- A block that is copied, or refused.
-use Rattle.std.proofs.Common.{◌≡◌, ◌≢◌, ℕ, suc, pos, ◌+◌, ◌-◌, ◌<◌, ◌≤◌, max, List, [], ◌++◌, length, take, drop, Option, Some, None, Result, Err, refl, sym, ap, subst, ◌∙◌, arith, append_assoc, append-nil, length-append}
+use Rattle.std.proofs.Common.{◌≡◌, ℕ, suc, ◌+◌, ◌-◌, ◌<◌, ◌≤◌, List, [], ◌++◌, length, take, drop, Option, Some, None, Err, refl, sym, ap, subst, ◌∙◌, arith, length-append}
 use Rattle.std.proofs.lemmas.List.{take-append-drop}
-use Rattle.avro_zigzag.specs.Number.{number_bytes}
 use Rattle.avro_schema.specs.Value.{Value, Values, no_values, value, values_count}
-use Rattle.avro_binary.specs.Encoding.{plain_values}
 use Rattle.avro_resolve.specs.Resolve.{Resolved}
 use Rattle.avro_container.specs.declared.error.CopyError.{CopyError}
 use Rattle.avro_container.specs.BlockCopied.{CopiesBlock, RefusesWithin}
@@ -11,12 +9,12 @@ use Rattle.avro_container.specs.BlockFails.{FileLimitValues, BlockFails, max_blo
 use Rattle.avro_container.specs.Copied.{Job, EachResolved, IsCopiedBlock, block_bytes, or_else}
 use Rattle.avro_container.specs.DataPacked.{IsCopyFault, PacksBlock}
 use Rattle.avro_container.specs.File.{HeaderValue}
-use Rattle.avro_container.specs.FileFault.{FileFault, in_block}
+use Rattle.avro_container.specs.FileFault.{FileFault}
 use Rattle.avro_container.specs.FileSeen.{file_fault}
 use Rattle.avro_container.specs.Filled.{GrowsBy, PutsFrontOf, TakesAtMost, UnlessFailed}
 use Rattle.avro_container.specs.Moved.{Moved}
 use Rattle.avro_container.specs.Parts.{block_part}
-use Rattle.avro_container.specs.Steps.{HasFault, PutsFront, Refusal, Stored, most_ahead, reading_of}
+use Rattle.avro_container.specs.Steps.{HasFault, PutsFront, Stored, reading_of}
 use Rattle.avro_container.proofs.Cut.{no_bytes}
 use Rattle.avro_container.proofs.Heads.{not_failed}
 use Rattle.avro_container.proofs.Stopping.{none_some}

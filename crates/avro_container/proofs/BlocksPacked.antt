@@ -1,17 +1,14 @@
 -- A block whose data are packed.
-use Rattle.std.proofs.Common.{◌≡◌, ℕ, pos, ◌+◌, ◌<◌, ◌≤◌, List, ◌++◌, length, take, drop, Some, refl, sym, ap, subst, ◌∙◌, arith, append_assoc, length-append}
-use Rattle.std.specs.List.{concat}
+use Rattle.std.proofs.Common.{◌≡◌, ℕ, pos, ◌+◌, ◌<◌, ◌≤◌, List, ◌++◌, length, take, drop, refl, sym, ap, subst, ◌∙◌, arith, append_assoc, length-append}
 use Rattle.std.proofs.lemmas.List.{take-append-drop, take_at, drop_at}
-use Rattle.avro_schema.specs.Value.{values_count}
 use Rattle.avro_binary.specs.Elements.{IsLong}
-use Rattle.avro_binary.specs.Breaks.{StartsWithLong}
-use Rattle.avro_container.specs.BlockFails.{FileLimitValues, BlockBegins, BlockFails, DataFail, max_blocks}
+use Rattle.avro_container.specs.BlockFails.{FileLimitValues, BlockFails, DataFail, max_blocks}
 use Rattle.avro_container.specs.BlockStands.{BlockStands}
 use Rattle.avro_container.specs.Copied.{Job}
 use Rattle.avro_container.specs.DataPacked.{IsCopyFault, PacksBlock, PacksData}
 use Rattle.avro_container.specs.DataRead.{IsDataFault}
 use Rattle.avro_container.specs.File.{HeaderValue}
-use Rattle.avro_container.specs.FileFault.{FileFault, BlockFault}
+use Rattle.avro_container.specs.FileFault.{FileFault}
 use Rattle.avro_container.specs.Steps.{reading_of}
 
 -- the block with what is made of it

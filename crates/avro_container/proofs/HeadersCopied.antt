@@ -1,5 +1,5 @@
 -- A header that is copied, or refused.
-use Rattle.std.proofs.Common.{◌≡◌, ℕ, ◌+◌, ◌≤◌, max, List, [], ◌++◌, length, take, drop, Option, Some, None, Result, Err, refl, sym, ap, subst, ◌∙◌, arith, length-append}
+use Rattle.std.proofs.Common.{◌≡◌, ℕ, ◌≤◌, max, List, [], ◌++◌, length, take, drop, Option, Some, None, Err, refl, sym, ap, subst, ◌∙◌, arith}
 use Rattle.std.proofs.lemmas.List.{take-append-drop, length-take-le}
 use Rattle.avro_container.specs.declared.error.CopyError.{CopyError}
 use Rattle.avro_container.specs.BlockCopied.{RefusesWithin}
@@ -13,7 +13,7 @@ use Rattle.avro_container.specs.HeaderCopied.{CopiesHeader}
 use Rattle.avro_container.specs.HeaderFails.{HeaderFails}
 use Rattle.avro_container.specs.HeaderTaken.{IsHeaderFault}
 use Rattle.avro_container.specs.Moved.{Moved}
-use Rattle.avro_container.specs.Steps.{HasFault, PutsFront, Stored, most_ahead}
+use Rattle.avro_container.specs.Steps.{HasFault, PutsFront, Stored}
 use Rattle.avro_container.proofs.Heads.{not_failed}
 use Rattle.avro_container.proofs.Stopping.{none_some}
 

@@ -1,5 +1,5 @@
 -- What a step gives, of what its parts give.
-use Rattle.std.proofs.Common.{◌≡◌, ℕ, suc, ◌+◌, ◌≤◌, max, true, false, List, [], ◌++◌, length, Option, Some, None, refl, sym, ap, subst, ◌∙◌, arith, append-nil}
+use Rattle.std.proofs.Common.{◌≡◌, ℕ, suc, ◌+◌, ◌≤◌, true, false, List, [], ◌++◌, length, Option, Some, None, refl, sym, ap, subst, ◌∙◌, arith, append-nil}
 use Rattle.std.proofs.lemmas.Bool.{false≢true}
 use Rattle.avro_container.specs.BlockCopied.{CopiesBlock, GivesWithin, RefusesWithin}
 use Rattle.avro_container.specs.BlockFails.{FileLimitValues}
@@ -8,7 +8,7 @@ use Rattle.avro_container.specs.File.{HeaderValue}
 use Rattle.avro_container.specs.FileFault.{FileFault}
 use Rattle.avro_container.specs.HeaderCopied.{CopiesHeader}
 use Rattle.avro_container.specs.Moved.{Moved}
-use Rattle.avro_container.specs.Steps.{GoesOn, Outcome, Steps, Stored, most_ahead}
+use Rattle.avro_container.specs.Steps.{GoesOn, Outcome, Steps, Stored}
 
 -- a step after an error
 pub step-failed : {I O : Type 0} (gives : I → List ℕ → I → Type 0) (keeps : O → List ℕ → O → Type 0) → ((s : I) → gives s [] s) → ((s : O) → keeps s [] s)

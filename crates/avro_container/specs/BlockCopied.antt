@@ -1,5 +1,5 @@
 -- What copying a block does.
-use Rattle.std.specs.Prelude.{◌≡◌, ℕ, ◌+◌, ◌<◌, ◌≤◌, List, ◌++◌, length, Option, Some}
+use Rattle.std.specs.Prelude.{◌≡◌, ℕ, ◌+◌, ◌<◌, ◌≤◌, List, ◌++◌, length, Option}
 use Rattle.avro_schema.specs.Value.{Values, values_count}
 use Rattle.avro_container.specs.BlockFails.{FileLimitValues, max_blocks}
 use Rattle.avro_container.specs.Copied.{Job, IsCopiedBlock}

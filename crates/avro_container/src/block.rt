@@ -100,7 +100,7 @@ fn made_data_fit(reader: Option<&ReaderText>)
     ensures { (nodes : List Node) (v u : Value) → fits nodes (root_of nodes) v ≡ true
         → resolution (option_map (λ r. schema_nodes r.1) (option_copied reader.entry)) nodes v ≡ Ok u
         → fits (read_nodes nodes (option_map (λ r. schema_nodes r.1) (option_copied reader.entry)))
-            (root_of (read_nodes nodes (option_map (λ r. schema_nodes r.1) (option_copied reader.entry)))) u ≡ true }
+        (root_of (read_nodes nodes (option_map (λ r. schema_nodes r.1) (option_copied reader.entry)))) u ≡ true }
 {
     resolved_fits();
     match reader {

@@ -17,8 +17,8 @@ use crate::error::CopyError;
 use crate::header::Header;
 use crate::header_put::marker;
 use crate::packed_block::take_packed;
-use crate::store::Store;
 use crate::sink::put_block;
+use crate::store::Store;
 use crate::task::Task;
 
 /// Takes the next block, behind a number of others, puts its copy, and answers how many data it has; nothing where the input

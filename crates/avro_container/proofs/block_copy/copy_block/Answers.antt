@@ -1,5 +1,5 @@
 -- A block is taken, packed and put.
-use Rattle.std.proofs.Common.{◌≡◌, ◌+◌, ◌<◌, List, ℕ, Err, ap, sym, subst, ◌∙◌, rules}
+use Rattle.std.proofs.Common.{◌+◌, ◌<◌, List, ℕ, sym, subst}
 use Rattle.avro_container.specs.BlockFails.{max_blocks}
 use Rattle.avro_container.specs.Filled.{PutsFrontOf}
 use Rattle.avro_container.specs.Held.{held}

@@ -1,5 +1,4 @@
 -- A header is taken and put.
-use Rattle.std.proofs.Common.{◌≡◌, ◌+◌, List, ℕ, Err, ap, sym, subst, ◌∙◌, rules}
 use Rattle.avro_container.specs.Held.{held}
 use Rattle.avro_container.specs.HeaderTaken.{header_value}
 use Rattle.avro_container.specs.TaskSeen.{job_of}

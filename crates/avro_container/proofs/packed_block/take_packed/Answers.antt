@@ -1,5 +1,5 @@
 -- A block stands, and its data are packed.
-use Rattle.std.proofs.Common.{◌≡◌, ◌+◌, ◌≤◌, max, List, ℕ, length, take, drop, Err, ap, sym, subst, ◌∙◌, refl, arith, rules}
+use Rattle.std.proofs.Common.{◌≡◌, ◌+◌, List, ℕ, take, drop, ap, sym, subst, ◌∙◌, refl, arith, rules}
 use Rattle.avro_container.specs.BlockStands.{BlockStands}
 use Rattle.avro_container.specs.DataPacked.{PacksData}
 use Rattle.avro_container.specs.DataRead.{IsDataFault}

@@ -1,8 +1,7 @@
 -- The header or the next block is copied.
-use Rattle.std.proofs.Common.{◌≡◌, Option, Some, None, refl, sym, ap, ◌∙◌, rules, arith}
+use Rattle.std.proofs.Common.{◌≡◌, Some, refl, ap, rules, arith}
 use Rattle.std.specs.Prelude.{option_map}
 use Rattle.avro_container.specs.CopierSeen.{job_in, limits_in, stored_of}
-use Rattle.avro_container.specs.Held.{held}
 use Rattle.avro_container.specs.HeaderTaken.{header_value}
 use Rattle.avro_container.proofs.Stepping.{block-gives, end-gives, header-gives}
 use Rattle.avro_container.proofs.copier_type.Copier.next_part.Goals as goal

@@ -1,6 +1,6 @@
 -- A step, or what it answers after an error or the end.
-use Rattle.std.proofs.Common.{◌≡◌, refl, rules}
-use Rattle.avro_container.specs.CopierSeen.{job_in, limits_in, outcome_of, stored_of}
+use Rattle.std.proofs.Common.{refl, rules}
+use Rattle.avro_container.specs.CopierSeen.{job_in, limits_in, stored_of}
 use Rattle.avro_container.specs.FileSeen.{file_fault}
 use Rattle.avro_container.specs.Steps.{GoesOn}
 use Rattle.avro_container.proofs.Stepping.{step-ended, step-failed, step-gives, step-refused}
