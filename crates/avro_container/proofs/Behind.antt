@@ -12,7 +12,7 @@ use Rattle.avro_container.specs.FileSeen.{file_fault, header_part_fault}
 use Rattle.avro_container.specs.Filled.{GrowsBy, TakesAtMost, UnlessDevice}
 use Rattle.avro_container.specs.Named.{IsNamed}
 use Rattle.avro_container.specs.HeaderFails.{ContentWants}
-use Rattle.avro_container.specs.HeaderParts.{Takes, Refused, PartStops, LengthBreaks, LengthWants, ContentFrom}
+use Rattle.avro_container.specs.inside.HeaderParts.{Takes, Refused, PartStops, LengthBreaks, LengthWants, ContentFrom}
 use Rattle.avro_container.proofs.Taking.{GrowsBy-chain, TakesAtMost-later, TakesAtMost-from_grown, unless_failed}
 use Rattle.avro_container.proofs.Cut.{grown-behind}
 use Rattle.avro_container.proofs.Heads.{starts-grown}

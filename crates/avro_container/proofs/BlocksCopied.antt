@@ -4,10 +4,10 @@ use Rattle.std.proofs.lemmas.List.{take-append-drop}
 use Rattle.avro_schema.specs.Value.{Value, Values, no_values, value, values_count}
 use Rattle.avro_resolve.specs.Resolve.{Resolved}
 use Rattle.avro_container.specs.declared.error.CopyError.{CopyError}
-use Rattle.avro_container.specs.BlockCopied.{CopiesBlock, RefusesWithin}
+use Rattle.avro_container.specs.inside.BlockCopied.{CopiesBlock, RefusesWithin}
 use Rattle.avro_container.specs.BlockFails.{FileLimitValues, BlockFails, max_blocks}
 use Rattle.avro_container.specs.Copied.{Job, EachResolved, IsCopiedBlock, block_bytes, or_else}
-use Rattle.avro_container.specs.DataPacked.{IsCopyFault, PacksBlock}
+use Rattle.avro_container.specs.inside.DataPacked.{IsCopyFault, PacksBlock}
 use Rattle.avro_container.specs.File.{HeaderValue}
 use Rattle.avro_container.specs.FileFault.{FileFault}
 use Rattle.avro_container.specs.FileSeen.{file_fault}
@@ -53,6 +53,7 @@ copies-block gives keeps i i' o o' job limits h number count n old mid new packe
     few = few;
     split = sym grown.grown ∙ sym (take-append-drop n mid) ∙ ap (λ rest. take n mid ++ rest) (sym passed);
     copied = block_copied job limits h count (take n mid) packed sync marked p;
+    small = p.small;
     held = omega (arith, ap length grown.grown, limited);
   };
 }

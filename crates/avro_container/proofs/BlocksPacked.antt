@@ -5,7 +5,7 @@ use Rattle.avro_binary.specs.Elements.{IsLong}
 use Rattle.avro_container.specs.BlockFails.{FileLimitValues, BlockFails, DataFail, max_blocks}
 use Rattle.avro_container.specs.BlockStands.{BlockStands}
 use Rattle.avro_container.specs.Copied.{Job}
-use Rattle.avro_container.specs.DataPacked.{IsCopyFault, PacksBlock, PacksData}
+use Rattle.avro_container.specs.inside.DataPacked.{IsCopyFault, PacksBlock, PacksData}
 use Rattle.avro_container.specs.DataRead.{IsDataFault}
 use Rattle.avro_container.specs.File.{HeaderValue}
 use Rattle.avro_container.specs.FileFault.{FileFault}
@@ -40,6 +40,7 @@ block_packed job limits h count body bytes packed marker stands packs =
       counted = whole.counted;
       resolved = whole.resolved;
       packed_are = packs.packed_are;
+      small = whole.small refl;
     }
 
 -- a fault of the data is one of the block, with bytes behind it

@@ -1,5 +1,7 @@
 -- What holds between the steps of a copy, and what each step makes of it.
-use Rattle.std.proofs.Common.{◌≡◌, ℕ, ◌+◌, ◌-◌, ◌*◌, ◌<◌, ◌≤◌, List, [], ◌++◌, Some, None, Ok, Err, refl, sym, ap, subst, ◌∙◌, arith, append-nil}
+use Rattle.std.proofs.Common.{◌≡◌, ℕ, ◌+◌, ◌-◌, ◌*◌, ◌<◌, ◌≤◌, List, [], ◌∷◌, ◌++◌, Some, None, Ok, Err, refl, sym, ap, subst, ◌∙◌, arith, append-nil}
+use Rattle.std.specs.List.{sum}
+use Rattle.std.proofs.lemmas.List.Sums.{sum_by_push}
 use Rattle.avro_container.specs.declared.copier_type.Copier.{Copier}
 use Rattle.avro_container.specs.declared.error.CopyError.{CopyError}
 use Rattle.avro_container.specs.declared.step.Step.{Step}
@@ -23,17 +25,39 @@ steps_left s = elim s.header [
 
 -- what has been done by the steps so far
 pub record HasRun {I O : Type 0} (gives : I → List ℕ → I → Type 0) (keeps : O → List ℕ → O → Type 0) (input_first input : I) (output_first output : O) (job : Job) (limits : FileLimitValues) (copier : Copier) (items blocks : ℕ) : Type 0 where
+  pub counts : List ℕ
   pub taken : List ℕ
   pub put : List ℕ
   pub is_taken : gives input_first taken input
   pub is_put : keeps output_first put output
-  pub done : Done job limits (stored_of copier) items taken put
+  pub done : Done job limits (stored_of copier) counts taken put
+  pub sum_is : sum counts ≡ items
   pub goes_on : GoesOn (stored_of copier)
   pub same_job : job_in copier ≡ job
   pub same_limits : limits_in copier ≡ limits
   pub blocks_are : (stored_of copier).blocks ≡ blocks
   pub few : blocks ≤ max_blocks
   pub items_few : items ≤ blocks * 16777216
+
+-- nothing yet
+pub HasRun-begin : {I O : Type 0} (gives : I → List ℕ → I → Type 0) (keeps : O → List ℕ → O → Type 0) → ((s : I) → gives s [] s) → ((s : O) → keeps s [] s)
+    → (i : I) (o : O) (job : Job) (limits : FileLimitValues) (c : Copier) → stored_of c ≡ fresh → job_in c ≡ job → limits_in c ≡ limits
+    → HasRun gives keeps i i o o job limits c 0 0
+HasRun-begin gives keeps none_i none_o i o job limits c is_fresh same same_limits = record {
+  counts = [];
+  taken = [];
+  put = [];
+  is_taken = none_i i;
+  is_put = none_o o;
+  done = subst (λ s. Done job limits s [] [] []) (sym is_fresh) (Done.none_yet refl refl refl refl refl);
+  sum_is = refl;
+  goes_on = subst GoesOn (sym is_fresh) (refl, refl);
+  same_job = same;
+  same_limits = same_limits;
+  blocks_are = ap (λ (s : Stored). s.blocks) is_fresh;
+  few = omega arith;
+  items_few = omega arith;
+}
 
 abbrev pub Chains : {D : Type 0} → (D → List ℕ → D → Type 0) → Type 0
 Chains {D} gives = (s t u : D) (front back : List ℕ) → gives s front t → gives t back u → gives s (front ++ back) u
@@ -69,11 +93,13 @@ HasRun-header gives keeps chain_i chain_o i0 i i' o0 o o' job limits ended c c' 
     let does = step-of gives keeps i0 i i' o0 o o' job limits ended c c' items blocks Outcome.header r m in
     let step = does.gives r.goes_on.0 r.goes_on.1 in
     record {
+      counts = r.counts;
       taken = r.taken ++ m.taken;
       put = r.put ++ m.put;
       is_taken = chain_i i0 i i' r.taken m.taken r.is_taken m.is_taken;
       is_put = chain_o o0 o o' r.put m.put r.is_put m.is_put;
-      done = Done-header job limits (stored_of c) (stored_of c') items r.taken r.put m.taken m.put r.done step;
+      done = Done-header job limits (stored_of c) (stored_of c') r.counts r.taken r.put m.taken m.put r.done step;
+      sum_is = r.sum_is;
       goes_on = step.goes_on;
       same_job = same ∙ r.same_job;
       same_limits = same_limits ∙ r.same_limits;
@@ -95,11 +121,13 @@ HasRun-block gives keeps chain_i chain_o i0 i i' o0 o o' job limits ended c c' i
     let one = step.count in
     let below = step.few in
     record {
+      counts = r.counts ++ n ∷ [];
       taken = r.taken ++ m.taken;
       put = r.put ++ m.put;
       is_taken = chain_i i0 i i' r.taken m.taken r.is_taken m.is_taken;
       is_put = chain_o o0 o o' r.put m.put r.is_put m.is_put;
-      done = Done-block job limits (stored_of c) (stored_of c') items n r.taken r.put m.taken m.put r.done step;
+      done = Done-block job limits (stored_of c) (stored_of c') r.counts n r.taken r.put m.taken m.put r.done step;
+      sum_is = sum_by_push (λ x. x) r.counts n ∙ ap (λ k. k + n) r.sum_is;
       goes_on = step.goes_on;
       same_job = same ∙ r.same_job;
       same_limits = same_limits ∙ r.same_limits;
@@ -117,8 +145,9 @@ HasRun-end gives keeps chain_i chain_o i0 i i' o0 o o' o'' job limits ended c c'
     let does = step-of gives keeps i0 i i' o0 o o' job limits ended c c' items blocks Outcome.at_end r m in
     let puts = subst (λ p. keeps o p o'') (append-nil m.put) (chain_o o o' o'' m.put [] m.is_put flushed) in
     moved-on gives keeps chain_i chain_o i0 i i' o0 o o'' r.taken r.put m.taken m.put (CopiedWhole job limits ended items blocks) r.is_taken r.is_put m.is_taken puts
-    (subst (λ k. CopiedWhole job limits ended items k (r.taken ++ m.taken) (r.put ++ m.put)) r.blocks_are
-    (CopiedWhole-end job limits (stored_of c) (stored_of c') items ended r.taken r.put m.taken m.put r.done (does.gives r.goes_on.0 r.goes_on.1)))
+    (subst (λ i. CopiedWhole job limits ended i blocks (r.taken ++ m.taken) (r.put ++ m.put)) r.sum_is
+    (subst (λ k. CopiedWhole job limits ended (sum r.counts) k (r.taken ++ m.taken) (r.put ++ m.put)) r.blocks_are
+    (CopiedWhole-end job limits (stored_of c) (stored_of c') r.counts ended r.taken r.put m.taken m.put r.done (does.gives r.goes_on.0 r.goes_on.1))))
 
 -- what was copied whole is a front of it
 pub CopiesFront-whole : {I O : Type 0} (gives : I → List ℕ → I → Type 0) (keeps : O → List ℕ → O → Type 0) (i0 i : I) (o0 o : O) (job : Job)
@@ -139,7 +168,7 @@ pub HasRun-refused : {I O : Type 0} (gives : I → List ℕ → I → Type 0) (k
 HasRun-refused gives keeps chain_i chain_o i0 i i' o0 o o' job limits ended c c' items blocks e r m =
     let does = step-of gives keeps i0 i i' o0 o o' job limits ended c c' items blocks (Outcome.refused (file_fault e)) r m in
     moved-on gives keeps chain_i chain_o i0 i i' o0 o o' r.taken r.put m.taken m.put (PutInAll job limits) r.is_taken r.is_put m.is_taken m.is_put
-    (PutInAll-refused job limits ended (stored_of c) (stored_of c') items r.taken r.put m.taken m.put (file_fault e) r.done
+    (PutInAll-refused job limits ended (stored_of c) (stored_of c') r.counts r.taken r.put m.taken m.put (file_fault e) r.done
     (does.gives r.goes_on.0 r.goes_on.1) does.held)
 
 pub HasRun-fault : {I O : Type 0} (gives : I → List ℕ → I → Type 0) (keeps : O → List ℕ → O → Type 0) → Chains gives → Chains keeps
@@ -150,5 +179,5 @@ HasRun-fault gives keeps chain_i chain_o i0 i i' o0 o o' job limits ended c c' i
     let does = step-of gives keeps i0 i i' o0 o o' job limits ended c c' items blocks (Outcome.refused (file_fault e)) r m in
     moved-on gives keeps chain_i chain_o i0 i i' o0 o o' r.taken r.put m.taken m.put (λ taken put. FaultStands job limits ended taken put f)
     r.is_taken r.is_put m.is_taken m.is_put
-    (FaultStands-refused job limits ended (stored_of c) (stored_of c') items r.taken r.put m.taken m.put (file_fault e) f r.done
+    (FaultStands-refused job limits ended (stored_of c) (stored_of c') r.counts r.taken r.put m.taken m.put (file_fault e) f r.done
     (does.gives r.goes_on.0 r.goes_on.1) is_fault)

@@ -7,10 +7,10 @@ use Rattle.avro_container.specs.File.{Property, property, is_plain_codec, IsHead
 use Rattle.avro_container.specs.FileFault.{FileFault, in_header, no_magic, no_schema, refused_schema, unknown_codec, long_header, cut_header}
 use Rattle.avro_container.specs.FileSeen.{file_fault, header_part_fault}
 use Rattle.avro_container.specs.Filled.{GrowsBy}
-use Rattle.avro_container.specs.HeaderEnds.{BeginsHeader, MarkerStops, FrameStands, SaySchema, IsNoSchema, SayNone}
+use Rattle.avro_container.specs.inside.HeaderEnds.{BeginsHeader, MarkerStops, FrameStands, SaySchema, IsNoSchema, SayNone}
 use Rattle.avro_container.specs.HeaderFails.{HeaderFails, EndsIn, MetadataStands, IsWholeWithin}
 use Rattle.avro_container.specs.HeaderTaken.{IsHeaderFault, TakesHeaderFault}
-use Rattle.avro_container.specs.MetadataParts.{MetadataEnds}
+use Rattle.avro_container.specs.inside.MetadataParts.{MetadataEnds}
 use Rattle.avro_container.specs.declared.error.CopyError.{CopyError}
 use Rattle.avro_container.specs.declared.part_error.PartError.{PartError}
 use Rattle.avro_container.proofs.PropertyRuns.{stretch_grown}

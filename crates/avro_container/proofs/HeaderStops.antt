@@ -6,10 +6,10 @@ use Rattle.avro_binary.specs.Breaks.{all_left}
 use Rattle.avro_container.specs.File.{magic}
 use Rattle.avro_container.specs.FileFault.{FileFault, invalid_metadata, long_header, cut_header}
 use Rattle.avro_container.specs.HeaderFails.{HeaderFails, EndsIn, MetadataBreaks, PropertyWants, entry_limits}
-use Rattle.avro_container.specs.HeaderEnds.{BeginsHeader}
-use Rattle.avro_container.specs.HeaderParts.{PartStops, PropertyBreaks}
+use Rattle.avro_container.specs.inside.HeaderEnds.{BeginsHeader}
+use Rattle.avro_container.specs.inside.HeaderParts.{PartStops, PropertyBreaks}
 use Rattle.avro_container.specs.HeaderTaken.{IsHeaderFault}
-use Rattle.avro_container.specs.MetadataParts.{Blocks}
+use Rattle.avro_container.specs.inside.MetadataParts.{Blocks}
 
 as_metadata : (bytes : List ℕ) (f : ReadFault) → Blocks PropertyBreaks (all_left entry_limits) bytes f → MetadataBreaks bytes f
 as_metadata bytes f b = b

@@ -2,14 +2,14 @@
 use Rattle.std.proofs.Common.{◌≡◌, ℕ, ◌≤◌, max, List, [], ◌++◌, length, take, drop, Option, Some, None, Err, refl, sym, ap, subst, ◌∙◌, arith}
 use Rattle.std.proofs.lemmas.List.{take-append-drop, length-take-le}
 use Rattle.avro_container.specs.declared.error.CopyError.{CopyError}
-use Rattle.avro_container.specs.BlockCopied.{RefusesWithin}
+use Rattle.avro_container.specs.inside.BlockCopied.{RefusesWithin}
 use Rattle.avro_container.specs.BlockFails.{FileLimitValues}
 use Rattle.avro_container.specs.Copied.{Job, copied_header}
 use Rattle.avro_container.specs.File.{HeaderValue, IsHeader}
 use Rattle.avro_container.specs.FileFault.{FileFault}
 use Rattle.avro_container.specs.FileSeen.{file_fault}
 use Rattle.avro_container.specs.Filled.{GrowsBy, PutsFrontOf, TakesAtMost, UnlessFailed}
-use Rattle.avro_container.specs.HeaderCopied.{CopiesHeader}
+use Rattle.avro_container.specs.inside.HeaderCopied.{CopiesHeader}
 use Rattle.avro_container.specs.HeaderFails.{HeaderFails}
 use Rattle.avro_container.specs.HeaderTaken.{IsHeaderFault}
 use Rattle.avro_container.specs.Moved.{Moved}

@@ -14,8 +14,8 @@ use Rattle.avro_binary.specs.Fault.{ReadFault, behind}
 use Rattle.avro_binary.specs.Breaks.{Left, all_left, Head, counted, sized, head_count, head_bytes, IsHead, HasSize, BlocksBreak, EntriesAreWhole}
 use Rattle.avro_container.specs.File.{Property, property_entries, metadata_nodes, metadata_value}
 use Rattle.avro_container.specs.HeaderFails.{PropertyWants, entry_limits}
-use Rattle.avro_container.specs.HeaderParts.{EachProperty, PropertiesRun, left_after, PropertyBreaks}
-use Rattle.avro_container.specs.MetadataParts.{Blocks, BlockRun, MetadataRun, metadata_left}
+use Rattle.avro_container.specs.inside.HeaderParts.{EachProperty, PropertiesRun, left_after, PropertyBreaks}
+use Rattle.avro_container.specs.inside.MetadataParts.{Blocks, BlockRun, MetadataRun, metadata_left}
 use Rattle.avro_container.proofs.Behind.{behind-append, behind-none}
 use Rattle.avro_container.proofs.PropertyRuns.{names-append, each-append, each-counted, each-spelled, each-texts, each-fit, entries-counted, keys-names, and-intro, run_whole}
 

@@ -9,8 +9,8 @@ use Rattle.avro_container.specs.File.{Property}
 use Rattle.avro_container.specs.FileFault.{FileFault, in_header, invalid_metadata}
 use Rattle.avro_container.specs.Filled.{GrowsBy}
 use Rattle.avro_container.specs.HeaderFails.{PropertyWants, entry_limits}
-use Rattle.avro_container.specs.HeaderParts.{Stretch, AreNames, names_of, left_after, PropertyBreaks, RunStops, PartStops, TakesProperties}
-use Rattle.avro_container.specs.MetadataParts.{Blocks, BlockRun, MetadataRun, MetadataSoFar, MetadataEnds, TakesHead, metadata_left}
+use Rattle.avro_container.specs.inside.HeaderParts.{Stretch, AreNames, names_of, left_after, PropertyBreaks, RunStops, PartStops, TakesProperties}
+use Rattle.avro_container.specs.inside.MetadataParts.{Blocks, BlockRun, MetadataRun, MetadataSoFar, MetadataEnds, TakesHead, metadata_left}
 use Rattle.avro_container.specs.declared.properties_head.PropertiesHead.{PropertiesHead}
 use Rattle.avro_container.proofs.Behind.{stops-whole, behind-append}
 use Rattle.avro_container.proofs.PropertyRuns.{stretch_none, stretch_join, stretch_grown, names-append, run_whole}

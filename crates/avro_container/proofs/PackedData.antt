@@ -5,7 +5,7 @@ use Rattle.std.proofs.Math.Seq.{take-add}
 use Rattle.avro_schema.specs.Value.{Value, Values, no_values, value}
 use Rattle.avro_binary.specs.Encoding.{plain, plain_values}
 use Rattle.avro_container.specs.BlockFails.{BlockReading, DataAreWhole, DataFail}
-use Rattle.avro_container.specs.DataPacked.{PacksData}
+use Rattle.avro_container.specs.inside.DataPacked.{PacksData}
 use Rattle.avro_container.specs.DataRead.{IsDataFault}
 use Rattle.avro_container.specs.DatumRead.{MakesOf}
 use Rattle.avro_container.specs.FileFault.{FileFault, in_block, limit_passed}

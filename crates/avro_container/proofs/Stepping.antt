@@ -1,12 +1,12 @@
 -- What a step gives, of what its parts give.
 use Rattle.std.proofs.Common.{◌≡◌, ℕ, suc, ◌+◌, ◌≤◌, true, false, List, [], ◌++◌, length, Option, Some, None, refl, sym, ap, subst, ◌∙◌, arith, append-nil}
 use Rattle.std.proofs.lemmas.Bool.{false≢true}
-use Rattle.avro_container.specs.BlockCopied.{CopiesBlock, GivesWithin, RefusesWithin}
+use Rattle.avro_container.specs.inside.BlockCopied.{CopiesBlock, GivesWithin, RefusesWithin}
 use Rattle.avro_container.specs.BlockFails.{FileLimitValues}
 use Rattle.avro_container.specs.Copied.{Job}
 use Rattle.avro_container.specs.File.{HeaderValue}
 use Rattle.avro_container.specs.FileFault.{FileFault}
-use Rattle.avro_container.specs.HeaderCopied.{CopiesHeader}
+use Rattle.avro_container.specs.inside.HeaderCopied.{CopiesHeader}
 use Rattle.avro_container.specs.Moved.{Moved}
 use Rattle.avro_container.specs.Steps.{GoesOn, Outcome, Steps, Stored}
 
@@ -132,6 +132,7 @@ block-gives gives keeps i i' o o' job limits ended s t h n number same before af
       count = count;
       split = m.does.split;
       copied = m.does.copied;
+      small = m.does.small;
       goes_on = on;
     };
     held = omega (arith, m.does.held);

@@ -21,7 +21,7 @@ use Rattle.avro_container.specs.File.{Property, metadata_nodes}
 use Rattle.avro_container.specs.FileFault.{FileFault, in_header, invalid_metadata}
 use Rattle.avro_container.specs.Filled.{GrowsBy}
 use Rattle.avro_container.specs.HeaderFails.{ContentWants, PropertyWants}
-use Rattle.avro_container.specs.HeaderParts.{Stretch, ContentFrom, AreNames, NameStands, names_of, left_after, PropertyBreaks, RunStops, PartStops, TakesName, TakesProperty, TakesProperties}
+use Rattle.avro_container.specs.inside.HeaderParts.{Stretch, ContentFrom, AreNames, NameStands, names_of, left_after, PropertyBreaks, RunStops, PartStops, TakesName, TakesProperty, TakesProperties}
 use Rattle.avro_container.proofs.Behind.{stops-whole, stops-as}
 use Rattle.avro_container.proofs.PropertyRuns.{stretch_none, stretch_join, stretch_grown, names-append, run_none, run_push, count-below}
 

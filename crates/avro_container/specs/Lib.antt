@@ -14,15 +14,10 @@ pub mod BlockTaken
 pub mod DatumRead
 pub mod DataRead
 pub mod Parts
-pub mod HeaderParts
-pub mod MetadataParts
 pub mod HeaderTaken
-pub mod HeaderEnds
-pub mod BlockCopied
 pub mod CopierSeen
 pub mod Copying
-pub mod DataPacked
-pub mod HeaderCopied
 pub mod Moved
 pub mod Steps
 pub mod TaskSeen
+pub mod inside

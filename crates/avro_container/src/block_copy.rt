@@ -2,7 +2,7 @@
 
 ghost use Rattle.std.specs.Prelude.{◌≡◌, ◌≢◌, ◌⊎◌, ◌+◌, ◌<◌, ◌≤◌, [], length, OnOk, OnErr, IfOk, IfSome, IfNone, Some, Err};
 ghost use Rattle.std.specs.Result.{IfErr};
-ghost use Rattle.avro_container.specs.BlockCopied.{CopiesBlock, RefusesWithin};
+ghost use Rattle.avro_container.specs.inside.BlockCopied.{CopiesBlock, RefusesWithin};
 ghost use Rattle.avro_container.specs.BlockFails.{max_blocks};
 ghost use Rattle.avro_container.specs.FileSeen.{file_fault};
 ghost use Rattle.avro_container.specs.Held.{held};

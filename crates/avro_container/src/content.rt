@@ -6,7 +6,7 @@ ghost use Rattle.avro_binary.specs.Breaks.{ContentBreaks, StartsWithLong};
 ghost use Rattle.avro_container.specs.FileFault.{FileFault};
 ghost use Rattle.avro_container.specs.FileSeen.{file_fault, header_part_fault};
 ghost use Rattle.avro_container.specs.HeaderFails.{ContentWants};
-ghost use Rattle.avro_container.specs.HeaderParts.{ContentFrom, LengthBreaks, LengthWants, PartStops, Refused, Takes};
+ghost use Rattle.avro_container.specs.inside.HeaderParts.{ContentFrom, LengthBreaks, LengthWants, PartStops, Refused, Takes};
 ghost use Rattle.avro_container.specs.Held.{held};
 ghost use Rattle.avro_container.specs.Named.{IsNamed};
 

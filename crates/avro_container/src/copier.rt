@@ -2,7 +2,7 @@
 
 ghost use Rattle.std.specs.Prelude.{◌≡◌, ◌≢◌, ◌⊎◌, ◌≤◌, ◌<◌, ◌^◌, true, false, length, OnOk, OnErr, Ok, Err, IfOk};
 ghost use Rattle.std.specs.Result.{IfErr};
-ghost use Rattle.avro_container.specs.BlockCopied.{GivesWithin, RefusesWithin};
+ghost use Rattle.avro_container.specs.inside.BlockCopied.{GivesWithin, RefusesWithin};
 ghost use Rattle.avro_container.specs.CopierSeen.{job_in, limits_in, outcome_of, stored_of};
 ghost use Rattle.avro_container.specs.Copying.{IfBlock, Moves};
 ghost use Rattle.avro_container.specs.FileSeen.{file_fault};

@@ -4,8 +4,8 @@ ghost use Rattle.std.specs.Prelude.{◌≡◌, ◌≢◌, [], ◌+◌, ◌^◌, 
 ghost use Rattle.std.specs.Result.{IfErr};
 ghost use Rattle.avro_container.specs.FileFault.{FileFault};
 ghost use Rattle.avro_container.specs.FileSeen.{file_fault};
-ghost use Rattle.avro_container.specs.HeaderEnds.{FrameStands};
-ghost use Rattle.avro_container.specs.HeaderParts.{Refused, Takes};
+ghost use Rattle.avro_container.specs.inside.HeaderEnds.{FrameStands};
+ghost use Rattle.avro_container.specs.inside.HeaderParts.{Refused, Takes};
 ghost use Rattle.avro_container.specs.HeaderTaken.{IsHeaderFault};
 ghost use Rattle.avro_container.specs.Held.{held};
 ghost use Rattle.avro_container.specs.Parts.{properties_of};

@@ -7,7 +7,7 @@ ghost use Rattle.avro_schema_json.specs.DeclaredText.{DeclaresText};
 ghost use Rattle.avro_container.specs.File.{property, is_plain_codec};
 ghost use Rattle.avro_container.specs.FileFault.{FileFault};
 ghost use Rattle.avro_container.specs.FileSeen.{file_fault};
-ghost use Rattle.avro_container.specs.HeaderEnds.{IsNoSchema, SayNone, SaySchema};
+ghost use Rattle.avro_container.specs.inside.HeaderEnds.{IsNoSchema, SayNone, SaySchema};
 ghost use Rattle.avro_container.specs.Named.{IsNamed};
 ghost use Rattle.avro_container.specs.Parts.{properties_of};
 

@@ -6,9 +6,9 @@ ghost use Rattle.avro_binary.specs.Breaks.{all_left};
 ghost use Rattle.avro_container.specs.FileFault.{FileFault};
 ghost use Rattle.avro_container.specs.FileSeen.{file_fault};
 ghost use Rattle.avro_container.specs.HeaderFails.{PropertyWants, entry_limits};
-ghost use Rattle.avro_container.specs.HeaderParts.{PartStops, PropertyBreaks, Refused, Takes};
+ghost use Rattle.avro_container.specs.inside.HeaderParts.{PartStops, PropertyBreaks, Refused, Takes};
 ghost use Rattle.avro_container.specs.Held.{held};
-ghost use Rattle.avro_container.specs.MetadataParts.{Blocks, MetadataEnds, MetadataSoFar};
+ghost use Rattle.avro_container.specs.inside.MetadataParts.{Blocks, MetadataEnds, MetadataSoFar};
 ghost use Rattle.avro_container.specs.Parts.{properties_of};
 
 use crate::buffer::Buffer;

@@ -2,9 +2,9 @@
 
 ghost use Rattle.std.specs.Prelude.{◌≡◌, ◌≢◌, ◌⊎◌, ◌+◌, ◌≤◌, [], None, length, OnOk, OnErr, IfOk, Err};
 ghost use Rattle.std.specs.Result.{IfErr};
-ghost use Rattle.avro_container.specs.BlockCopied.{RefusesWithin};
+ghost use Rattle.avro_container.specs.inside.BlockCopied.{RefusesWithin};
 ghost use Rattle.avro_container.specs.FileSeen.{file_fault};
-ghost use Rattle.avro_container.specs.HeaderCopied.{CopiesHeader};
+ghost use Rattle.avro_container.specs.inside.HeaderCopied.{CopiesHeader};
 ghost use Rattle.avro_container.specs.HeaderTaken.{header_value};
 ghost use Rattle.avro_container.specs.Held.{held};
 ghost use Rattle.avro_container.specs.Named.{IsNamed};

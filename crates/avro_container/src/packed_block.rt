@@ -3,7 +3,7 @@
 ghost use Rattle.std.specs.Prelude.{◌≡◌, ◌≢◌, ◌+◌, ◌-◌, ◌^◌, ◌<◌, ◌≤◌, length, take, OnOk, OnErr, IfOk, IfSome, IfNone, Some, Err};
 ghost use Rattle.std.specs.Result.{IfErr};
 ghost use Rattle.avro_container.specs.BlockFails.{max_blocks};
-ghost use Rattle.avro_container.specs.DataPacked.{IsCopyFault, PacksBlock};
+ghost use Rattle.avro_container.specs.inside.DataPacked.{IsCopyFault, PacksBlock};
 ghost use Rattle.avro_container.specs.FileFault.{FileFault};
 ghost use Rattle.avro_container.specs.FileSeen.{file_fault};
 ghost use Rattle.avro_container.specs.Filled.{GrowsBy, TakesAtMost, UnlessFailed};

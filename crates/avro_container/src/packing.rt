@@ -3,7 +3,7 @@
 ghost use Rattle.std.specs.Prelude.{◌≡◌, ◌++◌, ◌<◌, ◌≤◌, None, Some, OnOk, length};
 ghost use Rattle.std.specs.Result.{IfErr};
 ghost use Rattle.avro_packed.specs.Pieces.{bytes_of};
-ghost use Rattle.avro_container.specs.DataPacked.{PacksData};
+ghost use Rattle.avro_container.specs.inside.DataPacked.{PacksData};
 ghost use Rattle.avro_container.specs.DataRead.{IsDataFault};
 ghost use Rattle.avro_container.specs.FileFault.{FileFault, in_block, limit_passed};
 ghost use Rattle.avro_container.specs.FileSeen.{file_fault};

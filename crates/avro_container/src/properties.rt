@@ -7,7 +7,7 @@ ghost use Rattle.avro_binary.specs.Breaks.{KeyBreaks, Left};
 ghost use Rattle.avro_container.specs.FileFault.{FileFault};
 ghost use Rattle.avro_container.specs.FileSeen.{file_fault};
 ghost use Rattle.avro_container.specs.HeaderFails.{ContentWants, PropertyWants};
-ghost use Rattle.avro_container.specs.HeaderParts.{AreNames, PartStops, PropertyBreaks, Refused, RunStops, Takes, TakesName, TakesProperty, TakesProperties};
+ghost use Rattle.avro_container.specs.inside.HeaderParts.{AreNames, PartStops, PropertyBreaks, Refused, RunStops, Takes, TakesName, TakesProperty, TakesProperties};
 ghost use Rattle.avro_container.specs.Held.{held};
 ghost use Rattle.avro_container.specs.Parts.{properties_of};
 

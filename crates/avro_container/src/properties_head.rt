@@ -6,8 +6,8 @@ ghost use Rattle.avro_binary.specs.Breaks.{HeadBreaks, StartsWithLong};
 ghost use Rattle.avro_binary.specs.BlockHeads.{signed_count};
 ghost use Rattle.avro_container.specs.FileFault.{FileFault};
 ghost use Rattle.avro_container.specs.FileSeen.{file_fault};
-ghost use Rattle.avro_container.specs.HeaderParts.{PartStops, Refused, Takes};
-ghost use Rattle.avro_container.specs.MetadataParts.{TakesHead};
+ghost use Rattle.avro_container.specs.inside.HeaderParts.{PartStops, Refused, Takes};
+ghost use Rattle.avro_container.specs.inside.MetadataParts.{TakesHead};
 ghost use Rattle.avro_container.specs.Held.{held};
 
 use crate::buffer::Buffer;

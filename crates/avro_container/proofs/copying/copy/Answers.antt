@@ -1,8 +1,13 @@
 -- Each step goes on from the run of those before it.
-use Rattle.std.proofs.Common.{◌≤◌, Ok, subst, ◌∙◌}
+use Rattle.std.proofs.Common.{◌≤◌, Ok, subst, ◌∙◌, refl}
 use Rattle.avro_container.specs.Copying.{IfBlock}
-use Rattle.avro_container.proofs.CopySteps.{HasRun-header, HasRun-block, HasRun-end, HasRun-refused, HasRun-fault, CopiesFront-whole}
+use Rattle.avro_container.proofs.CopySteps.{HasRun-begin, HasRun-header, HasRun-block, HasRun-end, HasRun-refused, HasRun-fault, CopiesFront-whole}
 use Rattle.avro_container.proofs.copying.copy.Goals as goal
+
+pub loop-count-init : goal.loop-count-init
+loop-count-init g c =
+    let copier = c.new-copier.ensures in
+    (HasRun-begin g.I.Input.gives g.O.Output.keeps g.met.I.Input.none g.met.O.Output.none _ _ _ _ c.new-copier.result copier.fresh copier.job copier.limits, refl, refl)
 
 pub loop-count-preserved-in-Ok-Header : goal.loop-count-preserved-in-Ok-Header
 loop-count-preserved-in-Ok-Header g c =

@@ -1,6 +1,6 @@
 -- What the metadata say that is wrong.
 use Rattle.std.proofs.Common.{sym, subst, ◌∙◌}
-use Rattle.avro_container.specs.HeaderEnds.{SayNone}
+use Rattle.avro_container.specs.inside.HeaderEnds.{SayNone}
 use Rattle.avro_container.specs.Parts.{properties_of}
 use Rattle.avro_container.proofs.HeaderEnds.{schema_stops}
 use Rattle.avro_container.proofs.Stopping.{some_inj}

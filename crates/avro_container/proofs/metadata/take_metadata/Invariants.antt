@@ -1,8 +1,8 @@
 -- The blocks so far stand behind the magic.
 use Rattle.std.proofs.Common.{◌+◌, ◌-◌, ◌≤◌, max, length}
-use Rattle.avro_container.specs.HeaderParts.{Takes}
+use Rattle.avro_container.specs.inside.HeaderParts.{Takes}
 use Rattle.avro_container.specs.Held.{held}
-use Rattle.avro_container.specs.MetadataParts.{MetadataSoFar}
+use Rattle.avro_container.specs.inside.MetadataParts.{MetadataSoFar}
 use Rattle.avro_container.specs.Parts.{properties_of}
 use Rattle.avro_container.proofs.metadata.take_metadata.Given as goal
 

@@ -2,7 +2,7 @@
 use Rattle.std.proofs.Common.{sym, arith}
 use Rattle.avro_container.specs.Held.{held}
 use Rattle.avro_container.specs.Parts.{properties_of}
-use Rattle.avro_container.specs.MetadataParts.{metadata_left}
+use Rattle.avro_container.specs.inside.MetadataParts.{metadata_left}
 use Rattle.avro_container.proofs.Behind.{own_refused, then_refused, takes_then, reports_not_failed}
 use Rattle.avro_container.proofs.Stopping.{some_inj}
 use Rattle.avro_container.proofs.MetadataTaken.{next_head_stops, next_run_stops, block_pushed, size_stops, metadata_ended, many_left, few_so_far, head_small, head_further}

@@ -1,7 +1,7 @@
 -- A block stands, and its data are packed.
 use Rattle.std.proofs.Common.{◌≡◌, ◌+◌, List, ℕ, take, drop, ap, sym, subst, ◌∙◌, refl, arith, rules}
 use Rattle.avro_container.specs.BlockStands.{BlockStands}
-use Rattle.avro_container.specs.DataPacked.{PacksData}
+use Rattle.avro_container.specs.inside.DataPacked.{PacksData}
 use Rattle.avro_container.specs.DataRead.{IsDataFault}
 use Rattle.avro_container.specs.Filled.{GrowsBy}
 use Rattle.avro_container.specs.HeaderTaken.{header_value}

@@ -11,7 +11,7 @@ use Rattle.avro_resolve.specs.declared.error.ReadResolveError.{ReadResolveError}
 use Rattle.avro_packed.specs.Pieces.{bytes_of, IsPlainOf}
 use Rattle.avro_packed.specs.declared.pieces.Pieces.{Pieces}
 use Rattle.avro_container.specs.BlockFails.{BlockReading, DataAreWhole}
-use Rattle.avro_container.specs.DataPacked.{PacksData}
+use Rattle.avro_container.specs.inside.DataPacked.{PacksData}
 use Rattle.avro_container.specs.DataRead.{resolution}
 use Rattle.avro_container.specs.DatumRead.{MakesOf, ReadsDatum}
 use Rattle.avro_container.specs.Steps.{reading_of}

@@ -1,6 +1,6 @@
 -- The data so far are packed, which are the bytes before the place.
 use Rattle.std.proofs.Common.{◌-◌, ◌≤◌, length, take}
-use Rattle.avro_container.specs.DataPacked.{PacksData}
+use Rattle.avro_container.specs.inside.DataPacked.{PacksData}
 use Rattle.avro_container.specs.Steps.{reading_of}
 use Rattle.avro_container.specs.HeaderTaken.{header_value}
 use Rattle.avro_container.specs.TaskSeen.{job_of}

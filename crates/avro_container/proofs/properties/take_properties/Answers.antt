@@ -1,7 +1,7 @@
 -- One property more, and what stops the next.
 use Rattle.std.proofs.Common.{◌<◌, arith}
 use Rattle.avro_container.specs.Held.{held}
-use Rattle.avro_container.specs.HeaderParts.{left_after}
+use Rattle.avro_container.specs.inside.HeaderParts.{left_after}
 use Rattle.avro_container.proofs.Behind.{then_refused, takes_then, takes_none, reports_not_failed}
 use Rattle.avro_container.proofs.Taken.{properties_none, properties_push, next_stops}
 use Rattle.avro_container.proofs.properties.take_properties.Goals as goal

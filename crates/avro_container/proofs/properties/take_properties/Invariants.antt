@@ -2,7 +2,7 @@
 use Rattle.std.proofs.Common.{◌≡◌, ◌+◌, ◌-◌, ◌≤◌, max, true, length, bytes_eq}
 use Rattle.avro_schema.specs.Distinct.{are_distinct}
 use Rattle.avro_binary.specs.Breaks.{Left}
-use Rattle.avro_container.specs.HeaderParts.{AreNames, Takes, TakesProperties}
+use Rattle.avro_container.specs.inside.HeaderParts.{AreNames, Takes, TakesProperties}
 use Rattle.avro_container.specs.Held.{held}
 use Rattle.avro_container.specs.Parts.{properties_of}
 use Rattle.avro_container.proofs.properties.take_properties.Given as goal

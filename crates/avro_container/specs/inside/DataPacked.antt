@@ -22,6 +22,7 @@ pub record PacksBlock (job : Job) (limits : FileLimitValues) (h : HeaderValue) (
   pub counted : values_count values ≡ count
   pub resolved : EachResolved (job.resolve h.nodes) values made
   pub packed_are : packed ≡ plain_values made
+  pub small : length (plain_values made) ≤ limits.block
 
 -- the fault is one of this block, which is copied
 abbrev pub IsCopyFault : Job → FileLimitValues → HeaderValue → ℕ → Type 0 → List ℕ → FileFault → Type 0

@@ -1,6 +1,7 @@
 -- What copying a block does.
 use Rattle.std.specs.Prelude.{◌≡◌, ℕ, ◌+◌, ◌<◌, ◌≤◌, List, ◌++◌, length, Option}
 use Rattle.avro_schema.specs.Value.{Values, values_count}
+use Rattle.avro_binary.specs.Encoding.{plain_values}
 use Rattle.avro_container.specs.BlockFails.{FileLimitValues, max_blocks}
 use Rattle.avro_container.specs.Copied.{Job, IsCopiedBlock}
 use Rattle.avro_container.specs.File.{HeaderValue}
@@ -16,6 +17,7 @@ pub record CopiesBlock (job : Job) (limits : FileLimitValues) (h : HeaderValue) 
   pub few : number < max_blocks
   pub split : old ++ taken ≡ bytes ++ new
   pub copied : IsCopiedBlock job h values put
+  pub small : length (plain_values copied.0) ≤ limits.block
   pub held : length (old ++ taken) ≤ limits.block + 36
 
 -- a refusal, with the bound on what is held

@@ -1,0 +1,7 @@
+-- What only proofs and private contracts need.
+pub mod BlockCopied
+pub mod DataPacked
+pub mod HeaderCopied
+pub mod HeaderEnds
+pub mod HeaderParts
+pub mod MetadataParts
