@@ -11,10 +11,11 @@ ghost use Rattle.avro_container.specs.DataRead.{FitAll, IsDataFault, StandForDat
 ghost use Rattle.avro_container.specs.FileFault.{FileFault};
 ghost use Rattle.avro_container.specs.FileSeen.{file_fault};
 
-use crate::datum_read::{datum_error, read_datum};
+use crate::datum_read::datum_error;
 use crate::error::CopyError;
 use crate::header::Header;
 use crate::limits::FileLimits;
+use crate::plan_for::{plan_for, read_by_plan};
 use avro_binary::Build;
 use avro_resolve::laws::resolved_fits;
 use avro_schema_json::ReaderText;
@@ -71,12 +72,16 @@ impl<'a> Block<'a> {
         let count = self.count();
         let end = self.body.len();
         made_data_fit(reader);
+        let plan = match plan_for(alloc, schema, reader) {
+            Ok(plan) => plan,
+            Err(_) => return Err(CopyError::OutOfMemory),
+        };
         let mut answers = Vec::new(alloc);
         let mut start = 0;
         let mut datum = 0;
         while datum < count {
             let (_, rest) = self.body.split_at(start);
-            match read_datum(alloc, schema, reader, rest, &limits, builder) {
+            match read_by_plan(alloc, schema, &plan, rest, &limits, builder) {
                 Ok((answer, len)) => {
                     match answers.push(answer) {
                         Ok(()) => {}

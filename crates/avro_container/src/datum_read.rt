@@ -1,40 +1,14 @@
-//! Reading one datum of a block.
+//! Why a datum of a block is not read.
 
 ghost use Rattle.std.specs.Prelude.{◌≡◌, option_map, None};
-ghost use Rattle.std.specs.Option.{option_copied};
-ghost use Rattle.avro_schema.specs.SeenSchema.{schema_nodes};
 ghost use Rattle.avro_binary.specs.Fault.{behind};
 ghost use Rattle.avro_binary.specs.Seen.{read_fault};
-ghost use Rattle.avro_container.specs.DataRead.{resolution};
-ghost use Rattle.avro_container.specs.DatumRead.{FitsBehind, PlaceFits, ReadsDatum, error_fault};
+ghost use Rattle.avro_container.specs.DatumRead.{FitsBehind, PlaceFits, error_fault};
 ghost use Rattle.avro_container.specs.FileSeen.{file_fault};
 
 use crate::error::{CopyError, LimitPlace};
-use avro_binary::{Build, ReadError, read_own};
-use avro_resolve::{ReadResolveError, read_resolved};
-use avro_schema::{Limits, Schema};
-use avro_schema_json::ReaderText;
-use std::alloc::Global;
-
-/// Reads a datum from the front of bytes, into the reader's schema where there is one.
-pub(crate) fn read_datum<B: Build>(
-    alloc: Global,
-    schema: &Schema,
-    reader: Option<&ReaderText>,
-    bytes: &[u8],
-    limits: &Limits,
-    builder: &mut B,
-) -> Result<(B::Out, usize), ReadResolveError>
-    ensures { ReadsDatum B.stands_for (schema_nodes schema.now) limits.now (resolution (option_map (λ r. schema_nodes r.1) (option_copied reader.entry)) (schema_nodes schema.now)) bytes.now result }
-{
-    match reader {
-        Some(reader) => read_resolved(alloc, schema, reader.schema(), bytes, limits, builder),
-        None => match read_own(alloc, schema, bytes, limits, builder) {
-            Ok(answer) => Ok(answer),
-            Err(error) => Err(ReadResolveError::Read(error)),
-        },
-    }
-}
+use avro_binary::ReadError;
+use avro_resolve::ReadResolveError;
 
 /// The same error of bytes that stand behind so many others.
 fn moved(error: ReadError, start: usize) -> ReadError

@@ -34,6 +34,7 @@ mod opening;
 mod packed_block;
 mod packing;
 mod part_error;
+mod plan_for;
 mod properties;
 mod properties_head;
 mod putting;

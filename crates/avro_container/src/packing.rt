@@ -11,9 +11,10 @@ ghost use Rattle.avro_container.specs.Steps.{reading_of};
 ghost use Rattle.avro_container.specs.HeaderTaken.{header_value};
 ghost use Rattle.avro_container.specs.TaskSeen.{job_of};
 
-use crate::datum_read::{datum_error, read_datum};
+use crate::datum_read::datum_error;
 use crate::error::{CopyError, LimitPlace};
 use crate::header::Header;
+use crate::plan_for::{plan_for, read_by_plan};
 use crate::task::Task;
 use avro_packed::{Packed, Pieces, append};
 
@@ -63,11 +64,15 @@ pub(crate) fn pack_data(
     let limits = task.limits.datum();
     let most = task.limits.block() as usize;
     let end = body.len();
+    let plan = match plan_for(alloc, schema, task.reader) {
+        Ok(plan) => plan,
+        Err(_) => return Err(CopyError::OutOfMemory),
+    };
     let mut start = 0;
     let mut datum = 0;
     while datum < count {
         let (_, rest) = body.split_at(start);
-        match read_datum(alloc, schema, task.reader, rest, &limits, &mut Packed) {
+        match read_by_plan(alloc, schema, &plan, rest, &limits, &mut Packed) {
             Ok((pieces, len)) => {
                 match keep(pieces, most, number, packed) {
                     Ok(()) => {}

@@ -23,23 +23,36 @@ abbrev Refuses : {O : Type 0} → (O → Value → Type 0) → Option (List Node
 Refuses {O} stands reader e nodes limits bytes = ReadsDatum {O = O} stands nodes limits (resolution reader nodes) bytes (Err e)
 
 pub loop-datum-init : goal.loop-datum-init
-loop-datum-init g c = (omega arith, omega arith, stand-none g.B.Build.stands_for _ c.new-answers.result.items c.new-answers.ensures.items)
+loop-datum-init g c = (
+  omega arith,
+  omega arith,
+  stand-none g.B.Build.stands_for _ c.new-answers.result.items c.new-answers.ensures.items,
+  c.in-Ok.ensures.of_writer,
+  c.in-Ok.ensures.of_reader,
+)
 
 pub loop-datum-preserved : goal.loop-datum-preserved
 loop-datum-preserved g c =
     let header = c.args.self.now.header.now in
     let body = c.args.self.now.body.items in
     let start = c.loop-datum.start in
-    let len = c.in-Ok.len in
+    let answer = c.in-Ok-read_by_plan.answer in
+    let len = c.in-Ok-read_by_plan.len in
     let reader : Option (List Node) = option_map (λ r. schema_nodes r.1) (option_copied c.args.reader) in
     let r = reading c.args.self.now.limits (schema_nodes header.schema) header.sync reader in
     let rest : c.split_at.result.1.now ≡ drop start body = c.split_at.ensures.back ∙ ap (drop start) c.deref.ensures.value in
-    let found = same_said (Answers g.B.Build.stands_for reader c.in-Ok.answer len) _ _ _ _ _ _ (ap schema_nodes c.schema-schema.ensures) c.datum-limits.ensures rest c.in-Ok.ensures.found in
-    let stands = stand-more g.B.Build.stands_for r c.loop-datum.datum start len body c.loop-datum.answers.items c.in-Ok.answer refl c.loop-datum.invariant.2 found in (
+    let planned = subst (λ o. Answers g.B.Build.stands_for o answer len (schema_nodes c.schema-schema.result.now) c.datum-limits.result c.split_at.result.1.now) c.loop-datum.invariant.4 c.in-Ok-read_by_plan.ensures.found in
+    let found = same_said (Answers g.B.Build.stands_for reader answer len) _ _ _ _ _ _ (ap schema_nodes c.schema-schema.ensures) c.datum-limits.ensures rest planned in
+    let stands = stand-more g.B.Build.stands_for r c.loop-datum.datum start len body c.loop-datum.answers.items answer refl c.loop-datum.invariant.2 found in (
       omega (arith, c.loop-datum.invariant.0, found.2.in_bytes, length-drop start body),
       omega (arith, c.loop-datum-test.true, c.count-count.ensures),
       subst (λ outs. StandForData g.B.Build.stands_for r (c.loop-datum.datum + 1) (take (start + len) body) outs) (sym c.in-Ok-push.ensures.items) stands,
+      c.loop-datum.invariant.3,
+      c.loop-datum.invariant.4,
     )
+
+pub read_by_plan-requires : goal.read_by_plan-requires
+read_by_plan-requires g c = c.loop-datum.invariant.3
 
 pub datum_error-requires : goal.datum_error-requires
 datum_error-requires g c =
@@ -48,25 +61,27 @@ datum_error-requires g c =
     let start = c.loop-datum.start in
     let reader : Option (List Node) = option_map (λ r. schema_nodes r.1) (option_copied c.args.reader) in
     let rest : c.split_at.result.1.now ≡ drop start body = c.split_at.ensures.back ∙ ap (drop start) c.deref.ensures.value in
-    let refuses = same_said (Refuses g.B.Build.stands_for reader c.in-Err.error) _ _ _ _ _ _ (ap schema_nodes c.schema-schema.ensures) c.datum-limits.ensures rest c.in-Err.ensures in
+    let planned = subst (λ o. Refuses g.B.Build.stands_for o c.in-Err-read_by_plan.error (schema_nodes c.schema-schema.result.now) c.datum-limits.result c.split_at.result.1.now) c.loop-datum.invariant.4 c.in-Err-read_by_plan.ensures in
+    let refuses = same_said (Refuses g.B.Build.stands_for reader c.in-Err-read_by_plan.error) _ _ _ _ _ _ (ap schema_nodes c.schema-schema.ensures) c.datum-limits.ensures rest planned in
     let fits : Fits w64 c.len-end.result = search rules in
     let small : c.len-end.result < 2 ^ 64 = fits.fits in
     record {
       fits = datum_place g.B.Build.stands_for (schema_nodes header.schema) c.args.self.now.limits.datum (resolution reader (schema_nodes header.schema)) start (drop start body)
-          c.in-Err.error refuses (omega (arith, small, c.len-end.ensures, c.loop-datum.invariant.0, length-drop start body));
+          c.in-Err-read_by_plan.error refuses (omega (arith, small, c.len-end.ensures, c.loop-datum.invariant.0, length-drop start body));
     }
 
-pub returns-in-Err-clause-refused : goal.returns-in-Err-clause-refused
-returns-in-Err-clause-refused g c = λ f is.
+pub returns-in-Err-read_by_plan-clause-refused : goal.returns-in-Err-read_by_plan-clause-refused
+returns-in-Err-read_by_plan-clause-refused g c = λ f is.
     let header = c.args.self.now.header.now in
     let body = c.args.self.now.body.items in
     let start = c.loop-datum.start in
     let reader : Option (List Node) = option_map (λ r. schema_nodes r.1) (option_copied c.args.reader) in
     let r = reading c.args.self.now.limits (schema_nodes header.schema) header.sync reader in
     let rest : c.split_at.result.1.now ≡ drop start body = c.split_at.ensures.back ∙ ap (drop start) c.deref.ensures.value in
-    let refuses = same_said (Refuses g.B.Build.stands_for reader c.in-Err.error) _ _ _ _ _ _ (ap schema_nodes c.schema-schema.ensures) c.datum-limits.ensures rest c.in-Err.ensures in
+    let planned = subst (λ o. Refuses g.B.Build.stands_for o c.in-Err-read_by_plan.error (schema_nodes c.schema-schema.result.now) c.datum-limits.result c.split_at.result.1.now) c.loop-datum.invariant.4 c.in-Err-read_by_plan.ensures in
+    let refuses = same_said (Refuses g.B.Build.stands_for reader c.in-Err-read_by_plan.error) _ _ _ _ _ _ (ap schema_nodes c.schema-schema.ensures) c.datum-limits.ensures rest planned in
     datum_fails g.B.Build.stands_for r c.args.self.now.number c.args.self.now.count c.loop-datum.datum start body (values_from c.loop-datum.invariant.2.values)
-    c.in-Err.error f (omega (arith, c.loop-datum-test.true, c.count-count.ensures)) c.loop-datum.invariant.0 c.loop-datum.invariant.2.whole refuses
+    c.in-Err-read_by_plan.error f (omega (arith, c.loop-datum-test.true, c.count-count.ensures)) c.loop-datum.invariant.0 c.loop-datum.invariant.2.whole refuses
     (sym c.datum_error.ensures.fault ∙ is)
 
 pub returns-then-start-end-clause-refused : goal.returns-then-start-end-clause-refused

@@ -1,7 +1,7 @@
--- The data so far stand whole, as the bytes before the place.
-use Rattle.std.proofs.Common.{◌-◌, ◌≤◌, length, take}
+-- The data so far stand whole, as the bytes before the place; the plan is that of the two schemas.
+use Rattle.std.proofs.Common.{◌≡◌, ◌-◌, ◌≤◌, length, take}
 use Rattle.std.specs.Prelude.{option_map}
-use Rattle.std.specs.Option.{option_copied}
+use Rattle.std.specs.Option.{IfSome, option_copied}
 use Rattle.avro_schema.specs.SeenSchema.{schema_nodes}
 use Rattle.avro_container.specs.DataRead.{StandForData, reading}
 use Rattle.avro_container.proofs.block.Block.read.Given as goal
@@ -13,6 +13,8 @@ invariant-loop-datum g l =
     × StandForData g.B.Build.stands_for
     (reading l.self.limits (schema_nodes l.self.header.now.schema) l.self.header.now.sync (option_map (λ r. schema_nodes r.1) (option_copied l.reader)))
     l.datum (take l.start l.self.body.items) l.answers.items
+    × IfSome l.plan (λ p. p.0 ≡ l.schema)
+    × (option_map (λ p. schema_nodes p.1) l.plan ≡ option_map (λ r. schema_nodes r.1) (option_copied l.reader))
 
 abbrev pub decreases-loop-datum : goal.decreases-loop-datum
 decreases-loop-datum g l = l.self.count - l.datum
