@@ -170,36 +170,39 @@ fn data_are_shown(rt: HostRuntime) -> Result<(), Fail> {
     Ok(())
 }
 
+/// Words, and the status and the fault of a file that they name.
+const UNREAD: [(&[&str], u8, &str); 7] = [
+    (
+        &["check", "none.avro"],
+        4,
+        "avro: none.avro: cannot read\n",
+    ),
+    (&["check", "folder"], 4, "avro: folder: cannot read\n"),
+    (&["show", "none.avro"], 4, "avro: none.avro: cannot read\n"),
+    (&["show", "folder"], 4, "avro: folder: cannot read\n"),
+    (
+        &["show", "none.avro", "--reader", "none.avsc"],
+        4,
+        "avro: none.avsc: cannot read\n",
+    ),
+    (
+        &["show", "none.avro", "--reader", "refused.avsc"],
+        3,
+        "avro: refused.avsc: S2\n",
+    ),
+    (
+        &["show", "--reader", "refused.avsc", "nulls.avro"],
+        3,
+        "avro: refused.avsc: S2\n",
+    ),
+];
+
 #[test]
 fn files_that_cannot_be_read_are_told(rt: HostRuntime) -> Result<(), Fail> {
     fs::write(&rt, "nulls.avro", NULLS)?;
     fs::write(&rt, "refused.avsc", "\"Foo\"")?;
     fs::create_dir(&rt, "folder")?;
-    for (words, status, err) in [
-        (
-            &["check", "none.avro"][..],
-            4,
-            "avro: none.avro: cannot read\n",
-        ),
-        (&["check", "folder"], 4, "avro: folder: cannot read\n"),
-        (&["show", "none.avro"], 4, "avro: none.avro: cannot read\n"),
-        (&["show", "folder"], 4, "avro: folder: cannot read\n"),
-        (
-            &["show", "none.avro", "--reader", "none.avsc"],
-            4,
-            "avro: none.avsc: cannot read\n",
-        ),
-        (
-            &["show", "none.avro", "--reader", "refused.avsc"],
-            3,
-            "avro: refused.avsc: S2\n",
-        ),
-        (
-            &["show", "--reader", "refused.avsc", "nulls.avro"],
-            3,
-            "avro: refused.avsc: S2\n",
-        ),
-    ] {
+    for (words, status, err) in UNREAD {
         let ran = outcome_of(&rt, words)?;
         assert_eq!(rt; ran.status, status, "{err}");
         assert_eq!(rt; ran.err.as_slice(), err.as_bytes());

@@ -5,7 +5,7 @@ use crate::schema_file::read_reader;
 use avro_binary::Tree;
 use avro_container::{Blocks, CopyError, FileLimits, Header, Input};
 use avro_display::show;
-use avro_schema::{Datum, Schema};
+use avro_schema::{Datum, Schema, fits};
 use avro_schema_json::ReaderText;
 use std::alloc::Global;
 use std::io::{BufWriter, Write};
@@ -80,9 +80,12 @@ fn show_block<'a, O: Write>(
     out: &mut O,
 ) -> Result<(), Failure<'a>> {
     for datum in data {
-        let line = show(alloc, schema, schema.root(), datum)?;
-        if writeln!(out, "{line}").is_err() {
-            return Err(Failure::CannotPrint);
+        // it is one of the schema's, as each datum that was read: `show` asks for a test
+        if fits(alloc, schema, schema.root(), datum)? {
+            let line = show(alloc, schema, schema.root(), datum)?;
+            if writeln!(out, "{line}").is_err() {
+                return Err(Failure::CannotPrint);
+            }
         }
     }
     Ok(())
