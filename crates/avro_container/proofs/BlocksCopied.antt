@@ -40,6 +40,7 @@ pub copies-block : {I O : Type 0} (gives : I → List ℕ → I → Type 0) (kee
     → GrowsBy gives i i' old mid → length mid ≤ limits.block + 36 → PacksBlock job limits h count (take n mid) packed → keeps o (block_part sync count packed) o'
     → new ≡ drop n mid
     → Moved gives keeps i i' o o' (CopiesBlock job limits h number count old new)
+unfolding block_copied
 copies-block gives keeps i i' o o' job limits h number count n old mid new packed sync marked few grown limited p kept passed = record {
   taken = grown.bytes;
   put = block_part sync count packed;
