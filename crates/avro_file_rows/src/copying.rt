@@ -1,8 +1,6 @@
 //! Copies: what is written of metadata and of blocks.
 
-use crate::files::{
-    FIVE, FIVE_COPIED, LONG_OR_INT, copy_all, file_of, file_with, reader_of, told,
-};
+use crate::files::{FIVE, FIVE_COPIED, LONG_OR_INT, copy_all, file_of, file_with, reader_of, told};
 use avro_container::FileLimits;
 use std::test::Fail;
 
@@ -43,12 +41,7 @@ const COPIES: [(&str, &str, &[u8], &[u8]); 17] = [
         b"\x02\x14\x03\x0e\x82\x00a\x02\x02b\x04\x00",
         b"\x02\x10\x04\x02a\x02\x02b\x04\x00",
     ),
-    (
-        TWO_RECORDS,
-        "",
-        b"\x02\x04\x02\x00",
-        b"\x02\x04\x02\x00",
-    ),
+    (TWO_RECORDS, "", b"\x02\x04\x02\x00", b"\x02\x04\x02\x00"),
     (INT, LONG_OR_INT, b"\x02\x02\x0a", b"\x02\x04\x00\x0a"),
     (
         r#"{"type":"record","name":"test","fields":[{"name":"a","type":"long"},{"name":"b","type":"string"}]}"#,

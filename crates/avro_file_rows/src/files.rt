@@ -1,9 +1,7 @@
 //! Container files for the other files, and what reading and copying them answers.
 
 use avro_binary::Nothing;
-use avro_container::{
-    Blocks, CopyError, Counts, FileLimits, Header, ReadInput, WriteOutput, copy,
-};
+use avro_container::{Blocks, CopyError, Counts, FileLimits, Header, ReadInput, WriteOutput, copy};
 use avro_schema_json::{ReaderText, SchemaError};
 use avro_zigzag::write_long;
 use std::alloc::{AllocError, Global};
@@ -48,11 +46,7 @@ pub(crate) fn file_with(
 }
 
 /// A file of a schema's text and of blocks.
-pub(crate) fn file_of(
-    alloc: Global,
-    text: &str,
-    blocks: &[&[u8]],
-) -> Result<Vec<u8>, AllocError> {
+pub(crate) fn file_of(alloc: Global, text: &str, blocks: &[&[u8]]) -> Result<Vec<u8>, AllocError> {
     let mut metadata = Vec::new(alloc);
     let (spelling, len) = write_long(i64::try_from(text.len()).unwrap_or(0));
     metadata.extend_from_slice(b"\x02\x16avro.schema")?;
@@ -118,10 +112,7 @@ pub(crate) fn copy_all(
 }
 
 /// What is answered of a file, as text.
-pub(crate) fn told(
-    alloc: Global,
-    answer: Result<Counts, CopyError>,
-) -> Result<String, AllocError> {
+pub(crate) fn told(alloc: Global, answer: Result<Counts, CopyError>) -> Result<String, AllocError> {
     match answer {
         Ok(counts) => format!(in alloc; "data {} blocks {}", counts.items, counts.blocks),
         Err(error) => format!(in alloc; "{error}"),

@@ -9,7 +9,10 @@ use std::test::Fail;
 const METADATA: [(&[u8], &str); 27] = [
     (b"\x02\x16avro.schema\x0c\"null\"\x00", "data 0 blocks 0"),
     // a sized block, and padded numbers
-    (b"\x01\x26\x16avro.schema\x0c\"null\"\x00", "data 0 blocks 0"),
+    (
+        b"\x01\x26\x16avro.schema\x0c\"null\"\x00",
+        "data 0 blocks 0",
+    ),
     (
         b"\x82\x00\x96\x00avro.schema\x8c\x00\"null\"\x80\x00",
         "data 0 blocks 0",

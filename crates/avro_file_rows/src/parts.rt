@@ -1,9 +1,7 @@
 //! The steps of a copy, and files that are put part by part.
 
 use crate::files::{FIVE, FIVE_COPIED, LONG_OR_INT, MARK, NULLS, reader_of};
-use avro_container::{
-    Copier, CopyError, FileLimits, ReadInput, Sink, Step, WriteOutput, copy,
-};
+use avro_container::{Copier, CopyError, FileLimits, ReadInput, Sink, Step, WriteOutput, copy};
 use avro_schema::Limits;
 use std::io;
 use std::io::Write;
@@ -121,7 +119,10 @@ fn a_sink_stays_failed(rt: HostRuntime) -> Result<(), Fail> {
     for room in 0..21 {
         let mut output = WriteOutput::new(Full { room });
         let started = Sink::start(alloc, &mut output, &[], MARK);
-        assert!(rt; started.is_err_and(|e| e == CopyError::OutputFailed), "{room}");
+        assert!(rt;
+            started.is_err_and(|e| e == CopyError::OutputFailed),
+            "{room}"
+        );
     }
     for room in 21..40 {
         let mut output = WriteOutput::new(Full { room });

@@ -62,7 +62,11 @@ fn files_are_checked(rt: HostRuntime) -> Result<(), Fail> {
 
 /// Schemas of files, whose blocks are an int of 5 and then this one; and what is told of its fault.
 const FAULTS: [(&str, &[u8], &str); 8] = [
-    ("none", b"\x02\x04\x0a\x0a", "avro: fault.avro: C7 block 1\n"),
+    (
+        "none",
+        b"\x02\x04\x0a\x0a",
+        "avro: fault.avro: C7 block 1\n",
+    ),
     (
         "none",
         b"\x04\x02\x0a",
@@ -172,11 +176,7 @@ fn data_are_shown(rt: HostRuntime) -> Result<(), Fail> {
 
 /// Words, and the status and the fault of a file that they name.
 const UNREAD: [(&[&str], u8, &str); 7] = [
-    (
-        &["check", "none.avro"],
-        4,
-        "avro: none.avro: cannot read\n",
-    ),
+    (&["check", "none.avro"], 4, "avro: none.avro: cannot read\n"),
     (&["check", "folder"], 4, "avro: folder: cannot read\n"),
     (&["show", "none.avro"], 4, "avro: none.avro: cannot read\n"),
     (&["show", "folder"], 4, "avro: folder: cannot read\n"),
@@ -238,7 +238,11 @@ fn a_full_output_is_told(rt: HostRuntime) -> Result<(), Fail> {
     for (command, room) in [("check", 0), ("check", 15), ("show", 0), ("show", 14)] {
         let words = words_of(&rt, &[command, "full.avro"])?;
         let mut err = Vec::new(rt.alloc());
-        assert_eq!(rt; run(&rt, &words, &mut Full { room }, &mut err), 4, "{command}");
+        assert_eq!(rt;
+            run(&rt, &words, &mut Full { room }, &mut err),
+            4,
+            "{command}"
+        );
         assert_eq!(rt; err.as_slice(), "avro: output: cannot write\n".as_bytes());
     }
     let words = words_of(&rt, &["copy", "full.avro", "copied.avro"])?;

@@ -41,10 +41,17 @@ fn markers_are_digits_of_both_cases(rt: HostRuntime) -> Result<(), Fail> {
         "abcdef00112233445566778899abcdef",
         "ABCDEF00112233445566778899abcDEF",
     ] {
-        let ran = outcome_of(&rt, &["copy", "marked.avro", "other.avro", "--sync", digits])?;
+        let ran = outcome_of(
+            &rt,
+            &["copy", "marked.avro", "other.avro", "--sync", digits],
+        )?;
         assert_eq!(rt; ran.status, 0);
         let copied = fs::read(&rt, "other.avro")?;
-        assert!(rt; copied.ends_with(b"\x06\x00\xab\xcd\xef\x00\x11\x22\x33\x44\x55\x66\x77\x88\x99\xab\xcd\xef"));
+        assert!(rt;
+            copied.ends_with(
+                b"\x06\x00\xab\xcd\xef\x00\x11\x22\x33\x44\x55\x66\x77\x88\x99\xab\xcd\xef"
+            )
+        );
     }
     Ok(())
 }
@@ -61,15 +68,33 @@ const OWN_FAULTS: [(&[&str], &str); 8] = [
     (&["copy", "x", "y", "--sync", "0"], NO_MARKER),
     (&["copy", "x", "y", "--sync", ""], NO_MARKER),
     (
-        &["copy", "x", "y", "--sync", "000102030405060708090a0b0c0d0e0"],
+        &[
+            "copy",
+            "x",
+            "y",
+            "--sync",
+            "000102030405060708090a0b0c0d0e0",
+        ],
         NO_MARKER,
     ),
     (
-        &["copy", "x", "y", "--sync", "000102030405060708090a0b0c0d0e0g"],
+        &[
+            "copy",
+            "x",
+            "y",
+            "--sync",
+            "000102030405060708090a0b0c0d0e0g",
+        ],
         NO_MARKER,
     ),
     (
-        &["copy", "x", "y", "--sync", "000102030405060708090a0b0c0d0e0f00"],
+        &[
+            "copy",
+            "x",
+            "y",
+            "--sync",
+            "000102030405060708090a0b0c0d0e0f00",
+        ],
         NO_MARKER,
     ),
 ];
@@ -113,7 +138,12 @@ fn other_words_are_usage(rt: HostRuntime) -> Result<(), Fail> {
 const UNTOUCHED: [(&[u8], &str, u8, &str); 5] = [
     (b"Obj\x02", "", 3, "avro: in.avro: C1\n"),
     (b"Obj\x01\x00", "", 3, "avro: in.avro: C16\n"),
-    (b"Obj\x01\x02\x02\xff", "", 3, "avro: in.avro: C2: B4 at 6\n"),
+    (
+        b"Obj\x01\x02\x02\xff",
+        "",
+        3,
+        "avro: in.avro: C2: B4 at 6\n",
+    ),
     (NULLS, "\"Foo\"", 3, "avro: in.avsc: S2\n"),
     (b"Obj\x02", "\"Foo\"", 3, "avro: in.avsc: S2\n"),
 ];
@@ -127,7 +157,10 @@ fn a_refused_header_touches_no_file(rt: HostRuntime) -> Result<(), Fail> {
         let ran = if reader.is_empty() {
             outcome_of(&rt, &["copy", "in.avro", "kept.avro"])?
         } else {
-            outcome_of(&rt, &["copy", "in.avro", "kept.avro", "--reader", "in.avsc"])?
+            outcome_of(
+                &rt,
+                &["copy", "in.avro", "kept.avro", "--reader", "in.avsc"],
+            )?
         };
         assert_eq!(rt; ran.status, status, "{err}");
         assert_eq!(rt; ran.err.as_slice(), err.as_bytes());
@@ -137,7 +170,10 @@ fn a_refused_header_touches_no_file(rt: HostRuntime) -> Result<(), Fail> {
     }
     let ran = outcome_of(&rt, &["copy", "none.avro", "kept.avro"])?;
     assert_eq!(rt; ran.status, 4);
-    assert_eq!(rt; ran.err.as_slice(), "avro: none.avro: cannot read\n".as_bytes());
+    assert_eq!(rt;
+        ran.err.as_slice(),
+        "avro: none.avro: cannot read\n".as_bytes()
+    );
     let kept = fs::read(&rt, "kept.avro")?;
     assert_eq!(rt; kept.as_slice(), "kept".as_bytes());
     Ok(())
@@ -146,7 +182,11 @@ fn a_refused_header_touches_no_file(rt: HostRuntime) -> Result<(), Fail> {
 #[test]
 fn a_refused_block_leaves_what_was_copied(rt: HostRuntime) -> Result<(), Fail> {
     fs::write(&rt, "left.avsc", LONG_OR_INT)?;
-    let file = file_of(rt.alloc(), "\"int\"", &[b"\x02\x02\x0a", b"\x02\x04\x0a\x0a"])?;
+    let file = file_of(
+        rt.alloc(),
+        "\"int\"",
+        &[b"\x02\x02\x0a", b"\x02\x04\x0a\x0a"],
+    )?;
     fs::write(&rt, "left.avro", &file)?;
     fs::write(&rt, "long.avro", &file)?;
     let fault = "avro: left.avro: C7 block 1\n";
@@ -161,7 +201,11 @@ fn a_refused_block_leaves_what_was_copied(rt: HostRuntime) -> Result<(), Fail> {
             4,
             "avro: none/long.avro: cannot write\n",
         ),
-        (&["copy", "left.avro", "./long.avro", "--reader", "left.avsc"], 3, fault),
+        (
+            &["copy", "left.avro", "./long.avro", "--reader", "left.avsc"],
+            3,
+            fault,
+        ),
     ] {
         let ran = outcome_of(&rt, words)?;
         assert_eq!(rt; ran.status, status, "{err}");

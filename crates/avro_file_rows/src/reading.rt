@@ -54,7 +54,12 @@ const BLOCKS: [(&str, &str, &[u8], &str); 33] = [
         b"\x04\x04\x01\x02",
         "C10 block 0 datum 1: B3 at 1",
     ),
-    (STRING, "", b"\x02\x04\x02\xff", "C10 block 0 datum 0: B4 at 1"),
+    (
+        STRING,
+        "",
+        b"\x02\x04\x02\xff",
+        "C10 block 0 datum 0: B4 at 1",
+    ),
     (
         r#"["null"]"#,
         "",
@@ -80,12 +85,7 @@ const BLOCKS: [(&str, &str, &[u8], &str); 33] = [
     (NULL, "", b"\x80\x80\x80\x01\x00", "data 1048576 blocks 1"),
     (NULL, "", b"\x82\x80\x80\x01\x00", "C9 block 0"),
     (NULL, "", b"\x82\x80\x80\x01\x01", "C6 block 0: negative"),
-    (
-        NULL_LIST,
-        "",
-        b"\x02\x0a\xfe\xff\x7f\x00\x00",
-        "C7 block 0",
-    ),
+    (NULL_LIST, "", b"\x02\x0a\xfe\xff\x7f\x00\x00", "C7 block 0"),
     (
         NULL_LIST,
         "",

@@ -17,7 +17,10 @@ fn a_no_writes_its_datum(rt: HostRuntime) -> Result<(), Fail> {
         ("no.avro", 1, ""),
         ("none/no.avro", 4, "avro: none/no.avro: cannot write\n"),
     ] {
-        let ran = outcome_of(&rt, &["judge", "int.avsc", "text.avsc", "--refutation", out])?;
+        let ran = outcome_of(
+            &rt,
+            &["judge", "int.avsc", "text.avsc", "--refutation", out],
+        )?;
         assert_eq!(rt; ran.status, status, "{out}");
         assert_eq!(rt; ran.out.as_slice(), no.as_bytes());
         assert_eq!(rt; ran.err.as_slice(), err.as_bytes());
@@ -58,7 +61,13 @@ fn a_refutation_is_shown_again(rt: HostRuntime) -> Result<(), Fail> {
     for (writer, reader, line) in SHOWN {
         fs::write(&rt, "writer.avsc", writer)?;
         fs::write(&rt, "other.avsc", reader)?;
-        let words = ["judge", "--refutation", "shown_no.avro", "writer.avsc", "other.avsc"];
+        let words = [
+            "judge",
+            "--refutation",
+            "shown_no.avro",
+            "writer.avsc",
+            "other.avsc",
+        ];
         let ran = outcome_of(&rt, &words)?;
         assert_eq!(rt; ran.status, 1, "{line}");
         let ran = outcome_of(&rt, &["show", "shown_no.avro"])?;

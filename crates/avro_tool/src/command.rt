@@ -34,7 +34,9 @@ pub(crate) enum Request<'a> {
         shown: Shown,
     },
     /// Whether a container is valid, and how many data and blocks it has.
-    Check { file: &'a str },
+    Check {
+        file: &'a str,
+    },
     /// The data of a container, as what they are for a reader's schema where there is one.
     Show {
         file: &'a str,

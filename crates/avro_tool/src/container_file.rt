@@ -1,10 +1,9 @@
 use crate::Finding;
 use crate::failure::Failure;
 use avro_container::{Counts, ReadInput};
-use std::fs;
-use std::io;
 use std::io::{BufReader, Write};
 use std::rt::Files;
+use std::{fs, io};
 
 /// How many bytes are read or written at once.
 pub(crate) const ROOM: usize = 65_536;

@@ -21,10 +21,12 @@ pub(crate) fn program<'a>(alloc: Global) -> Result<Command<'a>, AllocError> {
 
 /// The command over two schemas.
 fn judge_command<'a>(alloc: Global) -> Result<Command<'a>, AllocError> {
-    let certificate = optional_file(alloc, "certificate", "OUT")
-        .help("File that a yes writes its certificate into");
-    let refutation = optional_file(alloc, "refutation", "OUT")
-        .help("File that a no writes a container of its datum into");
+    let certificate = optional_file(alloc, "certificate", "OUT").help(
+        "File that a yes writes its certificate into",
+    );
+    let refutation = optional_file(alloc, "refutation", "OUT").help(
+        "File that a no writes a container of its datum into",
+    );
     Command::new(alloc, "judge")
         .about("Tells whether a reader's schema takes all data of a writer's")
         .arg(writer_file(alloc))?
@@ -140,8 +142,7 @@ fn named_file<'a>(alloc: Global, id: &'a str, name: &'a str) -> Arg<'a> {
 
 /// The option of a reader's schema.
 fn reader_option<'a>(alloc: Global) -> Arg<'a> {
-    optional_file(alloc, "reader", "SCHEMA")
-        .help("File of a schema that the data are resolved for")
+    optional_file(alloc, "reader", "SCHEMA").help("File of a schema that the data are resolved for")
 }
 
 /// An option that names a file.

@@ -1,8 +1,7 @@
 use crate::failure::Failure;
-use std::fs;
-use std::io;
 use std::io::Write;
 use std::rt::Files;
+use std::{fs, io};
 
 /// A file that is made, or emptied, when the first bytes are written into it.
 #[derive(Drop)]
