@@ -3,11 +3,14 @@
 
     containers.py write narrow|wide|strings FILE [MEGABYTES]
     containers.py measure PROGRAM [FOLDER [KIND..]]
+    containers.py instructions PROGRAM [FOLDER [KIND..]]
     containers.py large PROGRAM [FOLDER]
 
 `measure` writes files of 100 MB, runs PROGRAM and `copy.c` on them in turn, and prints for each command the least processor time
-of five runs, the peak of resident memory, and whether the two copies are the same bytes. `large` does so once with a file of
-1 GB of narrow records, where 12 GB of the disk stay free. The files go into FOLDER, or into a folder that is removed.
+of five runs, the peak of resident memory, the peak of PROGRAM's heap, and whether the two copies are the same bytes. `instructions`
+counts the instructions of one run each for files of 4 MB, by valgrind, which other work on the machine doesn't change. `large` measures
+once with a file of 1 GB of narrow records, where 12 GB of the disk stay free. The files go into FOLDER, or into a folder that is
+removed.
 """
 
 import filecmp
@@ -20,6 +23,7 @@ import tempfile
 
 from container_schemas import READERS, WRITERS
 from generate import LETTERS, WIDE, number, record
+from refusals import build_library
 
 HERE = os.path.dirname(os.path.abspath(__file__))
 KINDS = ("narrow", "wide", "strings")
@@ -28,6 +32,7 @@ BLOCK = 65_536
 BLOCKS = 64
 RUNS = 5
 MEGABYTES = "100"
+FEW_MEGABYTES = "4"
 FREE = 12 << 30
 GOALS = {"check": 1.2, "copy": 2.0, "copy --reader": 2.8}
 SYNC = bytes(range(100, 116))
@@ -125,6 +130,7 @@ def build(folder):
     for name in ("copy", "watch"):
         compiler = os.environ.get("CC", "clang")
         subprocess.run([compiler, "-O2", "-o", os.path.join(folder, name), os.path.join(HERE, name + ".c")], check=True)
+    build_library(folder)
 
 
 def watched(folder, words):
@@ -139,6 +145,23 @@ def watched(folder, words):
     if status != "0":
         sys.exit(f"{' '.join(words)}: status {status}: {done.stdout.decode(errors='replace')[:400]}")
     return float(user) + float(system), int(peak), done.stdout.decode().strip()
+
+
+def heap_of(folder, words):
+    """The most bytes of allocations that stood at once in a run, in KB."""
+    told = os.path.join(folder, "told")
+    environment = {"LD_PRELOAD": os.path.join(folder, "refuse.so"), "REFUSE_TELL": told}
+    subprocess.run(words, env=environment, stdout=subprocess.DEVNULL, check=True)
+    with open(told, encoding="ascii") as lines:
+        return int(lines.read().split()[-1]) // 1024
+
+
+def instructions_of(words):
+    """The instructions of a run."""
+    tool = ["valgrind", "--tool=callgrind", "--callgrind-out-file=/dev/null"]
+    done = subprocess.run([*tool, *words], stdout=subprocess.DEVNULL, stderr=subprocess.PIPE, check=True, text=True)
+    line = next(line for line in done.stderr.splitlines() if "Collected" in line)
+    return int(line.split()[-1])
 
 
 def commands(program, folder, kind, source):
@@ -159,25 +182,25 @@ def compare(folder, ours, by_c, made, runs):
     same = all(our[2] == its[2] for our, its in found) and (made is None or filecmp.cmp(*made, shallow=False))
     times = [min(pair[side][0] for pair in found) for side in (0, 1)]
     peaks = [max(pair[side][1] for pair in found) for side in (0, 1)]
-    for file in made or ():
-        os.remove(file)
     return times, peaks, same, found[0][0][2]
 
 
 def measure_file(program, folder, kind, megabytes, runs):
     """The rows of one file."""
-    source = os.path.join(folder, f"{kind}_{megabytes}.avro")
-    if not os.path.exists(source):
-        write(kind, source, megabytes)
+    source = os.path.join(folder, f"{kind}.avro")
+    write(kind, source, megabytes)
     for name, ours, by_c, made in commands(program, folder, kind, source):
         (time, c_time), (peak, c_peak), same, counts = compare(folder, ours, by_c, made, runs)
-        print(f"| {kind} | {name} | {time:.3f} s | {c_time:.3f} s | {time / c_time:.2f} | {GOALS[name]} | {peak} KB | {c_peak} KB "
-              f"| {'same' if same else 'DIFFERENT'} | {counts} |", flush=True)
+        heap = heap_of(folder, ours)
+        print(f"| {kind} | {name} | {time:.3f} s | {c_time:.3f} s | {time / c_time:.2f} | {GOALS[name]} | {peak} KB, {heap} KB "
+              f"| {c_peak} KB | {'same' if same else 'DIFFERENT'} | {counts} |", flush=True)
+        for file in made or ():
+            os.remove(file)
     os.remove(source)
 
 
 def print_head():
-    print("| File | command | seconds | C | times | goal | peak | C | answers | counts |")
+    print("| File | command | seconds | C | times | goal | peak, heap | C | answers | counts |")
     print("|---|---|---|---|---|---|---|---|---|---|")
 
 
@@ -188,6 +211,18 @@ def measure(program, folder, *kinds):
         measure_file(program, folder, kind, MEGABYTES, RUNS)
 
 
+def instructions(program, folder, *kinds):
+    build(folder)
+    print("| File | command | instructions | C | times |")
+    print("|---|---|---|---|---|")
+    for kind in kinds or KINDS:
+        source = os.path.join(folder, f"{kind}.avro")
+        write(kind, source, FEW_MEGABYTES)
+        for name, ours, by_c, _ in commands(program, folder, kind, source):
+            count, c_count = instructions_of(ours), instructions_of(by_c)
+            print(f"| {kind} | {name} | {count / 1e6:.0f} million | {c_count / 1e6:.0f} million | {count / c_count:.2f} |", flush=True)
+
+
 def large(program, folder):
     if shutil.disk_usage(folder).free < FREE + (3 << 30):
         sys.exit("the disk has too little room")
@@ -196,11 +231,14 @@ def large(program, folder):
     measure_file(program, folder, "narrow", "1000", 1)
 
 
+COMMANDS = {"measure": measure, "instructions": instructions, "large": large}
+
+
 def main(words):
     if len(words) in (3, 4) and words[0] == "write" and words[1] in KINDS:
         write(*words[1:])
-    elif len(words) >= 2 and words[0] in ("measure", "large"):
-        does = measure if words[0] == "measure" else large
+    elif len(words) >= 2 and words[0] in COMMANDS:
+        does = COMMANDS[words[0]]
         program = os.path.abspath(words[1])
         if len(words) > 2:
             os.makedirs(words[2], exist_ok=True)
