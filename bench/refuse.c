@@ -241,6 +241,12 @@ ssize_t write(int file, const void *bytes, size_t count) {
 }
 
 ssize_t writev(int file, const struct iovec *parts, int count) {
+    if (!is_short && refused != WRITE && refused != NOTHING) {
+        writes++;
+        ssize_t taken = syscall(SYS_writev, file, parts, count);
+        count_moved(file, taken);
+        return taken;
+    }
     for (int part = 0; part < count; part++) {
         if (parts[part].iov_len > 0) {
             return write(file, parts[part].iov_base, parts[part].iov_len);
