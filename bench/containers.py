@@ -31,6 +31,8 @@ BLOCK = 65_536
 # How many blocks are made; a file holds them again and again.
 BLOCKS = 64
 RUNS = 5
+# Seconds of a command after which it is run no more.
+ENOUGH = 20
 MEGABYTES = "100"
 FEW_MEGABYTES = "4"
 FREE = 12 << 30
@@ -178,7 +180,9 @@ def commands(program, folder, kind, source):
 
 def compare(folder, ours, by_c, made, runs):
     """The least times of both, in turn, the peaks, and whether the answers and the files are the same."""
-    found = [(watched(folder, ours), watched(folder, by_c)) for _ in range(runs)]
+    found = [(watched(folder, ours), watched(folder, by_c))]
+    while len(found) < runs and sum(pair[0][0] for pair in found) < ENOUGH:
+        found.append((watched(folder, ours), watched(folder, by_c)))
     same = all(our[2] == its[2] for our, its in found) and (made is None or filecmp.cmp(*made, shallow=False))
     times = [min(pair[side][0] for pair in found) for side in (0, 1)]
     peaks = [max(pair[side][1] for pair in found) for side in (0, 1)]
