@@ -1,0 +1,189 @@
+"""The rows that `refusals.py` runs: commands, their files, and what they answer.
+
+What a row answers is written here by hand or from the rules, and never taken from the program.
+"""
+
+import hashlib
+
+from generate import number
+
+SYNC = bytes(range(16))
+
+
+class Row:
+    """A command, its files, what it prints and writes, and its status."""
+
+    def __init__(self, name, words, files, out="", err="", status=0, written=None, behind=None):
+        self.name = name
+        self.words = words.split(" ")
+        self.files = {file: text.encode() if isinstance(text, str) else text for file, text in files.items()}
+        self.out = out.encode()
+        self.err = err.encode()
+        self.status = status
+        # The files that it writes, with their bytes.
+        self.written = {} if written is None else written
+        # A file that is made only after so many bytes of another were read.
+        self.behind = behind
+
+    def write_files(self):
+        for file, data in self.files.items():
+            with open(file, "wb") as out:
+                out.write(data)
+
+
+def text_bytes(text):
+    """A length, and the text in UTF-8."""
+    data = text.encode()
+    return number(len(data)) + data
+
+
+def header(schema, sync=SYNC, codec=False):
+    """The header of a file whose metadata are in one block."""
+    entries = text_bytes("avro.schema") + text_bytes(schema)
+    if codec:
+        entries += text_bytes("avro.codec") + text_bytes("null")
+    return b"Obj\x01" + number(2 if codec else 1) + entries + b"\0" + sync
+
+
+def block(count, data, sync=SYNC):
+    """A block of a file."""
+    return number(count) + number(len(data)) + data + sync
+
+
+def certificate(*pairs, dead=()):
+    """The text of a certificate."""
+    lines = ["approval 1", *(f"dead {node}" for node in dead), *(f"pair {w} {r}" for w, r in pairs), "end"]
+    return "".join(line + "\n" for line in lines)
+
+
+NODE = '{"type":"record","name":"Node","fields":[{"name":"value","type":"%s"},{"name":"next","type":["null","Node"]}]}'
+TEST = '{"type":"record","name":"test","fields":[{"name":"a","type":"long"},{"name":"b","type":"string"}]}'
+TEST_READER = '{"type":"record","name":"test","fields":[{"name":"b","type":"string"},{"name":"a","type":"long"}]}'
+TEST_CANONICAL = '{"name":"test","type":"record","fields":[{"name":"a","type":"long"},{"name":"b","type":"string"}]}'
+ROW_DATUM = bytes.fromhex("3606666f6f")
+OF_A = '{"type":"array","items":{"type":"record","name":"R","fields":[{"name":"a","type":"int"}]}}'
+OF_A_AND_B = OF_A.replace("]}}", ',{"name":"b","type":"int"}]}}')
+NODE_PAIRS = ((0, 0), (0, 2), (1, 1), (2, 2), (3, 2), (3, 3))
+
+REFUSED_TEXTS = {
+    "float": ('"float"', "S10"),
+    "unknown": ('"Foo"', "S2"),
+    "nested union": ('["int",["null"]]', "S6"),
+    "size": ('{"type":"fixed","name":"F","size":"16"}', "S5"),
+    "name": ('{"type":"enum","name":"int","symbols":["A"]}', "S4"),
+    "symbols": ('{"type":"enum","name":"E","symbols":["A","A"]}', "S7"),
+    "default": ('{"type":"record","name":"R","fields":[{"name":"f","type":["null","int"],"default":"x"}]}', "S9"),
+    "twice": ('["int",{"type":"fixed","name":"F","size":1},{"type":"fixed","name":"F","size":1}]', "S3"),
+    "no bytes": ("", "S1"),
+}
+
+
+def schema_rows():
+    """Texts of schemas, taken and refused."""
+    files = {"test.avsc": TEST}
+    yield Row("schema count", "schema test.avsc", files, "ok 3\n")
+    yield Row("schema canonical", "schema test.avsc --canonical", files, TEST_CANONICAL + "\n")
+    print_ = hashlib.sha256(TEST_CANONICAL.encode()).hexdigest()
+    yield Row("schema fingerprint", "schema test.avsc --fingerprint", files, print_ + "\n")
+    for name, (text, code) in REFUSED_TEXTS.items():
+        yield Row(f"schema refused {name}", "schema f.avsc", {"f.avsc": text}, err=f"avro: f.avsc: {code}\n", status=3)
+
+
+def judge_rows():
+    """Verdicts and their files."""
+    ints = {"int.avsc": '"int"', "long.avsc": '"long"'}
+    yield Row("judge yes", "judge int.avsc long.avsc", ints, "yes\n")
+    yield Row("judge no", "judge long.avsc int.avsc", ints, "no\nfault NoMatch at /\nnodes 1\ndatum 0\n", status=1)
+    text = certificate((0, 0)).encode()
+    yield Row("judge certificate", "judge int.avsc long.avsc --certificate c.txt", ints, "yes\n", written={"c.txt": text})
+    nodes = {"w.avsc": NODE % "int", "r.avsc": NODE % "long"}
+    text = certificate(*NODE_PAIRS).encode()
+    yield Row("judge recursive", "judge w.avsc r.avsc --certificate c.txt", nodes, "yes\n", written={"c.txt": text})
+    arrays = {"w.avsc": OF_A, "r.avsc": OF_A_AND_B}
+    no = 'no\nfault MissingField 1 at /0\nnodes 3\ndatum [{"a":0}]\n'
+    yield Row("judge missing field", "judge w.avsc r.avsc", arrays, no, status=1)
+    dead = {"w.avsc": '{"type":"record","name":"R","fields":[{"name":"f","type":"R"}]}', "r.avsc": '"int"'}
+    text = certificate(dead=(0,)).encode()
+    yield Row("judge dead", "judge w.avsc r.avsc --certificate c.txt", dead, "yes\n", written={"c.txt": text})
+    strings = {"w.avsc": '"int"', "r.avsc": '"string"'}
+    sync = hashlib.sha256(b'"int"').digest()[:16]
+    file = header('"int"', sync, codec=True) + block(1, b"\0", sync)
+    no = "no\nfault NoMatch at /\nnodes 1\ndatum 0\n"
+    yield Row("judge refutation", "judge w.avsc r.avsc --refutation o.avro", strings, no, status=1, written={"o.avro": file})
+
+
+def certificate_rows():
+    """Certificates that are read again, and histories."""
+    files = {"w.avsc": NODE % "int", "r.avsc": NODE % "long", "c.txt": certificate(*NODE_PAIRS), "d.txt": certificate()}
+    yield Row("confirm", "confirm w.avsc r.avsc c.txt", files, "confirmed\n")
+    yield Row("confirm not", "confirm w.avsc r.avsc d.txt", files, "not confirmed\n", status=1)
+    files = {**files, "c.txt": "approval 1\npair 0 0\nend"}
+    yield Row("confirm refused", "confirm w.avsc r.avsc c.txt", files, err="avro: c.txt: G1\n", status=3)
+    each = certificate((0, 0), (0, 1))
+    text = "history 1\n" + each + each + "end\n"
+    files = {"a": '"int"', "b": '"long"', "c": '["long","string"]', "h.txt": text}
+    yield Row("history", "history a b c", files, "a yes\nb yes\n")
+    yield Row("history certificates", "history a b c --certificates o.txt", files, "a yes\nb yes\n", written={"o.txt": text.encode()})
+    yield Row("history confirmed", "history a b c --confirm h.txt", files, "confirmed\n")
+    yield Row("history not confirmed", "history b c --confirm h.txt", files, "not confirmed\n", status=1)
+    record = '{"type":"record","name":"R","fields":[%s]}'
+    field = '{"name":"a","type":"int"}', '{"name":"a","type":"string","default":""}'
+    files = {"a": record % field[0], "b": record % "", "c": record % field[1]}
+    yield Row("history no", "history a b c", files, "a no\nb yes\n", status=1)
+
+
+def reading_rows():
+    """Containers that are looked at."""
+    file = header(TEST) + block(1, ROW_DATUM)
+    files = {"f.avro": file, "r.avsc": TEST_READER}
+    shown = '{"a":27,"b":"foo"}\n'
+    yield Row("show", "show f.avro", files, shown)
+    yield Row("show reader", "show f.avro --reader r.avsc", files, shown)
+    yield Row("check", "check f.avro", files, "data 1 blocks 1\n")
+    files = {"f.avro": header('"null"') + block(3, b"")}
+    yield Row("show nulls", "show f.avro", files, "null\nnull\nnull\n")
+    yield Row("check nulls", "check f.avro", files, "data 3 blocks 1\n")
+    broken = header('"int"') + block(1, b"\x0a") + number(2) + number(1) + b"\x0a" + SYNC
+    text = "avro: f.avro: C10 block 1 datum 1: B1 at 1\n"
+    yield Row("check refused", "check f.avro", {"f.avro": broken}, err=text, status=3)
+    yield Row("show refused", "show f.avro", {"f.avro": broken}, "5\n", text, 3)
+    yield Row("check empty", "check f.avro", {"f.avro": ""}, err="avro: f.avro: C1\n", status=3)
+    yield Row("check schema", "check f.avro", {"f.avro": header('"float"')}, err="avro: f.avro: C4: S10\n", status=3)
+    key = '{"type":"map","values":"int"}'
+    file = header(key) + block(1, bytes.fromhex("0402610202610400"))
+    text = "avro: f.avro: C10 block 0 datum 0: B8 at 4\n"
+    yield Row("check key twice", "check f.avro", {"f.avro": file}, err=text, status=3)
+
+
+def copying_rows():
+    """Containers that are copied."""
+    ints = header('"int"')
+    source, made = "i.avro", "o.avro"
+    readers = {"r.avsc": '["long","int"]'}
+    marked = "copy i.avro o.avro --reader r.avsc --sync 000102030405060708090a0b0c0d0e0f"
+    copied = header('["long","int"]') + block(1, b"\0\x0a")
+    yield Row("copy reader", marked, {source: ints + block(1, b"\x0a"), **readers}, "data 1 blocks 1\n", written={made: copied},
+              behind=(made, source, len(ints)))
+    file = header(TEST) + block(1, ROW_DATUM)
+    behind = (made, source, len(header(TEST)))
+    yield Row("copy", "copy i.avro o.avro", {source: file}, "data 1 blocks 1\n", written={made: file}, behind=behind)
+    copied = header(TEST_READER) + block(1, ROW_DATUM[1:] + ROW_DATUM[:1])
+    files = {source: file, "r.avsc": TEST_READER}
+    yield Row("copy record", "copy i.avro o.avro --reader r.avsc", files, "data 1 blocks 1\n", written={made: copied}, behind=behind)
+    broken = ints + block(1, b"\x0a") + number(2) + number(1) + b"\x0a" + SYNC
+    text = "avro: i.avro: C10 block 1 datum 1: B1 at 1\n"
+    yield Row("copy refused", "copy i.avro o.avro", {source: broken}, "", text, 3, {made: ints + block(1, b"\x0a")}, (made, source, len(ints)))
+    file = ints + block(1, b"\x0a")
+    text = "avro: i.avro: C11 block 0 datum 0: NoMatch at /\n"
+    files = {source: file, "r.avsc": '"string"'}
+    yield Row("copy unresolved", "copy i.avro o.avro --reader r.avsc", files, "", text, 3, {made: header('"string"')}, (made, source, len(ints)))
+    text = "avro: IN and OUT are one word\n"
+    yield Row("copy one word", "copy i.avro i.avro", {source: file}, err=text, status=64)
+    text = "avro: --sync takes 32 hexadecimal digits\n"
+    yield Row("copy sync", "copy i.avro o.avro --sync 00", {source: file}, err=text, status=64, written={made: None})
+
+
+def rows():
+    """All rows."""
+    for some in (schema_rows, judge_rows, certificate_rows, reading_rows, copying_rows):
+        yield from some()
