@@ -87,13 +87,17 @@ const COPIES: [(&str, &str, &[u8], &[u8]); 17] = [
     ),
 ];
 
+/// The text of a copy's schema: the reader's, where there is one.
+fn schema_of_copy<'a>(text: &'a str, reader: &'a str) -> &'a str {
+    if reader.is_empty() { text } else { reader }
+}
+
 #[test]
 fn blocks_are_copied_in_plain_encoding(rt: HostRuntime) -> Result<(), Fail> {
     let alloc = rt.alloc();
     for (text, reader, block, wanted) in COPIES {
         let file = file_of(alloc, text, &[block, block])?;
-        let written = if reader.is_empty() { text } else { reader };
-        let wanted = file_of(alloc, written, &[wanted, wanted])?;
+        let wanted = file_of(alloc, schema_of_copy(text, reader), &[wanted, wanted])?;
         let reader = reader_of(alloc, reader)?;
         let (out, answer) = copy_all(alloc, &file, reader.as_ref(), &FileLimits::default());
         assert_eq!(rt; answer.is_ok(), true, "{text}");
