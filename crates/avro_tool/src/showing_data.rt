@@ -1,3 +1,11 @@
+ghost use Rattle.std.specs.Prelude.{◌≡◌, true, IfOk, IfSome, option_map};
+ghost use Rattle.std.specs.Option.{option_copied};
+ghost use Rattle.avro_container.specs.DataRead.{read_nodes};
+ghost use Rattle.avro_schema.specs.Fits.{each_fits};
+ghost use Rattle.avro_schema.specs.Node.{root_of};
+ghost use Rattle.avro_schema.specs.Seen.{values_of};
+ghost use Rattle.avro_schema.specs.SeenSchema.{schema_nodes};
+
 use crate::Finding;
 use crate::container_file::{ROOM, open_container};
 use crate::failure::Failure;
@@ -5,7 +13,7 @@ use crate::schema_file::read_reader;
 use avro_binary::Tree;
 use avro_container::{Blocks, CopyError, FileLimits, Header, Input};
 use avro_display::show;
-use avro_schema::{Datum, Schema, fits};
+use avro_schema::{Datum, Schema};
 use avro_schema_json::ReaderText;
 use std::alloc::Global;
 use std::io::{BufWriter, Write};
@@ -45,10 +53,7 @@ fn show_data<'a, I: Input, O: Write>(
         Ok(header) => header,
         Err(error) => return Err(Failure::of_container(word, error)),
     };
-    let schema = match reader {
-        Some(reader) => reader.schema(),
-        None => header.schema(),
-    };
+    let schema = shown_schema(&header, reader);
     let mut blocks = Blocks::new(alloc, &header, &limits);
     for _ in 0..u64::MAX {
         match next_data(&mut blocks, input, reader) {
@@ -60,15 +65,38 @@ fn show_data<'a, I: Input, O: Write>(
     Ok(Finding::Good)
 }
 
-/// The data of the next block, where there is one.
+/// The schema of what is printed: the reader's, where there is one.
+fn shown_schema<'a>(header: &'a Header, reader: Option<&'a ReaderText>) -> &'a Schema
+    ensures { schema_nodes result.now
+        ≡ read_nodes (schema_nodes header.now.schema) (option_map (λ r. schema_nodes r.1) (option_copied reader.entry)) }
+{
+    match reader {
+        Some(reader) => reader.schema(),
+        None => header.schema(),
+    }
+}
+
+/// The data of the next block, where there is one: each is one of the schema that is printed.
 fn next_data<I: Input>(
     blocks: &mut Blocks<'_>,
     input: &mut I,
     reader: Option<&ReaderText>,
-) -> Result<Option<Vec<Datum>>, CopyError> {
-    match blocks.next(input)? {
-        Some(block) => Ok(Some(block.read(reader, &mut Tree)?)),
-        None => Ok(None),
+) -> Result<Option<Vec<Datum>>, CopyError>
+    ensures fit { IfOk result (λ found. IfSome found (λ all. each_fits
+        (read_nodes (schema_nodes blocks.old.header.now.schema) (option_map (λ r. schema_nodes r.1) (option_copied reader.entry)))
+        (root_of (read_nodes (schema_nodes blocks.old.header.now.schema) (option_map (λ r. schema_nodes r.1) (option_copied reader.entry))))
+        (values_of all.items) ≡ true)) }
+    ensures same { blocks.new.header ≡ blocks.old.header }
+{
+    match blocks.next(input) {
+        Ok(Some(block)) => {
+            match block.read(reader, &mut Tree) {
+                Ok(data) => Ok(Some(data)),
+                Err(error) => Err(error),
+            }
+        }
+        Ok(None) => Ok(None),
+        Err(error) => Err(error),
     }
 }
 
@@ -76,16 +104,15 @@ fn next_data<I: Input>(
 fn show_block<'a, O: Write>(
     alloc: Global,
     schema: &Schema,
-    data: &[Datum],
+    all: &[Datum],
     out: &mut O,
-) -> Result<(), Failure<'a>> {
-    for datum in data {
-        // it is one of the schema's, as each datum that was read: `show` asks for a test
-        if fits(alloc, schema, schema.root(), datum)? {
-            let line = show(alloc, schema, schema.root(), datum)?;
-            if writeln!(out, "{line}").is_err() {
-                return Err(Failure::CannotPrint);
-            }
+) -> Result<(), Failure<'a>>
+    requires fitting { each_fits (schema_nodes schema.now) (root_of (schema_nodes schema.now)) (values_of all.now) ≡ true }
+{
+    for datum in all {
+        let line = show(alloc, schema, schema.root(), datum)?;
+        if writeln!(out, "{line}").is_err() {
+            return Err(Failure::CannotPrint);
         }
     }
     Ok(())
