@@ -4,8 +4,9 @@
     verdicts.py write FOLDER
     verdicts.py measure PROGRAM [FOLDER]
 
-`measure` runs `PROGRAM judge WRITER READER` on each pair, once with a certificate asked for, and prints the least processor time
-of five runs in milliseconds, the peak of memory in MB, and the answer. A run ends after 60 seconds of the processor.
+`measure` runs `PROGRAM judge WRITER READER` on each pair, then with a certificate asked for, and after a yes `PROGRAM confirm` with that
+certificate. It prints the least processor time of five runs each in milliseconds, the peak of memory in MB, and the answer. A run ends after
+60 seconds of the processor.
 """
 
 import json
@@ -102,12 +103,20 @@ def least(words):
 
 def measure(program, folder):
     """Prints a row for each pair."""
-    print("| Pair | milliseconds | MB | answer | with a certificate |")
-    print("|---|---|---|---|---|")
+    certificate = os.path.join(folder, "out.cert")
+    print("| Pair | milliseconds | MB | answer | with a certificate | `confirm` |")
+    print("|---|---|---|---|---|---|")
     for name, writer, reader in write(folder):
         time, memory, answer = least([program, "judge", writer, reader])
-        certified, _, _ = least([program, "judge", writer, reader, "--certificate", os.path.join(folder, "out.cert")])
-        print(f"| {name} | {time:.1f} | {memory:.1f} | {answer} | {certified:.1f} |", flush=True)
+        certified, _, _ = least([program, "judge", writer, reader, "--certificate", certificate])
+        checked = confirmed(program, writer, reader, certificate) if answer == "yes" else "-"
+        print(f"| {name} | {time:.1f} | {memory:.1f} | {answer} | {certified:.1f} | {checked} |", flush=True)
+
+
+def confirmed(program, writer, reader, certificate):
+    """The milliseconds of confirming a certificate, or what was answered in place of a yes."""
+    time, _, answer = least([program, "confirm", writer, reader, certificate])
+    return f"{time:.1f}" if answer == "confirmed" else answer
 
 
 def main(words):

@@ -1,30 +1,44 @@
 //! Whether the sets of a certificate are closed over two schemas.
 
-ghost use Rattle.std.specs.Prelude.{◌≡◌, ◌&&◌, nat_lt, length, map, unwrap_or, slice_get};
+ghost use Rattle.std.specs.Prelude.{◌≡◌, ◌&&◌, not, nat_lt, length, map, unwrap_or, slice_get, IfOk};
 ghost use Rattle.std.specs.List.{list_all, list_any};
 ghost use Rattle.avro_schema.specs.Node.{node_at, field_places};
-ghost use Rattle.avro_schema.specs.Seen.{node_of, places_of, seen_fields, field_of};
+ghost use Rattle.avro_schema.specs.Seen.{node_of, places_of, seen_fields, field_of, texts_of};
 ghost use Rattle.avro_schema.specs.SeenSchema.{schema_nodes};
 ghost use Rattle.avro_resolve.specs.Match.{first_match_at};
-ghost use Rattle.avro_certificate.specs.Closed.{is_among, is_dead, is_dead_node, is_closed, is_closed_at};
+ghost use Rattle.avro_resolve.specs.Planned.{FindsFields};
+ghost use Rattle.avro_certificate.specs.Closed.{is_among, is_dead, is_dead_node, is_closed, is_closed_at, lacks_symbol};
 ghost use Rattle.avro_certificate.specs.inside.ClosedParts.{stands, closed_branch, closed_inside, closed_fields, closed_source};
 ghost use Rattle.avro_certificate.specs.SeenCertificate.{dead_of, pairs_in};
 ghost use Rattle.avro_certificate.specs.SeenPair.{pair_of};
 
 use crate::kept::Certificate;
 use crate::lookup::{has, has_dead};
-use crate::symbols::lacks_symbol;
-use avro_resolve::{first_match, matches, source};
-use avro_schema::{Field, Node, NodeId, RecordNode, Schema};
+use crate::names::{lacks_symbol, names_of};
+use avro_resolve::{first_match, matches, source_in};
+use avro_schema::{Field, Memory, Node, NodeId, Schema};
+use std::alloc::Global;
+use std::collections::BTreeMap;
 
 /// Whether a certificate shows that no datum of a writer's schema fails for a reader's: its nodes are
 /// nodes of the writer's that no datum has, the roots are accounted for, and each pair is closed.
-pub fn is_closed(writer: &Schema, reader: &Schema, certificate: &Certificate) -> bool
-    ensures { result ≡ is_closed (schema_nodes writer.now) (schema_nodes reader.now) (dead_of certificate.now) (pairs_in certificate.now) }
+///
+/// # Errors
+///
+/// Memory ran out.
+pub fn is_closed(
+    alloc: Global,
+    writer: &Schema,
+    reader: &Schema,
+    certificate: &Certificate,
+) -> Result<bool, Memory>
+    ensures { IfOk result (λ b. b ≡ is_closed (schema_nodes writer.now) (schema_nodes reader.now) (dead_of certificate.now) (pairs_in certificate.now)) }
 {
-    is_dead(writer, certificate)
-        && has(certificate, 0, 0)
-        && pairs_closed(writer, reader, certificate)
+    if is_dead(writer, certificate) && has(certificate, 0, 0) {
+        pairs_closed(alloc, writer, reader, certificate)
+    } else {
+        Ok(false)
+    }
 }
 
 /// Whether each dead node is a node of the writer's that no datum has.
@@ -75,40 +89,52 @@ fn has_dead_branches(certificate: &Certificate, places: &[NodeId]) -> bool
     true
 }
 
-fn pairs_closed(writer: &Schema, reader: &Schema, certificate: &Certificate) -> bool
-    ensures { result ≡ list_all (is_closed_at (schema_nodes writer.now) (schema_nodes reader.now) (dead_of certificate.now) (pairs_in certificate.now)) (pairs_in certificate.now) }
+fn pairs_closed(
+    alloc: Global,
+    writer: &Schema,
+    reader: &Schema,
+    certificate: &Certificate,
+) -> Result<bool, Memory>
+    ensures { IfOk result (λ b. b ≡ list_all (is_closed_at (schema_nodes writer.now) (schema_nodes reader.now) (dead_of certificate.now) (pairs_in certificate.now)) (pairs_in certificate.now)) }
 {
     let pairs = certificate.pairs();
     for pair in pairs {
-        if !is_closed_at(writer, reader, certificate, *pair) {
-            return false;
+        if !is_closed_at(alloc, writer, reader, certificate, *pair)? {
+            return Ok(false);
         }
     }
-    true
+    Ok(true)
 }
 
 /// Whether a pair is one of nodes, and closed where its writer's node is not dead.
 fn is_closed_at(
+    alloc: Global,
     writer: &Schema,
     reader: &Schema,
     certificate: &Certificate,
     pair: (u32, u32),
-) -> bool
-    ensures { result ≡ is_closed_at (schema_nodes writer.now) (schema_nodes reader.now) (dead_of certificate.now) (pairs_in certificate.now) (pair_of pair) }
+) -> Result<bool, Memory>
+    ensures { IfOk result (λ b. b ≡ is_closed_at (schema_nodes writer.now) (schema_nodes reader.now) (dead_of certificate.now) (pairs_in certificate.now) (pair_of pair)) }
 {
     let w = NodeId(pair.0);
     let r = NodeId(pair.1);
     if !writer.has(w) || !reader.has(r) {
-        return false;
+        return Ok(false);
     }
     if has_dead(certificate, w.0) {
-        return true;
+        return Ok(true);
     }
     match writer.node(w) {
-        Node::Union(places) => has_branches(certificate, places, r),
+        Node::Union(places) => Ok(has_branches(certificate, places, r)),
         n => match reader.node(r) {
-            Node::Union(places) => has_first_match(writer, w, reader, r, certificate, places),
-            q => matches(writer, w, reader, r) && is_closed_inside(certificate, n, q),
+            Node::Union(places) => Ok(has_first_match(writer, w, reader, r, certificate, places)),
+            q => {
+                if matches(writer, w, reader, r) {
+                    is_closed_inside(alloc, certificate, n, q)
+                } else {
+                    Ok(false)
+                }
+            }
         },
     }
 }
@@ -145,37 +171,73 @@ fn has_first_match(
 
 /// Whether two nodes that match, and are no unions, have no fault of their own and their parts are
 /// accounted for.
-fn is_closed_inside(certificate: &Certificate, n: &Node, q: &Node) -> bool
-    ensures { result ≡ closed_inside (dead_of certificate.now) (pairs_in certificate.now) (node_of n.now) (node_of q.now) }
+fn is_closed_inside(
+    alloc: Global,
+    certificate: &Certificate,
+    n: &Node,
+    q: &Node,
+) -> Result<bool, Memory>
+    ensures { IfOk result (λ b. b ≡ closed_inside (dead_of certificate.now) (pairs_in certificate.now) (node_of n.now) (node_of q.now)) }
 {
     match n {
-        Node::Bytes => !matches!(q, Node::Str),
+        Node::Bytes => Ok(!matches!(q, Node::Str)),
         Node::Array(a) => match q {
-            Node::Array(b) => has(certificate, a.0, b.0),
-            _ => true,
+            Node::Array(b) => Ok(has(certificate, a.0, b.0)),
+            _ => Ok(true),
         },
         Node::Map(a) => match q {
-            Node::Map(b) => has(certificate, a.0, b.0),
-            _ => true,
+            Node::Map(b) => Ok(has(certificate, a.0, b.0)),
+            _ => Ok(true),
         },
         Node::Record(a) => match q {
-            Node::Record(b) => has_sources(certificate, a, &b.fields),
-            _ => true,
+            Node::Record(b) => has_sources(alloc, certificate, &a.fields, &b.fields),
+            _ => Ok(true),
         },
         Node::Enum(a) => match q {
-            Node::Enum(b) => !lacks_symbol(&a.symbols, &b.symbols, b.default),
-            _ => true,
+            Node::Enum(b) => has_symbols(alloc, &a.symbols, &b.symbols, b.default),
+            _ => Ok(true),
         },
-        _ => true,
+        _ => Ok(true),
     }
 }
 
+/// Whether the reader's enum has each of the writer's symbols, or a default.
+fn has_symbols(
+    alloc: Global,
+    symbols: &[String],
+    theirs: &[String],
+    default: Option<u32>,
+) -> Result<bool, Memory>
+    ensures { IfOk result (λ b. b ≡ not (lacks_symbol (texts_of symbols.now) (texts_of theirs.now) default)) }
+{
+    Ok(!lacks_symbol(alloc, symbols, theirs, default)?)
+}
+
 /// Whether each of the reader's fields has a source that is accounted for, or a default.
-fn has_sources(certificate: &Certificate, writer: &RecordNode, theirs: &[Field]) -> bool
-    ensures { result ≡ closed_fields (dead_of certificate.now) (pairs_in certificate.now) (seen_fields writer.now.fields.items) (seen_fields theirs.now) }
+fn has_sources(
+    alloc: Global,
+    certificate: &Certificate,
+    fields: &[Field],
+    theirs: &[Field],
+) -> Result<bool, Memory>
+    ensures { IfOk result (λ b. b ≡ closed_fields (dead_of certificate.now) (pairs_in certificate.now) (seen_fields fields.now) (seen_fields theirs.now)) }
+{
+    let names = names_of(alloc, fields)?;
+    Ok(are_sourced(certificate, &names, fields, theirs))
+}
+
+/// The same by the names of the writer's fields.
+fn are_sourced(
+    certificate: &Certificate,
+    names: &BTreeMap<&str, usize>,
+    fields: &[Field],
+    theirs: &[Field],
+) -> bool
+    requires { FindsFields (seen_fields fields.now) names.now }
+    ensures { result ≡ closed_fields (dead_of certificate.now) (pairs_in certificate.now) (seen_fields fields.now) (seen_fields theirs.now) }
 {
     for field in theirs {
-        if !has_source(certificate, writer, field) {
+        if !has_source(certificate, names, fields, field) {
             return false;
         }
     }
@@ -183,16 +245,18 @@ fn has_sources(certificate: &Certificate, writer: &RecordNode, theirs: &[Field])
 }
 
 /// Whether a reader's field has a source that is accounted for, or a default.
-fn has_source(certificate: &Certificate, writer: &RecordNode, field: &Field) -> bool
-    ensures { result ≡ closed_source (dead_of certificate.now) (pairs_in certificate.now) (seen_fields writer.now.fields.items) (field_of field.now) }
+fn has_source(
+    certificate: &Certificate,
+    names: &BTreeMap<&str, usize>,
+    fields: &[Field],
+    field: &Field,
+) -> bool
+    requires { FindsFields (seen_fields fields.now) names.now }
+    ensures { result ≡ closed_source (dead_of certificate.now) (pairs_in certificate.now) (seen_fields fields.now) (field_of field.now) }
 {
-    match source(writer, field) {
+    match source_in(names, fields, field) {
         None => field.default.is_some(),
-        Some(place) => has(
-            certificate,
-            place_or_root(&writer.fields, place),
-            field.node.0,
-        ),
+        Some(place) => has(certificate, place_or_root(fields, place), field.node.0),
     }
 }
 

@@ -12,11 +12,11 @@ mod kept;
 pub mod laws;
 mod lines;
 mod lookup;
+mod names;
 mod sets;
-mod symbols;
 mod writing;
 
 pub use closing::is_closed;
 pub use error::CertError;
 pub use kept::Certificate;
-pub use symbols::{has_text, lacks_symbol};
+pub use names::{has_name, lacks_symbol, names_of};

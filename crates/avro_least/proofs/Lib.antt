@@ -17,4 +17,3 @@ pub mod Rounds
 pub mod ShownData
 pub mod ShownErrors
 pub mod public
-pub mod NamesAsked

@@ -11,7 +11,7 @@ ghost use Rattle.avro_certificate.specs.Closed.{lacks_symbol};
 ghost use Rattle.avro_least.specs.Asked.{Asked, asked, asked_inside, asked_branch, noted, rows_from};
 ghost use Rattle.avro_least.specs.SeenAsk.{ask_of, rows_of};
 
-use crate::asking_names::{lacks_by_name, names_of};
+use avro_certificate::{lacks_symbol, names_of};
 use avro_resolve::{first_match, matches, source_in};
 use avro_schema::{Field, Memory, Node, NodeId, Schema};
 use std::alloc::Global;
@@ -144,7 +144,7 @@ fn ask_symbols(
 ) -> Result<Ask, Memory>
     ensures { IfOk result (λ a. ask_of a ≡ cond (lacks_symbol (texts_of symbols.now) (texts_of theirs.now) default) Asked.lone Asked.quiet) }
 {
-    if lacks_by_name(alloc, symbols, theirs, default)? {
+    if lacks_symbol(alloc, symbols, theirs, default)? {
         Ok(Ask::Lone)
     } else {
         Ok(Ask::Quiet)

@@ -1,60 +1,15 @@
-//! What a pair of nodes asks for, as far as it is found by tables of names.
+//! The first symbol that a reader's enum lacks, by a table of names.
 
-ghost use Rattle.std.specs.Prelude.{◌≡◌, IfOk, not, bytes_eq};
-ghost use Rattle.std.specs.List.{list_any};
-ghost use Rattle.avro_schema.specs.Seen.{seen_fields, texts_of};
-ghost use Rattle.avro_resolve.specs.Planned.{FindsFields, FindsSymbols};
-ghost use Rattle.avro_certificate.specs.Closed.{lacks_symbol};
+ghost use Rattle.std.specs.Prelude.{◌≡◌, IfOk};
+ghost use Rattle.avro_schema.specs.Seen.{texts_of};
+ghost use Rattle.avro_resolve.specs.Planned.{FindsSymbols};
 ghost use Rattle.avro_least.specs.BuiltErrors.{first_from, is_lacking};
 
-use avro_resolve::{field_names, symbol_names};
-use avro_schema::{Field, Memory};
+use avro_certificate::has_name;
+use avro_resolve::symbol_names;
+use avro_schema::Memory;
 use std::alloc::Global;
 use std::collections::BTreeMap;
-
-/// The place of each of a writer's fields, to look names up in.
-pub(crate) fn names_of<'f>(
-    alloc: Global,
-    writer: &'f [Field],
-) -> Result<BTreeMap<&'f str, usize>, Memory>
-    ensures { IfOk result (λ names. FindsFields (seen_fields writer.now) names) }
-{
-    match field_names(alloc, writer) {
-        Ok(names) => Ok(names),
-        Err(_) => Err(Memory),
-    }
-}
-
-/// Whether the reader's enum lacks one of the writer's symbols, and has no default.
-pub(crate) fn lacks_by_name(
-    alloc: Global,
-    symbols: &[String],
-    theirs: &[String],
-    default: Option<u32>,
-) -> Result<bool, Memory>
-    ensures { IfOk result (λ lacks. lacks ≡ lacks_symbol (texts_of symbols.now) (texts_of theirs.now) default) }
-{
-    if default.is_some() {
-        return Ok(false);
-    }
-    match symbol_names(alloc, theirs) {
-        Ok(names) => Ok(lacks_one(&names, symbols, theirs)),
-        Err(_) => Err(Memory),
-    }
-}
-
-/// Whether one of the writer's symbols is none of the reader's.
-fn lacks_one(names: &BTreeMap<&str, usize>, symbols: &[String], theirs: &[String]) -> bool
-    requires { FindsSymbols (texts_of theirs.now) names.now }
-    ensures { result ≡ list_any (λ s. not (list_any (bytes_eq s) (texts_of theirs.now))) (texts_of symbols.now) }
-{
-    for symbol in symbols {
-        if !has_name(names, theirs, symbol.as_str()) {
-            return true;
-        }
-    }
-    false
-}
 
 /// The first of the writer's symbols that the reader lacks.
 pub(crate) fn first_lacking(
@@ -81,12 +36,4 @@ fn first_unnamed(names: &BTreeMap<&str, usize>, symbols: &[String], theirs: &[St
         }
     }
     symbols.len()
-}
-
-/// Whether a symbol is one of the reader's.
-fn has_name(names: &BTreeMap<&str, usize>, theirs: &[String], symbol: &str) -> bool
-    requires { FindsSymbols (texts_of theirs.now) names.now }
-    ensures { result ≡ list_any (bytes_eq symbol.now) (texts_of theirs.now) }
-{
-    names.contains_key(symbol)
 }
