@@ -32,10 +32,15 @@ pub fn confirm<'a>(
     ensures of_these { IfOk result (λ o. IfSome o (λ a. a ≡ (writer.now, reader.now))) }
 {
     let _ = reader.len();
-    if is_closed(alloc, writer, reader, certificate)? {
-        let plan = plan_for(alloc, writer, reader, certificate.pairs())?;
-        Ok(Some(Approved::of(writer, reader, plan)))
-    } else {
-        Ok(None)
+    match is_closed(alloc, writer, reader, certificate) {
+        Ok(closed) => {
+            if closed {
+                let plan = plan_for(alloc, writer, reader, certificate.pairs())?;
+                Ok(Some(Approved::of(writer, reader, plan)))
+            } else {
+                Ok(None)
+            }
+        }
+        Err(error) => Err(error),
     }
 }
