@@ -30,4 +30,12 @@ fi
 if [ -x "$ours" ]; then
     echo "avro_bench:"
     measure "$ours" walk "$work/$kind" "$kind"
+    if [ "$kind" = records ]; then
+        for word in resolve plan; do
+            for builder in nothing tree packed; do
+                echo "avro_bench $word $builder:"
+                measure "$ours" "$word" "$work/$kind" "$builder"
+            done
+        done
+    fi
 fi

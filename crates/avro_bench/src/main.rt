@@ -3,12 +3,14 @@
 
 mod large;
 mod measure;
+mod resolving;
 mod texts;
 mod walking;
 
 use anyhow::bail;
 use large::{Shape, draft_of};
 use measure::print_drafts;
+use resolving::{print_planned, print_resolved};
 use std::env;
 use texts::{print_texts, small_text};
 use walking::{print_decode, print_walk};
@@ -23,6 +25,12 @@ fn main(rt: HostRuntime) -> anyhow::Result<()> {
         }
         [word, file, kind] if word.as_str() == "decode" => {
             print_decode(&rt, file.as_str(), kind.as_str())
+        }
+        [word, file, builder] if word.as_str() == "resolve" => {
+            print_resolved(&rt, file.as_str(), builder.as_str())
+        }
+        [word, file, builder] if word.as_str() == "plan" => {
+            print_planned(&rt, file.as_str(), builder.as_str())
         }
         _ => usage(),
     }
@@ -40,7 +48,9 @@ fn run(rt: &HostRuntime, word: &str) -> anyhow::Result<()> {
 
 /// Says which words there are.
 fn usage() -> anyhow::Result<()> {
-    bail!("avro_bench check | draft | schema | walk FILE records|strings|keys")
+    bail!(
+        "avro_bench check | draft | schema | walk FILE records|strings|keys | resolve FILE nothing|tree|packed | plan FILE nothing|tree|packed"
+    )
 }
 
 /// Makes a small schema and reads another, and prints their numbers of nodes.

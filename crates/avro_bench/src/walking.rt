@@ -61,7 +61,7 @@ fn count_data(alloc: Global, schema: &Schema, bytes: &[u8]) -> anyhow::Result<us
 
 /// The schema of the data of a kind: an array of records {a long, b int, c string}, an array of
 /// strings, or a map of nulls, which is a map for its keys alone.
-fn schema_of(alloc: Global, kind: &str) -> anyhow::Result<Schema> {
+pub(crate) fn schema_of(alloc: Global, kind: &str) -> anyhow::Result<Schema> {
     let mut draft = Draft::new(alloc);
     match kind {
         "records" => {
@@ -99,7 +99,7 @@ fn record(alloc: Global) -> anyhow::Result<Node> {
 }
 
 /// A field without aliases and default.
-fn field(alloc: Global, name: &str, node: u32) -> Result<Field, AllocError> {
+pub(crate) fn field(alloc: Global, name: &str, node: u32) -> Result<Field, AllocError> {
     Ok(Field {
         name: String::from_str(alloc, name)?,
         aliases: Vec::new(alloc),
