@@ -5,6 +5,7 @@ use avro_container::{Blocks, CopyError, Counts, FileLimits, Header, ReadInput, W
 use avro_schema_json::{ReaderText, SchemaError};
 use avro_zigzag::write_long;
 use std::alloc::{AllocError, Global};
+use std::test::Fail;
 
 /// The marker of the files.
 pub(crate) const MARK: [u8; 16] = [0, 1, 2, 3, 4, 5, 6, 7, 8, 9, 10, 11, 12, 13, 14, 15];
@@ -68,7 +69,7 @@ pub(crate) fn reader_of(alloc: Global, text: &str) -> Result<Option<ReaderText>,
 }
 
 /// Reads all data of a file.
-pub(crate) fn read_all(
+fn read_all(
     alloc: Global,
     file: &[u8],
     reader: Option<&ReaderText>,
@@ -117,4 +118,20 @@ pub(crate) fn told(alloc: Global, answer: Result<Counts, CopyError>) -> Result<S
         Ok(counts) => format!(in alloc; "data {} blocks {}", counts.items, counts.blocks),
         Err(error) => format!(in alloc; "{error}"),
     }
+}
+
+/// What both reading and copying answer of a file, as text.
+pub(crate) fn answer_of(
+    alloc: Global,
+    file: &[u8],
+    reader: Option<&ReaderText>,
+    limits: &FileLimits,
+) -> Result<String, Fail> {
+    let read = told(alloc, read_all(alloc, file, reader, limits))?;
+    let (_, answer) = copy_all(alloc, file, reader, limits);
+    let copied = told(alloc, answer)?;
+    if copied.as_str() != read.as_str() {
+        return Err(Fail::new("reading and copying answer alike"));
+    }
+    Ok(copied)
 }

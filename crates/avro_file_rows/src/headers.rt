@@ -1,6 +1,6 @@
 //! Headers: what is refused and by which fault, and limits.
 
-use crate::files::{NULLS, copy_all, file_with, read_all, told};
+use crate::files::{NULLS, answer_of, copy_all, file_with};
 use avro_container::FileLimits;
 use avro_schema::Limits;
 use std::test::Fail;
@@ -75,11 +75,9 @@ fn metadata_are_read_or_refused(rt: HostRuntime) -> Result<(), Fail> {
     let limits = FileLimits::default();
     for (metadata, wanted) in METADATA {
         let file = file_with(alloc, metadata, &[])?;
-        let read = told(alloc, read_all(alloc, &file, None, &limits))?;
-        assert_eq!(rt; read.as_str(), wanted, "{metadata:?}");
-        let (out, answer) = copy_all(alloc, &file, None, &limits);
-        let copied = told(alloc, answer)?;
-        assert_eq!(rt; copied.as_str(), wanted, "{metadata:?}");
+        let answer = answer_of(alloc, &file, None, &limits)?;
+        assert_eq!(rt; answer.as_str(), wanted, "{metadata:?}");
+        let (out, _) = copy_all(alloc, &file, None, &limits);
         assert_eq!(rt; out.is_empty(), wanted != "data 0 blocks 0", "{metadata:?}");
     }
     Ok(())
@@ -104,66 +102,37 @@ fn wanted_of_cut(len: usize) -> &'static str {
 fn cut_files_are_told(rt: HostRuntime) -> Result<(), Fail> {
     let alloc = rt.alloc();
     let limits = FileLimits::default();
-    let mut cut = Vec::new(alloc);
     for len in 0..60 {
-        let wanted = wanted_of_cut(len);
-        let read = told(alloc, read_all(alloc, &cut, None, &limits))?;
-        assert_eq!(rt; read.as_str(), wanted, "{len}");
-        let (_, answer) = copy_all(alloc, &cut, None, &limits);
-        let copied = told(alloc, answer)?;
-        assert_eq!(rt; copied.as_str(), wanted, "{len}");
-        if let Some(byte) = NULLS.get(len) {
-            cut.push(*byte)?;
-        }
-    }
-    assert_eq!(rt; cut.as_slice(), NULLS);
-    Ok(())
-}
-
-/// The first four bytes of a file, and the limit of its header.
-const FRONTS: [(&[u8], u32, &str); 6] = [
-    (b"Obj\x02", 4_194_304, "C1"),
-    (b"obj\x01", 4_194_304, "C1"),
-    (b"Ob", 4_194_304, "C1"),
-    (b"Obj\x02", 1, "C1"),
-    (b"Ob", 1, "C1"),
-    (b"Obj\x01", 1, "C9"),
-];
-
-#[test]
-fn the_magic_is_tested_first(rt: HostRuntime) -> Result<(), Fail> {
-    let alloc = rt.alloc();
-    for (front, header, wanted) in FRONTS {
-        let Some(limits) = FileLimits::new(header, 1, 1, Limits::default()) else {
-            return Err(Fail::new("these are limits"));
-        };
-        let read = told(alloc, read_all(alloc, front, None, &limits))?;
-        assert_eq!(rt; read.as_str(), wanted, "{front:?} {header}");
+        let (cut, _) = NULLS.split_at(len.min(NULLS.len()));
+        let answer = answer_of(alloc, cut, None, &limits)?;
+        assert_eq!(rt; answer.as_str(), wanted_of_cut(len), "{len}");
     }
     Ok(())
 }
 
-/// Limits of a header, of a block's bytes and of its data, and what is answered of the three nulls.
-const LIMITED: [(u32, u32, u32, &str); 5] = [
-    (41, 1, 3, "data 3 blocks 1"),
-    (40, 1, 3, "C9"),
-    (25, 1, 3, "C9"),
-    (41, 1, 2, "C9 block 0"),
-    (16_777_216, 16_777_216, 16_777_216, "data 3 blocks 1"),
+/// A file, the limits of its header, of a block's bytes and of its data, and what is answered. The magic is tested first.
+const LIMITED: [(&[u8], u32, u32, u32, &str); 11] = [
+    (b"Obj\x02", 4_194_304, 1, 1, "C1"),
+    (b"obj\x01", 4_194_304, 1, 1, "C1"),
+    (b"Ob", 4_194_304, 1, 1, "C1"),
+    (b"Obj\x02", 1, 1, 1, "C1"),
+    (b"Ob", 1, 1, 1, "C1"),
+    (b"Obj\x01", 1, 1, 1, "C9"),
+    (NULLS, 41, 1, 3, "data 3 blocks 1"),
+    (NULLS, 40, 1, 3, "C9"),
+    (NULLS, 25, 1, 3, "C9"),
+    (NULLS, 41, 1, 2, "C9 block 0"),
+    (NULLS, 16_777_216, 16_777_216, 16_777_216, "data 3 blocks 1"),
 ];
 
 #[test]
 fn limits_are_kept(rt: HostRuntime) -> Result<(), Fail> {
-    let alloc = rt.alloc();
-    for (header, block, per_block, wanted) in LIMITED {
+    for (file, header, block, per_block, wanted) in LIMITED {
         let Some(limits) = FileLimits::new(header, block, per_block, Limits::default()) else {
             return Err(Fail::new("these are limits"));
         };
-        let read = told(alloc, read_all(alloc, NULLS, None, &limits))?;
-        assert_eq!(rt; read.as_str(), wanted, "{header} {per_block}");
-        let (_, answer) = copy_all(alloc, NULLS, None, &limits);
-        let copied = told(alloc, answer)?;
-        assert_eq!(rt; copied.as_str(), wanted, "{header} {per_block}");
+        let answer = answer_of(rt.alloc(), file, None, &limits)?;
+        assert_eq!(rt; answer.as_str(), wanted, "{header} {per_block}");
     }
     Ok(())
 }

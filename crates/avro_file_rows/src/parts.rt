@@ -2,9 +2,8 @@
 
 use crate::files::{FIVE, FIVE_COPIED, LONG_OR_INT, MARK, NULLS, reader_of};
 use avro_container::{Copier, CopyError, FileLimits, ReadInput, Sink, Step, WriteOutput, copy};
+use avro_runs::Full;
 use avro_schema::Limits;
-use std::io;
-use std::io::Write;
 use std::test::Fail;
 
 #[test]
@@ -76,24 +75,6 @@ fn a_marker_is_put_in_place_of_the_files(rt: HostRuntime) -> Result<(), Fail> {
     assert_eq!(rt; counts.items, 3);
     assert_eq!(rt; back.as_slice(), NULLS);
     Ok(())
-}
-
-/// A writer that takes a number of bytes, and then none.
-#[derive(Drop)]
-struct Full {
-    room: usize,
-}
-
-impl Write for Full {
-    fn write(&mut self, buf: &[u8]) -> io::Result<usize> {
-        let taken = self.room.min(buf.len());
-        self.room -= taken;
-        Ok(taken)
-    }
-
-    fn flush(&mut self) -> io::Result<()> {
-        Ok(())
-    }
 }
 
 #[test]

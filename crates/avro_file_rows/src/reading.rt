@@ -1,8 +1,6 @@
 //! Blocks: what is refused and by which fault, in the order of a file.
 
-use crate::files::{
-    FIVE, LONG_OR_INT, MARK, NULL_HEADER, copy_all, file_of, read_all, reader_of, told,
-};
+use crate::files::{FIVE, LONG_OR_INT, MARK, NULL_HEADER, answer_of, file_of, reader_of};
 use avro_binary::Tree;
 use avro_container::{Blocks, CopyError, FileLimits, Header, ReadInput};
 use avro_schema::Datum;
@@ -135,11 +133,8 @@ fn blocks_are_read_or_refused(rt: HostRuntime) -> Result<(), Fail> {
     for (text, reader, block, wanted) in BLOCKS {
         let file = file_of(alloc, text, &[block])?;
         let reader = reader_of(alloc, reader)?;
-        let read = told(alloc, read_all(alloc, &file, reader.as_ref(), &limits))?;
-        assert_eq!(rt; read.as_str(), wanted, "{text} {block:?}");
-        let (_, answer) = copy_all(alloc, &file, reader.as_ref(), &limits);
-        let copied = told(alloc, answer)?;
-        assert_eq!(rt; copied.as_str(), wanted, "{text} {block:?}");
+        let answer = answer_of(alloc, &file, reader.as_ref(), &limits)?;
+        assert_eq!(rt; answer.as_str(), wanted, "{text} {block:?}");
     }
     Ok(())
 }
@@ -175,11 +170,8 @@ fn markers_and_ends_are_tested(rt: HostRuntime) -> Result<(), Fail> {
     for (tail, wanted) in TAILS {
         let mut file = NULL_HEADER.to_vec(alloc)?;
         file.extend_from_slice(tail)?;
-        let read = told(alloc, read_all(alloc, &file, None, &limits))?;
-        assert_eq!(rt; read.as_str(), wanted, "{tail:?}");
-        let (_, answer) = copy_all(alloc, &file, None, &limits);
-        let copied = told(alloc, answer)?;
-        assert_eq!(rt; copied.as_str(), wanted, "{tail:?}");
+        let answer = answer_of(alloc, &file, None, &limits)?;
+        assert_eq!(rt; answer.as_str(), wanted, "{tail:?}");
     }
     Ok(())
 }

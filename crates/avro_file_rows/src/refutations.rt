@@ -1,6 +1,6 @@
 //! The container of a refutation.
 
-use crate::program::outcome_of;
+use avro_runs::outcome_of;
 use std::fs;
 use std::test::Fail;
 
@@ -13,27 +13,29 @@ fn a_no_writes_its_datum(rt: HostRuntime) -> Result<(), Fail> {
     fs::write(&rt, "int.avsc", "\"int\"")?;
     fs::write(&rt, "text.avsc", "\"string\"")?;
     let no = "no\nfault NoMatch at /\nnodes 1\ndatum 0\n";
-    for (out, status, err) in [
-        ("no.avro", 1, ""),
-        ("none/no.avro", 4, "avro: none/no.avro: cannot write\n"),
+    for (line, status, out, err) in [
+        ("judge int.avsc text.avsc --refutation no.avro", 1, no, ""),
+        (
+            "judge int.avsc text.avsc --refutation none/no.avro",
+            4,
+            no,
+            "avro: none/no.avro: cannot write\n",
+        ),
+        (
+            "show no.avro --reader text.avsc",
+            3,
+            "",
+            "avro: no.avro: C11 block 0 datum 0: NoMatch at /\n",
+        ),
     ] {
-        let ran = outcome_of(
-            &rt,
-            &["judge", "int.avsc", "text.avsc", "--refutation", out],
-        )?;
-        assert_eq!(rt; ran.status, status, "{out}");
-        assert_eq!(rt; ran.out.as_slice(), no.as_bytes());
+        let ran = outcome_of(&rt, line)?;
+        assert_eq!(rt; ran.status, status, "{line}");
+        assert_eq!(rt; ran.out.as_slice(), out.as_bytes());
         assert_eq!(rt; ran.err.as_slice(), err.as_bytes());
     }
     let written = fs::read(&rt, "no.avro")?;
     assert_eq!(rt; written.len(), 75);
     assert_eq!(rt; written.as_slice(), INT_REFUTED);
-    let ran = outcome_of(&rt, &["show", "no.avro", "--reader", "text.avsc"])?;
-    assert_eq!(rt; ran.status, 3);
-    assert_eq!(rt;
-        ran.err.as_slice(),
-        "avro: no.avro: C11 block 0 datum 0: NoMatch at /\n".as_bytes()
-    );
     Ok(())
 }
 
@@ -58,24 +60,25 @@ const SHOWN: [(&str, &str, &str); 3] = [
 
 #[test]
 fn a_refutation_is_shown_again(rt: HostRuntime) -> Result<(), Fail> {
-    for (writer, reader, line) in SHOWN {
+    for (writer, reader, shown) in SHOWN {
         fs::write(&rt, "writer.avsc", writer)?;
         fs::write(&rt, "other.avsc", reader)?;
-        let words = [
-            "judge",
-            "--refutation",
-            "shown_no.avro",
-            "writer.avsc",
-            "other.avsc",
-        ];
-        let ran = outcome_of(&rt, &words)?;
-        assert_eq!(rt; ran.status, 1, "{line}");
-        let ran = outcome_of(&rt, &["show", "shown_no.avro"])?;
-        assert_eq!(rt; ran.status, 0, "{line}");
-        assert_eq!(rt; ran.out.as_slice(), line.as_bytes());
-        let ran = outcome_of(&rt, &["show", "shown_no.avro", "--reader", "other.avsc"])?;
-        assert_eq!(rt; ran.status, 3, "{line}");
-        assert!(rt; ran.out.is_empty());
+        for (line, status, out) in [
+            (
+                "judge --refutation least.avro writer.avsc other.avsc",
+                1,
+                "",
+            ),
+            ("show least.avro", 0, shown),
+            ("show least.avro --reader other.avsc", 3, ""),
+        ] {
+            let ran = outcome_of(&rt, line)?;
+            assert_eq!(rt; ran.status, status, "{line} {shown}");
+            assert!(rt;
+                status == 1 || ran.out.as_slice() == out.as_bytes(),
+                "{line} {shown}"
+            );
+        }
     }
     Ok(())
 }
@@ -83,12 +86,15 @@ fn a_refutation_is_shown_again(rt: HostRuntime) -> Result<(), Fail> {
 #[test]
 fn other_verdicts_write_no_refutation(rt: HostRuntime) -> Result<(), Fail> {
     fs::write(&rt, "yes.avsc", "\"int\"")?;
-    fs::write(&rt, "refused.avsc", "\"float\"")?;
-    for (reader, status) in [("yes.avsc", 0), ("refused.avsc", 3), ("none.avsc", 4)] {
-        let words = ["judge", "yes.avsc", reader, "--refutation", "never.avro"];
-        let ran = outcome_of(&rt, &words)?;
-        assert_eq!(rt; ran.status, status, "{reader}");
-        assert!(rt; fs::read(&rt, "never.avro").is_err());
+    fs::write(&rt, "float.avsc", "\"float\"")?;
+    for (line, status) in [
+        ("judge yes.avsc yes.avsc --refutation never.avro", 0),
+        ("judge yes.avsc float.avsc --refutation never.avro", 3),
+        ("judge yes.avsc none.avsc --refutation never.avro", 4),
+    ] {
+        let ran = outcome_of(&rt, line)?;
+        assert_eq!(rt; ran.status, status, "{line}");
     }
+    assert!(rt; fs::read(&rt, "never.avro").is_err());
     Ok(())
 }

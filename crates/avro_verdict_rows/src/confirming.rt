@@ -1,8 +1,8 @@
 //! Certificates of approvals: through the library, and through the program and its files.
 
-use crate::program::outcome_of;
 use crate::texts::record_of_ints;
 use avro_judge::{Certificate, JudgeLimits, Verdict, confirm, judge};
+use avro_runs::outcome_of;
 use avro_schema_json::read_schema;
 use std::alloc::Global;
 use std::fs;

@@ -1,8 +1,8 @@
 use crate::judging_rows::ROWS;
-use crate::program::outcome_of;
 use avro_binary::Tree;
 use avro_display::show;
 use avro_judge::{JudgeLimits, Refutation, Verdict, judge};
+use avro_runs::outcome_of;
 use avro_schema::{Limits, Schema, size};
 use avro_schema_json::read_schema;
 use std::alloc::Global;

@@ -2,41 +2,10 @@
 
 use crate::program_rows::{FILES, RUNS, USAGE};
 use crate::texts::{padded_int, record_of_ints, unions_with_default};
+use avro_runs::{Full, outcome_of, words_of};
 use avro_tool::run;
-use std::alloc::AllocError;
-use std::io::Write;
-use std::rt::Files;
+use std::fs;
 use std::test::Fail;
-use std::{fs, io};
-
-/// What a run of the program answered and wrote.
-#[derive(Drop)]
-pub(crate) struct Outcome {
-    pub status: u8,
-    pub out: Vec<u8>,
-    pub err: Vec<u8>,
-}
-
-/// A run of the program over the words of a line.
-pub(crate) fn outcome_of<R: Files + AllocGlobal>(
-    rt: &R,
-    line: &str,
-) -> Result<Outcome, AllocError> {
-    let mut out = Vec::new(rt.alloc());
-    let mut err = Vec::new(rt.alloc());
-    let words = words_of(rt, line)?;
-    let status = run(rt, &words, &mut out, &mut err);
-    Ok(Outcome { status, out, err })
-}
-
-/// The words of a line.
-fn words_of<R: AllocGlobal>(rt: &R, line: &str) -> Result<Vec<String>, AllocError> {
-    let mut list = Vec::new(rt.alloc());
-    for word in line.split_whitespace() {
-        list.push(String::from_str(rt.alloc(), word)?)?;
-    }
-    Ok(list)
-}
 
 #[test]
 fn runs_are_told(rt: HostRuntime) -> Result<(), Fail> {
@@ -70,27 +39,6 @@ fn other_words_are_usage(rt: HostRuntime) -> Result<(), Fail> {
         assert!(rt; ran.out.is_empty());
     }
     Ok(())
-}
-
-/// A writer that takes a number of bytes, and then fails.
-#[derive(Drop)]
-struct Full {
-    room: usize,
-}
-
-impl Write for Full {
-    fn write(&mut self, buf: &[u8]) -> io::Result<usize> {
-        if self.room == 0 {
-            return Err(io::Error::from(io::ErrorKind::StorageFull));
-        }
-        let taken = self.room.min(buf.len());
-        self.room -= taken;
-        Ok(taken)
-    }
-
-    fn flush(&mut self) -> io::Result<()> {
-        Ok(())
-    }
 }
 
 #[test]

@@ -1,6 +1,6 @@
 //! Schemas of files: what the program tells of them.
 
-use crate::program::outcome_of;
+use avro_runs::outcome_of;
 use std::fs;
 use std::test::Fail;
 

@@ -1,0 +1,67 @@
+//! Runs of the program `avro` within tests: what it answers and writes.
+#![tactic(auto)]
+
+use avro_tool::run;
+use std::alloc::AllocError;
+use std::io;
+use std::io::Write;
+use std::rt::Files;
+
+/// What a run of the program answered and wrote.
+#[derive(Drop)]
+pub struct Outcome {
+    /// The exit status.
+    pub status: u8,
+    /// What went to standard output.
+    pub out: Vec<u8>,
+    /// What went to standard error.
+    pub err: Vec<u8>,
+}
+
+/// A run of the program over the words of a line.
+///
+/// # Errors
+///
+/// Memory ran out before the run.
+pub fn outcome_of<R: Files + AllocGlobal>(rt: &R, line: &str) -> Result<Outcome, AllocError> {
+    let mut out = Vec::new(rt.alloc());
+    let mut err = Vec::new(rt.alloc());
+    let words = words_of(rt, line)?;
+    let status = run(rt, &words, &mut out, &mut err);
+    Ok(Outcome { status, out, err })
+}
+
+/// The words of a line.
+///
+/// # Errors
+///
+/// Memory ran out.
+pub fn words_of<R: AllocGlobal>(rt: &R, line: &str) -> Result<Vec<String>, AllocError> {
+    let mut list = Vec::new(rt.alloc());
+    for word in line.split_whitespace() {
+        list.push(String::from_str(rt.alloc(), word)?)?;
+    }
+    Ok(list)
+}
+
+/// A writer that takes a number of bytes, and then fails.
+#[derive(Drop)]
+pub struct Full {
+    /// How many bytes it takes yet.
+    pub room: usize,
+}
+
+impl Write for Full {
+    fn write(&mut self, buf: &[u8]) -> io::Result<usize> {
+        if self.room == 0 {
+            return Err(io::Error::from(io::ErrorKind::StorageFull));
+        }
+        let taken = self.room.min(buf.len());
+        self.room -= taken;
+        Ok(taken)
+    }
+
+    fn flush(&mut self) -> io::Result<()> {
+        Ok(())
+    }
+}
