@@ -1,35 +1,20 @@
 //! Copies through the program: its files, and the order of its faults.
 
-use crate::files::{FIVE, FIVE_COPIED, LONG_OR_INT, NULLS, file_of};
+use crate::files::{FIVE, FIVE_COPIED, LONG_OR_INT, NULL_HEADER, NULLS, file_of};
 use avro_runs::outcome_of;
 use std::fs;
 use std::test::Fail;
-
-/// A file of no container.
-const KEPT: &[u8] = b"kept";
 
 /// The three nulls under another marker.
 const MARKED: &[u8] =
     b"Obj\x01\x02\x16avro.schema\x0c\"null\"\x00\xab\xcd\xef\x00\x11\x22\x33\x44\x55\x66\x77\x88\x99\xab\xcd\xef\x06\x00\xab\xcd\xef\x00\x11\x22\x33\x44\x55\x66\x77\x88\x99\xab\xcd\xef";
 
-/// Files, and what they hold.
-const FILES: [(&str, &[u8]); 6] = [
-    ("one.avro", FIVE),
-    ("three.avro", NULLS),
-    ("magic.avro", b"Obj\x02"),
-    ("cut.avro", b"Obj\x01\x00"),
-    ("named.avro", b"Obj\x01\x02\x02\xff"),
-    ("unknown.avsc", b"\"Foo\""),
-];
-
 const ONE_BLOCK: &str = "data 1 blocks 1\n";
 
-const ONE_WORD: &str = "avro: IN and OUT are one word\n";
+const LEFT: &str = "avro: left.avro: C7 block 1\n";
 
-const NO_MARKER: &str = "avro: --sync takes 32 hexadecimal digits\n";
-
-/// The words of copies, what they answer and write, and what then is in the file `out.avro`, which had the word `kept`.
-const RUNS: [(&str, u8, &str, &str, &[u8]); 25] = [
+/// The words of copies, what they answer and write, and what then is in the file `out.avro`.
+const COPIES: [(&str, u8, &str, &str, &[u8]); 9] = [
     ("copy one.avro out.avro", 0, ONE_BLOCK, "", FIVE),
     (
         "copy one.avro out.avro --reader into.avsc",
@@ -66,128 +51,36 @@ const RUNS: [(&str, u8, &str, &str, &[u8]); 25] = [
         "",
         MARKED,
     ),
-    // a fault of the words goes before those of files
-    ("copy none.avro none.avro", 64, "", ONE_WORD, KEPT),
-    ("copy x x --sync 0", 64, "", ONE_WORD, KEPT),
-    ("copy x x --reader none.avsc", 64, "", ONE_WORD, KEPT),
-    ("copy x out.avro --sync 0", 64, "", NO_MARKER, KEPT),
-    ("copy x out.avro --sync=", 64, "", NO_MARKER, KEPT),
-    (
-        "copy x out.avro --sync 000102030405060708090a0b0c0d0e0",
-        64,
-        "",
-        NO_MARKER,
-        KEPT,
-    ),
-    (
-        "copy x out.avro --sync 000102030405060708090a0b0c0d0e0g",
-        64,
-        "",
-        NO_MARKER,
-        KEPT,
-    ),
-    (
-        "copy x out.avro --sync 000102030405060708090a0b0c0d0e0f00",
-        64,
-        "",
-        NO_MARKER,
-        KEPT,
-    ),
-    // a refused header touches no file
-    (
-        "copy magic.avro out.avro",
-        3,
-        "",
-        "avro: magic.avro: C1\n",
-        KEPT,
-    ),
-    (
-        "copy cut.avro out.avro",
-        3,
-        "",
-        "avro: cut.avro: C16\n",
-        KEPT,
-    ),
-    (
-        "copy named.avro out.avro",
-        3,
-        "",
-        "avro: named.avro: C2: B4 at 6\n",
-        KEPT,
-    ),
-    (
-        "copy three.avro out.avro --reader unknown.avsc",
-        3,
-        "",
-        "avro: unknown.avsc: S2\n",
-        KEPT,
-    ),
-    (
-        "copy magic.avro out.avro --reader unknown.avsc",
-        3,
-        "",
-        "avro: unknown.avsc: S2\n",
-        KEPT,
-    ),
-    (
-        "copy none.avro out.avro",
-        4,
-        "",
-        "avro: none.avro: cannot read\n",
-        KEPT,
-    ),
-    (
-        "copy one.avro none/out.avro",
-        4,
-        "",
-        "avro: none/out.avro: cannot write\n",
-        KEPT,
-    ),
     // a refused block leaves what was copied before it
     (
         "copy left.avro out.avro --reader into.avsc",
         3,
         "",
-        "avro: left.avro: C7 block 1\n",
+        LEFT,
         FIVE_COPIED,
     ),
     (
         "copy left.avro ./out.avro --reader into.avsc",
         3,
         "",
-        "avro: left.avro: C7 block 1\n",
+        LEFT,
         FIVE_COPIED,
     ),
-    (
-        "copy left.avro out.avro",
-        3,
-        "",
-        "avro: left.avro: C7 block 1\n",
-        FIVE,
-    ),
-    (
-        "copy left.avro none/out.avro",
-        4,
-        "",
-        "avro: none/out.avro: cannot write\n",
-        KEPT,
-    ),
+    ("copy left.avro out.avro", 3, "", LEFT, FIVE),
 ];
 
 #[test]
-fn copies_are_told_and_written(rt: HostRuntime) -> Result<(), Fail> {
-    for (file, bytes) in FILES {
-        fs::write(&rt, file, bytes)?;
-    }
+fn copies_are_written(rt: HostRuntime) -> Result<(), Fail> {
     let left = file_of(
         rt.alloc(),
         "\"int\"",
         &[b"\x02\x02\x0a", b"\x02\x04\x0a\x0a"],
     )?;
     fs::write(&rt, "left.avro", &left)?;
+    fs::write(&rt, "one.avro", FIVE)?;
+    fs::write(&rt, "three.avro", NULLS)?;
     fs::write(&rt, "into.avsc", LONG_OR_INT)?;
-    for (line, status, out, err, wanted) in RUNS {
-        fs::write(&rt, "out.avro", KEPT)?;
+    for (line, status, out, err, wanted) in COPIES {
         let ran = outcome_of(&rt, line)?;
         assert_eq!(rt; ran.status, status, "{line}");
         assert_eq!(rt; ran.out.as_slice(), out.as_bytes(), "{line}");
@@ -195,6 +88,89 @@ fn copies_are_told_and_written(rt: HostRuntime) -> Result<(), Fail> {
         let written = fs::read(&rt, "out.avro")?;
         assert_eq!(rt; written.as_slice(), wanted, "{line}");
     }
+    Ok(())
+}
+
+/// Files, and what they hold.
+const FILES: [(&str, &[u8]); 7] = [
+    ("nulls_in.avro", NULLS),
+    ("magic.avro", b"Obj\x02"),
+    ("cut.avro", b"Obj\x01\x00"),
+    ("named.avro", b"Obj\x01\x02\x02\xff"),
+    ("unknown.avsc", b"\"Foo\""),
+    ("kept.avro", b"kept"),
+    ("header_in.avro", NULL_HEADER),
+];
+
+const ONE_WORD: &str = "avro: IN and OUT are one word\n";
+
+const NO_MARKER: &str = "avro: --sync takes 32 hexadecimal digits\n";
+
+/// The words of copies that leave the file `kept.avro` as it is, and the fault: those of the words go before those of files, and
+/// a refused header touches no file.
+const FAULTS: [(&str, u8, &str); 15] = [
+    ("copy none.avro none.avro", 64, ONE_WORD),
+    ("copy x x --sync 0", 64, ONE_WORD),
+    ("copy x x --reader none.avsc", 64, ONE_WORD),
+    ("copy x kept.avro --sync 0", 64, NO_MARKER),
+    ("copy x kept.avro --sync=", 64, NO_MARKER),
+    (
+        "copy x kept.avro --sync 000102030405060708090a0b0c0d0e0",
+        64,
+        NO_MARKER,
+    ),
+    (
+        "copy x kept.avro --sync 000102030405060708090a0b0c0d0e0g",
+        64,
+        NO_MARKER,
+    ),
+    (
+        "copy x kept.avro --sync 000102030405060708090a0b0c0d0e0f00",
+        64,
+        NO_MARKER,
+    ),
+    ("copy magic.avro kept.avro", 3, "avro: magic.avro: C1\n"),
+    ("copy cut.avro kept.avro", 3, "avro: cut.avro: C16\n"),
+    (
+        "copy named.avro kept.avro",
+        3,
+        "avro: named.avro: C2: B4 at 6\n",
+    ),
+    (
+        "copy nulls_in.avro kept.avro --reader unknown.avsc",
+        3,
+        "avro: unknown.avsc: S2\n",
+    ),
+    (
+        "copy magic.avro kept.avro --reader unknown.avsc",
+        3,
+        "avro: unknown.avsc: S2\n",
+    ),
+    (
+        "copy none.avro kept.avro",
+        4,
+        "avro: none.avro: cannot read\n",
+    ),
+    (
+        "copy header_in.avro none/out.avro",
+        4,
+        "avro: none/out.avro: cannot write\n",
+    ),
+];
+
+#[test]
+fn faults_before_the_copy_touch_no_file(rt: HostRuntime) -> Result<(), Fail> {
+    for (file, bytes) in FILES {
+        fs::write(&rt, file, bytes)?;
+    }
+    for (line, status, err) in FAULTS {
+        let ran = outcome_of(&rt, line)?;
+        assert_eq!(rt; ran.status, status, "{line}");
+        assert_eq!(rt; ran.err.as_slice(), err.as_bytes());
+        assert!(rt; ran.out.is_empty());
+    }
+    let kept = fs::read(&rt, "kept.avro")?;
+    assert_eq!(rt; kept.as_slice(), b"kept".as_slice());
     Ok(())
 }
 
