@@ -1,11 +1,12 @@
 #!/usr/bin/env python3
 """Announces counts and lengths that do not come, and looks at the room that a program makes for them.
 
-    room.py PROGRAM [GROUP..]     all groups, or those that are named: header, block, data, schema
+    room.py PROGRAM [GROUP..]     all groups, or those that are named: header, block, data, schema, certificate
 
 Each row is a file that is cut right behind a count or a length, at each limit and far past it. The program reads it within 64 MB
 of address space. Its answer is the fault that the row says, or what a good row prints; running out of memory is
-none. The table of what was wrong comes first, then a line for each group, and 'N rows, K wrong, at most X KB of heap': the most
+none. The certificates and histories of `certificate` are as long as one may be, and one byte longer, and are read within 1 GB.
+The table of what was wrong comes first, then a line for each group, and 'N rows, K wrong, at most X KB of heap': the most
 bytes of allocations that stood at once in any run.
 """
 
@@ -20,6 +21,7 @@ from refusal_rows import SYNC, block, header, text_bytes
 from refusals import build_library, contents
 
 SPACE = 64 << 20
+CERTIFICATE = 268_435_456
 SECONDS = 20
 HEADER = 4_194_304
 SIZE = 16_777_216
@@ -130,11 +132,11 @@ def data_rows():
 
 
 class Row:
-    """Words, files, the status, what is printed, and the file that is made with its bytes."""
+    """Words, files, the status, what is printed, the file that is made with its bytes, and the address space."""
 
-    def __init__(self, words, files, status, out, err, made=None):
+    def __init__(self, words, files, status, out, err, made=None, space=SPACE):
         self.words, self.files, self.status = words.split(" "), files, status
-        self.out, self.err, self.made = out.encode(), err.encode(), made
+        self.out, self.err, self.made, self.space = out.encode(), err.encode(), made, space
 
 
 def container(file, fault, front):
@@ -205,7 +207,20 @@ def of_schema():
     yield Row("schema s.avsc", {"s.avsc": fixed(-1).encode()}, 3, "", "avro: s.avsc: S5\n")
 
 
-GROUPS = {"header": of_header, "block": of_block, "data": of_data, "schema": of_schema}
+def of_certificate():
+    """Texts of one number, of as many digits as fit."""
+    schemas = {"i.avsc": b'"int"', "l.avsc": b'"long"'}
+    forms = {
+        "confirm i.avsc l.avsc c.txt": (b"approval 1\ndead ", b"\nend\n"),
+        "history i.avsc l.avsc --confirm c.txt": (b"history 1\napproval 1\ndead ", b"\nend\nend\n"),
+    }
+    for words, (front, back) in forms.items():
+        for length, code in ((CERTIFICATE, "G2"), (CERTIFICATE + 1, "G1")):
+            digits = b"9" * (length - len(front) - len(back))
+            yield Row(words, {**schemas, "c.txt": front + digits + back}, 3, "", f"avro: c.txt: {code}\n", space=1 << 30)
+
+
+GROUPS = {"header": of_header, "block": of_block, "data": of_data, "schema": of_schema, "certificate": of_certificate}
 
 
 def write_files(row):
@@ -217,8 +232,9 @@ def write_files(row):
             out.truncate(length)
 
 
-def limit():
-    resource.setrlimit(resource.RLIMIT_AS, (SPACE, SPACE))
+def limit(space):
+    """Holds a process to an address space."""
+    resource.setrlimit(resource.RLIMIT_AS, (space, space))
 
 
 def run(row, program, library):
@@ -228,8 +244,8 @@ def run(row, program, library):
         if os.path.exists(file):
             os.remove(file)
     environment = {"LD_PRELOAD": library, "REFUSE_TELL": "told"}
-    done = subprocess.run([program, *row.words], env=environment, stdin=subprocess.DEVNULL, capture_output=True, preexec_fn=limit,
-                          timeout=SECONDS)
+    done = subprocess.run([program, *row.words], env=environment, stdin=subprocess.DEVNULL, capture_output=True,
+                          preexec_fn=lambda: limit(row.space), timeout=SECONDS)
     told = (contents("told") or b"").decode().split()
     return done, int(told[-1]) if told else 0
 
