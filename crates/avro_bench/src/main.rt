@@ -49,7 +49,7 @@ fn run(rt: &HostRuntime, word: &str) -> anyhow::Result<()> {
 /// Says which words there are.
 fn usage() -> anyhow::Result<()> {
     bail!(
-        "avro_bench check | draft | schema | walk FILE records|strings|keys | resolve FILE nothing|tree|packed | plan FILE nothing|tree|packed"
+        "avro_bench check | draft | schema | walk|decode FILE records|strings|keys | resolve|plan FILE nothing|tree|packed"
     )
 }
 

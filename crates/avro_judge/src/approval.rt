@@ -69,7 +69,7 @@ impl<'a> Approved<'a> {
     ///
     /// # Errors
     ///
-    /// The first fault of the bytes; there is none of resolution.
+    /// The first fault of the bytes, and none of resolution; `OutOfMemory`.
     pub fn read<B: Build>(
         &self,
         alloc: Global,

@@ -47,7 +47,7 @@ pub fn words_of<R: AllocGlobal>(rt: &R, line: &str) -> Result<Vec<String>, Alloc
 /// A writer that takes a number of bytes, and then fails.
 #[derive(Drop)]
 pub struct Full {
-    /// How many bytes it takes yet.
+    /// How many bytes it still takes.
     pub room: usize,
 }
 
