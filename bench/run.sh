@@ -3,6 +3,7 @@
 #
 #     bench/run.sh records|strings|keys
 #
+# For `records` it also runs `avro_bench resolve` and `plan`, with each builder.
 # It prints what each found and its least processor time of five runs, reading the file included.
 set -euo pipefail
 
