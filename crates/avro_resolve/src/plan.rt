@@ -1,11 +1,6 @@
 use crate::error::ReadResolveError;
-use crate::guided::{Aim, At, Part};
-use crate::keeping::{aim_kept, field_kept, missing_kept, sources_kept, symbol_kept};
-use crate::parts::{branch_of, items_of, values_of};
-use crate::prepared::Prepared;
-use crate::preparing::prepare_all;
-use crate::read::read_planned;
-use crate::walking::prepare_reached;
+use crate::plan_ref::PlanRef;
+use crate::plan_table::PlanTable;
 use avro_binary::Build;
 use avro_schema::{Limits, Memory, NodeId, Schema};
 use std::alloc::Global;
@@ -17,8 +12,7 @@ use std::marker::Model;
 pub struct Plan<'a> {
     writer: &'a Schema,
     reader: &'a Schema,
-    pairs: Vec<Prepared>,
-    root: u32,
+    table: PlanTable,
 }
 
 impl<'a> Model for Plan<'a> {
@@ -34,18 +28,13 @@ impl<'a> Model for Plan<'a> {
 
     ghost view = { λ p. (p.writer.now, p.reader.now) };
 
-    ghost invariant = { λ p. ArePrepared (schema_nodes p.writer.now) (schema_nodes p.reader.now) p.pairs.items };
+    ghost invariant = { λ p. ArePrepared (schema_nodes p.writer.now) (schema_nodes p.reader.now) p.table.pairs.items };
 }
 
 impl<'a> Plan<'a> {
     ghost use Rattle.std.specs.Prelude.{◌≡◌, IfOk};
-    ghost use Rattle.avro_schema.specs.Node.{node_at};
     ghost use Rattle.avro_schema.specs.SeenSchema.{schema_nodes};
-    ghost use Rattle.avro_resolve.specs.Pairs.{IsAim, IsSymbol, field_for, item_place, value_place, branch_place};
-    ghost use Rattle.avro_resolve.specs.Planned.{AreSources};
     ghost use Rattle.avro_resolve.specs.Reading.{BuildsResolved};
-    ghost use Rattle.avro_resolve.specs.Resolve.{enum_as, fields_at, symbol_at};
-    ghost use Rattle.avro_resolve.specs.Source.{missing_field};
 
     /// The plan that keeps these pairs of a writer's node and a reader's, in any order. A pair that is not
     /// one of theirs is resolved all the same, by names.
@@ -61,14 +50,13 @@ impl<'a> Plan<'a> {
     ) -> Result<Plan<'a>, Memory>
         ensures { IfOk result (λ plan. plan ≡ (writer.now, reader.now)) }
     {
-        match prepare_all(alloc, writer, reader, pairs) {
-            Ok((kept, root)) => Ok(Plan {
+        match PlanTable::of_pairs(alloc, writer, reader, pairs) {
+            Ok(table) => Ok(Plan {
                 writer,
                 reader,
-                pairs: kept,
-                root,
+                table,
             }),
-            Err(_) => Err(Memory),
+            Err(Memory) => Err(Memory),
         }
     }
 
@@ -84,26 +72,13 @@ impl<'a> Plan<'a> {
     ) -> Result<Plan<'a>, Memory>
         ensures { IfOk result (λ plan. plan ≡ (writer.now, reader.now)) }
     {
-        match prepare_reached(alloc, writer, reader) {
-            Ok(kept) => Ok(Plan {
+        match PlanTable::reached(alloc, writer, reader) {
+            Ok(table) => Ok(Plan {
                 writer,
                 reader,
-                pairs: kept,
-                root: 0,
+                table,
             }),
-            Err(_) => Err(Memory),
-        }
-    }
-
-    /// The plan that keeps no pair.
-    pub(crate) fn by_name(alloc: Global, writer: &'a Schema, reader: &'a Schema) -> Plan<'a>
-        ensures { result ≡ (writer.now, reader.now) }
-    {
-        Plan {
-            writer,
-            reader,
-            pairs: Vec::new(alloc),
-            root: 0,
+            Err(Memory) => Err(Memory),
         }
     }
 
@@ -113,7 +88,7 @@ impl<'a> Plan<'a> {
     ///
     /// # Errors
     ///
-    /// The first fault of the bytes, and else the first fault of resolution.
+    /// The first fault of the bytes, and else the first fault of resolution; `OutOfMemory`.
     pub fn read<B: Build>(
         &self,
         alloc: Global,
@@ -123,103 +98,13 @@ impl<'a> Plan<'a> {
     ) -> Result<(B::Out, usize), ReadResolveError>
         ensures { BuildsResolved B.stands_for (schema_nodes self.now.0) (schema_nodes self.now.1) limits.now bytes.now result }
     {
-        read_planned(alloc, self, bytes, limits, builder)
+        self.by_ref().read(alloc, bytes, limits, builder)
     }
 
-    /// The writer's schema.
-    pub(crate) fn writer(&self) -> &Schema
-        ensures { result.now ≡ self.now.0 }
+    /// The plan by reference.
+    pub fn by_ref(&self) -> PlanRef<'_>
+        ensures { result ≡ self.now }
     {
-        self.writer
-    }
-
-    /// The reader's schema.
-    pub(crate) fn reader(&self) -> &Schema
-        ensures { result.now ≡ self.now.1 }
-    {
-        self.reader
-    }
-
-    /// Where the pair of the roots may be kept.
-    pub(crate) fn root(&self) -> u32 {
-        self.root
-    }
-
-    /// Where the pair of a part may be kept.
-    pub(crate) fn place_of(&self, part: Part) -> u32 {
-        match part.branch {
-            Some(branch) => self.place_below(part.place, branch as usize),
-            None => part.place,
-        }
-    }
-
-    /// Where the pair of a part of the pair at a place may be kept.
-    pub(crate) fn place_below(&self, place: u32, part: usize) -> u32 {
-        match self.pairs.get(place as usize) {
-            Some(pair) => match pair.parts.get(part) {
-                Some(below) => *below,
-                None => 0,
-            },
-            None => 0,
-        }
-    }
-
-    /// Where a pair of nodes leads.
-    pub(crate) fn aim(&self, place: u32, w: NodeId, r: NodeId) -> Aim
-        ensures { IsAim (schema_nodes self.now.0) (schema_nodes self.now.1)
-            (node_at (schema_nodes self.now.0) w.0) (node_at (schema_nodes self.now.1) r.0) result }
-    {
-        aim_kept(&self.pairs, place, self.writer, w, self.reader, r)
-    }
-
-    /// The nodes of the items of two nodes.
-    pub(crate) fn items(&self, w: NodeId, q: NodeId) -> (NodeId, NodeId)
-        ensures of_writer { result.0.0 ≡ item_place (node_at (schema_nodes self.now.0) w.0) }
-        ensures of_reader { result.1.0 ≡ item_place (node_at (schema_nodes self.now.1) q.0) }
-    {
-        (items_of(self.writer, w), items_of(self.reader, q))
-    }
-
-    /// The nodes of the values of two nodes.
-    pub(crate) fn values(&self, w: NodeId, q: NodeId) -> (NodeId, NodeId)
-        ensures of_writer { result.0.0 ≡ value_place (node_at (schema_nodes self.now.0) w.0) }
-        ensures of_reader { result.1.0 ≡ value_place (node_at (schema_nodes self.now.1) q.0) }
-    {
-        (values_of(self.writer, w), values_of(self.reader, q))
-    }
-
-    /// The node of a branch of a writer's node.
-    pub(crate) fn branch(&self, w: NodeId, branch: u32) -> NodeId
-        ensures { result.0 ≡ branch_place (node_at (schema_nodes self.now.0) w.0) branch }
-    {
-        branch_of(self.writer, w, branch)
-    }
-
-    /// The reader's first field without a source and a default.
-    pub(crate) fn missing(&self, place: u32, w: NodeId, q: NodeId) -> Option<usize>
-        ensures { result ≡ missing_field (fields_at (node_at (schema_nodes self.now.0) w.0)) (fields_at (node_at (schema_nodes self.now.1) q.0)) }
-    {
-        missing_kept(&self.pairs, place, self.writer, w, self.reader, q)
-    }
-
-    /// What the writer's field at a place is for.
-    pub(crate) fn field(&self, place: u32, w: NodeId, q: NodeId, field: usize) -> At
-        ensures { result ≡ field_for (fields_at (node_at (schema_nodes self.now.0) w.0)) (fields_at (node_at (schema_nodes self.now.1) q.0)) field }
-    {
-        field_kept(&self.pairs, place, self.writer, w, self.reader, q, field)
-    }
-
-    /// The sources of the reader's fields, as far as they are kept.
-    pub(crate) fn sources(&self, place: u32, w: NodeId, q: NodeId) -> &[Option<usize>]
-        ensures { AreSources (fields_at (node_at (schema_nodes self.now.0) w.0)) (fields_at (node_at (schema_nodes self.now.1) q.0)) result.now }
-    {
-        sources_kept(&self.pairs, place, self.writer, w, self.reader, q)
-    }
-
-    /// The reader's symbol for a writer's.
-    pub(crate) fn symbol(&self, place: u32, w: NodeId, symbol: u32, q: NodeId) -> Option<u32>
-        ensures { IsSymbol (enum_as (symbol_at (node_at (schema_nodes self.now.0) w.0) symbol) (node_at (schema_nodes self.now.1) q.0)) result }
-    {
-        symbol_kept(&self.pairs, place, self.writer, w, symbol, self.reader, q)
+        self.table.plan(self.writer, self.reader)
     }
 }

@@ -4,7 +4,7 @@ ghost use Rattle.avro_resolve.specs.Reading.{BuildsResolved, ReadsResolved};
 use crate::error::ReadResolveError;
 use crate::failing::turn;
 use crate::guided::{At, Made, Part};
-use crate::plan::Plan;
+use crate::plan_ref::PlanRef;
 use crate::resolving::Resolving;
 use avro_binary::{Build, Tree, read_made};
 use avro_schema::{Datum, Limits, Schema};
@@ -47,14 +47,14 @@ pub fn read_resolved<B: Build>(
 ) -> Result<(B::Out, usize), ReadResolveError>
     ensures { BuildsResolved B.stands_for (schema_nodes writer.now) (schema_nodes reader.now) limits.now bytes.now result }
 {
-    let plan = Plan::by_name(alloc, writer, reader);
+    let plan = PlanRef::new(writer, reader, &[], 0);
     read_planned(alloc, &plan, bytes, limits, builder)
 }
 
 /// The same of the two schemas of a plan.
 pub(crate) fn read_planned<B: Build>(
     alloc: Global,
-    plan: &Plan<'_>,
+    plan: &PlanRef<'_>,
     bytes: &[u8],
     limits: &Limits,
     builder: &mut B,

@@ -11,13 +11,13 @@ use crate::failing::{faulty, step_out};
 use crate::filling::fill;
 use crate::guided::{Aim, At, Filling, Made, Part, Slots};
 use crate::making::wrap;
-use crate::plan::Plan;
+use crate::plan_ref::PlanRef;
 use crate::sourcing::fields_of;
 use avro_binary::Build;
 use std::alloc::{AllocError, Global};
 
 /// What was made of no fields, and what the first is for.
-pub fn start_filling<B: Build>(alloc: Global, plan: &Plan<'_>, part: Part) -> Filling<B::Out>
+pub fn start_filling<B: Build>(alloc: Global, plan: &PlanRef<'_>, part: Part) -> Filling<B::Out>
     ensures { (nodes : List Node) (fs : List FieldNode) → FillsAs B.stands_for (schema_nodes plan.now.0) (schema_nodes plan.now.1) nodes fs part.at result [] }
 {
     let place = plan.place_of(part);
@@ -28,7 +28,7 @@ pub fn start_filling<B: Build>(alloc: Global, plan: &Plan<'_>, part: Part) -> Fi
 
 /// What was made of no fields: where a pair of nodes leads to a fault, or a reader's field is missing, that
 /// fault.
-fn start_fields<B: Build>(alloc: Global, plan: &Plan<'_>, place: u32, at: At) -> Slots<B::Out>
+fn start_fields<B: Build>(alloc: Global, plan: &PlanRef<'_>, place: u32, at: At) -> Slots<B::Out>
     ensures { (nodes : List Node) (fs : List FieldNode) → FieldsStandAs B.stands_for (schema_nodes plan.now.0) (schema_nodes plan.now.1) nodes fs at result [] }
 {
     match at {
@@ -44,7 +44,7 @@ fn start_fields<B: Build>(alloc: Global, plan: &Plan<'_>, place: u32, at: At) ->
 }
 
 /// What the next field is for.
-fn next_field_part<O>(plan: &Plan<'_>, place: u32, fields: &Slots<O>) -> Part
+fn next_field_part<O>(plan: &PlanRef<'_>, place: u32, fields: &Slots<O>) -> Part
     ensures { result.at ≡ next_field (schema_nodes plan.now.0) (schema_nodes plan.now.1) fields.now }
 {
     match fields {
@@ -74,7 +74,7 @@ fn ignored() -> Part
 
 /// Adds what was made of a field behind those before, and finds what the next is for.
 pub fn fill_next<B: Build>(
-    plan: &Plan<'_>,
+    plan: &PlanRef<'_>,
     fields: &mut Filling<B::Out>,
     made: Made<B::Out>,
 ) -> Result<(), AllocError>
@@ -118,7 +118,7 @@ fn put_field<B: Build>(fields: &mut Slots<B::Out>, made: Made<B::Out>) -> Result
 pub fn make_record<B: Build>(
     alloc: Global,
     builder: &mut B,
-    plan: &Plan<'_>,
+    plan: &PlanRef<'_>,
     place: u32,
     fields: Slots<B::Out>,
 ) -> Result<Made<B::Out>, AllocError>

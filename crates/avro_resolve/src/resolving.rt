@@ -1,7 +1,7 @@
 use crate::failing::{faulty, step_out};
 use crate::guided::{Aim, At, Filling, Made, Part, Run};
 use crate::making::{make_bytes, make_int, make_string, make_symbol, wrap};
-use crate::plan::Plan;
+use crate::plan_ref::PlanRef;
 use crate::recording::{fill_next, make_record, start_filling};
 use crate::running::{
     make_array, make_map, next_part, put_entry, put_item, start_entries, start_items,
@@ -13,7 +13,7 @@ use std::alloc::{AllocError, Global};
 /// no reader's field takes is read and not built, and so are all parts after a fault.
 #[derive(Drop)]
 pub struct Resolving<'p, 'a, 'b, B> {
-    plan: &'p Plan<'a>,
+    plan: &'p PlanRef<'a>,
     builder: &'b mut B,
 }
 
@@ -21,7 +21,7 @@ impl<'p, 'a, 'b, B> Resolving<'p, 'a, 'b, B> {
     ghost use Rattle.std.specs.Prelude.{◌≡◌};
 
     /// A maker for a reader, by a plan and a builder.
-    pub fn new(plan: &'p Plan<'a>, builder: &'b mut B) -> Self
+    pub fn new(plan: &'p PlanRef<'a>, builder: &'b mut B) -> Self
         ensures { result.plan.now ≡ plan.now }
     {
         Resolving { plan, builder }

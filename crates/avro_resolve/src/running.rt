@@ -8,7 +8,7 @@ ghost use Rattle.avro_resolve.specs.Guided.{EntriesStandAs, ItemsStandAs, Stands
 use crate::failing::{faulty, step_out};
 use crate::guided::{Aim, At, Made, Part, Run};
 use crate::making::wrap;
-use crate::plan::Plan;
+use crate::plan_ref::PlanRef;
 use avro_binary::Build;
 use std::alloc::{AllocError, Global};
 
@@ -32,7 +32,7 @@ pub fn next_part<I>(run: &Run<I>, place: u32) -> Part
 pub fn start_items<B: Build>(
     alloc: Global,
     builder: &mut B,
-    plan: &Plan<'_>,
+    plan: &PlanRef<'_>,
     part: Part,
 ) -> Result<(Run<B::Items>, u32), AllocError>
     ensures { (nodes : List Node) (place : ℕ) → IfOk result (λ run. ItemsStandAs B.items_stand_for (schema_nodes plan.now.0) (schema_nodes plan.now.1) nodes place part.at run.0 []) }
@@ -105,7 +105,7 @@ pub fn make_array<B: Build>(
 pub fn start_entries<B: Build>(
     alloc: Global,
     builder: &mut B,
-    plan: &Plan<'_>,
+    plan: &PlanRef<'_>,
     part: Part,
 ) -> Result<(Run<B::Entries>, u32), AllocError>
     ensures { (nodes : List Node) (place : ℕ) → IfOk result (λ run. EntriesStandAs B.entries_stand_for (schema_nodes plan.now.0) (schema_nodes plan.now.1) nodes place part.at run.0 []) }

@@ -1,0 +1,178 @@
+use crate::error::ReadResolveError;
+use crate::guided::{Aim, At, Part};
+use crate::keeping::{aim_kept, field_kept, missing_kept, sources_kept, symbol_kept};
+use crate::parts::{branch_of, items_of, values_of};
+use crate::prepared::Prepared;
+use crate::read::read_planned;
+use avro_binary::Build;
+use avro_schema::{Limits, NodeId, Schema};
+use std::alloc::Global;
+use std::marker::Model;
+
+/// A plan by reference: the two schemas, and what is kept of pairs of their nodes. Contracts see the two schemas.
+#[derive(Drop)]
+pub struct PlanRef<'a> {
+    writer: &'a Schema,
+    reader: &'a Schema,
+    pairs: &'a [Prepared],
+    root: u32,
+}
+
+impl<'a> Model for PlanRef<'a> {
+    ghost use Rattle.std.specs.Coded.{codes};
+    ghost use Rattle.avro_schema.specs.contracts.datum.Datum as datum;
+    ghost use Rattle.avro_schema.specs.declared.schema.Schema.{Schema};
+    ghost use Rattle.avro_schema.specs.SeenSchema.{schema_nodes};
+    ghost use Rattle.avro_resolve.specs.Planned.{ArePrepared};
+
+    ghost Value = { Schema × Schema };
+
+    ghost coded = { Prim.hlevel (codes, datum.the_row.coded) };
+
+    ghost view = { λ p. (p.writer.now, p.reader.now) };
+
+    ghost invariant = { λ p. ArePrepared (schema_nodes p.writer.now) (schema_nodes p.reader.now) p.pairs.now };
+}
+
+impl<'a> PlanRef<'a> {
+    ghost use Rattle.std.specs.Prelude.{◌≡◌, IfOk};
+    ghost use Rattle.avro_schema.specs.Node.{node_at};
+    ghost use Rattle.avro_schema.specs.SeenSchema.{schema_nodes};
+    ghost use Rattle.avro_resolve.specs.Pairs.{IsAim, IsSymbol, field_for, item_place, value_place, branch_place};
+    ghost use Rattle.avro_resolve.specs.Planned.{ArePrepared, AreSources};
+    ghost use Rattle.avro_resolve.specs.Reading.{BuildsResolved};
+    ghost use Rattle.avro_resolve.specs.Resolve.{enum_as, fields_at, symbol_at};
+    ghost use Rattle.avro_resolve.specs.Source.{missing_field};
+
+    /// The plan of two schemas that keeps these pairs, the roots' at a place if at all.
+    pub(crate) fn new(
+        writer: &'a Schema,
+        reader: &'a Schema,
+        pairs: &'a [Prepared],
+        root: u32,
+    ) -> PlanRef<'a>
+        requires { ArePrepared (schema_nodes writer.now) (schema_nodes reader.now) pairs.now }
+        ensures { result ≡ (writer.now, reader.now) }
+    {
+        PlanRef {
+            writer,
+            reader,
+            pairs,
+            root,
+        }
+    }
+
+    /// Reads a writer's datum as [`Plan::read`](crate::Plan::read) does.
+    ///
+    /// # Errors
+    ///
+    /// The first fault of the bytes, and else the first fault of resolution; `OutOfMemory`.
+    pub fn read<B: Build>(
+        &self,
+        alloc: Global,
+        bytes: &[u8],
+        limits: &Limits,
+        builder: &mut B,
+    ) -> Result<(B::Out, usize), ReadResolveError>
+        ensures { BuildsResolved B.stands_for (schema_nodes self.now.0) (schema_nodes self.now.1) limits.now bytes.now result }
+    {
+        read_planned(alloc, self, bytes, limits, builder)
+    }
+
+    /// The writer's schema.
+    pub fn writer(&self) -> &Schema
+        ensures { result.now ≡ self.now.0 }
+    {
+        self.writer
+    }
+
+    /// The reader's schema.
+    pub fn reader(&self) -> &Schema
+        ensures { result.now ≡ self.now.1 }
+    {
+        self.reader
+    }
+
+    /// Where the pair of the roots may be kept.
+    pub(crate) fn root(&self) -> u32 {
+        self.root
+    }
+
+    /// Where the pair of a part may be kept.
+    pub(crate) fn place_of(&self, part: Part) -> u32 {
+        match part.branch {
+            Some(branch) => self.place_below(part.place, branch as usize),
+            None => part.place,
+        }
+    }
+
+    /// Where the pair of a part of the pair at a place may be kept.
+    pub(crate) fn place_below(&self, place: u32, part: usize) -> u32 {
+        match self.pairs.get(place as usize) {
+            Some(pair) => match pair.parts.get(part) {
+                Some(below) => *below,
+                None => 0,
+            },
+            None => 0,
+        }
+    }
+
+    /// Where a pair of nodes leads.
+    pub(crate) fn aim(&self, place: u32, w: NodeId, r: NodeId) -> Aim
+        ensures { IsAim (schema_nodes self.now.0) (schema_nodes self.now.1)
+            (node_at (schema_nodes self.now.0) w.0) (node_at (schema_nodes self.now.1) r.0) result }
+    {
+        aim_kept(self.pairs, place, self.writer, w, self.reader, r)
+    }
+
+    /// The nodes of the items of two nodes.
+    pub(crate) fn items(&self, w: NodeId, q: NodeId) -> (NodeId, NodeId)
+        ensures of_writer { result.0.0 ≡ item_place (node_at (schema_nodes self.now.0) w.0) }
+        ensures of_reader { result.1.0 ≡ item_place (node_at (schema_nodes self.now.1) q.0) }
+    {
+        (items_of(self.writer, w), items_of(self.reader, q))
+    }
+
+    /// The nodes of the values of two nodes.
+    pub(crate) fn values(&self, w: NodeId, q: NodeId) -> (NodeId, NodeId)
+        ensures of_writer { result.0.0 ≡ value_place (node_at (schema_nodes self.now.0) w.0) }
+        ensures of_reader { result.1.0 ≡ value_place (node_at (schema_nodes self.now.1) q.0) }
+    {
+        (values_of(self.writer, w), values_of(self.reader, q))
+    }
+
+    /// The node of a branch of a writer's node.
+    pub(crate) fn branch(&self, w: NodeId, branch: u32) -> NodeId
+        ensures { result.0 ≡ branch_place (node_at (schema_nodes self.now.0) w.0) branch }
+    {
+        branch_of(self.writer, w, branch)
+    }
+
+    /// The reader's first field without a source and a default.
+    pub(crate) fn missing(&self, place: u32, w: NodeId, q: NodeId) -> Option<usize>
+        ensures { result ≡ missing_field (fields_at (node_at (schema_nodes self.now.0) w.0)) (fields_at (node_at (schema_nodes self.now.1) q.0)) }
+    {
+        missing_kept(self.pairs, place, self.writer, w, self.reader, q)
+    }
+
+    /// What the writer's field at a place is for.
+    pub(crate) fn field(&self, place: u32, w: NodeId, q: NodeId, field: usize) -> At
+        ensures { result ≡ field_for (fields_at (node_at (schema_nodes self.now.0) w.0)) (fields_at (node_at (schema_nodes self.now.1) q.0)) field }
+    {
+        field_kept(self.pairs, place, self.writer, w, self.reader, q, field)
+    }
+
+    /// The sources of the reader's fields, as far as they are kept.
+    pub(crate) fn sources(&self, place: u32, w: NodeId, q: NodeId) -> &[Option<usize>]
+        ensures { AreSources (fields_at (node_at (schema_nodes self.now.0) w.0)) (fields_at (node_at (schema_nodes self.now.1) q.0)) result.now }
+    {
+        sources_kept(self.pairs, place, self.writer, w, self.reader, q)
+    }
+
+    /// The reader's symbol for a writer's.
+    pub(crate) fn symbol(&self, place: u32, w: NodeId, symbol: u32, q: NodeId) -> Option<u32>
+        ensures { IsSymbol (enum_as (symbol_at (node_at (schema_nodes self.now.0) w.0) symbol) (node_at (schema_nodes self.now.1) q.0)) result }
+    {
+        symbol_kept(self.pairs, place, self.writer, w, symbol, self.reader, q)
+    }
+}
