@@ -13,7 +13,7 @@ use Rattle.avro_container.specs.TaskSeen.{job_of}
 
 abbrev pub stored_of : Copier → Stored
 stored_of c = record {
-  header = option_map header_value c.header;
+  header = option_map (λ o. header_value o.0) c.opened;
   blocks = c.blocks;
   ahead = held c.store.buffer;
   ended = c.ended;

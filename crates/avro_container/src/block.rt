@@ -1,7 +1,7 @@
 //! A block, and reading its data.
 
 ghost use Rattle.std.specs.Prelude.{◌≡◌, None, Some, Ok, IfOk, List, true, option_map};
-ghost use Rattle.std.specs.Option.{option_copied};
+ghost use Rattle.std.specs.Option.{IfSome, option_copied};
 ghost use Rattle.std.specs.Result.{IfErr};
 ghost use Rattle.avro_schema.specs.Fits.{fits};
 ghost use Rattle.avro_schema.specs.Node.{Node, root_of};
@@ -15,9 +15,11 @@ use crate::datum_read::datum_error;
 use crate::error::CopyError;
 use crate::header::Header;
 use crate::limits::FileLimits;
-use crate::plan_for::{plan_for, read_by_plan};
+use crate::planned::read_by_plan;
 use avro_binary::Build;
 use avro_resolve::laws::resolved_fits;
+use avro_resolve::{Plan, PlanRef};
+use avro_schema::{Memory, Schema};
 use avro_schema_json::ReaderText;
 
 /// A block of a file, whose data are not read yet.
@@ -46,7 +48,7 @@ impl<'a> Block<'a> {
     }
 
     /// Reads the data one by one, and answers what a builder builds of each: of what it is for the reader where there is
-    /// one, and else of the datum itself.
+    /// one, and else of the datum itself. A plan is made for the reader; [`Block::read_by`] reads by one that is kept.
     ///
     /// # Errors
     ///
@@ -66,22 +68,70 @@ impl<'a> Block<'a> {
             self.now.number self.now.count self.now.body.items f) }
         ensures memory { IfErr result (λ e. file_fault e ≡ None → e ≡ CopyError.OutOfMemory) }
     {
-        let alloc = *self.body.allocator();
         let schema = self.header.schema();
+        match reader {
+            Some(reader) => {
+                match Plan::reached(*self.body.allocator(), schema, reader.schema()) {
+                    Ok(plan) => self.read_by(&plan, builder),
+                    Err(Memory) => Err(CopyError::OutOfMemory),
+                }
+            }
+            None => self.read_data(schema, &None, builder),
+        }
+    }
+
+    /// Reads the data one by one as data of a plan's writer, and answers what a builder builds of what each is for its reader.
+    ///
+    /// # Errors
+    ///
+    /// Those of [`Block::read`].
+    pub fn read_by<B: Build>(
+        &self,
+        plan: &Plan<'_>,
+        builder: &mut B,
+    ) -> Result<Vec<B::Out>, CopyError>
+        ensures found { IfOk result (λ outs. StandForData B.stands_for
+            (reading self.now.limits (schema_nodes plan.now.0) self.now.header.now.sync (Some (schema_nodes plan.now.1)))
+            self.now.count self.now.body.items outs.items) }
+        ensures fit { IfOk result (λ outs. FitAll B.stands_for (schema_nodes plan.now.1) outs.items) }
+        ensures refused { IfErr result (λ e. (f : FileFault) → file_fault e ≡ Some f → IsDataFault
+            (reading self.now.limits (schema_nodes plan.now.0) self.now.header.now.sync (Some (schema_nodes plan.now.1)))
+            self.now.number self.now.count self.now.body.items f) }
+        ensures memory { IfErr result (λ e. file_fault e ≡ None → e ≡ CopyError.OutOfMemory) }
+    {
+        let plan = plan.by_ref();
+        let schema = plan.writer();
+        self.read_data(schema, &Some(plan), builder)
+    }
+
+    /// Reads the data one by one as data of a schema, by a plan where there is one.
+    fn read_data<B: Build>(
+        &self,
+        schema: &Schema,
+        plan: &Option<PlanRef<'_>>,
+        builder: &mut B,
+    ) -> Result<Vec<B::Out>, CopyError>
+        requires { IfSome plan.now (λ p. p.0 ≡ schema.now) }
+        ensures found { IfOk result (λ outs. StandForData B.stands_for
+            (reading self.now.limits (schema_nodes schema.now) self.now.header.now.sync (option_map (λ p. schema_nodes p.1) plan.now))
+            self.now.count self.now.body.items outs.items) }
+        ensures fit { IfOk result (λ outs. FitAll B.stands_for (read_nodes (schema_nodes schema.now) (option_map (λ p. schema_nodes p.1) plan.now)) outs.items) }
+        ensures refused { IfErr result (λ e. (f : FileFault) → file_fault e ≡ Some f → IsDataFault
+            (reading self.now.limits (schema_nodes schema.now) self.now.header.now.sync (option_map (λ p. schema_nodes p.1) plan.now))
+            self.now.number self.now.count self.now.body.items f) }
+        ensures memory { IfErr result (λ e. file_fault e ≡ None → e ≡ CopyError.OutOfMemory) }
+    {
+        let alloc = *self.body.allocator();
         let limits = self.limits.datum();
         let count = self.count();
         let end = self.body.len();
-        made_data_fit(reader);
-        let plan = match plan_for(alloc, schema, reader) {
-            Ok(plan) => plan,
-            Err(_) => return Err(CopyError::OutOfMemory),
-        };
+        made_data_fit(plan);
         let mut answers = Vec::new(alloc);
         let mut start = 0;
         let mut datum = 0;
         while datum < count {
             let (_, rest) = self.body.split_at(start);
-            match read_by_plan(alloc, schema, &plan, rest, &limits, builder) {
+            match read_by_plan(alloc, schema, plan, rest, &limits, builder) {
                 Ok((answer, len)) => {
                     match answers.push(answer) {
                         Ok(()) => {}
@@ -101,17 +151,17 @@ impl<'a> Block<'a> {
 }
 
 /// What a datum is for a reader is a datum of the reader's schema.
-fn made_data_fit(reader: Option<&ReaderText>)
+fn made_data_fit(plan: &Option<PlanRef<'_>>)
     ensures { (nodes : List Node) (v u : Value) → fits nodes (root_of nodes) v ≡ true
-        → resolution (option_map (λ r. schema_nodes r.1) (option_copied reader.entry)) nodes v ≡ Ok u
-        → fits (read_nodes nodes (option_map (λ r. schema_nodes r.1) (option_copied reader.entry)))
-        (root_of (read_nodes nodes (option_map (λ r. schema_nodes r.1) (option_copied reader.entry)))) u ≡ true }
+        → resolution (option_map (λ p. schema_nodes p.1) plan.now) nodes v ≡ Ok u
+        → fits (read_nodes nodes (option_map (λ p. schema_nodes p.1) plan.now))
+        (root_of (read_nodes nodes (option_map (λ p. schema_nodes p.1) plan.now))) u ≡ true }
 {
     resolved_fits();
-    match reader {
-        Some(reader) => {
+    match plan {
+        Some(plan) => {
             // its nodes are known to be a schema
-            let _ = reader.schema().len();
+            let _ = plan.reader().len();
         }
         None => {}
     }

@@ -1,7 +1,9 @@
 //! Copying a block.
 
-ghost use Rattle.std.specs.Prelude.{◌≡◌, ◌≢◌, ◌⊎◌, ◌+◌, ◌<◌, ◌≤◌, [], length, OnOk, OnErr, IfOk, IfSome, IfNone, Some, Err};
+ghost use Rattle.std.specs.Prelude.{◌≡◌, ◌≢◌, ◌⊎◌, ◌+◌, ◌<◌, ◌≤◌, [], length, OnOk, OnErr, IfOk, IfSome, IfNone, Some, Err, option_map};
+ghost use Rattle.std.specs.Option.{option_copied};
 ghost use Rattle.std.specs.Result.{IfErr};
+ghost use Rattle.avro_schema.specs.SeenSchema.{schema_nodes};
 ghost use Rattle.avro_container.specs.inside.BlockCopied.{CopiesBlock, RefusesWithin};
 ghost use Rattle.avro_container.specs.BlockFails.{max_blocks};
 ghost use Rattle.avro_container.specs.FileSeen.{file_fault};
@@ -20,6 +22,7 @@ use crate::packed_block::take_packed;
 use crate::sink::put_block;
 use crate::store::Store;
 use crate::task::Task;
+use avro_resolve::PlanRef;
 
 /// Takes the next block, behind a number of others, puts its copy, and answers how many data it has; nothing where the input
 /// ends before it.
@@ -34,8 +37,11 @@ pub(crate) fn copy_block<I: Input, O: Output>(
     number: u64,
     task: &Task,
     header: &Header,
+    plan: &Option<PlanRef<'_>>,
 ) -> Result<Option<u32>, CopyError>
     requires near { length (held store.old.buffer) ≤ task.now.limits.block + 36 }
+    requires of_writer { IfSome plan.now (λ p. p.0 ≡ header.now.schema) }
+    requires of_reader { option_map (λ p. schema_nodes p.1) plan.now ≡ option_map (λ r. schema_nodes r.1) (option_copied task.now.reader) }
     ensures block { IfOk result (λ found. IfSome found (λ count. Moved I.gives O.keeps input.old input.new output.old output.new
         (CopiesBlock (job_of task.now) task.now.limits (header_value header.now) number count (held store.old.buffer) (held store.new.buffer)))) }
     ensures few { IfOk result (λ found. IfSome found (λ count. number < max_blocks)) }
@@ -61,6 +67,7 @@ pub(crate) fn copy_block<I: Input, O: Output>(
         number,
         task,
         header,
+        plan,
         &mut store.packed,
     ) {
         Ok(None) => Ok(None),

@@ -43,7 +43,7 @@ impl<'a> Copier<'a> {
                 sync,
                 limits: *limits,
             },
-            header: None,
+            opened: None,
             blocks: 0,
             store: Store::new(alloc),
             ended: false,
@@ -116,10 +116,20 @@ impl<'a> Copier<'a> {
         ensures first { result ≢ Err CopyError.FailedBefore }
         ensures named { IfErr result IsNamed }
     {
-        match &self.header {
-            Some(header) => {
+        match &self.opened {
+            Some(opened) => {
                 let number = self.blocks;
-                match copy_block(input, output, &mut self.store, number, &self.task, header) {
+                let header = opened.header();
+                let plan = opened.plan();
+                match copy_block(
+                    input,
+                    output,
+                    &mut self.store,
+                    number,
+                    &self.task,
+                    header,
+                    &plan,
+                ) {
                     Ok(Some(count)) => {
                         self.blocks += 1;
                         Ok(Step::Block(u64::from(count)))
@@ -132,8 +142,8 @@ impl<'a> Copier<'a> {
                 }
             }
             None => match copy_header(self.alloc, input, output, &mut self.store, &self.task) {
-                Ok(header) => {
-                    self.header = Some(header);
+                Ok(opened) => {
+                    self.opened = Some(opened);
                     Ok(Step::Header)
                 }
                 Err(error) => Err(error),

@@ -1,9 +1,12 @@
 //! Copying a header.
 
 ghost use Rattle.std.specs.Prelude.{◌≡◌, ◌≢◌, ◌⊎◌, ◌+◌, ◌≤◌, [], None, length, OnOk, OnErr, IfOk, Err};
+ghost use Rattle.std.specs.Option.{option_copied};
 ghost use Rattle.std.specs.Result.{IfErr};
 ghost use Rattle.avro_container.specs.inside.BlockCopied.{RefusesWithin};
+ghost use Rattle.avro_container.specs.Copied.{copied_header};
 ghost use Rattle.avro_container.specs.FileSeen.{file_fault};
+ghost use Rattle.avro_container.specs.Filled.{PutsFrontOf};
 ghost use Rattle.avro_container.specs.inside.HeaderCopied.{CopiesHeader};
 ghost use Rattle.avro_container.specs.HeaderTaken.{header_value};
 ghost use Rattle.avro_container.specs.Held.{held};
@@ -17,6 +20,7 @@ use crate::error::CopyError;
 use crate::header::Header;
 use crate::header_put::put_header;
 use crate::header_taken::take_header;
+use crate::opened::Opened;
 use crate::store::Store;
 use crate::task::Task;
 use std::alloc::Global;
@@ -26,16 +30,17 @@ use std::alloc::Global;
 /// # Errors
 ///
 /// `NoMagic` to `UnknownCodec`, `LimitExceeded`, `CutHeader`; `InputFailed`, `OutputFailed`, `OutOfMemory`.
-pub(crate) fn copy_header<I: Input, O: Output>(
+pub(crate) fn copy_header<'a, I: Input, O: Output>(
     alloc: Global,
     input: &mut I,
     output: &mut O,
     store: &mut Store,
-    task: &Task,
-) -> Result<Header, CopyError>
+    task: &Task<'a>,
+) -> Result<Opened<'a>, CopyError>
     requires none { held store.old.buffer ≡ [] }
-    ensures copied { IfOk result (λ header. Moved I.gives O.keeps input.old input.new output.old output.new
-        (CopiesHeader (job_of task.now) task.now.limits (header_value header) (held store.new.buffer))) }
+    ensures copied { IfOk result (λ opened. Moved I.gives O.keeps input.old input.new output.old output.new
+        (CopiesHeader (job_of task.now) task.now.limits (header_value opened.0) (held store.new.buffer))) }
+    ensures same { IfOk result (λ opened. opened.1 ≡ option_copied task.now.reader) }
     ensures refused { (before : Stored) → before.header ≡ None → before.ahead ≡ []
         → IfErr result (λ e. Moved I.gives O.keeps input.old input.new output.old output.new
         (RefusesWithin (job_of task.now) task.now.limits (I.ended input.new) before (file_fault e))) }
@@ -50,10 +55,10 @@ pub(crate) fn copy_header<I: Input, O: Output>(
 {
     let ahead = task.limits.block() as usize;
     match take_header(alloc, input, &mut store.buffer, &task.limits, ahead) {
-        Ok((header, len)) => match put_header(alloc, output, task, &header) {
-            Ok(()) => {
+        Ok((header, len)) => match put_opened(alloc, output, task, header) {
+            Ok(opened) => {
                 store.buffer.pass(len);
-                Ok(header)
+                Ok(opened)
             }
             Err(error) => {
                 store.forget();
@@ -64,5 +69,37 @@ pub(crate) fn copy_header<I: Input, O: Output>(
             store.forget();
             Err(error)
         }
+    }
+}
+
+/// Finds what the data of a file are read for, and puts the copy of its header.
+///
+/// # Errors
+///
+/// `OutputFailed`, `OutOfMemory`.
+fn put_opened<'a, O: Output>(
+    alloc: Global,
+    output: &mut O,
+    task: &Task<'a>,
+    header: Header,
+) -> Result<Opened<'a>, CopyError>
+    ensures header { IfOk result (λ opened. opened.0 ≡ header) }
+    ensures same { IfOk result (λ opened. opened.1 ≡ option_copied task.now.reader) }
+    ensures put { OnOk result (O.keeps output.old (copied_header (job_of task.now) (header_value header)) output.new) }
+    ensures front { OnErr result (PutsFrontOf O.keeps output.old output.new (copied_header (job_of task.now) (header_value header))) }
+    ensures told { IfErr result (λ e. file_fault e ≡ None) }
+    ensures no_input { result ≢ Err CopyError.InputFailed }
+    ensures works { OnOk result (O.failures output.new ≡ O.failures output.old) }
+    ensures fails { result ≡ Err CopyError.OutputFailed → (O.failures output.new ≢ O.failures output.old) ⊎ O.stuck output.new }
+    ensures first { result ≢ Err CopyError.FailedBefore }
+    ensures named { IfErr result IsNamed }
+{
+    let opened = match Opened::new(alloc, header, task.reader) {
+        Ok(opened) => opened,
+        Err(_) => return Err(CopyError::OutOfMemory),
+    };
+    match put_header(alloc, output, task, opened.header()) {
+        Ok(()) => Ok(opened),
+        Err(error) => Err(error),
     }
 }

@@ -1,7 +1,9 @@
 //! Taking a block, and packing its data.
 
-ghost use Rattle.std.specs.Prelude.{◌≡◌, ◌≢◌, ◌+◌, ◌-◌, ◌^◌, ◌<◌, ◌≤◌, length, take, OnOk, OnErr, IfOk, IfSome, IfNone, Some, Err};
+ghost use Rattle.std.specs.Prelude.{◌≡◌, ◌≢◌, ◌+◌, ◌-◌, ◌^◌, ◌<◌, ◌≤◌, length, take, OnOk, OnErr, IfOk, IfSome, IfNone, Some, Err, option_map};
+ghost use Rattle.std.specs.Option.{option_copied};
 ghost use Rattle.std.specs.Result.{IfErr};
+ghost use Rattle.avro_schema.specs.SeenSchema.{schema_nodes};
 ghost use Rattle.avro_container.specs.BlockFails.{max_blocks};
 ghost use Rattle.avro_container.specs.inside.DataPacked.{IsCopyFault, PacksBlock};
 ghost use Rattle.avro_container.specs.FileFault.{FileFault};
@@ -21,6 +23,7 @@ use crate::filling::Reach;
 use crate::header::Header;
 use crate::packing::pack_data;
 use crate::task::Task;
+use avro_resolve::PlanRef;
 
 /// How many bytes an input is taken ahead of a block.
 const AHEAD: usize = 65_536;
@@ -36,9 +39,12 @@ pub(crate) fn take_packed<I: Input>(
     number: u64,
     task: &Task,
     header: &Header,
+    plan: &Option<PlanRef<'_>>,
     packed: &mut Vec<u8>,
 ) -> Result<Option<BlockHead>, CopyError>
     requires near { length (held buffer.old) ≤ task.now.limits.block + 36 }
+    requires of_writer { IfSome plan.now (λ p. p.0 ≡ header.now.schema) }
+    requires of_reader { option_map (λ p. schema_nodes p.1) plan.now ≡ option_map (λ r. schema_nodes r.1) (option_copied task.now.reader) }
     ensures inside { IfOk result (λ found. IfSome found (λ head. head.start + head.size + 16 ≤ length (held buffer.new))) }
     ensures made { IfOk result (λ found. IfSome found (λ head. PacksBlock (job_of task.now) task.now.limits (header_value header.now) head.count
         (take (head.start + head.size + 16) (held buffer.new)) packed.new.items)) }
@@ -66,7 +72,7 @@ pub(crate) fn take_packed<I: Input>(
         Ok(Some(head)) => {
             let (_, rest) = buffer.bytes().split_at(head.start);
             let (body, _) = rest.split_at(head.size);
-            match pack_data(task, header, number, head.count, body, packed) {
+            match pack_data(task, header, plan, number, head.count, body, packed) {
                 Ok(()) => Ok(Some(head)),
                 Err(error) => Err(error),
             }

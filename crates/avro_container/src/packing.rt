@@ -1,7 +1,9 @@
 //! Packing the data of a block.
 
-ghost use Rattle.std.specs.Prelude.{◌≡◌, ◌++◌, ◌<◌, ◌≤◌, None, Some, OnOk, length};
+ghost use Rattle.std.specs.Prelude.{◌≡◌, ◌++◌, ◌<◌, ◌≤◌, None, Some, OnOk, length, option_map, IfSome};
+ghost use Rattle.std.specs.Option.{option_copied};
 ghost use Rattle.std.specs.Result.{IfErr};
+ghost use Rattle.avro_schema.specs.SeenSchema.{schema_nodes};
 ghost use Rattle.avro_packed.specs.Pieces.{bytes_of};
 ghost use Rattle.avro_container.specs.inside.DataPacked.{PacksData};
 ghost use Rattle.avro_container.specs.DataRead.{IsDataFault};
@@ -14,9 +16,10 @@ ghost use Rattle.avro_container.specs.TaskSeen.{job_of};
 use crate::datum_read::datum_error;
 use crate::error::{CopyError, LimitPlace};
 use crate::header::Header;
-use crate::plan_for::{plan_for, read_by_plan};
+use crate::planned::read_by_plan;
 use crate::task::Task;
 use avro_packed::{Packed, Pieces, append};
+use avro_resolve::PlanRef;
 
 /// Keeps the bytes of pieces behind those before.
 ///
@@ -48,11 +51,14 @@ fn keep(pieces: Pieces, most: usize, number: u64, packed: &mut Vec<u8>) -> Resul
 pub(crate) fn pack_data(
     task: &Task,
     header: &Header,
+    plan: &Option<PlanRef<'_>>,
     number: u64,
     count: u32,
     body: &[u8],
     packed: &mut Vec<u8>,
 ) -> Result<(), CopyError>
+    requires of_writer { IfSome plan.now (λ p. p.0 ≡ header.now.schema) }
+    requires of_reader { option_map (λ p. schema_nodes p.1) plan.now ≡ option_map (λ r. schema_nodes r.1) (option_copied task.now.reader) }
     ensures found { OnOk result (PacksData (reading_of (job_of task.now) task.now.limits (header_value header.now)) count body.now packed.new.items) }
     ensures refused { IfErr result (λ e. (f : FileFault) → file_fault e ≡ Some f
         → IsDataFault (reading_of (job_of task.now) task.now.limits (header_value header.now)) number count body.now f) }
@@ -64,15 +70,11 @@ pub(crate) fn pack_data(
     let limits = task.limits.datum();
     let most = task.limits.block() as usize;
     let end = body.len();
-    let plan = match plan_for(alloc, schema, task.reader) {
-        Ok(plan) => plan,
-        Err(_) => return Err(CopyError::OutOfMemory),
-    };
     let mut start = 0;
     let mut datum = 0;
     while datum < count {
         let (_, rest) = body.split_at(start);
-        match read_by_plan(alloc, schema, &plan, rest, &limits, &mut Packed) {
+        match read_by_plan(alloc, schema, plan, rest, &limits, &mut Packed) {
             Ok((pieces, len)) => {
                 match keep(pieces, most, number, packed) {
                     Ok(()) => {}

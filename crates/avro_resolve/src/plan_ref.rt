@@ -80,14 +80,14 @@ impl<'a> PlanRef<'a> {
     }
 
     /// The writer's schema.
-    pub fn writer(&self) -> &Schema
+    pub fn writer(&self) -> &'a Schema
         ensures { result.now ≡ self.now.0 }
     {
         self.writer
     }
 
     /// The reader's schema.
-    pub fn reader(&self) -> &Schema
+    pub fn reader(&self) -> &'a Schema
         ensures { result.now ≡ self.now.1 }
     {
         self.reader
