@@ -1,9 +1,8 @@
 ghost use Rattle.std.specs.Prelude.{◌≡◌, true, IfOk, IfSome, option_map};
-ghost use Rattle.std.specs.Option.{option_copied};
-ghost use Rattle.avro_container.specs.DataRead.{read_nodes};
+ghost use Rattle.avro_container.specs.DataRead.{FitAll, read_nodes};
 ghost use Rattle.avro_schema.specs.Fits.{each_fits};
 ghost use Rattle.avro_schema.specs.Node.{root_of};
-ghost use Rattle.avro_schema.specs.Seen.{values_of};
+ghost use Rattle.avro_schema.specs.Seen.{value_of, values_of};
 ghost use Rattle.avro_schema.specs.SeenSchema.{schema_nodes};
 
 use crate::Finding;
@@ -11,9 +10,10 @@ use crate::container_file::{ROOM, open_container};
 use crate::failure::Failure;
 use crate::schema_file::read_reader;
 use avro_binary::Tree;
-use avro_container::{Blocks, CopyError, FileLimits, Header, Input};
+use avro_container::{Block, Blocks, CopyError, FileLimits, Header, Input};
 use avro_display::show;
-use avro_schema::{Datum, Schema};
+use avro_resolve::Plan;
+use avro_schema::{Datum, Memory, Schema};
 use avro_schema_json::ReaderText;
 use std::alloc::Global;
 use std::io::{BufWriter, Write};
@@ -40,7 +40,7 @@ pub(crate) fn show_file<'a, R: Files + AllocGlobal, O: Write>(
     }
 }
 
-/// Prints the data of a container, those of a block once the whole block was read.
+/// Prints the data of a container.
 fn show_data<'a, I: Input, O: Write>(
     alloc: Global,
     input: &mut I,
@@ -53,10 +53,26 @@ fn show_data<'a, I: Input, O: Write>(
         Ok(header) => header,
         Err(error) => return Err(Failure::of_container(word, error)),
     };
-    let schema = shown_schema(&header, reader);
-    let mut blocks = Blocks::new(alloc, &header, &limits);
+    let plan = match plan_for(alloc, &header, reader) {
+        Ok(plan) => plan,
+        Err(Memory) => return Err(Failure::OutOfMemory),
+    };
+    show_blocks(alloc, input, word, &header, &plan, out)
+}
+
+/// Prints the data of the blocks behind a header, those of a block once the whole block was read.
+fn show_blocks<'a, I: Input, O: Write>(
+    alloc: Global,
+    input: &mut I,
+    word: &'a str,
+    header: &Header,
+    plan: &Option<Plan<'_>>,
+    out: &mut O,
+) -> Result<Finding, Failure<'a>> {
+    let schema = shown_schema(header, plan);
+    let mut blocks = Blocks::new(alloc, header, &FileLimits::default());
     for _ in 0..u64::MAX {
-        match next_data(&mut blocks, input, reader) {
+        match next_data(&mut blocks, input, plan) {
             Ok(Some(data)) => show_block(alloc, schema, &data, out)?,
             Ok(None) => break,
             Err(error) => return Err(Failure::of_container(word, error)),
@@ -65,13 +81,24 @@ fn show_data<'a, I: Input, O: Write>(
     Ok(Finding::Good)
 }
 
-/// The schema of what is printed: the reader's, where there is one.
-fn shown_schema<'a>(header: &'a Header, reader: Option<&'a ReaderText>) -> &'a Schema
-    ensures { schema_nodes result.now
-        ≡ read_nodes (schema_nodes header.now.schema) (option_map (λ r. schema_nodes r.1) (option_copied reader.entry)) }
-{
+/// The plan by which the data of a container are read, where there is a reader. It is made once for all blocks.
+fn plan_for<'a>(
+    alloc: Global,
+    header: &'a Header,
+    reader: Option<&'a ReaderText>,
+) -> Result<Option<Plan<'a>>, Memory> {
     match reader {
-        Some(reader) => reader.schema(),
+        Some(reader) => Ok(Some(Plan::reached(alloc, header.schema(), reader.schema())?)),
+        None => Ok(None),
+    }
+}
+
+/// The schema of what is printed: the reader's, where there is one.
+fn shown_schema<'a>(header: &'a Header, plan: &'a Option<Plan<'_>>) -> &'a Schema
+    ensures { schema_nodes result.now ≡ read_nodes (schema_nodes header.now.schema) (option_map (λ p. schema_nodes p.1) plan.now) }
+{
+    match plan {
+        Some(plan) => plan.by_ref().reader(),
         None => header.schema(),
     }
 }
@@ -80,23 +107,32 @@ fn shown_schema<'a>(header: &'a Header, reader: Option<&'a ReaderText>) -> &'a S
 fn next_data<I: Input>(
     blocks: &mut Blocks<'_>,
     input: &mut I,
-    reader: Option<&ReaderText>,
+    plan: &Option<Plan<'_>>,
 ) -> Result<Option<Vec<Datum>>, CopyError>
     ensures fit { IfOk result (λ found. IfSome found (λ all. each_fits
-        (read_nodes (schema_nodes blocks.old.header.now.schema) (option_map (λ r. schema_nodes r.1) (option_copied reader.entry)))
-        (root_of (read_nodes (schema_nodes blocks.old.header.now.schema) (option_map (λ r. schema_nodes r.1) (option_copied reader.entry))))
+        (read_nodes (schema_nodes blocks.old.header.now.schema) (option_map (λ p. schema_nodes p.1) plan.now))
+        (root_of (read_nodes (schema_nodes blocks.old.header.now.schema) (option_map (λ p. schema_nodes p.1) plan.now)))
         (values_of all.items) ≡ true)) }
     ensures same { blocks.new.header ≡ blocks.old.header }
 {
     match blocks.next(input) {
-        Ok(Some(block)) => {
-            match block.read(reader, &mut Tree) {
-                Ok(data) => Ok(Some(data)),
-                Err(error) => Err(error),
-            }
-        }
+        Ok(Some(block)) => match read_block(&block, plan) {
+            Ok(data) => Ok(Some(data)),
+            Err(error) => Err(error),
+        },
         Ok(None) => Ok(None),
         Err(error) => Err(error),
+    }
+}
+
+/// The data of a block.
+fn read_block(block: &Block<'_>, plan: &Option<Plan<'_>>) -> Result<Vec<Datum>, CopyError>
+    ensures { IfOk result (λ all. FitAll (λ d v. value_of d ≡ v)
+        (read_nodes (schema_nodes block.now.header.now.schema) (option_map (λ p. schema_nodes p.1) plan.now)) all.items) }
+{
+    match plan {
+        Some(plan) => block.read_by(plan, &mut Tree),
+        None => block.read(None, &mut Tree),
     }
 }
 
