@@ -113,7 +113,8 @@ impl<'a> Plan<'a> {
     ///
     /// # Errors
     ///
-    /// The first fault of the bytes, and else the first fault of resolution.
+    /// The first fault of the bytes, and else the first fault of resolution; `OutOfMemory`, which is a
+    /// [`ReadError`](avro_binary::ReadError).
     pub fn read<B: Build>(
         &self,
         alloc: Global,
