@@ -21,6 +21,10 @@ use avro_schema::{Field, Node, NodeId, Schema};
 use std::alloc::{AllocError, Global};
 
 /// Reads a datum of the node at a place. A place without a node is that of null.
+///
+/// # Errors
+///
+/// The first fault that is met from left to right (Avro 1.11, "Binary Encoding"); `OutOfMemory`.
 #[cycle(reading)]
 #[inline(always)]
 pub fn read_place<M: Make>(

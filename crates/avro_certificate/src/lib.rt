@@ -3,6 +3,9 @@
 //!
 //! A [`Certificate`] is read from a text and written to it. [`is_closed`] tells whether it shows this of
 //! two schemas, whoever made it.
+//!
+//! [`names_of`] keeps the fields of a writer's record by name. [`lacks_symbol`] compares the symbols of two enums,
+//! and [`has_name`] looks one symbol up.
 #![tactic(auto)]
 
 mod checks;

@@ -14,6 +14,10 @@ use serde_json::{Map, Value};
 use std::alloc::Global;
 
 /// The display of a datum of a node: compact JSON text.
+///
+/// # Errors
+///
+/// Memory ran out.
 pub fn show(alloc: Global, schema: &Schema, node: NodeId, datum: &Datum) -> Result<String, Memory>
     requires in_schema { node.0 < length (schema_nodes schema.now) }
     requires fitting { fits (schema_nodes schema.now) (node_at (schema_nodes schema.now) node.0) (value_of datum.now) ≡ true }

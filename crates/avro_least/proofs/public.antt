@@ -2,5 +2,4 @@ pub mod Decided
 pub mod Exact
 pub mod Keys
 pub mod Quiet
-pub mod Sources
 pub mod Stepping

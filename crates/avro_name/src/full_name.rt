@@ -58,6 +58,10 @@ impl FullName {
     ghost use Rattle.avro_name.specs.NameFault.{IsNameFault};
 
     /// The fullname that a text means where a namespace encloses it.
+    ///
+    /// # Errors
+    ///
+    /// `EmptyPart`, `BadCharacter` or `PrimitiveName`, where the text has this fault; `OutOfMemory`.
     pub fn read(alloc: Global, text: &str, enclosing: &Namespace) -> Result<FullName, NameError>
         ensures found { IfOk result (λ name. name_of text.now enclosing.now ≡ Some name) }
         ensures named { (name : Name) → name_of text.now enclosing.now ≡ Some name → IsErrOf result NameError.OutOfMemory ⊎ (result ≡ Ok name) }

@@ -47,6 +47,10 @@ impl Namespace {
     }
 
     /// The namespace that a text spells.
+    ///
+    /// # Errors
+    ///
+    /// `EmptyPart` or `BadCharacter`, where the text has this fault; `OutOfMemory`.
     pub fn read(alloc: Global, text: &str) -> Result<Namespace, NameError>
         ensures spelled { IfOk result (λ namespace. namespace ≡ text.now) }
         ensures good { OnOk result (is_namespace text.now ≡ true) }

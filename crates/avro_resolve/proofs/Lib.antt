@@ -10,7 +10,7 @@ mod RowsMatch
 mod RowsResolve
 mod RowsSource
 pub mod Rules
-pub mod Sources
+pub mod public
 pub mod TextBytes
 pub mod Pairing
 pub mod InOrder

@@ -1,6 +1,7 @@
 -- What a plan keeps.
 use Rattle.std.proofs.Common.{◌≡◌, ℕ, ◌+◌, ◌<◌, List, [], ◌∷◌, ◌++◌, drop, length, true, false, Option, Some, None, refl, sym, ap, ◌∙◌, subst, arith, ⊎_elim}
 use Rattle.std.specs.Prelude.{slice_get, slice_index_or, cond}
+use Rattle.std.proofs.lemmas.Option.{slice_get-get_or}
 use Rattle.std.proofs.lemmas.Bool.{cases_lt, cases_eq, cond-true, cond-false}
 use Rattle.avro_schema.specs.Node.{FieldNode}
 use Rattle.avro_schema.specs.Seen.{seen_fields, field_of}
@@ -23,6 +24,10 @@ sources_by {ws = ws} {ys = ys} sources e f h =
 pub parts_by : {ws xs rs ys : List FieldNode} (parts : List At) → ws ≡ xs → rs ≡ ys → AreFor xs ys parts → AreFor ws rs parts
 parts_by {ws = ws} {ys = ys} parts e f h =
     subst (λ (fs : List FieldNode). AreFor ws fs parts) (sym f) (subst (λ (fs : List FieldNode). AreFor fs ys parts) (sym e) h)
+
+-- what is kept at a place, which a call may reckon
+pub kept_here : (kept : List (Option ℕ)) (place at : ℕ) → at ≡ place → place < length kept → slice_get kept place ≡ Some (slice_index_or kept at None)
+kept_here kept place at same low = subst (λ (k : ℕ). slice_get kept place ≡ Some (slice_index_or kept k None)) (sym same) (slice_get-get_or kept place None low)
 
 -- ---- What holds of each in its place
 

@@ -13,7 +13,7 @@ use Rattle.avro_resolve.specs.Source.{source_of, reader_field, missing_field, mi
 use Rattle.avro_resolve.specs.Fault.{ResolutionFault}
 use Rattle.avro_resolve.specs.Resolve.{Resolved, Sourced, inside, with_sourced, sourced_at, field_value, field_values}
 use Rattle.avro_resolve.specs.Ends.{IsField, here, later}
-use Rattle.avro_resolve.proofs.Sources.{first_place-named, reader_field-source}
+use Rattle.avro_resolve.proofs.public.Sources.{first_place-named, reader_field-source}
 use Rattle.avro_resolve.proofs.Outcomes.{IfOk-inside, IfOk-both}
 use Rattle.avro_resolve.proofs.AtMatch.{FitsAt}
 

@@ -21,7 +21,7 @@ use Rattle.avro_resolve.specs.declared.error.ResolveError.{ResolveError}
 use Rattle.avro_resolve.proofs.InOrder.{next_in, none_from, fails_mapped}
 use Rattle.avro_resolve.proofs.Resolved.{good-fields}
 use Rattle.avro_resolve.proofs.Rules.{MeetRules-from_is_schema}
-use Rattle.avro_resolve.proofs.Sources.{is_place-same, two_readers, are_distinct-back}
+use Rattle.avro_resolve.proofs.public.Sources.{is_place-same, two_readers, are_distinct-back}
 
 -- names of a node's fields are distinct
 pub distinct_fields : (nodes : List Node) (place : ℕ) → is_schema nodes ≡ true → are_distinct bytes_eq (flat_map field_names (fields_at (node_at nodes place))) ≡ true

@@ -36,7 +36,8 @@ pub fn decode_resolved(
 ///
 /// # Errors
 ///
-/// The first fault of the bytes, and else the first fault of resolution.
+/// The first fault of the bytes, and else the first fault of resolution; `OutOfMemory`, which is a
+/// [`ReadError`](avro_binary::ReadError).
 pub fn read_resolved<B: Build>(
     alloc: Global,
     writer: &Schema,

@@ -28,7 +28,11 @@ impl Draft {
         }
     }
 
-    /// Adds a node under the next number; the first is the root. A refusal leaves the draft as it was.
+    /// Adds a node under the next number; the first is the root.
+    ///
+    /// # Errors
+    ///
+    /// `LimitExceeded` where there are 4,096 nodes; `OutOfMemory`. The draft then stays as it was.
     pub fn add(&mut self, node: Node) -> Result<NodeId, DraftError>
         ensures added { OnOk result (draft_nodes self.new ≡ draft_nodes self.old ++ node_of node ∷ []) }
         ensures number { IfOk result (λ id. id.0 ≡ length (draft_nodes self.old)) }
@@ -45,6 +49,10 @@ impl Draft {
     }
 
     /// The schema of these nodes.
+    ///
+    /// # Errors
+    ///
+    /// A fault that is there; each is described at its variant of [`DraftError`]. `OutOfMemory`.
     pub fn finish(self) -> Result<Schema, DraftError>
         ensures schema { IfOk result (λ schema. schema_nodes schema ≡ draft_nodes self) }
         ensures formed { OnOk result (is_schema (draft_nodes self) ≡ true) }

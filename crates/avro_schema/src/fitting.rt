@@ -11,6 +11,10 @@ use crate::uniqueness::are_unique_texts;
 use std::alloc::Global;
 
 /// Whether a datum is one of a node of the schema.
+///
+/// # Errors
+///
+/// Memory ran out.
 pub fn fits(alloc: Global, schema: &Schema, node: NodeId, datum: &Datum) -> Result<bool, Memory>
     requires { node.0 < length (schema_nodes schema.now) }
     ensures { IfOk result (λ answer.

@@ -13,13 +13,14 @@ use Rattle.avro_name.specs.Name.{is_simple_name}
 use Rattle.std.proofs.lemmas.List.{length-map}
 use Rattle.avro_resolve.specs.Match.{is_match, first_match}
 use Rattle.avro_resolve.specs.Source.{source_of, reader_field, missing_field}
+use Rattle.avro_resolve.specs.Ends.{IsField, here, later}
+use Rattle.avro_resolve.proofs.public.Sources.{first_place-named, reader_field-source}
 use Rattle.avro_certificate.specs.Closed.{Pair, is_among, is_dead_node, children_of, field_children, has_local_fault, has_fault_of_kind, lacks_symbol}
 use Rattle.avro_least.specs.Tables.{Least, LeastTable, ErringTable, AtMost, IsLowForData, AreLow, AreDataShown, ShowsData, around, together, lesser, precedes, best_of, all_of, least_datum, err_of, err_inside, err_of_field, err_of_fields, one}
 use Rattle.avro_certificate.proofs.public.Tests.{and_left, and_right, or_cases, or_from_left, or_from_right}
 use Rattle.avro_certificate.proofs.public.NodeKinds.{fault_of_union, fault_of_others, children_of_union}
 use Rattle.avro_certificate.proofs.public.Shapes.{meets_rules_at}
 use Rattle.avro_certificate.proofs.public.Resolving.{slice_get_of_drop, drop_more}
-use Rattle.avro_least.proofs.public.Sources.{IsField, here, later, first_place-named, reader_field-source}
 use Rattle.avro_least.proofs.LeastOrder.{under_more_left, under_more_right}
 use Rattle.avro_least.proofs.LeastData.{at_most_data, at_most_fields}
 use Rattle.avro_least.proofs.LeastErrors.{err_of_plain, err_of_none, err_of_some}
