@@ -9,3 +9,4 @@ pub mod Ends
 pub mod Guided
 pub mod Planned
 pub mod Noting
+pub mod NamedBranches
