@@ -14,8 +14,8 @@ ghost use Rattle.avro_certificate.specs.SeenPair.{pair_of};
 
 use crate::kept::Certificate;
 use crate::lookup::{has, has_dead};
-use crate::names::{lacks_symbol, names_of};
-use avro_resolve::{first_match, matches, source_in};
+use crate::names::{branch_names, lacks_symbol, names_of};
+use avro_resolve::{BranchNames, matches, source_in};
 use avro_schema::{Field, Memory, Node, NodeId, Schema};
 use std::alloc::Global;
 use std::collections::BTreeMap;
@@ -35,7 +35,8 @@ pub fn is_closed(
     ensures { IfOk result (λ b. b ≡ is_closed (schema_nodes writer.now) (schema_nodes reader.now) (dead_of certificate.now) (pairs_in certificate.now)) }
 {
     if is_dead(writer, certificate) && has(certificate, 0, 0) {
-        pairs_closed(alloc, writer, reader, certificate)
+        let names = branch_names(alloc, writer, reader)?;
+        pairs_closed(alloc, writer, reader, &names, certificate)
     } else {
         Ok(false)
     }
@@ -93,13 +94,15 @@ fn pairs_closed(
     alloc: Global,
     writer: &Schema,
     reader: &Schema,
+    names: &BranchNames,
     certificate: &Certificate,
 ) -> Result<bool, Memory>
+    requires { names.now ≡ (writer.now, reader.now) }
     ensures { IfOk result (λ b. b ≡ list_all (is_closed_at (schema_nodes writer.now) (schema_nodes reader.now) (dead_of certificate.now) (pairs_in certificate.now)) (pairs_in certificate.now)) }
 {
     let pairs = certificate.pairs();
     for pair in pairs {
-        if !is_closed_at(alloc, writer, reader, certificate, *pair)? {
+        if !is_closed_at(alloc, writer, reader, names, certificate, *pair)? {
             return Ok(false);
         }
     }
@@ -111,9 +114,11 @@ fn is_closed_at(
     alloc: Global,
     writer: &Schema,
     reader: &Schema,
+    names: &BranchNames,
     certificate: &Certificate,
     pair: (u32, u32),
 ) -> Result<bool, Memory>
+    requires { names.now ≡ (writer.now, reader.now) }
     ensures { IfOk result (λ b. b ≡ is_closed_at (schema_nodes writer.now) (schema_nodes reader.now) (dead_of certificate.now) (pairs_in certificate.now) (pair_of pair)) }
 {
     let w = NodeId(pair.0);
@@ -127,7 +132,7 @@ fn is_closed_at(
     match writer.node(w) {
         Node::Union(places) => Ok(has_branches(certificate, places, r)),
         n => match reader.node(r) {
-            Node::Union(places) => Ok(has_first_match(writer, w, reader, r, certificate, places)),
+            Node::Union(places) => Ok(has_first_match(names, w, r, certificate, places)),
             q => {
                 if matches(writer, w, reader, r) {
                     is_closed_inside(alloc, certificate, n, q)
@@ -153,17 +158,16 @@ fn has_branches(certificate: &Certificate, places: &[NodeId], r: NodeId) -> bool
 
 /// Whether a branch of a reader's union matches, and the first that does is accounted for.
 fn has_first_match(
-    writer: &Schema,
+    names: &BranchNames,
     w: NodeId,
-    reader: &Schema,
     r: NodeId,
     certificate: &Certificate,
     places: &[NodeId],
 ) -> bool
     ensures { result ≡ closed_branch (dead_of certificate.now) (pairs_in certificate.now) w.0 (places_of places.now)
-        (first_match_at (schema_nodes writer.now) (schema_nodes reader.now) (node_at (schema_nodes writer.now) w.0) (node_at (schema_nodes reader.now) r.0)) }
+        (first_match_at (schema_nodes names.now.0) (schema_nodes names.now.1) (node_at (schema_nodes names.now.0) w.0) (node_at (schema_nodes names.now.1) r.0)) }
 {
-    match first_match(writer, w, reader, r) {
+    match names.first_match(w, r) {
         None => false,
         Some(k) => has(certificate, w.0, branch_or_root(places, k)),
     }

@@ -22,4 +22,4 @@ mod writing;
 pub use closing::is_closed;
 pub use error::CertError;
 pub use kept::Certificate;
-pub use names::{has_name, lacks_symbol, names_of};
+pub use names::{branch_names, has_name, lacks_symbol, names_of};

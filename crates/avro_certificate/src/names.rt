@@ -1,4 +1,5 @@
-//! Names by tables: the fields of a writer's record, and the symbols of two enums.
+//! Names by tables: the fields of a writer's record, the symbols of two enums, and the branches of a reader's
+//! unions.
 
 ghost use Rattle.std.specs.Prelude.{◌≡◌, IfOk, not, bytes_eq};
 ghost use Rattle.std.specs.List.{list_any};
@@ -6,8 +7,8 @@ ghost use Rattle.avro_schema.specs.Seen.{seen_fields, texts_of};
 ghost use Rattle.avro_resolve.specs.Planned.{FindsFields, FindsSymbols};
 ghost use Rattle.avro_certificate.specs.Closed.{lacks_symbol};
 
-use avro_resolve::{field_names, symbol_names};
-use avro_schema::{Field, Memory};
+use avro_resolve::{BranchNames, field_names, symbol_names};
+use avro_schema::{Field, Memory, Schema};
 use std::alloc::Global;
 use std::collections::BTreeMap;
 
@@ -20,6 +21,24 @@ pub fn names_of<'f>(alloc: Global, writer: &'f [Field]) -> Result<BTreeMap<&'f s
     ensures { IfOk result (λ names. FindsFields (seen_fields writer.now) names) }
 {
     match field_names(alloc, writer) {
+        Ok(names) => Ok(names),
+        Err(_) => Err(Memory),
+    }
+}
+
+/// The names of the branches of a reader's unions, to look for the first match of a writer's node.
+///
+/// # Errors
+///
+/// Memory ran out.
+pub fn branch_names<'a>(
+    alloc: Global,
+    writer: &'a Schema,
+    reader: &'a Schema,
+) -> Result<BranchNames<'a>, Memory>
+    ensures { IfOk result (λ names. names ≡ (writer.now, reader.now)) }
+{
+    match BranchNames::new(alloc, writer, reader) {
         Ok(names) => Ok(names),
         Err(_) => Err(Memory),
     }

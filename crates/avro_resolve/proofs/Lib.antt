@@ -23,3 +23,5 @@ pub mod RecordSlots
 pub mod OnePass
 pub mod Planning
 pub mod FieldsNoted
+pub mod NamedKeys
+pub mod NamedStarts

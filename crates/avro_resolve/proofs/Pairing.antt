@@ -46,6 +46,11 @@ seen_get [] i b e = absurd cc
 seen_get (x ∷ ids) zero b e = let same : x ≡ b = cc in ap (λ (y : NodeId). Some y.0) same
 seen_get (x ∷ ids) (suc i) b e = seen_get ids i b e
 
+pub places_from : (n : ℕ) (ids : List NodeId) → drop n (places_of ids) ≡ places_of (drop n ids)
+places_from zero ids = refl
+places_from (suc n) [] = refl
+places_from (suc n) (x ∷ ids) = places_from n ids
+
 module _ (writer reader : List Node) (w : Node) where
   pub found_here : (k i : ℕ) (ids : List NodeId) (b : NodeId) → slice_get ids i ≡ Some b → is_match writer reader w (node_at reader b.0) ≡ true
       → first_match_from k writer reader w (places_of (drop i ids)) ≡ Some k

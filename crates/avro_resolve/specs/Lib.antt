@@ -10,3 +10,4 @@ pub mod Guided
 pub mod Planned
 pub mod Noting
 pub mod Tables
+pub mod NamedBranches

@@ -8,6 +8,8 @@
 //! roots lead to.
 #![tactic(auto)]
 
+mod branch_names;
+mod branch_table;
 mod error;
 mod failing;
 mod filling;
@@ -18,6 +20,7 @@ pub mod laws;
 mod leaves;
 mod making;
 mod matching;
+mod named_type;
 mod naming;
 mod ordering;
 mod pairs;
@@ -34,8 +37,10 @@ mod resolving;
 mod running;
 mod sourcing;
 mod symbols;
+mod union_names;
 mod walking;
 
+pub use branch_names::BranchNames;
 pub use error::{Fault, FaultKind, ReadResolveError, ResolveError};
 pub use matching::matches;
 pub use naming::{field_names, source_in, symbol_names};

@@ -3,6 +3,7 @@ ghost use Rattle.avro_schema.specs.Node.{Node as SeenNode, node_at};
 ghost use Rattle.avro_schema.specs.Seen.{node_of, places_of};
 ghost use Rattle.avro_schema.specs.SeenSchema.{schema_nodes};
 ghost use Rattle.avro_resolve.specs.Match.{first_match_at};
+ghost use Rattle.avro_resolve.specs.NamedBranches.{StartsAt};
 ghost use Rattle.avro_resolve.specs.Pairs.{IsAim, IsFirst};
 ghost use Rattle.avro_binary.proofs.public.Choices.{HasFewChoices};
 
@@ -17,11 +18,27 @@ pub fn first_match(writer: &Schema, w: NodeId, reader: &Schema, r: NodeId) -> Op
     ensures { result ≡ first_match_at (schema_nodes writer.now) (schema_nodes reader.now)
         (node_at (schema_nodes writer.now) w.0) (node_at (schema_nodes reader.now) r.0) }
 {
+    first_match_after(writer, w, reader, r, 0)
+}
+
+/// The same, where no branch before a place matches.
+pub fn first_match_after(
+    writer: &Schema,
+    w: NodeId,
+    reader: &Schema,
+    r: NodeId,
+    start: usize,
+) -> Option<usize>
+    requires { StartsAt (schema_nodes writer.now) (schema_nodes reader.now)
+        (node_at (schema_nodes writer.now) w.0) (node_at (schema_nodes reader.now) r.0) start }
+    ensures { result ≡ first_match_at (schema_nodes writer.now) (schema_nodes reader.now)
+        (node_at (schema_nodes writer.now) w.0) (node_at (schema_nodes reader.now) r.0) }
+{
     if !reader.has(r) {
         return None;
     }
     match reader.node(r) {
-        Node::Union(branches) => match first_matched(writer, w, reader, branches) {
+        Node::Union(branches) => match first_matched(writer, w, reader, branches, start) {
             Some(found) => Some(found.0),
             None => None,
         },
@@ -29,17 +46,21 @@ pub fn first_match(writer: &Schema, w: NodeId, reader: &Schema, r: NodeId) -> Op
     }
 }
 
-/// The first of a reader's branches that matches a writer's node, with its node.
+/// The first of a reader's branches that matches a writer's node, with its node. No branch before a place
+/// matches.
 fn first_matched(
     writer: &Schema,
     w: NodeId,
     reader: &Schema,
     branches: &[NodeId],
+    start: usize,
 ) -> Option<(usize, NodeId)>
+    requires { StartsAt (schema_nodes writer.now) (schema_nodes reader.now)
+        (node_at (schema_nodes writer.now) w.0) (SeenNode.union (places_of branches.now)) start }
     ensures { IsFirst (schema_nodes writer.now) (schema_nodes reader.now)
         (node_at (schema_nodes writer.now) w.0) (places_of branches.now) result }
 {
-    for place in 0..branches.len() {
+    for place in start..branches.len() {
         let branch = branches[place];
         if matches(writer, w, reader, branch) {
             return Some((place, branch));
@@ -53,22 +74,34 @@ pub fn aim(writer: &Schema, w: NodeId, reader: &Schema, r: NodeId) -> Aim
     ensures { IsAim (schema_nodes writer.now) (schema_nodes reader.now)
         (node_at (schema_nodes writer.now) w.0) (node_at (schema_nodes reader.now) r.0) result }
 {
+    aim_after(writer, w, reader, r, 0)
+}
+
+/// The same, where no branch before a place matches.
+pub fn aim_after(writer: &Schema, w: NodeId, reader: &Schema, r: NodeId, start: usize) -> Aim
+    requires { StartsAt (schema_nodes writer.now) (schema_nodes reader.now)
+        (node_at (schema_nodes writer.now) w.0) (node_at (schema_nodes reader.now) r.0) start }
+    ensures { IsAim (schema_nodes writer.now) (schema_nodes reader.now)
+        (node_at (schema_nodes writer.now) w.0) (node_at (schema_nodes reader.now) r.0) result }
+{
     if (r.0 as usize) < reader.len() {
-        aim_at(writer, w, reader, r, reader.node(r))
+        aim_at(writer, w, reader, r, reader.node(r), start)
     } else {
-        aim_at(writer, w, reader, r, &Node::Null)
+        aim_at(writer, w, reader, r, &Node::Null, start)
     }
 }
 
 /// Where a pair of nodes leads, the reader's of which is at hand.
-fn aim_at(writer: &Schema, w: NodeId, reader: &Schema, r: NodeId, node: &Node) -> Aim
+fn aim_at(writer: &Schema, w: NodeId, reader: &Schema, r: NodeId, node: &Node, start: usize) -> Aim
     requires there { node_of node.now ≡ node_at (schema_nodes reader.now) r.0 }
     requires few { HasFewChoices (node_of node.now) }
+    requires starts { StartsAt (schema_nodes writer.now) (schema_nodes reader.now)
+        (node_at (schema_nodes writer.now) w.0) (node_of node.now) start }
     ensures { IsAim (schema_nodes writer.now) (schema_nodes reader.now)
         (node_at (schema_nodes writer.now) w.0) (node_at (schema_nodes reader.now) r.0) result }
 {
     match node {
-        Node::Union(branches) => match first_matched(writer, w, reader, branches) {
+        Node::Union(branches) => match first_matched(writer, w, reader, branches, start) {
             Some(found) => Aim::To(Some(found.0 as u32), found.1),
             None => Aim::Fault(FaultKind::NoBranch),
         },

@@ -3,12 +3,13 @@ ghost use Rattle.avro_schema.specs.Node.{node_at};
 ghost use Rattle.avro_schema.specs.Seen.{seen_fields};
 ghost use Rattle.avro_schema.specs.SeenSchema.{schema_nodes};
 ghost use Rattle.avro_resolve.specs.Noting.{AreIgnored, noted};
+ghost use Rattle.avro_resolve.specs.Pairs.{IsAim};
 ghost use Rattle.avro_resolve.specs.Planned.{AreFor, ArePrepared, AreSources, AreSymbols, IsPrepared};
 
+use crate::branch_names::BranchNames;
 use crate::guided::{Aim, At};
 use crate::naming::{field_names, source_in};
 use crate::ordering::{PlacedPair, in_order, place_in, places_of_parts};
-use crate::pairs::aim;
 use crate::prepared::Prepared;
 use crate::sourcing::{fields_of, missing_among, node_of_field, source_kept};
 use crate::symbols::{symbols_for, symbols_of};
@@ -24,11 +25,12 @@ pub fn prepare_all(
 ) -> Result<(Vec<Prepared>, u32), AllocError>
     ensures { IfOk result (λ r. ArePrepared (schema_nodes writer.now) (schema_nodes reader.now) r.0.items) }
 {
+    let names = BranchNames::new(alloc, writer, reader)?;
     let order = in_order(alloc, pairs)?;
     let root = place_in(&order, writer.root(), reader.root());
     let mut kept = Vec::new(alloc);
     for pair in pairs {
-        let prepared = prepare_among(alloc, writer, pair.0, reader, pair.1, &order)?;
+        let prepared = prepare_among(alloc, &names, pair.0, pair.1, &order)?;
         kept.push(prepared)?;
     }
     Ok((kept, root))
@@ -37,30 +39,44 @@ pub fn prepare_all(
 /// What a plan keeps of a pair of nodes that is one of some pairs.
 fn prepare_among(
     alloc: Global,
-    writer: &Schema,
+    names: &BranchNames,
     w: NodeId,
-    reader: &Schema,
     r: NodeId,
     order: &[PlacedPair],
 ) -> Result<Prepared, AllocError>
-    ensures { IfOk result (λ p. IsPrepared (schema_nodes writer.now) (schema_nodes reader.now) p) }
+    ensures { IfOk result (λ p. IsPrepared (schema_nodes names.now.0) (schema_nodes names.now.1) p) }
 {
-    let mut prepared = prepare(alloc, writer, w, reader, r)?;
-    prepared.parts = places_of_parts(alloc, writer, reader, &prepared, order)?;
+    let mut prepared = prepare(alloc, names, w, r)?;
+    prepared.parts = places_of_parts(alloc, names.writer(), names.reader(), &prepared, order)?;
     Ok(prepared)
 }
 
 /// What a plan keeps of a pair of nodes, but for the places of its parts.
 pub fn prepare(
     alloc: Global,
+    names: &BranchNames,
+    w: NodeId,
+    r: NodeId,
+) -> Result<Prepared, AllocError>
+    ensures { IfOk result (λ p. IsPrepared (schema_nodes names.now.0) (schema_nodes names.now.1) p) }
+{
+    let leads = names.aim(w, r);
+    prepare_to(alloc, names.writer(), w, names.reader(), r, leads)
+}
+
+/// The same of a pair of nodes that leads there.
+fn prepare_to(
+    alloc: Global,
     writer: &Schema,
     w: NodeId,
     reader: &Schema,
     r: NodeId,
+    leads: Aim,
 ) -> Result<Prepared, AllocError>
+    requires { IsAim (schema_nodes writer.now) (schema_nodes reader.now)
+        (node_at (schema_nodes writer.now) w.0) (node_at (schema_nodes reader.now) r.0) leads }
     ensures { IfOk result (λ p. IsPrepared (schema_nodes writer.now) (schema_nodes reader.now) p) }
 {
-    let leads = aim(writer, w, reader, r);
     let q = target(leads);
     let writes = fields_of(writer, w);
     let reads = fields_of(reader, q);

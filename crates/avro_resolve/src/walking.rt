@@ -2,6 +2,7 @@ ghost use Rattle.std.specs.Prelude.{◌≡◌, IfOk};
 ghost use Rattle.avro_schema.specs.SeenSchema.{schema_nodes};
 ghost use Rattle.avro_resolve.specs.Planned.{ArePrepared, IsPrepared};
 
+use crate::branch_names::BranchNames;
 use crate::found::Found;
 use crate::guided::At;
 use crate::ordering::{count_of_parts, part_at};
@@ -18,13 +19,14 @@ pub fn prepare_reached(
 ) -> Result<Vec<Prepared>, AllocError>
     ensures { IfOk result (λ kept. ArePrepared (schema_nodes writer.now) (schema_nodes reader.now) kept.items) }
 {
+    let names = BranchNames::new(alloc, writer, reader)?;
     let mut found = Found::new(alloc);
     found.place_of(writer.root(), reader.root())?;
     let mut kept = Vec::new(alloc);
     for _round in 0..most_pairs(writer, reader) {
         match found.pair(kept.len()) {
             Some((w, r)) => {
-                let prepared = prepare_found(alloc, writer, w, reader, r, &mut found)?;
+                let prepared = prepare_found(alloc, &names, w, r, &mut found)?;
                 kept.push(prepared)?;
             }
             None => return Ok(kept),
@@ -41,16 +43,15 @@ fn most_pairs(writer: &Schema, reader: &Schema) -> usize {
 /// What a plan keeps of a pair of nodes. The pairs of its parts are found with it.
 fn prepare_found(
     alloc: Global,
-    writer: &Schema,
+    names: &BranchNames,
     w: NodeId,
-    reader: &Schema,
     r: NodeId,
     found: &mut Found,
 ) -> Result<Prepared, AllocError>
-    ensures { IfOk result (λ p. IsPrepared (schema_nodes writer.now) (schema_nodes reader.now) p) }
+    ensures { IfOk result (λ p. IsPrepared (schema_nodes names.now.0) (schema_nodes names.now.1) p) }
 {
-    let mut prepared = prepare(alloc, writer, w, reader, r)?;
-    prepared.parts = find_parts(alloc, writer, reader, &prepared, found)?;
+    let mut prepared = prepare(alloc, names, w, r)?;
+    prepared.parts = find_parts(alloc, names.writer(), names.reader(), &prepared, found)?;
     Ok(prepared)
 }
 

@@ -1,4 +1,4 @@
-use Rattle.std.proofs.Common.{◌≡◌, [], rules}
+use Rattle.std.proofs.Common.{◌≡◌, [], subst, rules}
 use Rattle.avro_schema.specs.SeenSchema.{schema_nodes}
 use Rattle.avro_resolve.specs.Planned.{IsPrepared}
 use Rattle.avro_resolve.proofs.Planning.{holds_none, holds_push}
@@ -12,7 +12,8 @@ loop-pair-init c =
 pub loop-pair-preserved : goal.loop-pair-preserved
 loop-pair-preserved c =
     holds_push (λ k p. IsPrepared (schema_nodes c.args.writer.now) (schema_nodes c.args.reader.now) p) c.loop-pair.kept.items c.push.new.self.items c.in_ok-prepared.prepared c.loop-pair.pair-index
-    c.in_ok-push.ensures.items c.loop-pair.invariant c.in_ok-prepared.ensures
+    c.in_ok-push.ensures.items c.loop-pair.invariant
+    (subst (λ s. IsPrepared (schema_nodes s.0) (schema_nodes s.1) c.in_ok-prepared.prepared) c.in_ok-names.ensures c.in_ok-prepared.ensures)
 
 pub returns : goal.returns
 returns c = c.loop-pair.invariant.0

@@ -1,4 +1,4 @@
-use Rattle.std.proofs.Common.{length, refl}
+use Rattle.std.proofs.Common.{length, refl, subst}
 use Rattle.avro_schema.specs.SeenSchema.{schema_nodes}
 use Rattle.avro_resolve.specs.Planned.{IsPrepared}
 use Rattle.avro_resolve.proofs.Planning.{holds_push}
@@ -8,4 +8,5 @@ pub loop-round-preserved : goal.loop-round-preserved
 loop-round-preserved c =
     let before = c.loop-round.kept.items in
     (holds_push (λ k p. IsPrepared (schema_nodes c.args.writer.now) (schema_nodes c.args.reader.now) p) before c.push.new.self.items c.in_ok-prepared-in-Some.prepared (length before)
-    c.in_ok-push-in-Some.ensures.items (c.loop-round.invariant, refl) c.in_ok-prepared-in-Some.ensures).0
+    c.in_ok-push-in-Some.ensures.items (c.loop-round.invariant, refl)
+    (subst (λ s. IsPrepared (schema_nodes s.0) (schema_nodes s.1) c.in_ok-prepared-in-Some.prepared) c.in_ok-names.ensures c.in_ok-prepared-in-Some.ensures)).0

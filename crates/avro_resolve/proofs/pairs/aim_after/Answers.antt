@@ -2,7 +2,7 @@ use Rattle.std.proofs.Common.{subst, sym}
 use Rattle.avro_schema.specs.SeenSchema.{schema_nodes}
 use Rattle.avro_binary.proofs.public.Choices.{HasFewChoices, HasFewChoices-from_is_schema}
 use Rattle.avro_resolve.proofs.Pairing.{node_high}
-use Rattle.avro_resolve.proofs.pairs.aim.Goals as goal
+use Rattle.avro_resolve.proofs.pairs.aim_after.Goals as goal
 
 pub aim_at-requires-clause-few : goal.aim_at-requires-clause-few
 aim_at-requires-clause-few c = subst HasFewChoices (sym c.node.ensures) (HasFewChoices-from_is_schema (schema_nodes c.args.reader.now) c.len.ensures.formed c.args.r.0)

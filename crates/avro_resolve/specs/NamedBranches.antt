@@ -1,0 +1,77 @@
+-- Where to begin to look for the first branch of a reader's union that matches: found by tables of names.
+use Rattle.std.specs.Prelude.{◌≡◌, ℕ, ◌+◌, Bool, ◌&&◌, List, Option, Some, None, drop, ◌==◌, bytes_eq, position, slice_get}
+use Rattle.std.specs.List.{list_any}
+use Rattle.std.specs.Ordering.{nat_cmp, ordering_then, then_cmp, on}
+use Rattle.std.specs.Cmp.Lexicographic.{slice_cmp}
+use Rattle.std.specs.declared.cmp.Ordering.{Ordering}
+use Rattle.std.specs.BTreeMap.{BTreeMap, get}
+use denote.Ref.{Bor}
+use Rattle.avro_name.specs.Name.{Name, same_name}
+use Rattle.avro_schema.specs.Node.{Node, node_at, branches_of}
+use Rattle.avro_schema.specs.Fits.{is_some_and}
+use Rattle.avro_schema.specs.Seen.{places_of}
+use Rattle.avro_resolve.specs.Match.{first_match, first_match_from}
+use Rattle.avro_resolve.specs.declared.union_names.UnionNames.{UnionNames}
+
+-- a record, an enum or a fixed by what it is matched by: its kind, its name and its aliases. A kind is that of records, of
+-- enums, or of fixeds of one length.
+pub record NamedType : Type 0 where
+  pub kind : ℕ
+  pub name : Name
+  pub aliases : List Name
+
+abbrev pub named_type : Node → Option NamedType
+named_type (Node.record_of name aliases fields) = Some (record { kind = 0; name = name; aliases = aliases })
+named_type (Node.enum name aliases symbols default) = Some (record { kind = 1; name = name; aliases = aliases })
+named_type (Node.fixed name aliases count) = Some (record { kind = count + 2; name = name; aliases = aliases })
+named_type _ = None
+
+-- a type of this kind has this simple name, or this alias
+abbrev pub has_simple : ℕ → List ℕ → NamedType → Bool
+has_simple kind simple t = t.kind == kind && bytes_eq simple t.name.simple
+
+abbrev pub has_alias : ℕ → Name → NamedType → Bool
+has_alias kind name t = t.kind == kind && list_any (same_name name) t.aliases
+
+-- the node at a place is such a type
+abbrev pub passes : List Node → (NamedType → Bool) → ℕ → Bool
+passes reader test place = is_some_and test (named_type (node_at reader place))
+
+-- a table's keys, and their orders: by kinds first
+abbrev pub SimpleKey : Type 0
+SimpleKey = ℕ × Bor (List ℕ)
+
+abbrev pub simple_cmp : SimpleKey → SimpleKey → Ordering
+simple_cmp a b = ordering_then (nat_cmp a.0 b.0) (slice_cmp nat_cmp a.1.now b.1.now)
+
+abbrev pub AliasKey : Type 0
+AliasKey = ℕ × Bor Name
+
+abbrev pub name_cmp : Name → Name → Ordering
+name_cmp = then_cmp (on (λ n. n.simple) (slice_cmp nat_cmp)) (on (λ n. n.namespace) (slice_cmp nat_cmp))
+
+abbrev pub alias_cmp : AliasKey → AliasKey → Ordering
+alias_cmp a b = ordering_then (nat_cmp a.0 b.0) (name_cmp a.1.now b.1.now)
+
+-- a map finds the first branch of each kind and simple name, and no other
+abbrev pub FindsSimple : List Node → List ℕ → BTreeMap SimpleKey ℕ → Type 0
+FindsSimple reader places names = (key : SimpleKey) → get simple_cmp names key ≡ position (passes reader (has_simple key.0 key.1.now)) places
+
+-- the same of each kind and alias
+abbrev pub FindsAliases : List Node → List ℕ → BTreeMap AliasKey ℕ → Type 0
+FindsAliases reader places names = (key : AliasKey) → get alias_cmp names key ≡ position (passes reader (has_alias key.0 key.1.now)) places
+
+-- the tables of a union
+pub record AreUnionNames (reader : List Node) (names : UnionNames) : Type 0 where
+  pub branches : node_at reader names.union.0 ≡ Node.union (places_of names.branches.now)
+  pub simple : FindsSimple reader (places_of names.branches.now) names.simple
+  pub aliases : FindsAliases reader (places_of names.branches.now) names.aliases
+
+-- the tables of some unions
+abbrev pub AreBranchNames : List Node → List UnionNames → Type 0
+AreBranchNames reader unions = (k : ℕ) (names : UnionNames) → slice_get unions k ≡ Some names → AreUnionNames reader names
+
+-- no branch before a place matches, so that the first match is found from there on
+abbrev pub StartsAt : List Node → List Node → Node → Node → ℕ → Type 0
+StartsAt writer reader w r start = (places : List ℕ) → branches_of r ≡ Some places
+    → first_match writer reader w places ≡ first_match_from start writer reader w (drop start places)

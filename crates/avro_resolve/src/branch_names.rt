@@ -1,0 +1,222 @@
+ghost use Rattle.std.specs.Prelude.{◌≡◌, ◌≤◌, true, List, IfOk, OnOk, unwrap_or};
+ghost use Rattle.std.specs.Option.{IfSome};
+ghost use Rattle.std.specs.List.{position_or_len};
+ghost use Rattle.avro_schema.specs.Node.{Node as SeenNode, node_at};
+ghost use Rattle.avro_schema.specs.Seen.{node_of, places_of};
+ghost use Rattle.avro_schema.specs.SeenSchema.{schema_nodes};
+ghost use Rattle.avro_schema.specs.WellFormed.{is_schema};
+ghost use Rattle.avro_resolve.specs.NamedBranches.{AreBranchNames, AreUnionNames, StartsAt, passes, has_simple, has_alias};
+
+use crate::branch_table::{alias_names, simple_names};
+use crate::guided::Aim;
+use crate::named_type::{NamedType, named_type};
+use crate::pairs::{aim_after, first_match_after};
+use crate::union_names::UnionNames;
+use avro_schema::{Node, NodeId, Schema};
+use std::alloc::{AllocError, Global};
+use std::marker::Model;
+
+/// The fewest branches of a union that has tables.
+const FEWEST: usize = 8;
+
+/// A writer's schema and a reader's, with the names of the branches of the reader's unions, by which a first
+/// match is found without a look at the branches before it. A union of few branches is looked through, and
+/// takes no memory here. Contracts see the two schemas.
+#[derive(Drop)]
+pub struct BranchNames<'a> {
+    writer: &'a Schema,
+    reader: &'a Schema,
+    unions: Vec<UnionNames<'a>>,
+}
+
+impl<'a> Model for BranchNames<'a> {
+    ghost use Rattle.std.specs.Coded.{codes};
+    ghost use Rattle.avro_schema.specs.contracts.datum.Datum as datum;
+    ghost use Rattle.avro_schema.specs.declared.schema.Schema.{Schema};
+    ghost use Rattle.avro_schema.specs.SeenSchema.{schema_nodes};
+    ghost use Rattle.avro_resolve.specs.NamedBranches.{AreBranchNames};
+
+    ghost Value = { Schema × Schema };
+
+    ghost coded = { Prim.hlevel (codes, datum.the_row.coded) };
+
+    ghost view = { λ names. (names.writer.now, names.reader.now) };
+
+    ghost invariant = { λ names. AreBranchNames (schema_nodes names.reader.now) names.unions.items };
+}
+
+impl<'a> BranchNames<'a> {
+    ghost use Rattle.std.specs.Prelude.{◌≡◌, IfOk};
+    ghost use Rattle.avro_schema.specs.Node.{node_at};
+    ghost use Rattle.avro_schema.specs.SeenSchema.{schema_nodes};
+    ghost use Rattle.avro_resolve.specs.Match.{first_match_at};
+    ghost use Rattle.avro_resolve.specs.NamedBranches.{StartsAt};
+    ghost use Rattle.avro_resolve.specs.Pairs.{IsAim};
+
+    /// The names of the branches of a reader's unions.
+    ///
+    /// # Errors
+    ///
+    /// Memory ran out.
+    pub fn new(
+        alloc: Global,
+        writer: &'a Schema,
+        reader: &'a Schema,
+    ) -> Result<BranchNames<'a>, AllocError>
+        ensures { IfOk result (λ names. names ≡ (writer.now, reader.now)) }
+    {
+        let mut unions = Vec::new(alloc);
+        let mut number = 0u32;
+        for _place in 0..reader.len() {
+            add_union(&mut unions, alloc, reader, NodeId(number))?;
+            number = number.saturating_add(1);
+        }
+        Ok(BranchNames {
+            writer,
+            reader,
+            unions,
+        })
+    }
+
+    /// The first branch of a reader's union that matches a writer's node, by its place among the branches, as
+    /// [`first_match`](crate::first_match) answers it.
+    pub fn first_match(&self, w: NodeId, r: NodeId) -> Option<usize>
+        ensures { result ≡ first_match_at (schema_nodes self.now.0) (schema_nodes self.now.1)
+            (node_at (schema_nodes self.now.0) w.0) (node_at (schema_nodes self.now.1) r.0) }
+    {
+        let start = self.start(w, r);
+        first_match_after(self.writer, w, self.reader, r, start)
+    }
+
+    /// Where a pair of nodes leads.
+    pub(crate) fn aim(&self, w: NodeId, r: NodeId) -> Aim
+        ensures { IsAim (schema_nodes self.now.0) (schema_nodes self.now.1)
+            (node_at (schema_nodes self.now.0) w.0) (node_at (schema_nodes self.now.1) r.0) result }
+    {
+        let start = self.start(w, r);
+        aim_after(self.writer, w, self.reader, r, start)
+    }
+
+    /// The writer's schema.
+    pub(crate) fn writer(&self) -> &Schema
+        ensures { result.now ≡ self.now.0 }
+    {
+        self.writer
+    }
+
+    /// The reader's schema.
+    pub(crate) fn reader(&self) -> &Schema
+        ensures { result.now ≡ self.now.1 }
+    {
+        self.reader
+    }
+
+    /// A place of a reader's union before which no branch matches a writer's node.
+    fn start(&self, w: NodeId, r: NodeId) -> usize
+        ensures { StartsAt (schema_nodes self.now.0) (schema_nodes self.now.1)
+            (node_at (schema_nodes self.now.0) w.0) (node_at (schema_nodes self.now.1) r.0) result }
+    {
+        if !self.writer.has(w) {
+            return 0;
+        }
+        match union_among(&self.unions, r) {
+            Some(names) => {
+                let _ = self.reader.len();
+                start_at(names, self.writer.node(w))
+            }
+            None => 0,
+        }
+    }
+}
+
+/// The tables of a union that has some.
+fn union_among<'u, 'r>(unions: &'u [UnionNames<'r>], r: NodeId) -> Option<&'u UnionNames<'r>>
+    ensures { (reader : List SeenNode) → AreBranchNames reader unions.now
+        → IfSome result (λ names. AreUnionNames reader names.now × (names.now.union.0 ≡ r.0)) }
+{
+    let at = match unions.binary_search_by_key(&r, |names| names.union) {
+        Ok(at) => at,
+        Err(at) => at,
+    };
+    if at >= unions.len() {
+        return None;
+    }
+    let names = &unions[at];
+    if names.union == r { Some(names) } else { None }
+}
+
+/// Adds the tables of a node that is a union of many branches.
+fn add_union<'a>(
+    unions: &mut Vec<UnionNames<'a>>,
+    alloc: Global,
+    reader: &'a Schema,
+    id: NodeId,
+) -> Result<(), AllocError>
+    ensures { OnOk result (AreBranchNames (schema_nodes reader.now) unions.old.items → AreBranchNames (schema_nodes reader.now) unions.new.items) }
+{
+    match union_names(alloc, reader, id)? {
+        Some(names) => unions.push(names)?,
+        None => {}
+    }
+    Ok(())
+}
+
+/// The tables of a node that is a union of many branches.
+fn union_names<'r>(
+    alloc: Global,
+    reader: &'r Schema,
+    id: NodeId,
+) -> Result<Option<UnionNames<'r>>, AllocError>
+    ensures { IfOk result (λ found. IfSome found (AreUnionNames (schema_nodes reader.now))) }
+{
+    if !reader.has(id) {
+        return Ok(None);
+    }
+    match reader.node(id) {
+        Node::Union(branches) => {
+            if branches.len() < FEWEST {
+                return Ok(None);
+            }
+            Ok(Some(UnionNames {
+                union: id,
+                branches,
+                simple: simple_names(alloc, reader, branches)?,
+                aliases: alias_names(alloc, reader, branches)?,
+            }))
+        }
+        _ => Ok(None),
+    }
+}
+
+/// A place before which no branch matches a writer's node, by the tables of a union.
+fn start_at<'n>(names: &UnionNames<'n>, node: &'n Node) -> usize
+    ensures { (writer reader : List SeenNode) → is_schema reader ≡ true → AreUnionNames reader names.now
+        → StartsAt writer reader (node_of node.now) (node_at reader names.now.union.0) result }
+{
+    match named_type(node) {
+        Some(named) => first_named(names, &named),
+        None => 0,
+    }
+}
+
+/// The first branch that is named as a type is, or how many branches there are.
+fn first_named<'n>(names: &UnionNames<'n>, named: &NamedType<'n>) -> usize
+    ensures simple { (reader : List SeenNode) → AreUnionNames reader names.now
+        → result ≤ position_or_len (passes reader (has_simple named.now.kind named.now.name.simple)) (places_of names.now.branches.now) }
+    ensures alias { (reader : List SeenNode) → AreUnionNames reader names.now
+        → result ≤ position_or_len (passes reader (has_alias named.now.kind named.now.name)) (places_of names.now.branches.now) }
+{
+    let simple = names.simple.get(&(named.kind, named.name.simple()));
+    let alias = names.aliases.get(&(named.kind, named.name));
+    earlier(names.branches.len(), simple.copied(), alias.copied())
+}
+
+/// The earlier of two places, where none is behind all.
+fn earlier(all: usize, a: Option<usize>, b: Option<usize>) -> usize
+    ensures first { result ≤ unwrap_or a all }
+    ensures second { result ≤ unwrap_or b all }
+{
+    let one = a.unwrap_or(all);
+    let other = b.unwrap_or(all);
+    if one < other { one } else { other }
+}
