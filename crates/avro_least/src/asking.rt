@@ -12,7 +12,7 @@ ghost use Rattle.avro_least.specs.Asked.{Asked, asked, asked_inside, asked_branc
 ghost use Rattle.avro_least.specs.SeenAsk.{ask_of, rows_of};
 
 use avro_certificate::{lacks_symbol, names_of};
-use avro_resolve::{first_match, matches, source_in};
+use avro_resolve::{BranchNames, matches, source_in};
 use avro_schema::{Field, Memory, Node, NodeId, Schema};
 use std::alloc::Global;
 use std::collections::BTreeMap;
@@ -204,19 +204,12 @@ fn ask_plain(
 }
 
 /// What a node that is no union asks for with a union's branches.
-fn ask_branch(
-    writer: &Schema,
-    w: NodeId,
-    reader: &Schema,
-    r: NodeId,
-    from: &Node,
-    places: &[NodeId],
-) -> Ask
-    requires from { node_of from.now ≡ node_at (schema_nodes writer.now) w.0 }
-    requires to { node_at (schema_nodes reader.now) r.0 ≡ SeenNode.union (places_of places.now) }
-    ensures { ask_of result ≡ asked_branch (places_of places.now) (first_match (schema_nodes writer.now) (schema_nodes reader.now) (node_of from.now) (places_of places.now)) }
+fn ask_branch(names: &BranchNames, w: NodeId, r: NodeId, from: &Node, places: &[NodeId]) -> Ask
+    requires from { node_of from.now ≡ node_at (schema_nodes names.now.0) w.0 }
+    requires to { node_at (schema_nodes names.now.1) r.0 ≡ SeenNode.union (places_of places.now) }
+    ensures { ask_of result ≡ asked_branch (places_of places.now) (first_match (schema_nodes names.now.0) (schema_nodes names.now.1) (node_of from.now) (places_of places.now)) }
 {
-    match first_match(writer, w, reader, r) {
+    match names.first_match(w, r) {
         None => Ask::Whole,
         Some(k) => match places.get(k) {
             None => Ask::Same(NodeId(0)),
@@ -241,6 +234,7 @@ fn copy(alloc: Global, places: &[NodeId]) -> Result<Vec<NodeId>, Memory>
 /// What two nodes ask for that stand at these places.
 fn ask_nodes(
     alloc: Global,
+    names: &BranchNames,
     writer: &Schema,
     w: NodeId,
     reader: &Schema,
@@ -250,12 +244,13 @@ fn ask_nodes(
 ) -> Result<Ask, Memory>
     requires from { node_of from.now ≡ node_at (schema_nodes writer.now) w.0 }
     requires to { node_of to.now ≡ node_at (schema_nodes reader.now) r.0 }
+    requires of_these { names.now ≡ (writer.now, reader.now) }
     ensures { IfOk result (λ a. ask_of a ≡ asked (schema_nodes writer.now) (schema_nodes reader.now) (node_of from.now) (node_of to.now)) }
 {
     match from {
         Node::Union(places) => Ok(Ask::Branches(copy(alloc, places)?)),
         _ => match to {
-            Node::Union(places) => Ok(ask_branch(writer, w, reader, r, from, places)),
+            Node::Union(places) => Ok(ask_branch(names, w, r, from, places)),
             _ => ask_plain(alloc, writer, w, reader, r, from, to),
         },
     }
@@ -264,15 +259,17 @@ fn ask_nodes(
 /// What a pair of nodes asks for; past the end stand nulls.
 pub(crate) fn make_ask(
     alloc: Global,
+    names: &BranchNames,
     writer: &Schema,
     w: NodeId,
     reader: &Schema,
     r: NodeId,
 ) -> Result<Ask, Memory>
+    requires { names.now ≡ (writer.now, reader.now) }
     ensures { IfOk result (λ a. ask_of a ≡ asked (schema_nodes writer.now) (schema_nodes reader.now) (node_at (schema_nodes writer.now) w.0) (node_at (schema_nodes reader.now) r.0)) }
 {
     let null = Node::Null;
     let from = node_or(writer, w, &null);
     let to = node_or(reader, r, &null);
-    ask_nodes(alloc, writer, w, reader, r, from, to)
+    ask_nodes(alloc, names, writer, w, reader, r, from, to)
 }

@@ -15,6 +15,8 @@ ghost use Rattle.avro_least.specs.SeenAsk.{ask_of, asks_of};
 use crate::asking::{Ask, make_ask};
 use crate::kept::Least;
 use crate::least::{count, entry};
+use avro_certificate::branch_names;
+use avro_resolve::BranchNames;
 use avro_schema::{Memory, NodeId, Schema};
 use indexmap::IndexSet;
 use std::alloc::Global;
@@ -124,13 +126,20 @@ pub fn readers(reader: &Schema, key: u64) -> NodeId
 }
 
 /// What a pair asks for.
-fn ask_at(alloc: Global, writer: &Schema, reader: &Schema, key: u64) -> Result<Ask, Memory>
-    requires { key < length (schema_nodes writer.now) * length (schema_nodes reader.now) }
+fn ask_at(
+    alloc: Global,
+    names: &BranchNames,
+    writer: &Schema,
+    reader: &Schema,
+    key: u64,
+) -> Result<Ask, Memory>
+    requires of_these { names.now ≡ (writer.now, reader.now) }
+    requires within { key < length (schema_nodes writer.now) * length (schema_nodes reader.now) }
     ensures { IfOk result (λ a. ask_of a ≡ asked_at (schema_nodes writer.now) (schema_nodes reader.now) key) }
 {
     let w = writers(writer, reader, key);
     let r = readers(reader, key);
-    make_ask(alloc, writer, w, reader, r)
+    make_ask(alloc, names, writer, w, reader, r)
 }
 
 /// The numbers of the pairs that a pair takes, by its number.
@@ -187,6 +196,7 @@ pub fn reach(
 {
     let _ = count(writer);
     let _ = count(reader);
+    let names = branch_names(alloc, writer, reader)?;
     let mut known = IndexSet::new(alloc);
     let mut asks = Vec::new(alloc);
     add_all(&mut known, &[0])?;
@@ -196,7 +206,7 @@ pub fn reach(
             None => unreachable!(),
             Some(key) => {
                 let key = *key;
-                let ask = ask_at(alloc, writer, reader, key)?;
+                let ask = ask_at(alloc, &names, writer, reader, key)?;
                 let more = steps(alloc, writer, reader, table, key, &ask)?;
                 add_all(&mut known, &more)?;
                 push_ask(&mut asks, ask)?;

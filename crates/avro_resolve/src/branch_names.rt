@@ -78,6 +78,17 @@ impl<'a> BranchNames<'a> {
         })
     }
 
+    /// No names: each union is looked through.
+    pub fn none(alloc: Global, writer: &'a Schema, reader: &'a Schema) -> BranchNames<'a>
+        ensures { result ≡ (writer.now, reader.now) }
+    {
+        BranchNames {
+            writer,
+            reader,
+            unions: Vec::new(alloc),
+        }
+    }
+
     /// The first branch of a reader's union that matches a writer's node, by its place among the branches, as
     /// [`first_match`](crate::first_match) answers it.
     pub fn first_match(&self, w: NodeId, r: NodeId) -> Option<usize>

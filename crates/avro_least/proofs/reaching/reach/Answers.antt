@@ -52,8 +52,8 @@ loop-next-init c =
           (c.in_ok-add_all.ensures.old_or_new k m),
     )
 
-pub ask_at-requires : goal.ask_at-requires
-ask_at-requires c = below_at (length (schema_nodes c.args.writer.now) * length (schema_nodes c.args.reader.now)) (keys c.loop-next.known) c.loop-next.next c.in-Some.key.now
+pub ask_at-requires-clause-within : goal.ask_at-requires-clause-within
+ask_at-requires-clause-within c = below_at (length (schema_nodes c.args.writer.now) * length (schema_nodes c.args.reader.now)) (keys c.loop-next.known) c.loop-next.next c.in-Some.key.now
     c.loop-next.invariant.1 (sym c.in-Some.ensures.key)
 
 pub steps-requires-clause-within : goal.steps-requires-clause-within
