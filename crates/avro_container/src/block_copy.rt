@@ -81,6 +81,6 @@ pub(crate) fn copy_block<I: Input, O: Output>(
                 Err(error) => Err(error),
             }
         }
-        Err(error) => Err(error),
+        Err(refused) => Err(refused),
     }
 }

@@ -46,5 +46,5 @@ pub returns-in-Err-clause-refused : goal.returns-in-Err-clause-refused
 returns-in-Err-clause-refused g c = λ before is_some is_number is_ahead.
     let task = c.args.task.now in
     refuses-block g.I.Input.gives g.O.Output.keeps g.met.O.Output.none _ _ _ (job_of task) task.limits (header_value c.args.header.now) c.args.number
-    (g.I.Input.ended c.take_packed.new.input) (held c.args.store.now.buffer) (held c.take_packed.new.buffer) c.in-Err.error before is_some is_number is_ahead
+    (g.I.Input.ended c.take_packed.new.input) (held c.args.store.now.buffer) (held c.take_packed.new.buffer) c.in-Err.refused before is_some is_number is_ahead
     c.requires.near c.in-Err.ensures.limited c.in-Err.ensures.lost c.in-Err.ensures.taken c.in-Err.ensures.refused
