@@ -60,7 +60,8 @@ const KINDS: [(&str, &[u8]); 16] = [
 #[test]
 fn builders_read_each_kind(rt: HostRuntime) -> Result<(), Fail> {
     let limits = Limits::default();
-    for (text, bytes) in KINDS {
+    for row in &KINDS[..] {
+        let (text, bytes) = *row;
         assert!(rt; agree(rt.alloc(), text, bytes, &limits)?);
     }
     Ok(())

@@ -123,7 +123,8 @@ const DECODED: [(&str, &[u8], &[u8]); 16] = [
 
 #[test]
 fn what_was_decoded_is_encoded_plainly(rt: HostRuntime) -> Result<(), Fail> {
-    for (text, bytes, plain) in DECODED {
+    for row in &DECODED[..] {
+        let (text, bytes, plain) = *row;
         let schema = read_schema(rt.alloc(), text.as_bytes())?;
         let limits = Limits::default();
         let (datum, len) = decode(rt.alloc(), &schema, schema.root(), bytes, &limits)?;

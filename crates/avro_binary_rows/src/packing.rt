@@ -9,6 +9,54 @@ use std::test::Fail;
 
 const LONG_TEXT: &[u8] = b"\x3cabcdefghijklmnopqrstuvwxyz1234";
 
+const FIXED: &str = "{\"type\":\"fixed\",\"name\":\"F\",\"size\":2}";
+
+const LETTERS: &str = "{\"type\":\"enum\",\"name\":\"E\",\"symbols\":[\"A\",\"B\"]}";
+
+const LONGS: &str = "{\"type\":\"array\",\"items\":\"long\"}";
+
+const NULLS: &str = "{\"type\":\"array\",\"items\":\"null\"}";
+
+const INTS: &str = "{\"type\":\"map\",\"values\":\"int\"}";
+
+const UNION: &str = "[\"null\",\"boolean\",\"int\",\"string\"]";
+
+const LIST: &str =
+    "{\"type\":\"record\",\"name\":\"R\",\"fields\":[{\"name\":\"a\",\"type\":\"long\"},{\"name\":\"b\",\"type\":[\"null\",\"R\"]}]}";
+
+/// Schemas' texts, bytes, and what they are packed as.
+const ROWS: [(&str, &[u8], &[u8]); 21] = [
+    ("\"null\"", b"", b""),
+    ("\"boolean\"", b"\x01", b"\x01"),
+    ("\"int\"", b"\x8a\x80\x80\x80\x00", b"\x0a"),
+    ("\"long\"", b"\x80\x01", b"\x80\x01"),
+    ("\"bytes\"", b"\x84\x00\xff\x00", b"\x04\xff\x00"),
+    ("\"string\"", b"\x06foo", b"\x06foo"),
+    ("\"string\"", LONG_TEXT, LONG_TEXT),
+    (FIXED, b"\x01\x02", b"\x01\x02"),
+    (LETTERS, b"\x82\x00", b"\x02"),
+    (LONGS, b"\x03\x04\x06\x36\x00", b"\x04\x06\x36\x00"),
+    (LONGS, b"\x02\x06\x02\x36\x00", b"\x04\x06\x36\x00"),
+    (
+        LONGS,
+        b"\x84\x00\x86\x00\xb6\x00\x80\x00",
+        b"\x04\x06\x36\x00",
+    ),
+    (LONGS, b"\x80\x00", b"\x00"),
+    (NULLS, b"\x02\x02\x00", b"\x04\x00"),
+    (
+        INTS,
+        b"\x02\x02a\x02\x02\x02b\x04\x00",
+        b"\x04\x02a\x02\x02b\x04\x00",
+    ),
+    (INTS, b"\x00", b"\x00"),
+    (UNION, b"\x80\x00", b"\x00"),
+    (UNION, b"\x02\x01", b"\x02\x01"),
+    (UNION, b"\x04\x8a\x00", b"\x04\x0a"),
+    (UNION, b"\x06\x06foo", b"\x06\x06foo"),
+    (LIST, b"\x36\x02\x06\x00", b"\x36\x02\x06\x00"),
+];
+
 /// Whether all of the bytes are read, and packed as these.
 fn packs(alloc: Global, text: &str, bytes: &[u8], plain: &[u8]) -> Result<bool, Fail> {
     let schema = read_schema(alloc, text.as_bytes())?;
@@ -21,67 +69,9 @@ fn packs(alloc: Global, text: &str, bytes: &[u8], plain: &[u8]) -> Result<bool, 
 }
 
 #[test]
-fn leaves_are_packed(rt: HostRuntime) -> Result<(), Fail> {
-    let fixed = "{\"type\":\"fixed\",\"name\":\"F\",\"size\":2}";
-    let letters = "{\"type\":\"enum\",\"name\":\"E\",\"symbols\":[\"A\",\"B\"]}";
-    let rows: [(&str, &[u8], &[u8]); 9] = [
-        ("\"null\"", b"", b""),
-        ("\"boolean\"", b"\x01", b"\x01"),
-        ("\"int\"", b"\x8a\x80\x80\x80\x00", b"\x0a"),
-        ("\"long\"", b"\x80\x01", b"\x80\x01"),
-        ("\"bytes\"", b"\x84\x00\xff\x00", b"\x04\xff\x00"),
-        ("\"string\"", b"\x06foo", b"\x06foo"),
-        ("\"string\"", LONG_TEXT, LONG_TEXT),
-        (fixed, b"\x01\x02", b"\x01\x02"),
-        (letters, b"\x82\x00", b"\x02"),
-    ];
-    for (text, bytes, plain) in rows {
-        assert!(rt; packs(rt.alloc(), text, bytes, plain)?);
-    }
-    Ok(())
-}
-
-#[test]
-fn blocks_are_packed_as_one(rt: HostRuntime) -> Result<(), Fail> {
-    let longs = "{\"type\":\"array\",\"items\":\"long\"}";
-    let nulls = "{\"type\":\"array\",\"items\":\"null\"}";
-    let ints = "{\"type\":\"map\",\"values\":\"int\"}";
-    let rows: [(&str, &[u8], &[u8]); 7] = [
-        (longs, b"\x03\x04\x06\x36\x00", b"\x04\x06\x36\x00"),
-        (longs, b"\x02\x06\x02\x36\x00", b"\x04\x06\x36\x00"),
-        (
-            longs,
-            b"\x84\x00\x86\x00\xb6\x00\x80\x00",
-            b"\x04\x06\x36\x00",
-        ),
-        (longs, b"\x80\x00", b"\x00"),
-        (nulls, b"\x02\x02\x00", b"\x04\x00"),
-        (
-            ints,
-            b"\x02\x02a\x02\x02\x02b\x04\x00",
-            b"\x04\x02a\x02\x02b\x04\x00",
-        ),
-        (ints, b"\x00", b"\x00"),
-    ];
-    for (text, bytes, plain) in rows {
-        assert!(rt; packs(rt.alloc(), text, bytes, plain)?);
-    }
-    Ok(())
-}
-
-#[test]
-fn branches_and_records_are_packed(rt: HostRuntime) -> Result<(), Fail> {
-    let union = "[\"null\",\"boolean\",\"int\",\"string\"]";
-    let list =
-        "{\"type\":\"record\",\"name\":\"R\",\"fields\":[{\"name\":\"a\",\"type\":\"long\"},{\"name\":\"b\",\"type\":[\"null\",\"R\"]}]}";
-    let rows: [(&str, &[u8], &[u8]); 5] = [
-        (union, b"\x80\x00", b"\x00"),
-        (union, b"\x02\x01", b"\x02\x01"),
-        (union, b"\x04\x8a\x00", b"\x04\x0a"),
-        (union, b"\x06\x06foo", b"\x06\x06foo"),
-        (list, b"\x36\x02\x06\x00", b"\x36\x02\x06\x00"),
-    ];
-    for (text, bytes, plain) in rows {
+fn data_are_packed(rt: HostRuntime) -> Result<(), Fail> {
+    for row in &ROWS[..] {
+        let (text, bytes, plain) = *row;
         assert!(rt; packs(rt.alloc(), text, bytes, plain)?);
     }
     Ok(())

@@ -1,8 +1,6 @@
 //! Numbers whose last groups are 0: they are read at each place.
 
-use crate::reading::{Row, wrong_row};
-use avro_schema::Limits;
-use std::test::Fail;
+use crate::reading::Row;
 
 const STRING: &str = "\"string\"";
 
@@ -17,7 +15,7 @@ const LETTERS: &str = "{\"type\":\"enum\",\"name\":\"E\",\"symbols\":[\"A\",\"B\
 const UNION: &str = "[\"null\",\"int\"]";
 
 /// Counts of blocks, their sizes, and lengths of contents.
-const COUNTS: [Row; 17] = [
+pub(crate) const COUNTS: [Row; 17] = [
     (LONGS, b"\x84\x00\x86\x00\xb6\x00\x80\x00", "[3,27] 8", "8"),
     (LONGS, b"\x03\x08\x86\x00\xb6\x00\x00", "[3,27] 7", "7"),
     (LONGS, b"\x03\x04\x86\x00\xb6\x00\x00", "B7 at 1", "B7 at 1"),
@@ -67,14 +65,8 @@ const COUNTS: [Row; 17] = [
     (BYTES, b"\x84\x00a", "B1 at 2", "B1 at 2"),
 ];
 
-#[test]
-fn padded_counts_and_lengths_are_read(rt: HostRuntime) -> Result<(), Fail> {
-    assert_eq!(rt; wrong_row(rt.alloc(), &Limits::default(), &COUNTS)?, None);
-    Ok(())
-}
-
 /// Counts and keys of maps, and the positions of symbols and branches.
-const KEYS: [Row; 11] = [
+pub(crate) const KEYS: [Row; 11] = [
     (
         MAP,
         b"\x82\x00\x82\x00a\x82\x00\x80\x00",
@@ -103,9 +95,3 @@ const KEYS: [Row; 11] = [
     // A boolean is no number.
     ("\"boolean\"", b"\x80\x00", "B3 at 0", "B3 at 0"),
 ];
-
-#[test]
-fn padded_keys_and_positions_are_read(rt: HostRuntime) -> Result<(), Fail> {
-    assert_eq!(rt; wrong_row(rt.alloc(), &Limits::default(), &KEYS)?, None);
-    Ok(())
-}

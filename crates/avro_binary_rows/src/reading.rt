@@ -1,5 +1,6 @@
 //! What `decode` and `walk` answer of some bytes.
 
+use crate::padded_numbers::{COUNTS, KEYS};
 use avro_binary::{decode, walk};
 use avro_display::show;
 use avro_schema::{Limits, Schema};
@@ -60,11 +61,7 @@ fn answers(
 }
 
 /// What is decoded of the first row, if any, that the two readers answer otherwise.
-pub(crate) fn wrong_row(
-    alloc: Global,
-    limits: &Limits,
-    rows: &[Row],
-) -> Result<Option<String>, Fail> {
+fn wrong_row(alloc: Global, limits: &Limits, rows: &[Row]) -> Result<Option<String>, Fail> {
     for (text, bytes, decoded, walked) in rows {
         let schema = read_schema(alloc, text.as_bytes())?;
         let answered = answers(alloc, &schema, limits, bytes)?;
@@ -75,30 +72,23 @@ pub(crate) fn wrong_row(
     Ok(None)
 }
 
-#[test]
-fn contents_are_read(rt: HostRuntime) -> Result<(), Fail> {
-    let rows: [Row; 14] = [
-        (STRING, b"\x06foo!", "\"foo\" 4", "4"),
-        (STRING, b"\x00", "\"\" 1", "1"),
-        (STRING, b"\x08ab", "B1 at 1", "B1 at 1"),
-        (STRING, b"\x0a", "B9", "B9"),
-        (STRING, b"\x01", "B6 at 0", "B6 at 0"),
-        (STRING, b"\x02\xff", "B4 at 1", "B4 at 1"),
-        (STRING, b"\x80\x00", "\"\" 2", "2"),
-        (BYTES, b"\x02\xff", "\"\u{ff}\" 2", "2"),
-        (BYTES, b"", "B1 at 0", "B1 at 0"),
-        (PAIR, b"ab!", "\"ab\" 2", "2"),
-        (PAIR, b"a", "B1 at 0", "B1 at 0"),
-        (LETTERS, b"\x02", "\"B\" 1", "1"),
-        (LETTERS, b"\x04", "B5 at 0", "B5 at 0"),
-        (LETTERS, b"\x01", "B5 at 0", "B5 at 0"),
-    ];
-    let Some(limits) = Limits::new(128, 1_048_576, 4) else {
-        return Err(Fail::new("no limits"));
-    };
-    assert_eq!(rt; wrong_row(rt.alloc(), &limits, &rows)?, None);
-    Ok(())
-}
+/// Contents, under a limit of 4 bytes.
+const CONTENTS: [Row; 14] = [
+    (STRING, b"\x06foo!", "\"foo\" 4", "4"),
+    (STRING, b"\x00", "\"\" 1", "1"),
+    (STRING, b"\x08ab", "B1 at 1", "B1 at 1"),
+    (STRING, b"\x0a", "B9", "B9"),
+    (STRING, b"\x01", "B6 at 0", "B6 at 0"),
+    (STRING, b"\x02\xff", "B4 at 1", "B4 at 1"),
+    (STRING, b"\x80\x00", "\"\" 2", "2"),
+    (BYTES, b"\x02\xff", "\"\u{ff}\" 2", "2"),
+    (BYTES, b"", "B1 at 0", "B1 at 0"),
+    (PAIR, b"ab!", "\"ab\" 2", "2"),
+    (PAIR, b"a", "B1 at 0", "B1 at 0"),
+    (LETTERS, b"\x02", "\"B\" 1", "1"),
+    (LETTERS, b"\x04", "B5 at 0", "B5 at 0"),
+    (LETTERS, b"\x01", "B5 at 0", "B5 at 0"),
+];
 
 /// Arrays, and counts and lengths that are too great or that nothing follows.
 const ARRAYS: [Row; 16] = [
@@ -136,58 +126,57 @@ const ARRAYS: [Row; 16] = [
     (BYTES, b"\x80\x80\x80\x10a", "B1 at 4", "B1 at 4"),
 ];
 
+/// Maps and records.
+const MAPS: [Row; 13] = [
+    (
+        MAP,
+        b"\x04\x02a\x02\x02b\x04\x00",
+        "{\"a\":1,\"b\":2} 8",
+        "8",
+    ),
+    (
+        MAP,
+        b"\x02\x02a\x02\x01\x06\x02b\x04\x00",
+        "{\"a\":1,\"b\":2} 10",
+        "10",
+    ),
+    (MAP, b"\x04\x02a\x02\x02a\x04\x00", "B8 at 4", "B8 at 4"),
+    (MAP, b"\x02\x02a\x02\x02\x02a\x04\x00", "B8 at 5", "B8 at 5"),
+    (MAP, b"\x02\x02a", "B1 at 3", "B1 at 3"),
+    (RECORD, b"\x36\x06foo!", "{\"a\":27,\"b\":\"foo\"} 5", "5"),
+    (RECORD, b"", "B1 at 0", "B1 at 0"),
+    (RECORD, b"\x36", "B1 at 1", "B1 at 1"),
+    (RECORD, b"\x36\x06", "B1 at 2", "B1 at 2"),
+    (RECORD, b"\x36\x06f", "B1 at 2", "B1 at 2"),
+    (RECORD, b"\x36\x06fo", "B1 at 2", "B1 at 2"),
+    (EMPTY, b"", "{} 0", "0"),
+    (EMPTY, b"\xff\xff", "{} 0", "0"),
+];
+
 #[test]
-fn arrays_are_read(rt: HostRuntime) -> Result<(), Fail> {
+fn bytes_are_read_or_refused(rt: HostRuntime) -> Result<(), Fail> {
     let limits = Limits::default();
-    assert_eq!(rt; wrong_row(rt.alloc(), &limits, &ARRAYS)?, None);
-    let schema = read_schema(rt.alloc(), NULLS.as_bytes())?;
-    let walked = walk(
-        rt.alloc(),
-        &schema,
-        schema.root(),
-        b"\xfe\xff\x7f\x00",
-        &limits,
-    );
-    assert_eq!(rt; walked, Ok(4));
+    let small = Limits::new(128, 1_048_576, 4).ok_or("no limits")?;
+    for (limits, rows) in [
+        (&small, &CONTENTS[..]),
+        (&limits, &ARRAYS[..]),
+        (&limits, &MAPS[..]),
+        (&limits, &COUNTS[..]),
+        (&limits, &KEYS[..]),
+    ] {
+        assert_eq!(rt; wrong_row(rt.alloc(), limits, rows)?, None);
+    }
     Ok(())
 }
 
 #[test]
-fn maps_and_records_are_read(rt: HostRuntime) -> Result<(), Fail> {
-    let rows: [Row; 13] = [
-        (
-            MAP,
-            b"\x04\x02a\x02\x02b\x04\x00",
-            "{\"a\":1,\"b\":2} 8",
-            "8",
-        ),
-        (
-            MAP,
-            b"\x02\x02a\x02\x01\x06\x02b\x04\x00",
-            "{\"a\":1,\"b\":2} 10",
-            "10",
-        ),
-        (MAP, b"\x04\x02a\x02\x02a\x04\x00", "B8 at 4", "B8 at 4"),
-        (MAP, b"\x02\x02a\x02\x02\x02a\x04\x00", "B8 at 5", "B8 at 5"),
-        (MAP, b"\x02\x02a", "B1 at 3", "B1 at 3"),
-        (RECORD, b"\x36\x06foo!", "{\"a\":27,\"b\":\"foo\"} 5", "5"),
-        (RECORD, b"", "B1 at 0", "B1 at 0"),
-        (RECORD, b"\x36", "B1 at 1", "B1 at 1"),
-        (RECORD, b"\x36\x06", "B1 at 2", "B1 at 2"),
-        (RECORD, b"\x36\x06f", "B1 at 2", "B1 at 2"),
-        (RECORD, b"\x36\x06fo", "B1 at 2", "B1 at 2"),
-        (EMPTY, b"", "{} 0", "0"),
-        (EMPTY, b"\xff\xff", "{} 0", "0"),
-    ];
-    assert_eq!(rt; wrong_row(rt.alloc(), &Limits::default(), &rows)?, None);
-    Ok(())
-}
-
-#[test]
-fn depth_is_limited(rt: HostRuntime) -> Result<(), Fail> {
+fn items_and_depth_are_limited(rt: HostRuntime) -> Result<(), Fail> {
     let alloc = rt.alloc();
-    let schema = read_schema(alloc, LIST.as_bytes())?;
     let limits = Limits::default();
+    let nulls = read_schema(alloc, NULLS.as_bytes())?;
+    let walked = walk(alloc, &nulls, nulls.root(), b"\xfe\xff\x7f\x00", &limits);
+    assert_eq!(rt; walked, Ok(4));
+    let schema = read_schema(alloc, LIST.as_bytes())?;
     // Each record but the last holds the next.
     for (records, walked) in [(63, "126"), (64, "B9")] {
         let mut bytes = Vec::new(alloc);

@@ -130,10 +130,11 @@ const BLOCKS: [(&str, &str, &[u8], &str); 33] = [
 fn blocks_are_read_or_refused(rt: HostRuntime) -> Result<(), Fail> {
     let alloc = rt.alloc();
     let limits = FileLimits::default();
-    for (text, reader, block, wanted) in BLOCKS {
+    for row in &BLOCKS[..] {
+        let (text, reader, block, wanted) = *row;
         let file = file_of(alloc, text, &[block])?;
         let reader = reader_of(alloc, reader)?;
-        let answer = answer_of(alloc, &file, reader.as_ref(), &limits)?;
+        let (_, answer) = answer_of(alloc, &file, reader.as_ref(), &limits)?;
         assert_eq!(rt; answer.as_str(), wanted, "{text} {block:?}");
     }
     Ok(())
@@ -167,10 +168,11 @@ const TAILS: [(&[u8], &str); 8] = [
 fn markers_and_ends_are_tested(rt: HostRuntime) -> Result<(), Fail> {
     let alloc = rt.alloc();
     let limits = FileLimits::default();
-    for (tail, wanted) in TAILS {
+    for row in &TAILS[..] {
+        let (tail, wanted) = *row;
         let mut file = NULL_HEADER.to_vec(alloc)?;
         file.extend_from_slice(tail)?;
-        let answer = answer_of(alloc, &file, None, &limits)?;
+        let (_, answer) = answer_of(alloc, &file, None, &limits)?;
         assert_eq!(rt; answer.as_str(), wanted, "{tail:?}");
     }
     Ok(())

@@ -63,9 +63,9 @@ const FORMS: [(&str, &str); 14] = [
 
 #[test]
 fn texts_have_their_canonical_forms(rt: HostRuntime) -> Result<(), Fail> {
-    for (text, form) in FORMS {
+    for (text, form) in &FORMS[..] {
         let schema = read_schema(rt.alloc(), text.as_bytes())?;
-        assert_eq!(rt; canonical(rt.alloc(), &schema)?.as_str(), form);
+        assert_eq!(rt; canonical(rt.alloc(), &schema)?.as_str(), *form);
     }
     Ok(())
 }

@@ -84,9 +84,9 @@ fn root_told(alloc: Global, text: &str) -> Result<String, Fail> {
 
 #[test]
 fn texts_declare_their_roots(rt: HostRuntime) -> Result<(), Fail> {
-    for (text, wanted) in ROOTS {
+    for (text, wanted) in &ROOTS[..] {
         let told = root_told(rt.alloc(), text)?;
-        assert_eq!(rt; told.as_str(), wanted);
+        assert_eq!(rt; told.as_str(), *wanted);
     }
     Ok(())
 }

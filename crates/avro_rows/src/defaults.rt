@@ -1,27 +1,28 @@
 use crate::declared::root_record;
-use crate::schemas::counted;
 use avro_schema::Datum;
-use avro_schema_json::read_schema;
-use std::alloc::{AllocError, Global};
+use avro_schema_json::{SchemaError, read_schema};
+use std::alloc::Global;
 use std::test::Fail;
 
-/// A record with one field of a type, and a default of it.
-fn record_with_default(alloc: Global, node: &str, default: &str) -> Result<String, AllocError> {
-    format!(in alloc;
+/// The default that is read of a record with one field of a type, or the refusal.
+pub(crate) fn default_read(
+    alloc: Global,
+    node: &str,
+    default: &str,
+) -> Result<Result<Datum, SchemaError>, Fail> {
+    let text = format!(in alloc;
         "{{\"type\":\"record\",\"name\":\"Outer\",\"fields\":[{{\"name\":\"f\",\"type\":{node},\"default\":{default}}}]}}"
-    )
-}
-
-/// The default that is read of such a record.
-pub(crate) fn default_read(alloc: Global, node: &str, default: &str) -> Result<Datum, Fail> {
-    let text = record_with_default(alloc, node, default)?;
-    let schema = read_schema(alloc, text.as_bytes())?;
+    )?;
+    let schema = match read_schema(alloc, text.as_bytes()) {
+        Ok(schema) => schema,
+        Err(error) => return Ok(Err(error)),
+    };
     let record = root_record(&schema)?;
     if record.fields.len() != 1 {
         return Err(Fail::new("not one field"));
     }
     match &record.fields[0].default {
-        Some(datum) => Ok(datum.clone()?),
+        Some(datum) => Ok(Ok(datum.clone()?)),
         None => Err(Fail::new("no default")),
     }
 }
@@ -107,16 +108,6 @@ const READ: [(&str, &str, &str); 23] = [
     ),
 ];
 
-#[test]
-fn defaults_are_read(rt: HostRuntime) -> Result<(), Fail> {
-    for (node, default, wanted) in READ {
-        let datum = default_read(rt.alloc(), node, default)?;
-        let told = format!(in rt.alloc(); "{datum:?}")?;
-        assert_eq!(rt; told.as_str(), wanted, "{node} {default}");
-    }
-    Ok(())
-}
-
 /// Types and defaults that are none of theirs, and the refusals' codes.
 const REFUSED: [(&str, &str, &str); 15] = [
     ("\"int\"", "2147483648", "S9"),
@@ -153,11 +144,15 @@ const REFUSED: [(&str, &str, &str); 15] = [
 ];
 
 #[test]
-fn other_defaults_are_refused(rt: HostRuntime) -> Result<(), Fail> {
-    for (node, default, code) in REFUSED {
-        let text = record_with_default(rt.alloc(), node, default)?;
-        let found = counted(rt.alloc(), text.as_bytes())?;
-        assert_eq!(rt; found.as_str(), code, "{text}");
+fn defaults_are_read_or_refused(rt: HostRuntime) -> Result<(), Fail> {
+    for rows in [&READ[..], &REFUSED[..]] {
+        for (node, default, wanted) in rows {
+            let told = match default_read(rt.alloc(), node, default)? {
+                Ok(datum) => format!(in rt.alloc(); "{datum:?}")?,
+                Err(error) => format!(in rt.alloc(); "{error}")?,
+            };
+            assert_eq!(rt; told.as_str(), *wanted, "{node} {default}");
+        }
     }
     Ok(())
 }

@@ -47,16 +47,16 @@ fn display(alloc: Global, schema: &Schema, datum: &Datum) -> Result<Option<Strin
 /// The display of a datum of a schema's text.
 fn displayed(alloc: Global, text: &str, default: &str) -> Result<String, Fail> {
     let schema = read_schema(alloc, text.as_bytes())?;
-    let datum = default_read(alloc, text, default)?;
+    let datum = default_read(alloc, text, default)??;
     let shown = display(alloc, &schema, &datum)?;
     Ok(shown.ok_or("no datum of the schema")?)
 }
 
 #[test]
 fn data_are_shown(rt: HostRuntime) -> Result<(), Fail> {
-    for (text, default, wanted) in SHOWN {
+    for (text, default, wanted) in &SHOWN[..] {
         let shown = displayed(rt.alloc(), text, default)?;
-        assert_eq!(rt; shown.as_str(), wanted);
+        assert_eq!(rt; shown.as_str(), *wanted);
     }
     Ok(())
 }

@@ -39,9 +39,9 @@ fn fullname_told(alloc: Global, namespace: &str, text: &str) -> Result<String, F
 
 #[test]
 fn texts_mean_fullnames_or_are_refused(rt: HostRuntime) -> Result<(), Fail> {
-    for (namespace, text, wanted) in FULLNAMES {
+    for (namespace, text, wanted) in &FULLNAMES[..] {
         let told = fullname_told(rt.alloc(), namespace, text)?;
-        assert_eq!(rt; told.as_str(), wanted, "{text}");
+        assert_eq!(rt; told.as_str(), *wanted, "{text}");
     }
     Ok(())
 }
@@ -73,9 +73,9 @@ fn namespace_told(alloc: Global, text: &str) -> Result<String, Fail> {
 
 #[test]
 fn namespaces_are_names_joined_by_dots(rt: HostRuntime) -> Result<(), Fail> {
-    for (text, wanted) in NAMESPACES {
+    for (text, wanted) in &NAMESPACES[..] {
         let told = namespace_told(rt.alloc(), text)?;
-        assert_eq!(rt; told.as_str(), wanted, "{text}");
+        assert_eq!(rt; told.as_str(), *wanted, "{text}");
     }
     Ok(())
 }
@@ -111,8 +111,8 @@ const SCHEMA_CODES: [(SchemaError, &str); 13] = [
 #[test]
 fn errors_are_shown_as_their_codes(rt: HostRuntime) -> Result<(), Fail> {
     assert_eq!(rt; name_codes(rt.alloc())?.as_str(), "N1 N2 N3 N4");
-    for (error, code) in SCHEMA_CODES {
-        assert_eq!(rt; format!(in rt.alloc(); "{error}")?.as_str(), code);
+    for (error, code) in &SCHEMA_CODES[..] {
+        assert_eq!(rt; format!(in rt.alloc(); "{error}")?.as_str(), *code);
     }
     Ok(())
 }

@@ -58,17 +58,6 @@ const TEXTS: [(&str, &str); 29] = [
     ),
 ];
 
-#[test]
-fn texts_are_read_or_refused(rt: HostRuntime) -> Result<(), Fail> {
-    for (text, wanted) in TEXTS {
-        let found = counted(rt.alloc(), text.as_bytes())?;
-        assert_eq!(rt; found.as_str(), wanted, "{text}");
-    }
-    let found = counted(rt.alloc(), b"\"\xff\"")?;
-    assert_eq!(rt; found.as_str(), "S1");
-    Ok(())
-}
-
 /// Texts whose declarations or nodes break a rule.
 const BROKEN: [(&str, &str); 17] = [
     ("1", "S5"),
@@ -106,10 +95,14 @@ const BROKEN: [(&str, &str); 17] = [
 ];
 
 #[test]
-fn broken_declarations_are_refused(rt: HostRuntime) -> Result<(), Fail> {
-    for (text, code) in BROKEN {
-        let found = counted(rt.alloc(), text.as_bytes())?;
-        assert_eq!(rt; found.as_str(), code, "{text}");
+fn texts_are_read_or_refused(rt: HostRuntime) -> Result<(), Fail> {
+    for rows in [&TEXTS[..], &BROKEN[..]] {
+        for (text, wanted) in rows {
+            let found = counted(rt.alloc(), text.as_bytes())?;
+            assert_eq!(rt; found.as_str(), *wanted, "{text}");
+        }
     }
+    let found = counted(rt.alloc(), b"\"\xff\"")?;
+    assert_eq!(rt; found.as_str(), "S1");
     Ok(())
 }

@@ -100,10 +100,10 @@ fn built(alloc: Global, shape: Shape, count: usize) -> Result<String, AllocError
 
 #[test]
 fn built_texts_are_read_up_to_the_limits(rt: HostRuntime) -> Result<(), Fail> {
-    for (shape, count, wanted) in SHAPES {
-        let text = built(rt.alloc(), shape, count)?;
+    for (shape, count, wanted) in &SHAPES[..] {
+        let text = built(rt.alloc(), *shape, *count)?;
         let found = counted(rt.alloc(), text.as_bytes())?;
-        assert_eq!(rt; found.as_str(), wanted, "{count}");
+        assert_eq!(rt; found.as_str(), *wanted, "{count}");
     }
     Ok(())
 }

@@ -152,7 +152,8 @@ fn limits_of(depth: u32, size: u32, pairs: u32) -> Result<JudgeLimits, &'static 
 
 #[test]
 fn limits_are_exact(rt: HostRuntime) -> Result<(), Fail> {
-    for (writer, reader, depth, size, pairs, text) in ROWS {
+    for row in &ROWS[..] {
+        let (writer, reader, depth, size, pairs, text) = *row;
         let writer = built(rt.alloc(), writer)?;
         let reader = built(rt.alloc(), reader)?;
         let limits = limits_of(depth, size, pairs)?;
