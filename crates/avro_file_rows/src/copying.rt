@@ -1,6 +1,6 @@
 //! Copies: what is written of metadata and of blocks.
 
-use crate::files::{FIVE, FIVE_COPIED, LONG_OR_INT, answer_of, file_of, file_with, reader_of};
+use crate::files::{FIVE, FIVE_COPIED, LONG_OR_INT, copy_all, file_of, file_with, reader_of, told};
 use avro_container::FileLimits;
 use std::test::Fail;
 
@@ -87,6 +87,25 @@ const COPIES: [(&str, &str, &[u8], &[u8]); 17] = [
     ),
 ];
 
+/// The text of a copy's schema: the reader's, where there is one.
+fn schema_of_copy<'a>(text: &'a str, reader: &'a str) -> &'a str {
+    if reader.is_empty() { text } else { reader }
+}
+
+#[test]
+fn blocks_are_copied_in_plain_encoding(rt: HostRuntime) -> Result<(), Fail> {
+    let alloc = rt.alloc();
+    for (text, reader, block, wanted) in COPIES {
+        let file = file_of(alloc, text, &[block, block])?;
+        let wanted = file_of(alloc, schema_of_copy(text, reader), &[wanted, wanted])?;
+        let reader = reader_of(alloc, reader)?;
+        let (out, answer) = copy_all(alloc, &file, reader.as_ref(), &FileLimits::default());
+        assert_eq!(rt; answer.is_ok(), true, "{text}");
+        assert_eq!(rt; out.as_slice(), wanted.as_slice(), "{text}");
+    }
+    Ok(())
+}
+
 /// Metadata of a file of ints, and those of its copy without a reader and with one.
 const METADATA: [(&[u8], &[u8], &[u8]); 4] = [
     (
@@ -111,6 +130,23 @@ const METADATA: [(&[u8], &[u8], &[u8]); 4] = [
     ),
 ];
 
+#[test]
+fn metadata_are_copied_in_one_block(rt: HostRuntime) -> Result<(), Fail> {
+    let alloc = rt.alloc();
+    let limits = FileLimits::default();
+    let reader = reader_of(alloc, LONG_OR_INT)?;
+    for (metadata, alone, read) in METADATA {
+        let file = file_with(alloc, metadata, &[b"\x02\x02\x0a"])?;
+        let wanted = file_with(alloc, alone, &[b"\x02\x02\x0a"])?;
+        let (out, _) = copy_all(alloc, &file, None, &limits);
+        assert_eq!(rt; out.as_slice(), wanted.as_slice(), "{metadata:?}");
+        let wanted = file_with(alloc, read, &[b"\x02\x04\x00\x0a"])?;
+        let (out, _) = copy_all(alloc, &file, reader.as_ref(), &limits);
+        assert_eq!(rt; out.as_slice(), wanted.as_slice(), "{metadata:?}");
+    }
+    Ok(())
+}
+
 /// A block that is refused behind a block of one int, and the fault.
 const REFUSED: [(&[u8], &str); 4] = [
     (b"\x02\x04\x0a\x0a", "C7 block 1"),
@@ -120,52 +156,19 @@ const REFUSED: [(&[u8], &str); 4] = [
 ];
 
 #[test]
-fn blocks_are_copied_in_plain_encoding(rt: HostRuntime) -> Result<(), Fail> {
-    let alloc = rt.alloc();
-    let limits = FileLimits::default();
-    for row in &COPIES[..] {
-        let (text, reader, block, wanted) = *row;
-        let file = file_of(alloc, text, &[block, block])?;
-        let copied = if reader.is_empty() { text } else { reader };
-        let wanted = file_of(alloc, copied, &[wanted, wanted])?;
-        let reader = reader_of(alloc, reader)?;
-        let (out, told) = answer_of(alloc, &file, reader.as_ref(), &limits)?;
-        assert!(rt; told.as_str().starts_with("data "), "{text}");
-        assert_eq!(rt; out.as_slice(), wanted.as_slice(), "{text}");
-    }
-    Ok(())
-}
-
-#[test]
-fn metadata_are_copied_in_one_block(rt: HostRuntime) -> Result<(), Fail> {
-    let alloc = rt.alloc();
-    let limits = FileLimits::default();
-    let reader = reader_of(alloc, LONG_OR_INT)?;
-    for (metadata, alone, read) in METADATA {
-        let file = file_with(alloc, metadata, &[b"\x02\x02\x0a"])?;
-        let wanted = file_with(alloc, alone, &[b"\x02\x02\x0a"])?;
-        let (out, _) = answer_of(alloc, &file, None, &limits)?;
-        assert_eq!(rt; out.as_slice(), wanted.as_slice(), "{metadata:?}");
-        let wanted = file_with(alloc, read, &[b"\x02\x04\x00\x0a"])?;
-        let (out, _) = answer_of(alloc, &file, reader.as_ref(), &limits)?;
-        assert_eq!(rt; out.as_slice(), wanted.as_slice(), "{metadata:?}");
-    }
-    Ok(())
-}
-
-#[test]
 fn blocks_before_a_refused_one_are_copied(rt: HostRuntime) -> Result<(), Fail> {
     let alloc = rt.alloc();
-    let limits = FileLimits::default();
     let reader = reader_of(alloc, LONG_OR_INT)?;
     for (block, wanted) in REFUSED {
         let file = file_of(alloc, INT, &[b"\x02\x02\x0a", block])?;
-        let (out, told) = answer_of(alloc, &file, reader.as_ref(), &limits)?;
-        assert_eq!(rt; told.as_str(), wanted);
+        let (out, answer) = copy_all(alloc, &file, reader.as_ref(), &FileLimits::default());
+        let text = told(alloc, answer)?;
+        assert_eq!(rt; text.as_str(), wanted);
         assert_eq!(rt; out.as_slice(), FIVE_COPIED, "{wanted}");
     }
-    let (out, told) = answer_of(alloc, FIVE, reader.as_ref(), &limits)?;
-    assert_eq!(rt; told.as_str(), "data 1 blocks 1");
+    let (out, answer) = copy_all(alloc, FIVE, reader.as_ref(), &FileLimits::default());
+    let text = told(alloc, answer)?;
+    assert_eq!(rt; text.as_str(), "data 1 blocks 1");
     assert_eq!(rt; out.as_slice(), FIVE_COPIED);
     Ok(())
 }

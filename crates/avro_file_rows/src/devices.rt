@@ -2,7 +2,7 @@
 
 use crate::files::{FIVE, FIVE_COPIED, LONG_OR_INT, reader_of};
 use avro_container::{
-    Copier, CopyError, Counts, FileLimits, Input, Output, ReadInput, Step, WriteOutput, copy,
+    Copier, CopyError, FileLimits, Input, Output, ReadInput, Step, WriteOutput, copy,
 };
 use avro_schema_json::ReaderText;
 use std::alloc::Global;
@@ -37,24 +37,31 @@ impl Read for Source<'_> {
     }
 }
 
-/// A writer that keeps one byte a call, fails in one call, takes nothing in one, and may fail to flush.
+/// What a writer does in one call.
+#[derive(Clone, Copy, PartialEq, Eq)]
+enum Failing {
+    Never,
+    Put(usize),
+    None(usize),
+    Flush,
+}
+
+/// A writer that keeps one byte a call, and fails in one call.
 #[derive(Drop)]
 struct Kept {
     bytes: Vec<u8>,
     calls: usize,
-    failing: usize,
-    idle: usize,
-    flushes: bool,
+    failing: Failing,
 }
 
 impl Write for Kept {
     fn write(&mut self, buf: &[u8]) -> io::Result<usize> {
         let call = self.calls;
         self.calls = call.saturating_add(1);
-        if call == self.failing {
+        if self.failing == Failing::Put(call) {
             return Err(io::Error::from(io::ErrorKind::Interrupted));
         }
-        if call == self.idle {
+        if self.failing == Failing::None(call) {
             return Ok(0);
         }
         match buf.first() {
@@ -67,23 +74,21 @@ impl Write for Kept {
     }
 
     fn flush(&mut self) -> io::Result<()> {
-        if self.flushes {
-            Ok(())
-        } else {
-            Err(io::Error::from(io::ErrorKind::StorageFull))
+        if self.failing == Failing::Flush {
+            return Err(io::Error::from(io::ErrorKind::StorageFull));
         }
+        Ok(())
     }
 }
 
-/// A copy of the file of one int, whose input gives so many bytes a call and fails in one. The output fails in one call,
-/// takes nothing in one, and flushes or not.
+/// A copy of the file of one int, whose input gives so many bytes a call and fails in one.
 fn copied(
     alloc: Global,
     reader: Option<&ReaderText>,
     size: usize,
     take: usize,
-    put: (usize, usize, bool),
-) -> (Vec<u8>, Result<Counts, CopyError>) {
+    failing: Failing,
+) -> (Vec<u8>, Result<(), CopyError>) {
     let mut source = Source {
         rest: FIVE,
         size,
@@ -93,27 +98,25 @@ fn copied(
     let mut kept = Kept {
         bytes: Vec::new(alloc),
         calls: 0,
-        failing: put.0,
-        idle: put.1,
-        flushes: put.2,
+        failing,
     };
     let limits = FileLimits::default();
     let mut input = ReadInput::new(&mut source);
     let mut output = WriteOutput::new(&mut kept);
-    let answer = copy(alloc, &mut input, &mut output, reader, None, &limits);
+    let answer = match copy(alloc, &mut input, &mut output, reader, None, &limits) {
+        Ok(_) => Ok(()),
+        Err(error) => Err(error),
+    };
     (kept.bytes, answer)
 }
-
-/// An output that does not fail.
-const GOOD: (usize, usize, bool) = (NEVER, NEVER, true);
 
 #[test]
 fn any_cut_gives_the_same_copy(rt: HostRuntime) -> Result<(), Fail> {
     let alloc = rt.alloc();
     let reader = reader_of(alloc, LONG_OR_INT)?;
     for size in [1, 2, 3, 7, 59] {
-        let (bytes, answer) = copied(alloc, reader.as_ref(), size, NEVER, GOOD);
-        assert!(rt; answer.is_ok(), "{size}");
+        let (bytes, answer) = copied(alloc, reader.as_ref(), size, NEVER, Failing::Never);
+        assert_eq!(rt; answer, Ok(()), "{size}");
         assert_eq!(rt; bytes.as_slice(), FIVE_COPIED, "{size}");
     }
     Ok(())
@@ -124,14 +127,14 @@ fn failed_puts_are_told(rt: HostRuntime) -> Result<(), Fail> {
     let alloc = rt.alloc();
     let reader = reader_of(alloc, LONG_OR_INT)?;
     for call in 0..69 {
-        for put in [(call, NEVER, true), (NEVER, call, true)] {
-            let (bytes, answer) = copied(alloc, reader.as_ref(), 1, NEVER, put);
+        for failing in [Failing::Put(call), Failing::None(call)] {
+            let (bytes, answer) = copied(alloc, reader.as_ref(), 1, NEVER, failing);
             assert_eq!(rt; answer, Err(CopyError::OutputFailed), "{call}");
             assert_eq!(rt; bytes.len(), call);
             assert!(rt; FIVE_COPIED.starts_with(&bytes), "{call}");
         }
     }
-    let (bytes, answer) = copied(alloc, reader.as_ref(), 1, NEVER, (NEVER, NEVER, false));
+    let (bytes, answer) = copied(alloc, reader.as_ref(), 1, NEVER, Failing::Flush);
     assert_eq!(rt; answer, Err(CopyError::OutputFailed));
     assert_eq!(rt; bytes.as_slice(), FIVE_COPIED);
     Ok(())
@@ -142,7 +145,7 @@ fn failed_takes_are_told(rt: HostRuntime) -> Result<(), Fail> {
     let alloc = rt.alloc();
     let reader = reader_of(alloc, LONG_OR_INT)?;
     for call in 0..60 {
-        let (bytes, answer) = copied(alloc, reader.as_ref(), 1, call, GOOD);
+        let (bytes, answer) = copied(alloc, reader.as_ref(), 1, call, Failing::Never);
         assert_eq!(rt; answer, Err(CopyError::InputFailed), "{call}");
         assert!(rt; FIVE_COPIED.starts_with(&bytes), "{call}");
         assert!(rt; call >= 40 || bytes.is_empty(), "{call}");
@@ -170,10 +173,10 @@ fn a_copier_stays_failed(rt: HostRuntime) -> Result<(), Fail> {
     let alloc = rt.alloc();
     let limits = FileLimits::default();
     for call in 0..60 {
-        for (take, failing, idle, wanted) in [
-            (call, NEVER, NEVER, CopyError::InputFailed),
-            (NEVER, call.min(58), NEVER, CopyError::OutputFailed),
-            (NEVER, NEVER, call.min(58), CopyError::OutputFailed),
+        for (take, failing, wanted) in [
+            (call, Failing::Never, CopyError::InputFailed),
+            (NEVER, Failing::Put(call.min(58)), CopyError::OutputFailed),
+            (NEVER, Failing::None(call.min(58)), CopyError::OutputFailed),
         ] {
             let mut input = ReadInput::new(Source {
                 rest: FIVE,
@@ -185,8 +188,6 @@ fn a_copier_stays_failed(rt: HostRuntime) -> Result<(), Fail> {
                 bytes: Vec::new(alloc),
                 calls: 0,
                 failing,
-                idle,
-                flushes: true,
             });
             let mut copier = Copier::new(alloc, None, None, &limits);
             let (first, second) = failed_steps(&mut copier, &mut input, &mut output);

@@ -93,23 +93,45 @@ fn read_all(
     Ok(counts)
 }
 
-/// What is written of a file's copy, and what both reading and copying answer, as text.
+/// Copies a file, and answers what was written too.
+pub(crate) fn copy_all(
+    alloc: Global,
+    file: &[u8],
+    reader: Option<&ReaderText>,
+    limits: &FileLimits,
+) -> (Vec<u8>, Result<Counts, CopyError>) {
+    let mut out = Vec::new(alloc);
+    let answer = copy(
+        alloc,
+        &mut ReadInput::new(file),
+        &mut WriteOutput::new(&mut out),
+        reader,
+        None,
+        limits,
+    );
+    (out, answer)
+}
+
+/// What is answered of a file, as text.
+pub(crate) fn told(alloc: Global, answer: Result<Counts, CopyError>) -> Result<String, AllocError> {
+    match answer {
+        Ok(counts) => format!(in alloc; "data {} blocks {}", counts.items, counts.blocks),
+        Err(error) => format!(in alloc; "{error}"),
+    }
+}
+
+/// What both reading and copying answer of a file, as text.
 pub(crate) fn answer_of(
     alloc: Global,
     file: &[u8],
     reader: Option<&ReaderText>,
     limits: &FileLimits,
-) -> Result<(Vec<u8>, String), Fail> {
-    let mut out = Vec::new(alloc);
-    let mut input = ReadInput::new(file);
-    let mut output = WriteOutput::new(&mut out);
-    let copied = copy(alloc, &mut input, &mut output, reader, None, limits);
-    if copied != read_all(alloc, file, reader, limits) {
+) -> Result<String, Fail> {
+    let read = told(alloc, read_all(alloc, file, reader, limits))?;
+    let (_, answer) = copy_all(alloc, file, reader, limits);
+    let copied = told(alloc, answer)?;
+    if copied.as_str() != read.as_str() {
         return Err(Fail::new("reading and copying answer alike"));
     }
-    let told = match copied {
-        Ok(counts) => format!(in alloc; "data {} blocks {}", counts.items, counts.blocks)?,
-        Err(error) => format!(in alloc; "{error}")?,
-    };
-    Ok((out, told))
+    Ok(copied)
 }

@@ -1,6 +1,6 @@
 //! Headers: what is refused and by which fault, and limits.
 
-use crate::files::{NULLS, answer_of, file_with};
+use crate::files::{NULLS, answer_of, copy_all, file_with};
 use avro_container::FileLimits;
 use avro_schema::Limits;
 use std::test::Fail;
@@ -69,39 +69,43 @@ const METADATA: [(&[u8], &str); 27] = [
     (b"\x02\xee\xff\xff\x03", "C16"),
 ];
 
-/// Lengths to which the file of three nulls is cut, each up to the next, and what is answered.
-const CUTS: [(usize, usize, &str); 5] = [
-    (0, 4, "C1"),
-    (4, 41, "C16"),
-    (41, 42, "data 0 blocks 0"),
-    (42, 59, "C16 block 0"),
-    (59, 60, "data 3 blocks 1"),
-];
-
 #[test]
 fn metadata_are_read_or_refused(rt: HostRuntime) -> Result<(), Fail> {
     let alloc = rt.alloc();
     let limits = FileLimits::default();
-    for row in &METADATA[..] {
-        let (metadata, wanted) = *row;
+    for (metadata, wanted) in METADATA {
         let file = file_with(alloc, metadata, &[])?;
-        let (out, told) = answer_of(alloc, &file, None, &limits)?;
-        assert_eq!(rt; told.as_str(), wanted, "{metadata:?}");
+        let answer = answer_of(alloc, &file, None, &limits)?;
+        assert_eq!(rt; answer.as_str(), wanted, "{metadata:?}");
+        let (out, _) = copy_all(alloc, &file, None, &limits);
         assert_eq!(rt; out.is_empty(), wanted != "data 0 blocks 0", "{metadata:?}");
     }
     Ok(())
+}
+
+/// What is answered of the file of three nulls where it is cut.
+fn wanted_of_cut(len: usize) -> &'static str {
+    if len < 4 {
+        "C1"
+    } else if len < 41 {
+        "C16"
+    } else if len == 41 {
+        "data 0 blocks 0"
+    } else if len < 59 {
+        "C16 block 0"
+    } else {
+        "data 3 blocks 1"
+    }
 }
 
 #[test]
 fn cut_files_are_told(rt: HostRuntime) -> Result<(), Fail> {
     let alloc = rt.alloc();
     let limits = FileLimits::default();
-    for (from, to, wanted) in CUTS {
-        for len in from..to {
-            let (cut, _) = NULLS.split_at(len.min(NULLS.len()));
-            let (_, told) = answer_of(alloc, cut, None, &limits)?;
-            assert_eq!(rt; told.as_str(), wanted, "{len}");
-        }
+    for len in 0..60 {
+        let (cut, _) = NULLS.split_at(len.min(NULLS.len()));
+        let answer = answer_of(alloc, cut, None, &limits)?;
+        assert_eq!(rt; answer.as_str(), wanted_of_cut(len), "{len}");
     }
     Ok(())
 }
@@ -121,6 +125,18 @@ const LIMITED: [(&[u8], u32, u32, u32, &str); 11] = [
     (NULLS, 16_777_216, 16_777_216, 16_777_216, "data 3 blocks 1"),
 ];
 
+#[test]
+fn limits_are_kept(rt: HostRuntime) -> Result<(), Fail> {
+    for (file, header, block, per_block, wanted) in LIMITED {
+        let Some(limits) = FileLimits::new(header, block, per_block, Limits::default()) else {
+            return Err(Fail::new("these are limits"));
+        };
+        let answer = answer_of(rt.alloc(), file, None, &limits)?;
+        assert_eq!(rt; answer.as_str(), wanted, "{header} {per_block}");
+    }
+    Ok(())
+}
+
 /// Numbers that are no limits, and numbers that are.
 const NUMBERS: [(u32, u32, u32, bool); 8] = [
     (0, 1, 1, false),
@@ -132,19 +148,6 @@ const NUMBERS: [(u32, u32, u32, bool); 8] = [
     (1, 1, 1, true),
     (16_777_216, 16_777_216, 16_777_216, true),
 ];
-
-#[test]
-fn limits_are_kept(rt: HostRuntime) -> Result<(), Fail> {
-    for row in &LIMITED[..] {
-        let (file, header, block, per_block, wanted) = *row;
-        let Some(limits) = FileLimits::new(header, block, per_block, Limits::default()) else {
-            return Err(Fail::new("these are limits"));
-        };
-        let (_, told) = answer_of(rt.alloc(), file, None, &limits)?;
-        assert_eq!(rt; told.as_str(), wanted, "{header} {per_block}");
-    }
-    Ok(())
-}
 
 #[test]
 fn limits_have_a_range(rt: HostRuntime) -> Result<(), Fail> {

@@ -1,7 +1,7 @@
 //! Containers through the program: what it checks and shows, and the texts of its faults.
 
 use crate::files::{FIVE, LONG_OR_INT, NULL_HEADER, NULLS, file_of};
-use avro_runs::{Full, Run, outcome_of, words_of, wrong_run};
+use avro_runs::{Full, outcome_of, words_of};
 use avro_tool::run;
 use std::fs;
 use std::test::Fail;
@@ -18,7 +18,7 @@ const FILES: [(&str, &[u8]); 7] = [
 ];
 
 /// The words of runs on these files, and what they answer and write.
-const RUNS: [Run; 13] = [
+const RUNS: [(&str, u8, &str, &str); 13] = [
     ("check header.avro", 0, "data 0 blocks 0\n", ""),
     ("check nulls.avro", 0, "data 3 blocks 1\n", ""),
     ("check five.avro", 0, "data 1 blocks 1\n", ""),
@@ -51,12 +51,16 @@ const RUNS: [Run; 13] = [
 
 #[test]
 fn runs_are_told(rt: HostRuntime) -> Result<(), Fail> {
-    for row in &FILES[..] {
-        let (file, bytes) = *row;
+    for (file, bytes) in FILES {
         fs::write(&rt, file, bytes)?;
     }
     fs::create_dir(&rt, "folder")?;
-    assert_eq!(rt; wrong_run(&rt, &RUNS)?, None);
+    for (line, status, out, err) in RUNS {
+        let ran = outcome_of(&rt, line)?;
+        assert_eq!(rt; ran.status, status, "{line}");
+        assert_eq!(rt; ran.out.as_slice(), out.as_bytes(), "{line}");
+        assert_eq!(rt; ran.err.as_slice(), err.as_bytes(), "{line}");
+    }
     Ok(())
 }
 
@@ -178,8 +182,7 @@ fn line_of(reader: &str) -> &'static str {
 
 #[test]
 fn data_are_shown(rt: HostRuntime) -> Result<(), Fail> {
-    for row in &SHOWN[..] {
-        let (text, reader, first, second, out, err) = *row;
+    for (text, reader, first, second, out, err) in SHOWN {
         let file = file_of(rt.alloc(), text, &[first, second])?;
         fs::write(&rt, "shown.avro", &file)?;
         fs::write(&rt, "shown.avsc", reader)?;

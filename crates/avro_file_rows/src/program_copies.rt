@@ -1,7 +1,7 @@
 //! Copies through the program: its files, and the order of its faults.
 
 use crate::files::{FIVE, FIVE_COPIED, LONG_OR_INT, NULL_HEADER, NULLS, file_of};
-use avro_runs::{outcome_of, wrong_run};
+use avro_runs::outcome_of;
 use std::fs;
 use std::test::Fail;
 
@@ -80,9 +80,11 @@ fn copies_are_written(rt: HostRuntime) -> Result<(), Fail> {
     fs::write(&rt, "one.avro", FIVE)?;
     fs::write(&rt, "three.avro", NULLS)?;
     fs::write(&rt, "into.avsc", LONG_OR_INT)?;
-    for row in &COPIES[..] {
-        let (line, status, out, err, wanted) = *row;
-        assert_eq!(rt; wrong_run(&rt, &[(line, status, out, err)])?, None);
+    for (line, status, out, err, wanted) in COPIES {
+        let ran = outcome_of(&rt, line)?;
+        assert_eq!(rt; ran.status, status, "{line}");
+        assert_eq!(rt; ran.out.as_slice(), out.as_bytes(), "{line}");
+        assert_eq!(rt; ran.err.as_slice(), err.as_bytes(), "{line}");
         let written = fs::read(&rt, "out.avro")?;
         assert_eq!(rt; written.as_slice(), wanted, "{line}");
     }
@@ -158,13 +160,14 @@ const FAULTS: [(&str, u8, &str); 15] = [
 
 #[test]
 fn faults_before_the_copy_touch_no_file(rt: HostRuntime) -> Result<(), Fail> {
-    for row in &FILES[..] {
-        let (file, bytes) = *row;
+    for (file, bytes) in FILES {
         fs::write(&rt, file, bytes)?;
     }
-    for row in &FAULTS[..] {
-        let (line, status, err) = *row;
-        assert_eq!(rt; wrong_run(&rt, &[(line, status, "", err)])?, None);
+    for (line, status, err) in FAULTS {
+        let ran = outcome_of(&rt, line)?;
+        assert_eq!(rt; ran.status, status, "{line}");
+        assert_eq!(rt; ran.err.as_slice(), err.as_bytes());
+        assert!(rt; ran.out.is_empty());
     }
     let kept = fs::read(&rt, "kept.avro")?;
     assert_eq!(rt; kept.as_slice(), b"kept".as_slice());
@@ -185,7 +188,7 @@ const OTHER_WORDS: [&str; 8] = [
 
 #[test]
 fn other_words_are_usage(rt: HostRuntime) -> Result<(), Fail> {
-    for line in &OTHER_WORDS[..] {
+    for line in OTHER_WORDS {
         let ran = outcome_of(&rt, line)?;
         assert_eq!(rt; ran.status, 64, "{line}");
         assert!(rt; !ran.err.is_empty() && ran.err.as_slice() != ONE_WORD.as_bytes());

@@ -130,11 +130,10 @@ const BLOCKS: [(&str, &str, &[u8], &str); 33] = [
 fn blocks_are_read_or_refused(rt: HostRuntime) -> Result<(), Fail> {
     let alloc = rt.alloc();
     let limits = FileLimits::default();
-    for row in &BLOCKS[..] {
-        let (text, reader, block, wanted) = *row;
+    for (text, reader, block, wanted) in BLOCKS {
         let file = file_of(alloc, text, &[block])?;
         let reader = reader_of(alloc, reader)?;
-        let (_, answer) = answer_of(alloc, &file, reader.as_ref(), &limits)?;
+        let answer = answer_of(alloc, &file, reader.as_ref(), &limits)?;
         assert_eq!(rt; answer.as_str(), wanted, "{text} {block:?}");
     }
     Ok(())
@@ -168,11 +167,10 @@ const TAILS: [(&[u8], &str); 8] = [
 fn markers_and_ends_are_tested(rt: HostRuntime) -> Result<(), Fail> {
     let alloc = rt.alloc();
     let limits = FileLimits::default();
-    for row in &TAILS[..] {
-        let (tail, wanted) = *row;
+    for (tail, wanted) in TAILS {
         let mut file = NULL_HEADER.to_vec(alloc)?;
         file.extend_from_slice(tail)?;
-        let (_, answer) = answer_of(alloc, &file, None, &limits)?;
+        let answer = answer_of(alloc, &file, None, &limits)?;
         assert_eq!(rt; answer.as_str(), wanted, "{tail:?}");
     }
     Ok(())

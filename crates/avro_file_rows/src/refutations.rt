@@ -1,6 +1,6 @@
 //! The container of a refutation.
 
-use avro_runs::{Run, outcome_of, wrong_run};
+use avro_runs::outcome_of;
 use std::fs;
 use std::test::Fail;
 
@@ -8,30 +8,31 @@ use std::test::Fail;
 const INT_REFUTED: &[u8] =
     b"Obj\x01\x04\x16avro.schema\x0a\"int\"\x14avro.codec\x08null\x00\x3f\x2b\x87\xa9\xfe\x7c\xc9\xb1\x38\x35\x59\x8c\x39\x81\xcd\x45\x02\x02\x00\x3f\x2b\x87\xa9\xfe\x7c\xc9\xb1\x38\x35\x59\x8c\x39\x81\xcd\x45";
 
-const NO: &str = "no\nfault NoMatch at /\nnodes 1\ndatum 0\n";
-
-/// The words of runs, and what they answer and write.
-const RUNS: [Run; 3] = [
-    ("judge int.avsc text.avsc --refutation no.avro", 1, NO, ""),
-    (
-        "judge int.avsc text.avsc --refutation none/no.avro",
-        4,
-        NO,
-        "avro: none/no.avro: cannot write\n",
-    ),
-    (
-        "show no.avro --reader text.avsc",
-        3,
-        "",
-        "avro: no.avro: C11 block 0 datum 0: NoMatch at /\n",
-    ),
-];
-
 #[test]
 fn a_no_writes_its_datum(rt: HostRuntime) -> Result<(), Fail> {
     fs::write(&rt, "int.avsc", "\"int\"")?;
     fs::write(&rt, "text.avsc", "\"string\"")?;
-    assert_eq!(rt; wrong_run(&rt, &RUNS)?, None);
+    let no = "no\nfault NoMatch at /\nnodes 1\ndatum 0\n";
+    for (line, status, out, err) in [
+        ("judge int.avsc text.avsc --refutation no.avro", 1, no, ""),
+        (
+            "judge int.avsc text.avsc --refutation none/no.avro",
+            4,
+            no,
+            "avro: none/no.avro: cannot write\n",
+        ),
+        (
+            "show no.avro --reader text.avsc",
+            3,
+            "",
+            "avro: no.avro: C11 block 0 datum 0: NoMatch at /\n",
+        ),
+    ] {
+        let ran = outcome_of(&rt, line)?;
+        assert_eq!(rt; ran.status, status, "{line}");
+        assert_eq!(rt; ran.out.as_slice(), out.as_bytes());
+        assert_eq!(rt; ran.err.as_slice(), err.as_bytes());
+    }
     let written = fs::read(&rt, "no.avro")?;
     assert_eq!(rt; written.len(), 75);
     assert_eq!(rt; written.as_slice(), INT_REFUTED);
