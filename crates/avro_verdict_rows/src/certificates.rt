@@ -80,8 +80,7 @@ fn codes(alloc: Global) -> Result<String, AllocError> {
 
 #[test]
 fn texts_of_certificates_are_read_or_refused(rt: HostRuntime) -> Result<(), Fail> {
-    for row in &TEXTS[..] {
-        let (text, refusal) = *row;
+    for (text, refusal) in TEXTS {
         let told = refusal_told(rt.alloc(), text)?;
         assert_eq!(rt; told.as_str(), refusal, "{text}");
     }
@@ -100,13 +99,6 @@ const FAULTS: [(FaultKind, &[usize], &str); 5] = [
     ),
     (FaultKind::NoSymbol, &[], "NoSymbol at /"),
     (FaultKind::NotUtf8, &[], "NotUtf8 at /"),
-];
-
-/// Schemas, data, and the fault of their refutation, or nothing where they refute nothing.
-const REFUTED: [(&str, &str, Datum, &str); 3] = [
-    ("\"long\"", "\"int\"", Datum::Long(0), "NoMatch at /"),
-    ("\"long\"", "\"int\"", Datum::Int(0), ""),
-    ("\"int\"", "\"long\"", Datum::Int(0), ""),
 ];
 
 /// The fault of a datum that a refutation has, or nothing where it refutes nothing.
@@ -129,9 +121,11 @@ fn faults_are_shown_and_refutations_checked(rt: HostRuntime) -> Result<(), Fail>
         };
         assert_eq!(rt; format!(in alloc; "{fault}")?.as_str(), text);
     }
-    for (writer, reader, datum, text) in REFUTED {
-        let told = fault_told(alloc, writer, reader, &datum)?;
-        assert_eq!(rt; told.as_str(), text);
-    }
+    let told = fault_told(alloc, "\"long\"", "\"int\"", &Datum::Long(0))?;
+    assert_eq!(rt; told.as_str(), "NoMatch at /");
+    let told = fault_told(alloc, "\"long\"", "\"int\"", &Datum::Int(0))?;
+    assert_eq!(rt; told.as_str(), "");
+    let told = fault_told(alloc, "\"int\"", "\"long\"", &Datum::Int(0))?;
+    assert_eq!(rt; told.as_str(), "");
     Ok(())
 }

@@ -155,8 +155,7 @@ fn judged_text(alloc: Global, writer: &str, reader: &str) -> Result<Vec<u8>, Fai
 
 #[test]
 fn certificates_confirm_where_they_are_closed(rt: HostRuntime) -> Result<(), Fail> {
-    for row in &GIVEN[..] {
-        let (writer, reader, given, text) = *row;
+    for (writer, reader, given, text) in GIVEN {
         let confirmed = confirmed_text(rt.alloc(), writer, reader, given)?;
         assert_eq!(rt; confirmed.as_slice(), text.as_bytes(), "{given}");
     }
@@ -179,8 +178,7 @@ fn a_certificate_has_a_line_for_each_pair(rt: HostRuntime) -> Result<(), Fail> {
 
 #[test]
 fn approvals_have_their_certificates(rt: HostRuntime) -> Result<(), Fail> {
-    for row in &ROWS[..] {
-        let (writer, reader, text) = *row;
+    for (writer, reader, text) in ROWS {
         let judged = judged_text(rt.alloc(), writer, reader)?;
         assert_eq!(rt; judged.as_slice(), text.as_bytes(), "{text}");
         let confirmed = confirmed_text(rt.alloc(), writer, reader, text)?;
@@ -191,8 +189,7 @@ fn approvals_have_their_certificates(rt: HostRuntime) -> Result<(), Fail> {
 
 #[test]
 fn certificates_are_written_into_files(rt: HostRuntime) -> Result<(), Fail> {
-    for row in &ROWS[..] {
-        let (writer, reader, text) = *row;
+    for (writer, reader, text) in ROWS {
         fs::write(&rt, "writer.avsc", writer)?;
         fs::write(&rt, "reader.avsc", reader)?;
         let judged = outcome_of(&rt, "judge --certificate yes.cert writer.avsc reader.avsc")?;

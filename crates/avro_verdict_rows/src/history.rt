@@ -2,7 +2,7 @@
 
 use crate::texts::record_of_ints;
 use avro_history::{HistoryCert, confirm_history};
-use avro_runs::{Run, wrong_run};
+use avro_runs::outcome_of;
 use avro_schema_json::read_schema;
 use std::alloc::Global;
 use std::fs;
@@ -64,8 +64,7 @@ fn refusal_told(alloc: Global, text: &str) -> Result<String, Fail> {
 #[test]
 fn texts_of_histories_are_read_or_refused(rt: HostRuntime) -> Result<(), Fail> {
     let alloc = rt.alloc();
-    for row in &TEXTS[..] {
-        let (text, refusal) = *row;
+    for (text, refusal) in TEXTS {
         let told = refusal_told(alloc, text)?;
         assert_eq!(rt; told.as_str(), refusal, "{text}");
     }
@@ -108,7 +107,7 @@ const FILES: [(&str, &str); 12] = [
 ];
 
 /// The words of runs, and what they answer and write.
-const RUNS: [Run; 17] = [
+const RUNS: [(&str, u8, &str, &str); 17] = [
     (
         "history int.avsc wide.avsc union.avsc",
         0,
@@ -210,12 +209,16 @@ const RUNS: [Run; 17] = [
 
 #[test]
 fn histories_are_judged_confirmed_and_written(rt: HostRuntime) -> Result<(), Fail> {
-    for row in &FILES[..] {
-        let (file, text) = *row;
+    for (file, text) in FILES {
         fs::write(&rt, file, text)?;
     }
     fs::write(&rt, "big.avsc", &record_of_ints(rt.alloc(), 2048)?)?;
-    assert_eq!(rt; wrong_run(&rt, &RUNS)?, None);
+    for (line, status, out, err) in RUNS {
+        let ran = outcome_of(&rt, line)?;
+        assert_eq!(rt; ran.status, status, "{line}");
+        assert_eq!(rt; ran.out.as_slice(), out.as_bytes(), "{line}");
+        assert_eq!(rt; ran.err.as_slice(), err.as_bytes(), "{line}");
+    }
     assert_eq!(rt; fs::read(&rt, "history.cert")?.as_slice(), TWO.as_bytes());
     assert_eq!(rt;
         fs::read(&rt, "mixed_yes.cert")?.as_slice(),

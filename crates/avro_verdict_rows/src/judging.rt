@@ -38,8 +38,7 @@ pub(crate) fn verdict(
 
 #[test]
 fn pairs_of_all_kinds_are_judged(rt: HostRuntime) -> Result<(), Fail> {
-    for row in &ROWS[..] {
-        let (writer, reader, text) = *row;
+    for (writer, reader, text) in ROWS {
         let found = verdict(rt.alloc(), writer, reader, &JudgeLimits::default())?;
         assert_eq!(rt; found.as_str(), text, "{writer} {reader}");
     }
@@ -48,8 +47,7 @@ fn pairs_of_all_kinds_are_judged(rt: HostRuntime) -> Result<(), Fail> {
 
 #[test]
 fn the_program_tells_the_verdicts(rt: HostRuntime) -> Result<(), Fail> {
-    for row in &ROWS[..] {
-        let (writer, reader, text) = *row;
+    for (writer, reader, text) in ROWS {
         fs::write(&rt, "from.avsc", writer)?;
         fs::write(&rt, "to.avsc", reader)?;
         let ran = outcome_of(&rt, "judge from.avsc to.avsc")?;
@@ -86,8 +84,7 @@ fn read_told(alloc: Global, writer: &str, reader: &str, bytes: &[u8]) -> Result<
 
 #[test]
 fn approved_pairs_are_read(rt: HostRuntime) -> Result<(), Fail> {
-    for row in &READ[..] {
-        let (writer, reader, bytes, text) = *row;
+    for (writer, reader, bytes, text) in READ {
         let told = read_told(rt.alloc(), writer, reader, bytes)?;
         assert_eq!(rt; told.as_str(), text);
     }

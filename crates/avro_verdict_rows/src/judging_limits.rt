@@ -152,8 +152,7 @@ fn limits_of(depth: u32, size: u32, pairs: u32) -> Result<JudgeLimits, &'static 
 
 #[test]
 fn limits_are_exact(rt: HostRuntime) -> Result<(), Fail> {
-    for row in &ROWS[..] {
-        let (writer, reader, depth, size, pairs, text) = *row;
+    for (writer, reader, depth, size, pairs, text) in ROWS {
         let writer = built(rt.alloc(), writer)?;
         let reader = built(rt.alloc(), reader)?;
         let limits = limits_of(depth, size, pairs)?;

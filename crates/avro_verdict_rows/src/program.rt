@@ -2,7 +2,7 @@
 
 use crate::program_rows::{FILES, RUNS, USAGE};
 use crate::texts::{padded_int, record_of_ints, unions_with_default};
-use avro_runs::{Full, outcome_of, words_of, wrong_run};
+use avro_runs::{Full, outcome_of, words_of};
 use avro_tool::run;
 use std::fs;
 use std::test::Fail;
@@ -10,8 +10,7 @@ use std::test::Fail;
 #[test]
 fn runs_are_told(rt: HostRuntime) -> Result<(), Fail> {
     let alloc = rt.alloc();
-    for row in &FILES[..] {
-        let (file, text) = *row;
+    for (file, text) in FILES {
         fs::write(&rt, file, text)?;
     }
     fs::create_dir(&rt, "folder")?;
@@ -20,7 +19,12 @@ fn runs_are_told(rt: HostRuntime) -> Result<(), Fail> {
     fs::write(&rt, "full.avsc", &record_of_ints(alloc, 4095)?)?;
     fs::write(&rt, "over.avsc", &record_of_ints(alloc, 4096)?)?;
     fs::write(&rt, "deep.avsc", &unions_with_default(alloc, 60)?)?;
-    assert_eq!(rt; wrong_run(&rt, &RUNS)?, None);
+    for (line, status, out, err) in RUNS {
+        let ran = outcome_of(&rt, line)?;
+        assert_eq!(rt; ran.status, status, "{line}");
+        assert_eq!(rt; ran.out.as_slice(), out.as_bytes(), "{line}");
+        assert_eq!(rt; ran.err.as_slice(), err.as_bytes(), "{line}");
+    }
     assert!(rt; fs::read_to_string(&rt, "no.cert").is_err());
     Ok(())
 }
@@ -28,7 +32,7 @@ fn runs_are_told(rt: HostRuntime) -> Result<(), Fail> {
 #[test]
 fn other_words_are_usage(rt: HostRuntime) -> Result<(), Fail> {
     fs::write(&rt, "int.avsc", "\"int\"")?;
-    for line in &USAGE[..] {
+    for line in USAGE {
         let ran = outcome_of(&rt, line)?;
         assert_eq!(rt; ran.status, 64, "{line}");
         assert!(rt; !ran.err.is_empty());

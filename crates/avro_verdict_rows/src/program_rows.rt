@@ -1,7 +1,6 @@
 //! Rows of the program's runs.
 
 use crate::confirming::TEXT;
-use avro_runs::Run;
 
 /// A record whose second field is bytes, and not a text.
 const PLAIN: &str =
@@ -18,7 +17,7 @@ pub(crate) const FILES: [(&str, &str); 6] = [
 ];
 
 /// The words of runs, and what they answer and write.
-pub(crate) const RUNS: [Run; 19] = [
+pub(crate) const RUNS: [(&str, u8, &str, &str); 19] = [
     ("judge most.avsc int.avsc", 0, "yes\n", ""),
     ("judge long.avsc int.avsc", 3, "", "avro: long.avsc: S12\n"),
     ("judge open.avsc int.avsc", 3, "", "avro: open.avsc: S1\n"),

@@ -1,6 +1,6 @@
 //! Schemas of files: what the program tells of them.
 
-use avro_runs::wrong_run;
+use avro_runs::outcome_of;
 use std::fs;
 use std::test::Fail;
 
@@ -175,11 +175,12 @@ const ROWS: [(&str, &str, u8, &str, &str); 25] = [
 
 #[test]
 fn schemas_of_files_are_told(rt: HostRuntime) -> Result<(), Fail> {
-    for row in &ROWS[..] {
-        let (text, line, status, out, err) = *row;
+    for (text, line, status, out, err) in ROWS {
         fs::write(&rt, "given.avsc", text)?;
-        let wrong = wrong_run(&rt, &[(line, status, out, err)])?;
-        assert_eq!(rt; wrong, None, "{text}");
+        let ran = outcome_of(&rt, line)?;
+        assert_eq!(rt; ran.status, status, "{text}");
+        assert_eq!(rt; ran.out.as_slice(), out.as_bytes(), "{text}");
+        assert_eq!(rt; ran.err.as_slice(), err.as_bytes(), "{text}");
     }
     Ok(())
 }
