@@ -44,30 +44,6 @@ pub fn words_of<R: AllocGlobal>(rt: &R, line: &str) -> Result<Vec<String>, Alloc
     Ok(list)
 }
 
-/// The words of a run, its exit status, and what goes to standard output and to standard error.
-pub type Run = (&'static str, u8, &'static str, &'static str);
-
-/// The words of the first run, if any, that ends with another status or writes otherwise.
-///
-/// # Errors
-///
-/// Memory ran out.
-pub fn wrong_run<R: Files + AllocGlobal>(
-    rt: &R,
-    runs: &[Run],
-) -> Result<Option<String>, AllocError> {
-    for (line, status, out, err) in runs {
-        let ran = outcome_of(rt, line)?;
-        if ran.status != *status
-            || ran.out.as_slice() != out.as_bytes()
-            || ran.err.as_slice() != err.as_bytes()
-        {
-            return Ok(Some(String::from_str(rt.alloc(), line)?));
-        }
-    }
-    Ok(None)
-}
-
 /// A writer that takes a number of bytes, and then fails.
 #[derive(Drop)]
 pub struct Full {
