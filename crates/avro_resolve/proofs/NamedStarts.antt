@@ -1,14 +1,13 @@
 -- No branch before the first of a name matches.
-use Rattle.std.proofs.Common.{◌≡◌, ℕ, zero, suc, ◌+◌, ◌<◌, ◌≤◌, Bool, true, false, not, ◌&&◌, ◌||◌, ◌==◌, cond, List, [], ◌∷◌, length, Option, Some, None, drop, refl, sym, ap, ◌∙◌, subst, arith}
+use Rattle.std.proofs.Common.{◌≡◌, ℕ, zero, suc, ◌+◌, ◌≤◌, Bool, true, false, not, ◌&&◌, ◌||◌, ◌==◌, cond, List, [], ◌∷◌, length, Option, Some, None, drop, refl, sym, ap, ◌∙◌, subst, arith}
 use Rattle.std.specs.Prelude.{is_some, unwrap_or, bytes_eq, nat_lt, position}
-use Rattle.std.specs.List.{list_all, list_any, position_or_len, prefix_len}
-use Rattle.std.proofs.lemmas.Bool.{and_parts, both_ways, eqb-true, eq-eqb, ltb-false, cond-true, cond-false}
-use Rattle.avro_name.specs.Name.{Name, same_name}
-use Rattle.avro_schema.specs.Node.{Node, FieldNode, node_at, node_name, branches_of}
+use Rattle.std.specs.List.{list_all, list_any, position_or_len}
+use Rattle.std.proofs.lemmas.Bool.{and_parts, both_ways, eqb-true, eq-eqb, ltb-false, cond-false}
+use Rattle.avro_name.specs.Name.{same_name}
+use Rattle.avro_schema.specs.Node.{Node, node_at, branches_of}
 use Rattle.avro_schema.specs.Fits.{is_some_and}
-use Rattle.avro_schema.specs.Seen.{places_of}
 use Rattle.avro_schema.specs.WellFormed.{branch_kind, is_schema, is_union, meets_its_rules}
-use Rattle.avro_resolve.specs.Match.{match_within, is_match, first_match, first_match_from, are_alike}
+use Rattle.avro_resolve.specs.Match.{match_within, is_match, first_match, first_match_from}
 use Rattle.avro_resolve.specs.NamedBranches.{NamedType, named_type, passes, has_simple, has_alias, StartsAt}
 use Rattle.avro_resolve.proofs.Planning.{same_some}
 use Rattle.avro_resolve.proofs.Rules.{MeetRules-from_is_schema}

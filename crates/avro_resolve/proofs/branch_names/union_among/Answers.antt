@@ -1,4 +1,4 @@
-use Rattle.std.proofs.Common.{◌≡◌, ◌<◌, length, refl, rules, ap}
+use Rattle.std.proofs.Common.{◌≡◌, ◌<◌, length, refl, rules}
 use Rattle.std.proofs.lemmas.Option.{slice_get_read}
 use Rattle.avro_resolve.proofs.branch_names.union_among.Goals as goal
 

@@ -1,7 +1,7 @@
-use Rattle.std.proofs.Common.{◌≡◌, ◌&&◌, ◌==◌, ◌+◌, ◌-◌, ◌∙◌, ap, refl, cond, drop, length, Some, List, arith}
+use Rattle.std.proofs.Common.{◌≡◌, ◌&&◌, ◌==◌, ◌+◌, ◌-◌, ◌∙◌, ap, refl, cond, drop, length, Some, arith}
 use Rattle.std.specs.List.{list_any}
 use Rattle.std.specs.BTreeMap.{get}
-use Rattle.avro_name.specs.Name.{Name, same_name}
+use Rattle.avro_name.specs.Name.{same_name}
 use Rattle.avro_resolve.specs.NamedBranches.{alias_cmp}
 use Rattle.avro_resolve.proofs.NamedKeys.{alias_next, alias_none}
 use Rattle.avro_resolve.proofs.branch_table.add_each.Goals as goal
