@@ -1,7 +1,7 @@
 //! Rows of verdicts.
 
 /// Pairs of schemas, and their verdicts at the default limits.
-pub(crate) const ROWS: [(&str, &str, &str); 29] = [
+pub(crate) const ROWS: [(&str, &str, &str); 31] = [
     (r#""int""#, r#""long""#, "yes\n"),
     (
         r#""long""#,
@@ -122,5 +122,15 @@ pub(crate) const ROWS: [(&str, &str, &str); 29] = [
         r#""bytes""#,
         r#""string""#,
         "no\nfault NotUtf8 at /\nnodes 1\ndatum \"\u{ff}\"\n",
+    ),
+    (
+        r#"[{"type":"record","name":"F","fields":[]},{"type":"fixed","name":"q.H","size":2},{"type":"fixed","name":"D","size":1},"null"]"#,
+        r#"["null",{"type":"fixed","name":"p.A","size":1},{"type":"fixed","name":"p.B","size":1},{"type":"fixed","name":"p.C","size":1},{"type":"fixed","name":"p.D","size":1},{"type":"enum","name":"p.E","symbols":["x"]},{"type":"record","name":"p.F","fields":[]},{"type":"fixed","name":"p.G","aliases":["q.H"],"size":2}]"#,
+        "yes\n",
+    ),
+    (
+        r#"[{"type":"fixed","name":"q.H","size":2},{"type":"fixed","name":"E","size":1}]"#,
+        r#"["null",{"type":"fixed","name":"p.A","size":1},{"type":"fixed","name":"p.B","size":1},{"type":"fixed","name":"p.C","size":1},{"type":"fixed","name":"p.D","size":1},{"type":"enum","name":"p.E","symbols":["x"]},{"type":"record","name":"p.F","fields":[]},{"type":"fixed","name":"p.G","aliases":["q.H"],"size":2}]"#,
+        "no\nfault NoBranch at /0\nnodes 2\ndatum {\"E\":\"\\u0000\"}\n",
     ),
 ];
