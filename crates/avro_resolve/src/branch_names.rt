@@ -19,9 +19,10 @@ use std::marker::Model;
 /// The fewest branches of a union that has tables.
 const FEWEST: usize = 8;
 
-/// A writer's schema and a reader's, with the names of the branches of the reader's unions, by which a first
-/// match is found without a look at the branches before it. A union of few branches is looked through, and
-/// takes no memory here. Contracts see the two schemas.
+/// A writer's schema and a reader's, with the names of the branches of the reader's unions, by which the first
+/// match of a record, an enum or a fixed is found without a look at the branches before it. A union of few
+/// branches, or with many aliases, is looked through, and takes no memory here. Contracts see the
+/// two schemas.
 #[derive(Drop)]
 pub struct BranchNames<'a> {
     writer: &'a Schema,
@@ -172,7 +173,7 @@ fn add_union<'a>(
     Ok(())
 }
 
-/// The tables of a node that is a union of many branches.
+/// The tables of a node that is a union of many branches, with few aliases.
 fn union_names<'r>(
     alloc: Global,
     reader: &'r Schema,
@@ -185,7 +186,7 @@ fn union_names<'r>(
     }
     match reader.node(id) {
         Node::Union(branches) => {
-            if branches.len() < FEWEST {
+            if branches.len() < FEWEST || !has_few_aliases(reader, branches) {
                 return Ok(None);
             }
             Ok(Some(UnionNames {
@@ -196,6 +197,31 @@ fn union_names<'r>(
             }))
         }
         _ => Ok(None),
+    }
+}
+
+/// Whether the branches of a union have one alias for eight branches at most. A union that names the same
+/// branches again then costs no more than its text, however many aliases they have.
+fn has_few_aliases(reader: &Schema, branches: &[NodeId]) -> bool {
+    let mut left = branches.len() / FEWEST;
+    for branch in branches {
+        let count = alias_count(reader, *branch);
+        if count > left {
+            return false;
+        }
+        left -= count;
+    }
+    true
+}
+
+/// How many aliases a node has.
+fn alias_count(reader: &Schema, id: NodeId) -> usize {
+    if !reader.has(id) {
+        return 0;
+    }
+    match named_type(reader.node(id)) {
+        Some(named) => named.aliases.len(),
+        None => 0,
     }
 }
 

@@ -8,7 +8,7 @@ pub struct Prepared {
     pub w: NodeId,
     /// The reader's node.
     pub r: NodeId,
-    /// The reader's node that the pair leads to, and 0 where it leads to a fault.
+    /// The reader's node that the pair leads to, and a place without a node where it leads to a fault.
     pub q: NodeId,
     /// Where the pair leads.
     pub aim: Aim,

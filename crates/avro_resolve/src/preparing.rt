@@ -96,11 +96,11 @@ fn prepare_to(
     })
 }
 
-/// The reader's node that a pair leads to.
+/// The reader's node that a pair leads to; where it leads to a fault, a place without a node, of which nothing is kept.
 fn target(aim: Aim) -> NodeId {
     match aim {
         Aim::To(_, q) => q,
-        Aim::Fault(_) => NodeId(0),
+        Aim::Fault(_) => NodeId(u32::MAX),
     }
 }
 
