@@ -1,0 +1,158 @@
+#!/usr/bin/env python3
+"""Writes pairs of schemas that are made to cost more than their length, and measures a program that judges them.
+
+    hostile_pairs.py write FOLDER
+    hostile_pairs.py measure PROGRAM
+
+`measure` runs `PROGRAM judge WRITER READER` on each pair, and `PROGRAM show FILE --reader READER` on files of the writer's schema: one without a
+block, and one of 100,000 blocks of one null each. It prints the lengths of the two texts, seconds of the processor and the peak of memory
+in MB of each, and the answer of the first. A run ends after 60 seconds of the processor or 4 GB.
+"""
+
+import json
+import os
+import resource
+import subprocess
+import sys
+import tempfile
+
+SECONDS = 60
+MEMORY = 4 << 30
+SYNC = bytes(range(16))
+
+
+def written(schema):
+    return json.dumps(schema, separators=(",", ":"))
+
+
+def record(name, fields, **more):
+    return {"type": "record", "name": name, "fields": [{"name": f, "type": t} for f, t in fields], **more}
+
+
+def fixed(name, **more):
+    return {"type": "fixed", "name": name, "size": 1, **more}
+
+
+def aliased(unions):
+    """A fixed with 100,000 aliases, and unions that name it among eight branches."""
+    others = [f"B{i}" for i in range(7)]
+    fields = [("a", fixed("A", aliases=[f"x{i}" for i in range(100_000)]))]
+    fields += [(f"b{i}", fixed(name)) for i, name in enumerate(others)]
+    fields += [(f"u{i}", ["A", *others]) for i in range(unions)]
+    return ["null", record("R", fields)]
+
+
+def same_alias(unions):
+    """Eight fixeds with one alias of a long namespace, and unions of them."""
+    names = [f"A{i}" for i in range(8)]
+    fields = [(f"a{i}", fixed(name, aliases=["x"])) for i, name in enumerate(names)]
+    fields += [(f"u{i}", names) for i in range(unions)]
+    return ["null", record("R", fields, namespace="n" * 400_000)]
+
+
+def enum(symbols, **more):
+    return {"type": "enum", "name": "E", "symbols": symbols, **more}
+
+
+def enums(count):
+    """Fields of an enum of one symbol each, all of one simple name."""
+    return ["null", record("R", [(f"f{i}", enum(["S0"], namespace=f"n{i}")) for i in range(count)])]
+
+
+def one_enum(count, symbols):
+    """So many fields of one enum of so many symbols."""
+    fields = [("f0", enum([f"S{i}" for i in range(symbols)]))]
+    return ["null", record("R", fields + [(f"f{i}", "E") for i in range(1, count)])]
+
+
+def branches(count):
+    """Fields of one union of records each, the records defined before."""
+    names = [f"R{i}" for i in range(count)]
+    fields = [(f"r{i}", record(name, [])) for i, name in enumerate(names)]
+    fields += [(f"u{i}", ["null", *names]) for i in range(60)]
+    return ["null", record("R", fields)]
+
+
+def pairs():
+    """Each pair by its name: the writer's schema and the reader's."""
+    yield "an alias table a union", ["null"], aliased(2_000)
+    yield "the same against itself", aliased(2_000), aliased(2_000)
+    yield "one alias eight times", ["null"], same_alias(3_000)
+    yield "enums against one long enum", enums(2_000), one_enum(2_000, 60_000)
+    yield "unions of 1,000 records", branches(1_000), branches(1_000)
+
+
+def number(n):
+    """A number of the binary encoding."""
+    n, out = 2 * n, b""
+    while n >= 128:
+        out += bytes([n % 128 + 128])
+        n //= 128
+    return out + bytes([n])
+
+
+def container(text, blocks):
+    """A container file of a schema, with blocks of one null each, which is the first branch."""
+    entries = [(b"avro.schema", text.encode()), (b"avro.codec", b"null")]
+    metadata = b"".join(number(len(it)) + it for entry in entries for it in entry)
+    return b"Obj\x01" + number(len(entries)) + metadata + b"\x00" + SYNC + (number(1) + number(1) + b"\x00" + SYNC) * blocks
+
+
+def limit():
+    resource.setrlimit(resource.RLIMIT_CPU, (SECONDS, SECONDS))
+    resource.setrlimit(resource.RLIMIT_AS, (MEMORY, MEMORY))
+
+
+def run(words):
+    """What a run takes: seconds of the processor, MB, and its first words."""
+    with tempfile.TemporaryFile() as out:
+        process = subprocess.Popen(words, stdout=out, stderr=subprocess.STDOUT, preexec_fn=limit)
+        _, _, used = os.wait4(process.pid, 0)
+        out.seek(0)
+        said = out.read(60).decode("utf-8", "replace").strip().replace("\n", " ")
+    return used.ru_utime + used.ru_stime, used.ru_maxrss / 1024, said
+
+
+def texts():
+    for name, writer, reader in pairs():
+        yield name, written(writer), written(reader)
+
+
+def write(folder):
+    os.makedirs(folder, exist_ok=True)
+    for name, writer, reader in texts():
+        base = name.replace(" ", "_").replace(",", "")
+        for part, text in (("writer", writer), ("reader", reader)):
+            with open(f"{folder}/{base}_{part}.avsc", "w", encoding="utf-8") as file:
+                file.write(text)
+
+
+def measure(program):
+    print("| Pair | bytes | judge | show, no block | show, 100,000 blocks | answer |")
+    print("|---|---|---|---|---|---|")
+    with tempfile.TemporaryDirectory() as folder:
+        w, r, f = (f"{folder}/{it}" for it in ("writer.avsc", "reader.avsc", "file.avro"))
+        for name, writer, reader in texts():
+            for path, text in ((w, writer), (r, reader)):
+                with open(path, "w", encoding="utf-8") as file:
+                    file.write(text)
+            told = [run([program, "judge", w, r])]
+            for blocks in (0, 100_000):
+                with open(f, "wb") as file:
+                    file.write(container(writer, blocks))
+                told.append(run([program, "show", f, "--reader", r]))
+            cells = [f"{seconds:.2f} s, {room:.0f} MB" for seconds, room, _ in told]
+            print(f"| {name} | {len(writer)}, {len(reader)} | {' | '.join(cells)} | {told[0][2]} |", flush=True)
+
+
+def main(words):
+    if len(words) == 2 and words[0] == "write":
+        write(words[1])
+    elif len(words) == 2 and words[0] == "measure":
+        measure(words[1])
+    else:
+        sys.exit(__doc__)
+
+
+if __name__ == "__main__":
+    main(sys.argv[1:])
