@@ -26,6 +26,15 @@ noted_past [] place at h = refl
 noted_past (part ∷ parts) zero at h = absurd (omega (arith, h))
 noted_past (part ∷ parts) (suc place) at h = ap (λ (rest : List At). part ∷ rest) (noted_past parts place at (omega (arith, h)))
 
+pub noted_count : (parts : List At) (place : ℕ) (at : At) → length (noted parts place at) ≡ length parts
+noted_count [] place at = refl
+noted_count (part ∷ parts) zero at = refl
+noted_count (part ∷ parts) (suc place) at = ap suc (noted_count parts place at)
+
+pub counted : (fs : List Field) → length (seen_fields fs) ≡ length fs
+counted [] = refl
+counted (f ∷ fs) = ap suc (counted fs)
+
 noted_here : (parts : List At) (place k : ℕ) (at x : At) → slice_get (noted parts place at) k ≡ Some x → k ≡ place → x ≡ at
 noted_here [] place k at x got e = absurd cc
 noted_here (part ∷ parts) zero zero at x got e = cc

@@ -22,6 +22,7 @@ pub mod MapEntries
 pub mod RecordSlots
 pub mod OnePass
 pub mod Planning
+pub mod Leading
 pub mod FieldsNoted
 pub mod NamedKeys
 pub mod NamedStarts

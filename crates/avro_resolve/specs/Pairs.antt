@@ -1,5 +1,5 @@
 -- What the code says of a pair of nodes.
-use Rattle.std.specs.Prelude.{◌≡◌, ◌<◌, ℕ, suc, Bool, true, false, List, [], Option, Some, None, length, slice_get, unwrap_or, Err, Ok}
+use Rattle.std.specs.Prelude.{◌≡◌, ◌<◌, ℕ, suc, Bool, true, false, List, [], Option, Some, None, length, slice_get, unwrap_or, Err, Ok, cond}
 use Rattle.avro_schema.specs.Value.{Value}
 use Rattle.avro_schema.specs.Node.{Node, FieldNode, node_at, field_places, items_node, values_node, branches_of}
 use Rattle.avro_schema.specs.declared.schema.NodeId.{NodeId}
@@ -11,6 +11,8 @@ use Rattle.avro_resolve.specs.Source.{reader_field}
 use Rattle.avro_resolve.specs.declared.guided.At.{At}
 use Rattle.avro_resolve.specs.declared.guided.At.TheVariants.{Ignored, Pair}
 use Rattle.avro_resolve.specs.declared.guided.Aim.{Aim}
+use Rattle.avro_resolve.specs.declared.guided.Aim.TheVariants.{Fault, To}
+use Rattle.avro_resolve.specs.declared.error.FaultKind.TheVariants.{NoBranch, NoMatch}
 use Rattle.avro_resolve.specs.declared.guided.Step.{Step}
 
 -- what two nodes say of their match
@@ -35,6 +37,20 @@ wrapped (Some k) resolved = result_map (Value.union k) resolved
 abbrev pub aimed : List Node → Aim → (Node → Resolved) → Resolved
 aimed reader (Aim.Fault kind) resolve = Err (fault_here (cause_of kind))
 aimed reader (Aim.To branch q) resolve = wrapped branch (resolve (node_at reader q.0))
+
+-- Where a pair of nodes leads, of which the writer's is no union: by the first branch of a reader's union that matches, or else to the
+-- reader's node itself where the two match.
+abbrev pub branch_aim : List ℕ → Option ℕ → Aim
+branch_aim places None = Fault NoBranch
+branch_aim places (Some k) = To (Some k) (record { 0 = unwrap_or (slice_get places k) 0 })
+
+abbrev pub aim_of : List Node → List Node → Node → NodeId → Node → Aim
+aim_of writer reader n r (Node.union places) = branch_aim places (first_match writer reader n places)
+aim_of writer reader n r q = cond (is_match writer reader n q) (To None r) (Fault NoMatch)
+
+-- the same at the places of two nodes
+abbrev pub aim_at : List Node → List Node → NodeId → NodeId → Aim
+aim_at writer reader w r = aim_of writer reader (node_at writer w.0) r (node_at reader r.0)
 
 -- a pair leads there, whatever is resolved
 abbrev pub IsAim : List Node → List Node → Node → Node → Aim → Type 0

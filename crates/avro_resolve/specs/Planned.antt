@@ -1,13 +1,15 @@
 -- What a plan keeps of pairs of nodes.
-use Rattle.std.specs.Prelude.{◌≡◌, ℕ, List, [], Option, Some, slice_get, unwrap_or, position, bytes_eq}
+use Rattle.std.specs.Prelude.{◌≡◌, ℕ, suc, List, [], Option, Some, None, slice_get, unwrap_or, position, bytes_eq, length}
 use Rattle.std.specs.Ordering.{nat_cmp}
 use Rattle.std.specs.Cmp.Lexicographic.{slice_cmp}
 use Rattle.std.specs.BTreeMap.{BTreeMap, get_by}
 use denote.Ref.{Bor}
-use Rattle.avro_schema.specs.Node.{Node, FieldNode, node_at}
-use Rattle.avro_resolve.specs.Pairs.{IsAim, IsSymbol, field_for}
+use Rattle.avro_schema.specs.Node.{Node, FieldNode, node_at, symbols_of}
+use Rattle.avro_schema.specs.declared.schema.NodeId.{NodeId}
+use Rattle.avro_resolve.specs.Pairs.{IsSymbol, aim_at, field_for}
 use Rattle.avro_resolve.specs.Resolve.{enum_as, enum_or_default, symbol_at, fields_at}
 use Rattle.avro_resolve.specs.Source.{field_place, source_of, missing_field}
+use Rattle.avro_resolve.specs.declared.guided.Aim.TheVariants.{To}
 use Rattle.avro_resolve.specs.declared.guided.At.{At}
 use Rattle.avro_resolve.specs.declared.prepared.Prepared.{Prepared}
 
@@ -23,13 +25,23 @@ AreFor ws rs parts = (k : ℕ) (at : At) → slice_get parts k ≡ Some at → a
 abbrev pub AreSymbols : Node → Node → List (Option ℕ) → Type 0
 AreSymbols w q symbols = (k : ℕ) (s : Option ℕ) → slice_get symbols k ≡ Some s → IsSymbol (enum_as (symbol_at w k) q) s
 
--- what is kept of a pair of nodes is what they are to each other
+-- each is the reader's symbol for a text at its place
+abbrev pub AreTaken : List (List ℕ) → Node → List (Option ℕ) → Type 0
+AreTaken texts q symbols = (k : ℕ) (s : Option ℕ) → slice_get symbols k ≡ Some s → IsSymbol (enum_as (unwrap_or (slice_get texts k) []) q) s
+
+-- what is kept inside two nodes is what their fields and their symbols are to each other: of each field, and of one place behind the last
+pub record AreInside (w q : Node) (p : Prepared) : Type 0 where
+  pub complete : p.missing ≡ missing_field (fields_at w) (fields_at q)
+  pub fields : AreFor (fields_at w) (fields_at q) p.fields.items
+  pub all_fields : length p.fields.items ≡ suc (length (fields_at w))
+  pub sources : AreSources (fields_at w) (fields_at q) p.sources.items
+  pub symbols : AreSymbols w q p.symbols.items
+  pub all_symbols : length p.symbols.items ≡ length (unwrap_or (symbols_of w) [])
+
+-- what is kept of a pair of nodes is where it leads; and where this is to the reader's node itself, what is inside
 pub record IsPrepared (writer reader : List Node) (p : Prepared) : Type 0 where
-  pub aims : IsAim writer reader (node_at writer p.w.0) (node_at reader p.r.0) p.aim
-  pub complete : p.missing ≡ missing_field (fields_at (node_at writer p.w.0)) (fields_at (node_at reader p.q.0))
-  pub fields : AreFor (fields_at (node_at writer p.w.0)) (fields_at (node_at reader p.q.0)) p.fields.items
-  pub sources : AreSources (fields_at (node_at writer p.w.0)) (fields_at (node_at reader p.q.0)) p.sources.items
-  pub symbols : AreSymbols (node_at writer p.w.0) (node_at reader p.q.0) p.symbols.items
+  pub aims : p.aim ≡ aim_at writer reader p.w p.r
+  pub inside : (q : NodeId) → p.aim ≡ To None q → AreInside (node_at writer p.w.0) (node_at reader p.r.0) p
 
 abbrev pub ArePrepared : List Node → List Node → List Prepared → Type 0
 ArePrepared writer reader pairs = (k : ℕ) (p : Prepared) → slice_get pairs k ≡ Some p → IsPrepared writer reader p

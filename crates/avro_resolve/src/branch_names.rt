@@ -52,7 +52,7 @@ impl<'a> BranchNames<'a> {
     ghost use Rattle.avro_schema.specs.SeenSchema.{schema_nodes};
     ghost use Rattle.avro_resolve.specs.Match.{first_match_at};
     ghost use Rattle.avro_resolve.specs.NamedBranches.{StartsAt};
-    ghost use Rattle.avro_resolve.specs.Pairs.{IsAim};
+    ghost use Rattle.avro_resolve.specs.Pairs.{aim_at};
 
     /// The names of the branches of a reader's unions.
     ///
@@ -102,8 +102,7 @@ impl<'a> BranchNames<'a> {
 
     /// Where a pair of nodes leads.
     pub(crate) fn aim(&self, w: NodeId, r: NodeId) -> Aim
-        ensures { IsAim (schema_nodes self.now.0) (schema_nodes self.now.1)
-            (node_at (schema_nodes self.now.0) w.0) (node_at (schema_nodes self.now.1) r.0) result }
+        ensures { result ≡ aim_at (schema_nodes self.now.0) (schema_nodes self.now.1) w r }
     {
         let start = self.start(w, r);
         aim_after(self.writer, w, self.reader, r, start)

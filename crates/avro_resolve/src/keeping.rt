@@ -2,7 +2,7 @@ ghost use Rattle.std.specs.Prelude.{◌≡◌, List, IfSome};
 ghost use Rattle.avro_schema.specs.Node.{Node, node_at};
 ghost use Rattle.avro_schema.specs.SeenSchema.{schema_nodes};
 ghost use Rattle.avro_resolve.specs.Pairs.{IsAim, IsSymbol, field_for};
-ghost use Rattle.avro_resolve.specs.Planned.{ArePrepared, AreSources, IsPrepared};
+ghost use Rattle.avro_resolve.specs.Planned.{AreInside, ArePrepared, AreSources, IsPrepared};
 ghost use Rattle.avro_resolve.specs.Resolve.{enum_as, fields_at, symbol_at};
 ghost use Rattle.avro_resolve.specs.Source.{missing_field};
 
@@ -29,19 +29,18 @@ fn pair_of(pairs: &[Prepared], place: u32, w: NodeId, r: NodeId) -> Option<&Prep
     }
 }
 
-/// What is kept at a place, if it is of a writer's node and leads to this reader's node.
-fn pair_to(pairs: &[Prepared], place: u32, w: NodeId, q: NodeId) -> Option<&Prepared>
+/// What is kept at a place, if it is of these two nodes and is kept inside them.
+fn inside_of(pairs: &[Prepared], place: u32, w: NodeId, q: NodeId) -> Option<&Prepared>
     ensures { (writer reader : List Node) → ArePrepared writer reader pairs.now
-        → IfSome result (λ p. IsPrepared writer reader p.now × (p.now.w ≡ w) × (p.now.q ≡ q)) }
+        → IfSome result (λ p. AreInside (node_at writer w.0) (node_at reader q.0) p.now) }
 {
-    if (place as usize) >= pairs.len() {
-        return None;
-    }
-    let pair = &pairs[place as usize];
-    if pair.w == w && pair.q == q {
-        Some(pair)
-    } else {
-        None
+    match pair_of(pairs, place, w, q) {
+        Some(pair) => match pair.aim {
+            Aim::To(None, _) => Some(pair),
+            Aim::To(Some(_), _) => None,
+            Aim::Fault(_) => None,
+        },
+        None => None,
     }
 }
 
@@ -76,7 +75,7 @@ pub fn missing_kept(
     requires { ArePrepared (schema_nodes writer.now) (schema_nodes reader.now) pairs.now }
     ensures { result ≡ missing_field (fields_at (node_at (schema_nodes writer.now) w.0)) (fields_at (node_at (schema_nodes reader.now) q.0)) }
 {
-    match pair_to(pairs, place, w, q) {
+    match inside_of(pairs, place, w, q) {
         Some(pair) => pair.missing,
         None => missing(fields_of(writer, w), fields_of(reader, q)),
     }
@@ -95,7 +94,7 @@ pub fn field_kept(
     requires { ArePrepared (schema_nodes writer.now) (schema_nodes reader.now) pairs.now }
     ensures { result ≡ field_for (fields_at (node_at (schema_nodes writer.now) w.0)) (fields_at (node_at (schema_nodes reader.now) q.0)) field }
 {
-    match pair_to(pairs, place, w, q) {
+    match inside_of(pairs, place, w, q) {
         Some(pair) => {
             if field < pair.fields.len() {
                 return pair.fields[field];
@@ -118,7 +117,7 @@ pub fn sources_kept<'p>(
     requires { ArePrepared (schema_nodes writer.now) (schema_nodes reader.now) pairs.now }
     ensures { AreSources (fields_at (node_at (schema_nodes writer.now) w.0)) (fields_at (node_at (schema_nodes reader.now) q.0)) result.now }
 {
-    match pair_to(pairs, place, w, q) {
+    match inside_of(pairs, place, w, q) {
         Some(pair) => &pair.sources,
         None => &[],
     }
@@ -137,7 +136,7 @@ pub fn symbol_kept(
     requires { ArePrepared (schema_nodes writer.now) (schema_nodes reader.now) pairs.now }
     ensures { IsSymbol (enum_as (symbol_at (node_at (schema_nodes writer.now) w.0) symbol) (node_at (schema_nodes reader.now) q.0)) result }
 {
-    match pair_to(pairs, place, w, q) {
+    match inside_of(pairs, place, w, q) {
         Some(pair) => {
             if (symbol as usize) < pair.symbols.len() {
                 return pair.symbols[symbol as usize];

@@ -42,12 +42,15 @@ mod walking;
 
 pub use branch_names::BranchNames;
 pub use error::{Fault, FaultKind, ReadResolveError, ResolveError};
+pub use guided::{Aim, At};
 pub use matching::matches;
 pub use naming::{field_names, source_in, symbol_names};
 pub use pairs::first_match;
 pub use plan::Plan;
 pub use plan_ref::PlanRef;
 pub use plan_table::PlanTable;
+pub use prepared::Prepared;
+pub use preparing::prepare;
 pub use read::{decode_resolved, read_resolved};
 pub use resolution::resolve;
 pub use sourcing::source;

@@ -7,12 +7,12 @@ use std::alloc::{AllocError, Global};
 /// A pair of nodes, and its place among those of a plan.
 pub type PlacedPair = (NodeId, NodeId, u32);
 
-/// Some pairs in order, each with its place.
-pub fn in_order(alloc: Global, pairs: &[(NodeId, NodeId)]) -> Result<Vec<PlacedPair>, AllocError> {
+/// The pairs that are kept, in order, each with its place.
+fn in_order(alloc: Global, pairs: &[Prepared]) -> Result<Vec<PlacedPair>, AllocError> {
     let mut order = Vec::new(alloc);
     let mut place = 0u32;
     for pair in pairs {
-        order.push((pair.0, pair.1, place))?;
+        order.push((pair.w, pair.r, place))?;
         place = place.saturating_add(1);
     }
     order.sort_unstable();
@@ -21,7 +21,7 @@ pub fn in_order(alloc: Global, pairs: &[(NodeId, NodeId)]) -> Result<Vec<PlacedP
 
 /// The place of a pair, and 0 where it is not among them. What is kept at a place says itself which pair
 /// it is of.
-pub fn place_in(order: &[PlacedPair], w: NodeId, r: NodeId) -> u32 {
+fn place_in(order: &[PlacedPair], w: NodeId, r: NodeId) -> u32 {
     let at = match order.binary_search(&(w, r, 0)) {
         Ok(at) => at,
         Err(at) => at,
@@ -45,13 +45,17 @@ pub fn count_of_parts(writer: &Schema, pair: &Prepared) -> usize {
     }
     match writer.node(pair.w) {
         Node::Union(branches) => branches.len(),
-        node => count_at(node, pair),
+        node => match pair.aim {
+            Aim::Fault(_) => 0,
+            Aim::To(Some(_), _) => 1,
+            Aim::To(None, _) => count_inside(node, pair),
+        },
     }
 }
 
-/// The same of a writer's node that is no union.
-fn count_at(node: &Node, pair: &Prepared) -> usize {
-    if matches!(pair.aim, Aim::Fault(_)) || pair.missing.is_some() {
+/// The same of a pair that leads to the reader's node itself.
+fn count_inside(node: &Node, pair: &Prepared) -> usize {
+    if pair.missing.is_some() {
         return 0;
     }
     match node {
@@ -62,18 +66,30 @@ fn count_at(node: &Node, pair: &Prepared) -> usize {
     }
 }
 
-/// What a part of a pair of nodes is for: its items, its values, one of its branches or one of its fields.
+/// What a part of a pair of nodes is for: its items, its values, one of its branches or one of its fields,
+/// or the branch of the reader's that the pair leads to.
 pub fn part_at(writer: &Schema, reader: &Schema, pair: &Prepared, part: usize) -> At {
     if !writer.has(pair.w) {
         return At::Ignored;
     }
     match writer.node(pair.w) {
-        Node::Array(items) => At::Pair(*items, items_of(reader, pair.q)),
-        Node::Map(values) => At::Pair(*values, values_of(reader, pair.q)),
         Node::Union(branches) => match branches.get(part) {
             Some(branch) => At::Pair(*branch, pair.r),
             None => At::Ignored,
         },
+        node => match pair.aim {
+            Aim::Fault(_) => At::Ignored,
+            Aim::To(Some(_), q) => At::Pair(pair.w, q),
+            Aim::To(None, _) => part_inside(node, reader, pair, part),
+        },
+    }
+}
+
+/// The same of a pair that leads to the reader's node itself.
+fn part_inside(node: &Node, reader: &Schema, pair: &Prepared, part: usize) -> At {
+    match node {
+        Node::Array(items) => At::Pair(*items, items_of(reader, pair.r)),
+        Node::Map(values) => At::Pair(*values, values_of(reader, pair.r)),
         Node::Record(_) => match pair.fields.get(part) {
             Some(field) => *field,
             None => At::Ignored,
@@ -82,8 +98,24 @@ pub fn part_at(writer: &Schema, reader: &Schema, pair: &Prepared, part: usize) -
     }
 }
 
+/// The places of the pairs of the parts of each pair, and the place of the roots' pair.
+pub fn places_of(
+    alloc: Global,
+    writer: &Schema,
+    reader: &Schema,
+    pairs: &[Prepared],
+) -> Result<(Vec<Vec<u32>>, u32), AllocError> {
+    let order = in_order(alloc, pairs)?;
+    let root = place_in(&order, writer.root(), reader.root());
+    let mut places = Vec::new(alloc);
+    for pair in pairs {
+        places.push(places_of_parts(alloc, writer, reader, pair, &order)?)?;
+    }
+    Ok((places, root))
+}
+
 /// The places of the pairs of the parts of a pair.
-pub fn places_of_parts(
+fn places_of_parts(
     alloc: Global,
     writer: &Schema,
     reader: &Schema,

@@ -4,7 +4,7 @@ ghost use Rattle.avro_schema.specs.Seen.{node_of, places_of};
 ghost use Rattle.avro_schema.specs.SeenSchema.{schema_nodes};
 ghost use Rattle.avro_resolve.specs.Match.{first_match_at};
 ghost use Rattle.avro_resolve.specs.NamedBranches.{StartsAt};
-ghost use Rattle.avro_resolve.specs.Pairs.{IsAim, IsFirst};
+ghost use Rattle.avro_resolve.specs.Pairs.{IsAim, IsFirst, aim_at};
 ghost use Rattle.avro_binary.proofs.public.Choices.{HasFewChoices};
 
 use crate::error::FaultKind;
@@ -81,24 +81,22 @@ pub fn aim(writer: &Schema, w: NodeId, reader: &Schema, r: NodeId) -> Aim
 pub fn aim_after(writer: &Schema, w: NodeId, reader: &Schema, r: NodeId, start: usize) -> Aim
     requires { StartsAt (schema_nodes writer.now) (schema_nodes reader.now)
         (node_at (schema_nodes writer.now) w.0) (node_at (schema_nodes reader.now) r.0) start }
-    ensures { IsAim (schema_nodes writer.now) (schema_nodes reader.now)
-        (node_at (schema_nodes writer.now) w.0) (node_at (schema_nodes reader.now) r.0) result }
+    ensures { result ≡ aim_at (schema_nodes writer.now) (schema_nodes reader.now) w r }
 {
     if (r.0 as usize) < reader.len() {
-        aim_at(writer, w, reader, r, reader.node(r), start)
+        aim_to(writer, w, reader, r, reader.node(r), start)
     } else {
-        aim_at(writer, w, reader, r, &Node::Null, start)
+        aim_to(writer, w, reader, r, &Node::Null, start)
     }
 }
 
 /// Where a pair of nodes leads, the reader's of which is at hand.
-fn aim_at(writer: &Schema, w: NodeId, reader: &Schema, r: NodeId, node: &Node, start: usize) -> Aim
+fn aim_to(writer: &Schema, w: NodeId, reader: &Schema, r: NodeId, node: &Node, start: usize) -> Aim
     requires there { node_of node.now ≡ node_at (schema_nodes reader.now) r.0 }
     requires few { HasFewChoices (node_of node.now) }
     requires starts { StartsAt (schema_nodes writer.now) (schema_nodes reader.now)
         (node_at (schema_nodes writer.now) w.0) (node_of node.now) start }
-    ensures { IsAim (schema_nodes writer.now) (schema_nodes reader.now)
-        (node_at (schema_nodes writer.now) w.0) (node_at (schema_nodes reader.now) r.0) result }
+    ensures { result ≡ aim_at (schema_nodes writer.now) (schema_nodes reader.now) w r }
 {
     match node {
         Node::Union(branches) => match first_matched(writer, w, reader, branches, start) {

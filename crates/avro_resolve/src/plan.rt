@@ -1,6 +1,7 @@
 use crate::error::ReadResolveError;
 use crate::plan_ref::PlanRef;
 use crate::plan_table::PlanTable;
+use crate::preparing::prepare_all;
 use avro_binary::Build;
 use avro_schema::{Limits, Memory, NodeId, Schema};
 use std::alloc::Global;
@@ -20,7 +21,7 @@ impl<'a> Model for Plan<'a> {
     ghost use Rattle.avro_schema.specs.contracts.datum.Datum as datum;
     ghost use Rattle.avro_schema.specs.declared.schema.Schema.{Schema};
     ghost use Rattle.avro_schema.specs.SeenSchema.{schema_nodes};
-    ghost use Rattle.avro_resolve.specs.Planned.{ArePrepared};
+    ghost use Rattle.avro_resolve.specs.Tables.{IsTableOf};
 
     ghost Value = { Schema × Schema };
 
@@ -28,13 +29,14 @@ impl<'a> Model for Plan<'a> {
 
     ghost view = { λ p. (p.writer.now, p.reader.now) };
 
-    ghost invariant = { λ p. ArePrepared (schema_nodes p.writer.now) (schema_nodes p.reader.now) p.table.pairs.items };
+    ghost invariant = { λ p. IsTableOf (schema_nodes p.writer.now) (schema_nodes p.reader.now) p.table };
 }
 
 impl<'a> Plan<'a> {
     ghost use Rattle.std.specs.Prelude.{◌≡◌, IfOk};
     ghost use Rattle.avro_schema.specs.SeenSchema.{schema_nodes};
     ghost use Rattle.avro_resolve.specs.Reading.{BuildsResolved};
+    ghost use Rattle.avro_resolve.specs.Tables.{IsTableOf};
 
     /// The plan that keeps these pairs of a writer's node and a reader's, in any order. A pair that is not
     /// one of theirs is resolved all the same, by names.
@@ -50,13 +52,21 @@ impl<'a> Plan<'a> {
     ) -> Result<Plan<'a>, Memory>
         ensures { IfOk result (λ plan. plan ≡ (writer.now, reader.now)) }
     {
-        match PlanTable::of_pairs(alloc, writer, reader, pairs) {
-            Ok(table) => Ok(Plan {
-                writer,
-                reader,
-                table,
-            }),
-            Err(Memory) => Err(Memory),
+        match prepare_all(alloc, writer, reader, pairs) {
+            Ok(kept) => Ok(Plan::of(writer, reader, PlanTable::of(alloc, writer, reader, kept)?)),
+            Err(_) => Err(Memory),
+        }
+    }
+
+    /// The plan that keeps this of two schemas.
+    pub fn of(writer: &'a Schema, reader: &'a Schema, table: PlanTable) -> Plan<'a>
+        requires { IsTableOf (schema_nodes writer.now) (schema_nodes reader.now) table }
+        ensures { result ≡ (writer.now, reader.now) }
+    {
+        Plan {
+            writer,
+            reader,
+            table,
         }
     }
 
@@ -72,14 +82,8 @@ impl<'a> Plan<'a> {
     ) -> Result<Plan<'a>, Memory>
         ensures { IfOk result (λ plan. plan ≡ (writer.now, reader.now)) }
     {
-        match PlanTable::reached(alloc, writer, reader) {
-            Ok(table) => Ok(Plan {
-                writer,
-                reader,
-                table,
-            }),
-            Err(Memory) => Err(Memory),
-        }
+        let table = PlanTable::reached(alloc, writer, reader)?;
+        Ok(Plan::of(writer, reader, table))
     }
 
     /// Reads a writer's datum from the front of bytes once, and answers what a builder builds of what it is

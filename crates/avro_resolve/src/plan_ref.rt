@@ -15,6 +15,7 @@ pub struct PlanRef<'a> {
     writer: &'a Schema,
     reader: &'a Schema,
     pairs: &'a [Prepared],
+    parts: &'a [Vec<u32>],
     root: u32,
 }
 
@@ -44,11 +45,13 @@ impl<'a> PlanRef<'a> {
     ghost use Rattle.avro_resolve.specs.Resolve.{enum_as, fields_at, symbol_at};
     ghost use Rattle.avro_resolve.specs.Source.{missing_field};
 
-    /// The plan of two schemas that keeps these pairs, the roots' at a place if at all.
+    /// The plan of two schemas that keeps these pairs, with the places of the pairs of their parts, and the
+    /// roots' at a place if at all.
     pub(crate) fn new(
         writer: &'a Schema,
         reader: &'a Schema,
         pairs: &'a [Prepared],
+        parts: &'a [Vec<u32>],
         root: u32,
     ) -> PlanRef<'a>
         requires { ArePrepared (schema_nodes writer.now) (schema_nodes reader.now) pairs.now }
@@ -58,6 +61,7 @@ impl<'a> PlanRef<'a> {
             writer,
             reader,
             pairs,
+            parts,
             root,
         }
     }
@@ -108,12 +112,20 @@ impl<'a> PlanRef<'a> {
 
     /// Where the pair of a part of the pair at a place may be kept.
     pub(crate) fn place_below(&self, place: u32, part: usize) -> u32 {
-        match self.pairs.get(place as usize) {
-            Some(pair) => match pair.parts.get(part) {
+        match self.parts.get(place as usize) {
+            Some(parts) => match parts.get(part) {
                 Some(below) => *below,
                 None => 0,
             },
             None => 0,
+        }
+    }
+
+    /// Where the pair may be kept that the pair at a place leads to, by a branch of the reader's where there is one.
+    pub(crate) fn place_to(&self, place: u32, branch: Option<u32>) -> u32 {
+        match branch {
+            Some(_) => self.place_below(place, 0),
+            None => place,
         }
     }
 

@@ -1,33 +1,40 @@
+use crate::ordering::places_of;
 use crate::plan_ref::PlanRef;
 use crate::prepared::Prepared;
-use crate::preparing::prepare_all;
 use crate::walking::prepare_reached;
-use avro_schema::{Memory, NodeId, Schema};
+use avro_schema::{Memory, Schema};
 use std::alloc::Global;
 
 /// What a plan keeps of pairs of nodes of two schemas, without the schemas.
 #[derive(Debug, Drop)]
 pub struct PlanTable {
     pub(crate) pairs: Vec<Prepared>,
+    parts: Vec<Vec<u32>>,
     root: u32,
 }
 
 impl PlanTable {
     ghost use Rattle.std.specs.Prelude.{◌≡◌, IfOk};
     ghost use Rattle.avro_schema.specs.SeenSchema.{schema_nodes};
+    ghost use Rattle.avro_resolve.specs.Planned.{ArePrepared};
     ghost use Rattle.avro_resolve.specs.Tables.{IsTableOf};
 
-    /// What a plan keeps of these pairs.
-    pub(crate) fn of_pairs(
+    /// What a plan keeps of these pairs of nodes, each as [`prepare`](crate::prepare) found it.
+    ///
+    /// # Errors
+    ///
+    /// Memory ran out.
+    pub fn of(
         alloc: Global,
         writer: &Schema,
         reader: &Schema,
-        pairs: &[(NodeId, NodeId)],
+        pairs: Vec<Prepared>,
     ) -> Result<PlanTable, Memory>
+        requires { ArePrepared (schema_nodes writer.now) (schema_nodes reader.now) pairs.items }
         ensures { IfOk result (λ table. IsTableOf (schema_nodes writer.now) (schema_nodes reader.now) table) }
     {
-        match prepare_all(alloc, writer, reader, pairs) {
-            Ok((kept, root)) => Ok(PlanTable { pairs: kept, root }),
+        match places_of(alloc, writer, reader, &pairs) {
+            Ok((parts, root)) => Ok(PlanTable { pairs, parts, root }),
             Err(_) => Err(Memory),
         }
     }
@@ -41,8 +48,9 @@ impl PlanTable {
         ensures { IfOk result (λ table. IsTableOf (schema_nodes writer.now) (schema_nodes reader.now) table) }
     {
         match prepare_reached(alloc, writer, reader) {
-            Ok(kept) => Ok(PlanTable {
-                pairs: kept,
+            Ok((pairs, parts)) => Ok(PlanTable {
+                pairs,
+                parts,
                 root: 0,
             }),
             Err(_) => Err(Memory),
@@ -54,6 +62,6 @@ impl PlanTable {
         requires { IsTableOf (schema_nodes writer.now) (schema_nodes reader.now) self.now }
         ensures { result ≡ (writer.now, reader.now) }
     {
-        PlanRef::new(writer, reader, &self.pairs, self.root)
+        PlanRef::new(writer, reader, &self.pairs, &self.parts, self.root)
     }
 }

@@ -1,107 +1,100 @@
-ghost use Rattle.std.specs.Prelude.{◌≡◌, IfOk};
-ghost use Rattle.avro_schema.specs.Node.{node_at};
+ghost use Rattle.std.specs.Prelude.{◌≡◌, IfOk, [], length, suc, unwrap_or};
+ghost use Rattle.avro_schema.specs.Node.{node_at, symbols_of as texts_in};
 ghost use Rattle.avro_schema.specs.Seen.{seen_fields};
 ghost use Rattle.avro_schema.specs.SeenSchema.{schema_nodes};
 ghost use Rattle.avro_resolve.specs.Noting.{AreIgnored, noted};
-ghost use Rattle.avro_resolve.specs.Pairs.{IsAim};
-ghost use Rattle.avro_resolve.specs.Planned.{AreFor, ArePrepared, AreSources, AreSymbols, IsPrepared};
+ghost use Rattle.avro_resolve.specs.Planned.{AreFor, AreInside, ArePrepared, AreSources, AreSymbols, IsPrepared};
 
 use crate::branch_names::BranchNames;
 use crate::guided::{Aim, At};
 use crate::naming::{field_names, source_in};
-use crate::ordering::{PlacedPair, in_order, place_in, places_of_parts};
 use crate::prepared::Prepared;
 use crate::sourcing::{fields_of, missing_among, node_of_field, source_kept};
 use crate::symbols::{symbols_for, symbols_of};
-use avro_schema::{Field, NodeId, Schema};
+use avro_schema::{Field, Node, NodeId, Schema};
 use std::alloc::{AllocError, Global};
 
-/// What a plan keeps of some pairs of nodes, and the place of the roots' pair among them.
+/// What a plan keeps of some pairs of nodes.
 pub fn prepare_all(
     alloc: Global,
     writer: &Schema,
     reader: &Schema,
     pairs: &[(NodeId, NodeId)],
-) -> Result<(Vec<Prepared>, u32), AllocError>
-    ensures { IfOk result (λ r. ArePrepared (schema_nodes writer.now) (schema_nodes reader.now) r.0.items) }
+) -> Result<Vec<Prepared>, AllocError>
+    ensures { IfOk result (λ kept. ArePrepared (schema_nodes writer.now) (schema_nodes reader.now) kept.items) }
 {
     let names = BranchNames::new(alloc, writer, reader)?;
-    let order = in_order(alloc, pairs)?;
-    let root = place_in(&order, writer.root(), reader.root());
     let mut kept = Vec::new(alloc);
     for pair in pairs {
-        let prepared = prepare_among(alloc, &names, pair.0, pair.1, &order)?;
+        let prepared = prepare(alloc, &names, pair.0, pair.1)?;
         kept.push(prepared)?;
     }
-    Ok((kept, root))
+    Ok(kept)
 }
 
-/// What a plan keeps of a pair of nodes that is one of some pairs.
-fn prepare_among(
-    alloc: Global,
-    names: &BranchNames,
-    w: NodeId,
-    r: NodeId,
-    order: &[PlacedPair],
-) -> Result<Prepared, AllocError>
-    ensures { IfOk result (λ p. IsPrepared (schema_nodes names.now.0) (schema_nodes names.now.1) p) }
-{
-    let mut prepared = prepare(alloc, names, w, r)?;
-    prepared.parts = places_of_parts(alloc, names.writer(), names.reader(), &prepared, order)?;
-    Ok(prepared)
-}
-
-/// What a plan keeps of a pair of nodes, but for the places of its parts.
+/// What a plan keeps of a pair of nodes. Their names are compared here, and nowhere else of those who read
+/// or judge by it.
+///
+/// # Errors
+///
+/// Memory ran out.
 pub fn prepare(
     alloc: Global,
     names: &BranchNames,
     w: NodeId,
     r: NodeId,
 ) -> Result<Prepared, AllocError>
-    ensures { IfOk result (λ p. IsPrepared (schema_nodes names.now.0) (schema_nodes names.now.1) p) }
+    ensures { IfOk result (λ p. IsPrepared (schema_nodes names.now.0) (schema_nodes names.now.1) p × (p.w ≡ w) × (p.r ≡ r)) }
 {
-    let leads = names.aim(w, r);
-    prepare_to(alloc, names.writer(), w, names.reader(), r, leads)
+    let aim = names.aim(w, r);
+    match aim {
+        Aim::Fault(_) => Ok(outside(alloc, w, r, aim)),
+        Aim::To(Some(_), _) => Ok(outside(alloc, w, r, aim)),
+        Aim::To(None, _) => prepare_inside(alloc, names.writer(), w, names.reader(), r, aim),
+    }
 }
 
-/// The same of a pair of nodes that leads there.
-fn prepare_to(
+/// A pair of nodes that leads elsewhere, of which nothing is kept inside.
+fn outside(alloc: Global, w: NodeId, r: NodeId, aim: Aim) -> Prepared
+    ensures { (result.aim ≡ aim) × (result.w ≡ w) × (result.r ≡ r) }
+{
+    Prepared {
+        w,
+        r,
+        aim,
+        missing: None,
+        fields: Vec::new(alloc),
+        sources: Vec::new(alloc),
+        symbols: Vec::new(alloc),
+    }
+}
+
+/// What a plan keeps of a pair of nodes that leads to the reader's node itself.
+fn prepare_inside(
     alloc: Global,
     writer: &Schema,
     w: NodeId,
     reader: &Schema,
     r: NodeId,
-    leads: Aim,
+    aim: Aim,
 ) -> Result<Prepared, AllocError>
-    requires { IsAim (schema_nodes writer.now) (schema_nodes reader.now)
-        (node_at (schema_nodes writer.now) w.0) (node_at (schema_nodes reader.now) r.0) leads }
-    ensures { IfOk result (λ p. IsPrepared (schema_nodes writer.now) (schema_nodes reader.now) p) }
+    ensures { IfOk result (λ p. AreInside (node_at (schema_nodes writer.now) w.0) (node_at (schema_nodes reader.now) r.0) p
+        × (p.aim ≡ aim) × (p.w ≡ w) × (p.r ≡ r)) }
 {
-    let q = target(leads);
     let writes = fields_of(writer, w);
-    let reads = fields_of(reader, q);
+    let reads = fields_of(reader, r);
     let sources = find_sources(alloc, writes, reads)?;
     let fields = find_fields(alloc, writes, reads, &sources)?;
-    let symbols = find_symbols(alloc, writer, w, reader, q)?;
+    let symbols = find_symbols(alloc, writer, w, reader, r)?;
     Ok(Prepared {
         w,
         r,
-        q,
-        aim: leads,
+        aim,
         missing: missing_among(writes, reads, &sources),
         fields,
         sources,
         symbols,
-        parts: Vec::new(alloc),
     })
-}
-
-/// The reader's node that a pair leads to; where it leads to a fault, a place without a node, of which nothing is kept.
-fn target(aim: Aim) -> NodeId {
-    match aim {
-        Aim::To(_, q) => q,
-        Aim::Fault(_) => NodeId(u32::MAX),
-    }
 }
 
 /// The sources of a reader's fields.
@@ -129,7 +122,8 @@ fn find_fields(
     sources: &[Option<usize>],
 ) -> Result<Vec<At>, AllocError>
     requires { AreSources (seen_fields writes.now) (seen_fields reads.now) sources.now }
-    ensures { IfOk result (λ found. AreFor (seen_fields writes.now) (seen_fields reads.now) found.items) }
+    ensures each { IfOk result (λ found. AreFor (seen_fields writes.now) (seen_fields reads.now) found.items) }
+    ensures all { IfOk result (λ found. length found.items ≡ suc (length (seen_fields writes.now))) }
 {
     let mut found = all_ignored(alloc, writes.len() + 1)?;
     let mut left = reads.len();
@@ -150,7 +144,8 @@ fn find_fields(
 
 /// So many parts that are for nothing.
 fn all_ignored(alloc: Global, count: usize) -> Result<Vec<At>, AllocError>
-    ensures { IfOk result (λ found. AreIgnored found.items) }
+    ensures ignored { IfOk result (λ found. AreIgnored found.items) }
+    ensures all { IfOk result (λ found. length found.items ≡ count) }
 {
     let mut found = Vec::new(alloc);
     for _place in 0..count {
@@ -176,11 +171,12 @@ fn find_symbols(
     reader: &Schema,
     q: NodeId,
 ) -> Result<Vec<Option<u32>>, AllocError>
-    ensures { IfOk result (λ found. AreSymbols (node_at (schema_nodes writer.now) w.0) (node_at (schema_nodes reader.now) q.0) found.items) }
+    ensures each { IfOk result (λ found. AreSymbols (node_at (schema_nodes writer.now) w.0) (node_at (schema_nodes reader.now) q.0) found.items) }
+    ensures all { IfOk result (λ found. length found.items ≡ length (unwrap_or (texts_in (node_at (schema_nodes writer.now) w.0)) [])) }
 {
     if (q.0 as usize) < reader.len() {
         symbols_for(alloc, symbols_of(writer, w), reader.node(q))
     } else {
-        Ok(Vec::new(alloc))
+        symbols_for(alloc, symbols_of(writer, w), &Node::Null)
     }
 }

@@ -20,8 +20,9 @@ use std::alloc::{AllocError, Global};
 pub fn start_filling<B: Build>(alloc: Global, plan: &PlanRef<'_>, part: Part) -> Filling<B::Out>
     ensures { (nodes : List Node) (fs : List FieldNode) → FillsAs B.stands_for (schema_nodes plan.now.0) (schema_nodes plan.now.1) nodes fs part.at result [] }
 {
-    let place = plan.place_of(part);
-    let slots = start_fields::<B>(alloc, plan, place, part.at);
+    let start = plan.place_of(part);
+    let slots = start_fields::<B>(alloc, plan, start, part.at);
+    let place = place_of_records(plan, start, &slots);
     let next = next_field_part(plan, place, &slots);
     Filling { slots, place, next }
 }
@@ -35,11 +36,20 @@ fn start_fields<B: Build>(alloc: Global, plan: &PlanRef<'_>, place: u32, at: At)
         At::Ignored => Slots::Nothing,
         At::Pair(w, r) => match plan.aim(place, w, r) {
             Aim::Fault(kind) => Slots::Faulty(faulty(alloc, kind)),
-            Aim::To(branch, q) => match plan.missing(place, w, q) {
+            Aim::To(branch, q) => match plan.missing(plan.place_to(place, branch), w, q) {
                 Some(field) => Slots::Faulty(faulty(alloc, FaultKind::MissingField(field))),
                 None => Slots::Good(Vec::new(alloc), branch, w, q),
             },
         },
+    }
+}
+
+/// Where the pair of the records may be kept, by the place of the pair that leads to it.
+fn place_of_records<O>(plan: &PlanRef<'_>, place: u32, slots: &Slots<O>) -> u32 {
+    match slots {
+        Slots::Good(_, branch, _, _) => plan.place_to(place, *branch),
+        Slots::Faulty(_) => 0,
+        Slots::Nothing => 0,
     }
 }
 

@@ -191,7 +191,8 @@ impl<'p, 'a, 'b, B: Build> Make for Resolving<'p, 'a, 'b, B> {
             At::Pair(w, r) => match self.plan.aim(self.plan.place_of(at), w, r) {
                 Aim::Fault(kind) => Ok(Made::Faulty(faulty(alloc, kind))),
                 Aim::To(branch, q) => {
-                    let symbol = self.plan.symbol(self.plan.place_of(at), w, place, q);
+                    let kept = self.plan.place_to(self.plan.place_of(at), branch);
+                    let symbol = self.plan.symbol(kept, w, place, q);
                     make_symbol(alloc, self.builder, symbol, branch)
                 }
             },

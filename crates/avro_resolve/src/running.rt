@@ -45,7 +45,7 @@ pub fn start_items<B: Build>(
             Aim::To(branch, q) => {
                 let (a, b) = plan.items(w, q);
                 let kept = builder.items(alloc)?;
-                let below = plan.place_below(place, 0);
+                let below = plan.place_below(plan.place_to(place, branch), 0);
                 Ok((Run::Good(kept, 0, branch, a, b), below))
             }
         },
@@ -118,7 +118,7 @@ pub fn start_entries<B: Build>(
             Aim::To(branch, q) => {
                 let (a, b) = plan.values(w, q);
                 let kept = builder.entries(alloc)?;
-                let below = plan.place_below(place, 0);
+                let below = plan.place_below(plan.place_to(place, branch), 0);
                 Ok((Run::Good(kept, 0, branch, a, b), below))
             }
         },

@@ -5,7 +5,7 @@ ghost use Rattle.avro_schema.specs.SeenSchema.{schema_nodes};
 ghost use Rattle.avro_binary.proofs.public.Choices.{HasFewChoices};
 ghost use Rattle.avro_resolve.specs.Resolve.{enum_as, enum_or_default, symbol_at};
 ghost use Rattle.avro_resolve.specs.Pairs.{IsSymbol};
-ghost use Rattle.avro_resolve.specs.Planned.{AreNamed, AreSymbols, FindsSymbols};
+ghost use Rattle.avro_resolve.specs.Planned.{AreNamed, AreTaken, FindsSymbols};
 
 use crate::naming::symbol_names;
 use avro_schema::{Node, NodeId, Schema};
@@ -104,13 +104,14 @@ pub fn symbols_for(
     node: &Node,
 ) -> Result<Vec<Option<u32>>, AllocError>
     requires few { HasFewChoices (node_of node.now) }
-    ensures { (w : SeenNode) → texts_of writes.now ≡ unwrap_or (texts_in w) [] → IfOk result (λ found. AreSymbols w (node_of node.now) found.items) }
+    ensures each { IfOk result (λ found. AreTaken (texts_of writes.now) (node_of node.now) found.items) }
+    ensures all { IfOk result (λ found. length found.items ≡ length writes.now) }
 {
     match node {
         Node::Enum(enumeration) => {
             symbols_among(alloc, writes, &enumeration.symbols, enumeration.default)
         }
-        _ => Ok(Vec::new(alloc)),
+        _ => symbols_among(alloc, writes, &[], None),
     }
 }
 
@@ -122,7 +123,8 @@ fn symbols_among(
     default: Option<u32>,
 ) -> Result<Vec<Option<u32>>, AllocError>
     requires few { length reads.now ≤ 2 ^ 31 }
-    ensures { IfOk result (λ found. AreNamed (texts_of writes.now) (texts_of reads.now) default found.items) }
+    ensures each { IfOk result (λ found. AreNamed (texts_of writes.now) (texts_of reads.now) default found.items) }
+    ensures all { IfOk result (λ found. length found.items ≡ length writes.now) }
 {
     let names = symbol_names(alloc, reads)?;
     let mut found = Vec::new(alloc);

@@ -1,6 +1,6 @@
 ghost use Rattle.std.specs.Prelude.{◌≡◌, IfOk};
 ghost use Rattle.avro_schema.specs.SeenSchema.{schema_nodes};
-ghost use Rattle.avro_resolve.specs.Planned.{ArePrepared, IsPrepared};
+ghost use Rattle.avro_resolve.specs.Planned.{ArePrepared};
 
 use crate::branch_names::BranchNames;
 use crate::found::Found;
@@ -11,48 +11,36 @@ use crate::preparing::prepare;
 use avro_schema::{NodeId, Schema};
 use std::alloc::{AllocError, Global};
 
-/// What a plan keeps of the pairs of nodes that the roots lead to. The roots' pair is the first.
+/// What a plan keeps of the pairs of nodes that the roots lead to, and the places of the pairs of their parts.
+/// The roots' pair is the first.
 pub fn prepare_reached(
     alloc: Global,
     writer: &Schema,
     reader: &Schema,
-) -> Result<Vec<Prepared>, AllocError>
-    ensures { IfOk result (λ kept. ArePrepared (schema_nodes writer.now) (schema_nodes reader.now) kept.items) }
+) -> Result<(Vec<Prepared>, Vec<Vec<u32>>), AllocError>
+    ensures { IfOk result (λ r. ArePrepared (schema_nodes writer.now) (schema_nodes reader.now) r.0.items) }
 {
     let names = BranchNames::new(alloc, writer, reader)?;
     let mut found = Found::new(alloc);
     found.place_of(writer.root(), reader.root())?;
     let mut kept = Vec::new(alloc);
+    let mut parts = Vec::new(alloc);
     for _round in 0..most_pairs(writer, reader) {
         match found.pair(kept.len()) {
             Some((w, r)) => {
-                let prepared = prepare_found(alloc, &names, w, r, &mut found)?;
+                let prepared = prepare(alloc, &names, w, r)?;
+                parts.push(find_parts(alloc, writer, reader, &prepared, &mut found)?)?;
                 kept.push(prepared)?;
             }
-            None => return Ok(kept),
+            None => return Ok((kept, parts)),
         }
     }
-    Ok(kept)
+    Ok((kept, parts))
 }
 
 /// How many pairs of nodes there are.
 fn most_pairs(writer: &Schema, reader: &Schema) -> usize {
     writer.len().saturating_mul(reader.len())
-}
-
-/// What a plan keeps of a pair of nodes. The pairs of its parts are found with it.
-fn prepare_found(
-    alloc: Global,
-    names: &BranchNames,
-    w: NodeId,
-    r: NodeId,
-    found: &mut Found,
-) -> Result<Prepared, AllocError>
-    ensures { IfOk result (λ p. IsPrepared (schema_nodes names.now.0) (schema_nodes names.now.1) p) }
-{
-    let mut prepared = prepare(alloc, names, w, r)?;
-    prepared.parts = find_parts(alloc, names.writer(), names.reader(), &prepared, found)?;
-    Ok(prepared)
 }
 
 /// The places of the pairs of the parts of a pair, which are found with it.

@@ -1,15 +1,13 @@
-use Rattle.std.proofs.Common.{ap, sym, subst}
+use Rattle.std.proofs.Common.{sym, subst}
 use Rattle.avro_schema.specs.Node.{node_at}
 use Rattle.avro_schema.specs.SeenSchema.{schema_nodes}
 use Rattle.avro_resolve.specs.Planned.{AreSources}
 use Rattle.avro_resolve.specs.Resolve.{fields_at}
-use Rattle.avro_resolve.proofs.Planning.{sources_by}
 use Rattle.avro_resolve.proofs.keeping.sources_kept.Goals as goal
 
 pub returns-in-Some : goal.returns-in-Some
 returns-in-Some c =
     let writer = schema_nodes c.args.writer.now in
     let reader = schema_nodes c.args.reader.now in
-    let kept = c.in-Some.ensures writer reader c.requires in
     subst (λ sources. AreSources (fields_at (node_at writer c.args.w.0)) (fields_at (node_at reader c.args.q.0)) sources) (sym c.deref.ensures.value)
-    (sources_by c.in-Some.pair.now.sources.items (ap (λ w. fields_at (node_at writer w.0)) (sym kept.1)) (ap (λ q. fields_at (node_at reader q.0)) (sym kept.2)) kept.0.sources)
+    (c.in-Some.ensures writer reader c.requires).sources

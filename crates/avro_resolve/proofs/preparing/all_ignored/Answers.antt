@@ -1,4 +1,4 @@
-use Rattle.std.proofs.Common.{◌≡◌, [], refl, rules}
+use Rattle.std.proofs.Common.{◌≡◌, ◌∙◌, [], refl, rules, arith}
 use Rattle.avro_resolve.specs.declared.guided.At.TheVariants.{Ignored}
 use Rattle.avro_resolve.proofs.Planning.{holds_none, holds_push}
 use Rattle.avro_resolve.proofs.preparing.all_ignored.Goals as goal
@@ -13,4 +13,4 @@ loop-place-preserved c =
     holds_push (λ k at. at ≡ Ignored) c.loop-place.found.items c.push.new.self.items Ignored c.loop-place._place c.in_ok-push.ensures.items c.loop-place.invariant refl
 
 pub returns : goal.returns
-returns c = c.loop-place.invariant.0
+returns c = record { ignored = c.loop-place.invariant.0; all = c.loop-place.invariant.1 ∙ omega (arith, c.loop-place-test.false, c.loop-place.auto._place-end) }

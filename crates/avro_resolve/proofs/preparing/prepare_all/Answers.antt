@@ -13,7 +13,7 @@ pub loop-pair-preserved : goal.loop-pair-preserved
 loop-pair-preserved c =
     holds_push (λ k p. IsPrepared (schema_nodes c.args.writer.now) (schema_nodes c.args.reader.now) p) c.loop-pair.kept.items c.push.new.self.items c.in_ok-prepared.prepared c.loop-pair.pair-index
     c.in_ok-push.ensures.items c.loop-pair.invariant
-    (subst (λ s. IsPrepared (schema_nodes s.0) (schema_nodes s.1) c.in_ok-prepared.prepared) c.in_ok-names.ensures c.in_ok-prepared.ensures)
+    (subst (λ s. IsPrepared (schema_nodes s.0) (schema_nodes s.1) c.in_ok-prepared.prepared) c.in_ok-names.ensures c.in_ok-prepared.ensures.0)
 
 pub returns : goal.returns
 returns c = c.loop-pair.invariant.0

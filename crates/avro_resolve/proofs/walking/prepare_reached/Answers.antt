@@ -7,6 +7,6 @@ use Rattle.avro_resolve.proofs.walking.prepare_reached.Goals as goal
 pub loop-round-preserved : goal.loop-round-preserved
 loop-round-preserved c =
     let before = c.loop-round.kept.items in
-    (holds_push (λ k p. IsPrepared (schema_nodes c.args.writer.now) (schema_nodes c.args.reader.now) p) before c.push.new.self.items c.in_ok-prepared-in-Some.prepared (length before)
-    c.in_ok-push-in-Some.ensures.items (c.loop-round.invariant, refl)
-    (subst (λ s. IsPrepared (schema_nodes s.0) (schema_nodes s.1) c.in_ok-prepared-in-Some.prepared) c.in_ok-names.ensures c.in_ok-prepared-in-Some.ensures)).0
+    (holds_push (λ k p. IsPrepared (schema_nodes c.args.writer.now) (schema_nodes c.args.reader.now) p) before c.push-in-Some.new.self.items c.in_ok-prepared-in-Some.prepared (length before)
+    c.in_ok-push-in-Some-2.ensures.items (c.loop-round.invariant, refl)
+    (subst (λ s. IsPrepared (schema_nodes s.0) (schema_nodes s.1) c.in_ok-prepared-in-Some.prepared) c.in_ok-names.ensures c.in_ok-prepared-in-Some.ensures.0)).0

@@ -1,0 +1,73 @@
+-- Where a pair of nodes leads, and what resolution makes of it.
+use Rattle.std.proofs.Common.{◌≡◌, ℕ, suc, ◌+◌, Bool, true, false, cond, List, [], ◌∷◌, Option, Some, None, Err, refl, sym, ap, ◌∙◌, subst, arith}
+use Rattle.std.specs.Prelude.{slice_get}
+use Rattle.std.proofs.lemmas.Bool.{cond-true}
+use Rattle.avro_schema.specs.Node.{Node, node_at}
+use Rattle.avro_schema.specs.Value.{Value}
+use Rattle.avro_schema.specs.declared.schema.NodeId.{NodeId}
+use Rattle.avro_resolve.specs.Fault.{fault_here, no_match}
+use Rattle.avro_resolve.specs.Match.{is_match, first_match, first_match_from}
+use Rattle.avro_resolve.specs.Pairs.{IsAim, aim_at, aim_of, aimed, branch_aim}
+use Rattle.avro_resolve.specs.Planned.{AreInside, IsPrepared}
+use Rattle.avro_resolve.specs.Resolve.{Resolved, branch_node, into_branch, matched, result_map}
+use Rattle.avro_resolve.specs.declared.guided.Aim.TheVariants.{Fault, To}
+use Rattle.avro_resolve.specs.declared.error.FaultKind.TheVariants.{NoMatch}
+use Rattle.avro_resolve.specs.declared.prepared.Prepared.{Prepared}
+
+-- the first branch that matches, from a place on, does
+first_matches : (place : ℕ) (writer reader : List Node) (w : Node) (bs : List ℕ) (k : ℕ) → first_match_from place writer reader w bs ≡ Some k
+    → (i : ℕ) × (k ≡ place + i) × (is_match writer reader w (branch_node reader bs i) ≡ true)
+first_matches place writer reader w [] k h = absurd cc
+first_matches place writer reader w (b ∷ bs) k h = step (is_match writer reader w (node_at reader b)) refl h (first_matches (suc place) writer reader w bs k)
+  where
+    step : (t : Bool) → is_match writer reader w (node_at reader b) ≡ t → cond t (Some place) (first_match_from (suc place) writer reader w bs) ≡ Some k
+        → (first_match_from (suc place) writer reader w bs ≡ Some k → (i : ℕ) × (k ≡ suc place + i) × (is_match writer reader w (branch_node reader bs i) ≡ true))
+        → (i : ℕ) × (k ≡ place + i) × (is_match writer reader w (branch_node reader (b ∷ bs) i) ≡ true)
+    step true m e later = let same : place ≡ k = cc in (0, omega (arith, same), m)
+    step false m e later = let found = later e in (suc found.0, omega (arith, found.1), found.2)
+
+pub first_match_matches : (writer reader : List Node) (w : Node) (places : List ℕ) (k : ℕ) → first_match writer reader w places ≡ Some k
+    → is_match writer reader w (branch_node reader places k) ≡ true
+first_match_matches writer reader w places k h =
+    let found = first_matches 0 writer reader w places k h in
+    let same : found.0 ≡ k = omega (arith, found.1) in
+    subst (λ (i : ℕ). is_match writer reader w (branch_node reader places i) ≡ true) same found.2
+
+pub aim_leads : (writer reader : List Node) (w : Node) (r : NodeId) (q : Node) → node_at reader r.0 ≡ q → IsAim writer reader w q (aim_of writer reader w r q)
+aim_leads writer reader w r (Node.union places) here = λ resolve. chosen resolve (first_match writer reader w places) refl
+  where
+    chosen : (resolve : Node → Resolved) (o : Option ℕ) → first_match writer reader w places ≡ o → into_branch writer reader w places o resolve ≡ aimed reader (branch_aim places o) resolve
+    chosen resolve None e = refl
+    chosen resolve (Some k) e =
+        ap (result_map (Value.union k))
+        (cond-true (is_match writer reader w (branch_node reader places k)) (resolve (branch_node reader places k)) (Err (fault_here no_match)) (first_match_matches writer reader w places k e))
+aim_leads writer reader w r q here = λ resolve. chosen resolve (is_match writer reader w q)
+  where
+    chosen : (resolve : Node → Resolved) (t : Bool) → cond t (resolve q) (Err (fault_here no_match)) ≡ aimed reader (cond t (To None r) (Fault NoMatch)) resolve
+    chosen resolve true = ap resolve (sym here)
+    chosen resolve false = refl
+
+-- the same at the places of two nodes
+pub pair_leads : (writer reader : List Node) (w r : NodeId) → IsAim writer reader (node_at writer w.0) (node_at reader r.0) (aim_at writer reader w r)
+pair_leads writer reader w r = aim_leads writer reader (node_at writer w.0) r (node_at reader r.0) refl
+
+-- what is kept inside, at equal nodes
+pub inside_by : (writer reader : List Node) {w v r q : NodeId} (p : Prepared) → w ≡ v → r ≡ q → AreInside (node_at writer w.0) (node_at reader r.0) p → AreInside (node_at writer v.0) (node_at reader q.0) p
+inside_by writer reader {v = v} {r = r} p e f h =
+    subst (λ (n : NodeId). AreInside (node_at writer v.0) (node_at reader n.0) p) f (subst (λ (n : NodeId). AreInside (node_at writer n.0) (node_at reader r.0) p) e h)
+
+-- a pair that leads elsewhere
+pub outside_prepared : (writer reader : List Node) (w r : NodeId) (p : Prepared) → p.w ≡ w → p.r ≡ r → p.aim ≡ aim_at writer reader w r
+    → ((q : NodeId) → p.aim ≡ To None q → ⊥) → IsPrepared writer reader p
+outside_prepared writer reader w r p e f aims elsewhere = record {
+  aims = aims ∙ ap (λ n. aim_at writer reader n r) (sym e) ∙ ap (λ n. aim_at writer reader p.w n) (sym f);
+  inside = λ q h. absurd (elsewhere q h);
+}
+
+-- a pair that leads to the reader's node itself
+pub inside_prepared : (writer reader : List Node) (w r : NodeId) (p : Prepared) → p.w ≡ w → p.r ≡ r → p.aim ≡ aim_at writer reader w r
+    → AreInside (node_at writer w.0) (node_at reader r.0) p → IsPrepared writer reader p
+inside_prepared writer reader w r p e f aims kept = record {
+  aims = aims ∙ ap (λ n. aim_at writer reader n r) (sym e) ∙ ap (λ n. aim_at writer reader p.w n) (sym f);
+  inside = λ q h. inside_by writer reader p (sym e) (sym f) kept;
+}
