@@ -4,7 +4,6 @@ pub mod Halving
 pub mod LeastPairs
 pub mod Lengths
 pub mod LineTexts
-pub mod NamesAsked
 pub mod ReadText
 mod RowsCertificate
 mod RowsClosed

@@ -5,4 +5,5 @@ pub mod Rising
 pub mod Shapes
 pub mod SoundPairs
 pub mod Successes
+pub mod Symbols
 pub mod Tests

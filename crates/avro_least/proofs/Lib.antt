@@ -10,10 +10,10 @@ pub mod Fixed
 pub mod LeastData
 pub mod LeastErrors
 pub mod LeastOrder
-pub mod NotedRows
 pub mod PairRounds
 pub mod PairTable
 pub mod Rounds
 pub mod ShownData
 pub mod ShownErrors
 pub mod public
+pub mod AskedLed

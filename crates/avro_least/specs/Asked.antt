@@ -32,12 +32,6 @@ abbrev pub rows_from : List FieldNode → List FieldNode → ℕ → List ℕ �
 rows_from ws rs place [] = []
 rows_from ws rs place (p ∷ ps) = record { node = p; theirs = option_map (λ f. f.node) (reader_field ws rs place) } ∷ rows_from ws rs (suc place) ps
 
--- the row at a place names a reader's field
-abbrev pub noted : List Row → ℕ → ℕ → List Row
-noted [] k q = []
-noted (row ∷ rows) zero q = record { node = row.node; theirs = Some q } ∷ rows
-noted (row ∷ rows) (suc k) q = row ∷ noted rows k q
-
 -- of two nodes that match and are no unions
 abbrev pub asked_inside : Node → Node → Asked
 asked_inside Node.bytes Node.string = lone

@@ -1,6 +1,7 @@
 -- How contracts see what a pair asks for.
-use Rattle.std.specs.Prelude.{List, option_map, map}
+use Rattle.std.specs.Prelude.{ℕ, suc, List, [], ◌∷◌, Option, Some, None, option_map, map, slice_get}
 use Rattle.avro_schema.specs.Seen.{places_of}
+use Rattle.avro_resolve.specs.declared.guided.At.{At}
 use Rattle.avro_least.specs.Asked.{Row, Asked}
 use Rattle.avro_least.specs.declared.asking.FieldAsk.{FieldAsk}
 use Rattle.avro_least.specs.declared.asking.Ask.{Ask}
@@ -22,3 +23,17 @@ ask_of (Ask.Fields rows) = Asked.fields (rows_of rows.items)
 
 abbrev pub asks_of : List Ask → List Asked
 asks_of asks = map ask_of asks
+
+-- the reader's field that a part is for
+abbrev pub theirs_in : Option At → Option ℕ
+theirs_in None = None
+theirs_in (Some At.Ignored) = None
+theirs_in (Some (At.Pair w r)) = Some r.0
+
+abbrev pub theirs_at : List At → ℕ → Option ℕ
+theirs_at parts place = theirs_in (slice_get parts place)
+
+-- each writer's field beside it
+abbrev pub rows_by : List At → ℕ → List ℕ → List Row
+rows_by parts place [] = []
+rows_by parts place (p ∷ ps) = record { node = p; theirs = theirs_at parts place } ∷ rows_by parts (suc place) ps

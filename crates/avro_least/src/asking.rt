@@ -1,21 +1,17 @@
 //! What a pair of nodes asks for, once all names are compared.
 
-ghost use Rattle.std.specs.Prelude.{◌≡◌, IfOk, is_some, cond, []};
+ghost use Rattle.std.specs.Prelude.{◌≡◌, IfOk, is_none, is_some, cond, option_map};
+ghost use Rattle.std.specs.List.{list_any};
 ghost use Rattle.avro_schema.specs.Node.{Node as SeenNode, node_at, field_places};
-ghost use Rattle.avro_schema.specs.Seen.{node_of, places_of, seen_fields, texts_of};
+ghost use Rattle.avro_schema.specs.Seen.{node_of, seen_fields};
 ghost use Rattle.avro_schema.specs.SeenSchema.{schema_nodes};
-ghost use Rattle.avro_resolve.specs.Match.{is_match, first_match};
-ghost use Rattle.avro_resolve.specs.Planned.{FindsFields};
-ghost use Rattle.avro_resolve.specs.Source.{missing_field};
-ghost use Rattle.avro_certificate.specs.Closed.{lacks_symbol};
-ghost use Rattle.avro_least.specs.Asked.{Asked, asked, asked_inside, asked_branch, noted, rows_from};
-ghost use Rattle.avro_least.specs.SeenAsk.{ask_of, rows_of};
+ghost use Rattle.avro_resolve.specs.Planned.{AreInside, IsPrepared};
+ghost use Rattle.avro_least.specs.Asked.{Asked, asked, asked_inside};
+ghost use Rattle.avro_least.specs.SeenAsk.{ask_of, rows_by, rows_of, theirs_at};
 
-use avro_certificate::{lacks_symbol, names_of};
-use avro_resolve::{BranchNames, matches, source_in};
+use avro_resolve::{Aim, At, Prepared};
 use avro_schema::{Field, Memory, Node, NodeId, Schema};
 use std::alloc::Global;
-use std::collections::BTreeMap;
 
 /// A writer's field, and the reader's field whose source it is.
 #[derive(Clone, Copy, Debug)]
@@ -57,28 +53,26 @@ pub(crate) fn node_or<'a>(schema: &'a Schema, id: NodeId, null: &'a Node) -> &'a
     }
 }
 
-/// Whether some reader's field has neither a source nor a default.
-fn misses_field(names: &BTreeMap<&str, usize>, writer: &[Field], reader: &[Field]) -> bool
-    requires { FindsFields (seen_fields writer.now) names.now }
-    ensures { result ≡ is_some (missing_field (seen_fields writer.now) (seen_fields reader.now)) }
+/// The node of the reader's field that a part is for.
+fn theirs_at(parts: &[At], place: usize) -> Option<NodeId>
+    ensures { option_map (λ id. id.0) result ≡ theirs_at parts.now place }
 {
-    for field in reader {
-        if source_in(names, writer, field).is_none() && field.default.is_none() {
-            return true;
-        }
+    match parts.get(place) {
+        Some(At::Pair(_, theirs)) => Some(*theirs),
+        Some(At::Ignored) => None,
+        None => None,
     }
-    false
 }
 
-/// Each writer's field alone.
-fn lone_rows(alloc: Global, writer: &[Field]) -> Result<Vec<FieldAsk>, Memory>
-    ensures { IfOk result (λ rows. rows_of rows.items ≡ rows_from (seen_fields writer.now) [] 0 (field_places (seen_fields writer.now))) }
+/// Each writer's field, beside the reader's field that its part is for.
+fn rows(alloc: Global, writer: &[Field], parts: &[At]) -> Result<Vec<FieldAsk>, Memory>
+    ensures { IfOk result (λ rows. rows_of rows.items ≡ rows_by parts.now 0 (field_places (seen_fields writer.now))) }
 {
     let mut rows = Vec::new(alloc);
     for i in 0..writer.len() {
         let row = FieldAsk {
             node: writer[i].node,
-            theirs: None,
+            theirs: theirs_at(parts, i),
         };
         if rows.push(row).is_err() {
             return Err(Memory);
@@ -87,72 +81,43 @@ fn lone_rows(alloc: Global, writer: &[Field]) -> Result<Vec<FieldAsk>, Memory>
     Ok(rows)
 }
 
-/// Notes the reader's field whose source a row is.
-fn note(rows: &mut Vec<FieldAsk>, place: usize, theirs: NodeId)
-    ensures { rows_of rows.new.items ≡ noted (rows_of rows.old.items) place theirs.0 }
-{
-    if place < rows.len() {
-        rows[place] = FieldAsk {
-            node: rows[place].node,
-            theirs: Some(theirs),
-        };
-    }
-}
-
-/// Each writer's field, beside the reader's field whose source it is: the first, so that they are noted
-/// from the last on.
-fn rows(
-    alloc: Global,
-    names: &BTreeMap<&str, usize>,
-    writer: &[Field],
-    reader: &[Field],
-) -> Result<Vec<FieldAsk>, Memory>
-    requires { FindsFields (seen_fields writer.now) names.now }
-    ensures { IfOk result (λ rows. rows_of rows.items ≡ rows_from (seen_fields writer.now) (seen_fields reader.now) 0 (field_places (seen_fields writer.now))) }
-{
-    let mut rows = lone_rows(alloc, writer)?;
-    let mut i = reader.len();
-    while i > 0 {
-        i -= 1;
-        let field = &reader[i];
-        match source_in(names, writer, field) {
-            None => {}
-            Some(place) => note(&mut rows, place, field.node),
-        }
-    }
-    Ok(rows)
-}
-
 /// What two records ask for.
-fn ask_fields(alloc: Global, writer: &[Field], reader: &[Field]) -> Result<Ask, Memory>
-    ensures { IfOk result (λ a. ask_of a ≡ cond (is_some (missing_field (seen_fields writer.now) (seen_fields reader.now))) Asked.whole
-        (Asked.fields (rows_from (seen_fields writer.now) (seen_fields reader.now) 0 (field_places (seen_fields writer.now))))) }
+fn ask_fields(alloc: Global, writer: &[Field], pair: &Prepared) -> Result<Ask, Memory>
+    ensures { IfOk result (λ a. ask_of a ≡ cond (is_some pair.now.missing) Asked.whole
+        (Asked.fields (rows_by pair.now.fields.items 0 (field_places (seen_fields writer.now))))) }
 {
-    let names = names_of(alloc, writer)?;
-    if misses_field(&names, writer, reader) {
+    if pair.missing.is_some() {
         return Ok(Ask::Whole);
     }
-    Ok(Ask::Fields(rows(alloc, &names, writer, reader)?))
+    Ok(Ask::Fields(rows(alloc, writer, &pair.fields)?))
+}
+
+/// Whether some symbol has none of the reader's.
+fn lacks_one(symbols: &[Option<u32>]) -> bool
+    ensures { result ≡ list_any is_none symbols.now }
+{
+    for symbol in symbols {
+        if symbol.is_none() {
+            return true;
+        }
+    }
+    false
 }
 
 /// What two enums ask for.
-fn ask_symbols(
-    alloc: Global,
-    symbols: &[String],
-    theirs: &[String],
-    default: Option<u32>,
-) -> Result<Ask, Memory>
-    ensures { IfOk result (λ a. ask_of a ≡ cond (lacks_symbol (texts_of symbols.now) (texts_of theirs.now) default) Asked.lone Asked.quiet) }
+fn ask_symbols(pair: &Prepared) -> Ask
+    ensures { ask_of result ≡ cond (list_any is_none pair.now.symbols.items) Asked.lone Asked.quiet }
 {
-    if lacks_symbol(alloc, symbols, theirs, default)? {
-        Ok(Ask::Lone)
+    if lacks_one(&pair.symbols) {
+        Ask::Lone
     } else {
-        Ok(Ask::Quiet)
+        Ask::Quiet
     }
 }
 
 /// What two nodes ask for that match and are no unions.
-fn ask_inside(alloc: Global, w: &Node, r: &Node) -> Result<Ask, Memory>
+fn ask_inside(alloc: Global, w: &Node, r: &Node, pair: &Prepared) -> Result<Ask, Memory>
+    requires { AreInside (node_of w.now) (node_of r.now) pair.now }
     ensures { IfOk result (λ a. ask_of a ≡ asked_inside (node_of w.now) (node_of r.now)) }
 {
     match w {
@@ -170,51 +135,14 @@ fn ask_inside(alloc: Global, w: &Node, r: &Node) -> Result<Ask, Memory>
             _ => Ok(Ask::Quiet),
         },
         Node::Record(a) => match r {
-            Node::Record(b) => ask_fields(alloc, &a.fields, &b.fields),
+            Node::Record(_) => ask_fields(alloc, &a.fields, pair),
             _ => Ok(Ask::Quiet),
         },
-        Node::Enum(a) => match r {
-            Node::Enum(b) => ask_symbols(alloc, &a.symbols, &b.symbols, b.default),
+        Node::Enum(_) => match r {
+            Node::Enum(_) => Ok(ask_symbols(pair)),
             _ => Ok(Ask::Quiet),
         },
         _ => Ok(Ask::Quiet),
-    }
-}
-
-/// What two nodes ask for that are no unions.
-fn ask_plain(
-    alloc: Global,
-    writer: &Schema,
-    w: NodeId,
-    reader: &Schema,
-    r: NodeId,
-    from: &Node,
-    to: &Node,
-) -> Result<Ask, Memory>
-    requires from { node_of from.now ≡ node_at (schema_nodes writer.now) w.0 }
-    requires to { node_of to.now ≡ node_at (schema_nodes reader.now) r.0 }
-    ensures { IfOk result (λ a. ask_of a ≡ cond (is_match (schema_nodes writer.now) (schema_nodes reader.now) (node_of from.now) (node_of to.now))
-        (asked_inside (node_of from.now) (node_of to.now)) Asked.whole) }
-{
-    if matches(writer, w, reader, r) {
-        ask_inside(alloc, from, to)
-    } else {
-        Ok(Ask::Whole)
-    }
-}
-
-/// What a node that is no union asks for with a union's branches.
-fn ask_branch(names: &BranchNames, w: NodeId, r: NodeId, from: &Node, places: &[NodeId]) -> Ask
-    requires from { node_of from.now ≡ node_at (schema_nodes names.now.0) w.0 }
-    requires to { node_at (schema_nodes names.now.1) r.0 ≡ SeenNode.union (places_of places.now) }
-    ensures { ask_of result ≡ asked_branch (places_of places.now) (first_match (schema_nodes names.now.0) (schema_nodes names.now.1) (node_of from.now) (places_of places.now)) }
-{
-    match names.first_match(w, r) {
-        None => Ask::Whole,
-        Some(k) => match places.get(k) {
-            None => Ask::Same(NodeId(0)),
-            Some(place) => Ask::Same(*place),
-        },
     }
 }
 
@@ -231,45 +159,42 @@ fn copy(alloc: Global, places: &[NodeId]) -> Result<Vec<NodeId>, Memory>
     Ok(copy)
 }
 
-/// What two nodes ask for that stand at these places.
+/// What a pair of nodes asks for, by what was found of it: no name is compared here. Past the end stand nulls.
+pub(crate) fn ask_of_pair(
+    alloc: Global,
+    writer: &Schema,
+    reader: &Schema,
+    pair: &Prepared,
+) -> Result<Ask, Memory>
+    requires { IsPrepared (schema_nodes writer.now) (schema_nodes reader.now) pair.now }
+    ensures { IfOk result (λ a. ask_of a ≡ asked (schema_nodes writer.now) (schema_nodes reader.now) (node_at (schema_nodes writer.now) pair.now.w.0) (node_at (schema_nodes reader.now) pair.now.r.0)) }
+{
+    let null = Node::Null;
+    let from = node_or(writer, pair.w, &null);
+    let to = node_or(reader, pair.r, &null);
+    ask_nodes(alloc, writer, reader, from, to, pair)
+}
+
+/// The same of the nodes that stand there.
 fn ask_nodes(
     alloc: Global,
-    names: &BranchNames,
     writer: &Schema,
-    w: NodeId,
     reader: &Schema,
-    r: NodeId,
     from: &Node,
     to: &Node,
+    pair: &Prepared,
 ) -> Result<Ask, Memory>
-    requires from { node_of from.now ≡ node_at (schema_nodes writer.now) w.0 }
-    requires to { node_of to.now ≡ node_at (schema_nodes reader.now) r.0 }
-    requires of_these { names.now ≡ (writer.now, reader.now) }
+    requires pair { IsPrepared (schema_nodes writer.now) (schema_nodes reader.now) pair.now }
+    requires from { node_of from.now ≡ node_at (schema_nodes writer.now) pair.now.w.0 }
+    requires to { node_of to.now ≡ node_at (schema_nodes reader.now) pair.now.r.0 }
     ensures { IfOk result (λ a. ask_of a ≡ asked (schema_nodes writer.now) (schema_nodes reader.now) (node_of from.now) (node_of to.now)) }
 {
     match from {
         Node::Union(places) => Ok(Ask::Branches(copy(alloc, places)?)),
-        _ => match to {
-            Node::Union(places) => Ok(ask_branch(names, w, r, from, places)),
-            _ => ask_plain(alloc, writer, w, reader, r, from, to),
+        _ => match pair.aim {
+            Aim::Fault(_) => Ok(Ask::Whole),
+            Aim::To(Some(_), q) => Ok(Ask::Same(q)),
+            Aim::To(None, _) => ask_inside(alloc, from, to, pair),
         },
     }
-}
-
-/// What a pair of nodes asks for; past the end stand nulls.
-pub(crate) fn make_ask(
-    alloc: Global,
-    names: &BranchNames,
-    writer: &Schema,
-    w: NodeId,
-    reader: &Schema,
-    r: NodeId,
-) -> Result<Ask, Memory>
-    requires { names.now ≡ (writer.now, reader.now) }
-    ensures { IfOk result (λ a. ask_of a ≡ asked (schema_nodes writer.now) (schema_nodes reader.now) (node_at (schema_nodes writer.now) w.0) (node_at (schema_nodes reader.now) r.0)) }
-{
-    let null = Node::Null;
-    let from = node_or(writer, w, &null);
-    let to = node_or(reader, r, &null);
-    ask_nodes(alloc, names, writer, w, reader, r, from, to)
 }

@@ -1,25 +1,27 @@
 //! A least datum that errs, by the tables.
 
-ghost use Rattle.std.specs.Prelude.{◌≡◌, ◌+◌, ◌<◌, ◌≤◌, ℕ, true, false, Bool, length, IfOk, OnOk, [], ◌∷◌, ◌++◌, Some, slice_get, is_some, map};
+ghost use Rattle.std.specs.Prelude.{◌≡◌, ◌+◌, ◌<◌, ◌≤◌, ℕ, true, false, Bool, List, length, IfOk, OnOk, [], ◌∷◌, ◌++◌, Some, slice_get, is_some, map};
+ghost use Rattle.std.specs.Option.{IfSome};
 ghost use Rattle.indexmap.specs.IndexSet.{keys};
 ghost use Rattle.avro_schema.specs.Seen.{value_of, values_from, node_of, places_of};
 ghost use Rattle.avro_schema.specs.Value.{Value, entry, no_entries};
 ghost use Rattle.avro_schema.specs.Node.{Node as SeenNode, node_at};
 ghost use Rattle.avro_schema.specs.SeenSchema.{schema_nodes};
+ghost use Rattle.avro_resolve.specs.Planned.{ArePrepared, IsPrepared};
 ghost use Rattle.avro_least.specs.Asked.{Asked, asked, err_of_rows};
 ghost use Rattle.avro_least.specs.Tables.{best_of, erring_of};
 ghost use Rattle.avro_least.specs.SeenAsk.{ask_of, row_of, rows_of};
 ghost use Rattle.avro_least.specs.SeenLeast.{seen, seen_all, table_of};
 ghost use Rattle.avro_least.specs.BuiltErrors.{IsLone, lone_value, part_value, BuildsError, BuildsAsked, BuildsRow, BuildsRows, part_of_row, total_from};
 
-use crate::asking::{Ask, FieldAsk, make_ask, node_or};
+use crate::asking::{Ask, FieldAsk, ask_of_pair, node_or};
 use crate::asking_names::first_lacking;
 use crate::build::{are_same, as_place, build, make_record, place_at, push_datum, wrap};
 use crate::erring::{best_branch, best_field, pair_entry, row_entry};
 use crate::kept::Least;
 use crate::least::{entry, together};
-use crate::reaching::Reached;
-use avro_resolve::BranchNames;
+use crate::reaching::{Reached, find_pair, number};
+use avro_resolve::{BranchNames, Prepared};
 use avro_schema::{Datum, Memory, Node, NodeId, Schema};
 use std::alloc::Global;
 
@@ -192,6 +194,49 @@ fn around_part(alloc: Global, writer: &Schema, w: NodeId, value: Datum) -> Resul
     }
 }
 
+/// What was found of a pair, if it is one that was reached.
+fn found_of(reached: &Reached, count: u32, w: NodeId, r: NodeId) -> Option<&Prepared>
+    ensures { (writer reader : List SeenNode) → ArePrepared writer reader reached.now.found.items
+        → IfSome result (λ p. IsPrepared writer reader p.now × (p.now.w ≡ w) × (p.now.r ≡ r)) }
+{
+    let place = match reached.known.get_index_of(&number(count, w, r)) {
+        Some(place) => place,
+        None => return None,
+    };
+    if place >= reached.found.len() {
+        return None;
+    }
+    let pair = &reached.found[place];
+    if pair.w == w && pair.r == r {
+        Some(pair)
+    } else {
+        None
+    }
+}
+
+/// What a pair asks for, by what was found of it, and else by names.
+fn ask_for(
+    alloc: Global,
+    writer: &Schema,
+    reader: &Schema,
+    count: u32,
+    reached: &Reached,
+    w: NodeId,
+    r: NodeId,
+) -> Result<Ask, Memory>
+    requires { ArePrepared (schema_nodes writer.now) (schema_nodes reader.now) reached.now.found.items }
+    ensures { IfOk result (λ a. ask_of a ≡ asked (schema_nodes writer.now) (schema_nodes reader.now) (node_at (schema_nodes writer.now) w.0) (node_at (schema_nodes reader.now) r.0)) }
+{
+    match found_of(reached, count, w, r) {
+        Some(pair) => ask_of_pair(alloc, writer, reader, pair),
+        None => {
+            let names = BranchNames::none(alloc, writer, reader);
+            let pair = find_pair(alloc, &names, w, r)?;
+            ask_of_pair(alloc, writer, reader, &pair)
+        }
+    }
+}
+
 /// A least datum that fails at a pair, of no more nodes than are left.
 ///
 /// # Errors
@@ -211,14 +256,14 @@ pub fn build_error(
     r: NodeId,
     left: u32,
 ) -> Result<Datum, Memory>
-    requires { limit ≤ 16777216 }
+    requires few { limit ≤ 16777216 }
+    requires found { ArePrepared (schema_nodes writer.now) (schema_nodes reader.now) reached.now.found.items }
     ensures { IfOk result (λ d. BuildsError (schema_nodes writer.now) (schema_nodes reader.now) limit (table_of table.now) (erring_of count (table_of table.now) (keys reached.now.known) (seen_all entries.now)) left w.0 r.0 (value_of d)) }
 {
-    let names = BranchNames::none(alloc, writer, reader);
-    let ask = make_ask(alloc, &names, writer, w, reader, r)?;
+    let ask = ask_for(alloc, writer, reader, count, reached, w, r)?;
     match &ask {
         Ask::Same(q) => {
-            let again = make_ask(alloc, &names, writer, w, reader, *q)?;
+            let again = ask_for(alloc, writer, reader, count, reached, w, *q)?;
             let value = build_asked(
                 alloc, writer, reader, limit, table, count, reached, entries, w, *q, &again, left,
             )?;
@@ -249,7 +294,8 @@ fn build_asked(
     ask: &Ask,
     left: u32,
 ) -> Result<Datum, Memory>
-    requires { limit ≤ 16777216 }
+    requires few { limit ≤ 16777216 }
+    requires found { ArePrepared (schema_nodes writer.now) (schema_nodes reader.now) reached.now.found.items }
     ensures { IfOk result (λ d. BuildsAsked (schema_nodes writer.now) (schema_nodes reader.now) limit (table_of table.now) (erring_of count (table_of table.now) (keys reached.now.known) (seen_all entries.now)) left w.0 r.0 (ask_of ask.now) (value_of d)) }
 {
     if left == 0 {
@@ -332,7 +378,8 @@ fn build_branches(
     r: NodeId,
     left: u32,
 ) -> Result<Datum, Memory>
-    requires { limit ≤ 16777216 }
+    requires few { limit ≤ 16777216 }
+    requires found { ArePrepared (schema_nodes writer.now) (schema_nodes reader.now) reached.now.found.items }
     ensures { IfOk result (λ d. (w more : ℕ) → more ≤ left + 1 → BuildsAsked (schema_nodes writer.now) (schema_nodes reader.now) limit (table_of table.now) (erring_of count (table_of table.now) (keys reached.now.known) (seen_all entries.now)) more w r.0 (Asked.branches (places_of places.now)) (value_of d)) }
 {
     let k = best_error_place(table, count, reached, entries, places, r);
@@ -367,7 +414,8 @@ fn build_rows(
     rows: &[FieldAsk],
     left: u32,
 ) -> Result<Datum, Memory>
-    requires { limit ≤ 16777216 }
+    requires few { limit ≤ 16777216 }
+    requires found { ArePrepared (schema_nodes writer.now) (schema_nodes reader.now) reached.now.found.items }
     ensures { IfOk result (λ d. (w r more : ℕ) → more ≤ left + 1 → BuildsAsked (schema_nodes writer.now) (schema_nodes reader.now) limit (table_of table.now) (erring_of count (table_of table.now) (keys reached.now.known) (seen_all entries.now)) more w r (Asked.fields (rows_of rows.now)) (value_of d)) }
 {
     let k = best_row(limit, table, count, reached, entries, rows);
@@ -406,7 +454,8 @@ fn build_row(
     chosen: bool,
     left: u32,
 ) -> Result<Datum, Memory>
-    requires { limit ≤ 16777216 }
+    requires few { limit ≤ 16777216 }
+    requires found { ArePrepared (schema_nodes writer.now) (schema_nodes reader.now) reached.now.found.items }
     ensures { IfOk result (λ d. BuildsRow (schema_nodes writer.now) (schema_nodes reader.now) limit (table_of table.now) (erring_of count (table_of table.now) (keys reached.now.known) (seen_all entries.now)) left chosen (row_of row) (value_of d)) }
 {
     if chosen {

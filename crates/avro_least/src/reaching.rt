@@ -5,6 +5,7 @@ ghost use Rattle.std.specs.List.{list_all};
 ghost use Rattle.indexmap.specs.IndexSet.{keys, index_set_len, IsUnique};
 ghost use Rattle.avro_schema.specs.Node.{node_at};
 ghost use Rattle.avro_schema.specs.SeenSchema.{schema_nodes};
+ghost use Rattle.avro_resolve.specs.Planned.{ArePrepared, IsPrepared};
 ghost use Rattle.avro_certificate.specs.Closed.{Pair};
 ghost use Rattle.avro_least.specs.Tables.{pair_number};
 ghost use Rattle.avro_least.specs.SeenLeast.{table_of};
@@ -12,20 +13,22 @@ ghost use Rattle.avro_least.specs.Reached.{is_key, AreFollowed, IsSteppedTo};
 ghost use Rattle.avro_least.specs.Asked.{asked_at, asked_children, live_numbers, steps_at, AreAsked};
 ghost use Rattle.avro_least.specs.SeenAsk.{ask_of, asks_of};
 
-use crate::asking::{Ask, make_ask};
+use crate::asking::{Ask, ask_of_pair};
 use crate::kept::Least;
 use crate::least::{count, entry};
 use avro_certificate::branch_names;
-use avro_resolve::BranchNames;
+use avro_resolve::{BranchNames, Prepared, prepare};
 use avro_schema::{Memory, NodeId, Schema};
 use indexmap::IndexSet;
 use std::alloc::Global;
 
-/// The pairs that were reached, and what each asks for.
+/// The pairs that were reached, what was found of each by names, and what each asks for.
 #[derive(Debug, Drop)]
 pub struct Reached {
     /// The number of each pair, in order of discovery.
     pub known: IndexSet<u64>,
+    /// What was found of the pair at each place.
+    pub found: Vec<Prepared>,
     /// What the pair at each place asks for.
     pub asks: Vec<Ask>,
 }
@@ -125,21 +128,52 @@ pub fn readers(reader: &Schema, key: u64) -> NodeId
     NodeId((key % u64::from(count(reader))) as u32)
 }
 
-/// What a pair asks for.
+/// What is found of a pair by names.
+pub(crate) fn find_pair(
+    alloc: Global,
+    names: &BranchNames,
+    w: NodeId,
+    r: NodeId,
+) -> Result<Prepared, Memory>
+    ensures { IfOk result (λ p. IsPrepared (schema_nodes names.now.0) (schema_nodes names.now.1) p × (p.w ≡ w) × (p.r ≡ r)) }
+{
+    match prepare(alloc, names, w, r) {
+        Ok(pair) => Ok(pair),
+        Err(_) => Err(Memory),
+    }
+}
+
+/// What a pair asks for. What is found of it by names is added to what was found of others.
 fn ask_at(
     alloc: Global,
     names: &BranchNames,
     writer: &Schema,
     reader: &Schema,
     key: u64,
+    found: &mut Vec<Prepared>,
 ) -> Result<Ask, Memory>
     requires of_these { names.now ≡ (writer.now, reader.now) }
     requires within { key < length (schema_nodes writer.now) * length (schema_nodes reader.now) }
-    ensures { IfOk result (λ a. ask_of a ≡ asked_at (schema_nodes writer.now) (schema_nodes reader.now) key) }
+    ensures asked { IfOk result (λ a. ask_of a ≡ asked_at (schema_nodes writer.now) (schema_nodes reader.now) key) }
+    ensures found { OnOk result (ArePrepared (schema_nodes writer.now) (schema_nodes reader.now) found.old.items
+        → ArePrepared (schema_nodes writer.now) (schema_nodes reader.now) found.new.items) }
 {
     let w = writers(writer, reader, key);
     let r = readers(reader, key);
-    make_ask(alloc, names, writer, w, reader, r)
+    let pair = find_pair(alloc, names, w, r)?;
+    let ask = ask_of_pair(alloc, writer, reader, &pair)?;
+    push_pair(found, pair)?;
+    Ok(ask)
+}
+
+/// Adds what was found of a pair.
+fn push_pair(found: &mut Vec<Prepared>, pair: Prepared) -> Result<(), Memory>
+    ensures { OnOk result (found.new.items ≡ found.old.items ++ pair ∷ []) }
+{
+    if found.push(pair).is_err() {
+        return Err(Memory);
+    }
+    Ok(())
 }
 
 /// The numbers of the pairs that a pair takes, by its number.
@@ -193,11 +227,13 @@ pub fn reach(
         → IsSteppedTo (steps_at (schema_nodes writer.now) (schema_nodes reader.now) (table_of table.now)) k) }
     ensures one_each { IfOk result (λ p. length p.asks.items ≡ length (keys p.known)) }
     ensures asked { IfOk result (λ p. AreAsked (schema_nodes writer.now) (schema_nodes reader.now) (keys p.known) (asks_of p.asks.items)) }
+    ensures found { IfOk result (λ p. ArePrepared (schema_nodes writer.now) (schema_nodes reader.now) p.found.items) }
 {
     let _ = count(writer);
     let _ = count(reader);
     let names = branch_names(alloc, writer, reader)?;
     let mut known = IndexSet::new(alloc);
+    let mut found = Vec::new(alloc);
     let mut asks = Vec::new(alloc);
     add_all(&mut known, &[0])?;
     let mut next = 0;
@@ -206,7 +242,7 @@ pub fn reach(
             None => unreachable!(),
             Some(key) => {
                 let key = *key;
-                let ask = ask_at(alloc, &names, writer, reader, key)?;
+                let ask = ask_at(alloc, &names, writer, reader, key, &mut found)?;
                 let more = steps(alloc, writer, reader, table, key, &ask)?;
                 add_all(&mut known, &more)?;
                 push_ask(&mut asks, ask)?;
@@ -214,5 +250,5 @@ pub fn reach(
         }
         next += 1;
     }
-    Ok(Reached { known, asks })
+    Ok(Reached { known, found, asks })
 }

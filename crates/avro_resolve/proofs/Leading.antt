@@ -8,7 +8,7 @@ use Rattle.avro_schema.specs.declared.schema.NodeId.{NodeId}
 use Rattle.avro_resolve.specs.Fault.{fault_here, no_match}
 use Rattle.avro_resolve.specs.Match.{is_match, first_match, first_match_from}
 use Rattle.avro_resolve.specs.Pairs.{IsAim, aim_at, aim_of, aimed, branch_aim}
-use Rattle.avro_resolve.specs.Planned.{AreInside, IsPrepared}
+use Rattle.avro_resolve.specs.Planned.{AreInside}
 use Rattle.avro_resolve.specs.Resolve.{Resolved, branch_node, into_branch, matched, result_map}
 use Rattle.avro_resolve.specs.declared.guided.Aim.TheVariants.{Fault, To}
 use Rattle.avro_resolve.specs.declared.error.FaultKind.TheVariants.{NoMatch}
@@ -55,19 +55,3 @@ pair_leads writer reader w r = aim_leads writer reader (node_at writer w.0) r (n
 pub inside_by : (writer reader : List Node) {w v r q : NodeId} (p : Prepared) → w ≡ v → r ≡ q → AreInside (node_at writer w.0) (node_at reader r.0) p → AreInside (node_at writer v.0) (node_at reader q.0) p
 inside_by writer reader {v = v} {r = r} p e f h =
     subst (λ (n : NodeId). AreInside (node_at writer v.0) (node_at reader n.0) p) f (subst (λ (n : NodeId). AreInside (node_at writer n.0) (node_at reader r.0) p) e h)
-
--- a pair that leads elsewhere
-pub outside_prepared : (writer reader : List Node) (w r : NodeId) (p : Prepared) → p.w ≡ w → p.r ≡ r → p.aim ≡ aim_at writer reader w r
-    → ((q : NodeId) → p.aim ≡ To None q → ⊥) → IsPrepared writer reader p
-outside_prepared writer reader w r p e f aims elsewhere = record {
-  aims = aims ∙ ap (λ n. aim_at writer reader n r) (sym e) ∙ ap (λ n. aim_at writer reader p.w n) (sym f);
-  inside = λ q h. absurd (elsewhere q h);
-}
-
--- a pair that leads to the reader's node itself
-pub inside_prepared : (writer reader : List Node) (w r : NodeId) (p : Prepared) → p.w ≡ w → p.r ≡ r → p.aim ≡ aim_at writer reader w r
-    → AreInside (node_at writer w.0) (node_at reader r.0) p → IsPrepared writer reader p
-inside_prepared writer reader w r p e f aims kept = record {
-  aims = aims ∙ ap (λ n. aim_at writer reader n r) (sym e) ∙ ap (λ n. aim_at writer reader p.w n) (sym f);
-  inside = λ q h. inside_by writer reader p (sym e) (sym f) kept;
-}

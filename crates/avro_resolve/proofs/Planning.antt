@@ -8,9 +8,8 @@ use Rattle.avro_schema.specs.Seen.{seen_fields, field_of}
 use Rattle.avro_schema.specs.declared.schema.Field.{Field}
 use Rattle.avro_schema.specs.declared.schema.NodeId.{NodeId}
 use Rattle.avro_resolve.specs.Pairs.{part_to}
-use Rattle.avro_resolve.specs.Planned.{AreFor, AreSources}
+use Rattle.avro_resolve.specs.Planned.{AreSources}
 use Rattle.avro_resolve.specs.Source.{is_place, reader_field, source_of}
-use Rattle.avro_resolve.specs.declared.guided.At.{At}
 use Rattle.avro_resolve.specs.declared.guided.At.TheVariants.{Pair}
 use Rattle.avro_resolve.proofs.Guiding.{one_longer}
 use Rattle.avro_resolve.proofs.Slots.{get_before, get_last, get_past, seen_next}
@@ -19,11 +18,6 @@ use Rattle.avro_resolve.proofs.Slots.{get_before, get_last, get_past, seen_next}
 pub sources_by : {ws xs rs ys : List FieldNode} (sources : List (Option ℕ)) → ws ≡ xs → rs ≡ ys → AreSources xs ys sources → AreSources ws rs sources
 sources_by {ws = ws} {ys = ys} sources e f h =
     subst (λ (fs : List FieldNode). AreSources ws fs sources) (sym f) (subst (λ (fs : List FieldNode). AreSources fs ys sources) (sym e) h)
-
--- what the fields are for, among the same fields
-pub parts_by : {ws xs rs ys : List FieldNode} (parts : List At) → ws ≡ xs → rs ≡ ys → AreFor xs ys parts → AreFor ws rs parts
-parts_by {ws = ws} {ys = ys} parts e f h =
-    subst (λ (fs : List FieldNode). AreFor ws fs parts) (sym f) (subst (λ (fs : List FieldNode). AreFor fs ys parts) (sym e) h)
 
 -- what is kept at a place, which a call may reckon
 pub kept_here : (kept : List (Option ℕ)) (place at : ℕ) → at ≡ place → place < length kept → slice_get kept place ≡ Some (slice_index_or kept at None)

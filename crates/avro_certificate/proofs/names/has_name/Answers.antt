@@ -1,6 +1,6 @@
 use Rattle.std.proofs.Common.{◌∙◌, ap, is_some}
 use Rattle.avro_schema.specs.Seen.{texts_of}
-use Rattle.avro_certificate.proofs.NamesAsked.{some_place}
+use Rattle.avro_certificate.proofs.public.Symbols.{some_place}
 use Rattle.avro_certificate.proofs.names.has_name.Goals as goal
 
 pub returns : goal.returns

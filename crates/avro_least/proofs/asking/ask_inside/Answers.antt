@@ -1,41 +1,42 @@
-use Rattle.std.proofs.Common.{◌≡◌, sym, subst, List, cond, Result, is_some}
-use Rattle.std.specs.Prelude.{String, IfOk}
-use Rattle.std.specs.declared.alloc.Global.{Global}
-use Rattle.avro_schema.specs.Node.{Node, FieldNode, field_places}
+use Rattle.std.proofs.Common.{◌≡◌, ◌∙◌, ap, sym, subst, cond, is_some, is_none}
+use Rattle.std.specs.Prelude.{IfOk}
+use Rattle.std.specs.List.{list_any}
+use Rattle.avro_schema.specs.Node.{Node, field_places}
 use Rattle.avro_schema.specs.Seen.{node_of, seen_fields, texts_of}
-use Rattle.avro_schema.specs.declared.datum.Memory.{Memory}
-use Rattle.avro_schema.specs.declared.schema.Field.{Field}
 use Rattle.avro_schema.specs.declared.schema.Node.{Node as KeptNode}
-use Rattle.avro_resolve.specs.Source.{missing_field}
-use Rattle.avro_certificate.specs.Closed.{lacks_symbol}
+use Rattle.avro_resolve.specs.Planned.{AreInside}
+use Rattle.avro_certificate.proofs.public.Symbols.{lacks_same}
 use Rattle.avro_least.specs.Asked.{Asked, asked_inside, rows_from}
-use Rattle.avro_least.specs.SeenAsk.{ask_of}
-use Rattle.avro_least.specs.declared.asking.Ask.{Ask}
+use Rattle.avro_least.specs.SeenAsk.{ask_of, rows_by}
+use Rattle.avro_least.proofs.AskedLed.{rows_same}
 use Rattle.avro_least.proofs.asking.ask_inside.Goals as goal
-
-abbrev asked_fields : List FieldNode → List FieldNode → Asked
-asked_fields ws rs = cond (is_some (missing_field ws rs)) Asked.whole (Asked.fields (rows_from ws rs 0 (field_places ws)))
-
--- as it stands in what was made
-abbrev Is : Node → Node → Result Ask Memory → Type 0
-Is n q result = IfOk result (λ a. ask_of a ≡ asked_inside n q)
 
 pub returns-in-Enum-r : goal.returns-in-Enum-r
 returns-in-Enum-r c =
-    let result = c.ask_symbols.result in
-    subst (λ (n : KeptNode). Is (node_of n) (node_of c.args.r.now) result) (sym c.in-Enum.is)
-    (subst (λ (m : KeptNode). Is (node_of (KeptNode.Enum c.in-Enum.a)) (node_of m) result) (sym c.in-Enum-r.is)
-    (subst (λ (xs : List (String Global)). IfOk result (λ a. ask_of a ≡ cond (lacks_symbol (texts_of xs) (texts_of c.in-Enum-r.b.symbols.items) c.in-Enum-r.b.default) Asked.lone Asked.quiet))
-    c.deref-in-Enum-r.ensures.value
-    (subst (λ (ys : List (String Global)). IfOk result (λ a. ask_of a ≡ cond (lacks_symbol (texts_of c.deref-in-Enum-r.result.now) (texts_of ys) c.in-Enum-r.b.default) Asked.lone Asked.quiet))
-    c.deref-in-Enum-r-2.ensures.value c.ask_symbols.ensures)))
+    let pair = c.args.pair.now in
+    let w = KeptNode.Enum c.in-Enum.field-0 in
+    let r = KeptNode.Enum c.in-Enum-r.field-0 in
+    let inside : AreInside (node_of w) (node_of r) pair =
+    subst (λ (n : KeptNode). AreInside (node_of w) (node_of n) pair) c.in-Enum-r.is (subst (λ (n : KeptNode). AreInside (node_of n) (node_of c.args.r.now) pair) c.in-Enum.is c.requires) in
+    c.ask_symbols.ensures
+    ∙ ap (λ b. cond b Asked.lone Asked.quiet)
+    (lacks_same (texts_of c.in-Enum.field-0.symbols.items) (texts_of c.in-Enum-r.field-0.symbols.items) c.in-Enum-r.field-0.default pair.symbols.items inside.all_symbols inside.symbols)
+    ∙ ap (λ (n : KeptNode). asked_inside (node_of w) (node_of n)) (sym c.in-Enum-r.is)
+    ∙ ap (λ (n : KeptNode). asked_inside (node_of n) (node_of c.args.r.now)) (sym c.in-Enum.is)
 
 pub returns-in-Record-r : goal.returns-in-Record-r
 returns-in-Record-r c =
+    let pair = c.args.pair.now in
     let result = c.ask_fields.result in
-    subst (λ (n : KeptNode). Is (node_of n) (node_of c.args.r.now) result) (sym c.in-Record.is)
-    (subst (λ (m : KeptNode). Is (node_of (KeptNode.Record c.in-Record.a)) (node_of m) result) (sym c.in-Record-r.is)
-    (subst (λ (ws : List Field). IfOk result (λ a. ask_of a ≡ asked_fields (seen_fields ws) (seen_fields c.in-Record-r.b.fields.items)))
-    c.deref.ensures.value
-    (subst (λ (rs : List Field). IfOk result (λ a. ask_of a ≡ asked_fields (seen_fields c.deref.result.now) (seen_fields rs)))
-    c.deref-in-Record-r.ensures.value c.ask_fields.ensures)))
+    let w = KeptNode.Record c.in-Record.a in
+    let r = KeptNode.Record c.in-Record-r.field-0 in
+    let ws = seen_fields c.in-Record.a.fields.items in
+    let rs = seen_fields c.in-Record-r.field-0.fields.items in
+    let inside : AreInside (node_of w) (node_of r) pair =
+    subst (λ (n : KeptNode). AreInside (node_of w) (node_of n) pair) c.in-Record-r.is (subst (λ (n : KeptNode). AreInside (node_of n) (node_of c.args.r.now) pair) c.in-Record.is c.requires) in
+    let same = ap (λ fs. cond (is_some pair.missing) Asked.whole (Asked.fields (rows_by pair.fields.items 0 (field_places (seen_fields fs))))) c.deref.ensures.value
+    ∙ ap (λ rows. cond (is_some pair.missing) Asked.whole (Asked.fields rows)) (rows_same ws rs pair.fields.items inside.fields inside.all_fields)
+    ∙ ap (λ o. cond (is_some o) Asked.whole (Asked.fields (rows_from ws rs 0 (field_places ws)))) inside.complete
+    ∙ ap (λ (n : KeptNode). asked_inside (node_of w) (node_of n)) (sym c.in-Record-r.is)
+    ∙ ap (λ (n : KeptNode). asked_inside (node_of n) (node_of c.args.r.now)) (sym c.in-Record.is) in
+    subst (λ a. IfOk result (λ b. ask_of b ≡ a)) same c.ask_fields.ensures

@@ -6,6 +6,8 @@ use Rattle.std.specs.List.{list_all}
 use Rattle.indexmap.specs.IndexSet.{keys}
 use Rattle.avro_schema.specs.SeenSchema.{schema_nodes}
 use Rattle.avro_schema.specs.Node.{Node}
+use Rattle.avro_resolve.specs.Planned.{ArePrepared}
+use Rattle.avro_resolve.specs.declared.prepared.Prepared.{Prepared}
 use Rattle.avro_least.specs.SeenLeast.{table_of}
 use Rattle.avro_least.specs.Reached.{is_key, AreFollowed, IsSteppedTo, from_first, one_step}
 use Rattle.avro_least.specs.Asked.{Asked, asked_at, steps_at, AreAsked}
@@ -18,6 +20,9 @@ use Rattle.avro_least.proofs.reaching.reach.Goals as goal
 
 none_asked : (writer reader : List Node) (ks : List ℕ) (asks : List Ask) → asks ≡ [] → AreAsked writer reader ks (asks_of asks)
 none_asked writer reader ks asks e i k found within = absurd (omega (arith, ltb-true i (length (asks_of asks)) within, length-map asks ask_of, ap length e))
+
+none_found : (writer reader : List Node) (found : List Prepared) → found ≡ [] → ArePrepared writer reader found
+none_found writer reader found e = subst (λ (ps : List Prepared). ArePrepared writer reader ps) (sym e) (λ k p got. absurd cc)
 
 -- the first key alone
 first_stepped : (steps : ℕ → List ℕ) (none : List ℕ) (k : ℕ) → length none ≡ 0 → (is_key none k || is_key (0 ∷ []) k) ≡ true → IsSteppedTo steps k
@@ -50,6 +55,7 @@ loop-next-init c =
       λ P zero step. c.in_ok-add_all.ensures.all P (none_pass P (keys c.new-known.result) c.new-known.ensures.len) (and_from (P 0) true zero refl),
       λ k m. first_stepped (steps_at (schema_nodes c.args.writer.now) (schema_nodes c.args.reader.now) (table_of c.args.table.now)) (keys c.new-known.result) k c.new-known.ensures.len
           (c.in_ok-add_all.ensures.old_or_new k m),
+      none_found (schema_nodes c.args.writer.now) (schema_nodes c.args.reader.now) c.new-found.result.items c.new-found.ensures.items,
     )
 
 pub ask_at-requires-clause-within : goal.ask_at-requires-clause-within
@@ -109,10 +115,11 @@ loop-next-preserved c =
       longer (keys c.loop-next.known) rest (keys c.add_all-in-Some.new.known) c.loop-next.next is (omega (arith, c.loop-next-test.true, c.len.ensures.len)),
       grown c.loop-next.asks.items c.push_ask.new.asks.items c.in_ok-ask-in-Some.ask c.loop-next.next c.in_ok-push_ask-in-Some.ensures inv.4,
       more_asked (schema_nodes c.args.writer.now) (schema_nodes c.args.reader.now) (keys c.loop-next.known) rest (keys c.add_all-in-Some.new.known)
-          c.loop-next.asks.items c.push_ask.new.asks.items c.in_ok-ask-in-Some.ask key c.loop-next.next c.in_ok-push_ask-in-Some.ensures is inv.5 inv.4 here c.in_ok-ask-in-Some.ensures,
+          c.loop-next.asks.items c.push_ask.new.asks.items c.in_ok-ask-in-Some.ask key c.loop-next.next c.in_ok-push_ask-in-Some.ensures is inv.5 inv.4 here c.in_ok-ask-in-Some.ensures.asked,
       λ P zero step. more.all P (inv.6 P zero step) (subst (λ (ks : List ℕ). list_all P ks ≡ true) (sym row)
           (step key (all_at P (keys c.loop-next.known) c.loop-next.next key (inv.6 P zero step) here))),
       λ k m. more_stepped (steps_at (schema_nodes c.args.writer.now) (schema_nodes c.args.reader.now) (table_of c.args.table.now)) (keys c.loop-next.known) key k inv.7
           (key_at (keys c.loop-next.known) c.loop-next.next key here)
           (subst (λ (ks : List ℕ). (is_key (keys c.loop-next.known) k || is_key ks k) ≡ true) row (more.old_or_new k m)),
+      c.in_ok-ask-in-Some.ensures.found inv.8,
     )

@@ -1,0 +1,92 @@
+-- What a pair asks for, by what is found of it.
+use Rattle.std.proofs.Common.{◌≡◌, ℕ, zero, suc, ◌+◌, ◌≤◌, ◌<◌, Bool, true, false, cond, List, [], ◌∷◌, ◌++◌, Option, Some, None, Vec, length, refl, sym, ap, ◌∙◌, subst, arith}
+use Rattle.std.specs.declared.alloc.Global.{Global}
+use Rattle.std.specs.Prelude.{option_map, slice_get, unwrap_or}
+use Rattle.avro_schema.specs.Node.{Node, FieldNode, branches_of, field_places}
+use Rattle.avro_schema.specs.declared.schema.NodeId.{NodeId}
+use Rattle.avro_schema.specs.declared.schema.Node.{Node as KeptNode}
+use Rattle.avro_schema.specs.Seen.{node_of}
+use Rattle.avro_resolve.specs.Match.{is_match, first_match}
+use Rattle.avro_resolve.specs.Pairs.{aim_of, branch_aim, part_to}
+use Rattle.avro_resolve.specs.Planned.{AreFor}
+use Rattle.avro_resolve.specs.Source.{reader_field}
+use Rattle.avro_resolve.specs.declared.error.FaultKind.{FaultKind}
+use Rattle.avro_resolve.specs.declared.error.FaultKind.TheVariants.{NoMatch}
+use Rattle.avro_resolve.specs.declared.guided.Aim.{Aim}
+use Rattle.avro_resolve.specs.declared.guided.Aim.TheVariants.{Fault, To}
+use Rattle.avro_resolve.specs.declared.guided.At.{At}
+use Rattle.avro_least.specs.Asked.{Asked, Row, asked, asked_branch, asked_inside, rows_from}
+use Rattle.avro_least.specs.SeenAsk.{rows_by, theirs_at, theirs_in}
+
+-- ---- Where a pair leads
+
+module _ (writer reader : List Node) where
+  abbrev asked_of_aim : Asked → Aim → Asked
+  asked_of_aim own (Fault kind) = Asked.whole
+  asked_of_aim own (To (Some k) q) = Asked.same q.0
+  asked_of_aim own (To None q) = own
+
+  by_branch : (places : List ℕ) (o : Option ℕ) (own : Asked) → asked_of_aim own (branch_aim places o) ≡ asked_branch places o
+  by_branch places None own = refl
+  by_branch places (Some k) own = refl
+
+  by_match : (t : Bool) (r : NodeId) (own : Asked) → asked_of_aim own (cond t (To None r) (Fault NoMatch)) ≡ cond t own Asked.whole
+  by_match true r own = refl
+  by_match false r own = refl
+
+  by_aim : (n q : Node) (r : NodeId) → branches_of n ≡ None → asked_of_aim (asked_inside n q) (aim_of writer reader n r q) ≡ asked writer reader n q
+  by_aim (Node.union ps) q r plain = absurd (grind arith)
+  by_aim n (Node.union places) r plain = by_branch places (first_match writer reader n places) (asked_inside n (Node.union places))
+  by_aim n q r plain = by_match (is_match writer reader n q) r (asked_inside n q)
+
+  pub asked_fault : (n q : Node) (r : NodeId) (aim : Aim) (kind : FaultKind) → branches_of n ≡ None → aim ≡ aim_of writer reader n r q → aim ≡ Fault kind → Asked.whole ≡ asked writer reader n q
+  asked_fault n q r aim kind plain e is = ap (asked_of_aim (asked_inside n q)) (sym is ∙ e) ∙ by_aim n q r plain
+
+  pub asked_same : (n q : Node) (r b : NodeId) (aim : Aim) (k : ℕ) → branches_of n ≡ None → aim ≡ aim_of writer reader n r q → aim ≡ To (Some k) b → Asked.same b.0 ≡ asked writer reader n q
+  asked_same n q r b aim k plain e is = ap (asked_of_aim (asked_inside n q)) (sym is ∙ e) ∙ by_aim n q r plain
+
+  pub asked_own : (n q : Node) (r b : NodeId) (aim : Aim) → branches_of n ≡ None → aim ≡ aim_of writer reader n r q → aim ≡ To None b → asked_inside n q ≡ asked writer reader n q
+  asked_own n q r b aim plain e is = ap (asked_of_aim (asked_inside n q)) (sym is ∙ e) ∙ by_aim n q r plain
+
+-- a node that is no union
+pub plain_node : (n : KeptNode) → ((places : Vec NodeId Global) → n ≡ KeptNode.Union places → ⊥) → branches_of (node_of n) ≡ None
+plain_node (KeptNode.Union places) h = absurd (h places refl)
+plain_node _ h = refl
+
+-- each of a list of one more
+pub each_more : {A : Type 0} (P : A → Type 0) (xs : List A) (x : A) → ((k : ℕ) (y : A) → slice_get xs k ≡ Some y → P y) → P x
+    → (k : ℕ) (y : A) → slice_get (xs ++ x ∷ []) k ≡ Some y → P y
+each_more P [] x h last zero y got = let same : x ≡ y = cc in subst P same last
+each_more P [] x h last (suc k) y got = absurd cc
+each_more P (z ∷ zs) x h last zero y got = h 0 y got
+each_more P (z ∷ zs) x h last (suc k) y got = each_more P zs x (λ j z here. h (suc j) z here) last k y got
+
+-- ---- Fields
+
+theirs_same : (j : ℕ) (o : Option FieldNode) → theirs_in (Some (part_to j o)) ≡ option_map (λ f. f.node) o
+theirs_same j None = refl
+theirs_same j (Some f) = refl
+
+there : {A : Type 0} (xs : List A) (k : ℕ) → k < length xs → (x : A) × (slice_get xs k ≡ Some x)
+there [] k h = absurd (omega (arith, h))
+there (x ∷ xs) zero h = (x, refl)
+there (x ∷ xs) (suc k) h = there xs k (omega (arith, h))
+
+theirs_found : (ws rs : List FieldNode) (parts : List At) (k : ℕ) → AreFor ws rs parts → k < length parts → theirs_at parts k ≡ option_map (λ f. f.node) (reader_field ws rs k)
+theirs_found ws rs parts k h low =
+    let found = there parts k low in
+    ap theirs_in (found.1 ∙ ap Some (h k found.0 found.1)) ∙ theirs_same (unwrap_or (slice_get (field_places ws) k) 0) (reader_field ws rs k)
+
+rows_found : (ws rs : List FieldNode) (parts : List At) (k : ℕ) (ps : List ℕ) → AreFor ws rs parts → k + length ps ≤ length parts → rows_by parts k ps ≡ rows_from ws rs k ps
+rows_found ws rs parts k [] h all = refl
+rows_found ws rs parts k (p ∷ ps) h all =
+    ap (λ (o : Option ℕ). record { node = p; theirs = o } ∷ rows_by parts (suc k) ps) (theirs_found ws rs parts k h (omega (arith, all)))
+    ∙ ap (λ (rows : List Row). record { node = p; theirs = option_map (λ f. f.node) (reader_field ws rs k) } ∷ rows) (rows_found ws rs parts (suc k) ps h (omega (arith, all)))
+
+as_many : (fs : List FieldNode) → length (field_places fs) ≡ length fs
+as_many [] = refl
+as_many (f ∷ fs) = ap suc (as_many fs)
+
+-- the rows of the parts are those of the fields
+pub rows_same : (ws rs : List FieldNode) (parts : List At) → AreFor ws rs parts → length parts ≡ suc (length ws) → rows_by parts 0 (field_places ws) ≡ rows_from ws rs 0 (field_places ws)
+rows_same ws rs parts h all = rows_found ws rs parts 0 (field_places ws) h (omega (arith, all, as_many ws))
