@@ -78,6 +78,20 @@ impl Certificate {
         Certificate { dead, pairs }
     }
 
+    /// The same certificate once more.
+    ///
+    /// # Errors
+    ///
+    /// Memory ran out.
+    pub fn try_clone(&self, alloc: Global) -> Result<Certificate, Memory>
+        ensures { IfOk result (λ c. (dead_of c ≡ dead_of self.now) × (pairs_in c ≡ pairs_in self.now)) }
+    {
+        match (self.dead.to_vec(alloc), self.pairs.to_vec(alloc)) {
+            (Ok(dead), Ok(pairs)) => Ok(Certificate { dead, pairs }),
+            _ => Err(Memory),
+        }
+    }
+
     /// The text, which [`Certificate::read`] reads again.
     ///
     /// # Errors

@@ -7,7 +7,6 @@ use Rattle.avro_schema.specs.Node.{Node}
 use Rattle.avro_schema.specs.WellFormed.{is_schema}
 use Rattle.avro_certificate.specs.CertificateText.{is_rising, is_before}
 use Rattle.avro_certificate.specs.Closed.{Pair, is_among, is_closed}
-use Rattle.avro_certificate.specs.Compatible.{AreCompatible}
 use Rattle.avro_certificate.specs.Evidence.{IsEvidence, IsGreatestDead}
 use Rattle.avro_least.specs.Asked.{ArePairsShown, steps_at}
 use Rattle.avro_judge.specs.inside.Evidence.{dead_below, pairs_at, AreCalm, AreOfKeys, AreCertified}
@@ -16,11 +15,9 @@ use Rattle.avro_least.specs.Tables.{Least, LeastTable, AreDataShown, AreLow, err
 use Rattle.avro_least.specs.Reached.{is_key, AreFollowed, IsSteppedTo}
 use Rattle.avro_least.specs.SeenLeast.{seen, table_of}
 use Rattle.avro_least.specs.declared.kept.Least.{Least as KeptLeast}
-use Rattle.avro_least.proofs.public.Decided.{errs_of}
 use Rattle.avro_judge.proofs.DeadPlaces.{dead_is, dead_greatest, dead_rising}
 use Rattle.avro_judge.proofs.Evidence.{closed_small, evidence_dead, closed_dead, evidence_live, closed_live}
 use Rattle.avro_judge.proofs.PairNumbers.{pairs_rising}
-use Rattle.avro_judge.proofs.RootJudged.{shown_at}
 use Rattle.avro_least.proofs.public.Stepping.{some_nodes}
 
 -- whether a place has no entry, by the entry that was looked up
@@ -102,11 +99,3 @@ pub tables_of : (writer reader : List Node) (limit : ℕ) (table : LeastTable) (
     → list_all (λ k. nat_lt k (length writer * length reader)) keys ≡ true → AreFollowed (steps_at writer reader table) keys (length keys)
     → AreTables writer reader limit table keys entries
 tables_of writer reader limit table keys entries d l s r b c = record { has_data = d; low = l; shown = s; root = r; below = b; closed = c }
-
--- the roots of compatible schemas have no entry
-pub roots_calm : (writer reader : List Node) (limit : ℕ) (table : LeastTable) (keys : List ℕ) (entries : List (Option Least)) → is_schema writer ≡ true
-    → is_schema reader ≡ true → AreTables writer reader limit table keys entries → AreCompatible writer reader
-    → (e : Least) → Some e ≡ erring_of (length reader) table keys entries 0 0 → ⊥
-roots_calm writer reader limit table keys entries formed theirs tables compatible e is =
-    let shown = shown_at writer reader limit table keys entries formed theirs tables e (sym is) in
-    compatible shown.datum shown.fault (errs_of writer reader limit table (erring_of (length reader) table keys entries) tables.low theirs e shown)

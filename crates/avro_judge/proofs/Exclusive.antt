@@ -19,3 +19,6 @@ module _ (writer reader : List Node) where
 
   pub least_not_deep : (limit deepest : ℕ) (v : Value) → IsLeastToErr writer reader v → depth v ≤ deepest → ErrsLeastDeep writer reader limit deepest → ⊥
   least_not_deep limit deepest v least flat deep = omega (arith, flat, deep.deep v least)
+
+  pub not_least : (v : Value) → AreCompatible writer reader → IsLeastToErr writer reader v → ⊥
+  not_least v h least = h v least.errs.0 least.errs.1

@@ -1,4 +1,4 @@
-use crate::certifying::certify;
+use crate::deciding::certify;
 use avro_binary::{Build, ReadError};
 use avro_certificate::Certificate;
 use avro_resolve::{Plan, ReadResolveError};
@@ -7,16 +7,19 @@ use std::alloc::Global;
 use std::marker::Model;
 
 /// Two schemas of which every datum of the first resolves into the second, with a plan of reading that
-/// keeps the pairs of nodes that the roots lead to. Contracts see the two schemas.
+/// keeps the pairs of nodes that the roots lead to, and the certificate where it was made. Contracts see the two schemas.
 #[derive(Drop)]
 pub struct Approved<'a> {
     writer: &'a Schema,
     reader: &'a Schema,
     plan: Plan<'a>,
+    certificate: Option<Certificate>,
 }
 
 impl<'a> Model for Approved<'a> {
     ghost use Rattle.std.specs.Prelude.{◌≡◌};
+    ghost use Rattle.std.specs.Option.{IfSome};
+    ghost use Rattle.avro_judge.specs.inside.Judged.{IsCertificateOf};
     ghost use Rattle.std.specs.Coded.{codes};
     ghost use Rattle.avro_schema.specs.contracts.datum.Datum as datum;
     ghost use Rattle.avro_schema.specs.declared.schema.Schema.{Schema};
@@ -29,7 +32,8 @@ impl<'a> Model for Approved<'a> {
 
     ghost view = { λ a. a.plan };
 
-    ghost invariant = { λ a. AreCompatible (schema_nodes a.plan.0) (schema_nodes a.plan.1) × (a.plan ≡ (a.writer.now, a.reader.now)) };
+    ghost invariant = { λ a. AreCompatible (schema_nodes a.plan.0) (schema_nodes a.plan.1) × (a.plan ≡ (a.writer.now, a.reader.now))
+        × IfSome a.certificate (IsCertificateOf (schema_nodes a.plan.0) (schema_nodes a.plan.1)) };
 }
 
 impl<'a> Approved<'a> {
@@ -49,18 +53,27 @@ impl<'a> Approved<'a> {
     ghost use Rattle.avro_certificate.specs.Closed.{is_closed};
     ghost use Rattle.avro_certificate.specs.Compatible.{AreCompatible};
     ghost use Rattle.avro_certificate.specs.Evidence.{IsEvidence};
+    ghost use Rattle.avro_judge.specs.inside.Judged.{IsCertificateOf};
     ghost use Rattle.avro_certificate.specs.SeenCertificate.{dead_of, pairs_in};
 
-    /// The approval of two schemas that are compatible, by a plan of theirs.
-    pub(crate) fn of(writer: &'a Schema, reader: &'a Schema, plan: Plan<'a>) -> Approved<'a>
+    /// The approval of two schemas that are compatible, by a plan of theirs, with their certificate where it
+    /// was made.
+    pub(crate) fn of(
+        writer: &'a Schema,
+        reader: &'a Schema,
+        plan: Plan<'a>,
+        certificate: Option<Certificate>,
+    ) -> Approved<'a>
         requires compatible { AreCompatible (schema_nodes writer.now) (schema_nodes reader.now) }
         requires theirs { plan ≡ (writer.now, reader.now) }
+        requires certified { IfSome certificate (IsCertificateOf (schema_nodes writer.now) (schema_nodes reader.now)) }
         ensures { result ≡ (writer.now, reader.now) }
     {
         Approved {
             writer,
             reader,
             plan,
+            certificate,
         }
     }
 
@@ -109,6 +122,9 @@ impl<'a> Approved<'a> {
         // It shows that the schemas are compatible.
         ensures confirmed { IfOk result (λ c. is_closed (schema_nodes self.now.0) (schema_nodes self.now.1) (dead_of c) (pairs_in c) ≡ true) }
     {
-        certify(alloc, self.writer, self.reader)
+        match &self.certificate {
+            Some(certificate) => certificate.try_clone(alloc),
+            None => certify(alloc, self.writer, self.reader),
+        }
     }
 }

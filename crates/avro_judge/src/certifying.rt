@@ -5,21 +5,15 @@ ghost use Rattle.std.specs.List.{list_all};
 ghost use Rattle.indexmap.specs.IndexSet.{keys};
 ghost use Rattle.avro_schema.specs.SeenSchema.{schema_nodes};
 ghost use Rattle.avro_certificate.specs.CertificateText.{is_rising};
-ghost use Rattle.avro_certificate.specs.Closed.{is_closed};
-ghost use Rattle.avro_certificate.specs.Compatible.{AreCompatible};
-ghost use Rattle.avro_certificate.specs.Evidence.{IsEvidence};
-ghost use Rattle.avro_certificate.specs.SeenCertificate.{dead_of, pairs_in};
 ghost use Rattle.avro_certificate.specs.SeenPair.{pairs_of};
-ghost use Rattle.avro_least.specs.Asked.{ArePairsShown, steps_at};
+ghost use Rattle.avro_least.specs.Asked.{steps_at};
 ghost use Rattle.avro_judge.specs.inside.Evidence.{dead_below, pairs_at, AreCalm, AreOfKeys};
-ghost use Rattle.avro_least.specs.Tables.{AreDataShown, AreLow, erring_of};
-ghost use Rattle.avro_least.specs.Reached.{is_key, AreFollowed, IsSteppedTo};
-ghost use Rattle.avro_least.specs.SeenLeast.{seen_all, table_of};
+ghost use Rattle.avro_judge.specs.inside.Judged.{IsCertificateOf};
+ghost use Rattle.avro_least.specs.Reached.{is_key, IsSteppedTo};
+ghost use Rattle.avro_least.specs.SeenLeast.{table_of};
 
 use avro_certificate::Certificate;
-use avro_least::{
-    Least, Reached, count, entry, least_data, least_errors, pair_entry, reach, readers, writers,
-};
+use avro_least::{Least, Reached, count, entry, readers, writers};
 use avro_schema::{Memory, NodeId, Schema};
 use indexmap::IndexSet;
 use std::alloc::Global;
@@ -86,7 +80,7 @@ fn pairs_of_numbers(
 }
 
 /// The pairs that were reached, rising.
-pub(crate) fn reached_pairs(
+fn reached_pairs(
     alloc: Global,
     writer: &Schema,
     reader: &Schema,
@@ -100,7 +94,7 @@ pub(crate) fn reached_pairs(
 }
 
 /// The certificate of tables by which no datum errs.
-fn certificate_of(
+pub(crate) fn certificate_of(
     alloc: Global,
     writer: &Schema,
     reader: &Schema,
@@ -111,8 +105,7 @@ fn certificate_of(
     requires calm { AreCalm (schema_nodes writer.now) (schema_nodes reader.now) (table_of table.now) (keys reached.now.known) }
     requires stepped { (k : ℕ) → is_key (keys reached.now.known) k ≡ true
         → IsSteppedTo (steps_at (schema_nodes writer.now) (schema_nodes reader.now) (table_of table.now)) k }
-    ensures evidence { IfOk result (λ c. IsEvidence (schema_nodes writer.now) (schema_nodes reader.now) (dead_of c) (pairs_in c)) }
-    ensures closed { IfOk result (λ c. is_closed (schema_nodes writer.now) (schema_nodes reader.now) (dead_of c) (pairs_in c) ≡ true) }
+    ensures { IfOk result (IsCertificateOf (schema_nodes writer.now) (schema_nodes reader.now)) }
 {
     let _ = count(reader);
     let dead = dead_places(alloc, table, count(writer))?;
@@ -121,53 +114,4 @@ fn certificate_of(
     }
     let pairs = reached_pairs(alloc, writer, reader, reached)?;
     Ok(Certificate::of(dead, pairs))
-}
-
-/// The certificate of two compatible schemas, by the tables of judging: the roots have no entry.
-fn certificate_by(
-    alloc: Global,
-    writer: &Schema,
-    reader: &Schema,
-    table: &[Option<Least>],
-    reached: &Reached,
-    entries: &[Option<Least>],
-) -> Result<Certificate, Memory>
-    requires compatible { AreCompatible (schema_nodes writer.now) (schema_nodes reader.now) }
-    requires one_each { length table.now ≡ length (schema_nodes writer.now) }
-    requires has_data { AreDataShown (schema_nodes writer.now) 1 (table_of table.now) }
-    requires low { AreLow (schema_nodes writer.now) (schema_nodes reader.now) 1 (table_of table.now)
-        (erring_of (length (schema_nodes reader.now)) (table_of table.now) (keys reached.now.known) (seen_all entries.now)) }
-    requires shown { ArePairsShown (schema_nodes writer.now) (schema_nodes reader.now) 1 (table_of table.now) (keys reached.now.known) (seen_all entries.now) }
-    requires root { is_key (keys reached.now.known) 0 ≡ true }
-    requires below { list_all (λ k. nat_lt k (length (schema_nodes writer.now) * length (schema_nodes reader.now))) (keys reached.now.known) ≡ true }
-    requires closed { AreFollowed (steps_at (schema_nodes writer.now) (schema_nodes reader.now) (table_of table.now)) (keys reached.now.known) (length (keys reached.now.known)) }
-    requires stepped { (k : ℕ) → is_key (keys reached.now.known) k ≡ true
-        → IsSteppedTo (steps_at (schema_nodes writer.now) (schema_nodes reader.now) (table_of table.now)) k }
-    ensures evidence { IfOk result (λ c. IsEvidence (schema_nodes writer.now) (schema_nodes reader.now) (dead_of c) (pairs_in c)) }
-    ensures closed { IfOk result (λ c. is_closed (schema_nodes writer.now) (schema_nodes reader.now) (dead_of c) (pairs_in c) ≡ true) }
-{
-    let _ = count(writer);
-    let count = count(reader);
-    let root = NodeId(0);
-    match pair_entry(table, count, &reached.known, entries, root, root) {
-        None => certificate_of(alloc, writer, reader, table, reached),
-        Some(_) => unreachable!(),
-    }
-}
-
-/// The certificate of two compatible schemas. Only whether the tables have an entry matters, so the
-/// least limit does.
-pub(crate) fn certify(
-    alloc: Global,
-    writer: &Schema,
-    reader: &Schema,
-) -> Result<Certificate, Memory>
-    requires { AreCompatible (schema_nodes writer.now) (schema_nodes reader.now) }
-    ensures evidence { IfOk result (λ c. IsEvidence (schema_nodes writer.now) (schema_nodes reader.now) (dead_of c) (pairs_in c)) }
-    ensures closed { IfOk result (λ c. is_closed (schema_nodes writer.now) (schema_nodes reader.now) (dead_of c) (pairs_in c) ≡ true) }
-{
-    let table = least_data(alloc, writer, 1)?;
-    let reached = reach(alloc, writer, reader, &table)?;
-    let entries = least_errors(alloc, writer, reader, 1, &table, &reached)?;
-    certificate_by(alloc, writer, reader, &table, &reached, &entries)
 }

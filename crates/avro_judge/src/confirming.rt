@@ -36,7 +36,7 @@ pub fn confirm<'a>(
         Ok(closed) => {
             if closed {
                 let plan = plan_for(alloc, writer, reader, certificate.pairs())?;
-                Ok(Some(Approved::of(writer, reader, plan)))
+                Ok(Some(Approved::of(writer, reader, plan, None)))
             } else {
                 Ok(None)
             }

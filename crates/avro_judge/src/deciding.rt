@@ -1,25 +1,29 @@
 //! What the tables decide of two schemas.
 
-ghost use Rattle.std.specs.Prelude.{◌≡◌, ◌≤◌, ◌*◌, true, length, nat_lt, IfOk};
+ghost use Rattle.std.specs.Prelude.{◌≡◌, ◌≤◌, ◌*◌, ℕ, true, length, nat_lt, IfOk};
 ghost use Rattle.std.specs.List.{list_all};
 ghost use Rattle.indexmap.specs.IndexSet.{keys};
 ghost use Rattle.avro_schema.specs.SeenSchema.{schema_nodes};
 ghost use Rattle.avro_least.specs.Asked.{ArePairsShown, steps_at};
-ghost use Rattle.avro_judge.specs.inside.Judged.{IsJudged};
+ghost use Rattle.avro_certificate.specs.Compatible.{AreCompatible};
+ghost use Rattle.avro_judge.specs.inside.Judged.{IsCertificateOf, IsJudged};
+ghost use Rattle.avro_resolve.specs.Planned.{ArePrepared};
 ghost use Rattle.avro_least.specs.Tables.{AreDataShown, AreLow, erring_of};
-ghost use Rattle.avro_least.specs.Reached.{AreFollowed, is_key};
+ghost use Rattle.avro_least.specs.Reached.{AreFollowed, IsSteppedTo, is_key};
 ghost use Rattle.avro_least.specs.SeenLeast.{seen_all, table_of};
 
-use crate::certifying::reached_pairs;
+use crate::certifying::certificate_of;
+use avro_certificate::Certificate;
 use avro_least::{Least, Reached, build_error, count, least_data, least_errors, pair_entry, reach};
+use avro_resolve::Prepared;
 use avro_schema::{Datum, Memory, NodeId, Schema};
 use std::alloc::Global;
 
 /// What is decided of two schemas.
 #[derive(Debug, Drop)]
 pub(crate) enum Judged {
-    /// No datum errs; the numbers of the pairs of nodes that the roots lead to.
-    Compatible(Vec<(u32, u32)>),
+    /// No datum errs; the certificate.
+    Compatible(Certificate),
     /// Each datum that errs has more nodes than the limit.
     Size,
     /// Each least datum that errs is too deep.
@@ -40,6 +44,7 @@ fn judge_roots(
     entries: &[Option<Least>],
 ) -> Result<Judged, Memory>
     requires range { limit ≤ 16777216 }
+    requires one_each { length table.now ≡ length (schema_nodes writer.now) }
     requires has_data { AreDataShown (schema_nodes writer.now) limit (table_of table.now) }
     requires low { AreLow (schema_nodes writer.now) (schema_nodes reader.now) limit (table_of table.now)
         (erring_of (length (schema_nodes reader.now)) (table_of table.now) (keys reached.now.known) (seen_all entries.now)) }
@@ -47,6 +52,9 @@ fn judge_roots(
     requires root { is_key (keys reached.now.known) 0 ≡ true }
     requires below { list_all (λ k. nat_lt k (length (schema_nodes writer.now) * length (schema_nodes reader.now))) (keys reached.now.known) ≡ true }
     requires closed { AreFollowed (steps_at (schema_nodes writer.now) (schema_nodes reader.now) (table_of table.now)) (keys reached.now.known) (length (keys reached.now.known)) }
+    requires stepped { (k : ℕ) → is_key (keys reached.now.known) k ≡ true
+        → IsSteppedTo (steps_at (schema_nodes writer.now) (schema_nodes reader.now) (table_of table.now)) k }
+    requires found { ArePrepared (schema_nodes writer.now) (schema_nodes reader.now) reached.now.found.items }
     ensures { IfOk result (λ j. IsJudged (schema_nodes writer.now) (schema_nodes reader.now) limit deepest j) }
 {
     let _ = count(writer);
@@ -54,8 +62,8 @@ fn judge_roots(
     let root = NodeId(0);
     match pair_entry(table, count, &reached.known, entries, root, root) {
         None => {
-            let pairs = reached_pairs(alloc, writer, reader, reached)?;
-            Ok(Judged::Compatible(pairs))
+            let certificate = certificate_of(alloc, writer, reader, table, reached)?;
+            Ok(Judged::Compatible(certificate))
         }
         Some(least) => {
             if least.nodes > limit {
@@ -82,21 +90,43 @@ fn judge_roots(
     }
 }
 
-/// Decides whether some datum of the writer's errs, and finds a least one that does.
+/// Decides whether some datum of the writer's errs, and finds a least one that does; with what was found by
+/// names of the pairs of nodes that the roots lead to.
 pub(crate) fn decide(
     alloc: Global,
     writer: &Schema,
     reader: &Schema,
     limit: u32,
     deepest: u32,
-) -> Result<Judged, Memory>
+) -> Result<(Judged, Vec<Prepared>), Memory>
     requires range { limit ≤ 16777216 }
-    ensures { IfOk result (λ j. IsJudged (schema_nodes writer.now) (schema_nodes reader.now) limit deepest j) }
+    ensures judged { IfOk result (λ r. IsJudged (schema_nodes writer.now) (schema_nodes reader.now) limit deepest r.0) }
+    ensures found { IfOk result (λ r. ArePrepared (schema_nodes writer.now) (schema_nodes reader.now) r.1.items) }
 {
     let table = least_data(alloc, writer, limit)?;
     let reached = reach(alloc, writer, reader, &table)?;
     let entries = least_errors(alloc, writer, reader, limit, &table, &reached)?;
-    judge_roots(
+    let judged = judge_roots(
         alloc, writer, reader, limit, deepest, &table, &reached, &entries,
-    )
+    )?;
+    Ok((judged, reached.found))
+}
+
+/// The certificate of two compatible schemas. Only whether a datum errs matters, so the least limits do.
+#[tactic(auto, using(crate::proofs::Exclusive::not_above, crate::proofs::Exclusive::not_deep, crate::proofs::Exclusive::not_least))]
+pub(crate) fn certify(
+    alloc: Global,
+    writer: &Schema,
+    reader: &Schema,
+) -> Result<Certificate, Memory>
+    requires { AreCompatible (schema_nodes writer.now) (schema_nodes reader.now) }
+    ensures { IfOk result (IsCertificateOf (schema_nodes writer.now) (schema_nodes reader.now)) }
+{
+    let (judged, _) = decide(alloc, writer, reader, 1, 1)?;
+    match judged {
+        Judged::Compatible(certificate) => Ok(certificate),
+        Judged::Size => unreachable!(),
+        Judged::Depth => unreachable!(),
+        Judged::Erring(_) => unreachable!(),
+    }
 }

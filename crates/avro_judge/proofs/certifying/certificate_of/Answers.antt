@@ -21,21 +21,13 @@ of-requires-clause-small c =
     c.count-2.ensures.count c.in_ok-dead.ensures (ap pairs_of c.new.ensures.items) gone in
     own.small
 
-pub returns-then-is_none-clause-evidence : goal.returns-then-is_none-clause-evidence
-returns-then-is_none-clause-evidence c =
+pub returns-then-is_none : goal.returns-then-is_none
+returns-then-is_none c =
     let gone = no_entry c.entry.result _ c.is_none.result c.entry.ensures c.is_none.ensures ∙ c.if-is_none.true in
     let own = certified_dead (schema_nodes c.args.writer.now) (schema_nodes c.args.reader.now) c.args.table.now (keys c.args.reached.now.known)
     c.count-2.ensures.formed c.count.ensures.formed c.requires.one_each c.requires.calm c.count-2.result c.in_ok-dead.dead.items (pairs_of c.new.result.items)
     c.count-2.ensures.count c.in_ok-dead.ensures (ap pairs_of c.new.ensures.items) gone in
-    evidence_as _ _ _ _ _ _ c.of.ensures.dead c.of.ensures.pairs own.evidence
-
-pub returns-then-is_none-clause-closed : goal.returns-then-is_none-clause-closed
-returns-then-is_none-clause-closed c =
-    let gone = no_entry c.entry.result _ c.is_none.result c.entry.ensures c.is_none.ensures ∙ c.if-is_none.true in
-    let own = certified_dead (schema_nodes c.args.writer.now) (schema_nodes c.args.reader.now) c.args.table.now (keys c.args.reached.now.known)
-    c.count-2.ensures.formed c.count.ensures.formed c.requires.one_each c.requires.calm c.count-2.result c.in_ok-dead.dead.items (pairs_of c.new.result.items)
-    c.count-2.ensures.count c.in_ok-dead.ensures (ap pairs_of c.new.ensures.items) gone in
-    closed_as _ _ _ _ _ _ c.of.ensures.dead c.of.ensures.pairs own.closed
+    record { evidence = evidence_as _ _ _ _ _ _ c.of.ensures.dead c.of.ensures.pairs own.evidence; closed = closed_as _ _ _ _ _ _ c.of.ensures.dead c.of.ensures.pairs own.closed }
 
 pub of-requires-2-clause-rising : goal.of-requires-2-clause-rising
 of-requires-2-clause-rising c =
@@ -61,18 +53,10 @@ of-requires-2-clause-small c =
     c.count-2.ensures.count c.in_ok-dead.ensures c.in_ok-pairs.ensures c.requires.stepped here in
     own.small
 
-pub returns-clause-evidence : goal.returns-clause-evidence
-returns-clause-evidence c =
+pub returns : goal.returns
+returns c =
     let here = no_entry c.entry.result _ c.is_none.result c.entry.ensures c.is_none.ensures ∙ c.if-is_none.false in
     let own = certified_live (schema_nodes c.args.writer.now) (schema_nodes c.args.reader.now) c.args.table.now (keys c.args.reached.now.known)
     c.count-2.ensures.formed c.count.ensures.formed c.requires.one_each c.requires.calm c.count-2.result c.in_ok-dead.dead.items (pairs_of c.in_ok-pairs.pairs.items)
     c.count-2.ensures.count c.in_ok-dead.ensures c.in_ok-pairs.ensures c.requires.stepped here in
-    evidence_as _ _ _ _ _ _ c.of-2.ensures.dead c.of-2.ensures.pairs own.evidence
-
-pub returns-clause-closed : goal.returns-clause-closed
-returns-clause-closed c =
-    let here = no_entry c.entry.result _ c.is_none.result c.entry.ensures c.is_none.ensures ∙ c.if-is_none.false in
-    let own = certified_live (schema_nodes c.args.writer.now) (schema_nodes c.args.reader.now) c.args.table.now (keys c.args.reached.now.known)
-    c.count-2.ensures.formed c.count.ensures.formed c.requires.one_each c.requires.calm c.count-2.result c.in_ok-dead.dead.items (pairs_of c.in_ok-pairs.pairs.items)
-    c.count-2.ensures.count c.in_ok-dead.ensures c.in_ok-pairs.ensures c.requires.stepped here in
-    closed_as _ _ _ _ _ _ c.of-2.ensures.dead c.of-2.ensures.pairs own.closed
+    record { evidence = evidence_as _ _ _ _ _ _ c.of-2.ensures.dead c.of-2.ensures.pairs own.evidence; closed = closed_as _ _ _ _ _ _ c.of-2.ensures.dead c.of-2.ensures.pairs own.closed }

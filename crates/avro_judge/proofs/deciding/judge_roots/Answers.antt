@@ -1,43 +1,43 @@
-use Rattle.std.proofs.Common.{◌≡◌, ◌*◌, ℕ, true, List, Option, length, ◌∙◌, ap, subst, arith}
-use Rattle.std.specs.Prelude.{nat_lt}
-use Rattle.std.specs.List.{list_all}
+use Rattle.std.proofs.Common.{ℕ, ◌∙◌, ap, sym, subst, arith}
 use Rattle.indexmap.specs.IndexSet.{keys}
-use Rattle.avro_schema.specs.Node.{Node}
 use Rattle.avro_schema.specs.Seen.{value_of}
 use Rattle.avro_schema.specs.SeenSchema.{schema_nodes}
-use Rattle.avro_least.specs.Asked.{ArePairsShown, steps_at}
 use Rattle.avro_least.specs.BuiltErrors.{BuildsError}
-use Rattle.avro_least.specs.FoundTables.{AreTables}
-use Rattle.avro_least.specs.Tables.{Least, LeastTable, AreDataShown, AreLow, erring_of}
-use Rattle.avro_least.specs.Reached.{is_key, AreFollowed}
+use Rattle.avro_least.specs.Tables.{erring_of}
 use Rattle.avro_least.specs.SeenLeast.{seen_all, table_of}
+use Rattle.avro_judge.proofs.Certified.{tables_of}
 use Rattle.avro_judge.proofs.RootJudged.{compatible, above, deep, refuting}
 use Rattle.avro_judge.proofs.deciding.judge_roots.Goals as goal
 
-found : (writer reader : List Node) (limit : ℕ) (table : LeastTable) (keys : List ℕ) (entries : List (Option Least)) → AreDataShown writer limit table
-    → AreLow writer reader limit table (erring_of (length reader) table keys entries) → ArePairsShown writer reader limit table keys entries → is_key keys 0 ≡ true
-    → list_all (λ k. nat_lt k (length writer * length reader)) keys ≡ true → AreFollowed (steps_at writer reader table) keys (length keys)
-    → AreTables writer reader limit table keys entries
-found writer reader limit table keys entries d l s r b c = record { has_data = d; low = l; shown = s; root = r; below = b; closed = c }
+pub certificate_of-requires-clause-calm : goal.certificate_of-requires-clause-calm
+certificate_of-requires-clause-calm c = record {
+  limit = c.args.limit;
+  entries = seen_all c.args.entries.now;
+  tables = tables_of _ _ _ _ _ _ c.requires.has_data c.requires.low c.requires.shown c.requires.root c.requires.below c.requires.closed;
+  calm = sym (c.in-None.ensures ∙ ap (λ (n : ℕ). erring_of n (table_of c.args.table.now) (keys c.args.reached.now.known) (seen_all c.args.entries.now) 0 0) c.count-count.ensures.count);
+}
 
-pub returns-in_ok-pairs-in-None : goal.returns-in_ok-pairs-in-None
-returns-in_ok-pairs-in-None c = compatible (schema_nodes c.args.writer.now) (schema_nodes c.args.reader.now) c.args.limit (table_of c.args.table.now) (keys c.args.reached.now.known) (seen_all c.args.entries.now) c.count.ensures.formed c.count-count.ensures.formed (found (schema_nodes c.args.writer.now) (schema_nodes c.args.reader.now) c.args.limit (table_of c.args.table.now) (keys c.args.reached.now.known) (seen_all c.args.entries.now) c.requires.has_data c.requires.low c.requires.shown c.requires.root c.requires.below c.requires.closed)
-    (c.in-None.ensures ∙ ap (λ (n : ℕ). erring_of n (table_of c.args.table.now) (keys c.args.reached.now.known) (seen_all c.args.entries.now) 0 0) c.count-count.ensures.count)
+pub returns-in_ok-certificate-in-None : goal.returns-in_ok-certificate-in-None
+returns-in_ok-certificate-in-None c = (
+  compatible (schema_nodes c.args.writer.now) (schema_nodes c.args.reader.now) c.args.limit (table_of c.args.table.now) (keys c.args.reached.now.known) (seen_all c.args.entries.now) c.count.ensures.formed c.count-count.ensures.formed (tables_of (schema_nodes c.args.writer.now) (schema_nodes c.args.reader.now) c.args.limit (table_of c.args.table.now) (keys c.args.reached.now.known) (seen_all c.args.entries.now) c.requires.has_data c.requires.low c.requires.shown c.requires.root c.requires.below c.requires.closed)
+      (c.in-None.ensures ∙ ap (λ (n : ℕ). erring_of n (table_of c.args.table.now) (keys c.args.reached.now.known) (seen_all c.args.entries.now) 0 0) c.count-count.ensures.count),
+  c.in_ok-certificate-in-None.ensures,
+)
 
 pub returns-then-least-limit : goal.returns-then-least-limit
-returns-then-least-limit c = above (schema_nodes c.args.writer.now) (schema_nodes c.args.reader.now) c.args.limit (table_of c.args.table.now) (keys c.args.reached.now.known) (seen_all c.args.entries.now) c.count.ensures.formed c.count-count.ensures.formed (found (schema_nodes c.args.writer.now) (schema_nodes c.args.reader.now) c.args.limit (table_of c.args.table.now) (keys c.args.reached.now.known) (seen_all c.args.entries.now) c.requires.has_data c.requires.low c.requires.shown c.requires.root c.requires.below c.requires.closed)
+returns-then-least-limit c = above (schema_nodes c.args.writer.now) (schema_nodes c.args.reader.now) c.args.limit (table_of c.args.table.now) (keys c.args.reached.now.known) (seen_all c.args.entries.now) c.count.ensures.formed c.count-count.ensures.formed (tables_of (schema_nodes c.args.writer.now) (schema_nodes c.args.reader.now) c.args.limit (table_of c.args.table.now) (keys c.args.reached.now.known) (seen_all c.args.entries.now) c.requires.has_data c.requires.low c.requires.shown c.requires.root c.requires.below c.requires.closed)
     (record { nodes = c.in-Some.least.nodes; depth = c.in-Some.least.depth })
     (c.in-Some.ensures ∙ ap (λ (n : ℕ). erring_of n (table_of c.args.table.now) (keys c.args.reached.now.known) (seen_all c.args.entries.now) 0 0) c.count-count.ensures.count)
     c.if-least-limit.true
 
 pub returns-then-least-deepest : goal.returns-then-least-deepest
-returns-then-least-deepest c = deep (schema_nodes c.args.writer.now) (schema_nodes c.args.reader.now) c.args.limit (table_of c.args.table.now) (keys c.args.reached.now.known) (seen_all c.args.entries.now) c.count.ensures.formed c.count-count.ensures.formed (found (schema_nodes c.args.writer.now) (schema_nodes c.args.reader.now) c.args.limit (table_of c.args.table.now) (keys c.args.reached.now.known) (seen_all c.args.entries.now) c.requires.has_data c.requires.low c.requires.shown c.requires.root c.requires.below c.requires.closed)
+returns-then-least-deepest c = deep (schema_nodes c.args.writer.now) (schema_nodes c.args.reader.now) c.args.limit (table_of c.args.table.now) (keys c.args.reached.now.known) (seen_all c.args.entries.now) c.count.ensures.formed c.count-count.ensures.formed (tables_of (schema_nodes c.args.writer.now) (schema_nodes c.args.reader.now) c.args.limit (table_of c.args.table.now) (keys c.args.reached.now.known) (seen_all c.args.entries.now) c.requires.has_data c.requires.low c.requires.shown c.requires.root c.requires.below c.requires.closed)
     (record { nodes = c.in-Some.least.nodes; depth = c.in-Some.least.depth }) c.args.deepest
     (c.in-Some.ensures ∙ ap (λ (n : ℕ). erring_of n (table_of c.args.table.now) (keys c.args.reached.now.known) (seen_all c.args.entries.now) 0 0) c.count-count.ensures.count)
     (omega (arith, c.if-least-limit.false)) c.if-least-deepest.true
 
 pub returns-in_ok-datum-in-Some : goal.returns-in_ok-datum-in-Some
-returns-in_ok-datum-in-Some c = refuting (schema_nodes c.args.writer.now) (schema_nodes c.args.reader.now) c.args.limit (table_of c.args.table.now) (keys c.args.reached.now.known) (seen_all c.args.entries.now) c.count.ensures.formed c.count-count.ensures.formed (found (schema_nodes c.args.writer.now) (schema_nodes c.args.reader.now) c.args.limit (table_of c.args.table.now) (keys c.args.reached.now.known) (seen_all c.args.entries.now) c.requires.has_data c.requires.low c.requires.shown c.requires.root c.requires.below c.requires.closed)
+returns-in_ok-datum-in-Some c = refuting (schema_nodes c.args.writer.now) (schema_nodes c.args.reader.now) c.args.limit (table_of c.args.table.now) (keys c.args.reached.now.known) (seen_all c.args.entries.now) c.count.ensures.formed c.count-count.ensures.formed (tables_of (schema_nodes c.args.writer.now) (schema_nodes c.args.reader.now) c.args.limit (table_of c.args.table.now) (keys c.args.reached.now.known) (seen_all c.args.entries.now) c.requires.has_data c.requires.low c.requires.shown c.requires.root c.requires.below c.requires.closed)
     (record { nodes = c.in-Some.least.nodes; depth = c.in-Some.least.depth }) c.args.deepest (value_of c.in_ok-datum-in-Some.datum)
     (c.in-Some.ensures ∙ ap (λ (n : ℕ). erring_of n (table_of c.args.table.now) (keys c.args.reached.now.known) (seen_all c.args.entries.now) 0 0) c.count-count.ensures.count)
     (omega (arith, c.if-least-limit.false)) (omega (arith, c.if-least-deepest.false))
