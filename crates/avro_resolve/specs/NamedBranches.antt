@@ -1,12 +1,12 @@
 -- Where to begin to look for the first branch of a reader's union that matches: found by tables of names.
-use Rattle.std.specs.Prelude.{◌≡◌, ℕ, ◌+◌, Bool, ◌&&◌, List, Option, Some, None, drop, ◌==◌, bytes_eq, position, slice_get}
+use Rattle.std.specs.Prelude.{◌≡◌, ℕ, ◌+◌, Bool, ◌&&◌, List, ◌∷◌, Option, Some, None, drop, ◌==◌, bytes_eq, position, slice_get}
 use Rattle.std.specs.List.{list_any}
-use Rattle.std.specs.Ordering.{nat_cmp, ordering_then, then_cmp, on}
+use Rattle.std.specs.Ordering.{nat_cmp, ordering_then}
 use Rattle.std.specs.Cmp.Lexicographic.{slice_cmp}
 use Rattle.std.specs.declared.cmp.Ordering.{Ordering}
 use Rattle.std.specs.BTreeMap.{BTreeMap, get}
 use denote.Ref.{Bor}
-use Rattle.avro_name.specs.Name.{Name, same_name}
+use Rattle.avro_name.specs.Name.{Name}
 use Rattle.avro_schema.specs.Node.{Node, node_at, branches_of}
 use Rattle.avro_schema.specs.Fits.{is_some_and}
 use Rattle.avro_schema.specs.Seen.{places_of}
@@ -26,46 +26,33 @@ named_type (Node.enum name aliases symbols default) = Some (record { kind = 1; n
 named_type (Node.fixed name aliases count) = Some (record { kind = count + 2; name = name; aliases = aliases })
 named_type _ = None
 
--- a type of this kind has this simple name, or this alias
-abbrev pub has_simple : ℕ → List ℕ → NamedType → Bool
-has_simple kind simple t = t.kind == kind && bytes_eq simple t.name.simple
+-- one of some names has this simple part
+abbrev pub has_simple : List ℕ → List Name → Bool
+has_simple simple names = list_any (λ n. bytes_eq simple n.simple) names
 
-abbrev pub has_alias : ℕ → Name → NamedType → Bool
-has_alias kind name t = t.kind == kind && list_any (same_name name) t.aliases
+-- a type of this kind has this simple name, or an alias with this simple part
+abbrev pub is_named : ℕ → List ℕ → NamedType → Bool
+is_named kind simple t = t.kind == kind && has_simple simple (t.name ∷ t.aliases)
 
 -- the node at a place is such a type
 abbrev pub passes : List Node → (NamedType → Bool) → ℕ → Bool
 passes reader test place = is_some_and test (named_type (node_at reader place))
 
--- a table's keys, and their orders: by kinds first
-abbrev pub SimpleKey : Type 0
-SimpleKey = ℕ × Bor (List ℕ)
+-- a table's keys, and their order: by kinds first
+abbrev pub NameKey : Type 0
+NameKey = ℕ × Bor (List ℕ)
 
-abbrev pub simple_cmp : SimpleKey → SimpleKey → Ordering
-simple_cmp a b = ordering_then (nat_cmp a.0 b.0) (slice_cmp nat_cmp a.1.now b.1.now)
+abbrev pub key_cmp : NameKey → NameKey → Ordering
+key_cmp a b = ordering_then (nat_cmp a.0 b.0) (slice_cmp nat_cmp a.1.now b.1.now)
 
-abbrev pub AliasKey : Type 0
-AliasKey = ℕ × Bor Name
+-- a map finds the first branch of each kind and simple part, and no other
+abbrev pub FindsFirst : List Node → List ℕ → BTreeMap NameKey ℕ → Type 0
+FindsFirst reader places first = (key : NameKey) → get key_cmp first key ≡ position (passes reader (is_named key.0 key.1.now)) places
 
-abbrev pub name_cmp : Name → Name → Ordering
-name_cmp = then_cmp (on (λ n. n.simple) (slice_cmp nat_cmp)) (on (λ n. n.namespace) (slice_cmp nat_cmp))
-
-abbrev pub alias_cmp : AliasKey → AliasKey → Ordering
-alias_cmp a b = ordering_then (nat_cmp a.0 b.0) (name_cmp a.1.now b.1.now)
-
--- a map finds the first branch of each kind and simple name, and no other
-abbrev pub FindsSimple : List Node → List ℕ → BTreeMap SimpleKey ℕ → Type 0
-FindsSimple reader places names = (key : SimpleKey) → get simple_cmp names key ≡ position (passes reader (has_simple key.0 key.1.now)) places
-
--- the same of each kind and alias
-abbrev pub FindsAliases : List Node → List ℕ → BTreeMap AliasKey ℕ → Type 0
-FindsAliases reader places names = (key : AliasKey) → get alias_cmp names key ≡ position (passes reader (has_alias key.0 key.1.now)) places
-
--- the tables of a union
+-- the table of a union
 pub record AreUnionNames (reader : List Node) (names : UnionNames) : Type 0 where
   pub branches : node_at reader names.union.0 ≡ Node.union (places_of names.branches.now)
-  pub simple : FindsSimple reader (places_of names.branches.now) names.simple
-  pub aliases : FindsAliases reader (places_of names.branches.now) names.aliases
+  pub first : FindsFirst reader (places_of names.branches.now) names.first
 
 -- the tables of some unions
 abbrev pub AreBranchNames : List Node → List UnionNames → Type 0

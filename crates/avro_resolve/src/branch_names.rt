@@ -1,13 +1,13 @@
-ghost use Rattle.std.specs.Prelude.{◌≡◌, ◌≤◌, true, List, IfOk, OnOk, unwrap_or};
+ghost use Rattle.std.specs.Prelude.{◌≡◌, ◌≤◌, true, List, IfOk, OnOk};
 ghost use Rattle.std.specs.Option.{IfSome};
 ghost use Rattle.std.specs.List.{position_or_len};
 ghost use Rattle.avro_schema.specs.Node.{Node as SeenNode, node_at};
 ghost use Rattle.avro_schema.specs.Seen.{node_of, places_of};
 ghost use Rattle.avro_schema.specs.SeenSchema.{schema_nodes};
 ghost use Rattle.avro_schema.specs.WellFormed.{is_schema};
-ghost use Rattle.avro_resolve.specs.NamedBranches.{AreBranchNames, AreUnionNames, StartsAt, passes, has_simple, has_alias};
+ghost use Rattle.avro_resolve.specs.NamedBranches.{AreBranchNames, AreUnionNames, StartsAt, passes, is_named};
 
-use crate::branch_table::{alias_names, simple_names};
+use crate::branch_table::{first_branches, type_at};
 use crate::guided::Aim;
 use crate::named_type::{NamedType, named_type};
 use crate::pairs::{aim_after, first_match_after};
@@ -16,17 +16,18 @@ use avro_schema::{Node, NodeId, Schema};
 use std::alloc::{AllocError, Global};
 use std::marker::Model;
 
-/// The fewest branches of a union that has tables.
+/// The fewest branches of a union that has a table.
 const FEWEST: usize = 8;
 
 /// A writer's schema and a reader's, with the names of the branches of the reader's unions, by which the first
 /// match of a record, an enum or a fixed is found without a look at the branches before it. A union of few
-/// branches, or with many aliases, is looked through, and takes no memory here. Contracts see the
+/// branches, or with more aliases than branches, is looked through, and takes no memory here. Contracts see the
 /// two schemas.
 #[derive(Drop)]
 pub struct BranchNames<'a> {
     writer: &'a Schema,
     reader: &'a Schema,
+    /// They rise by their nodes, so that a union's is found by binary search.
     unions: Vec<UnionNames<'a>>,
 }
 
@@ -133,6 +134,7 @@ impl<'a> BranchNames<'a> {
         }
         match union_among(&self.unions, r) {
             Some(names) => {
+                // The invariant of a schema is read here.
                 let _ = self.reader.len();
                 start_at(names, self.writer.node(w))
             }
@@ -141,7 +143,7 @@ impl<'a> BranchNames<'a> {
     }
 }
 
-/// The tables of a union that has some.
+/// The table of a union that has one.
 fn union_among<'u, 'r>(unions: &'u [UnionNames<'r>], r: NodeId) -> Option<&'u UnionNames<'r>>
     ensures { (reader : List SeenNode) → AreBranchNames reader unions.now
         → IfSome result (λ names. AreUnionNames reader names.now × (names.now.union.0 ≡ r.0)) }
@@ -157,7 +159,7 @@ fn union_among<'u, 'r>(unions: &'u [UnionNames<'r>], r: NodeId) -> Option<&'u Un
     if names.union == r { Some(names) } else { None }
 }
 
-/// Adds the tables of a node that is a union of many branches.
+/// Adds the table of a node that is a union of many branches.
 fn add_union<'a>(
     unions: &mut Vec<UnionNames<'a>>,
     alloc: Global,
@@ -173,7 +175,7 @@ fn add_union<'a>(
     Ok(())
 }
 
-/// The tables of a node that is a union of many branches, with few aliases.
+/// The table of a node that is a union of many branches, with few aliases.
 fn union_names<'r>(
     alloc: Global,
     reader: &'r Schema,
@@ -192,18 +194,17 @@ fn union_names<'r>(
             Ok(Some(UnionNames {
                 union: id,
                 branches,
-                simple: simple_names(alloc, reader, branches)?,
-                aliases: alias_names(alloc, reader, branches)?,
+                first: first_branches(alloc, reader, branches)?,
             }))
         }
         _ => Ok(None),
     }
 }
 
-/// Whether the branches of a union have one alias for eight branches at most. A union that names the same
+/// Whether the branches of a union have no more aliases than there are branches. A union that names the same
 /// branches again then costs no more than its text, however many aliases they have.
 fn has_few_aliases(reader: &Schema, branches: &[NodeId]) -> bool {
-    let mut left = branches.len() / FEWEST;
+    let mut left = branches.len();
     for branch in branches {
         let count = alias_count(reader, *branch);
         if count > left {
@@ -216,16 +217,13 @@ fn has_few_aliases(reader: &Schema, branches: &[NodeId]) -> bool {
 
 /// How many aliases a node has.
 fn alias_count(reader: &Schema, id: NodeId) -> usize {
-    if !reader.has(id) {
-        return 0;
-    }
-    match named_type(reader.node(id)) {
+    match type_at(reader, id) {
         Some(named) => named.aliases.len(),
         None => 0,
     }
 }
 
-/// A place before which no branch matches a writer's node, by the tables of a union.
+/// A place before which no branch matches a writer's node, by the table of a union.
 fn start_at<'n>(names: &UnionNames<'n>, node: &'n Node) -> usize
     ensures { (writer reader : List SeenNode) → is_schema reader ≡ true → AreUnionNames reader names.now
         → StartsAt writer reader (node_of node.now) (node_at reader names.now.union.0) result }
@@ -236,24 +234,11 @@ fn start_at<'n>(names: &UnionNames<'n>, node: &'n Node) -> usize
     }
 }
 
-/// The first branch that is named as a type is, or how many branches there are.
+/// The first branch that has the simple name of a type, or how many branches there are.
 fn first_named<'n>(names: &UnionNames<'n>, named: &NamedType<'n>) -> usize
-    ensures simple { (reader : List SeenNode) → AreUnionNames reader names.now
-        → result ≤ position_or_len (passes reader (has_simple named.now.kind named.now.name.simple)) (places_of names.now.branches.now) }
-    ensures alias { (reader : List SeenNode) → AreUnionNames reader names.now
-        → result ≤ position_or_len (passes reader (has_alias named.now.kind named.now.name)) (places_of names.now.branches.now) }
+    ensures { (reader : List SeenNode) → AreUnionNames reader names.now
+        → result ≤ position_or_len (passes reader (is_named named.now.kind named.now.name.simple)) (places_of names.now.branches.now) }
 {
-    let simple = names.simple.get(&(named.kind, named.name.simple()));
-    let alias = names.aliases.get(&(named.kind, named.name));
-    earlier(names.branches.len(), simple.copied(), alias.copied())
-}
-
-/// The earlier of two places, where none is behind all.
-fn earlier(all: usize, a: Option<usize>, b: Option<usize>) -> usize
-    ensures first { result ≤ unwrap_or a all }
-    ensures second { result ≤ unwrap_or b all }
-{
-    let one = a.unwrap_or(all);
-    let other = b.unwrap_or(all);
-    if one < other { one } else { other }
+    let first = names.first.get(&(named.kind, named.name.simple()));
+    first.copied().unwrap_or(names.branches.len())
 }
