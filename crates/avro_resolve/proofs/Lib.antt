@@ -25,3 +25,4 @@ pub mod Planning
 pub mod FieldsNoted
 pub mod NamedKeys
 pub mod NamedStarts
+pub mod NodeTables

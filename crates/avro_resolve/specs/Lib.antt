@@ -11,3 +11,4 @@ pub mod Planned
 pub mod Noting
 pub mod Tables
 pub mod NamedBranches
+pub mod ByNode

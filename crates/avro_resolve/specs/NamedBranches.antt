@@ -1,5 +1,5 @@
 -- Where to begin to look for the first branch of a reader's union that matches: found by tables of names.
-use Rattle.std.specs.Prelude.{◌≡◌, ℕ, ◌+◌, Bool, ◌&&◌, List, ◌∷◌, Option, Some, None, drop, ◌==◌, bytes_eq, position, slice_get}
+use Rattle.std.specs.Prelude.{◌≡◌, ℕ, ◌+◌, Bool, ◌&&◌, List, [], ◌∷◌, Option, Some, None, drop, ◌==◌, bytes_eq, position, unwrap_or}
 use Rattle.std.specs.List.{list_any}
 use Rattle.std.specs.Ordering.{nat_cmp, ordering_then}
 use Rattle.std.specs.Cmp.Lexicographic.{slice_cmp}
@@ -7,10 +7,14 @@ use Rattle.std.specs.declared.cmp.Ordering.{Ordering}
 use Rattle.std.specs.BTreeMap.{BTreeMap, get}
 use denote.Ref.{Bor}
 use Rattle.avro_name.specs.Name.{Name}
-use Rattle.avro_schema.specs.Node.{Node, node_at, branches_of}
+use Rattle.avro_schema.specs.Node.{Node, node_at, branches_of, symbols_of}
 use Rattle.avro_schema.specs.Fits.{is_some_and}
 use Rattle.avro_schema.specs.Seen.{places_of}
+use Rattle.avro_schema.specs.declared.schema.NodeId.{NodeId}
 use Rattle.avro_resolve.specs.Match.{first_match, first_match_from}
+use Rattle.avro_resolve.specs.ByNode.{EachTable}
+use Rattle.avro_resolve.specs.Planned.{FindsFields, FindsSymbols}
+use Rattle.avro_resolve.specs.Resolve.{fields_at}
 use Rattle.avro_resolve.specs.declared.union_names.UnionNames.{UnionNames}
 
 -- a record, an enum or a fixed by what it is matched by: its kind, its name and its aliases. A kind is that of records, of
@@ -50,13 +54,23 @@ abbrev pub FindsFirst : List Node → List ℕ → BTreeMap NameKey ℕ → Type
 FindsFirst reader places first = (key : NameKey) → get key_cmp first key ≡ position (passes reader (is_named key.0 key.1.now)) places
 
 -- the table of a union
-pub record AreUnionNames (reader : List Node) (names : UnionNames) : Type 0 where
-  pub branches : node_at reader names.union.0 ≡ Node.union (places_of names.branches.now)
+pub record IsUnionTable (reader : List Node) (union : ℕ) (names : UnionNames) : Type 0 where
+  pub branches : node_at reader union ≡ Node.union (places_of names.branches.now)
   pub first : FindsFirst reader (places_of names.branches.now) names.first
 
--- the tables of some unions
-abbrev pub AreBranchNames : List Node → List UnionNames → Type 0
-AreBranchNames reader unions = (k : ℕ) (names : UnionNames) → slice_get unions k ≡ Some names → AreUnionNames reader names
+-- the symbols of a node, and none where it has none
+abbrev pub symbols_at : Node → List (List ℕ)
+symbols_at n = unwrap_or (symbols_of n) []
+
+-- the tables of a reader's unions, of a writer's records, and of a reader's enums
+abbrev pub AreUnionTables : List Node → List (NodeId × UnionNames) → Type 0
+AreUnionTables reader tables = EachTable (IsUnionTable reader) tables
+
+abbrev pub AreFieldTables : List Node → List (NodeId × BTreeMap (Bor (List ℕ)) ℕ) → Type 0
+AreFieldTables writer tables = EachTable (λ record_at names. FindsFields (fields_at (node_at writer record_at)) names) tables
+
+abbrev pub AreSymbolTables : List Node → List (NodeId × BTreeMap (Bor (List ℕ)) ℕ) → Type 0
+AreSymbolTables reader tables = EachTable (λ enum_at names. FindsSymbols (symbols_at (node_at reader enum_at)) names) tables
 
 -- no branch before a place matches, so that the first match is found from there on
 abbrev pub StartsAt : List Node → List Node → Node → Node → ℕ → Type 0

@@ -1,34 +1,38 @@
-ghost use Rattle.std.specs.Prelude.{◌≡◌, ◌≤◌, true, List, IfOk, OnOk};
+ghost use Rattle.std.specs.Prelude.{◌≡◌, ◌≤◌, ℕ, true, List, IfOk};
 ghost use Rattle.std.specs.Option.{IfSome};
 ghost use Rattle.std.specs.List.{position_or_len};
 ghost use Rattle.avro_schema.specs.Node.{Node as SeenNode, node_at};
 ghost use Rattle.avro_schema.specs.Seen.{node_of, places_of};
 ghost use Rattle.avro_schema.specs.SeenSchema.{schema_nodes};
 ghost use Rattle.avro_schema.specs.WellFormed.{is_schema};
-ghost use Rattle.avro_resolve.specs.NamedBranches.{AreBranchNames, AreUnionNames, StartsAt, passes, is_named};
+ghost use Rattle.avro_resolve.specs.NamedBranches.{AreUnionTables, IsUnionTable, StartsAt, passes, is_named};
 
 use crate::branch_table::{first_branches, type_at};
+use crate::by_node::{FEWEST, add_table, table_of};
+use crate::field_tables::{field_tables, source_by};
 use crate::guided::Aim;
 use crate::named_type::{NamedType, named_type};
 use crate::pairs::{aim_after, first_match_after};
+use crate::symbol_tables::{symbol_by, symbol_tables};
 use crate::union_names::UnionNames;
-use avro_schema::{Node, NodeId, Schema};
+use avro_schema::{Field, Node, NodeId, Schema};
 use std::alloc::{AllocError, Global};
+use std::collections::BTreeMap;
 use std::marker::Model;
 
-/// The fewest branches of a union that has a table.
-const FEWEST: usize = 8;
-
-/// A writer's schema and a reader's, with the names of the branches of the reader's unions, by which the first
-/// match of a record, an enum or a fixed is found without a look at the branches before it. A union of few
-/// branches, or with more aliases than branches, is looked through, and takes no memory here. Contracts see the
-/// two schemas.
+/// A writer's schema and a reader's, with tables of names, by which names are found without a look at all that
+/// there are: the branches of the reader's unions, for the first match of a record, an enum or a fixed, the fields
+/// of the writer's records, and the symbols of the reader's enums. A union of few branches, or with more aliases
+/// than branches, a record of few fields and an enum of few symbols are looked through, and take no memory here.
+/// Contracts see the two schemas.
 #[derive(Drop)]
 pub struct BranchNames<'a> {
     writer: &'a Schema,
     reader: &'a Schema,
-    /// They rise by their nodes, so that a union's is found by binary search.
-    unions: Vec<UnionNames<'a>>,
+    // Each list rises by its nodes, so that a node's table is found by binary search.
+    unions: Vec<(NodeId, UnionNames<'a>)>,
+    fields: Vec<(NodeId, BTreeMap<&'a str, usize>)>,
+    symbols: Vec<(NodeId, BTreeMap<&'a str, usize>)>,
 }
 
 impl<'a> Model for BranchNames<'a> {
@@ -36,7 +40,7 @@ impl<'a> Model for BranchNames<'a> {
     ghost use Rattle.avro_schema.specs.contracts.datum.Datum as datum;
     ghost use Rattle.avro_schema.specs.declared.schema.Schema.{Schema};
     ghost use Rattle.avro_schema.specs.SeenSchema.{schema_nodes};
-    ghost use Rattle.avro_resolve.specs.NamedBranches.{AreBranchNames};
+    ghost use Rattle.avro_resolve.specs.NamedBranches.{AreUnionTables, AreFieldTables, AreSymbolTables};
 
     ghost Value = { Schema × Schema };
 
@@ -44,18 +48,23 @@ impl<'a> Model for BranchNames<'a> {
 
     ghost view = { λ names. (names.writer.now, names.reader.now) };
 
-    ghost invariant = { λ names. AreBranchNames (schema_nodes names.reader.now) names.unions.items };
+    ghost invariant = { λ names. AreUnionTables (schema_nodes names.reader.now) names.unions.items
+        × AreFieldTables (schema_nodes names.writer.now) names.fields.items
+        × AreSymbolTables (schema_nodes names.reader.now) names.symbols.items };
 }
 
 impl<'a> BranchNames<'a> {
     ghost use Rattle.std.specs.Prelude.{◌≡◌, IfOk};
     ghost use Rattle.avro_schema.specs.Node.{node_at};
+    ghost use Rattle.avro_schema.specs.Seen.{field_of};
     ghost use Rattle.avro_schema.specs.SeenSchema.{schema_nodes};
     ghost use Rattle.avro_resolve.specs.Match.{first_match_at};
     ghost use Rattle.avro_resolve.specs.NamedBranches.{StartsAt};
-    ghost use Rattle.avro_resolve.specs.Pairs.{IsAim};
+    ghost use Rattle.avro_resolve.specs.Pairs.{IsAim, IsSymbol};
+    ghost use Rattle.avro_resolve.specs.Resolve.{enum_as, fields_at};
+    ghost use Rattle.avro_resolve.specs.Source.{source_of};
 
-    /// The names of the branches of a reader's unions.
+    /// The tables of two schemas.
     ///
     /// # Errors
     ///
@@ -67,20 +76,19 @@ impl<'a> BranchNames<'a> {
     ) -> Result<BranchNames<'a>, AllocError>
         ensures { IfOk result (λ names. names ≡ (writer.now, reader.now)) }
     {
-        let mut unions = Vec::new(alloc);
-        let mut number = 0u32;
-        for _place in 0..reader.len() {
-            add_union(&mut unions, alloc, reader, NodeId(number))?;
-            number = number.saturating_add(1);
-        }
+        let unions = union_tables(alloc, reader)?;
+        let fields = field_tables(alloc, writer)?;
+        let symbols = symbol_tables(alloc, reader)?;
         Ok(BranchNames {
             writer,
             reader,
             unions,
+            fields,
+            symbols,
         })
     }
 
-    /// No names: each union is looked through.
+    /// No tables: all names are looked through.
     pub fn none(alloc: Global, writer: &'a Schema, reader: &'a Schema) -> BranchNames<'a>
         ensures { result ≡ (writer.now, reader.now) }
     {
@@ -88,6 +96,8 @@ impl<'a> BranchNames<'a> {
             writer,
             reader,
             unions: Vec::new(alloc),
+            fields: Vec::new(alloc),
+            symbols: Vec::new(alloc),
         }
     }
 
@@ -99,6 +109,21 @@ impl<'a> BranchNames<'a> {
     {
         let start = self.start(w, r);
         first_match_after(self.writer, w, self.reader, r, start)
+    }
+
+    /// The place of the field of a writer's record that a reader's field takes its value from, as
+    /// [`source`](crate::source) answers it; none at another writer's node.
+    pub fn source(&self, w: NodeId, field: &Field) -> Option<usize>
+        ensures { result ≡ source_of (fields_at (node_at (schema_nodes self.now.0) w.0)) (field_of field.now) }
+    {
+        source_by(&self.fields, self.writer, w, field)
+    }
+
+    /// The place of a symbol of a reader's enum, or of its default; none at another reader's node.
+    pub fn symbol(&self, symbol: &str, q: NodeId) -> Option<u32>
+        ensures { IsSymbol (enum_as symbol.now (node_at (schema_nodes self.now.1) q.0)) result }
+    {
+        symbol_by(&self.symbols, self.reader, q, symbol)
     }
 
     /// Where a pair of nodes leads.
@@ -132,7 +157,7 @@ impl<'a> BranchNames<'a> {
         if !self.writer.has(w) {
             return 0;
         }
-        match union_among(&self.unions, r) {
+        match table_of(&self.unions, r) {
             Some(names) => {
                 // The invariant of a schema is read here.
                 let _ = self.reader.len();
@@ -143,45 +168,27 @@ impl<'a> BranchNames<'a> {
     }
 }
 
-/// The table of a union that has one.
-fn union_among<'u, 'r>(unions: &'u [UnionNames<'r>], r: NodeId) -> Option<&'u UnionNames<'r>>
-    ensures { (reader : List SeenNode) → AreBranchNames reader unions.now
-        → IfSome result (λ names. AreUnionNames reader names.now × (names.now.union.0 ≡ r.0)) }
+/// The tables of a reader's unions. They rise by the unions' nodes.
+fn union_tables(alloc: Global, reader: &Schema) -> Result<Vec<(NodeId, UnionNames<'_>)>, AllocError>
+    ensures { IfOk result (λ tables. AreUnionTables (schema_nodes reader.now) tables.items) }
 {
-    let at = match unions.binary_search_by_key(&r, |names| names.union) {
-        Ok(at) => at,
-        Err(at) => at,
-    };
-    if at >= unions.len() {
-        return None;
+    let mut tables = Vec::new(alloc);
+    let mut number = 0u32;
+    for _place in 0..reader.len() {
+        let id = NodeId(number);
+        add_table(&mut tables, id, union_table(alloc, reader, id)?)?;
+        number = number.saturating_add(1);
     }
-    let names = &unions[at];
-    if names.union == r { Some(names) } else { None }
-}
-
-/// Adds the table of a node that is a union of many branches.
-fn add_union<'a>(
-    unions: &mut Vec<UnionNames<'a>>,
-    alloc: Global,
-    reader: &'a Schema,
-    id: NodeId,
-) -> Result<(), AllocError>
-    ensures { OnOk result (AreBranchNames (schema_nodes reader.now) unions.old.items → AreBranchNames (schema_nodes reader.now) unions.new.items) }
-{
-    match union_names(alloc, reader, id)? {
-        Some(names) => unions.push(names)?,
-        None => {}
-    }
-    Ok(())
+    Ok(tables)
 }
 
 /// The table of a node that is a union of many branches, with few aliases.
-fn union_names<'r>(
+fn union_table(
     alloc: Global,
-    reader: &'r Schema,
+    reader: &Schema,
     id: NodeId,
-) -> Result<Option<UnionNames<'r>>, AllocError>
-    ensures { IfOk result (λ found. IfSome found (AreUnionNames (schema_nodes reader.now))) }
+) -> Result<Option<UnionNames<'_>>, AllocError>
+    ensures { IfOk result (λ table. IfSome table (IsUnionTable (schema_nodes reader.now) id.0)) }
 {
     if !reader.has(id) {
         return Ok(None);
@@ -192,7 +199,6 @@ fn union_names<'r>(
                 return Ok(None);
             }
             Ok(Some(UnionNames {
-                union: id,
                 branches,
                 first: first_branches(alloc, reader, branches)?,
             }))
@@ -225,8 +231,8 @@ fn alias_count(reader: &Schema, id: NodeId) -> usize {
 
 /// A place before which no branch matches a writer's node, by the table of a union.
 fn start_at<'n>(names: &UnionNames<'n>, node: &'n Node) -> usize
-    ensures { (writer reader : List SeenNode) → is_schema reader ≡ true → AreUnionNames reader names.now
-        → StartsAt writer reader (node_of node.now) (node_at reader names.now.union.0) result }
+    ensures { (writer reader : List SeenNode) (union : ℕ) → is_schema reader ≡ true → IsUnionTable reader union names.now
+        → StartsAt writer reader (node_of node.now) (node_at reader union) result }
 {
     match named_type(node) {
         Some(named) => first_named(names, &named),
@@ -236,7 +242,7 @@ fn start_at<'n>(names: &UnionNames<'n>, node: &'n Node) -> usize
 
 /// The first branch that has the simple name of a type, or how many branches there are.
 fn first_named<'n>(names: &UnionNames<'n>, named: &NamedType<'n>) -> usize
-    ensures { (reader : List SeenNode) → AreUnionNames reader names.now
+    ensures { (reader : List SeenNode) (union : ℕ) → IsUnionTable reader union names.now
         → result ≤ position_or_len (passes reader (is_named named.now.kind named.now.name.simple)) (places_of names.now.branches.now) }
 {
     let first = names.first.get(&(named.kind, named.name.simple()));

@@ -10,8 +10,10 @@
 
 mod branch_names;
 mod branch_table;
+mod by_node;
 mod error;
 mod failing;
+mod field_tables;
 mod filling;
 mod found;
 mod guided;
@@ -36,6 +38,7 @@ mod resolution;
 mod resolving;
 mod running;
 mod sourcing;
+mod symbol_tables;
 mod symbols;
 mod union_names;
 mod walking;

@@ -50,7 +50,7 @@ fn symbol_in(node: &Node, symbol: &str) -> Option<u32>
 }
 
 /// The same of the node at a place.
-fn symbol_at_place(reader: &Schema, q: NodeId, symbol: &str) -> Option<u32>
+pub fn symbol_at_place(reader: &Schema, q: NodeId, symbol: &str) -> Option<u32>
     ensures { IsSymbol (enum_as symbol.now (node_at (schema_nodes reader.now) q.0)) result }
 {
     if (q.0 as usize) < reader.len() {
@@ -133,7 +133,7 @@ fn symbols_among(
 }
 
 /// The place of a reader's symbol, or its default, by the names of the reader's symbols.
-fn symbol_by_name(
+pub fn symbol_by_name(
     names: &BTreeMap<&str, usize>,
     reads: &[String],
     default: Option<u32>,

@@ -5,9 +5,7 @@ use std::collections::BTreeMap;
 /// simple part of an alias of its; a kind is that of records, of enums, or of fixeds of one length.
 #[derive(Drop)]
 pub struct UnionNames<'r> {
-    /// The union.
-    pub union: NodeId,
-    /// Its branches.
+    /// The branches of the union.
     pub branches: &'r [NodeId],
     /// The first branch of each kind and name.
     pub first: BTreeMap<(u64, &'r str), usize>,

@@ -9,7 +9,7 @@ use Rattle.avro_resolve.proofs.Pairing.{places_count}
 use Rattle.avro_resolve.proofs.branch_names.first_named.Goals as goal
 
 pub returns : goal.returns
-returns c = λ reader table.
+returns c = λ reader union table.
     let names = c.args.names.now in
     let places = places_of names.branches.now in
     let named = c.args.named.now in
