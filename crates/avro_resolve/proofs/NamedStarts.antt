@@ -4,11 +4,11 @@ use Rattle.std.specs.Prelude.{is_some, unwrap_or, bytes_eq, nat_lt, position}
 use Rattle.std.specs.List.{list_all, list_any, position_or_len}
 use Rattle.std.proofs.lemmas.Bool.{and_parts, both_ways, eqb-true, eq-eqb, ltb-false, cond-false}
 use Rattle.avro_name.specs.Name.{Name, same_name}
-use Rattle.avro_schema.specs.Node.{Node, node_at, branches_of}
+use Rattle.avro_schema.specs.Node.{Node, node_at}
 use Rattle.avro_schema.specs.Fits.{is_some_and}
 use Rattle.avro_schema.specs.WellFormed.{branch_kind, is_schema, is_union, meets_its_rules}
 use Rattle.avro_resolve.specs.Match.{are_alike, match_within, is_match, first_match, first_match_from}
-use Rattle.avro_resolve.specs.NamedBranches.{NamedType, named_type, passes, has_simple, is_named, StartsAt}
+use Rattle.avro_resolve.specs.NamedBranches.{NamedType, named_type, passes, has_simple, is_named, branches_at, StartsAt}
 use Rattle.avro_resolve.proofs.Planning.{same_some}
 use Rattle.avro_resolve.proofs.Rules.{MeetRules-from_is_schema}
 
@@ -113,21 +113,19 @@ module _ (writer reader : List Node) (w : Node) (t : NamedType) (is : named_type
       ∙ skipped n (suc place) places kinds.1 one.1 ∙ ap (λ (p : ℕ). first_match_from p writer reader w (drop n places)) next
 
 -- a union's branches are no unions
-all-plain : (reader : List Node) (places : List ℕ) → is_union reader places ≡ true → list_all (λ place. is_some (branch_kind (node_at reader place))) places ≡ true
-all-plain reader places is = grind arith
+pub all_plain : (reader : List Node) (r : ℕ) → is_schema reader ≡ true → list_all (λ place. is_some (branch_kind (node_at reader place))) (branches_at (node_at reader r)) ≡ true
+all_plain reader r formed = by (node_at reader r) (MeetRules-from_is_schema reader formed r)
+  where
+    of_union : (places : List ℕ) → is_union reader places ≡ true → list_all (λ place. is_some (branch_kind (node_at reader place))) places ≡ true
+    of_union places is = grind arith
 
-pub starts_at : (writer reader : List Node) (w : Node) (t : NamedType) (r : ℕ) (places : List ℕ) (n : ℕ) → is_schema reader ≡ true → node_at reader r ≡ Node.union places
-    → named_type w ≡ Some t → n ≤ position_or_len (passes reader (is_named t.kind t.name.simple)) places → StartsAt writer reader w (node_at reader r) n
-starts_at writer reader w t r places n formed union is h = λ found branches.
-    let same : places ≡ found = same_some (ap branches_of union) branches in
-    let rules : is_union reader places ≡ true = subst (λ (m : Node). meets_its_rules reader m ≡ true) union (MeetRules-from_is_schema reader formed r) in
-    subst (λ (ps : List ℕ). first_match writer reader w ps ≡ first_match_from n writer reader w (drop n ps)) same
-    (skipped writer reader w t is n 0 places (all-plain reader places rules) h ∙ ap (λ (p : ℕ). first_match_from p writer reader w (drop n places)) (omega arith))
+    by : (n : Node) → meets_its_rules reader n ≡ true → list_all (λ place. is_some (branch_kind (node_at reader place))) (branches_at n) ≡ true
+    by (Node.union places) rules = of_union places rules
+    by _ rules = refl
 
--- a place of the same node of the same schemas
-pub starts_same : (ws xs rs ys : List Node) (v w : Node) (i j n : ℕ) → ws ≡ xs → rs ≡ ys → v ≡ w → i ≡ j → StartsAt ws rs v (node_at rs i) n → StartsAt xs ys w (node_at ys j) n
-starts_same ws xs rs ys v w i j n writer reader from to h =
-    subst (λ (k : ℕ). StartsAt xs ys w (node_at ys k) n) to
-    (subst (λ (m : Node). StartsAt xs ys m (node_at ys i) n) from
-    (subst (λ (zs : List Node). StartsAt xs zs v (node_at zs i) n) reader
-    (subst (λ (zs : List Node). StartsAt zs rs v (node_at rs i) n) writer h)))
+pub starts_at : (writer reader : List Node) (w r : Node) (t : NamedType) (n : ℕ) (places : List ℕ) → places ≡ branches_at r
+    → list_all (λ place. is_some (branch_kind (node_at reader place))) places ≡ true → named_type w ≡ Some t → n ≤ position_or_len (passes reader (is_named t.kind t.name.simple)) places
+    → StartsAt writer reader w r n
+starts_at writer reader w r t n places same plain is h = λ found branches.
+    subst (λ (ps : List ℕ). first_match writer reader w ps ≡ first_match_from n writer reader w (drop n ps)) (same ∙ ap (λ o. unwrap_or o []) branches)
+    (skipped writer reader w t is n 0 places plain h ∙ ap (λ (p : ℕ). first_match_from p writer reader w (drop n places)) (omega arith))

@@ -9,13 +9,11 @@ use denote.Ref.{Bor}
 use Rattle.avro_name.specs.Name.{Name}
 use Rattle.avro_schema.specs.Node.{Node, node_at, branches_of, symbols_of}
 use Rattle.avro_schema.specs.Fits.{is_some_and}
-use Rattle.avro_schema.specs.Seen.{places_of}
 use Rattle.avro_schema.specs.declared.schema.NodeId.{NodeId}
 use Rattle.avro_resolve.specs.Match.{first_match, first_match_from}
 use Rattle.avro_resolve.specs.ByNode.{EachTable}
 use Rattle.avro_resolve.specs.Planned.{FindsFields, FindsSymbols}
 use Rattle.avro_resolve.specs.Resolve.{fields_at}
-use Rattle.avro_resolve.specs.declared.union_names.UnionNames.{UnionNames}
 
 -- a record, an enum or a fixed by what it is matched by: its kind, its name and its aliases. A kind is that of records, of
 -- enums, or of fixeds of one length.
@@ -53,18 +51,16 @@ key_cmp a b = ordering_then (nat_cmp a.0 b.0) (slice_cmp nat_cmp a.1.now b.1.now
 abbrev pub FindsFirst : List Node → List ℕ → BTreeMap NameKey ℕ → Type 0
 FindsFirst reader places first = (key : NameKey) → get key_cmp first key ≡ position (passes reader (is_named key.0 key.1.now)) places
 
--- the table of a union
-pub record IsUnionTable (reader : List Node) (union : ℕ) (names : UnionNames) : Type 0 where
-  pub branches : node_at reader union ≡ Node.union (places_of names.branches.now)
-  pub first : FindsFirst reader (places_of names.branches.now) names.first
+-- the branches of a node, and its symbols, and none where it has none
+abbrev pub branches_at : Node → List ℕ
+branches_at n = unwrap_or (branches_of n) []
 
--- the symbols of a node, and none where it has none
 abbrev pub symbols_at : Node → List (List ℕ)
 symbols_at n = unwrap_or (symbols_of n) []
 
 -- the tables of a reader's unions, of a writer's records, and of a reader's enums
-abbrev pub AreUnionTables : List Node → List (NodeId × UnionNames) → Type 0
-AreUnionTables reader tables = EachTable (IsUnionTable reader) tables
+abbrev pub AreUnionTables : List Node → List (NodeId × BTreeMap NameKey ℕ) → Type 0
+AreUnionTables reader tables = EachTable (λ union_at first. FindsFirst reader (branches_at (node_at reader union_at)) first) tables
 
 abbrev pub AreFieldTables : List Node → List (NodeId × BTreeMap (Bor (List ℕ)) ℕ) → Type 0
 AreFieldTables writer tables = EachTable (λ record_at names. FindsFields (fields_at (node_at writer record_at)) names) tables

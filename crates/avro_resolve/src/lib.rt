@@ -40,7 +40,7 @@ mod running;
 mod sourcing;
 mod symbol_tables;
 mod symbols;
-mod union_names;
+mod union_tables;
 mod walking;
 
 pub use branch_names::BranchNames;

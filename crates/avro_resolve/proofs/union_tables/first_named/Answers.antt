@@ -6,19 +6,18 @@ use Rattle.avro_schema.specs.Seen.{places_of}
 use Rattle.avro_resolve.specs.NamedBranches.{NamedType, key_cmp, passes, is_named}
 use Rattle.avro_resolve.proofs.NamedStarts.{first_or_end}
 use Rattle.avro_resolve.proofs.Pairing.{places_count}
-use Rattle.avro_resolve.proofs.branch_names.first_named.Goals as goal
+use Rattle.avro_resolve.proofs.union_tables.first_named.Goals as goal
 
 pub returns : goal.returns
-returns c = λ reader union table.
-    let names = c.args.names.now in
-    let places = places_of names.branches.now in
+returns c = λ reader finds.
+    let places = places_of c.args.branches.now in
     let named = c.args.named.now in
     let inside = c.named.inside in
-    let is : c.copied.result ≡ get key_cmp names.first (inside.kind, c.simple.result) = search rules in
-    let first = passes reader (is_named named.kind named.name.simple) in
-    subst (λ n. n ≤ position_or_len first places) (sym c.unwrap_or.ensures)
-    (first_or_end first places c.copied.result _
-    (is ∙ table.first (inside.kind, c.simple.result)
+    let is : c.copied.result ≡ get key_cmp c.args.first.now (inside.kind, c.simple.result) = search rules in
+    let test = passes reader (is_named named.kind named.name.simple) in
+    subst (λ n. n ≤ position_or_len test places) (sym c.unwrap_or.ensures)
+    (first_or_end test places c.copied.result _
+    (is ∙ finds (inside.kind, c.simple.result)
     ∙ ap (λ (simple : List _). position (passes reader (is_named inside.kind simple)) places) c.simple.ensures.part
     ∙ ap (λ (t : NamedType). position (passes reader (is_named t.kind t.name.simple)) places) c.named.view_is)
-    (sym (places_count names.branches.now)))
+    (sym (places_count c.args.branches.now)))

@@ -1,9 +1,0 @@
-use Rattle.avro_resolve.specs.NamedBranches.{IsUnionTable}
-use Rattle.avro_schema.specs.SeenSchema.{schema_nodes}
-use Rattle.avro_resolve.proofs.NodeTables.{each_more}
-use Rattle.avro_resolve.proofs.branch_names.union_tables.Goals as goal
-
-pub loop-place-preserved : goal.loop-place-preserved
-loop-place-preserved c =
-    each_more (IsUnionTable (schema_nodes c.args.reader.now)) c.loop-place.tables.items c.add_table.new.tables.items (record { 0 = c.loop-place.number }) c.in_ok-union_table.field-0
-    c.in_ok-add_table.ensures c.in_ok-union_table.ensures c.loop-place.invariant
