@@ -12,7 +12,7 @@ ghost use Rattle.avro_least.specs.Asked.{Asked, asked, asked_inside, asked_branc
 ghost use Rattle.avro_least.specs.SeenAsk.{ask_of, rows_of};
 
 use avro_certificate::{lacks_symbol, names_of};
-use avro_resolve::{BranchNames, matches, source_in};
+use avro_resolve::{Names, matches, source_in};
 use avro_schema::{Field, Memory, Node, NodeId, Schema};
 use std::alloc::Global;
 use std::collections::BTreeMap;
@@ -204,7 +204,7 @@ fn ask_plain(
 }
 
 /// What a node that is no union asks for with a union's branches.
-fn ask_branch(names: &BranchNames, w: NodeId, r: NodeId, from: &Node, places: &[NodeId]) -> Ask
+fn ask_branch(names: &Names, w: NodeId, r: NodeId, from: &Node, places: &[NodeId]) -> Ask
     requires from { node_of from.now ≡ node_at (schema_nodes names.now.0) w.0 }
     requires to { node_at (schema_nodes names.now.1) r.0 ≡ SeenNode.union (places_of places.now) }
     ensures { ask_of result ≡ asked_branch (places_of places.now) (first_match (schema_nodes names.now.0) (schema_nodes names.now.1) (node_of from.now) (places_of places.now)) }
@@ -234,7 +234,7 @@ fn copy(alloc: Global, places: &[NodeId]) -> Result<Vec<NodeId>, Memory>
 /// What two nodes ask for that stand at these places.
 fn ask_nodes(
     alloc: Global,
-    names: &BranchNames,
+    names: &Names,
     writer: &Schema,
     w: NodeId,
     reader: &Schema,
@@ -259,7 +259,7 @@ fn ask_nodes(
 /// What a pair of nodes asks for; past the end stand nulls.
 pub(crate) fn make_ask(
     alloc: Global,
-    names: &BranchNames,
+    names: &Names,
     writer: &Schema,
     w: NodeId,
     reader: &Schema,

@@ -19,7 +19,7 @@ use crate::erring::{best_branch, best_field, pair_entry, row_entry};
 use crate::kept::Least;
 use crate::least::{entry, together};
 use crate::reaching::Reached;
-use avro_resolve::BranchNames;
+use avro_resolve::Names;
 use avro_schema::{Datum, Memory, Node, NodeId, Schema};
 use std::alloc::Global;
 
@@ -214,7 +214,7 @@ pub fn build_error(
     requires { limit ≤ 16777216 }
     ensures { IfOk result (λ d. BuildsError (schema_nodes writer.now) (schema_nodes reader.now) limit (table_of table.now) (erring_of count (table_of table.now) (keys reached.now.known) (seen_all entries.now)) left w.0 r.0 (value_of d)) }
 {
-    let names = BranchNames::none(alloc, writer, reader);
+    let names = Names::none(alloc, writer, reader);
     let ask = make_ask(alloc, &names, writer, w, reader, r)?;
     match &ask {
         Ask::Same(q) => {

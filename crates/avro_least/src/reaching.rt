@@ -16,7 +16,7 @@ use crate::asking::{Ask, make_ask};
 use crate::kept::Least;
 use crate::least::{count, entry};
 use avro_certificate::branch_names;
-use avro_resolve::BranchNames;
+use avro_resolve::Names;
 use avro_schema::{Memory, NodeId, Schema};
 use indexmap::IndexSet;
 use std::alloc::Global;
@@ -128,7 +128,7 @@ pub fn readers(reader: &Schema, key: u64) -> NodeId
 /// What a pair asks for.
 fn ask_at(
     alloc: Global,
-    names: &BranchNames,
+    names: &Names,
     writer: &Schema,
     reader: &Schema,
     key: u64,

@@ -11,7 +11,7 @@ use Rattle.std.proofs.lemmas.Slice.Eq.{bytes_eq-Decides}
 use Rattle.avro_name.specs.Name.{Name}
 use Rattle.avro_schema.specs.Seen.{places_of}
 use Rattle.avro_schema.specs.declared.schema.NodeId.{NodeId}
-use Rattle.avro_resolve.specs.NamedBranches.{NameKey, key_cmp, has_simple}
+use Rattle.avro_resolve.specs.NameTables.{NameKey, key_cmp, has_simple}
 use Rattle.avro_resolve.proofs.InOrder.{next_in, none_from}
 
 -- ---- When two keys are the same

@@ -8,7 +8,7 @@ use Rattle.avro_schema.specs.Node.{Node, node_at}
 use Rattle.avro_schema.specs.Fits.{is_some_and}
 use Rattle.avro_schema.specs.WellFormed.{branch_kind, is_schema, is_union, meets_its_rules}
 use Rattle.avro_resolve.specs.Match.{are_alike, match_within, is_match, first_match, first_match_from}
-use Rattle.avro_resolve.specs.NamedBranches.{NamedType, named_type, passes, has_simple, is_named, branches_at, StartsAt}
+use Rattle.avro_resolve.specs.NameTables.{NamedType, named_type, passes, has_simple, is_named, branches_at, StartsAt}
 use Rattle.avro_resolve.proofs.Planning.{same_some}
 use Rattle.avro_resolve.proofs.Rules.{MeetRules-from_is_schema}
 

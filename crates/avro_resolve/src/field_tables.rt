@@ -3,7 +3,7 @@ ghost use Rattle.std.specs.Option.{IfSome};
 ghost use Rattle.avro_schema.specs.Node.{node_at};
 ghost use Rattle.avro_schema.specs.Seen.{field_of};
 ghost use Rattle.avro_schema.specs.SeenSchema.{schema_nodes};
-ghost use Rattle.avro_resolve.specs.NamedBranches.{AreFieldTables};
+ghost use Rattle.avro_resolve.specs.NameTables.{AreFieldTables};
 ghost use Rattle.avro_resolve.specs.Planned.{FindsFields};
 ghost use Rattle.avro_resolve.specs.Resolve.{fields_at};
 ghost use Rattle.avro_resolve.specs.Source.{source_of};

@@ -6,8 +6,8 @@ ghost use Rattle.avro_resolve.specs.Noting.{AreIgnored, noted};
 ghost use Rattle.avro_resolve.specs.Pairs.{IsAim};
 ghost use Rattle.avro_resolve.specs.Planned.{AreFor, ArePrepared, AreSources, AreSymbols, IsPrepared};
 
-use crate::branch_names::BranchNames;
 use crate::guided::{Aim, At};
+use crate::names::Names;
 use crate::naming::{field_names, source_in};
 use crate::ordering::{PlacedPair, in_order, place_in, places_of_parts};
 use crate::prepared::Prepared;
@@ -25,7 +25,7 @@ pub fn prepare_all(
 ) -> Result<(Vec<Prepared>, u32), AllocError>
     ensures { IfOk result (λ r. ArePrepared (schema_nodes writer.now) (schema_nodes reader.now) r.0.items) }
 {
-    let names = BranchNames::new(alloc, writer, reader)?;
+    let names = Names::new(alloc, writer, reader)?;
     let order = in_order(alloc, pairs)?;
     let root = place_in(&order, writer.root(), reader.root());
     let mut kept = Vec::new(alloc);
@@ -39,7 +39,7 @@ pub fn prepare_all(
 /// What a plan keeps of a pair of nodes that is one of some pairs.
 fn prepare_among(
     alloc: Global,
-    names: &BranchNames,
+    names: &Names,
     w: NodeId,
     r: NodeId,
     order: &[PlacedPair],
@@ -52,12 +52,7 @@ fn prepare_among(
 }
 
 /// What a plan keeps of a pair of nodes, but for the places of its parts.
-pub fn prepare(
-    alloc: Global,
-    names: &BranchNames,
-    w: NodeId,
-    r: NodeId,
-) -> Result<Prepared, AllocError>
+pub fn prepare(alloc: Global, names: &Names, w: NodeId, r: NodeId) -> Result<Prepared, AllocError>
     ensures { IfOk result (λ p. IsPrepared (schema_nodes names.now.0) (schema_nodes names.now.1) p) }
 {
     let leads = names.aim(w, r);

@@ -4,7 +4,7 @@ ghost use Rattle.avro_schema.specs.Node.{node_at};
 ghost use Rattle.avro_schema.specs.Seen.{node_of};
 ghost use Rattle.avro_schema.specs.SeenSchema.{schema_nodes};
 ghost use Rattle.avro_binary.proofs.public.Choices.{HasFewChoices};
-ghost use Rattle.avro_resolve.specs.NamedBranches.{AreSymbolTables, symbols_at};
+ghost use Rattle.avro_resolve.specs.NameTables.{AreSymbolTables, symbols_at};
 ghost use Rattle.avro_resolve.specs.Pairs.{IsSymbol};
 ghost use Rattle.avro_resolve.specs.Planned.{FindsSymbols};
 ghost use Rattle.avro_resolve.specs.Resolve.{enum_as};

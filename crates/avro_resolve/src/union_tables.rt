@@ -5,10 +5,10 @@ ghost use Rattle.avro_schema.specs.Node.{Node as SeenNode, node_at};
 ghost use Rattle.avro_schema.specs.Seen.{places_of};
 ghost use Rattle.avro_schema.specs.SeenSchema.{schema_nodes};
 ghost use Rattle.avro_schema.specs.WellFormed.{branch_kind};
-ghost use Rattle.avro_resolve.specs.NamedBranches.{AreUnionTables, FindsFirst, StartsAt, branches_at, passes, is_named};
+ghost use Rattle.avro_resolve.specs.NameTables.{AreUnionTables, FindsFirst, StartsAt, branches_at, passes, is_named};
 
-use crate::branch_table::{first_branches, type_at};
 use crate::by_node::{FEWEST, add_table, table_of};
+use crate::first_branches::{first_branches, type_at};
 use crate::named_type::NamedType;
 use avro_schema::{Node, NodeId, Schema};
 use std::alloc::{AllocError, Global};

@@ -2,9 +2,9 @@ ghost use Rattle.std.specs.Prelude.{◌≡◌, IfOk};
 ghost use Rattle.avro_schema.specs.SeenSchema.{schema_nodes};
 ghost use Rattle.avro_resolve.specs.Planned.{ArePrepared, IsPrepared};
 
-use crate::branch_names::BranchNames;
 use crate::found::Found;
 use crate::guided::At;
+use crate::names::Names;
 use crate::ordering::{count_of_parts, part_at};
 use crate::prepared::Prepared;
 use crate::preparing::prepare;
@@ -19,7 +19,7 @@ pub fn prepare_reached(
 ) -> Result<Vec<Prepared>, AllocError>
     ensures { IfOk result (λ kept. ArePrepared (schema_nodes writer.now) (schema_nodes reader.now) kept.items) }
 {
-    let names = BranchNames::new(alloc, writer, reader)?;
+    let names = Names::new(alloc, writer, reader)?;
     let mut found = Found::new(alloc);
     found.place_of(writer.root(), reader.root())?;
     let mut kept = Vec::new(alloc);
@@ -43,7 +43,7 @@ fn most_pairs(writer: &Schema, reader: &Schema) -> usize {
 /// What a plan keeps of a pair of nodes. The pairs of its parts are found with it.
 fn prepare_found(
     alloc: Global,
-    names: &BranchNames,
+    names: &Names,
     w: NodeId,
     r: NodeId,
     found: &mut Found,

@@ -1,5 +1,5 @@
 use Rattle.avro_schema.specs.Node.{node_at}
-use Rattle.avro_resolve.specs.NamedBranches.{symbols_at}
+use Rattle.avro_resolve.specs.NameTables.{symbols_at}
 use Rattle.avro_resolve.specs.Planned.{FindsSymbols}
 use Rattle.avro_schema.specs.SeenSchema.{schema_nodes}
 use Rattle.avro_resolve.proofs.NodeTables.{each_more}

@@ -1,5 +1,5 @@
 use Rattle.avro_schema.specs.SeenSchema.{schema_nodes}
-use Rattle.avro_resolve.specs.NamedBranches.{AreSymbolTables}
+use Rattle.avro_resolve.specs.NameTables.{AreSymbolTables}
 use Rattle.avro_resolve.proofs.symbol_tables.symbol_tables.Given as goal
 
 abbrev pub invariant-loop-place : goal.invariant-loop-place

@@ -5,7 +5,7 @@ use Rattle.avro_schema.specs.Node.{node_at}
 use Rattle.avro_schema.specs.Seen.{node_of, places_of}
 use Rattle.avro_schema.specs.SeenSchema.{schema_nodes}
 use Rattle.avro_schema.specs.WellFormed.{branch_kind}
-use Rattle.avro_resolve.specs.NamedBranches.{branches_at}
+use Rattle.avro_resolve.specs.NameTables.{branches_at}
 use Rattle.avro_resolve.proofs.NamedStarts.{all_plain}
 use Rattle.avro_resolve.proofs.union_tables.branches_of.Goals as goal
 

@@ -3,7 +3,7 @@ use Rattle.std.specs.Prelude.{position}
 use Rattle.std.specs.List.{position_or_len}
 use Rattle.std.specs.BTreeMap.{get}
 use Rattle.avro_schema.specs.Seen.{places_of}
-use Rattle.avro_resolve.specs.NamedBranches.{NamedType, key_cmp, passes, is_named}
+use Rattle.avro_resolve.specs.NameTables.{NamedType, key_cmp, passes, is_named}
 use Rattle.avro_resolve.proofs.NamedStarts.{first_or_end}
 use Rattle.avro_resolve.proofs.Pairing.{places_count}
 use Rattle.avro_resolve.proofs.union_tables.first_named.Goals as goal

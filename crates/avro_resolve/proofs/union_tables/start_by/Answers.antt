@@ -2,7 +2,7 @@ use Rattle.std.proofs.Common.{subst, sym, ◌∙◌}
 use Rattle.avro_schema.specs.Node.{node_at}
 use Rattle.avro_schema.specs.Seen.{places_of}
 use Rattle.avro_schema.specs.SeenSchema.{schema_nodes}
-use Rattle.avro_resolve.specs.NamedBranches.{FindsFirst, branches_at}
+use Rattle.avro_resolve.specs.NameTables.{FindsFirst, branches_at}
 use Rattle.avro_resolve.proofs.NamedStarts.{starts_at}
 use Rattle.avro_resolve.proofs.NodeTables.{table_is}
 use Rattle.avro_resolve.proofs.union_tables.start_by.Goals as goal

@@ -1,5 +1,5 @@
 use Rattle.avro_schema.specs.Node.{node_at}
-use Rattle.avro_resolve.specs.NamedBranches.{FindsFirst, branches_at}
+use Rattle.avro_resolve.specs.NameTables.{FindsFirst, branches_at}
 use Rattle.avro_schema.specs.SeenSchema.{schema_nodes}
 use Rattle.avro_resolve.proofs.NodeTables.{each_more}
 use Rattle.avro_resolve.proofs.union_tables.union_tables.Goals as goal

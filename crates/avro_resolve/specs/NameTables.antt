@@ -1,4 +1,4 @@
--- Where to begin to look for the first branch of a reader's union that matches: found by tables of names.
+-- Tables of names: of unions' branches, of fields and of symbols; from where on the first branch that matches is looked for.
 use Rattle.std.specs.Prelude.{◌≡◌, ℕ, ◌+◌, Bool, ◌&&◌, List, [], ◌∷◌, Option, Some, None, drop, ◌==◌, bytes_eq, position, unwrap_or}
 use Rattle.std.specs.List.{list_any}
 use Rattle.std.specs.Ordering.{nat_cmp, ordering_then}

@@ -1,8 +1,8 @@
 use Rattle.std.proofs.Common.{◌≡◌, ◌+◌, ◌-◌, ◌∙◌, ap, drop, length, arith}
 use Rattle.std.specs.BTreeMap.{get}
-use Rattle.avro_resolve.specs.NamedBranches.{key_cmp}
+use Rattle.avro_resolve.specs.NameTables.{key_cmp}
 use Rattle.avro_resolve.proofs.NamedKeys.{named_at, alias_next, alias_none}
-use Rattle.avro_resolve.proofs.branch_table.add_aliases.Goals as goal
+use Rattle.avro_resolve.proofs.first_branches.add_aliases.Goals as goal
 
 pub loop-left-init : goal.loop-left-init
 loop-left-init c = (

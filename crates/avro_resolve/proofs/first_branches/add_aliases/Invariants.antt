@@ -1,8 +1,8 @@
 use Rattle.std.proofs.Common.{◌≡◌, ◌≤◌, length, drop}
 use Rattle.std.specs.BTreeMap.{get}
-use Rattle.avro_resolve.specs.NamedBranches.{NameKey, key_cmp}
+use Rattle.avro_resolve.specs.NameTables.{NameKey, key_cmp}
 use Rattle.avro_resolve.proofs.NamedKeys.{named_at}
-use Rattle.avro_resolve.proofs.branch_table.add_aliases.Given as goal
+use Rattle.avro_resolve.proofs.first_branches.add_aliases.Given as goal
 
 abbrev pub invariant-loop-left : goal.invariant-loop-left
 invariant-loop-left l = (l.left ≤ length l.aliases)

@@ -3,7 +3,7 @@ ghost use Rattle.std.specs.BTreeMap.{get};
 ghost use Rattle.avro_schema.specs.Node.{node_at};
 ghost use Rattle.avro_schema.specs.Seen.{places_of};
 ghost use Rattle.avro_schema.specs.SeenSchema.{schema_nodes};
-ghost use Rattle.avro_resolve.specs.NamedBranches.{named_type as type_of, NameKey, key_cmp, passes, has_simple, is_named, FindsFirst};
+ghost use Rattle.avro_resolve.specs.NameTables.{named_type as type_of, NameKey, key_cmp, passes, has_simple, is_named, FindsFirst};
 
 use crate::named_type::{NamedType, named_type};
 use avro_name::FullName;

@@ -14,7 +14,7 @@ use std::marker::Model;
 /// than branches, a record of few fields and an enum of few symbols are looked through, and take no memory here.
 /// Contracts see the two schemas.
 #[derive(Drop)]
-pub struct BranchNames<'a> {
+pub struct Names<'a> {
     writer: &'a Schema,
     reader: &'a Schema,
     // Each list rises by its nodes, so that a node's table is found by binary search.
@@ -23,12 +23,12 @@ pub struct BranchNames<'a> {
     symbols: Vec<(NodeId, BTreeMap<&'a str, usize>)>,
 }
 
-impl<'a> Model for BranchNames<'a> {
+impl<'a> Model for Names<'a> {
     ghost use Rattle.std.specs.Coded.{codes};
     ghost use Rattle.avro_schema.specs.contracts.datum.Datum as datum;
     ghost use Rattle.avro_schema.specs.declared.schema.Schema.{Schema};
     ghost use Rattle.avro_schema.specs.SeenSchema.{schema_nodes};
-    ghost use Rattle.avro_resolve.specs.NamedBranches.{AreUnionTables, AreFieldTables, AreSymbolTables};
+    ghost use Rattle.avro_resolve.specs.NameTables.{AreUnionTables, AreFieldTables, AreSymbolTables};
 
     ghost Value = { Schema × Schema };
 
@@ -41,13 +41,13 @@ impl<'a> Model for BranchNames<'a> {
         × AreSymbolTables (schema_nodes names.reader.now) names.symbols.items };
 }
 
-impl<'a> BranchNames<'a> {
+impl<'a> Names<'a> {
     ghost use Rattle.std.specs.Prelude.{◌≡◌, IfOk};
     ghost use Rattle.avro_schema.specs.Node.{node_at};
     ghost use Rattle.avro_schema.specs.Seen.{field_of};
     ghost use Rattle.avro_schema.specs.SeenSchema.{schema_nodes};
     ghost use Rattle.avro_resolve.specs.Match.{first_match_at};
-    ghost use Rattle.avro_resolve.specs.NamedBranches.{StartsAt};
+    ghost use Rattle.avro_resolve.specs.NameTables.{StartsAt};
     ghost use Rattle.avro_resolve.specs.Pairs.{IsAim, IsSymbol};
     ghost use Rattle.avro_resolve.specs.Resolve.{enum_as, fields_at};
     ghost use Rattle.avro_resolve.specs.Source.{source_of};
@@ -61,13 +61,13 @@ impl<'a> BranchNames<'a> {
         alloc: Global,
         writer: &'a Schema,
         reader: &'a Schema,
-    ) -> Result<BranchNames<'a>, AllocError>
+    ) -> Result<Names<'a>, AllocError>
         ensures { IfOk result (λ names. names ≡ (writer.now, reader.now)) }
     {
         let unions = union_tables(alloc, reader)?;
         let fields = field_tables(alloc, writer)?;
         let symbols = symbol_tables(alloc, reader)?;
-        Ok(BranchNames {
+        Ok(Names {
             writer,
             reader,
             unions,
@@ -77,10 +77,10 @@ impl<'a> BranchNames<'a> {
     }
 
     /// No tables: all names are looked through.
-    pub fn none(alloc: Global, writer: &'a Schema, reader: &'a Schema) -> BranchNames<'a>
+    pub fn none(alloc: Global, writer: &'a Schema, reader: &'a Schema) -> Names<'a>
         ensures { result ≡ (writer.now, reader.now) }
     {
-        BranchNames {
+        Names {
             writer,
             reader,
             unions: Vec::new(alloc),

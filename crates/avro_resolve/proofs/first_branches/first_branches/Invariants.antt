@@ -1,9 +1,9 @@
 use Rattle.std.proofs.Common.{◌≡◌, ◌≤◌, length}
 use Rattle.std.specs.BTreeMap.{get}
 use Rattle.avro_schema.specs.SeenSchema.{schema_nodes}
-use Rattle.avro_resolve.specs.NamedBranches.{NameKey, key_cmp, passes, is_named}
+use Rattle.avro_resolve.specs.NameTables.{NameKey, key_cmp, passes, is_named}
 use Rattle.avro_resolve.proofs.NamedKeys.{branch_from}
-use Rattle.avro_resolve.proofs.branch_table.first_branches.Given as goal
+use Rattle.avro_resolve.proofs.first_branches.first_branches.Given as goal
 
 abbrev pub invariant-loop-left : goal.invariant-loop-left
 invariant-loop-left l = (l.left ≤ length l.branches)

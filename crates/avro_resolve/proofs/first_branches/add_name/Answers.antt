@@ -1,9 +1,9 @@
 use Rattle.std.proofs.Common.{◌&&◌, ◌==◌, cond, List, Some, ap, ◌∙◌}
 use Rattle.std.specs.Prelude.{bytes_eq}
 use Rattle.std.specs.BTreeMap.{get}
-use Rattle.avro_resolve.specs.NamedBranches.{key_cmp}
+use Rattle.avro_resolve.specs.NameTables.{key_cmp}
 use Rattle.avro_resolve.proofs.NamedKeys.{same_key}
-use Rattle.avro_resolve.proofs.branch_table.add_name.Goals as goal
+use Rattle.avro_resolve.proofs.first_branches.add_name.Goals as goal
 
 pub returns-in-Ok : goal.returns-in-Ok
 returns-in-Ok c = λ key.
