@@ -15,7 +15,7 @@ ghost use Rattle.avro_certificate.specs.SeenPair.{pair_of};
 use crate::kept::Certificate;
 use crate::lookup::{has, has_dead};
 use crate::names::{branch_names, lacks_symbol, names_of};
-use avro_resolve::{BranchNames, matches, source_in};
+use avro_resolve::{Names, matches, source_in};
 use avro_schema::{Field, Memory, Node, NodeId, Schema};
 use std::alloc::Global;
 use std::collections::BTreeMap;
@@ -94,7 +94,7 @@ fn pairs_closed(
     alloc: Global,
     writer: &Schema,
     reader: &Schema,
-    names: &BranchNames,
+    names: &Names,
     certificate: &Certificate,
 ) -> Result<bool, Memory>
     requires { names.now ≡ (writer.now, reader.now) }
@@ -114,7 +114,7 @@ fn is_closed_at(
     alloc: Global,
     writer: &Schema,
     reader: &Schema,
-    names: &BranchNames,
+    names: &Names,
     certificate: &Certificate,
     pair: (u32, u32),
 ) -> Result<bool, Memory>
@@ -158,7 +158,7 @@ fn has_branches(certificate: &Certificate, places: &[NodeId], r: NodeId) -> bool
 
 /// Whether a branch of a reader's union matches, and the first that does is accounted for.
 fn has_first_match(
-    names: &BranchNames,
+    names: &Names,
     w: NodeId,
     r: NodeId,
     certificate: &Certificate,

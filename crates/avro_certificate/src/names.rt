@@ -7,7 +7,7 @@ ghost use Rattle.avro_schema.specs.Seen.{seen_fields, texts_of};
 ghost use Rattle.avro_resolve.specs.Planned.{FindsFields, FindsSymbols};
 ghost use Rattle.avro_certificate.specs.Closed.{lacks_symbol};
 
-use avro_resolve::{BranchNames, field_names, symbol_names};
+use avro_resolve::{Names, field_names, symbol_names};
 use avro_schema::{Field, Memory, Schema};
 use std::alloc::Global;
 use std::collections::BTreeMap;
@@ -35,10 +35,10 @@ pub fn branch_names<'a>(
     alloc: Global,
     writer: &'a Schema,
     reader: &'a Schema,
-) -> Result<BranchNames<'a>, Memory>
+) -> Result<Names<'a>, Memory>
     ensures { IfOk result (λ names. names ≡ (writer.now, reader.now)) }
 {
-    match BranchNames::new(alloc, writer, reader) {
+    match Names::new(alloc, writer, reader) {
         Ok(names) => Ok(names),
         Err(_) => Err(Memory),
     }

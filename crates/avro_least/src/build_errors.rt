@@ -21,7 +21,7 @@ use crate::erring::{best_branch, best_field, pair_entry, row_entry};
 use crate::kept::Least;
 use crate::least::{entry, together};
 use crate::reaching::{Reached, find_pair, number};
-use avro_resolve::{BranchNames, Prepared};
+use avro_resolve::{Names, Prepared};
 use avro_schema::{Datum, Memory, Node, NodeId, Schema};
 use std::alloc::Global;
 
@@ -230,7 +230,7 @@ fn ask_for(
     match found_of(reached, count, w, r) {
         Some(pair) => ask_of_pair(alloc, writer, reader, pair),
         None => {
-            let names = BranchNames::none(alloc, writer, reader);
+            let names = Names::none(alloc, writer, reader);
             let pair = find_pair(alloc, &names, w, r)?;
             ask_of_pair(alloc, writer, reader, &pair)
         }

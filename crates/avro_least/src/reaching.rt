@@ -17,7 +17,7 @@ use crate::asking::{Ask, ask_of_pair};
 use crate::kept::Least;
 use crate::least::{count, entry};
 use avro_certificate::branch_names;
-use avro_resolve::{BranchNames, Prepared, prepare};
+use avro_resolve::{Names, Prepared, prepare};
 use avro_schema::{Memory, NodeId, Schema};
 use indexmap::IndexSet;
 use std::alloc::Global;
@@ -131,7 +131,7 @@ pub fn readers(reader: &Schema, key: u64) -> NodeId
 /// What is found of a pair by names.
 pub(crate) fn find_pair(
     alloc: Global,
-    names: &BranchNames,
+    names: &Names,
     w: NodeId,
     r: NodeId,
 ) -> Result<Prepared, Memory>
@@ -146,7 +146,7 @@ pub(crate) fn find_pair(
 /// What a pair asks for. What is found of it by names is added to what was found of others.
 fn ask_at(
     alloc: Global,
-    names: &BranchNames,
+    names: &Names,
     writer: &Schema,
     reader: &Schema,
     key: u64,

@@ -1,18 +1,20 @@
 -- Where a pair of nodes leads, and what resolution makes of it.
-use Rattle.std.proofs.Common.{◌≡◌, ℕ, suc, ◌+◌, Bool, true, false, cond, List, [], ◌∷◌, Option, Some, None, Err, refl, sym, ap, ◌∙◌, subst, arith}
-use Rattle.std.specs.Prelude.{slice_get}
+use Rattle.std.proofs.Common.{◌≡◌, ℕ, suc, ◌+◌, Bool, true, false, cond, List, [], ◌∷◌, Option, Some, None, Err, length, refl, sym, ap, ◌∙◌, subst, arith}
+use Rattle.std.specs.Prelude.{slice_get, unwrap_or}
 use Rattle.std.proofs.lemmas.Bool.{cond-true}
-use Rattle.avro_schema.specs.Node.{Node, node_at}
+use Rattle.avro_schema.specs.Node.{Node, FieldNode, node_at, symbols_of}
 use Rattle.avro_schema.specs.Value.{Value}
 use Rattle.avro_schema.specs.declared.schema.NodeId.{NodeId}
 use Rattle.avro_resolve.specs.Fault.{fault_here, no_match}
 use Rattle.avro_resolve.specs.Match.{is_match, first_match, first_match_from}
 use Rattle.avro_resolve.specs.Pairs.{IsAim, aim_at, aim_of, aimed, branch_aim}
-use Rattle.avro_resolve.specs.Planned.{AreInside}
-use Rattle.avro_resolve.specs.Resolve.{Resolved, branch_node, into_branch, matched, result_map}
+use Rattle.avro_resolve.specs.Planned.{AreFor, AreInside, AreSources, AreTaken}
+use Rattle.avro_resolve.specs.Resolve.{Resolved, branch_node, fields_at, into_branch, result_map}
+use Rattle.avro_resolve.specs.Source.{missing_field}
 use Rattle.avro_resolve.specs.declared.guided.Aim.TheVariants.{Fault, To}
 use Rattle.avro_resolve.specs.declared.error.FaultKind.TheVariants.{NoMatch}
 use Rattle.avro_resolve.specs.declared.prepared.Prepared.{Prepared}
+use Rattle.avro_resolve.proofs.Named.{taken_symbols}
 
 -- the first branch that matches, from a place on, does
 first_matches : (place : ℕ) (writer reader : List Node) (w : Node) (bs : List ℕ) (k : ℕ) → first_match_from place writer reader w bs ≡ Some k
@@ -55,3 +57,17 @@ pair_leads writer reader w r = aim_leads writer reader (node_at writer w.0) r (n
 pub inside_by : (writer reader : List Node) {w v r q : NodeId} (p : Prepared) → w ≡ v → r ≡ q → AreInside (node_at writer w.0) (node_at reader r.0) p → AreInside (node_at writer v.0) (node_at reader q.0) p
 inside_by writer reader {v = v} {r = r} p e f h =
     subst (λ (n : NodeId). AreInside (node_at writer v.0) (node_at reader n.0) p) f (subst (λ (n : NodeId). AreInside (node_at writer n.0) (node_at reader r.0) p) e h)
+
+-- what is found of the fields and the symbols of two nodes is what is inside
+pub inside_found : (w q : Node) (ws rs : List FieldNode) (texts : List (List ℕ)) (p : Prepared) → ws ≡ fields_at w → rs ≡ fields_at q → texts ≡ unwrap_or (symbols_of w) []
+    → p.missing ≡ missing_field ws rs → AreFor ws rs p.fields.items → length p.fields.items ≡ suc (length ws) → AreSources (fields_at w) rs p.sources.items
+    → length p.sources.items ≡ length rs → AreTaken texts q p.symbols.items → length p.symbols.items ≡ length texts → AreInside w q p
+inside_found w q ws rs texts p e f g missing fields all_fields sources all_sources symbols all_symbols = record {
+  complete = missing ∙ ap (λ xs. missing_field xs rs) e ∙ ap (missing_field (fields_at w)) f;
+  fields = subst (λ ys. AreFor (fields_at w) ys p.fields.items) f (subst (λ xs. AreFor xs rs p.fields.items) e fields);
+  all_fields = all_fields ∙ ap (λ xs. suc (length xs)) e;
+  sources = subst (λ ys. AreSources (fields_at w) ys p.sources.items) f sources;
+  all_sources = all_sources ∙ ap length f;
+  symbols = taken_symbols w q texts p.symbols.items g symbols;
+  all_symbols = all_symbols ∙ ap length g;
+}

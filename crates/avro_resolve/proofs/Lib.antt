@@ -26,3 +26,4 @@ pub mod Leading
 pub mod FieldsNoted
 pub mod NamedKeys
 pub mod NamedStarts
+pub mod NodeTables

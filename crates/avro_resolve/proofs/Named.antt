@@ -8,7 +8,7 @@ use Rattle.avro_schema.specs.Node.{Node, FieldNode, symbols_of}
 use Rattle.avro_schema.specs.Seen.{seen_fields, field_of, texts_of}
 use Rattle.avro_schema.specs.declared.schema.Field.{Field}
 use Rattle.avro_resolve.specs.Pairs.{IsSymbol}
-use Rattle.avro_resolve.specs.Planned.{AreNamed, AreSymbols, AreTaken}
+use Rattle.avro_resolve.specs.Planned.{AreSymbols, AreTaken}
 use Rattle.avro_resolve.specs.Resolve.{Resolved, enum_as, enum_or_default, symbol_at}
 use Rattle.avro_resolve.proofs.InOrder.{next_in}
 use Rattle.avro_resolve.proofs.Slots.{seen_next}
@@ -56,11 +56,6 @@ symbol_text w k writes e = by (symbols_of w) ∙ ap (λ (ts : List (List ℕ)). 
     by : (o : Option (List (List ℕ))) → unwrap_or (option_and_then (λ symbols. slice_get symbols k) o) [] ≡ unwrap_or (slice_get (unwrap_or o []) k) []
     by None = refl
     by (Some symbols) = refl
-
-pub named_taken : (q : Node) (writes reads : List (List ℕ)) (default : Option ℕ) (symbols : List (Option ℕ))
-    → ((s : List ℕ) → enum_as s q ≡ enum_or_default (position (λ t. bytes_eq t s) reads) default) → AreNamed writes reads default symbols → AreTaken writes q symbols
-named_taken q writes reads default symbols enum h = λ k s got.
-    subst (λ (r : Resolved). IsSymbol r s) (sym (enum (unwrap_or (slice_get writes k) []))) (h k s got)
 
 pub taken_symbols : (w q : Node) (writes : List (List ℕ)) (symbols : List (Option ℕ)) → writes ≡ unwrap_or (symbols_of w) [] → AreTaken writes q symbols → AreSymbols w q symbols
 taken_symbols w q writes symbols e h = λ k s got.

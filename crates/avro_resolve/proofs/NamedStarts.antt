@@ -3,48 +3,59 @@ use Rattle.std.proofs.Common.{◌≡◌, ℕ, zero, suc, ◌+◌, ◌≤◌, Boo
 use Rattle.std.specs.Prelude.{is_some, unwrap_or, bytes_eq, nat_lt, position}
 use Rattle.std.specs.List.{list_all, list_any, position_or_len}
 use Rattle.std.proofs.lemmas.Bool.{and_parts, both_ways, eqb-true, eq-eqb, ltb-false, cond-false}
-use Rattle.avro_name.specs.Name.{same_name}
-use Rattle.avro_schema.specs.Node.{Node, node_at, branches_of}
+use Rattle.avro_name.specs.Name.{Name, same_name}
+use Rattle.avro_schema.specs.Node.{Node, node_at}
 use Rattle.avro_schema.specs.Fits.{is_some_and}
 use Rattle.avro_schema.specs.WellFormed.{branch_kind, is_schema, is_union, meets_its_rules}
-use Rattle.avro_resolve.specs.Match.{match_within, is_match, first_match, first_match_from}
-use Rattle.avro_resolve.specs.NamedBranches.{NamedType, named_type, passes, has_simple, has_alias, StartsAt}
+use Rattle.avro_resolve.specs.Match.{are_alike, match_within, is_match, first_match, first_match_from}
+use Rattle.avro_resolve.specs.NameTables.{NamedType, named_type, passes, has_simple, is_named, branches_at, StartsAt}
 use Rattle.avro_resolve.proofs.Planning.{same_some}
 use Rattle.avro_resolve.proofs.Rules.{MeetRules-from_is_schema}
 
--- ---- A type that has neither the name nor the alias does not match
+-- ---- A type that has another name and other aliases does not match
 
--- a type has neither the simple name nor the alias that another is matched by
+-- a type has no name with the simple part of another's, of its kind
 abbrev IsOther : NamedType → Node → Type 0
-IsOther t b = (is_some_and (has_simple t.kind t.name.simple) (named_type b) ≡ false) × (is_some_and (has_alias t.kind t.name) (named_type b) ≡ false)
+IsOther t b = is_some_and (is_named t.kind t.name.simple) (named_type b) ≡ false
 
-neither : (a b : Bool) → a ≡ false → b ≡ false → (a || b) ≡ false
-neither a b h k = rw (h, k) refl
+neither : (a b : Bool) → (a || b) ≡ false → (a ≡ false) × (b ≡ false)
+neither true b h = absurd (both_ways true h refl)
+neither false b h = (refl, h)
 
-not_of_size : (n m : ℕ) (a b : Bool) → ((m + 2 == n + 2) && a) ≡ false → ((m + 2 == n + 2) && b) ≡ false → ((a || b) && n == m) ≡ false
-not_of_size n m a b h k = by (n == m) refl
+-- no alias is a name where none has its simple part
+no_alias : (name : Name) (aliases : List Name) → has_simple name.simple aliases ≡ false → list_any (same_name name) aliases ≡ false
+no_alias name [] h = refl
+no_alias name (alias ∷ aliases) h =
+    let parts = neither (bytes_eq name.simple alias.simple) (has_simple name.simple aliases) h in
+    ap (λ same. (same && bytes_eq name.namespace alias.namespace) || list_any (same_name name) aliases) parts.0 ∙ no_alias name aliases parts.1
+
+neither_alike : (a b : Name) (others : List Name) → has_simple a.simple (b ∷ others) ≡ false → are_alike a b others ≡ false
+neither_alike a b others h =
+    let parts = neither (bytes_eq a.simple b.simple) (has_simple a.simple others) h in
+    ap (λ same. same || list_any (same_name a) others) parts.0 ∙ no_alias a others parts.1
+
+not_of_size : (n m : ℕ) (a b : Name) (others : List Name) → ((m + 2 == n + 2) && has_simple a.simple (b ∷ others)) ≡ false → (are_alike a b others && n == m) ≡ false
+not_of_size n m a b others h = by (n == m) refl
   where
-    by : (t : Bool) → (n == m) ≡ t → ((a || b) && n == m) ≡ false
+    never : (c : Bool) → (c && false) ≡ false
+    never true = refl
+    never false = refl
+
+    by : (t : Bool) → (n == m) ≡ t → (are_alike a b others && n == m) ≡ false
     by true e =
         let same : (m + 2 == n + 2) ≡ true = eq-eqb (m + 2) (n + 2) (ap (λ (j : ℕ). j + 2) (sym (eqb-true n m e))) in
-        let one : a ≡ false = sym (ap (λ s. s && a) same) ∙ h in
-        let other : b ≡ false = sym (ap (λ s. s && b) same) ∙ k in
-        rw (one, other) refl
-    by false e = rw e (never (a || b))
-      where
-        never : (c : Bool) → (c && false) ≡ false
-        never true = refl
-        never false = refl
+        rw (neither_alike a b others (sym (ap (λ s. s && has_simple a.simple (b ∷ others)) same) ∙ h)) refl
+    by false e = rw e (never (are_alike a b others))
 
 module _ (writer reader : List Node) (steps : ℕ) where
   not_alike : (w b : Node) → is_some (named_type w) ≡ true → is_some (branch_kind b) ≡ true → ((t : NamedType) → named_type w ≡ Some t → IsOther t b)
       → match_within steps writer reader w b ≡ false
   not_alike (Node.record_of a aliases fields) (Node.record_of b others gs) is plain other =
-      let h = other _ refl in neither (bytes_eq a.simple b.simple) (list_any (same_name a) others) h.0 h.1
+      neither_alike a b others (other _ refl)
   not_alike (Node.enum a aliases symbols default) (Node.enum b others ts default_b) is plain other =
-      let h = other _ refl in neither (bytes_eq a.simple b.simple) (list_any (same_name a) others) h.0 h.1
+      neither_alike a b others (other _ refl)
   not_alike (Node.fixed a aliases n) (Node.fixed b others m) is plain other =
-      let h = other _ refl in not_of_size n m (bytes_eq a.simple b.simple) (list_any (same_name a) others) h.0 h.1
+      not_of_size n m a b others (other _ refl)
   not_alike w (Node.union places) is plain other = absurd (both_ways false refl plain)
   not_alike (Node.record_of a aliases fields) b is plain other = refl
   not_alike (Node.enum a aliases symbols default) b is plain other = refl
@@ -66,58 +77,55 @@ passed test x xs n low = by (test x) refl
         (e, omega (arith, low, more))
 
 -- what a table finds, or the end, is the first place
-pub first_or_end : (test : ℕ → Bool) (xs : List ℕ) (found : Option ℕ) (all n : ℕ) → found ≡ position test xs → all ≡ length xs → n ≤ unwrap_or found all → n ≤ position_or_len test xs
-first_or_end test xs found all n is counted low = by (nat_lt (position_or_len test xs) (length xs)) refl
+pub first_or_end : (test : ℕ → Bool) (xs : List ℕ) (found : Option ℕ) (all : ℕ) → found ≡ position test xs → all ≡ length xs → unwrap_or found all ≤ position_or_len test xs
+first_or_end test xs found all is counted = by (nat_lt (position_or_len test xs) (length xs)) refl
   where
     first : ℕ
     first = position_or_len test xs
 
-    by : (t : Bool) → nat_lt first (length xs) ≡ t → n ≤ first
+    by : (t : Bool) → nat_lt first (length xs) ≡ t → unwrap_or found all ≤ first
     by true e =
         let here : unwrap_or found all ≡ first = ap (λ o. unwrap_or o all) (is ∙ ap (λ t. cond t (Some first) None) e) in
-        omega (arith, low, here)
+        omega (arith, here)
     by false e =
         let end : unwrap_or found all ≡ all = ap (λ o. unwrap_or o all) (is ∙ ap (λ t. cond t (Some first) None) e) in
         let high : length xs ≤ first = ltb-false first (length xs) e in
-        omega (arith, low, end, counted, high)
+        omega (arith, end, counted, high)
 
 module _ (writer reader : List Node) (w : Node) (t : NamedType) (is : named_type w ≡ Some t) where
-  others : (b : ℕ) → passes reader (has_simple t.kind t.name.simple) b ≡ false → passes reader (has_alias t.kind t.name) b ≡ false
-      → (u : NamedType) → named_type w ≡ Some u → IsOther u (node_at reader b)
-  others b h k u e = subst (λ (v : NamedType). IsOther v (node_at reader b)) (same_some is e) (h, k)
+  abbrev named : ℕ → Bool
+  named = passes reader (is_named t.kind t.name.simple)
 
-  -- so many branches do not match where none of them passes
-  skipped : (n place : ℕ) (places : List ℕ) → list_all (λ place. is_some (branch_kind (node_at reader place))) places ≡ true
-      → n ≤ position_or_len (passes reader (has_simple t.kind t.name.simple)) places → n ≤ position_or_len (passes reader (has_alias t.kind t.name)) places
+  others : (b : ℕ) → named b ≡ false → (u : NamedType) → named_type w ≡ Some u → IsOther u (node_at reader b)
+  others b h u e = subst (λ (v : NamedType). IsOther v (node_at reader b)) (same_some is e) h
+
+  -- so many branches do not match where none of them is named so
+  skipped : (n place : ℕ) (places : List ℕ) → list_all (λ place. is_some (branch_kind (node_at reader place))) places ≡ true → n ≤ position_or_len named places
       → first_match_from place writer reader w places ≡ first_match_from (place + n) writer reader w (drop n places)
-  skipped zero place places plain h k = ap (λ (p : ℕ). first_match_from p writer reader w places) (omega arith)
-  skipped (suc n) place [] plain h k = absurd (omega (arith, h))
-  skipped (suc n) place (b ∷ places) plain h k =
-      let one = passed (passes reader (has_simple t.kind t.name.simple)) b places n h in
-      let other = passed (passes reader (has_alias t.kind t.name)) b places n k in
+  skipped zero place places plain h = ap (λ (p : ℕ). first_match_from p writer reader w places) (omega arith)
+  skipped (suc n) place [] plain h = absurd (omega (arith, h))
+  skipped (suc n) place (b ∷ places) plain h =
+      let one = passed named b places n h in
       let kinds = and_parts (is_some (branch_kind (node_at reader b))) (list_all (λ place. is_some (branch_kind (node_at reader place))) places) plain in
-      let apart : is_match writer reader w (node_at reader b) ≡ false = not_alike writer reader (length writer) w (node_at reader b) (ap is_some is) kinds.0 (others b one.0 other.0) in
+      let apart : is_match writer reader w (node_at reader b) ≡ false = not_alike writer reader (length writer) w (node_at reader b) (ap is_some is) kinds.0 (others b one.0) in
       let next : suc place + n ≡ place + suc n = omega arith in
       cond-false (is_match writer reader w (node_at reader b)) (Some place) (first_match_from (suc place) writer reader w places) apart
-      ∙ skipped n (suc place) places kinds.1 one.1 other.1 ∙ ap (λ (p : ℕ). first_match_from p writer reader w (drop n places)) next
+      ∙ skipped n (suc place) places kinds.1 one.1 ∙ ap (λ (p : ℕ). first_match_from p writer reader w (drop n places)) next
 
 -- a union's branches are no unions
-all-plain : (reader : List Node) (places : List ℕ) → is_union reader places ≡ true → list_all (λ place. is_some (branch_kind (node_at reader place))) places ≡ true
-all-plain reader places is = grind arith
+pub all_plain : (reader : List Node) (r : ℕ) → is_schema reader ≡ true → list_all (λ place. is_some (branch_kind (node_at reader place))) (branches_at (node_at reader r)) ≡ true
+all_plain reader r formed = by (node_at reader r) (MeetRules-from_is_schema reader formed r)
+  where
+    of_union : (places : List ℕ) → is_union reader places ≡ true → list_all (λ place. is_some (branch_kind (node_at reader place))) places ≡ true
+    of_union places is = grind arith
 
-pub starts_at : (writer reader : List Node) (w : Node) (t : NamedType) (r : ℕ) (places : List ℕ) (n : ℕ) → is_schema reader ≡ true → node_at reader r ≡ Node.union places
-    → named_type w ≡ Some t → n ≤ position_or_len (passes reader (has_simple t.kind t.name.simple)) places → n ≤ position_or_len (passes reader (has_alias t.kind t.name)) places
-    → StartsAt writer reader w (node_at reader r) n
-starts_at writer reader w t r places n formed union is h k = λ found branches.
-    let same : places ≡ found = same_some (ap branches_of union) branches in
-    let rules : is_union reader places ≡ true = subst (λ (m : Node). meets_its_rules reader m ≡ true) union (MeetRules-from_is_schema reader formed r) in
-    subst (λ (ps : List ℕ). first_match writer reader w ps ≡ first_match_from n writer reader w (drop n ps)) same
-    (skipped writer reader w t is n 0 places (all-plain reader places rules) h k ∙ ap (λ (p : ℕ). first_match_from p writer reader w (drop n places)) (omega arith))
+    by : (n : Node) → meets_its_rules reader n ≡ true → list_all (λ place. is_some (branch_kind (node_at reader place))) (branches_at n) ≡ true
+    by (Node.union places) rules = of_union places rules
+    by _ rules = refl
 
--- a place of the same node of the same schemas
-pub starts_same : (ws xs rs ys : List Node) (v w : Node) (i j n : ℕ) → ws ≡ xs → rs ≡ ys → v ≡ w → i ≡ j → StartsAt ws rs v (node_at rs i) n → StartsAt xs ys w (node_at ys j) n
-starts_same ws xs rs ys v w i j n writer reader from to h =
-    subst (λ (k : ℕ). StartsAt xs ys w (node_at ys k) n) to
-    (subst (λ (m : Node). StartsAt xs ys m (node_at ys i) n) from
-    (subst (λ (zs : List Node). StartsAt xs zs v (node_at zs i) n) reader
-    (subst (λ (zs : List Node). StartsAt zs rs v (node_at rs i) n) writer h)))
+pub starts_at : (writer reader : List Node) (w r : Node) (t : NamedType) (n : ℕ) (places : List ℕ) → places ≡ branches_at r
+    → list_all (λ place. is_some (branch_kind (node_at reader place))) places ≡ true → named_type w ≡ Some t → n ≤ position_or_len (passes reader (is_named t.kind t.name.simple)) places
+    → StartsAt writer reader w r n
+starts_at writer reader w r t n places same plain is h = λ found branches.
+    subst (λ (ps : List ℕ). first_match writer reader w ps ≡ first_match_from n writer reader w (drop n ps)) (same ∙ ap (λ o. unwrap_or o []) branches)
+    (skipped writer reader w t is n 0 places plain h ∙ ap (λ (p : ℕ). first_match_from p writer reader w (drop n places)) (omega arith))

@@ -10,4 +10,5 @@ pub mod Guided
 pub mod Planned
 pub mod Noting
 pub mod Tables
-pub mod NamedBranches
+pub mod NameTables
+pub mod ByNode

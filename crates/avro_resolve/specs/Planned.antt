@@ -7,7 +7,7 @@ use denote.Ref.{Bor}
 use Rattle.avro_schema.specs.Node.{Node, FieldNode, node_at, symbols_of}
 use Rattle.avro_schema.specs.declared.schema.NodeId.{NodeId}
 use Rattle.avro_resolve.specs.Pairs.{IsSymbol, aim_at, field_for}
-use Rattle.avro_resolve.specs.Resolve.{enum_as, enum_or_default, symbol_at, fields_at}
+use Rattle.avro_resolve.specs.Resolve.{enum_as, symbol_at, fields_at}
 use Rattle.avro_resolve.specs.Source.{field_place, source_of, missing_field}
 use Rattle.avro_resolve.specs.declared.guided.Aim.TheVariants.{To}
 use Rattle.avro_resolve.specs.declared.guided.At.{At}
@@ -29,12 +29,13 @@ AreSymbols w q symbols = (k : ℕ) (s : Option ℕ) → slice_get symbols k ≡ 
 abbrev pub AreTaken : List (List ℕ) → Node → List (Option ℕ) → Type 0
 AreTaken texts q symbols = (k : ℕ) (s : Option ℕ) → slice_get symbols k ≡ Some s → IsSymbol (enum_as (unwrap_or (slice_get texts k) []) q) s
 
--- what is kept inside two nodes is what their fields and their symbols are to each other: of each field, and of one place behind the last
+-- what is kept inside two nodes is what their fields and their symbols are to each other: of each, and of one place behind the writer's last field
 pub record AreInside (w q : Node) (p : Prepared) : Type 0 where
   pub complete : p.missing ≡ missing_field (fields_at w) (fields_at q)
   pub fields : AreFor (fields_at w) (fields_at q) p.fields.items
   pub all_fields : length p.fields.items ≡ suc (length (fields_at w))
   pub sources : AreSources (fields_at w) (fields_at q) p.sources.items
+  pub all_sources : length p.sources.items ≡ length (fields_at q)
   pub symbols : AreSymbols w q p.symbols.items
   pub all_symbols : length p.symbols.items ≡ length (unwrap_or (symbols_of w) [])
 
@@ -53,8 +54,3 @@ FindsFields fields names = (name : List ℕ) → get_by (λ k. slice_cmp nat_cmp
 -- the same of symbols
 abbrev pub FindsSymbols : List (List ℕ) → BTreeMap (Bor (List ℕ)) ℕ → Type 0
 FindsSymbols symbols names = (word : List ℕ) → get_by (λ k. slice_cmp nat_cmp word k.now) names ≡ position (λ s. bytes_eq s word) symbols
-
--- each is the place of the symbol at its place, among a reader's symbols with a default
-abbrev pub AreNamed : List (List ℕ) → List (List ℕ) → Option ℕ → List (Option ℕ) → Type 0
-AreNamed writes reads default symbols = (k : ℕ) (s : Option ℕ) → slice_get symbols k ≡ Some s
-    → IsSymbol (enum_or_default (position (λ t. bytes_eq t (unwrap_or (slice_get writes k) [])) reads) default) s

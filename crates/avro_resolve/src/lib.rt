@@ -8,11 +8,12 @@
 //! roots lead to.
 #![tactic(auto)]
 
-mod branch_names;
-mod branch_table;
+mod by_node;
 mod error;
 mod failing;
+mod field_tables;
 mod filling;
+mod first_branches;
 mod found;
 mod guided;
 mod keeping;
@@ -21,6 +22,7 @@ mod leaves;
 mod making;
 mod matching;
 mod named_type;
+mod names;
 mod naming;
 mod ordering;
 mod pairs;
@@ -36,14 +38,15 @@ mod resolution;
 mod resolving;
 mod running;
 mod sourcing;
+mod symbol_tables;
 mod symbols;
-mod union_names;
+mod union_tables;
 mod walking;
 
-pub use branch_names::BranchNames;
 pub use error::{Fault, FaultKind, ReadResolveError, ResolveError};
 pub use guided::{Aim, At};
 pub use matching::matches;
+pub use names::Names;
 pub use naming::{field_names, source_in, symbol_names};
 pub use pairs::first_match;
 pub use plan::Plan;

@@ -3,7 +3,7 @@ ghost use Rattle.avro_schema.specs.Node.{Node as SeenNode, node_at};
 ghost use Rattle.avro_schema.specs.Seen.{node_of, places_of};
 ghost use Rattle.avro_schema.specs.SeenSchema.{schema_nodes};
 ghost use Rattle.avro_resolve.specs.Match.{first_match_at};
-ghost use Rattle.avro_resolve.specs.NamedBranches.{StartsAt};
+ghost use Rattle.avro_resolve.specs.NameTables.{StartsAt};
 ghost use Rattle.avro_resolve.specs.Pairs.{IsAim, IsFirst, aim_at};
 ghost use Rattle.avro_binary.proofs.public.Choices.{HasFewChoices};
 

@@ -1,17 +1,17 @@
-ghost use Rattle.std.specs.Prelude.{◌≡◌, IfOk, [], length, suc, unwrap_or};
-ghost use Rattle.avro_schema.specs.Node.{node_at, symbols_of as texts_in};
-ghost use Rattle.avro_schema.specs.Seen.{seen_fields};
+ghost use Rattle.std.specs.Prelude.{◌≡◌, IfOk, length, suc};
+ghost use Rattle.avro_schema.specs.Node.{node_at};
+ghost use Rattle.avro_schema.specs.Seen.{seen_fields, texts_of};
+ghost use Rattle.avro_resolve.specs.Resolve.{fields_at};
 ghost use Rattle.avro_schema.specs.SeenSchema.{schema_nodes};
 ghost use Rattle.avro_resolve.specs.Noting.{AreIgnored, noted};
-ghost use Rattle.avro_resolve.specs.Planned.{AreFor, AreInside, ArePrepared, AreSources, AreSymbols, IsPrepared};
+ghost use Rattle.avro_resolve.specs.Planned.{AreFor, AreInside, ArePrepared, AreSources, AreTaken, IsPrepared};
 
-use crate::branch_names::BranchNames;
 use crate::guided::{Aim, At};
-use crate::naming::{field_names, source_in};
+use crate::names::Names;
 use crate::prepared::Prepared;
 use crate::sourcing::{fields_of, missing_among, node_of_field, source_kept};
-use crate::symbols::{symbols_for, symbols_of};
-use avro_schema::{Field, Node, NodeId, Schema};
+use crate::symbols::symbols_of;
+use avro_schema::{Field, NodeId, Schema};
 use std::alloc::{AllocError, Global};
 
 /// What a plan keeps of some pairs of nodes.
@@ -23,7 +23,7 @@ pub fn prepare_all(
 ) -> Result<Vec<Prepared>, AllocError>
     ensures { IfOk result (λ kept. ArePrepared (schema_nodes writer.now) (schema_nodes reader.now) kept.items) }
 {
-    let names = BranchNames::new(alloc, writer, reader)?;
+    let names = Names::new(alloc, writer, reader)?;
     let mut kept = Vec::new(alloc);
     for pair in pairs {
         let prepared = prepare(alloc, &names, pair.0, pair.1)?;
@@ -38,19 +38,14 @@ pub fn prepare_all(
 /// # Errors
 ///
 /// Memory ran out.
-pub fn prepare(
-    alloc: Global,
-    names: &BranchNames,
-    w: NodeId,
-    r: NodeId,
-) -> Result<Prepared, AllocError>
+pub fn prepare(alloc: Global, names: &Names, w: NodeId, r: NodeId) -> Result<Prepared, AllocError>
     ensures { IfOk result (λ p. IsPrepared (schema_nodes names.now.0) (schema_nodes names.now.1) p × (p.w ≡ w) × (p.r ≡ r)) }
 {
     let aim = names.aim(w, r);
     match aim {
         Aim::Fault(_) => Ok(outside(alloc, w, r, aim)),
         Aim::To(Some(_), _) => Ok(outside(alloc, w, r, aim)),
-        Aim::To(None, _) => prepare_inside(alloc, names.writer(), w, names.reader(), r, aim),
+        Aim::To(None, _) => prepare_inside(alloc, names, w, r, aim),
     }
 }
 
@@ -72,20 +67,19 @@ fn outside(alloc: Global, w: NodeId, r: NodeId, aim: Aim) -> Prepared
 /// What a plan keeps of a pair of nodes that leads to the reader's node itself.
 fn prepare_inside(
     alloc: Global,
-    writer: &Schema,
+    names: &Names,
     w: NodeId,
-    reader: &Schema,
     r: NodeId,
     aim: Aim,
 ) -> Result<Prepared, AllocError>
-    ensures { IfOk result (λ p. AreInside (node_at (schema_nodes writer.now) w.0) (node_at (schema_nodes reader.now) r.0) p
+    ensures { IfOk result (λ p. AreInside (node_at (schema_nodes names.now.0) w.0) (node_at (schema_nodes names.now.1) r.0) p
         × (p.aim ≡ aim) × (p.w ≡ w) × (p.r ≡ r)) }
 {
-    let writes = fields_of(writer, w);
-    let reads = fields_of(reader, r);
-    let sources = find_sources(alloc, writes, reads)?;
+    let writes = fields_of(names.writer(), w);
+    let reads = fields_of(names.reader(), r);
+    let sources = find_sources(alloc, names, w, reads)?;
     let fields = find_fields(alloc, writes, reads, &sources)?;
-    let symbols = find_symbols(alloc, writer, w, reader, r)?;
+    let symbols = find_symbols(alloc, names, symbols_of(names.writer(), w), r)?;
     Ok(Prepared {
         w,
         r,
@@ -100,15 +94,16 @@ fn prepare_inside(
 /// The sources of a reader's fields.
 fn find_sources(
     alloc: Global,
-    writes: &[Field],
+    names: &Names,
+    w: NodeId,
     reads: &[Field],
 ) -> Result<Vec<Option<usize>>, AllocError>
-    ensures { IfOk result (λ found. AreSources (seen_fields writes.now) (seen_fields reads.now) found.items) }
+    ensures each { IfOk result (λ found. AreSources (fields_at (node_at (schema_nodes names.now.0) w.0)) (seen_fields reads.now) found.items) }
+    ensures all { IfOk result (λ found. length found.items ≡ length reads.now) }
 {
-    let names = field_names(alloc, writes)?;
     let mut found = Vec::new(alloc);
     for place in 0..reads.len() {
-        found.push(source_in(&names, writes, &reads[place]))?;
+        found.push(names.source(w, &reads[place]))?;
     }
     Ok(found)
 }
@@ -166,17 +161,16 @@ fn note(found: &mut Vec<At>, place: usize, at: At)
 /// The reader's symbols for a writer's.
 fn find_symbols(
     alloc: Global,
-    writer: &Schema,
-    w: NodeId,
-    reader: &Schema,
-    q: NodeId,
+    names: &Names,
+    writes: &[String],
+    r: NodeId,
 ) -> Result<Vec<Option<u32>>, AllocError>
-    ensures each { IfOk result (λ found. AreSymbols (node_at (schema_nodes writer.now) w.0) (node_at (schema_nodes reader.now) q.0) found.items) }
-    ensures all { IfOk result (λ found. length found.items ≡ length (unwrap_or (texts_in (node_at (schema_nodes writer.now) w.0)) [])) }
+    ensures each { IfOk result (λ found. AreTaken (texts_of writes.now) (node_at (schema_nodes names.now.1) r.0) found.items) }
+    ensures all { IfOk result (λ found. length found.items ≡ length writes.now) }
 {
-    if (q.0 as usize) < reader.len() {
-        symbols_for(alloc, symbols_of(writer, w), reader.node(q))
-    } else {
-        symbols_for(alloc, symbols_of(writer, w), &Node::Null)
+    let mut found = Vec::new(alloc);
+    for place in 0..writes.len() {
+        found.push(names.symbol(writes[place].as_str(), r))?;
     }
+    Ok(found)
 }

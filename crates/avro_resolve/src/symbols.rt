@@ -5,11 +5,9 @@ ghost use Rattle.avro_schema.specs.SeenSchema.{schema_nodes};
 ghost use Rattle.avro_binary.proofs.public.Choices.{HasFewChoices};
 ghost use Rattle.avro_resolve.specs.Resolve.{enum_as, enum_or_default, symbol_at};
 ghost use Rattle.avro_resolve.specs.Pairs.{IsSymbol};
-ghost use Rattle.avro_resolve.specs.Planned.{AreNamed, AreTaken, FindsSymbols};
+ghost use Rattle.avro_resolve.specs.Planned.{FindsSymbols};
 
-use crate::naming::symbol_names;
 use avro_schema::{Node, NodeId, Schema};
-use std::alloc::{AllocError, Global};
 use std::collections::BTreeMap;
 
 /// The first place of a symbol.
@@ -50,7 +48,7 @@ fn symbol_in(node: &Node, symbol: &str) -> Option<u32>
 }
 
 /// The same of the node at a place.
-fn symbol_at_place(reader: &Schema, q: NodeId, symbol: &str) -> Option<u32>
+pub fn symbol_at_place(reader: &Schema, q: NodeId, symbol: &str) -> Option<u32>
     ensures { IsSymbol (enum_as symbol.now (node_at (schema_nodes reader.now) q.0)) result }
 {
     if (q.0 as usize) < reader.len() {
@@ -97,45 +95,8 @@ pub fn symbols_of(schema: &Schema, id: NodeId) -> &[String]
     }
 }
 
-/// The places of a reader's symbols for a writer's, of a reader's node.
-pub fn symbols_for(
-    alloc: Global,
-    writes: &[String],
-    node: &Node,
-) -> Result<Vec<Option<u32>>, AllocError>
-    requires few { HasFewChoices (node_of node.now) }
-    ensures each { IfOk result (λ found. AreTaken (texts_of writes.now) (node_of node.now) found.items) }
-    ensures all { IfOk result (λ found. length found.items ≡ length writes.now) }
-{
-    match node {
-        Node::Enum(enumeration) => {
-            symbols_among(alloc, writes, &enumeration.symbols, enumeration.default)
-        }
-        _ => symbols_among(alloc, writes, &[], None),
-    }
-}
-
-/// The same of a reader's symbols and its default.
-fn symbols_among(
-    alloc: Global,
-    writes: &[String],
-    reads: &[String],
-    default: Option<u32>,
-) -> Result<Vec<Option<u32>>, AllocError>
-    requires few { length reads.now ≤ 2 ^ 31 }
-    ensures each { IfOk result (λ found. AreNamed (texts_of writes.now) (texts_of reads.now) default found.items) }
-    ensures all { IfOk result (λ found. length found.items ≡ length writes.now) }
-{
-    let names = symbol_names(alloc, reads)?;
-    let mut found = Vec::new(alloc);
-    for place in 0..writes.len() {
-        found.push(symbol_by_name(&names, reads, default, writes[place].as_str()))?;
-    }
-    Ok(found)
-}
-
 /// The place of a reader's symbol, or its default, by the names of the reader's symbols.
-fn symbol_by_name(
+pub fn symbol_by_name(
     names: &BTreeMap<&str, usize>,
     reads: &[String],
     default: Option<u32>,

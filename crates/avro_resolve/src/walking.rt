@@ -2,9 +2,9 @@ ghost use Rattle.std.specs.Prelude.{◌≡◌, IfOk};
 ghost use Rattle.avro_schema.specs.SeenSchema.{schema_nodes};
 ghost use Rattle.avro_resolve.specs.Planned.{ArePrepared};
 
-use crate::branch_names::BranchNames;
 use crate::found::Found;
 use crate::guided::At;
+use crate::names::Names;
 use crate::ordering::{count_of_parts, part_at};
 use crate::prepared::Prepared;
 use crate::preparing::prepare;
@@ -20,7 +20,7 @@ pub fn prepare_reached(
 ) -> Result<(Vec<Prepared>, Vec<Vec<u32>>), AllocError>
     ensures { IfOk result (λ r. ArePrepared (schema_nodes writer.now) (schema_nodes reader.now) r.0.items) }
 {
-    let names = BranchNames::new(alloc, writer, reader)?;
+    let names = Names::new(alloc, writer, reader)?;
     let mut found = Found::new(alloc);
     found.place_of(writer.root(), reader.root())?;
     let mut kept = Vec::new(alloc);

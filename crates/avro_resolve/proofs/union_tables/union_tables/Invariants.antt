@@ -1,0 +1,6 @@
+use Rattle.avro_schema.specs.SeenSchema.{schema_nodes}
+use Rattle.avro_resolve.specs.NameTables.{AreUnionTables}
+use Rattle.avro_resolve.proofs.union_tables.union_tables.Given as goal
+
+abbrev pub invariant-loop-place : goal.invariant-loop-place
+invariant-loop-place l = AreUnionTables (schema_nodes l.reader) l.tables.items

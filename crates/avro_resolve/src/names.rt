@@ -1,0 +1,146 @@
+use crate::field_tables::{field_tables, source_by};
+use crate::guided::Aim;
+use crate::pairs::{aim_after, first_match_after};
+use crate::symbol_tables::{symbol_by, symbol_tables};
+use crate::union_tables::{start_by, union_tables};
+use avro_schema::{Field, NodeId, Schema};
+use std::alloc::{AllocError, Global};
+use std::collections::BTreeMap;
+use std::marker::Model;
+
+/// A writer's schema and a reader's, with tables of names, by which names are found without a look at all that
+/// there are: the branches of the reader's unions, for the first match of a record, an enum or a fixed, the fields
+/// of the writer's records, and the symbols of the reader's enums. A union of few branches, or with more aliases
+/// than branches, a record of few fields and an enum of few symbols are looked through, and take no memory here.
+/// Contracts see the two schemas.
+#[derive(Drop)]
+pub struct Names<'a> {
+    writer: &'a Schema,
+    reader: &'a Schema,
+    // Each list rises by its nodes, so that a node's table is found by binary search.
+    unions: Vec<(NodeId, BTreeMap<(u64, &'a str), usize>)>,
+    fields: Vec<(NodeId, BTreeMap<&'a str, usize>)>,
+    symbols: Vec<(NodeId, BTreeMap<&'a str, usize>)>,
+}
+
+impl<'a> Model for Names<'a> {
+    ghost use Rattle.std.specs.Coded.{codes};
+    ghost use Rattle.avro_schema.specs.contracts.datum.Datum as datum;
+    ghost use Rattle.avro_schema.specs.declared.schema.Schema.{Schema};
+    ghost use Rattle.avro_schema.specs.SeenSchema.{schema_nodes};
+    ghost use Rattle.avro_resolve.specs.NameTables.{AreUnionTables, AreFieldTables, AreSymbolTables};
+
+    ghost Value = { Schema × Schema };
+
+    ghost coded = { Prim.hlevel (codes, datum.the_row.coded) };
+
+    ghost view = { λ names. (names.writer.now, names.reader.now) };
+
+    ghost invariant = { λ names. AreUnionTables (schema_nodes names.reader.now) names.unions.items
+        × AreFieldTables (schema_nodes names.writer.now) names.fields.items
+        × AreSymbolTables (schema_nodes names.reader.now) names.symbols.items };
+}
+
+impl<'a> Names<'a> {
+    ghost use Rattle.std.specs.Prelude.{◌≡◌, IfOk};
+    ghost use Rattle.avro_schema.specs.Node.{node_at};
+    ghost use Rattle.avro_schema.specs.Seen.{field_of};
+    ghost use Rattle.avro_schema.specs.SeenSchema.{schema_nodes};
+    ghost use Rattle.avro_resolve.specs.Match.{first_match_at};
+    ghost use Rattle.avro_resolve.specs.NameTables.{StartsAt};
+    ghost use Rattle.avro_resolve.specs.Pairs.{IsSymbol, aim_at};
+    ghost use Rattle.avro_resolve.specs.Resolve.{enum_as, fields_at};
+    ghost use Rattle.avro_resolve.specs.Source.{source_of};
+
+    /// The tables of two schemas.
+    ///
+    /// # Errors
+    ///
+    /// Memory ran out.
+    pub fn new(
+        alloc: Global,
+        writer: &'a Schema,
+        reader: &'a Schema,
+    ) -> Result<Names<'a>, AllocError>
+        ensures { IfOk result (λ names. names ≡ (writer.now, reader.now)) }
+    {
+        let unions = union_tables(alloc, reader)?;
+        let fields = field_tables(alloc, writer)?;
+        let symbols = symbol_tables(alloc, reader)?;
+        Ok(Names {
+            writer,
+            reader,
+            unions,
+            fields,
+            symbols,
+        })
+    }
+
+    /// No tables: all names are looked through.
+    pub fn none(alloc: Global, writer: &'a Schema, reader: &'a Schema) -> Names<'a>
+        ensures { result ≡ (writer.now, reader.now) }
+    {
+        Names {
+            writer,
+            reader,
+            unions: Vec::new(alloc),
+            fields: Vec::new(alloc),
+            symbols: Vec::new(alloc),
+        }
+    }
+
+    /// The first branch of a reader's union that matches a writer's node, by its place among the branches, as
+    /// [`first_match`](crate::first_match) answers it.
+    pub fn first_match(&self, w: NodeId, r: NodeId) -> Option<usize>
+        ensures { result ≡ first_match_at (schema_nodes self.now.0) (schema_nodes self.now.1)
+            (node_at (schema_nodes self.now.0) w.0) (node_at (schema_nodes self.now.1) r.0) }
+    {
+        let start = self.start(w, r);
+        first_match_after(self.writer, w, self.reader, r, start)
+    }
+
+    /// The place of the field of a writer's record that a reader's field takes its value from, as
+    /// [`source`](crate::source) answers it; none at another writer's node.
+    pub fn source(&self, w: NodeId, field: &Field) -> Option<usize>
+        ensures { result ≡ source_of (fields_at (node_at (schema_nodes self.now.0) w.0)) (field_of field.now) }
+    {
+        source_by(&self.fields, self.writer, w, field)
+    }
+
+    /// The place of a symbol of a reader's enum, or of its default; none at another reader's node.
+    pub fn symbol(&self, symbol: &str, q: NodeId) -> Option<u32>
+        ensures { IsSymbol (enum_as symbol.now (node_at (schema_nodes self.now.1) q.0)) result }
+    {
+        symbol_by(&self.symbols, self.reader, q, symbol)
+    }
+
+    /// Where a pair of nodes leads.
+    pub(crate) fn aim(&self, w: NodeId, r: NodeId) -> Aim
+        ensures { result ≡ aim_at (schema_nodes self.now.0) (schema_nodes self.now.1) w r }
+    {
+        let start = self.start(w, r);
+        aim_after(self.writer, w, self.reader, r, start)
+    }
+
+    /// The writer's schema.
+    pub(crate) fn writer(&self) -> &Schema
+        ensures { result.now ≡ self.now.0 }
+    {
+        self.writer
+    }
+
+    /// The reader's schema.
+    pub(crate) fn reader(&self) -> &Schema
+        ensures { result.now ≡ self.now.1 }
+    {
+        self.reader
+    }
+
+    /// A place of a reader's union before which no branch matches a writer's node.
+    fn start(&self, w: NodeId, r: NodeId) -> usize
+        ensures { StartsAt (schema_nodes self.now.0) (schema_nodes self.now.1)
+            (node_at (schema_nodes self.now.0) w.0) (node_at (schema_nodes self.now.1) r.0) result }
+    {
+        start_by(&self.unions, self.writer, w, self.reader, r)
+    }
+}

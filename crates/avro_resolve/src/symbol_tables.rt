@@ -1,0 +1,96 @@
+ghost use Rattle.std.specs.Prelude.{IfOk};
+ghost use Rattle.std.specs.Option.{IfSome};
+ghost use Rattle.avro_schema.specs.Node.{node_at};
+ghost use Rattle.avro_schema.specs.Seen.{node_of};
+ghost use Rattle.avro_schema.specs.SeenSchema.{schema_nodes};
+ghost use Rattle.avro_binary.proofs.public.Choices.{HasFewChoices};
+ghost use Rattle.avro_resolve.specs.NameTables.{AreSymbolTables, symbols_at};
+ghost use Rattle.avro_resolve.specs.Pairs.{IsSymbol};
+ghost use Rattle.avro_resolve.specs.Planned.{FindsSymbols};
+ghost use Rattle.avro_resolve.specs.Resolve.{enum_as};
+
+use crate::by_node::{FEWEST, add_table, table_of};
+use crate::naming::symbol_names;
+use crate::symbols::{symbol_at_place, symbol_by_name, symbols_of};
+use avro_schema::{Node, NodeId, Schema};
+use std::alloc::{AllocError, Global};
+use std::collections::BTreeMap;
+
+/// The places of the symbols of a reader's enums. They rise by the enums' nodes.
+pub fn symbol_tables(
+    alloc: Global,
+    reader: &Schema,
+) -> Result<Vec<(NodeId, BTreeMap<&str, usize>)>, AllocError>
+    ensures { IfOk result (λ tables. AreSymbolTables (schema_nodes reader.now) tables.items) }
+{
+    let mut tables = Vec::new(alloc);
+    let mut number = 0u32;
+    for _place in 0..reader.len() {
+        let id = NodeId(number);
+        add_table(&mut tables, id, symbol_table(alloc, reader, id)?)?;
+        number = number.saturating_add(1);
+    }
+    Ok(tables)
+}
+
+/// The places of the symbols of an enum of many.
+fn symbol_table(
+    alloc: Global,
+    reader: &Schema,
+    id: NodeId,
+) -> Result<Option<BTreeMap<&str, usize>>, AllocError>
+    ensures { IfOk result (λ table. IfSome table (FindsSymbols (symbols_at (node_at (schema_nodes reader.now) id.0)))) }
+{
+    let symbols = symbols_of(reader, id);
+    if symbols.len() < FEWEST {
+        return Ok(None);
+    }
+    Ok(Some(symbol_names(alloc, symbols)?))
+}
+
+/// The place of a symbol of a reader's enum, or of its default.
+pub fn symbol_by(
+    tables: &[(NodeId, BTreeMap<&str, usize>)],
+    reader: &Schema,
+    q: NodeId,
+    symbol: &str,
+) -> Option<u32>
+    requires { AreSymbolTables (schema_nodes reader.now) tables.now }
+    ensures { IsSymbol (enum_as symbol.now (node_at (schema_nodes reader.now) q.0)) result }
+{
+    match table_of(tables, q) {
+        Some(names) => symbol_of_table(names, reader, q, symbol),
+        None => symbol_at_place(reader, q, symbol),
+    }
+}
+
+/// The same, by the names of the enum's symbols.
+fn symbol_of_table(
+    names: &BTreeMap<&str, usize>,
+    reader: &Schema,
+    q: NodeId,
+    symbol: &str,
+) -> Option<u32>
+    requires { FindsSymbols (symbols_at (node_at (schema_nodes reader.now) q.0)) names.now }
+    ensures { IsSymbol (enum_as symbol.now (node_at (schema_nodes reader.now) q.0)) result }
+{
+    if (q.0 as usize) < reader.len() {
+        symbol_of_node(names, reader.node(q), symbol)
+    } else {
+        None
+    }
+}
+
+/// The same of the enum's node.
+fn symbol_of_node(names: &BTreeMap<&str, usize>, node: &Node, symbol: &str) -> Option<u32>
+    requires few { HasFewChoices (node_of node.now) }
+    requires names { FindsSymbols (symbols_at (node_of node.now)) names.now }
+    ensures { IsSymbol (enum_as symbol.now (node_of node.now)) result }
+{
+    match node {
+        Node::Enum(enumeration) => {
+            symbol_by_name(names, &enumeration.symbols, enumeration.default, symbol)
+        }
+        _ => None,
+    }
+}

@@ -1,0 +1,117 @@
+ghost use Rattle.std.specs.Prelude.{◌≡◌, ◌≤◌, true, List, IfOk, is_some};
+ghost use Rattle.std.specs.Option.{IfSome};
+ghost use Rattle.std.specs.List.{list_all, position_or_len};
+ghost use Rattle.avro_schema.specs.Node.{Node as SeenNode, node_at};
+ghost use Rattle.avro_schema.specs.Seen.{places_of};
+ghost use Rattle.avro_schema.specs.SeenSchema.{schema_nodes};
+ghost use Rattle.avro_schema.specs.WellFormed.{branch_kind};
+ghost use Rattle.avro_resolve.specs.NameTables.{AreUnionTables, FindsFirst, StartsAt, branches_at, passes, is_named};
+
+use crate::by_node::{FEWEST, add_table, table_of};
+use crate::first_branches::{first_branches, type_at};
+use crate::named_type::NamedType;
+use avro_schema::{Node, NodeId, Schema};
+use std::alloc::{AllocError, Global};
+use std::collections::BTreeMap;
+
+/// The first branch of each kind and name, for a reader's unions. They rise by the unions' nodes.
+pub fn union_tables(
+    alloc: Global,
+    reader: &Schema,
+) -> Result<Vec<(NodeId, BTreeMap<(u64, &str), usize>)>, AllocError>
+    ensures { IfOk result (λ tables. AreUnionTables (schema_nodes reader.now) tables.items) }
+{
+    let mut tables = Vec::new(alloc);
+    let mut number = 0u32;
+    for _place in 0..reader.len() {
+        let id = NodeId(number);
+        add_table(&mut tables, id, union_table(alloc, reader, id)?)?;
+        number = number.saturating_add(1);
+    }
+    Ok(tables)
+}
+
+/// The first branch of each kind and name, for a union of many branches with few aliases.
+fn union_table(
+    alloc: Global,
+    reader: &Schema,
+    id: NodeId,
+) -> Result<Option<BTreeMap<(u64, &str), usize>>, AllocError>
+    ensures { IfOk result (λ table. IfSome table (FindsFirst (schema_nodes reader.now) (branches_at (node_at (schema_nodes reader.now) id.0)))) }
+{
+    let branches = branches_of(reader, id);
+    if branches.len() < FEWEST || !has_few_aliases(reader, branches) {
+        return Ok(None);
+    }
+    Ok(Some(first_branches(alloc, reader, branches)?))
+}
+
+/// The branches of a node, and none where it has none. No branch is a union.
+fn branches_of(schema: &Schema, id: NodeId) -> &[NodeId]
+    ensures places { places_of result.now ≡ branches_at (node_at (schema_nodes schema.now) id.0) }
+    ensures plain { list_all (λ place. is_some (branch_kind (node_at (schema_nodes schema.now) place))) (places_of result.now) ≡ true }
+{
+    if (id.0 as usize) >= schema.len() {
+        return &[];
+    }
+    match schema.node(id) {
+        Node::Union(branches) => branches,
+        _ => &[],
+    }
+}
+
+/// Whether the branches of a union have no more aliases than there are branches. A union that names the same
+/// branches again then costs no more than its text, however many aliases they have.
+fn has_few_aliases(reader: &Schema, branches: &[NodeId]) -> bool {
+    let mut left = branches.len();
+    for branch in branches {
+        let count = alias_count(reader, *branch);
+        if count > left {
+            return false;
+        }
+        left -= count;
+    }
+    true
+}
+
+/// How many aliases a node has.
+fn alias_count(reader: &Schema, id: NodeId) -> usize {
+    match type_at(reader, id) {
+        Some(named) => named.aliases.len(),
+        None => 0,
+    }
+}
+
+/// A place of a reader's union before which no branch matches a writer's node.
+pub fn start_by<'n>(
+    tables: &[(NodeId, BTreeMap<(u64, &'n str), usize>)],
+    writer: &'n Schema,
+    w: NodeId,
+    reader: &Schema,
+    r: NodeId,
+) -> usize
+    requires { AreUnionTables (schema_nodes reader.now) tables.now }
+    ensures { StartsAt (schema_nodes writer.now) (schema_nodes reader.now)
+        (node_at (schema_nodes writer.now) w.0) (node_at (schema_nodes reader.now) r.0) result }
+{
+    match table_of(tables, r) {
+        Some(first) => match type_at(writer, w) {
+            Some(named) => first_named(first, branches_of(reader, r), &named),
+            None => 0,
+        },
+        None => 0,
+    }
+}
+
+/// The first of some branches that has the simple name of a type, or how many branches there are.
+fn first_named<'n>(
+    first: &BTreeMap<(u64, &'n str), usize>,
+    branches: &[NodeId],
+    named: &NamedType<'n>,
+) -> usize
+    ensures { (reader : List SeenNode) → FindsFirst reader (places_of branches.now) first.now
+        → result ≤ position_or_len (passes reader (is_named named.now.kind named.now.name.simple)) (places_of branches.now) }
+{
+    let found = first.get(&(named.kind, named.name.simple()));
+    found.copied().unwrap_or(branches.len())
+}
