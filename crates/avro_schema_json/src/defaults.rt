@@ -118,10 +118,7 @@ fn in_branch(alloc: Global, branch: usize, datum: Datum) -> Result<Option<Datum>
     ensures { IfOk result (λ whole. option_map value_of whole ≡ Some (SeenValue.union branch (value_of datum))) }
 {
     match u32::try_from(branch) {
-        Ok(branch) => match Box::new(alloc, datum) {
-            Ok(boxed) => Ok(Some(Datum::Union(branch, boxed))),
-            Err(_) => Err(Memory),
-        },
+        Ok(branch) => Ok(Some(Datum::Union(branch, Box::new(alloc, datum)?))),
         Err(_) => Err(Memory),
     }
 }
@@ -204,10 +201,7 @@ fn item_defaults(
         let Some(value) = default_of(alloc, raws, item, place)? else {
             return Ok(None);
         };
-        match values.push(value) {
-            Ok(()) => {}
-            Err(_) => return Err(Memory),
-        }
+        values.push(value)?;
     }
     Ok(Some(values))
 }
@@ -252,10 +246,7 @@ fn entry_defaults(
         let Some(value) = default_of(alloc, raws, tree, place)? else {
             return Ok(None);
         };
-        match entries.push((copy_of_text(alloc, key.as_str())?, value)) {
-            Ok(()) => {}
-            Err(_) => return Err(Memory),
-        }
+        entries.push((copy_of_text(alloc, key.as_str())?, value))?;
     }
     Ok(Some(entries))
 }
@@ -320,10 +311,7 @@ fn field_defaults(
         let Some(value) = default_of(alloc, raws, tree, place)? else {
             return Ok(None);
         };
-        match values.push(value) {
-            Ok(()) => {}
-            Err(_) => return Err(Memory),
-        }
+        values.push(value)?;
     }
     Ok(Some(values))
 }

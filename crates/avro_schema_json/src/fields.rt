@@ -47,10 +47,9 @@ impl<'a> Fields<'a> {
         let mut names: BTreeMap<&'a str, ()> = BTreeMap::new(alloc);
         for i in 0..self.len() {
             match self.get(i) {
-                Some((name, _)) => match names.insert(name, ()) {
-                    Ok(_) => {}
-                    Err(_) => return Err(Memory),
-                },
+                Some((name, _)) => {
+                    names.insert(name, ())?;
+                }
                 None => {}
             }
         }

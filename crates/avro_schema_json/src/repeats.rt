@@ -51,10 +51,8 @@ fn code_of_plain(node: &Node, branch: NodeId) -> u64
 fn add(codes: &mut BTreeSet<u64>, code: u64) -> Result<(), Memory>
     ensures { OnOk result ((m : ℕ) → contains nat_cmp codes.new m ≡ true → (contains nat_cmp codes.old m ≡ true) ⊎ (m ≡ code)) }
 {
-    match codes.insert(code) {
-        Ok(_) => Ok(()),
-        Err(_) => Err(Memory),
-    }
+    codes.insert(code)?;
+    Ok(())
 }
 
 /// Whether two branches have one code.

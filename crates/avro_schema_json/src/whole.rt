@@ -66,10 +66,7 @@ fn defaults_of_fields(
     for field in fields {
         let default = default_of_field(alloc, raws, field)?;
         are_read = are_read && (default.is_some() || !field.default.is_some());
-        match of_fields.push(default) {
-            Ok(()) => {}
-            Err(_) => return Err(Memory),
-        }
+        of_fields.push(default)?;
     }
     Ok(NodeDefaults {
         of_fields,
@@ -108,10 +105,7 @@ fn defaults_of_nodes(alloc: Global, raws: &[RawNode]) -> Result<Defaults, Memory
             are_read: are_these_read,
         } = defaults_of_node(alloc, raws, raw)?;
         are_read = are_read && are_these_read;
-        match of_nodes.push(of_fields) {
-            Ok(()) => {}
-            Err(_) => return Err(Memory),
-        }
+        of_nodes.push(of_fields)?;
     }
     Ok(Defaults { of_nodes, are_read })
 }
@@ -150,15 +144,12 @@ fn whole_fields(
     let mut rest = defaults.into_iter();
     for field in fields {
         let default = next_default(&mut rest);
-        match whole.push(Field {
+        whole.push(Field {
             name: field.name,
             aliases: field.aliases,
             node: field.node,
             default,
-        }) {
-            Ok(()) => {}
-            Err(_) => return Err(Memory),
-        }
+        })?;
     }
     Ok(whole)
 }
