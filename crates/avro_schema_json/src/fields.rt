@@ -1,7 +1,11 @@
-ghost use Rattle.std.specs.Prelude.{◌≡◌, ℕ, List, string_bytes, slice_get, option_map};
+ghost use Rattle.std.specs.Prelude.{◌≡◌, ℕ, List, string_bytes, slice_get, option_map, IfOk};
+ghost use Rattle.avro_schema_json.specs.DeclaredDefaults.{member_keys, names_only};
+ghost use Rattle.avro_schema_json.specs.OwnDefaults.{fields_seen};
+ghost use Rattle.serde_json.specs.View.{members_view};
 
 use crate::raw::RawField;
 use avro_schema::{Field, Memory, NodeId};
+use serde_json::{Map, Value};
 use std::alloc::Global;
 use std::collections::BTreeMap;
 
@@ -67,4 +71,21 @@ fn raw_get<'a>(fields: &'a [RawField<'a>], place: usize) -> Option<(&'a str, Nod
         Some(field) => Some((field.name.as_str(), field.node)),
         None => None,
     }
+}
+
+/// Whether each key is the name of a field.
+pub(crate) fn names_fields(
+    alloc: Global,
+    members: &Map<String, Value>,
+    fields: Fields<'_>,
+) -> Result<bool, Memory>
+    ensures { IfOk result (λ answer. answer ≡ names_only (member_keys (members_view members.now.entries)) (fields_seen fields.entry)) }
+{
+    let names = fields.names(alloc)?;
+    for (key, _) in members.iter() {
+        if !names.contains_key(key.as_str()) {
+            return Ok(false);
+        }
+    }
+    Ok(true)
 }

@@ -1,18 +1,16 @@
 //! Unions in which a branch stands twice: they are refused before any default is read, since each value of
 //! a default could be tried for many branches of one kind.
 
-ghost use Rattle.std.specs.Prelude.{◌≡◌, ◌⊎◌, ℕ, true, is_some, IfOk, OnOk};
-ghost use Rattle.std.specs.List.{list_all};
+ghost use Rattle.std.specs.Prelude.{◌≡◌, ◌⊎◌, ℕ, true, IfOk, OnOk};
 ghost use Rattle.std.specs.Ordering.{nat_cmp};
 ghost use Rattle.std.specs.BTreeSet.{contains};
-ghost use Rattle.avro_schema.specs.Node.{node_name};
 ghost use Rattle.avro_schema.specs.Seen.{node_of, places_of};
-ghost use Rattle.avro_schema.specs.WellFormed.{branch_kind, is_edge as is_good_edge};
-ghost use Rattle.avro_schema_json.specs.OwnDefaults.{bare_of, bares_of};
+ghost use Rattle.avro_schema.specs.WellFormed.{branch_kind};
+ghost use Rattle.avro_schema_json.specs.OwnDefaults.{bares_of};
 ghost use Rattle.avro_schema_json.specs.Repeats.{kind_code, code_by, Repeats, SomeRepeats};
 
-use crate::defaults::{branches, raw_at};
 use crate::raw::RawNode;
+use crate::raw_nodes::{are_edges, branches, raw_at};
 use avro_schema::{Memory, Node, NodeId};
 use std::alloc::Global;
 use std::collections::BTreeSet;
@@ -70,48 +68,6 @@ fn repeats_branch(alloc: Global, raws: &[RawNode], branches: &[NodeId]) -> Resul
         add(&mut codes, code)?;
     }
     Ok(false)
-}
-
-/// Whether a node is a record, an enum or a fixed.
-fn has_name(raw: &RawNode) -> bool
-    ensures { result ≡ is_some (node_name (bare_of raw.now)) }
-{
-    match raw {
-        RawNode::Plain(node) => is_named(node),
-        RawNode::Enum(_) => true,
-        RawNode::Record(_) => true,
-    }
-}
-
-/// The same of a node that has no defaults.
-fn is_named(node: &Node) -> bool
-    ensures { result ≡ is_some (node_name (node_of node.now)) }
-{
-    matches!(node, Node::Record(_) | Node::Enum(_) | Node::Fixed(_))
-}
-
-/// Whether an edge stays among the nodes, and goes to a later one or to a record, an enum or a fixed.
-fn is_edge(raws: &[RawNode], from: usize, to: NodeId) -> bool
-    ensures { result ≡ is_good_edge (bares_of raws.now) from to.0 }
-{
-    let place = to.0 as usize;
-    if place >= raws.len() {
-        return false;
-    }
-    let null = RawNode::Plain(Node::Null);
-    from < place || has_name(raw_at(&*raws, &null, to))
-}
-
-/// Whether the edges of a union are good.
-fn are_edges(raws: &[RawNode], from: usize, branches: &[NodeId]) -> bool
-    ensures { result ≡ list_all (is_good_edge (bares_of raws.now) from) (places_of branches.now) }
-{
-    for branch in branches {
-        if !is_edge(raws, from, *branch) {
-            return false;
-        }
-    }
-    true
 }
 
 /// Whether a branch stands twice in one of the unions whose edges are good.

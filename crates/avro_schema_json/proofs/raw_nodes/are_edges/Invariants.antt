@@ -3,7 +3,7 @@ use Rattle.std.specs.List.{list_all}
 use Rattle.avro_schema.specs.Seen.{places_of}
 use Rattle.avro_schema.specs.WellFormed.{is_edge}
 use Rattle.avro_schema_json.specs.OwnDefaults.{bares_of}
-use Rattle.avro_schema_json.proofs.repeats.are_edges.Given as goal
+use Rattle.avro_schema_json.proofs.raw_nodes.are_edges.Given as goal
 
 abbrev pub invariant-loop-branch : goal.invariant-loop-branch
 invariant-loop-branch l =
