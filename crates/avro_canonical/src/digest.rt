@@ -29,8 +29,5 @@ pub fn fingerprint_text(alloc: Global, schema: &Schema) -> Result<String, Memory
     ensures { IfOk result (λ digits. IsFingerprintText (schema_nodes schema.now) (string_bytes digits)) }
 {
     let digest = fingerprint(alloc, schema)?;
-    match hex::encode(alloc, &digest[..]) {
-        Ok(digits) => Ok(digits),
-        Err(_) => Err(Memory),
-    }
+    Ok(hex::encode(alloc, &digest[..])?)
 }

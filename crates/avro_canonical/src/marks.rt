@@ -26,10 +26,7 @@ pub(crate) fn no_marks(alloc: Global, schema: &Schema) -> Result<Vec<bool>, Memo
 {
     let mut marks: Vec<bool> = Vec::new(alloc);
     for place in 0..schema.len() {
-        match marks.push(false) {
-            Ok(()) => {}
-            Err(_) => return Err(Memory),
-        }
+        marks.push(false)?;
     }
     Ok(marks)
 }

@@ -8,10 +8,8 @@ use avro_schema::Memory;
 pub(crate) fn put_part<'a>(parts: &mut Vec<Part<'a>>, part: Part<'a>) -> Result<(), Memory>
     ensures { OnOk result (pendings_of parts.new.items ≡ pending_of part.entry ∷ pendings_of parts.old.items) }
 {
-    match parts.push(part) {
-        Ok(()) => Ok(()),
-        Err(_) => Err(Memory),
-    }
+    parts.push(part)?;
+    Ok(())
 }
 
 /// Takes the next part, if one is left.

@@ -10,10 +10,8 @@ use std::alloc::Global;
 pub(crate) fn put(out: &mut String, text: &str) -> Result<(), Memory>
     ensures { OnOk result (string_bytes out.new ≡ string_bytes out.old ++ text.now) }
 {
-    match out.push_str(text) {
-        Ok(()) => Ok(()),
-        Err(_) => Err(Memory),
-    }
+    out.push_str(text)?;
+    Ok(())
 }
 
 /// Appends a text in quotes.
@@ -72,8 +70,6 @@ pub(crate) fn put_symbols(out: &mut String, symbols: &[String]) -> Result<(), Me
 pub(crate) fn put_number(alloc: Global, out: &mut String, number: u32) -> Result<(), Memory>
     ensures { OnOk result (string_bytes out.new ≡ string_bytes out.old ++ decimal number) }
 {
-    match number.to_string(alloc) {
-        Ok(digits) => put(out, digits.as_str()),
-        Err(_) => Err(Memory),
-    }
+    let digits = number.to_string(alloc)?;
+    put(out, digits.as_str())
 }

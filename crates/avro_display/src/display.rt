@@ -25,10 +25,7 @@ pub fn show(alloc: Global, schema: &Schema, node: NodeId, datum: &Datum) -> Resu
         string_bytes text ≡ display_text (schema_nodes schema.now) (node_at (schema_nodes schema.now) node.0) (value_of datum.now)) }
 {
     let tree = displayed(alloc, schema, schema.node(node), datum)?;
-    match tree.to_string(alloc) {
-        Ok(text) => Ok(text),
-        Err(_) => Err(Memory),
-    }
+    Ok(tree.to_string(alloc)?)
 }
 
 /// The JSON value that displays a datum of a node.
@@ -101,10 +98,7 @@ fn displayed_items(
     let mut trees: Vec<Value> = Vec::new(alloc);
     for item in items {
         let tree = displayed(alloc, schema, node, item)?;
-        match trees.push(tree) {
-            Ok(()) => {}
-            Err(_) => return Err(Memory),
-        }
+        trees.push(tree)?;
     }
     Ok(Value::from(trees))
 }

@@ -14,10 +14,7 @@ use std::alloc::Global;
 pub(crate) fn copy_of_text(alloc: Global, text: &str) -> Result<String, Memory>
     ensures { IfOk result (λ copy. string_bytes copy ≡ text.now) }
 {
-    match String::from_str(alloc, text) {
-        Ok(copy) => Ok(copy),
-        Err(_) => Err(Memory),
-    }
+    Ok(String::from_str(alloc, text)?)
 }
 
 /// A text of one character for each byte, whose code is the byte's value.
@@ -26,10 +23,7 @@ pub(crate) fn bytes_text(alloc: Global, bytes: &[u8]) -> Result<String, Memory>
 {
     let mut text = String::new(alloc);
     for byte in bytes {
-        match text.push(char::from(*byte)) {
-            Ok(()) => {}
-            Err(_) => return Err(Memory),
-        }
+        text.push(char::from(*byte))?;
     }
     Ok(text)
 }
@@ -56,14 +50,9 @@ fn full_text(alloc: Global, name: &FullName) -> Result<String, Memory>
         return copy_of_text(alloc, name.simple());
     }
     let mut text = copy_of_text(alloc, namespace)?;
-    match text.push('.') {
-        Ok(()) => {}
-        Err(_) => return Err(Memory),
-    }
-    match text.push_str(name.simple()) {
-        Ok(()) => Ok(text),
-        Err(_) => Err(Memory),
-    }
+    text.push('.')?;
+    text.push_str(name.simple())?;
+    Ok(text)
 }
 
 /// The key of a union's branch.
@@ -96,10 +85,8 @@ pub(crate) fn put_member(
     ensures { OnOk result (members_view members.new.entries ≡ put key.now (view tree) (members_view members.old.entries)) }
 {
     let copy = copy_of_text(alloc, key)?;
-    match members.insert(copy, tree) {
-        Ok(_) => Ok(()),
-        Err(_) => Err(Memory),
-    }
+    members.insert(copy, tree)?;
+    Ok(())
 }
 
 /// Whether a node is that of null.
@@ -118,8 +105,6 @@ pub(crate) fn labelled(alloc: Global, node: &Node, tree: Value) -> Result<Value,
     }
     let key = branch_key(alloc, node)?;
     let mut members: Map<String, Value> = Map::new(alloc);
-    match members.insert(key, tree) {
-        Ok(_) => Ok(Value::Object(members)),
-        Err(_) => Err(Memory),
-    }
+    members.insert(key, tree)?;
+    Ok(Value::Object(members))
 }

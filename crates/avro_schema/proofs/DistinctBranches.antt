@@ -7,8 +7,8 @@ use Rattle.std.proofs.lemmas.Bool.{and_parts, or_parts, false≢true, not-true, 
 use Rattle.std.proofs.lemmas.Bool.Decides.{Decides-eqb}
 use Rattle.std.proofs.lemmas.Slice.Eq.{bytes_eq-Decides}
 use Rattle.std.specs.declared.cmp.Ordering.TheVariants.{Less, Equal, Greater}
-use Rattle.avro_schema.specs.Node.{Node, node_at}
-use Rattle.avro_schema.specs.WellFormed.{is_union, BranchKind, unnamed, named, branch_kind, same_kind}
+use Rattle.avro_schema.specs.Node.{Node}
+use Rattle.avro_schema.specs.WellFormed.{is_union, BranchKind, unnamed, named, same_kind}
 use Rattle.avro_schema.specs.Distinct.{are_distinct}
 use Rattle.avro_schema.specs.SeenKind.{kind_at, has_kind}
 

@@ -1,5 +1,6 @@
 pub mod DatumViews
 pub mod FitsKind
 pub mod FitsParts
+pub mod NodeFaults
 pub mod Parts
 pub mod RowsSchemas

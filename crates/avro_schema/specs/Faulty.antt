@@ -1,70 +1,117 @@
--- Which faults nodes have: each breaks a part of what makes them a schema.
-use Rattle.std.specs.Prelude.{◌≡◌, ℕ, ◌<◌, Bool, true, false, not, ◌&&◌, ◌⊎◌, List, length, nat_lt, nat_le, bytes_eq, filter_map, flat_map}
-use Rattle.std.specs.List.{list_all}
+-- The rules that nodes break (Avro 1.11, "Schema Declaration", "Names", "Aliases"). Each that they break is a fault.
+use Rattle.std.specs.Prelude.{◌≡◌, ℕ, suc, ◌<◌, Bool, true, false, not, ◌&&◌, ◌||◌, List, [], ◌∷◌, Option, Some, None, IfSome, length, nat_lt, nat_le, bytes_eq, filter_map, flat_map}
+use Rattle.std.specs.List.{list_all, filter}
 use Rattle.avro_name.specs.Name.{is_simple_name, same_name}
 use Rattle.avro_schema.specs.Node.{Node, node_at, node_name, edges_of}
 use Rattle.avro_schema.specs.Distinct.{are_distinct}
-use Rattle.avro_schema.specs.WellFormed.{max_nodes, max_count, is_edge, is_union, is_default, field_names, has_good_default}
+use Rattle.avro_schema.specs.WellFormed.{max_nodes, max_count, is_edge, is_union, is_default, field_names, has_good_default, has_good_names}
 use Rattle.avro_schema.specs.declared.fault.DraftError.{DraftError}
 
--- an edge to no node, or to one that is neither later nor a record, an enum or a fixed
-abbrev pub has_unknown_node : List Node → ℕ → Node → Bool
-has_unknown_node nodes place n = not (list_all (is_edge nodes place) (edges_of n))
+pub data NodeFault : Type 0 where
+  -- an edge to no node, or to one that is neither later nor a record, an enum or a fixed
+  unknown_node : NodeFault
+  -- two types with one fullname
+  duplicate_name : NodeFault
+  -- a symbol, or a name or alias of a type or a field, that is no name
+  invalid_name : NodeFault
+  -- a union with no branch, a union as a branch, or two branches of one kind
+  invalid_union : NodeFault
+  -- no symbol, a symbol twice, or a default that is none
+  invalid_symbols : NodeFault
+  -- a name or alias twice among the fields of a record
+  duplicate_field : NodeFault
+  -- a default that is no datum of its field
+  invalid_default : NodeFault
+  -- no node or too many; too many symbols, or bytes of a fixed
+  limit_exceeded : NodeFault
 
--- a symbol, or a name or alias of a field, that is no name
-abbrev pub has_invalid_name : Node → Bool
-has_invalid_name (Node.record_of name aliases fields) = not (list_all is_simple_name (flat_map field_names fields))
-has_invalid_name (Node.enum name aliases symbols default) = not (list_all is_simple_name symbols)
-has_invalid_name _ = false
+abbrev pub all_faults : List NodeFault
+all_faults =
+    unknown_node ∷ duplicate_name ∷ invalid_name ∷ invalid_union ∷ invalid_symbols ∷ duplicate_field ∷ invalid_default ∷ limit_exceeded ∷ []
 
-abbrev pub has_invalid_union : List Node → Node → Bool
-has_invalid_union nodes (Node.union places) = not (is_union nodes places)
-has_invalid_union nodes _ = false
+abbrev pub has_good_edges : List Node → ℕ → Node → Bool
+has_good_edges nodes place n = list_all (is_edge nodes place) (edges_of n)
 
--- no symbol, a symbol twice, or a default that is none
-abbrev pub has_invalid_symbols : Node → Bool
-has_invalid_symbols (Node.enum name aliases symbols default) = not (nat_lt 0 (length symbols) && are_distinct bytes_eq symbols && is_default symbols default)
-has_invalid_symbols _ = false
+-- the names of a node's symbols, or of its fields
+abbrev pub names_inside : Node → List (List ℕ)
+names_inside (Node.record_of name aliases fields) = flat_map field_names fields
+names_inside (Node.enum name aliases symbols default) = symbols
+names_inside _ = []
 
--- a name or alias of a field twice
-abbrev pub has_duplicate_field : Node → Bool
-has_duplicate_field (Node.record_of name aliases fields) = not (are_distinct bytes_eq (flat_map field_names fields))
-has_duplicate_field _ = false
+-- The rules of each kind of node by itself.
+abbrev pub has_union_rule : List Node → Node → Bool
+has_union_rule nodes (Node.union places) = is_union nodes places
+has_union_rule nodes _ = true
 
--- a default that is no datum of its field
-abbrev pub has_invalid_default : List Node → Node → Bool
-has_invalid_default nodes (Node.record_of name aliases fields) = not (list_all (has_good_default nodes) fields)
-has_invalid_default nodes _ = false
+abbrev pub has_symbols_rule : Node → Bool
+has_symbols_rule (Node.enum name aliases symbols default) = nat_lt 0 (length symbols) && are_distinct bytes_eq symbols && is_default symbols default
+has_symbols_rule _ = true
 
--- too many symbols, or bytes of a fixed
-abbrev pub exceeds_limit : Node → Bool
-exceeds_limit (Node.enum name aliases symbols default) = not (nat_le (length symbols) max_count)
-exceeds_limit (Node.fixed name aliases count) = not (nat_le count max_count)
-exceeds_limit _ = false
+abbrev pub has_fields_rule : Node → Bool
+has_fields_rule (Node.record_of name aliases fields) = are_distinct bytes_eq (flat_map field_names fields)
+has_fields_rule _ = true
 
--- the node of a place has a fault
-abbrev pub IsBroken : DraftError → List Node → ℕ → Node → Type 0
-IsBroken DraftError.UnknownNode nodes place n = has_unknown_node nodes place n ≡ true
-IsBroken DraftError.DuplicateName nodes place n = ⊥
-IsBroken DraftError.InvalidName nodes place n = has_invalid_name n ≡ true
-IsBroken DraftError.InvalidUnion nodes place n = has_invalid_union nodes n ≡ true
-IsBroken DraftError.InvalidSymbols nodes place n = has_invalid_symbols n ≡ true
-IsBroken DraftError.DuplicateField nodes place n = has_duplicate_field n ≡ true
-IsBroken DraftError.InvalidDefault nodes place n = has_invalid_default nodes n ≡ true
-IsBroken DraftError.LimitExceeded nodes place n = exceeds_limit n ≡ true
-IsBroken DraftError.OutOfMemory nodes place n = Unit
+abbrev pub has_defaults_rule : List Node → Node → Bool
+has_defaults_rule nodes (Node.record_of name aliases fields) = list_all (has_good_default nodes) fields
+has_defaults_rule nodes _ = true
 
-abbrev pub SomeIsBroken : DraftError → List Node → Type 0
-SomeIsBroken fault nodes = (place : ℕ) × (place < length nodes) × IsBroken fault nodes place (node_at nodes place)
+abbrev pub is_within_limit : Node → Bool
+is_within_limit (Node.enum name aliases symbols default) = nat_le (length symbols) max_count
+is_within_limit (Node.fixed name aliases count) = nat_le count max_count
+is_within_limit _ = true
 
--- the nodes have a fault; that memory ran out says nothing of them
-abbrev pub IsThere : DraftError → List Node → Type 0
-IsThere DraftError.UnknownNode nodes = SomeIsBroken DraftError.UnknownNode nodes
-IsThere DraftError.DuplicateName nodes = are_distinct same_name (filter_map node_name nodes) ≡ false
-IsThere DraftError.InvalidName nodes = SomeIsBroken DraftError.InvalidName nodes
-IsThere DraftError.InvalidUnion nodes = SomeIsBroken DraftError.InvalidUnion nodes
-IsThere DraftError.InvalidSymbols nodes = SomeIsBroken DraftError.InvalidSymbols nodes
-IsThere DraftError.DuplicateField nodes = SomeIsBroken DraftError.DuplicateField nodes
-IsThere DraftError.InvalidDefault nodes = SomeIsBroken DraftError.InvalidDefault nodes
-IsThere DraftError.LimitExceeded nodes = ((nat_lt 0 (length nodes) && nat_le (length nodes) max_nodes) ≡ false) ⊎ SomeIsBroken DraftError.LimitExceeded nodes
-IsThere DraftError.OutOfMemory nodes = Unit
+-- Whether the node of a place breaks a rule. What a node asks of those that its edges go to is a rule only where the
+-- edges are good.
+abbrev pub breaks : NodeFault → List Node → ℕ → Node → Bool
+breaks unknown_node nodes place n = not (has_good_edges nodes place n)
+breaks duplicate_name nodes place n = false
+breaks invalid_name nodes place n = not (list_all is_simple_name (names_inside n) && has_good_names n)
+breaks invalid_union nodes place n = has_good_edges nodes place n && not (has_union_rule nodes n)
+breaks invalid_symbols nodes place n = not (has_symbols_rule n)
+breaks duplicate_field nodes place n = not (has_fields_rule n)
+breaks invalid_default nodes place n = has_good_edges nodes place n && not (has_defaults_rule nodes n)
+breaks limit_exceeded nodes place n = not (is_within_limit n)
+
+-- each of the nodes from a place on
+abbrev pub some_breaks : NodeFault → List Node → ℕ → List Node → Bool
+some_breaks fault nodes place [] = false
+some_breaks fault nodes place (n ∷ ns) = breaks fault nodes place n || some_breaks fault nodes (suc place) ns
+
+-- whether the list of nodes breaks a rule
+abbrev pub list_breaks : NodeFault → List Node → Bool
+list_breaks duplicate_name nodes = not (are_distinct same_name (filter_map node_name nodes))
+list_breaks limit_exceeded nodes = not (nat_lt 0 (length nodes) && nat_le (length nodes) max_nodes)
+list_breaks _ nodes = false
+
+abbrev pub has_fault : NodeFault → List Node → Bool
+has_fault fault nodes = list_breaks fault nodes || some_breaks fault nodes 0 nodes
+
+-- the faults of nodes, which are a schema where they have none
+abbrev pub faults_of_nodes : List Node → List NodeFault
+faults_of_nodes nodes = filter (λ fault. has_fault fault nodes) all_faults
+
+abbrev pub IsThere : NodeFault → List Node → Type 0
+IsThere fault nodes = has_fault fault nodes ≡ true
+
+-- the fault that an error names; none where memory ran out
+abbrev pub fault_of : DraftError → Option NodeFault
+fault_of DraftError.UnknownNode = Some unknown_node
+fault_of DraftError.DuplicateName = Some duplicate_name
+fault_of DraftError.InvalidName = Some invalid_name
+fault_of DraftError.InvalidUnion = Some invalid_union
+fault_of DraftError.InvalidSymbols = Some invalid_symbols
+fault_of DraftError.DuplicateField = Some duplicate_field
+fault_of DraftError.InvalidDefault = Some invalid_default
+fault_of DraftError.LimitExceeded = Some limit_exceeded
+fault_of DraftError.OutOfMemory = None
+
+-- the fault that an error names is there
+abbrev pub IsRefused : List Node → DraftError → Type 0
+IsRefused nodes e = IfSome (fault_of e) (λ fault. IsThere fault nodes)
+
+-- the same of the node of a place
+abbrev pub IsRefusedAt : List Node → ℕ → Node → DraftError → Type 0
+IsRefusedAt nodes place n e = IfSome (fault_of e) (λ fault. breaks fault nodes place n ≡ true)
+
+abbrev pub IsRefusedSomewhere : List Node → DraftError → Type 0
+IsRefusedSomewhere nodes e = (place : ℕ) × (place < length nodes) × IsRefusedAt nodes place (node_at nodes place) e

@@ -69,10 +69,7 @@ fn kinds<'a>(
     let mut kinds: Vec<Kind<'a>> = Vec::new(alloc);
     for branch in branches {
         match kind_at(nodes, *branch) {
-            Some(kind) => match kinds.push(kind) {
-                Ok(()) => {}
-                Err(_) => return Err(Memory),
-            },
+            Some(kind) => kinds.push(kind)?,
             None => return Ok(None),
         }
     }
@@ -86,10 +83,7 @@ fn are_unique_places(alloc: Global, branches: &[NodeId]) -> Result<bool, Memory>
 {
     let mut places: Vec<u32> = Vec::new(alloc);
     for branch in branches {
-        match places.push(branch.0) {
-            Ok(()) => {}
-            Err(_) => return Err(Memory),
-        }
+        places.push(branch.0)?;
     }
     are_unique(places)
 }

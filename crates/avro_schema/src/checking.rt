@@ -2,7 +2,7 @@
 
 ghost use Rattle.std.specs.Prelude.{◌≡◌, ℕ, ◌<◌, true, length, IfOk, IfErr, OnOk};
 ghost use Rattle.std.specs.List.{list_all};
-ghost use Rattle.avro_schema.specs.Faulty.{IsBroken, SomeIsBroken, IsThere};
+ghost use Rattle.avro_schema.specs.Faulty.{IsRefused, IsRefusedAt, IsRefusedSomewhere};
 ghost use Rattle.avro_schema.specs.Node.{Node as SeenNode, node_at, field_places};
 ghost use Rattle.avro_schema.specs.Seen.{field_of, node_of, nodes_of, places_of, seen_fields};
 ghost use Rattle.avro_schema.specs.WellFormed.{is_edge as is_good_edge, is_good_node, are_good_nodes, is_schema, has_good_default as is_good_default};
@@ -28,7 +28,7 @@ const MAX_COUNT: usize = 1_048_576;
 /// Tests the rules of a schema.
 pub(crate) fn check_nodes(alloc: Global, nodes: &[Node]) -> Result<(), DraftError>
     ensures formed { OnOk result (is_schema (nodes_of nodes.now) ≡ true) }
-    ensures faulty { IfErr result (λ e. IsThere e (nodes_of nodes.now)) }
+    ensures faulty { IfErr result (IsRefused (nodes_of nodes.now)) }
 {
     if nodes.is_empty() {
         return Err(DraftError::LimitExceeded);
@@ -49,7 +49,7 @@ pub(crate) fn check_nodes(alloc: Global, nodes: &[Node]) -> Result<(), DraftErro
 /// Tests the rules of each node by itself.
 fn check_each(alloc: Global, nodes: &[Node]) -> Result<(), DraftError>
     ensures good { OnOk result (are_good_nodes (nodes_of nodes.now) 0 (nodes_of nodes.now) ≡ true) }
-    ensures broken { IfErr result (λ e. SomeIsBroken e (nodes_of nodes.now)) }
+    ensures broken { IfErr result (IsRefusedSomewhere (nodes_of nodes.now)) }
 {
     for i in 0..nodes.len() {
         match check_node(alloc, nodes, i, &nodes[i]) {
@@ -63,7 +63,7 @@ fn check_each(alloc: Global, nodes: &[Node]) -> Result<(), DraftError>
 /// Tests the rules of a node at its place.
 fn check_node(alloc: Global, nodes: &[Node], place: usize, node: &Node) -> Result<(), DraftError>
     ensures good { OnOk result (is_good_node (nodes_of nodes.now) place (node_of node.now) ≡ true) }
-    ensures broken { IfErr result (λ e. IsBroken e (nodes_of nodes.now) place (node_of node.now)) }
+    ensures broken { IfErr result (IsRefusedAt (nodes_of nodes.now) place (node_of node.now)) }
 {
     match node {
         Node::Null | Node::Boolean | Node::Int | Node::Long | Node::Bytes | Node::Str => Ok(()),
@@ -113,7 +113,7 @@ fn are_field_edges(nodes: &[Node], from: usize, fields: &[Field]) -> bool
 /// Tests the rules of an array.
 fn check_array(nodes: &[Node], place: usize, items: NodeId) -> Result<(), DraftError>
     ensures good { OnOk result (is_good_node (nodes_of nodes.now) place (SeenNode.array items.0) ≡ true) }
-    ensures broken { IfErr result (λ e. IsBroken e (nodes_of nodes.now) place (SeenNode.array items.0)) }
+    ensures broken { IfErr result (IsRefusedAt (nodes_of nodes.now) place (SeenNode.array items.0)) }
 {
     if !is_edge(nodes, place, items) {
         return Err(DraftError::UnknownNode);
@@ -124,7 +124,7 @@ fn check_array(nodes: &[Node], place: usize, items: NodeId) -> Result<(), DraftE
 /// Tests the rules of a map.
 fn check_map(nodes: &[Node], place: usize, values: NodeId) -> Result<(), DraftError>
     ensures good { OnOk result (is_good_node (nodes_of nodes.now) place (SeenNode.map_of values.0) ≡ true) }
-    ensures broken { IfErr result (λ e. IsBroken e (nodes_of nodes.now) place (SeenNode.map_of values.0)) }
+    ensures broken { IfErr result (IsRefusedAt (nodes_of nodes.now) place (SeenNode.map_of values.0)) }
 {
     if !is_edge(nodes, place, values) {
         return Err(DraftError::UnknownNode);
@@ -140,7 +140,7 @@ fn check_union(
     branches: &[NodeId],
 ) -> Result<(), DraftError>
     ensures good { OnOk result (is_good_node (nodes_of nodes.now) place (SeenNode.union (places_of branches.now)) ≡ true) }
-    ensures broken { IfErr result (λ e. IsBroken e (nodes_of nodes.now) place (SeenNode.union (places_of branches.now))) }
+    ensures broken { IfErr result (IsRefusedAt (nodes_of nodes.now) place (SeenNode.union (places_of branches.now))) }
 {
     if !are_edges(nodes, place, branches) {
         return Err(DraftError::UnknownNode);
@@ -159,7 +159,7 @@ fn check_record(
     record_node: &RecordNode,
 ) -> Result<(), DraftError>
     ensures good { OnOk result (is_good_node (nodes_of nodes.now) place (node_of (kept.Record record_node.now)) ≡ true) }
-    ensures broken { IfErr result (λ e. IsBroken e (nodes_of nodes.now) place (node_of (kept.Record record_node.now))) }
+    ensures broken { IfErr result (IsRefusedAt (nodes_of nodes.now) place (node_of (kept.Record record_node.now))) }
 {
     // A name that is read is known to be a fullname, which the rules of the node ask of it.
     let _ = record_node.name.simple();
@@ -188,7 +188,7 @@ fn check_enum(
     enumeration: &EnumNode,
 ) -> Result<(), DraftError>
     ensures good { OnOk result (is_good_node (nodes_of nodes.now) place (node_of (kept.Enum enumeration.now)) ≡ true) }
-    ensures broken { IfErr result (λ e. IsBroken e (nodes_of nodes.now) place (node_of (kept.Enum enumeration.now))) }
+    ensures broken { IfErr result (IsRefusedAt (nodes_of nodes.now) place (node_of (kept.Enum enumeration.now))) }
 {
     // A name that is read is known to be a fullname, which the rules of the node ask of it.
     let _ = enumeration.name.simple();
@@ -221,7 +221,7 @@ fn check_enum(
 /// Tests the rules of a fixed.
 fn check_fixed(nodes: &[Node], place: usize, fixed: &FixedNode) -> Result<(), DraftError>
     ensures good { OnOk result (is_good_node (nodes_of nodes.now) place (node_of (kept.Fixed fixed.now)) ≡ true) }
-    ensures broken { IfErr result (λ e. IsBroken e (nodes_of nodes.now) place (node_of (kept.Fixed fixed.now))) }
+    ensures broken { IfErr result (IsRefusedAt (nodes_of nodes.now) place (node_of (kept.Fixed fixed.now))) }
 {
     // A name that is read is known to be a fullname, which the rules of the node ask of it.
     let _ = fixed.name.simple();

@@ -3,13 +3,25 @@ ghost use Rattle.avro_schema.specs.Node.{node_at};
 ghost use Rattle.avro_schema.specs.Seen.{value_of, values_of, entries_of, node_of, nodes_of};
 ghost use Rattle.avro_schema.specs.Value.{size as value_size, values_size, entries_size, depth as value_depth, values_depth, entries_depth};
 
-use std::alloc::{AllocError, Global};
+use std::alloc::{AllocError, AllocFailed, Global};
 use thiserror::Error;
 
 /// Memory ran out.
 #[derive(Clone, Copy, Debug, PartialEq, Eq, Hash, Error)]
 #[error("out of memory")]
 pub struct Memory;
+
+impl From<AllocError> for Memory {
+    fn from(_error: AllocError) -> Memory {
+        Memory
+    }
+}
+
+impl<T: Drop> From<AllocFailed<T>> for Memory {
+    fn from(_error: AllocFailed<T>) -> Memory {
+        Memory
+    }
+}
 
 /// A datum, which a schema says the type of (Avro 1.11, "Schema Declaration").
 #[derive(Debug, PartialEq, Drop)]

@@ -14,7 +14,7 @@ pub struct Draft {
 
 impl Draft {
     ghost use Rattle.std.specs.Prelude.{◌≡◌, ◌⊎◌, ◌↔◌, true, [], ◌∷◌, ◌++◌, length, IfOk, IfErr, OnOk, OnErr, IsErrOf};
-    ghost use Rattle.avro_schema.specs.Faulty.{IsThere};
+    ghost use Rattle.avro_schema.specs.Faulty.{IsRefused};
     ghost use Rattle.avro_schema.specs.Seen.{node_of};
     ghost use Rattle.avro_schema.specs.SeenSchema.{schema_nodes, draft_nodes};
     ghost use Rattle.avro_schema.specs.WellFormed.{is_schema};
@@ -57,7 +57,7 @@ impl Draft {
         ensures schema { IfOk result (λ schema. schema_nodes schema ≡ draft_nodes self) }
         ensures formed { OnOk result (is_schema (draft_nodes self) ≡ true) }
         ensures succeeds { is_schema (draft_nodes self) ≡ true → IfErr result (λ e. e ≡ DraftError.OutOfMemory) }
-        ensures faulty { IfErr result (λ e. IsThere e (draft_nodes self)) }
+        ensures faulty { IfErr result (IsRefused (draft_nodes self)) }
     {
         match check_nodes(*self.nodes.allocator(), &self.nodes) {
             Ok(()) => Ok(Schema::from_nodes(self.nodes)),

@@ -17,7 +17,7 @@ pub enum DraftError {
     /// A symbol, or a name or alias of a field, is no name.
     #[error("S4")]
     InvalidName,
-    /// A union has no branch, a union as a branch, or two branches of one kind.
+    /// A union whose edges are good has no branch, a union as a branch, or two branches of one kind.
     #[error("S6")]
     InvalidUnion,
     /// An enum has no symbol, a symbol twice, or a default that is none of its symbols.
@@ -26,7 +26,7 @@ pub enum DraftError {
     /// A name or alias stands twice among the fields of a record.
     #[error("S8")]
     DuplicateField,
-    /// A default is no datum of its field.
+    /// A default is no datum of its field, in a record whose edges are good.
     #[error("S9")]
     InvalidDefault,
     /// There is no node or there are more than 4,096; or an enum has more than 1,048,576 symbols,

@@ -181,10 +181,7 @@ fn keys(alloc: Global, entries: &[(String, Datum)]) -> Result<Vec<&str>, Memory>
 {
     let mut keys: Vec<&str> = Vec::new(alloc);
     for entry in entries {
-        match keys.push(entry.0.as_str()) {
-            Ok(()) => {}
-            Err(_) => return Err(Memory),
-        }
+        keys.push(entry.0.as_str())?;
     }
     Ok(keys)
 }

@@ -32,10 +32,7 @@ pub(crate) fn texts(alloc: Global, strings: &[String]) -> Result<Vec<&str>, Memo
 {
     let mut texts: Vec<&str> = Vec::new(alloc);
     for string in strings {
-        match texts.push(string.as_str()) {
-            Ok(()) => {}
-            Err(_) => return Err(Memory),
-        }
+        texts.push(string.as_str())?;
     }
     Ok(texts)
 }
@@ -46,15 +43,9 @@ pub(crate) fn names_of_fields(alloc: Global, fields: &[Field]) -> Result<Vec<&st
 {
     let mut names: Vec<&str> = Vec::new(alloc);
     for field in fields {
-        match names.push(field.name.as_str()) {
-            Ok(()) => {}
-            Err(_) => return Err(Memory),
-        }
+        names.push(field.name.as_str())?;
         for alias in &field.aliases {
-            match names.push(alias.as_str()) {
-                Ok(()) => {}
-                Err(_) => return Err(Memory),
-            }
+            names.push(alias.as_str())?;
         }
     }
     Ok(names)
@@ -97,10 +88,7 @@ fn names_of_types(alloc: Global, nodes: &[Node]) -> Result<Vec<&FullName>, Memor
     let mut names: Vec<&FullName> = Vec::new(alloc);
     for node in nodes {
         match name_of(node) {
-            Some(name) => match names.push(name) {
-                Ok(()) => {}
-                Err(_) => return Err(Memory),
-            },
+            Some(name) => names.push(name)?,
             None => {}
         }
     }

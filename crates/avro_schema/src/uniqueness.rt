@@ -14,10 +14,7 @@ pub(crate) fn are_unique<T: Ord + Drop>(items: Vec<T>) -> Result<bool, Memory>
     ensures { IfOk result (λ answer. answer ≡ are_distinct (eq_by_cmp T.cmp) items.items) }
 {
     let mut sorted = items;
-    match sorted.sort() {
-        Ok(()) => {}
-        Err(_) => return Err(Memory),
-    }
+    sorted.sort()?;
     Ok(rise(&sorted))
 }
 

@@ -1,14 +1,13 @@
 -- What follows from the definitions: a tree declares one schema at most, and none exactly where a fault is there.
-use Rattle.std.proofs.Common.{◌≡◌, ℕ, suc, Bool, true, false, not, ◌&&◌, ◌||◌, List, [], ◌∷◌, ◌++◌, Option, Some, None, refl, subst, length, Ordering, arith}
-use Rattle.std.specs.Prelude.{option_map, option_and_then, bytes_eq, nat_lt, nat_le, filter_map, flat_map, if◌then◌else◌, Contains}
-use Rattle.std.specs.List.{list_all}
+use Rattle.std.proofs.Common.{◌≡◌, ℕ, Bool, true, false, not, ◌&&◌, List, [], ◌∷◌, Option, Some, None, refl, subst, ap, map, Ordering, arith}
+use Rattle.std.specs.Prelude.{option_map, option_and_then, if◌then◌else◌, Contains}
 use Rattle.std.specs.Ordering.{nat_cmp, match_ordering}
 use Rattle.std.specs.Cmp.Lexicographic.{slice_cmp}
 use Rattle.std.proofs.lemmas.Bool.{and_parts}
-use Rattle.avro_name.specs.Name.{is_simple_name, same_name}
-use Rattle.avro_schema.specs.Node.{Node, node_name, edges_of}
-use Rattle.avro_schema.specs.Distinct.{are_distinct}
-use Rattle.avro_schema.specs.WellFormed.{max_nodes, max_count, is_edge, is_union, is_enum, field_names, has_good_default, has_good_names, meets_its_rules, is_good_node, are_good_nodes, is_schema}
+use Rattle.avro_schema.specs.Node.{Node}
+use Rattle.avro_schema.specs.WellFormed.{is_schema}
+use Rattle.avro_schema.specs.Faulty.{NodeFault, faults_of_nodes}
+use Rattle.avro_schema.proofs.public.NodeFaults.{is_schema-from_no_faults, no_faults-from_is_schema}
 use Rattle.serde_json.specs.Data.{Data, Members, no_members, member}
 use Rattle.serde_json.specs.Find.{get_member}
 use Rattle.serde_json.specs.Written.{has_float}
@@ -17,7 +16,8 @@ use Rattle.avro_schema_json.specs.DeclaredAttributes.{unless}
 use Rattle.avro_schema_json.specs.Declares.{made_of, meaning_of, meaning_under, fields_from, fields_under}
 use Rattle.avro_schema_json.specs.DeclaredDefaults.{default_of, default_under}
 use Rattle.avro_schema_json.specs.DeclaredSchema.{declared, whole_nodes, are_all_defaults_read, is_empty, DeclaresSchema}
-use Rattle.avro_schema_json.specs.DeclaredFaults.{faults_of, faults_of_nodes, faults_of_kind, node_faults, enum_faults, or_else, HasFault}
+use Rattle.avro_schema_json.specs.DeclaredFaults.{faults_of, refusals_of_nodes, or_else, HasFault}
+use Rattle.avro_schema_json.specs.Refusals.{refusal_of_fault}
 
 -- ---- look-ups
 
@@ -51,145 +51,16 @@ default_under-found nodes key (member k d ms) =
 
 -- ---- faults of nodes
 
-append-parts : {A : Type 0} (xs ys : List A) → xs ++ ys ≡ [] → (xs ≡ []) × (ys ≡ [])
-append-parts [] ys h = (refl, h)
-append-parts (x ∷ xs) ys h = cc
+-- nodes are a schema exactly where nothing is refused of them
+none_named : (faults : List NodeFault) → map refusal_of_fault faults ≡ [] → faults ≡ []
+none_named [] h = refl
+none_named (fault ∷ faults) h = cc
 
--- one rule is kept where it gives no fault
-unless-kept : (b : Bool) (e : SchemaError) → unless b e ≡ [] → b ≡ true
-unless-kept true e h = refl
-unless-kept false e h = cc
+pub is_schema-from_no_refusals : (nodes : List Node) → refusals_of_nodes nodes ≡ [] → is_schema nodes ≡ true
+is_schema-from_no_refusals nodes h = is_schema-from_no_faults nodes (none_named (faults_of_nodes nodes) h)
 
-unless-clean : (b : Bool) (e : SchemaError) → b ≡ true → unless b e ≡ []
-unless-clean b e h = rw h refl
-
--- the rules of an enum, with x for all of them and y for its default alone
-enum_rules-kept : (a b c d x : Bool)
-    → unless a SchemaError.InvalidSymbols ++ unless b SchemaError.LimitExceeded ++ unless c SchemaError.InvalidName
-    ++ unless d SchemaError.InvalidSymbols ++ unless (x || not (a && b && c && d && true)) SchemaError.InvalidSymbols ≡ []
-    → x ≡ true
-enum_rules-kept true true true true true h = refl
-enum_rules-kept true true true true false h = cc
-enum_rules-kept true true true false x h = cc
-enum_rules-kept true true false d x h = cc
-enum_rules-kept true false c d x h = cc
-enum_rules-kept false b c d x h = cc
-
-enum_rules-clean : (a b c d y : Bool) → (a && b && c && d && y) ≡ true
-    → unless a SchemaError.InvalidSymbols ++ unless b SchemaError.LimitExceeded ++ unless c SchemaError.InvalidName
-    ++ unless d SchemaError.InvalidSymbols ++ unless ((a && b && c && d && y) || not (a && b && c && d && true)) SchemaError.InvalidSymbols ≡ []
-enum_rules-clean true true true true true h = refl
-enum_rules-clean true true true true false h = cc
-enum_rules-clean true true true false y h = cc
-enum_rules-clean true true false d y h = cc
-enum_rules-clean true false c d y h = cc
-enum_rules-clean false b c d y h = cc
-
-enum-kept : (symbols : List (List ℕ)) (default : Option ℕ) → enum_faults symbols default ≡ [] → is_enum symbols default ≡ true
-enum-kept symbols default h =
-    enum_rules-kept (nat_lt 0 (length symbols)) (nat_le (length symbols) max_count) (list_all is_simple_name symbols)
-    (are_distinct bytes_eq symbols) (is_enum symbols default) h
-
-enum-clean : (symbols : List (List ℕ)) (default : Option ℕ) → is_enum symbols default ≡ true → enum_faults symbols default ≡ []
-enum-clean symbols None h =
-    enum_rules-clean (nat_lt 0 (length symbols)) (nat_le (length symbols) max_count) (list_all is_simple_name symbols)
-    (are_distinct bytes_eq symbols) true h
-enum-clean symbols (Some place) h =
-    enum_rules-clean (nat_lt 0 (length symbols)) (nat_le (length symbols) max_count) (list_all is_simple_name symbols)
-    (are_distinct bytes_eq symbols) (nat_lt place (length symbols)) h
-
--- the rules of fields
-field_rules-kept : (a b c : Bool)
-    → unless a SchemaError.InvalidName ++ unless b SchemaError.DuplicateField ++ unless c SchemaError.InvalidDefault ≡ []
-    → (a && b && c) ≡ true
-field_rules-kept true true true h = refl
-field_rules-kept true true false h = cc
-field_rules-kept true false c h = cc
-field_rules-kept false b c h = cc
-
-field_rules-clean : (a b c : Bool) → (a && b && c) ≡ true
-    → unless a SchemaError.InvalidName ++ unless b SchemaError.DuplicateField ++ unless c SchemaError.InvalidDefault ≡ []
-field_rules-clean true true true h = refl
-field_rules-clean true true false h = cc
-field_rules-clean true false c h = cc
-field_rules-clean false b c h = cc
-
--- the rules of each kind
-kind-kept : (nodes : List Node) (n : Node) → faults_of_kind nodes n ≡ [] → meets_its_rules nodes n ≡ true
-kind-kept nodes (Node.union places) h = unless-kept (is_union nodes places) SchemaError.InvalidUnion h
-kind-kept nodes (Node.record_of name aliases fields) h =
-    field_rules-kept (list_all is_simple_name (flat_map field_names fields)) (are_distinct bytes_eq (flat_map field_names fields))
-    (list_all (has_good_default nodes) fields) h
-kind-kept nodes (Node.enum name aliases symbols default) h = enum-kept symbols default h
-kind-kept nodes (Node.fixed name aliases count) h = unless-kept (nat_le count max_count) SchemaError.LimitExceeded h
-kind-kept nodes _ h = refl
-
-kind-clean : (nodes : List Node) (n : Node) → meets_its_rules nodes n ≡ true → faults_of_kind nodes n ≡ []
-kind-clean nodes (Node.union places) h = unless-clean (is_union nodes places) SchemaError.InvalidUnion h
-kind-clean nodes (Node.record_of name aliases fields) h =
-    field_rules-clean (list_all is_simple_name (flat_map field_names fields)) (are_distinct bytes_eq (flat_map field_names fields))
-    (list_all (has_good_default nodes) fields) h
-kind-clean nodes (Node.enum name aliases symbols default) h = enum-clean symbols default h
-kind-clean nodes (Node.fixed name aliases count) h = unless-clean (nat_le count max_count) SchemaError.LimitExceeded h
-kind-clean nodes _ h = refl
-
--- a node, with xs for the faults of its kind and ys for those of the nodes after it
-node_rules-kept : (a b : Bool) (xs ys : List SchemaError)
-    → unless a SchemaError.UnknownName ++ unless b SchemaError.InvalidName ++ xs ++ ys ≡ [] → (a ≡ true) × (b ≡ true) × (xs ≡ []) × (ys ≡ [])
-node_rules-kept true true xs ys h = let parts = append-parts xs ys h in (refl, refl, parts.0, parts.1)
-node_rules-kept true false xs ys h = cc
-node_rules-kept false b xs ys h = cc
-
-node_rules-clean : (a b : Bool) (xs ys : List SchemaError) → a ≡ true → b ≡ true → xs ≡ [] → ys ≡ []
-    → unless a SchemaError.UnknownName ++ unless b SchemaError.InvalidName ++ xs ++ ys ≡ []
-node_rules-clean a b xs ys ha hb hx hy = rw (ha, hb, hx, hy) refl
-
-nodes-kept : (nodes : List Node) (place : ℕ) (ns : List Node) → node_faults nodes place ns ≡ [] → are_good_nodes nodes place ns ≡ true
-nodes-kept nodes place [] h = refl
-nodes-kept nodes place (n ∷ ns) h =
-    let parts = node_rules-kept (list_all (is_edge nodes place) (edges_of n)) (has_good_names n) (faults_of_kind nodes n) (node_faults nodes (suc place) ns) h in
-    rw (parts.0, parts.1, kind-kept nodes n parts.2, nodes-kept nodes (suc place) ns parts.3) refl
-
-nodes-clean : (nodes : List Node) (place : ℕ) (ns : List Node) → are_good_nodes nodes place ns ≡ true → node_faults nodes place ns ≡ []
-nodes-clean nodes place [] h = refl
-nodes-clean nodes place (n ∷ ns) h =
-    let edges = list_all (is_edge nodes place) (edges_of n) in
-    let all = and_parts (is_good_node nodes place n) (are_good_nodes nodes (suc place) ns) h in
-    let three = and_parts (edges && has_good_names n) (meets_its_rules nodes n) all.0 in
-    let two = and_parts edges (has_good_names n) three.0 in
-    node_rules-clean edges (has_good_names n) (faults_of_kind nodes n) (node_faults nodes (suc place) ns)
-    two.0 two.1 (kind-clean nodes n three.1) (nodes-clean nodes (suc place) ns all.1)
-
--- all the nodes, with xs for their own faults
-schema_rules-kept : (a b c : Bool) (xs : List SchemaError)
-    → unless a SchemaError.LimitExceeded ++ unless b SchemaError.LimitExceeded ++ xs ++ unless c SchemaError.DuplicateName ≡ []
-    → (a ≡ true) × (b ≡ true) × (xs ≡ []) × (c ≡ true)
-schema_rules-kept true true c xs h =
-    let parts = append-parts xs (unless c SchemaError.DuplicateName) h in (refl, refl, parts.0, unless-kept c SchemaError.DuplicateName parts.1)
-schema_rules-kept true false c xs h = cc
-schema_rules-kept false b c xs h = cc
-
-schema_rules-clean : (a b c : Bool) (xs : List SchemaError) → a ≡ true → b ≡ true → xs ≡ [] → c ≡ true
-    → unless a SchemaError.LimitExceeded ++ unless b SchemaError.LimitExceeded ++ xs ++ unless c SchemaError.DuplicateName ≡ []
-schema_rules-clean a b c xs ha hb hx hc = rw (ha, hb, hx, hc) refl
-
--- nodes are a schema exactly where they have no fault
-pub is_schema-from_no_faults : (nodes : List Node) → faults_of_nodes nodes ≡ [] → is_schema nodes ≡ true
-is_schema-from_no_faults nodes h =
-    let parts = schema_rules-kept (nat_lt 0 (length nodes)) (nat_le (length nodes) max_nodes)
-    (are_distinct same_name (filter_map node_name nodes)) (node_faults nodes 0 nodes) h in
-    rw (parts.0, parts.1, nodes-kept nodes 0 nodes parts.2, parts.3) refl
-
-pub no_faults-from_is_schema : (nodes : List Node) → is_schema nodes ≡ true → faults_of_nodes nodes ≡ []
-no_faults-from_is_schema nodes h =
-    let some = nat_lt 0 (length nodes) in
-    let few = nat_le (length nodes) max_nodes in
-    let good = are_good_nodes nodes 0 nodes in
-    let distinct = are_distinct same_name (filter_map node_name nodes) in
-    let all = and_parts (some && few && good) distinct h in
-    let three = and_parts (some && few) good all.0 in
-    let two = and_parts some few three.0 in
-    schema_rules-clean some few distinct (node_faults nodes 0 nodes) two.0 two.1 (nodes-clean nodes 0 nodes three.1) all.1
+pub no_refusals-from_is_schema : (nodes : List Node) → is_schema nodes ≡ true → refusals_of_nodes nodes ≡ []
+no_refusals-from_is_schema nodes h = ap (map refusal_of_fault) (no_faults-from_is_schema nodes h)
 
 -- ---- faults of trees
 
@@ -242,13 +113,13 @@ pub declared-from_no_faults : (tree : Data) → faults_of tree ≡ [] → Declar
 declared-from_no_faults tree h =
     let raws = (made_of tree).nodes in
     rw (stages-clean (has_float tree) (is_schema (whole_nodes raws)) (are_all_defaults_read raws) (made_of tree).faults
-    (faults_of_nodes (whole_nodes raws)) (is_schema-from_no_faults (whole_nodes raws)) h) refl
+    (refusals_of_nodes (whole_nodes raws)) (is_schema-from_no_refusals (whole_nodes raws)) h) refl
 
 pub none_declared-from_faults : (tree : Data) (e : SchemaError) (es : List SchemaError) → faults_of tree ≡ e ∷ es → declared tree ≡ None
 none_declared-from_faults tree e es h =
     let raws = (made_of tree).nodes in
     rw (stages-faulty (has_float tree) (is_schema (whole_nodes raws)) (are_all_defaults_read raws) (made_of tree).faults
-    (faults_of_nodes (whole_nodes raws)) e es (no_faults-from_is_schema (whole_nodes raws)) h) refl
+    (refusals_of_nodes (whole_nodes raws)) e es (no_refusals-from_is_schema (whole_nodes raws)) h) refl
 
 no_element : {A : Type 0} (x : A) → Contains [] x → ⊥
 no_element x c = omega (arith, c.1)
@@ -292,13 +163,13 @@ fault-from_declarations tree fault whole c =
 
 -- a fault of nodes
 pub fault-from_nodes : (tree : Data) (fault : SchemaError) → has_float tree ≡ false → (made_of tree).faults ≡ []
-    → Contains (faults_of_nodes (whole_nodes (made_of tree).nodes)) fault → HasFault tree fault
+    → Contains (refusals_of_nodes (whole_nodes (made_of tree).nodes)) fault → HasFault tree fault
 fault-from_nodes tree fault whole clean c =
-    rw (whole, clean) (or_else-first (faults_of_nodes (whole_nodes (made_of tree).nodes)) _ fault c)
+    rw (whole, clean) (or_else-first (refusals_of_nodes (whole_nodes (made_of tree).nodes)) _ fault c)
 
 -- a default that is no datum
 pub fault-from_defaults : (tree : Data) → has_float tree ≡ false → (made_of tree).faults ≡ []
     → is_schema (whole_nodes (made_of tree).nodes) ≡ true → are_all_defaults_read (made_of tree).nodes ≡ false
     → HasFault tree SchemaError.InvalidDefault
 fault-from_defaults tree whole clean formed unread =
-    rw (whole, clean, no_faults-from_is_schema (whole_nodes (made_of tree).nodes) formed, unread) (0, omega arith, refl)
+    rw (whole, clean, no_refusals-from_is_schema (whole_nodes (made_of tree).nodes) formed, unread) (0, omega arith, refl)

@@ -5,7 +5,6 @@ pub mod DeclarationLaws
 pub mod RawSeen
 pub mod DefaultsSeen
 pub mod WholeSeen
-pub mod FaultsThere
 pub mod DefaultSteps
 pub mod NamesSeen
 pub mod SymbolsFound

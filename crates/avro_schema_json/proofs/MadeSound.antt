@@ -1,22 +1,19 @@
--- What is true of all that a tree makes: the default of an enum is the place of a symbol, and no fault says that the
--- text is no JSON.
+-- No fault of what a tree makes says that the text is no JSON.
 use Rattle.std.proofs.Common.{◌≡◌, ℕ, zero, suc, ◌+◌, ◌<◌, Bool, true, false, not, List, [], ◌∷◌, ◌++◌, Option, Some, None, Result, Ok, Err, length, refl, ap, arith, nat_lt, nat_le, subst, Ordering}
-use Rattle.std.specs.Prelude.{Contains, slice_index_or, codes, bytes_eq, is_some, option_map, option_and_then, ok_or, if◌then◌else◌}
+use Rattle.std.specs.Prelude.{Contains, slice_index_or, codes, is_some, option_and_then, ok_or, if◌then◌else◌}
 use Rattle.std.specs.List.{list_all}
 use Rattle.std.specs.Ordering.{nat_cmp, match_ordering}
 use Rattle.std.specs.Cmp.Lexicographic.{slice_cmp}
 use Rattle.std.proofs.lemmas.Bool.{and_parts}
-use Rattle.std.proofs.lemmas.Bool.Decides.{nat_tests}
 use Rattle.std.proofs.lemmas.List.Folds.{list_all-append}
 use Rattle.avro_name.specs.Name.{Name, is_namespace, has_dot, name_of}
 use Rattle.avro_schema.specs.Node.{Node}
-use Rattle.avro_schema.specs.WellFormed.{max_nodes, max_count, is_default}
+use Rattle.avro_schema.specs.WellFormed.{max_nodes, max_count}
 use Rattle.serde_json.specs.Data.{Data, Items, no_items, item, Members, no_members, member}
 use Rattle.serde_json.specs.Find.{get_member, as_str, as_number, as_u64}
 use Rattle.avro_schema_json.specs.declared.error.SchemaError.{SchemaError}
-use Rattle.avro_schema_json.specs.DeclaredAttributes.{Attribute, unless, needed, text_in, as_texts, namespace_from, name_from, name_in, alias_texts_from, alias_texts_in, aliases_in, symbol_place, default_symbol_from, symbols_in, size_in}
+use Rattle.avro_schema_json.specs.DeclaredAttributes.{unless, needed, text_in, as_texts, namespace_from, name_from, name_in, alias_texts_from, alias_texts_in, aliases_in, symbol_place, default_symbol_from, symbols_in, size_in}
 use Rattle.avro_schema_json.specs.Declares.{RawField, RawNode, Known, Made, Meaning, faulty, joined, in_turn, above, alone, use_of, place_of, reference, Word, null_word, boolean_word, int_word, long_word, bytes_word, string_word, unsupported_word, type_name, word_of, type_of_word, union_of, container_of, defining, name_faults, record_named, enum_named, fixed_named, definition_of, Form, record_form, enum_form, fixed_form, array_form, map_form, error_form, word_form, no_form, form_of, type_of_form, field_of, no_field, meaning_of, branches_of, meaning_under, fields_under, fields_from, field_meanings, field_meaning, made_of}
-use Rattle.avro_schema_json.specs.Placed.{is_placed, is_raw_placed, are_placed}
 
 -- a fault that a tree can have
 abbrev is_of_tree : SchemaError → Bool
@@ -86,40 +83,20 @@ aliases-of_tree namespace ms =
     (alias_texts-of_tree (get_member (codes "aliases") ms))
     (unless-of_tree (list_all (λ text. is_some (name_of text namespace)) (alias_texts_in ms).value) SchemaError.InvalidName refl)
 
-place-placed : (word : List ℕ) (symbols : List (List ℕ)) → is_default symbols (symbol_place word symbols) ≡ true
-place-placed word [] = refl
-place-placed word (symbol ∷ symbols) = by_test (bytes_eq word symbol) (symbol_place word symbols) (place-placed word symbols)
+default-of_tree : (symbols : List (List ℕ)) (d : Option Data) → are_of_tree (default_symbol_from symbols d).faults ≡ true
+default-of_tree symbols None = refl
+default-of_tree symbols (Some d) = by_text (as_str d) refl
   where
-    by_test : (b : Bool) (o : Option ℕ) → is_default symbols o ≡ true → is_default (symbol ∷ symbols) (if b then Some 0 else option_map suc o) ≡ true
-    by_test true o h = grind (arith, nat_tests)
-    by_test false None h = refl
-    by_test false (Some k) h = grind (arith, nat_tests)
+    by_text : (text : Option (List ℕ)) → as_str d ≡ text → are_of_tree (default_symbol_from symbols (Some d)).faults ≡ true
+    by_text None h = rw h refl
+    by_text (Some word) h = rw h (unless-of_tree (is_some (symbol_place word symbols)) SchemaError.InvalidSymbols refl)
 
-record IsGoodDefault (symbols : List (List ℕ)) (default : Attribute (Option ℕ)) : Type 0 where
-  placed : is_default symbols default.value ≡ true
-  clean : are_of_tree default.faults ≡ true
-
-default-good : (symbols : List (List ℕ)) (d : Option Data) → IsGoodDefault symbols (default_symbol_from symbols d)
-default-good symbols None = record { placed = refl; clean = refl }
-default-good symbols (Some d) = by_text (as_str d) refl
+symbols-of_tree : (ms : Members) → are_of_tree (symbols_in ms).faults ≡ true
+symbols-of_tree ms = by_texts (option_and_then as_texts (get_member (codes "symbols") ms)) refl
   where
-    by_text : (text : Option (List ℕ)) → as_str d ≡ text → IsGoodDefault symbols (default_symbol_from symbols (Some d))
-    by_text None h = rw h (record { placed = refl; clean = refl })
-    by_text (Some word) h =
-        rw h (record { placed = place-placed word symbols; clean = unless-of_tree (is_some (symbol_place word symbols)) SchemaError.InvalidSymbols refl })
-
-record AreGoodSymbols (symbols : Attribute (List (List ℕ) × Option ℕ)) : Type 0 where
-  placed : is_default symbols.value.0 symbols.value.1 ≡ true
-  clean : are_of_tree symbols.faults ≡ true
-
-symbols-good : (ms : Members) → AreGoodSymbols (symbols_in ms)
-symbols-good ms = by_texts (option_and_then as_texts (get_member (codes "symbols") ms)) refl
-  where
-    by_texts : (texts : Option (List (List ℕ))) → option_and_then as_texts (get_member (codes "symbols") ms) ≡ texts → AreGoodSymbols (symbols_in ms)
-    by_texts None h = rw h (record { placed = refl; clean = refl })
-    by_texts (Some symbols) h =
-        let good = default-good symbols (get_member (codes "default") ms) in
-        rw h (record { placed = good.placed; clean = good.clean })
+    by_texts : (texts : Option (List (List ℕ))) → option_and_then as_texts (get_member (codes "symbols") ms) ≡ texts → are_of_tree (symbols_in ms).faults ≡ true
+    by_texts None h = rw h refl
+    by_texts (Some symbols) h = rw h (default-of_tree symbols (get_member (codes "default") ms))
 
 size-of_tree : (ms : Members) → are_of_tree (size_in ms).faults ≡ true
 size-of_tree ms = by_size (option_and_then as_u64 (option_and_then as_number (get_member (codes "size") ms))) refl
@@ -131,7 +108,6 @@ size-of_tree ms = by_size (option_and_then as_u64 (option_and_then as_number (ge
 -- ---- parts
 
 record IsSound {A : Type 0} (made : Made A) : Type 0 where
-  placed : are_placed made.nodes ≡ true
   clean : are_of_tree made.faults ≡ true
 
 record IsSoundMeaning {A : Type 0} (meaning : Meaning A) : Type 0 where
@@ -150,75 +126,72 @@ IfAllSound None = Unit {0}
 IfAllSound (Some meanings) = AreSound meanings
 
 faulty-sound : {A : Type 0} (x : A) (fault : SchemaError) → is_of_tree fault ≡ true → IsSoundMeaning (faulty x fault)
-faulty-sound x fault h = record { at = λ enclosing known next. record { placed = refl; clean = rw h refl } }
+faulty-sound x fault h = record { at = λ enclosing known next. record { clean = rw h refl } }
 
 joined-sound : {A : Type 0} (first : Made A) (rest : Made (List A)) → IsSound first → IsSound rest → IsSound (joined first rest)
 joined-sound first rest f r = record {
-  placed = both is_raw_placed first.nodes rest.nodes f.placed r.placed;
   clean = both is_of_tree first.faults rest.faults f.clean r.clean;
 }
 
 in_turn-sound : {A : Type 0} (meanings : List (Meaning A)) → AreSound meanings → (enclosing : List ℕ) (known : Known) (next : ℕ)
     → IsSound (in_turn meanings enclosing known next)
-in_turn-sound [] s enclosing known next = record { placed = refl; clean = refl }
+in_turn-sound [] s enclosing known next = record { clean = refl }
 in_turn-sound (meaning ∷ meanings) s enclosing known next =
     let first = meaning enclosing known next in
     joined-sound first (in_turn meanings enclosing first.known (next + length first.nodes)) (s.0.at enclosing known next)
     (in_turn-sound meanings s.1 enclosing first.known (next + length first.nodes))
 
-above-sound : {A : Type 0} (next : ℕ) (node : A → RawNode) (faults : List SchemaError) (parts : Made A) → is_raw_placed (node parts.result) ≡ true
-    → are_of_tree faults ≡ true → IsSound parts → IsSound (above next node faults parts)
-above-sound next node faults parts placed clean s =
-    let below = s.placed in record {
-      placed = rw (placed, below) refl;
-      clean = both is_of_tree (unless (nat_lt next max_nodes) SchemaError.LimitExceeded ++ faults) parts.faults
-          (both is_of_tree (unless (nat_lt next max_nodes) SchemaError.LimitExceeded) faults (unless-of_tree (nat_lt next max_nodes) SchemaError.LimitExceeded refl) clean)
-          s.clean;
-    }
+above-sound : {A : Type 0} (next : ℕ) (node : A → RawNode) (faults : List SchemaError) (parts : Made A) → are_of_tree faults ≡ true → IsSound parts
+    → IsSound (above next node faults parts)
+above-sound next node faults parts clean s = record {
+  clean = both is_of_tree (unless (nat_lt next max_nodes) SchemaError.LimitExceeded ++ faults) parts.faults
+      (both is_of_tree (unless (nat_lt next max_nodes) SchemaError.LimitExceeded) faults (unless-of_tree (nat_lt next max_nodes) SchemaError.LimitExceeded refl) clean)
+      s.clean;
+}
 
 alone-sound : (known : Known) → IsSound (alone known)
-alone-sound known = record { placed = refl; clean = refl }
+alone-sound known = record { clean = refl }
 
-use-sound : (n : Node) → is_placed n ≡ true → IsSoundMeaning (use_of n)
-use-sound n h = record { at = λ enclosing known next. above-sound next (λ none. RawNode.plain n) [] (alone known) h refl (alone-sound known) }
+use-sound : (n : Node) → IsSoundMeaning (use_of n)
+use-sound n = record { at = λ enclosing known next. above-sound next (λ none. RawNode.plain n) [] (alone known) refl (alone-sound known) }
 
 reference-sound : (word : List ℕ) → IsSoundMeaning (reference word)
 reference-sound word = record { at = λ enclosing known next. by_name enclosing known next (name_of word enclosing) refl }
   where
     by_place : (enclosing : List ℕ) (known : Known) (next : ℕ) (name : Name) (place : Option ℕ) → name_of word enclosing ≡ Some name → place_of name known ≡ place
         → IsSound (reference word enclosing known next)
-    by_place enclosing known next name None h k = rw (h, k) (record { placed = refl; clean = refl })
-    by_place enclosing known next name (Some place) h k = rw (h, k) (record { placed = refl; clean = refl })
+    by_place enclosing known next name None h k = rw (h, k) (record { clean = refl })
+    by_place enclosing known next name (Some place) h k = rw (h, k) (record { clean = refl })
 
     by_name : (enclosing : List ℕ) (known : Known) (next : ℕ) (name : Option Name) → name_of word enclosing ≡ name → IsSound (reference word enclosing known next)
-    by_name enclosing known next None h = rw h (record { placed = refl; clean = refl })
+    by_name enclosing known next None h = rw h (record { clean = refl })
     by_name enclosing known next (Some name) h = by_place enclosing known next name (place_of name known) h refl
 
 word-sound : (word : List ℕ) → IsSoundMeaning (type_of_word word)
 word-sound word = by_word (word_of word) refl
   where
     by_word : (w : Word) → word_of word ≡ w → IsSoundMeaning (type_of_word word)
-    by_word null_word h = rw h (use-sound Node.null refl)
-    by_word boolean_word h = rw h (use-sound Node.boolean refl)
-    by_word int_word h = rw h (use-sound Node.int refl)
-    by_word long_word h = rw h (use-sound Node.long refl)
-    by_word bytes_word h = rw h (use-sound Node.bytes refl)
-    by_word string_word h = rw h (use-sound Node.string refl)
+    by_word null_word h = rw h (use-sound Node.null)
+    by_word boolean_word h = rw h (use-sound Node.boolean)
+    by_word int_word h = rw h (use-sound Node.int)
+    by_word long_word h = rw h (use-sound Node.long)
+    by_word bytes_word h = rw h (use-sound Node.bytes)
+    by_word string_word h = rw h (use-sound Node.string)
     by_word unsupported_word h = rw h (faulty-sound 0 SchemaError.UnsupportedType refl)
     by_word type_name h = rw h (reference-sound word)
 
 union-sound : (branches : List (Meaning ℕ)) → AreSound branches → IsSoundMeaning (union_of branches)
 union-sound branches s = record {
   at = λ enclosing known next.
-      above-sound next (λ places. RawNode.plain (Node.union places)) [] (in_turn branches enclosing known (suc next)) refl refl
+      above-sound next (λ places. RawNode.plain (Node.union places)) [] (in_turn branches enclosing known (suc next)) refl
       (in_turn-sound branches s enclosing known (suc next));
 }
 
-container-sound : (node : ℕ → Node) (part : Option (Meaning ℕ)) → ((place : ℕ) → is_placed (node place) ≡ true) → IfSound part → IsSoundMeaning (container_of node part)
-container-sound node None placed s = faulty-sound 0 SchemaError.InvalidDeclaration refl
-container-sound node (Some part) placed s = record {
+container-sound : (node : ℕ → Node) (part : Option (Meaning ℕ)) → IfSound part → IsSoundMeaning (container_of node part)
+container-sound node None s = faulty-sound 0 SchemaError.InvalidDeclaration refl
+container-sound node (Some part) s = record {
   at = λ enclosing known next.
-      above-sound next (λ place. RawNode.plain (node place)) [] (part enclosing known (suc next)) (placed (part enclosing known (suc next)).result) refl
+      above-sound next (λ place. RawNode.plain (node place)) [] (part enclosing known (suc next)) refl
       (s.at enclosing known (suc next));
 }
 
@@ -231,28 +204,27 @@ record-sound : (ms : Members) (fields : Option (List (Meaning RawField))) → If
     → IsSound (record_named ms fields known next name)
 record-sound ms None s known next name =
     above-sound next (RawNode.record_of name (aliases_in name.namespace ms).value) (name_faults name known ++ (aliases_in name.namespace ms).faults)
-    (faulty [] SchemaError.InvalidDeclaration name.namespace (defining name next known) (suc next)) refl
+    (faulty [] SchemaError.InvalidDeclaration name.namespace (defining name next known) (suc next))
     (both is_of_tree (name_faults name known) (aliases_in name.namespace ms).faults (name_faults-of_tree name known) (aliases-of_tree name.namespace ms))
-    (record { placed = refl; clean = refl })
+    (record { clean = refl })
 record-sound ms (Some fields) s known next name =
     above-sound next (RawNode.record_of name (aliases_in name.namespace ms).value) (name_faults name known ++ (aliases_in name.namespace ms).faults)
-    (in_turn fields name.namespace (defining name next known) (suc next)) refl
+    (in_turn fields name.namespace (defining name next known) (suc next))
     (both is_of_tree (name_faults name known) (aliases_in name.namespace ms).faults (name_faults-of_tree name known) (aliases-of_tree name.namespace ms))
     (in_turn-sound fields s name.namespace (defining name next known) (suc next))
 
 enum-sound : (ms : Members) (known : Known) (next : ℕ) (name : Name) → IsSound (enum_named ms known next name)
 enum-sound ms known next name =
-    let good = symbols-good ms in
     above-sound next (λ none. RawNode.plain (Node.enum name (aliases_in name.namespace ms).value (symbols_in ms).value.0 (symbols_in ms).value.1))
-    (name_faults name known ++ (aliases_in name.namespace ms).faults ++ (symbols_in ms).faults) (alone (defining name next known)) good.placed
+    (name_faults name known ++ (aliases_in name.namespace ms).faults ++ (symbols_in ms).faults) (alone (defining name next known))
     (both is_of_tree (name_faults name known ++ (aliases_in name.namespace ms).faults) (symbols_in ms).faults
     (both is_of_tree (name_faults name known) (aliases_in name.namespace ms).faults (name_faults-of_tree name known) (aliases-of_tree name.namespace ms))
-    good.clean) (alone-sound (defining name next known))
+    (symbols-of_tree ms)) (alone-sound (defining name next known))
 
 fixed-sound : (ms : Members) (known : Known) (next : ℕ) (name : Name) → IsSound (fixed_named ms known next name)
 fixed-sound ms known next name =
     above-sound next (λ none. RawNode.plain (Node.fixed name (aliases_in name.namespace ms).value (size_in ms).value))
-    (name_faults name known ++ (aliases_in name.namespace ms).faults ++ (size_in ms).faults) (alone (defining name next known)) refl
+    (name_faults name known ++ (aliases_in name.namespace ms).faults ++ (size_in ms).faults) (alone (defining name next known))
     (both is_of_tree (name_faults name known ++ (aliases_in name.namespace ms).faults) (size_in ms).faults
     (both is_of_tree (name_faults name known) (aliases_in name.namespace ms).faults (name_faults-of_tree name known) (aliases-of_tree name.namespace ms))
     (size-of_tree ms)) (alone-sound (defining name next known))
@@ -266,7 +238,7 @@ definition-sound ms named s = record {
   where
     by_name : (enclosing : List ℕ) (known : Known) (next : ℕ) (r : Result Name SchemaError) → name_in enclosing ms ≡ r
         → is_of_tree_or_ok (name_in enclosing ms) ≡ true → IsSound (definition_of ms named enclosing known next)
-    by_name enclosing known next (Err e) h k = let m = rw h at k in rw h (record { placed = refl; clean = rw m refl })
+    by_name enclosing known next (Err e) h k = let m = rw h at k in rw h (record { clean = rw m refl })
     by_name enclosing known next (Ok name) h k = rw h (s known next name)
 
 form-sound : (ms : Members) (items values : Option (Meaning ℕ)) (fields : Option (List (Meaning RawField))) (form : Form) → IfSound items → IfSound values
@@ -274,8 +246,8 @@ form-sound : (ms : Members) (items values : Option (Meaning ℕ)) (fields : Opti
 form-sound ms items values fields record_form i v f = definition-sound ms (record_named ms fields) (record-sound ms fields f)
 form-sound ms items values fields enum_form i v f = definition-sound ms (enum_named ms) (enum-sound ms)
 form-sound ms items values fields fixed_form i v f = definition-sound ms (fixed_named ms) (fixed-sound ms)
-form-sound ms items values fields array_form i v f = container-sound Node.array items (λ place. refl) i
-form-sound ms items values fields map_form i v f = container-sound Node.map_of values (λ place. refl) v
+form-sound ms items values fields array_form i v f = container-sound Node.array items i
+form-sound ms items values fields map_form i v f = container-sound Node.map_of values v
 form-sound ms items values fields error_form i v f = faulty-sound 0 SchemaError.UnsupportedType refl
 form-sound ms items values fields (word_form word) i v f = word-sound word
 form-sound ms items values fields no_form i v f = faulty-sound 0 SchemaError.InvalidDeclaration refl
@@ -283,7 +255,6 @@ form-sound ms items values fields no_form i v f = faulty-sound 0 SchemaError.Inv
 typed-sound : (ms : Members) (type : Option (Meaning ℕ)) → IfSound type → IsSoundMeaning (field_of ms type)
 typed-sound ms None s = record {
   at = λ enclosing known next. record {
-    placed = refl;
     clean = both is_of_tree ((needed [] (text_in (codes "name") ms)).faults ++ (alias_texts_in ms).faults) (SchemaError.InvalidDeclaration ∷ [])
         (both is_of_tree (needed [] (text_in (codes "name") ms)).faults (alias_texts_in ms).faults (needed-of_tree [] (text_in (codes "name") ms))
         (alias_texts-of_tree (get_member (codes "aliases") ms))) refl;
@@ -291,7 +262,6 @@ typed-sound ms None s = record {
 }
 typed-sound ms (Some meaning) s = record {
   at = λ enclosing known next. record {
-    placed = (s.at enclosing known next).placed;
     clean = both is_of_tree ((needed [] (text_in (codes "name") ms)).faults ++ (alias_texts_in ms).faults) (meaning enclosing known next).faults
         (both is_of_tree (needed [] (text_in (codes "name") ms)).faults (alias_texts_in ms).faults (needed-of_tree [] (text_in (codes "name") ms))
         (alias_texts-of_tree (get_member (codes "aliases") ms))) (s.at enclosing known next).clean;
@@ -357,9 +327,6 @@ mutual
   field_meaning-sound (Data.string word) = no_field-sound
   field_meaning-sound (Data.array ds) = no_field-sound
   field_meaning-sound (Data.object ms) = typed-sound ms (meaning_under (codes "type") ms) (under-sound (codes "type") ms)
-
-pub made_placed : (tree : Data) → are_placed (made_of tree).nodes ≡ true
-made_placed tree = ((meaning-sound tree).at [] [] 0).placed
 
 contained_at : (xs : List SchemaError) (k : ℕ) (e : SchemaError) → are_of_tree xs ≡ true → k < length xs → slice_index_or xs k e ≡ e → is_of_tree e ≡ true
 contained_at [] k e h below at = absurd (omega arith)

@@ -8,7 +8,7 @@ use Rattle.serde_json.specs.Written.{has_float}
 use Rattle.avro_schema_json.specs.declared.error.SchemaError.{SchemaError}
 use Rattle.avro_schema_json.specs.Declares.{RawNode, made_of}
 use Rattle.avro_schema_json.specs.DeclaredAttributes.{unless}
-use Rattle.avro_schema_json.specs.DeclaredFaults.{faults_of_nodes, or_else, HasFault}
+use Rattle.avro_schema_json.specs.DeclaredFaults.{refusals_of_nodes, or_else, HasFault}
 use Rattle.avro_schema_json.specs.DeclaredSchema.{whole_nodes, are_all_defaults_read, DeclaresSchema}
 
 -- the nodes of a tree without a fault are what it declares
@@ -23,7 +23,7 @@ declared-found tree raws nodes whole clean same formed good is =
 
 -- a fault of the nodes, or of the defaults, is one of the tree
 pub fault-found : (tree : Data) (raws : List RawNode) (e : SchemaError) → false ≡ has_float tree → (made_of tree).faults ≡ [] → raws ≡ (made_of tree).nodes
-    → Contains (or_else (faults_of_nodes (whole_nodes raws)) (unless (are_all_defaults_read raws) SchemaError.InvalidDefault)) e → HasFault tree e
+    → Contains (or_else (refusals_of_nodes (whole_nodes raws)) (unless (are_all_defaults_read raws) SchemaError.InvalidDefault)) e → HasFault tree e
 fault-found tree raws e whole clean same c =
     let float : has_float tree ≡ false = sym whole in
     let there = rw same at c in

@@ -9,13 +9,13 @@ use Rattle.std.proofs.lemmas.Bool.Decides.{Decides-eqb}
 use Rattle.std.proofs.lemmas.Slice.Eq.{bytes_eq-Decides}
 use Rattle.std.proofs.lemmas.List.{length-map}
 use Rattle.avro_schema.specs.Distinct.{are_distinct}
-use Rattle.avro_schema.specs.Faulty.{has_invalid_union, SomeIsBroken}
-use Rattle.avro_schema.specs.Node.{Node, node_at, branches_of}
+use Rattle.avro_schema.specs.Faulty.{invalid_union, breaks, IsThere}
+use Rattle.avro_schema.specs.Node.{Node, node_at, node_name, branches_of}
 use Rattle.avro_schema.specs.Seen.{places_of}
 use Rattle.avro_schema.specs.declared.schema.NodeId.{NodeId}
 use Rattle.avro_schema.specs.SeenKind.{kind_at, has_kind}
-use Rattle.avro_schema.specs.WellFormed.{is_union, BranchKind, unnamed, named, branch_kind, same_kind}
-use Rattle.avro_schema.specs.declared.fault.DraftError.{DraftError}
+use Rattle.avro_schema.specs.WellFormed.{is_edge, is_union, BranchKind, unnamed, named, branch_kind, same_kind}
+use Rattle.avro_schema.proofs.public.NodeFaults.{broken-there}
 use Rattle.avro_schema_json.specs.Declares.{RawNode}
 use Rattle.avro_schema_json.specs.DeclaredSchema.{bare_node, whole_node}
 use Rattle.avro_schema_json.specs.OwnDefaults.{bare_of, bares_of}
@@ -112,20 +112,39 @@ whole_branches nodes (RawNode.record_of name aliases fields ∷ raws) zero = ref
 whole_branches nodes (RawNode.plain n ∷ raws) (suc m) = whole_branches nodes raws m
 whole_branches nodes (RawNode.record_of name aliases fields ∷ raws) (suc m) = whole_branches nodes raws m
 
-no_union : (nodes : List Node) (n : Node) (places : List ℕ) → branches_of n ≡ Some places → is_union nodes places ≡ false → has_invalid_union nodes n ≡ true
-no_union nodes (Node.union found) places is h =
-    let same : found ≡ places = cc in
-    rw (same, h) refl
-no_union nodes _ places is h = absurd cc
+whole_name : (nodes : List Node) (raws : List RawNode) (m : ℕ) → node_name (node_at (map (whole_node nodes) raws) m) ≡ node_name (node_at (map bare_node raws) m)
+whole_name nodes [] m = refl
+whole_name nodes (RawNode.plain n ∷ raws) zero = refl
+whole_name nodes (RawNode.record_of name aliases fields ∷ raws) zero = refl
+whole_name nodes (RawNode.plain n ∷ raws) (suc m) = whole_name nodes raws m
+whole_name nodes (RawNode.record_of name aliases fields ∷ raws) (suc m) = whole_name nodes raws m
 
-pub repeated-broken : (nodes : List Node) (raws : List RawNode) → SomeRepeats (map bare_node raws) → SomeIsBroken DraftError.InvalidUnion (map (whole_node nodes) raws)
-repeated-broken nodes raws some =
-    let r = some.4 in
+whole_edge : (nodes : List Node) (raws : List RawNode) (m p : ℕ) → is_edge (map (whole_node nodes) raws) m p ≡ is_edge (map bare_node raws) m p
+whole_edge nodes raws m p =
+    let count : length (map (whole_node nodes) raws) ≡ length (map bare_node raws) = simp length-map in
+    rw (count, whole_name nodes raws p) refl
+
+whole_edges : (nodes : List Node) (raws : List RawNode) (m : ℕ) (places : List ℕ)
+    → list_all (is_edge (map (whole_node nodes) raws) m) places ≡ list_all (is_edge (map bare_node raws) m) places
+whole_edges nodes raws m [] = refl
+whole_edges nodes raws m (p ∷ places) = rw (whole_edge nodes raws m p, whole_edges nodes raws m places) refl
+
+no_union : (nodes : List Node) (place : ℕ) (n : Node) (places : List ℕ) → branches_of n ≡ Some places → list_all (is_edge nodes place) places ≡ true
+    → is_union nodes places ≡ false → breaks invalid_union nodes place n ≡ true
+no_union nodes place (Node.union found) places is edges h =
+    let same : found ≡ places = cc in
+    rw (same, edges, h) refl
+no_union nodes place _ places is edges h = absurd cc
+
+pub repeated-there : (nodes : List Node) (raws : List RawNode) → SomeRepeats (map bare_node raws) → IsThere invalid_union (map (whole_node nodes) raws)
+repeated-there nodes raws some =
+    let r = some.5 in
     let whole = map (whole_node nodes) raws in
     let code : (p : ℕ) → code_by whole p ≡ code_by (map bare_node raws) p = λ p. ap (kind_code p) (whole_kind nodes raws p) in
     let count : length whole ≡ length (map bare_node raws) = simp length-map in
     let broken = repeated_branch whole some.1 (r.0, r.1, r.2, r.3, r.4, r.5, r.6, code r.2 ∙ r.7 ∙ sym (code r.3)) in
-    (some.0, rw count some.2, no_union whole (node_at whole some.0) some.1 (whole_branches nodes raws some.0 ∙ some.3) broken)
+    broken-there invalid_union whole some.0 (rw count some.2)
+    (no_union whole some.0 (node_at whole some.0) some.1 (whole_branches nodes raws some.0 ∙ some.3) (whole_edges nodes raws some.0 some.1 ∙ some.4) broken)
 
 -- ---- as they are looked for
 
@@ -164,7 +183,8 @@ as_many [] = refl
 as_many (x ∷ raws) = ap suc (as_many raws)
 
 pub some-repeats : (raws : List KeptNode) (i : ℕ) (raw : KeptNode) (places : List ℕ) → i < length raws → raw ≡ get_or raws i raw
-    → Some places ≡ branches_of (bare_of raw) → Repeats (bares_of raws) places → SomeRepeats (bares_of raws)
-some-repeats raws i raw places below at are repeats =
+    → Some places ≡ branches_of (bare_of raw) → list_all (is_edge (bares_of raws) i) places ≡ true → Repeats (bares_of raws) places
+    → SomeRepeats (bares_of raws)
+some-repeats raws i raw places below at are edges repeats =
     let here : node_at (bares_of raws) i ≡ bare_of raw = node_here raws i raw below ∙ ap bare_of (sym at) in
-    (i, places, omega (arith, as_many raws, below), ap branches_of here ∙ sym are, repeats)
+    (i, places, omega (arith, as_many raws, below), ap branches_of here ∙ sym are, edges, repeats)

@@ -11,7 +11,6 @@ pub mod KnownSeen
 pub mod Misfits
 pub mod NameRefusal
 pub mod OwnDefaults
-pub mod Placed
 pub mod PlainTree
 pub mod Reading
 pub mod ReadingSeen

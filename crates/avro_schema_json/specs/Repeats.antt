@@ -1,7 +1,8 @@
 -- Unions in which a branch stands twice.
-use Rattle.std.specs.Prelude.{◌≡◌, ℕ, ◌+◌, ◌*◌, ◌<◌, List, length, Option, Some, None, slice_get}
+use Rattle.std.specs.Prelude.{◌≡◌, ℕ, ◌+◌, ◌*◌, ◌<◌, true, List, length, Option, Some, None, slice_get}
+use Rattle.std.specs.List.{list_all}
 use Rattle.avro_schema.specs.Node.{Node, node_at, branches_of}
-use Rattle.avro_schema.specs.WellFormed.{BranchKind, unnamed, named, branch_kind}
+use Rattle.avro_schema.specs.WellFormed.{BranchKind, unnamed, named, branch_kind, is_edge}
 
 -- an even number for each kind without a name, an odd one for each other node
 abbrev pub kind_code : ℕ → Option BranchKind → ℕ
@@ -16,5 +17,8 @@ code_by nodes place = kind_code place (branch_kind (node_at nodes place))
 abbrev pub Repeats : List Node → List ℕ → Type 0
 Repeats nodes places = (i : ℕ) × (j : ℕ) × (x : ℕ) × (y : ℕ) × (j < i) × (slice_get places i ≡ Some x) × (slice_get places j ≡ Some y) × (code_by nodes x ≡ code_by nodes y)
 
+-- the same in a union whose edges are good
 abbrev pub SomeRepeats : List Node → Type 0
-SomeRepeats nodes = (m : ℕ) × (places : List ℕ) × (m < length nodes) × (branches_of (node_at nodes m) ≡ Some places) × Repeats nodes places
+SomeRepeats nodes =
+    (m : ℕ) × (places : List ℕ) × (m < length nodes) × (branches_of (node_at nodes m) ≡ Some places)
+    × (list_all (is_edge nodes m) places ≡ true) × Repeats nodes places

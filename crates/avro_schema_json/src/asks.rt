@@ -30,14 +30,9 @@ impl Asked {
         if self.known.contains(&place.0) {
             return Ok(());
         }
-        match self.known.insert(place.0) {
-            Ok(_) => {}
-            Err(_) => return Err(Memory),
-        }
-        match self.places.push(place) {
-            Ok(()) => Ok(()),
-            Err(_) => Err(Memory),
-        }
+        self.known.insert(place.0)?;
+        self.places.push(place)?;
+        Ok(())
     }
 
     /// Asks of more nodes.
@@ -187,10 +182,7 @@ fn asked_of_each<'a>(
     for (key, _) in members.iter() {
         let mut of_member = Asked::new(alloc);
         of_member.add_all(values)?;
-        match asked.insert(key.as_str(), of_member) {
-            Ok(_) => {}
-            Err(_) => return Err(Memory),
-        }
+        asked.insert(key.as_str(), of_member)?;
     }
     Ok(asked)
 }

@@ -1,21 +1,22 @@
 //! Defaults of fields.
 
 ghost use Rattle.std.specs.Prelude.{◌≡◌, true, length, Some, option_map, IfOk};
-ghost use Rattle.avro_schema.specs.Node.{Node as SeenNode, node_at, branches_of as branches_in};
+ghost use Rattle.avro_schema.specs.Node.{node_at};
 ghost use Rattle.avro_schema.specs.Seen.{value_of, values_of, entries_of, node_of, places_of};
 ghost use Rattle.avro_schema.specs.Value.{Value as SeenValue};
-ghost use Rattle.avro_schema_json.specs.DeclaredDefaults.{default_of as default_by, each_default, entries_default as each_entry, default_under, fields_default as each_field, object_default as default_of_object, items_default as default_of_items, member_keys, names_only, first_fit};
+ghost use Rattle.avro_schema_json.specs.DeclaredDefaults.{default_of as default_by, each_default, entries_default as each_entry, default_under, fields_default as each_field, object_default as default_of_object, items_default as default_of_items, member_keys, first_fit};
 ghost use Rattle.avro_schema_json.specs.Misfits.{AreMisfits};
 ghost use Rattle.avro_schema_json.specs.OwnDefaults.{own_default as own_default_by, default_of_fields, bare_of, bares_of, fields_seen};
 ghost use Rattle.serde_json.specs.View.{view, items_view, members_view};
 
-use crate::fields::Fields;
+use crate::fields::{Fields, names_fields};
 use crate::misfit::has;
 use crate::misfits::skipped_branches;
 use crate::plain_defaults::{
     boolean_default, enum_default, null_default, number_default, text_default,
 };
 use crate::raw::RawNode;
+use crate::raw_nodes::{branches, raw_at};
 use crate::texts::copy_of_text;
 use avro_schema::{Datum, Memory, Node, NodeId};
 use serde_json::{Map, Value};
@@ -86,42 +87,13 @@ fn default_at(
     own_default(alloc, raws, tree, node)
 }
 
-/// The node at a place, or the given node, that of null, where there is none.
-pub(crate) fn raw_at<'a>(
-    raws: &'a [RawNode<'a>],
-    null: &'a RawNode<'a>,
-    place: NodeId,
-) -> &'a RawNode<'a>
-    requires { bare_of null.now ≡ SeenNode.null }
-    ensures { bare_of result.now ≡ node_at (bares_of raws.now) place.0 }
-{
-    raws.get(place.0 as usize).unwrap_or(null)
-}
-
-/// The branches of a union.
-pub(crate) fn branches<'a>(node: &'a RawNode<'_>) -> Option<&'a [NodeId]>
-    ensures { option_map (λ ids. places_of ids.now) result ≡ branches_in (bare_of node.now) }
-{
-    match node {
-        RawNode::Plain(node) => match node {
-            Node::Union(places) => Some(places),
-            _ => None,
-        },
-        RawNode::Enum(_) => None,
-        RawNode::Record(_) => None,
-    }
-}
-
 /// A datum as one of a union, of this branch. A branch past the range of numbers would be past any
 /// memory.
 fn in_branch(alloc: Global, branch: usize, datum: Datum) -> Result<Option<Datum>, Memory>
     ensures { IfOk result (λ whole. option_map value_of whole ≡ Some (SeenValue.union branch (value_of datum))) }
 {
     match u32::try_from(branch) {
-        Ok(branch) => match Box::new(alloc, datum) {
-            Ok(boxed) => Ok(Some(Datum::Union(branch, boxed))),
-            Err(_) => Err(Memory),
-        },
+        Ok(branch) => Ok(Some(Datum::Union(branch, Box::new(alloc, datum)?))),
         Err(_) => Err(Memory),
     }
 }
@@ -204,10 +176,7 @@ fn item_defaults(
         let Some(value) = default_of(alloc, raws, item, place)? else {
             return Ok(None);
         };
-        match values.push(value) {
-            Ok(()) => {}
-            Err(_) => return Err(Memory),
-        }
+        values.push(value)?;
     }
     Ok(Some(values))
 }
@@ -252,10 +221,7 @@ fn entry_defaults(
         let Some(value) = default_of(alloc, raws, tree, place)? else {
             return Ok(None);
         };
-        match entries.push((copy_of_text(alloc, key.as_str())?, value)) {
-            Ok(()) => {}
-            Err(_) => return Err(Memory),
-        }
+        entries.push((copy_of_text(alloc, key.as_str())?, value))?;
     }
     Ok(Some(entries))
 }
@@ -281,23 +247,6 @@ fn record_default(
     }
 }
 
-/// Whether each key is the name of a field.
-pub(crate) fn names_fields(
-    alloc: Global,
-    members: &Map<String, Value>,
-    fields: Fields<'_>,
-) -> Result<bool, Memory>
-    ensures { IfOk result (λ answer. answer ≡ names_only (member_keys (members_view members.now.entries)) (fields_seen fields.entry)) }
-{
-    let names = fields.names(alloc)?;
-    for (key, _) in members.iter() {
-        if !names.contains_key(key.as_str()) {
-            return Ok(false);
-        }
-    }
-    Ok(true)
-}
-
 /// The default of each field, by the member of its name.
 #[cycle(defaults)]
 fn field_defaults(
@@ -320,10 +269,7 @@ fn field_defaults(
         let Some(value) = default_of(alloc, raws, tree, place)? else {
             return Ok(None);
         };
-        match values.push(value) {
-            Ok(()) => {}
-            Err(_) => return Err(Memory),
-        }
+        values.push(value)?;
     }
     Ok(Some(values))
 }

@@ -1,7 +1,11 @@
-ghost use Rattle.std.specs.Prelude.{◌≡◌, ℕ, List, string_bytes, slice_get, option_map};
+ghost use Rattle.std.specs.Prelude.{◌≡◌, ℕ, List, string_bytes, slice_get, option_map, IfOk};
+ghost use Rattle.avro_schema_json.specs.DeclaredDefaults.{member_keys, names_only};
+ghost use Rattle.avro_schema_json.specs.OwnDefaults.{fields_seen};
+ghost use Rattle.serde_json.specs.View.{members_view};
 
 use crate::raw::RawField;
 use avro_schema::{Field, Memory, NodeId};
+use serde_json::{Map, Value};
 use std::alloc::Global;
 use std::collections::BTreeMap;
 
@@ -47,10 +51,9 @@ impl<'a> Fields<'a> {
         let mut names: BTreeMap<&'a str, ()> = BTreeMap::new(alloc);
         for i in 0..self.len() {
             match self.get(i) {
-                Some((name, _)) => match names.insert(name, ()) {
-                    Ok(_) => {}
-                    Err(_) => return Err(Memory),
-                },
+                Some((name, _)) => {
+                    names.insert(name, ())?;
+                }
                 None => {}
             }
         }
@@ -68,4 +71,21 @@ fn raw_get<'a>(fields: &'a [RawField<'a>], place: usize) -> Option<(&'a str, Nod
         Some(field) => Some((field.name.as_str(), field.node)),
         None => None,
     }
+}
+
+/// Whether each key is the name of a field.
+pub(crate) fn names_fields(
+    alloc: Global,
+    members: &Map<String, Value>,
+    fields: Fields<'_>,
+) -> Result<bool, Memory>
+    ensures { IfOk result (λ answer. answer ≡ names_only (member_keys (members_view members.now.entries)) (fields_seen fields.entry)) }
+{
+    let names = fields.names(alloc)?;
+    for (key, _) in members.iter() {
+        if !names.contains_key(key.as_str()) {
+            return Ok(false);
+        }
+    }
+    Ok(true)
 }

@@ -18,6 +18,7 @@ mod name_table;
 mod plain_defaults;
 mod progress;
 mod raw;
+mod raw_nodes;
 mod read;
 mod reader_text;
 mod repeats;

@@ -11,12 +11,12 @@ ghost use Rattle.avro_schema_json.specs.DeclaredDefaults.{each_default, entries_
 ghost use Rattle.serde_json.specs.Data.{Data, Items, Members};
 ghost use Rattle.serde_json.specs.View.{view, members_view};
 
-use crate::defaults::{branches, names_fields, raw_at};
-use crate::fields::Fields;
+use crate::fields::{Fields, names_fields};
 use crate::plain_defaults::{
     boolean_default, enum_default, null_default, number_default, text_default,
 };
 use crate::raw::RawNode;
+use crate::raw_nodes::{branches, raw_at};
 use avro_schema::{Memory, Node, NodeId};
 use serde_json::{Map, Value};
 use std::alloc::Global;

@@ -72,10 +72,7 @@ fn item_misfits(
     let mut parts: Vec<BTreeSet<u32>> = Vec::new(alloc);
     for item in items {
         let part = misfits_of(alloc, raws, item, &asked)?;
-        match parts.push(part) {
-            Ok(()) => {}
-            Err(_) => return Err(Memory),
-        }
+        parts.push(part)?;
     }
     Ok(parts)
 }
@@ -98,10 +95,7 @@ fn member_misfits<'a>(
             Some(of_member) => match members.get(key) {
                 Some(tree) => {
                     let part = misfits_of(alloc, raws, tree, &of_member.places)?;
-                    match parts.insert(key, part) {
-                        Ok(_) => {}
-                        Err(_) => return Err(Memory),
-                    }
+                    parts.insert(key, part)?;
                 }
                 None => {}
             },
@@ -115,10 +109,8 @@ fn member_misfits<'a>(
 fn add(places: &mut BTreeSet<u32>, place: NodeId) -> Result<(), Memory>
     ensures { OnOk result ((m : ℕ) → has_place places.new m ≡ true → (has_place places.old m ≡ true) ⊎ (m ≡ place.0)) }
 {
-    match places.insert(place.0) {
-        Ok(_) => Ok(()),
-        Err(_) => Err(Memory),
-    }
+    places.insert(place.0)?;
+    Ok(())
 }
 
 /// The nodes that JSON without parts is no default of.

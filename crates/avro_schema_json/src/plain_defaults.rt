@@ -125,10 +125,7 @@ fn bytes_of_text(alloc: Global, text: &str) -> Result<Option<Vec<u8>>, Memory>
 fn characters(alloc: Global, text: &str) -> Result<Vec<char>, Memory>
     ensures { IfOk result (λ characters. characters.items ≡ chars text.now) }
 {
-    match text.chars().collect(alloc) {
-        Ok(characters) => Ok(characters),
-        Err(_) => Err(Memory),
-    }
+    Ok(text.chars().collect(alloc)?)
 }
 
 /// The codes of characters, where each is that of a byte.
@@ -141,10 +138,7 @@ fn bytes_of_characters(alloc: Global, characters: &[char]) -> Result<Option<Vec<
         if code >= 256 {
             return Ok(None);
         }
-        match bytes.push(code as u8) {
-            Ok(()) => {}
-            Err(_) => return Err(Memory),
-        }
+        bytes.push(code as u8)?;
     }
     Ok(Some(bytes))
 }

@@ -9,8 +9,8 @@ ghost use Rattle.avro_schema.specs.WellFormed.{branch_kind};
 ghost use Rattle.avro_schema_json.specs.OwnDefaults.{bares_of};
 ghost use Rattle.avro_schema_json.specs.Repeats.{kind_code, code_by, Repeats, SomeRepeats};
 
-use crate::defaults::{branches, raw_at};
 use crate::raw::RawNode;
+use crate::raw_nodes::{are_edges, branches, raw_at};
 use avro_schema::{Memory, Node, NodeId};
 use std::alloc::Global;
 use std::collections::BTreeSet;
@@ -51,10 +51,8 @@ fn code_of_plain(node: &Node, branch: NodeId) -> u64
 fn add(codes: &mut BTreeSet<u64>, code: u64) -> Result<(), Memory>
     ensures { OnOk result ((m : ℕ) → contains nat_cmp codes.new m ≡ true → (contains nat_cmp codes.old m ≡ true) ⊎ (m ≡ code)) }
 {
-    match codes.insert(code) {
-        Ok(_) => Ok(()),
-        Err(_) => Err(Memory),
-    }
+    codes.insert(code)?;
+    Ok(())
 }
 
 /// Whether two branches have one code.
@@ -72,14 +70,14 @@ fn repeats_branch(alloc: Global, raws: &[RawNode], branches: &[NodeId]) -> Resul
     Ok(false)
 }
 
-/// Whether a branch stands twice in one of the unions.
+/// Whether a branch stands twice in one of the unions whose edges are good.
 pub(crate) fn has_repeated_branch(alloc: Global, raws: &[RawNode]) -> Result<bool, Memory>
     ensures { IfOk result (λ answer. answer ≡ true → SomeRepeats (bares_of raws.now)) }
 {
-    for raw in raws {
-        match branches(raw) {
+    for i in 0..raws.len() {
+        match branches(&raws[i]) {
             Some(branches) => {
-                if repeats_branch(alloc, raws, branches)? {
+                if are_edges(raws, i, branches) && repeats_branch(alloc, raws, branches)? {
                     return Ok(true);
                 }
             }

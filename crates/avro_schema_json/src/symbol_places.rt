@@ -27,10 +27,7 @@ pub(crate) fn symbol_places(
             return Err(Memory);
         };
         let symbol = copy_of_text(alloc, symbols[left].as_str())?;
-        match places.insert(symbol, place) {
-            Ok(_) => {}
-            Err(_) => return Err(Memory),
-        }
+        places.insert(symbol, place)?;
     }
     Ok(places)
 }

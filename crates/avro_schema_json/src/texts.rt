@@ -7,8 +7,5 @@ use std::alloc::Global;
 pub(crate) fn copy_of_text(alloc: Global, text: &str) -> Result<String, Memory>
     ensures { IfOk result (λ copy. string_bytes copy ≡ text.now) }
 {
-    match String::from_str(alloc, text) {
-        Ok(copy) => Ok(copy),
-        Err(_) => Err(Memory),
-    }
+    Ok(String::from_str(alloc, text)?)
 }

@@ -8,10 +8,9 @@ ghost use Rattle.avro_schema.specs.SeenSchema.{schema_nodes, draft_nodes};
 ghost use Rattle.avro_schema.specs.WellFormed.{is_schema};
 ghost use Rattle.avro_schema.specs.declared.fault.DraftError.TheVariants.{LimitExceeded as DraftLimit, OutOfMemory as DraftMemory};
 ghost use Rattle.avro_schema_json.specs.DeclaredAttributes.{unless};
-ghost use Rattle.avro_schema_json.specs.DeclaredFaults.{faults_of_nodes, or_else};
+ghost use Rattle.avro_schema_json.specs.DeclaredFaults.{refusals_of_nodes, or_else};
 ghost use Rattle.avro_schema_json.specs.DeclaredSchema.{field_default, is_default_read, are_defaults_read, are_all_defaults_read, whole_nodes};
 ghost use Rattle.avro_schema_json.specs.OwnDefaults.{bares_of};
-ghost use Rattle.avro_schema_json.specs.Placed.{are_placed};
 ghost use Rattle.avro_schema_json.specs.SeenDefaults.{data_seen, lists_seen, defaults_of_node as node_defaults_by, first_or, others_of, filled_fields, filled_node, filled_nodes};
 ghost use Rattle.avro_schema_json.specs.SeenRaw.{raw_field_of, raw_fields_of, raw_node_of, raw_nodes_of};
 ghost use Rattle.avro_schema_json.specs.declared.error.SchemaError.TheVariants.{InvalidDefault, NotJson, OutOfMemory};
@@ -66,10 +65,7 @@ fn defaults_of_fields(
     for field in fields {
         let default = default_of_field(alloc, raws, field)?;
         are_read = are_read && (default.is_some() || !field.default.is_some());
-        match of_fields.push(default) {
-            Ok(()) => {}
-            Err(_) => return Err(Memory),
-        }
+        of_fields.push(default)?;
     }
     Ok(NodeDefaults {
         of_fields,
@@ -108,10 +104,7 @@ fn defaults_of_nodes(alloc: Global, raws: &[RawNode]) -> Result<Defaults, Memory
             are_read: are_these_read,
         } = defaults_of_node(alloc, raws, raw)?;
         are_read = are_read && are_these_read;
-        match of_nodes.push(of_fields) {
-            Ok(()) => {}
-            Err(_) => return Err(Memory),
-        }
+        of_nodes.push(of_fields)?;
     }
     Ok(Defaults { of_nodes, are_read })
 }
@@ -150,15 +143,12 @@ fn whole_fields(
     let mut rest = defaults.into_iter();
     for field in fields {
         let default = next_default(&mut rest);
-        match whole.push(Field {
+        whole.push(Field {
             name: field.name,
             aliases: field.aliases,
             node: field.node,
             default,
-        }) {
-            Ok(()) => {}
-            Err(_) => return Err(Memory),
-        }
+        })?;
     }
     Ok(whole)
 }
@@ -211,12 +201,11 @@ fn drafted(
 /// The schema of nodes. A default that is no datum is left out at first, so that another fault of the
 /// nodes is answered before it.
 pub(crate) fn schema_of(alloc: Global, raws: Vec<RawNode<'_>>) -> Result<Schema, SchemaError>
-    requires { are_placed (raw_nodes_of raws.items) ≡ true }
     ensures found { IfOk result (λ schema. schema_nodes schema ≡ whole_nodes (raw_nodes_of raws.entry.items)) }
     ensures formed { OnOk result (is_schema (whole_nodes (raw_nodes_of raws.entry.items)) ≡ true) }
     ensures read { OnOk result (are_all_defaults_read (raw_nodes_of raws.entry.items) ≡ true) }
     ensures refused { IfErr result (λ e. (e ≡ OutOfMemory)
-        ⊎ Contains (or_else (faults_of_nodes (whole_nodes (raw_nodes_of raws.entry.items))) (unless (are_all_defaults_read (raw_nodes_of raws.entry.items)) InvalidDefault)) e) }
+        ⊎ Contains (or_else (refusals_of_nodes (whole_nodes (raw_nodes_of raws.entry.items))) (unless (are_all_defaults_read (raw_nodes_of raws.entry.items)) InvalidDefault)) e) }
     ensures json { IfErr result (λ e. e ≢ NotJson) }
 {
     if has_repeated_branch(alloc, &raws)? {

@@ -6,8 +6,8 @@ use Rattle.serde_json.specs.View.{view}
 use Rattle.avro_display.proofs.NoFloats.{shown}
 use Rattle.avro_display.proofs.display.show.Goals as goal
 
-pub returns-in-Ok : goal.returns-in-Ok
-returns-in-Ok c =
+pub returns : goal.returns
+returns c =
     let nodes = schema_nodes c.args.schema.now in
-    shown (string_bytes c.in-Ok.text) (view c.in_ok-tree.tree) nodes (node_of c.node.result.now) (node_at nodes c.args.node.0) (value_of c.args.datum.now)
-    c.in-Ok.ensures.text c.in_ok-tree.ensures c.node.ensures
+    shown (string_bytes c.in_ok-to_string.field-0) (view c.in_ok-tree.tree) nodes (node_of c.node.result.now) (node_at nodes c.args.node.0) (value_of c.args.datum.now)
+    c.in_ok-to_string.ensures.text c.in_ok-tree.ensures c.node.ensures

@@ -32,7 +32,7 @@ item_defaults-loop-item-preserved t c =
     let n = node_at nodes c.args.place.0 in
     let xs = c.deref-item-items.result.now in
     let read = ap (option_map value_of) (sym c.in-Some.is) ∙ c.in_ok-value.ensures in
-    rw c.in-Ok.ensures.items (item_next nodes n xs l.item-index c.item-item.result (each_default nodes (items_view xs) n) l.values.items c.in-Some.value
+    rw c.in_ok-push.ensures.items (item_next nodes n xs l.item-index c.item-item.result (each_default nodes (items_view xs) n) l.values.items c.in-Some.value
     c.loop-item-test.true c.item-item.is l.invariant read)
 
 pub item_defaults-returns : goal.item_defaults-returns
@@ -51,7 +51,7 @@ entry_defaults-loop-key-preserved t c =
     let n = node_at nodes c.args.place.0 in
     let read = ap (option_map value_of) (sym c.in-Some-2.is) ∙ c.in_ok-value.ensures in
     let same = c.in_ok-copy_of_text.ensures ∙ c.as_str.ensures.value in
-    rw c.in-Ok.ensures.items (entry_next nodes n l.key-iterator c.next.new.self c.in-Some.key.now c.in_ok-copy_of_text.field-0 c.in-Some.tree.now
+    rw c.in_ok-push.ensures.items (entry_next nodes n l.key-iterator c.next.new.self c.in-Some.key.now c.in_ok-copy_of_text.field-0 c.in-Some.tree.now
     (entries_default nodes (members_view c.args.members.now.entries) n) l.entries.items c.in-Some-2.value c.in-Some.ensures.steps same l.invariant read)
 
 pub entry_defaults-returns : goal.entry_defaults-returns
@@ -94,7 +94,7 @@ field_defaults-loop-i-preserved t c =
     let fields = fields_seen c.args.fields in
     let member = ap (option_map view) c.in-Some-get.ensures.value ∙ view-lookup c.in-Some.name.now es in
     let read = ap (option_map value_of) (sym c.in-Some-2.is) ∙ c.in_ok-value.ensures in
-    rw c.in-Ok.ensures.items (field_next nodes es fields l.i c.in-Some.name.now c.in-Some.place.0 (view c.in-Some-get.tree.now) (fields_left nodes es fields)
+    rw c.in_ok-push.ensures.items (field_next nodes es fields l.i c.in-Some.name.now c.in-Some.place.0 (view c.in-Some-get.tree.now) (fields_left nodes es fields)
     l.values.items c.in-Some-2.value c.in-Some.ensures member l.invariant read)
 
 pub field_defaults-returns : goal.field_defaults-returns

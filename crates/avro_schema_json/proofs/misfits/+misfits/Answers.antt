@@ -13,12 +13,12 @@ item_misfits-loop-item-preserved t c =
     let nodes = bares_of c.args.raws.now in
     let xs = c.deref-item-items.result.now in
     let part = c.in_ok-part.part in
-    rw c.in-Ok.ensures.items (items-push nodes (items_view xs) l.parts.items part l.invariant
+    rw c.in_ok-push.ensures.items (items-push nodes (items_view xs) l.parts.items part l.invariant
     (λ m there. item-misfit nodes xs l.item-index c.item-item.result (node_at nodes m) c.loop-item-test.true c.item-item.is
     (misfit-default nodes (view c.item-item.result) part m c.in_ok-part.ensures there)))
 
-pub member_misfits-loop-key-preserved-in-Ok : goal.member_misfits-loop-key-preserved-in-Ok
-member_misfits-loop-key-preserved-in-Ok t c =
+pub member_misfits-loop-key-preserved-in_ok-insert-in-Some-get-2 : goal.member_misfits-loop-key-preserved-in_ok-insert-in-Some-get-2
+member_misfits-loop-key-preserved-in_ok-insert-in-Some-get-2 t c =
     let nodes = bares_of c.args.raws.now in
     let es = c.args.members.now.entries in
     let key = c.as_str-key.result.now in
@@ -26,11 +26,11 @@ member_misfits-loop-key-preserved-in-Ok t c =
     let part = c.in_ok-part-in-Some-get-2.part in
     let there = sym (ap (option_map view) c.in-Some-get-2.ensures.value ∙ view-lookup key es) in
     members-put nodes (members_view es) c.loop-key.parts c.insert.new.self key part c.loop-key.invariant
-    (λ other. btree_map_updates_str key c.loop-key.parts c.insert.new.self _ c.in-Ok.ensures.updates other)
+    (λ other. btree_map_updates_str key c.loop-key.parts c.insert.new.self _ c.in_ok-insert-in-Some-get-2.ensures.updates other)
     (λ m is. (x, there, misfit-default nodes x part m c.in_ok-part-in-Some-get-2.ensures is))
 
-pub member_misfits-loop-key-preserved-in-Ok-2 : goal.member_misfits-loop-key-preserved-in-Ok-2
-member_misfits-loop-key-preserved-in-Ok-2 t c =
+pub member_misfits-loop-key-preserved-in_ok-insert-in-Some-get-2-2 : goal.member_misfits-loop-key-preserved-in_ok-insert-in-Some-get-2-2
+member_misfits-loop-key-preserved-in_ok-insert-in-Some-get-2-2 t c =
     let nodes = bares_of c.args.raws.now in
     let es = c.args.members.now.entries in
     let key = c.as_str-key.result.now in
@@ -38,5 +38,5 @@ member_misfits-loop-key-preserved-in-Ok-2 t c =
     let part = c.in_ok-part-in-Some-get-2.part in
     let there = sym (ap (option_map view) c.in-Some-get-2.ensures.value ∙ view-lookup key es) in
     members-put nodes (members_view es) c.loop-key.parts c.insert.new.self key part c.loop-key.invariant
-    (λ other. btree_map_updates_str key c.loop-key.parts c.insert.new.self _ c.in-Ok.ensures.updates other)
+    (λ other. btree_map_updates_str key c.loop-key.parts c.insert.new.self _ c.in_ok-insert-in-Some-get-2.ensures.updates other)
     (λ m is. (x, there, misfit-default nodes x part m c.in_ok-part-in-Some-get-2.ensures is))

@@ -2,5 +2,5 @@ use Rattle.std.proofs.Common.{rules}
 use Rattle.std.proofs.lemmas.Str.{chars_from_encodes}
 use Rattle.avro_schema_json.proofs.plain_defaults.characters.Goals as goal
 
-pub returns-in-Ok : goal.returns-in-Ok
-returns-in-Ok c = search (rules, chars_from_encodes)
+pub returns : goal.returns
+returns c = search (rules, chars_from_encodes)

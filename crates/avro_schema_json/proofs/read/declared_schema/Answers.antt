@@ -1,4 +1,4 @@
-use Rattle.std.proofs.Common.{◌≡◌, ◌⊎◌, inl, inr, true, false, List, [], Result, Ok, Err, ap, sym, ◌∙◌}
+use Rattle.std.proofs.Common.{◌≡◌, ◌⊎◌, inl, inr, true, false, List, [], Result, Ok, Err, sym, ◌∙◌}
 use Rattle.std.specs.Prelude.{Contains, IfOk, IfErr, OnOk}
 use Rattle.avro_schema.specs.SeenSchema.{schema_nodes}
 use Rattle.avro_schema.specs.WellFormed.{is_schema}
@@ -9,11 +9,10 @@ use Rattle.serde_json.specs.View.{view}
 use Rattle.avro_schema_json.specs.declared.error.SchemaError.{SchemaError}
 use Rattle.avro_schema_json.specs.Declares.{RawNode, made_of}
 use Rattle.avro_schema_json.specs.DeclaredAttributes.{unless}
-use Rattle.avro_schema_json.specs.DeclaredFaults.{faults_of_nodes, or_else, HasFault}
+use Rattle.avro_schema_json.specs.DeclaredFaults.{refusals_of_nodes, or_else, HasFault}
 use Rattle.avro_schema_json.specs.DeclaredSchema.{whole_nodes, are_all_defaults_read, DeclaresSchema}
-use Rattle.avro_schema_json.specs.Placed.{are_placed}
 use Rattle.avro_schema_json.specs.SeenRaw.{raw_nodes_of}
-use Rattle.avro_schema_json.proofs.MadeSound.{made_placed, made_fault}
+use Rattle.avro_schema_json.proofs.MadeSound.{made_fault}
 use Rattle.avro_schema_json.proofs.ReadSeen.{declared-found, fault-found}
 use Rattle.avro_schema_json.proofs.read.declared_schema.Goals as goal
 
@@ -25,7 +24,7 @@ schema_found tree raws (Err e) whole clean same nodes formed good = tt
 
 schema_refused : (tree : Data) (raws : List RawNode) (r : Result Schema SchemaError) → false ≡ has_float tree → (made_of tree).faults ≡ [] → raws ≡ (made_of tree).nodes
     → IfErr r (λ e. (e ≡ SchemaError.OutOfMemory)
-    ⊎ Contains (or_else (faults_of_nodes (whole_nodes raws)) (unless (are_all_defaults_read raws) SchemaError.InvalidDefault)) e)
+    ⊎ Contains (or_else (refusals_of_nodes (whole_nodes raws)) (unless (are_all_defaults_read raws) SchemaError.InvalidDefault)) e)
     → IfErr r (λ e. (e ≡ SchemaError.OutOfMemory) ⊎ HasFault tree e)
 schema_refused tree raws (Ok schema) whole clean same refused = tt
 schema_refused tree raws (Err e) whole clean same (inl memory) = inl memory
@@ -34,9 +33,6 @@ schema_refused tree raws (Err e) whole clean same (inr c) = inr (fault-found tre
 made_refused : (tree : Data) (e : SchemaError) → (e ≡ SchemaError.OutOfMemory) ⊎ Contains (made_of tree).faults e → e ≡ SchemaError.NotJson → ⊥
 made_refused tree e (inl memory) is = cc
 made_refused tree e (inr c) is = made_fault tree e c is
-
-pub schema_of-requires : goal.schema_of-requires
-schema_of-requires c = ap are_placed c.in-Ok.ensures.found.1 ∙ made_placed (view c.args.tree.now)
 
 pub returns-in-Ok-clause-found : goal.returns-in-Ok-clause-found
 returns-in-Ok-clause-found c =

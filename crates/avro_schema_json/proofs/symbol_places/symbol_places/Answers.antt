@@ -17,5 +17,5 @@ loop-left-preserved c =
           place_next symbols (l.left - 1) c.index-symbols-left.result key c.in-Ok.place word (get_by_text l.places word) (get_by_text c.insert.new.self word)
           (omega (arith, c.loop-left-test.true, l.invariant.0)) c.index-symbols-left.is (c.in_ok-symbol.ensures ∙ c.as_str.ensures.value) placed
           (l.invariant.1 word ∙ ap (place_from word symbols) one)
-          (btree_map_updates_text (string_bytes key) l.places c.insert.new.self _ c.in-Ok-insert.ensures.updates word),
+          (btree_map_updates_text (string_bytes key) l.places c.insert.new.self _ c.in_ok-insert.ensures.updates word),
     )

@@ -1,8 +1,8 @@
 use Rattle.std.proofs.Common.{◌≡◌, ◌<◌, ◌⊎◌, inl, inr, true, false, List, length, map, refl, sym, ap, subst, ◌∙◌}
-use Rattle.std.specs.Prelude.{Contains, Option}
+use Rattle.std.specs.Prelude.{Contains, Option, Some, None, IfSome, option_map, unwrap_or}
 use Rattle.std.proofs.lemmas.List.{length-map}
 use Rattle.avro_schema.specs.Node.{Node}
-use Rattle.avro_schema.specs.Faulty.{IsThere}
+use Rattle.avro_schema.specs.Faulty.{NodeFault, invalid_union, limit_exceeded, fault_of, IsThere, IsRefused}
 use Rattle.avro_schema.specs.SeenSchema.{draft_nodes}
 use Rattle.avro_schema.specs.WellFormed.{is_schema}
 use Rattle.avro_schema.specs.Value.{Value}
@@ -11,18 +11,16 @@ use Rattle.avro_schema_json.specs.declared.error.SchemaError.{SchemaError}
 use Rattle.avro_schema_json.specs.declared.raw.RawNode.{RawNode as KeptNode}
 use Rattle.avro_schema_json.specs.Declares.{RawNode}
 use Rattle.avro_schema_json.specs.DeclaredAttributes.{unless}
-use Rattle.avro_schema_json.specs.DeclaredFaults.{faults_of_nodes, or_else}
+use Rattle.avro_schema_json.specs.DeclaredFaults.{refusals_of_nodes, or_else}
 use Rattle.avro_schema_json.specs.DeclaredSchema.{bare_nodes, whole_nodes, are_all_defaults_read}
 use Rattle.avro_schema_json.specs.OwnDefaults.{bares_of}
-use Rattle.avro_schema_json.specs.Placed.{are_placed}
-use Rattle.avro_schema_json.specs.Refusals.{refusal_of}
+use Rattle.avro_schema_json.specs.Refusals.{refusal_of_fault, refusal_of}
 use Rattle.avro_schema_json.specs.SeenDefaults.{lists_seen, defaults_of_node, filled_nodes}
 use Rattle.avro_schema_json.specs.SeenRaw.{raw_nodes_of}
 use Rattle.avro_schema_json.specs.Repeats.{SomeRepeats}
-use Rattle.avro_schema_json.proofs.RepeatsSeen.{repeated-broken}
-use Rattle.avro_schema_json.proofs.FaultsThere.{there-contains, placed_whole}
-use Rattle.avro_schema_json.proofs.DeclarationLaws.{no_faults-from_is_schema}
-use Rattle.avro_schema_json.proofs.WholeSeen.{filled-whole, or_else-first, or_else-unread, too_many-contains}
+use Rattle.avro_schema_json.proofs.RepeatsSeen.{repeated-there}
+use Rattle.avro_schema_json.proofs.DeclarationLaws.{no_refusals-from_is_schema}
+use Rattle.avro_schema_json.proofs.WholeSeen.{filled-whole, or_else-first, or_else-unread, too_many-there, refusal-contains}
 use Rattle.avro_schema_json.proofs.whole.schema_of.Goals as goal
 
 -- what is drafted is the whole
@@ -33,32 +31,26 @@ whole_draft raws read lists drafted same listed is =
     let d = rw same at listed in
     is ∙ ap (filled_nodes (raw_nodes_of raws)) d ∙ filled-whole (bares_of raws) (raw_nodes_of raws)
 
-memory_or : (e : DraftError) → (e ≡ DraftError.OutOfMemory) ⊎ (e ≡ DraftError.OutOfMemory → ⊥)
-memory_or DraftError.UnknownNode = inr (λ h. cc)
-memory_or DraftError.DuplicateName = inr (λ h. cc)
-memory_or DraftError.InvalidName = inr (λ h. cc)
-memory_or DraftError.InvalidUnion = inr (λ h. cc)
-memory_or DraftError.InvalidSymbols = inr (λ h. cc)
-memory_or DraftError.DuplicateField = inr (λ h. cc)
-memory_or DraftError.InvalidDefault = inr (λ h. cc)
-memory_or DraftError.LimitExceeded = inr (λ h. cc)
-memory_or DraftError.OutOfMemory = inl refl
-
 -- the refusals of nodes
 abbrev faults_with : List RawNode → List SchemaError
-faults_with raws = or_else (faults_of_nodes (whole_nodes raws)) (unless (are_all_defaults_read raws) SchemaError.InvalidDefault)
+faults_with raws = or_else (refusals_of_nodes (whole_nodes raws)) (unless (are_all_defaults_read raws) SchemaError.InvalidDefault)
 
-of_draft : (raws : List RawNode) (nodes : List Node) (e : DraftError) (r : SchemaError) → nodes ≡ whole_nodes raws → are_placed raws ≡ true → IsThere e nodes
+of_fault : (raws : List RawNode) (fault : NodeFault) → IsThere fault (whole_nodes raws) → Contains (faults_with raws) (refusal_of_fault fault)
+of_fault raws fault there =
+    or_else-first (refusals_of_nodes (whole_nodes raws)) (unless (are_all_defaults_read raws) SchemaError.InvalidDefault) (refusal_of_fault fault)
+    (refusal-contains fault (whole_nodes raws) there)
+
+of_named : (raws : List RawNode) (fault : Option NodeFault) → IfSome fault (λ f. IsThere f (whole_nodes raws))
+    → (unwrap_or (option_map refusal_of_fault fault) SchemaError.OutOfMemory ≡ SchemaError.OutOfMemory)
+    ⊎ Contains (faults_with raws) (unwrap_or (option_map refusal_of_fault fault) SchemaError.OutOfMemory)
+of_named raws None there = inl refl
+of_named raws (Some fault) there = inr (of_fault raws fault there)
+
+of_draft : (raws : List RawNode) (nodes : List Node) (e : DraftError) (r : SchemaError) → nodes ≡ whole_nodes raws → IsRefused nodes e
     → r ≡ refusal_of e → (r ≡ SchemaError.OutOfMemory) ⊎ Contains (faults_with raws) r
-of_draft raws nodes e r whole placed there is =
-    elim (memory_or e) [
-      | inl memory ↦ inl (is ∙ ap refusal_of memory)
-      | inr other ↦
-          let good = placed_whole (bare_nodes raws) raws ∙ placed in
-          let found = there-contains e (whole_nodes raws) good (subst (λ (ns : List Node). IsThere e ns) whole there) other in
-          inr (subst (λ (x : SchemaError). Contains (faults_with raws) x) (sym is)
-          (or_else-first (faults_of_nodes (whole_nodes raws)) (unless (are_all_defaults_read raws) SchemaError.InvalidDefault) (refusal_of e) found))
-    ]
+of_draft raws nodes e r whole refused is =
+    subst (λ (x : SchemaError). (x ≡ SchemaError.OutOfMemory) ⊎ Contains (faults_with raws) x) (sym is)
+    (of_named raws (fault_of e) (subst (λ (ns : List Node). IsRefused ns e) whole refused))
 
 -- the refusals of a draft that is too long
 of_length : (raws : List KeptNode) (e : DraftError) (r : SchemaError) → (e ≡ DraftError.OutOfMemory) ⊎ ((e ≡ DraftError.LimitExceeded) × (4096 < length raws))
@@ -67,25 +59,16 @@ of_length raws e r (inl memory) is = inl (is ∙ ap refusal_of memory)
 of_length raws e r (inr limit) is =
     let nodes = whole_nodes (raw_nodes_of raws) in
     let count : length nodes ≡ length raws = simp length-map in
-    let found = too_many-contains nodes (rw count limit.1) in
     let same : r ≡ SchemaError.LimitExceeded = is ∙ ap refusal_of limit.0 in
     inr (subst (λ (x : SchemaError). Contains (faults_with (raw_nodes_of raws)) x) (sym same)
-    (or_else-first (faults_of_nodes nodes) (unless (are_all_defaults_read (raw_nodes_of raws)) SchemaError.InvalidDefault) SchemaError.LimitExceeded found))
-
--- a branch that stands twice
-of_repeat : (raws : List RawNode) → are_placed raws ≡ true → SomeRepeats (bare_nodes raws)
-    → (SchemaError.InvalidUnion ≡ SchemaError.OutOfMemory) ⊎ Contains (faults_with raws) SchemaError.InvalidUnion
-of_repeat raws placed repeats =
-    let nodes = whole_nodes raws in
-    let good = placed_whole (bare_nodes raws) raws ∙ placed in
-    let found = there-contains DraftError.InvalidUnion nodes good (repeated-broken (bare_nodes raws) raws repeats) (λ h. cc) in
-    inr (or_else-first (faults_of_nodes nodes) (unless (are_all_defaults_read raws) SchemaError.InvalidDefault) SchemaError.InvalidUnion found)
+    (of_fault (raw_nodes_of raws) limit_exceeded (too_many-there nodes (rw count limit.1))))
 
 pub returns-then-branch-clause-refused : goal.returns-then-branch-clause-refused
 returns-then-branch-clause-refused c =
     let repeats = c.in_ok-has_repeated_branch.ensures c.if-branch.true in
-    of_repeat (raw_nodes_of c.args.raws.items) c.requires
-    (subst (λ (ns : List KeptNode). SomeRepeats (bares_of ns)) c.deref.ensures.value repeats)
+    let raws = raw_nodes_of c.args.raws.items in
+    inr (of_fault raws invalid_union (repeated-there (bare_nodes raws) raws
+    (subst (λ (ns : List KeptNode). SomeRepeats (bares_of ns)) c.deref.ensures.value repeats)))
 
 pub returns-in-Err-drafted-clause-refused : goal.returns-in-Err-drafted-clause-refused
 returns-in-Err-drafted-clause-refused c = of_length c.args.raws.items c.in-Err-drafted.error c.from.result c.in-Err-drafted.ensures.refused c.from.ensures
@@ -110,11 +93,11 @@ returns-else-are_read-clause-refused c =
     let formed : is_schema (whole_nodes raws) ≡ true = ap is_schema (sym whole) ∙ c.in-Ok-finish.ensures.formed in
     let unread : are_all_defaults_read raws ≡ false =
     ap (λ (ns : List KeptNode). are_all_defaults_read (raw_nodes_of ns)) (sym c.deref-2.ensures.value) ∙ sym c.in-Ok.ensures.read ∙ c.if-are_read.false in
-    inr (or_else-unread (faults_of_nodes (whole_nodes raws)) (are_all_defaults_read raws) SchemaError.InvalidDefault (no_faults-from_is_schema (whole_nodes raws) formed) unread)
+    inr (or_else-unread (refusals_of_nodes (whole_nodes raws)) (are_all_defaults_read raws) SchemaError.InvalidDefault (no_refusals-from_is_schema (whole_nodes raws) formed) unread)
 
 pub returns-in-Err-finish-clause-refused : goal.returns-in-Err-finish-clause-refused
 returns-in-Err-finish-clause-refused c =
     let whole = whole_draft c.args.raws.items c.deref-2.result.now (lists_seen c.in-Ok.defaults.of_nodes.items) (draft_nodes c.in-Ok-drafted.draft)
     c.deref-2.ensures.value c.in-Ok.ensures.data c.in-Ok-drafted.ensures.drafted in
-    of_draft (raw_nodes_of c.args.raws.items) (draft_nodes c.in-Ok-drafted.draft) c.in-Err-finish.error c.from-in-Err-finish.result whole c.requires
+    of_draft (raw_nodes_of c.args.raws.items) (draft_nodes c.in-Ok-drafted.draft) c.in-Err-finish.error c.from-in-Err-finish.result whole
     c.in-Err-finish.ensures.faulty c.from-in-Err-finish.ensures

@@ -9,15 +9,15 @@ use Rattle.avro_schema_json.specs.OwnDefaults.{fields_seen}
 use Rattle.avro_schema_json.proofs.DefaultSteps.{field_absent}
 use Rattle.avro_schema_json.proofs.NamesSeen.{is_named, name_next, names_end}
 use Rattle.avro_schema_json.proofs.fields.Fields.names.Goals as goal
-use Rattle.avro_schema_json.proofs.fields.Fields.names.Goals.{in-Some+in-Ok, in-None}
+use Rattle.avro_schema_json.proofs.fields.Fields.names.Goals.{in-Some+in_ok-insert-in-Some, in-None}
 
 pub loop-i-preserved : goal.loop-i-preserved
 loop-i-preserved c =
     let l = c.loop-i in
     let fields = fields_seen c.args.self in
     elim c.match-get.branch [
-      | in-Some+in-Ok w ↦ λ name.
-          let put = btree_map_updates_str w.in-Some.name.now l.names w.insert.new.self _ w.in-Ok.ensures.updates name in
+      | in-Some+in_ok-insert-in-Some w ↦ λ name.
+          let put = btree_map_updates_str w.in-Some.name.now l.names w.insert.new.self _ w.in_ok-insert-in-Some.ensures.updates name in
           rw w.names-is (name_next fields l.i w.in-Some.name.now _ (get_by (λ k. slice_cmp nat_cmp name k.now) l.names)
           (get_by (λ k. slice_cmp nat_cmp name k.now) w.insert.new.self) name (list_any (is_named name) fields) w.in-Some.ensures put (l.invariant name))
       | in-None w ↦ absurd (field_absent fields l.i (omega (arith, c.loop-i-test.true, c.len-i-end.ensures)) w.in-None.ensures)

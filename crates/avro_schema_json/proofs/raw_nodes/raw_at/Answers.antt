@@ -3,7 +3,7 @@ use Rattle.std.specs.Prelude.{unwrap_or, option_map}
 use Rattle.avro_schema_json.specs.OwnDefaults.{bare_of}
 use Rattle.avro_schema_json.specs.declared.raw.RawNode.{RawNode}
 use Rattle.avro_schema_json.proofs.DefaultsSeen.{node_at-raws}
-use Rattle.avro_schema_json.proofs.defaults.raw_at.Goals as goal
+use Rattle.avro_schema_json.proofs.raw_nodes.raw_at.Goals as goal
 
 behind : (found : Option (Bor RawNode)) (null : Bor RawNode) → (unwrap_or found null).now ≡ unwrap_or (option_map (λ x. x.now) found) null.now
 behind None null = refl

@@ -4,7 +4,7 @@ use Rattle.avro_schema_json.specs.DeclaredDefaults.{member_keys, names_only}
 use Rattle.avro_schema_json.specs.OwnDefaults.{fields_seen}
 use Rattle.serde_json.specs.View.{members_view}
 use Rattle.avro_schema_json.proofs.NamesSeen.{is_named, key_named, key_unnamed}
-use Rattle.avro_schema_json.proofs.defaults.names_fields.Goals as goal
+use Rattle.avro_schema_json.proofs.fields.names_fields.Goals as goal
 
 pub returns-then-not-contains_key : goal.returns-then-not-contains_key
 returns-then-not-contains_key c =

@@ -2,7 +2,7 @@ use Rattle.std.proofs.Common.{◌≡◌}
 use Rattle.avro_schema_json.specs.DeclaredDefaults.{member_keys, names_only}
 use Rattle.avro_schema_json.specs.OwnDefaults.{fields_seen}
 use Rattle.serde_json.specs.View.{members_view}
-use Rattle.avro_schema_json.proofs.defaults.names_fields.Given as goal
+use Rattle.avro_schema_json.proofs.fields.names_fields.Given as goal
 
 abbrev pub invariant-loop-key : goal.invariant-loop-key
 invariant-loop-key l =

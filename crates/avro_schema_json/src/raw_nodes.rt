@@ -1,0 +1,79 @@
+//! What is asked of nodes before their defaults are read.
+
+ghost use Rattle.std.specs.Prelude.{◌≡◌, is_some, option_map};
+ghost use Rattle.std.specs.List.{list_all};
+ghost use Rattle.avro_schema.specs.Node.{Node as SeenNode, node_at, node_name, branches_of as branches_in};
+ghost use Rattle.avro_schema.specs.Seen.{node_of, places_of};
+ghost use Rattle.avro_schema.specs.WellFormed.{is_edge as is_good_edge};
+ghost use Rattle.avro_schema_json.specs.OwnDefaults.{bare_of, bares_of};
+
+use crate::raw::RawNode;
+use avro_schema::{Node, NodeId};
+
+/// The node at a place, or the given node, that of null, where there is none.
+pub(crate) fn raw_at<'a>(
+    raws: &'a [RawNode<'a>],
+    null: &'a RawNode<'a>,
+    place: NodeId,
+) -> &'a RawNode<'a>
+    requires { bare_of null.now ≡ SeenNode.null }
+    ensures { bare_of result.now ≡ node_at (bares_of raws.now) place.0 }
+{
+    raws.get(place.0 as usize).unwrap_or(null)
+}
+
+/// The branches of a union.
+pub(crate) fn branches<'a>(node: &'a RawNode<'_>) -> Option<&'a [NodeId]>
+    ensures { option_map (λ ids. places_of ids.now) result ≡ branches_in (bare_of node.now) }
+{
+    match node {
+        RawNode::Plain(node) => match node {
+            Node::Union(places) => Some(places),
+            _ => None,
+        },
+        RawNode::Enum(_) => None,
+        RawNode::Record(_) => None,
+    }
+}
+
+/// Whether a node is a record, an enum or a fixed.
+fn has_name(raw: &RawNode) -> bool
+    ensures { result ≡ is_some (node_name (bare_of raw.now)) }
+{
+    match raw {
+        RawNode::Plain(node) => is_named(node),
+        RawNode::Enum(_) => true,
+        RawNode::Record(_) => true,
+    }
+}
+
+/// The same of a node that has no defaults.
+fn is_named(node: &Node) -> bool
+    ensures { result ≡ is_some (node_name (node_of node.now)) }
+{
+    matches!(node, Node::Record(_) | Node::Enum(_) | Node::Fixed(_))
+}
+
+/// Whether an edge stays among the nodes, and goes to a later one or to a record, an enum or a fixed.
+fn is_edge(raws: &[RawNode], from: usize, to: NodeId) -> bool
+    ensures { result ≡ is_good_edge (bares_of raws.now) from to.0 }
+{
+    let place = to.0 as usize;
+    if place >= raws.len() {
+        return false;
+    }
+    let null = RawNode::Plain(Node::Null);
+    from < place || has_name(raw_at(&*raws, &null, to))
+}
+
+/// Whether the edges of a union are good.
+pub(crate) fn are_edges(raws: &[RawNode], from: usize, branches: &[NodeId]) -> bool
+    ensures { result ≡ list_all (is_good_edge (bares_of raws.now) from) (places_of branches.now) }
+{
+    for branch in branches {
+        if !is_edge(raws, from, *branch) {
+            return false;
+        }
+    }
+    true
+}
