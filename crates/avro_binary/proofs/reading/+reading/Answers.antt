@@ -157,7 +157,6 @@ pub maps::read_entries-returns-in_err-key : goal.maps::read_entries-returns-in_e
 maps::read_entries-returns-in_err-key g t c = λ limits before d b are distinct.
     let nodes = schema_nodes c.args.schema.now in
     let n = node_at nodes c.args.place.0 in
-    let start = c.args.cursor.now in
     let now = c.loop-done.cursor in
     let so_far = c.loop-done.invariant.1 limits before d b are distinct in
     let xs = so_far.0 in
@@ -170,14 +169,12 @@ maps::read_entries-returns-in_err-key g t c = λ limits before d b are distinct.
     let p = err_from_is_err_and c.from_residual.result c.from_residual.ensures.1 in
     let e = c.in_err-key.field-0.0 in
     let read = c.in_err-key.ensures.read keys so_far.3 in
-    let refused = run_breaks (entries_kind nodes limits n) run c.args.count e few (key_report nodes limits n now keys e long read.refused) in
-    rw (p.1, p.2) (record { found = tt; refused = refused })
+    rw (p.1, p.2) (record { found = tt; refused = run_breaks (entries_kind nodes limits n) run c.args.count e few (key_report nodes limits n now keys e long read.refused) })
 
 pub maps::read_entries-returns-in_err-value : goal.maps::read_entries-returns-in_err-value
 maps::read_entries-returns-in_err-value g t c = λ limits before d b are distinct.
     let nodes = schema_nodes c.args.schema.now in
     let n = node_at nodes c.args.place.0 in
-    let start = c.args.cursor.now in
     let now = c.loop-done.cursor in
     let so_far = c.loop-done.invariant.1 limits before d b are distinct in
     let xs = so_far.0 in
@@ -190,15 +187,10 @@ maps::read_entries-returns-in_err-value g t c = λ limits before d b are distinc
     let few : length xs < c.args.count = omega arith in
     let mid = c.key.new.self in
     let read = c.in_ok-key.ensures.read keys so_far.3 in
-    let key = c.in_ok-key.key.now in
-    let front = read.found.0 in
-    let is = read.found.1 in
-    let passes = read.found.2 in
     let p = err_from_is_err_and c.from_residual-in_err-value.result c.from_residual-in_err-value.ensures.1 in
     let e = c.in_err-value.field-0.0 in
-    let refused = run_breaks (entries_kind nodes limits n) run c.args.count e few
-    (entry_report nodes limits n now mid keys key front e is passes deep long c.in_err-value.ensures.refused) in
-    rw (p.1, p.2) (record { found = tt; refused = refused })
+    let reported = entry_report nodes limits n now mid keys c.in_ok-key.key.now read.found.0 e read.found.1 read.found.2 deep long c.in_err-value.ensures.refused in
+    rw (p.1, p.2) (record { found = tt; refused = run_breaks (entries_kind nodes limits n) run c.args.count e few reported })
 
 pub maps::read_entries-loop-done-preserved : goal.maps::read_entries-loop-done-preserved
 maps::read_entries-loop-done-preserved g t c = (
@@ -206,7 +198,6 @@ maps::read_entries-loop-done-preserved g t c = (
   λ limits before d b are distinct.
       let nodes = schema_nodes c.args.schema.now in
       let n = node_at nodes c.args.place.0 in
-      let start = c.args.cursor.now in
       let now = c.loop-done.cursor in
       let so_far = c.loop-done.invariant.1 limits before d b are distinct in
       let xs = so_far.0 in
@@ -258,7 +249,6 @@ read_items-returns-in_err-value g t c = λ limits d b.
     let p = err_from_is_err_and c.from_residual.result c.from_residual.ensures.1 in
     let nodes = schema_nodes c.args.schema.now in
     let n = node_at nodes c.args.place.0 in
-    let start = c.args.cursor.now in
     let now = c.loop-done.cursor in
     let so_far = c.loop-done.invariant.1 limits d b in
     let counted = so_far.1 in
@@ -266,15 +256,13 @@ read_items-returns-in_err-value g t c = λ limits d b.
     let few : length so_far.0 < c.args.count = omega arith in
     let e = c.in_err-value.field-0.0 in
     let reported = value_report nodes limits n now [] e (d ∙ sym so_far.2.moves.depth) (b ∙ sym so_far.2.moves.blob) c.in_err-value.ensures.refused in
-    let refused = run_breaks (values_kind nodes limits n) so_far.2 c.args.count e few reported in
-    rw (p.1, p.2) (record { found = tt; refused = refused })
+    rw (p.1, p.2) (record { found = tt; refused = run_breaks (values_kind nodes limits n) so_far.2 c.args.count e few reported })
 
 pub read_items-loop-done-preserved : goal.read_items-loop-done-preserved
 read_items-loop-done-preserved g t c =
     let found = c.in_ok-value.ensures.found in
     let nodes = schema_nodes c.args.schema.now in
     let n = node_at nodes c.args.place.0 in
-    let start = c.args.cursor.now in
     let now = c.loop-done.cursor in
     let after = c.read_place.new.cursor in
     let v = found.0 in
@@ -318,61 +306,43 @@ read_place-returns-then-not-has g t c =
 
 pub read_place-returns-in-Null : goal.read_place-returns-in-Null
 read_place-returns-in-Null g t c =
-    let nodes = schema_nodes c.args.schema.now in
-    let is : node_at nodes c.args.place.0 ≡ Node.null = sym c.node.ensures ∙ ap node_of c.in-Null.is in
-    rw is (c.read_null-in-Null.ensures nodes)
+    rw (sym c.node.ensures ∙ ap node_of c.in-Null.is) (c.read_null-in-Null.ensures (schema_nodes c.args.schema.now))
 
 pub read_place-returns-in-Boolean : goal.read_place-returns-in-Boolean
 read_place-returns-in-Boolean g t c =
-    let nodes = schema_nodes c.args.schema.now in
-    let is : node_at nodes c.args.place.0 ≡ Node.boolean = sym c.node.ensures ∙ ap node_of c.in-Boolean.is in
-    rw is (c.read_boolean.ensures nodes)
+    rw (sym c.node.ensures ∙ ap node_of c.in-Boolean.is) (c.read_boolean.ensures (schema_nodes c.args.schema.now))
 
 pub read_place-returns-in-Int : goal.read_place-returns-in-Int
 read_place-returns-in-Int g t c =
-    let nodes = schema_nodes c.args.schema.now in
-    let is : node_at nodes c.args.place.0 ≡ Node.int = sym c.node.ensures ∙ ap node_of c.in-Int.is in
-    rw is (c.read_int.ensures nodes)
+    rw (sym c.node.ensures ∙ ap node_of c.in-Int.is) (c.read_int.ensures (schema_nodes c.args.schema.now))
 
 pub read_place-returns-in-Long : goal.read_place-returns-in-Long
 read_place-returns-in-Long g t c =
-    let nodes = schema_nodes c.args.schema.now in
-    let is : node_at nodes c.args.place.0 ≡ Node.long = sym c.node.ensures ∙ ap node_of c.in-Long.is in
-    rw is (c.read_long.ensures nodes)
+    rw (sym c.node.ensures ∙ ap node_of c.in-Long.is) (c.read_long.ensures (schema_nodes c.args.schema.now))
 
 pub read_place-returns-in-Bytes : goal.read_place-returns-in-Bytes
 read_place-returns-in-Bytes g t c =
-    let nodes = schema_nodes c.args.schema.now in
-    let is : node_at nodes c.args.place.0 ≡ Node.bytes = sym c.node.ensures ∙ ap node_of c.in-Bytes.is in
-    rw is (c.read_bytes.ensures nodes)
+    rw (sym c.node.ensures ∙ ap node_of c.in-Bytes.is) (c.read_bytes.ensures (schema_nodes c.args.schema.now))
 
 pub read_place-returns-in-Str : goal.read_place-returns-in-Str
 read_place-returns-in-Str g t c =
-    let nodes = schema_nodes c.args.schema.now in
-    let is : node_at nodes c.args.place.0 ≡ Node.string = sym c.node.ensures ∙ ap node_of c.in-Str.is in
-    rw is (c.read_text.ensures nodes)
+    rw (sym c.node.ensures ∙ ap node_of c.in-Str.is) (c.read_text.ensures (schema_nodes c.args.schema.now))
 
 pub read_place-returns-in-Record : goal.read_place-returns-in-Record
 read_place-returns-in-Record g t c =
-    let nodes = schema_nodes c.args.schema.now in
     let record_is = c.in-Record.record in
-    let is : node_at nodes c.args.place.0 ≡ Node.record_of record_is.name record_is.aliases.items (seen_fields record_is.fields.items) = sym c.node.ensures ∙ ap node_of c.in-Record.is in
-    rw (is, ← c.deref-in-Record.ensures.value) (c.read_record.ensures record_is.name record_is.aliases.items)
+    rw (sym c.node.ensures ∙ ap node_of c.in-Record.is, ← c.deref-in-Record.ensures.value) (c.read_record.ensures record_is.name record_is.aliases.items)
 
 pub read_place-returns-in-Enum : goal.read_place-returns-in-Enum
 read_place-returns-in-Enum g t c =
-    let nodes = schema_nodes c.args.schema.now in
     let enum_is = c.in-Enum.enumeration in
-    let is : node_at nodes c.args.place.0 ≡ Node.enum enum_is.name enum_is.aliases.items (texts_of enum_is.symbols.items) enum_is.default = sym c.node.ensures ∙ ap node_of c.in-Enum.is in
-    let l = c.len.ensures in
-    rw is (c.read_symbol.ensures nodes enum_is.name enum_is.aliases.items (texts_of enum_is.symbols.items) enum_is.default (l ∙ enum_is.symbols.ok.0 ∙ sym (texts-length enum_is.symbols.items)))
+    rw (sym c.node.ensures ∙ ap node_of c.in-Enum.is) (c.read_symbol.ensures (schema_nodes c.args.schema.now) enum_is.name enum_is.aliases.items (texts_of enum_is.symbols.items) enum_is.default
+    (c.len.ensures ∙ enum_is.symbols.ok.0 ∙ sym (texts-length enum_is.symbols.items)))
 
 pub read_place-returns-in-Fixed : goal.read_place-returns-in-Fixed
 read_place-returns-in-Fixed g t c =
-    let nodes = schema_nodes c.args.schema.now in
     let fixed_is = c.in-Fixed.fixed in
-    let is : node_at nodes c.args.place.0 ≡ Node.fixed fixed_is.name fixed_is.aliases.items fixed_is.size = sym c.node.ensures ∙ ap node_of c.in-Fixed.is in
-    rw is (c.read_fixed.ensures nodes fixed_is.name fixed_is.aliases.items)
+    rw (sym c.node.ensures ∙ ap node_of c.in-Fixed.is) (c.read_fixed.ensures (schema_nodes c.args.schema.now) fixed_is.name fixed_is.aliases.items)
 
 -- ---- Nodes with parts
 
@@ -482,8 +452,7 @@ read_fields-returns-in-Ok-record g t c = λ name aliases.
     let so_far = c.loop-field.invariant in
     let past : length fields ≤ i = c.loop-field-test.false in
     let done = subst (λ (ps : List ℕ). FieldsDone nodes ps c.args.cursor.now c.loop-field.cursor so_far.0) (places_all fields i past) so_far.1 in
-    record_found nodes name aliases (seen_fields fields) c.args.cursor.now c.loop-field.cursor so_far.0 c.in-Ok-record.out
-    (subst (λ (ps : List ℕ). FieldsDone nodes ps c.args.cursor.now c.loop-field.cursor so_far.0) (places_all fields i past) so_far.1)
+    record_found nodes name aliases (seen_fields fields) c.args.cursor.now c.loop-field.cursor so_far.0 c.in-Ok-record.out done
     (g.met.M.Make.keeps_on c.args.maker.now c.loop-field.maker c.record.new.self so_far.3 c.in-Ok-record.ensures.kept, c.in-Ok-record.ensures.stands nodes name aliases (seen_fields fields) c.args.at so_far.0 so_far.4 done.fitting)
 
 -- ---- Unions
