@@ -1,9 +1,8 @@
 -- A call that reads the blocks of an array or a map: the blocks so far, one more, and one that breaks.
 use Rattle.std.proofs.Common.{◌≡◌, ℕ, ◌+◌, ◌<◌, pos, List, [], ◌++◌, length, Result, Ok, Err, Option, Some, None, refl, sym, ap, ◌∙◌, subst, append_assoc, arith}
-use Rattle.std.specs.Prelude.{neg_ℤ}
 use Rattle.std.specs.List.{concat}
 use Rattle.avro_zigzag.specs.Number.{SpellsLong}
-use Rattle.avro_binary.specs.Blocks.{IsInBlocks, counted as counted_block, sized as sized_block}
+use Rattle.avro_binary.specs.Blocks.{IsInBlocks}
 use Rattle.avro_binary.specs.Fault.{ReadFault, wrong_block_size, behind}
 use Rattle.avro_binary.specs.Breaks.{HeadBreaks, BlocksBreak, head_breaks, item_fails, size_differs, later_breaks, Head, counted, sized, head_count, head_bytes, IsHead, HasSize, Left}
 use Rattle.avro_binary.specs.BlockHeads.{IsHeadOrEnd, IsBlock, IsBlockOrEnd, EndsBlock}
@@ -12,9 +11,10 @@ use Rattle.avro_binary.specs.CursorReads.{Moves, ReportsFault, left_at, FindsRun
 use Rattle.avro_binary.specs.Elements.{Refuses}
 use Rattle.avro_binary.specs.declared.block.Block.{Block}
 use Rattle.avro_binary.specs.declared.error.ReadError.{ReadError}
-use Rattle.avro_binary.proofs.Behind.{behind-none, behind-append}
+use Rattle.avro_binary.proofs.public.Behind.{behind-none, behind-append}
 use Rattle.avro_binary.proofs.RunLaws.{Kind}
 use Rattle.avro_binary.proofs.RunSteps.{moves-none, moves-passed, moves-join, report_moved}
+use Rattle.avro_binary.proofs.public.Blocks.{block_first}
 
 -- ---- Heads
 
@@ -68,20 +68,6 @@ as_error A e = Err e
 pub has_size : {A : Type 0} (x : A) (place : ℕ) (head : Head) (n : ℕ) → EndsBlock place head n (ended x) → HasSize head n
 has_size x place (counted count count_bytes) n ends = tt
 has_size x place (sized count size count_bytes size_bytes) n ends = ends
-
--- a block before others
-pub block_first : (left : ℕ) (head : Head) (block later : List (List ℕ)) (rest : List ℕ) → IsHead left head → length block ≡ head_count head
-    → HasSize head (length (concat block)) → IsInBlocks later rest → IsInBlocks (block ++ later) (head_bytes head ++ concat block ++ rest)
-block_first left (counted count count_bytes) block later rest is same size blocks =
-    let some = is.0 in
-    let few = is.1 in
-    counted_block block later count_bytes rest refl (omega arith) (omega arith) (subst (λ (n : ℕ). SpellsLong (pos n) count_bytes) (sym same) is.3) refl blocks
-block_first left (sized count size count_bytes size_bytes) block later rest is same has blocks =
-    let some = is.0 in
-    let few = is.1 in
-    let short = is.3 in
-    sized_block block later count_bytes size_bytes rest refl (omega arith) (omega arith) (let s : size ≡ length (concat block) = has in omega arith)
-    (subst (λ (n : ℕ). SpellsLong (neg_ℤ (pos n)) count_bytes) (sym same) is.4) (subst (λ (n : ℕ). SpellsLong (pos n) size_bytes) has is.5) refl blocks
 
 -- ---- The blocks so far
 

@@ -15,6 +15,7 @@ use Rattle.avro_binary.specs.Seen.{read_fault}
 use Rattle.avro_binary.specs.CursorValue.{CursorValue, Passes}
 use Rattle.avro_binary.specs.Elements.{IsBoolean, IsInt, IsLong, IsContent, IsFixed, IsIndex, IsString, ReadsElement}
 use Rattle.avro_binary.specs.declared.error.ReadError.{ReadError}
+use Rattle.avro_binary.proofs.public.Ranges.{is_count-from_below}
 
 pub record IsPart {A : Type 0} (IsElement : A → List ℕ → Type 0) (ElementBreaks : List ℕ → ReadFault → Type 0) : Type 0 where
   pub one : (v w : A) (a b x y : List ℕ) → IsElement v a → IsElement w b → a ++ x ≡ b ++ y → (a ≡ b) × (v ≡ w)
@@ -246,9 +247,6 @@ pub string_is : (blob : ℕ) (content bytes : List ℕ) → SpellsBytes content 
 string_is blob content bytes spelled text within =
     let parts = and_parts (is_count (length content)) (is_utf8 content) text in
     record { right = parts.1; countable = is_count-below (length content) parts.0; within = within; spelled = spelled }
-
-pub is_count-from_below : (n : ℕ) → n < 2 ^ 63 → is_count n ≡ true
-is_count-from_below n h = search (rules, tests)
 
 pub is_text-from_string : (blob : ℕ) (content bytes : List ℕ) → IsString blob content bytes → is_text content ≡ true
 is_text-from_string blob content bytes p = rw (is_count-from_below (length content) p.countable, p.right) refl

@@ -16,7 +16,7 @@ use Rattle.avro_binary.specs.Reading.{BuildsExactly, ReadsExactly, WalksExactly}
 use Rattle.avro_binary.specs.CursorValue.{CursorValue}
 use Rattle.avro_binary.specs.CursorReads.{FindsValue, ReadsNode, IsSeenAs}
 use Rattle.avro_binary.specs.declared.error.ReadError.{ReadError}
-use Rattle.avro_binary.proofs.Behind.{behind-none}
+use Rattle.avro_binary.proofs.public.Behind.{behind-none}
 use Rattle.avro_binary.proofs.KeySteps.{as_error, unless_reported}
 use Rattle.avro_binary.proofs.Front.{one_front}
 use Rattle.avro_binary.proofs.NoFront.{no_front_of_fault, no_front_within}

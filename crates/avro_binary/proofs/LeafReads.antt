@@ -1,7 +1,6 @@
 -- What reading a datum without parts answers, from the element that it is.
-use Rattle.std.proofs.Common.{◌≡◌, ℕ, zero, suc, ◌<◌, ◌≤◌, ◌^◌, ℤ, Bool, true, List, [], ◌∷◌, length, get_or, Ok, Err, Option, refl, ap, arith, nat_lt}
+use Rattle.std.proofs.Common.{◌≡◌, ℕ, suc, ◌<◌, ◌≤◌, ◌^◌, ℤ, Bool, true, List, [], length, get_or, Ok, Err, Option, refl, ap, arith, nat_lt}
 use Rattle.std.specs.Prelude.{◌==◌}
-use Rattle.std.specs.List.{list_all}
 use Rattle.std.proofs.lemmas.Bool.Decides.{nat_tests}
 use Rattle.avro_name.specs.Name.{Name}
 use Rattle.avro_schema.specs.Value.{Value, size, depth, longest_blob}
@@ -14,13 +13,8 @@ use Rattle.avro_binary.specs.CursorValue.{CursorValue, Passes}
 use Rattle.avro_binary.specs.CursorReads.{ReadsNode, outside, left_node, limits_at, child_breaks}
 use Rattle.avro_binary.specs.Elements.{Refuses, Finds, IsBoolean, IsInt, IsLong, IsBytes, IsString, IsIndex, IsFixed}
 use Rattle.avro_binary.specs.declared.error.ReadError.{ReadError}
-use Rattle.avro_binary.proofs.ElementLaws.{is_text-from_string, is_count-from_below}
-
-bytes-below : (xs : List ℕ) → ((i : ℕ) → get_or xs i 0 < 2 ^ 8) → list_all (λ x. nat_lt x 256) xs ≡ true
-bytes-below [] h = refl
-bytes-below (x ∷ xs) h =
-    let first : nat_lt x 256 ≡ true = let b : x < 2 ^ 8 = h zero in grind (arith, nat_tests) in
-    rw (first, bytes-below xs (λ i. h (suc i))) refl
+use Rattle.avro_binary.proofs.ElementLaws.{is_text-from_string}
+use Rattle.avro_binary.proofs.public.Ranges.{is_count-from_below, bytes-below}
 
 pub are_bytes-from_ranges : (xs : List ℕ) → length xs < 2 ^ 63 → ((i : ℕ) → get_or xs i 0 < 2 ^ 8) → are_bytes xs ≡ true
 are_bytes-from_ranges xs small h = rw (is_count-from_below (length xs) small, bytes-below xs h) refl

@@ -23,10 +23,10 @@ use Rattle.avro_binary.specs.CursorValue.{CursorValue, Enters}
 use Rattle.avro_binary.specs.Elements.{Refuses, Finds, IsIndex}
 use Rattle.avro_binary.specs.CursorReads.{Moves, FindsValue, ReportsFault, ReadsNode, outside, left_node, left_at, limits_at, child_breaks}
 use Rattle.avro_binary.specs.declared.error.ReadError.{ReadError}
-use Rattle.avro_binary.proofs.ElementLaws.{is_count-from_below}
 use Rattle.avro_binary.proofs.RunLaws.{Kind, values_kind, entries_kind, values_count-from, entries_count-from, values_size-append, values_depth-append, values_blob-append, EachSpelled-append, fields_fit-push}
 use Rattle.avro_binary.proofs.RunSteps.{moves-none, moves-passed, moves-join, moves-same, report_moved, breaks_within-same}
 use Rattle.avro_binary.proofs.BlockSteps.{BlocksDone, EndRead}
+use Rattle.avro_binary.proofs.public.Ranges.{is_count-from_below}
 
 -- ---- Entering and leaving
 

@@ -6,7 +6,7 @@ use Rattle.avro_binary.specs.Fault.{ReadFault, wrong_block_size, behind}
 use Rattle.avro_binary.specs.Breaks.{Left, BreaksAfter, Head, counted, sized, head_count, head_bytes, IsHead, HasSize, HeadBreaks, BlocksBreak}
 use Rattle.avro_binary.proofs.Fronts.{same_behind}
 use Rattle.avro_binary.proofs.HeadLaws.{head_part}
-use Rattle.avro_binary.proofs.Behind.{same_moved}
+use Rattle.avro_binary.proofs.public.Behind.{same_moved}
 
 -- whole items and one that breaks tell each other
 pub record ItemsOne (are_whole : Left → ℕ → List ℕ → Left → Type 0) (item_breaks : Left → List ℕ → ReadFault → Type 0) : Type 0 where

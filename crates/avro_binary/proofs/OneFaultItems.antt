@@ -14,7 +14,7 @@ use Rattle.avro_binary.proofs.Fronts.{same_behind}
 use Rattle.avro_binary.proofs.NoFrontBlocks.{ItemsFollow, none_after}
 use Rattle.avro_binary.proofs.NoFrontItems.{NoneAt, ValuesFollow, values_follow, EntriesFollow, entries_follow, spelled_count, entries_spelled_count}
 use Rattle.avro_binary.proofs.OneFaultBlocks.{ItemsOne}
-use Rattle.avro_binary.proofs.Behind.{same_moved}
+use Rattle.avro_binary.proofs.public.Behind.{same_moved}
 use Rattle.avro_binary.proofs.ElementLaws.{string_is}
 use Rattle.avro_binary.proofs.KeySteps.{key_part}
 

@@ -17,7 +17,7 @@ use Rattle.avro_binary.proofs.NoFrontItems.{NoneAt}
 use Rattle.avro_binary.proofs.NoFrontParts.{index_none}
 use Rattle.avro_binary.proofs.OneFaultBlocks.{compared, blocks_one}
 use Rattle.avro_binary.proofs.OneFaultItems.{OneAt, values_one, entries_one}
-use Rattle.avro_binary.proofs.Behind.{same_moved}
+use Rattle.avro_binary.proofs.public.Behind.{same_moved}
 use Rattle.avro_binary.proofs.ElementLaws.{int_part, long_part, boolean_part, fixed_part, content_part, index_part}
 
 -- ---- Lists that are one

@@ -1,10 +1,9 @@
 -- Runs of items and of entries: one item is a run, and runs join.
-use Rattle.std.proofs.Common.{◌≡◌, ℕ, suc, ◌+◌, ◌-◌, ◌≤◌, Bool, true, false, not, ◌&&◌, ◌||◌, List, [], ◌∷◌, ◌++◌, length, refl, sym, ap, ◌∙◌, subst, append_assoc, append-nil, arith}
+use Rattle.std.proofs.Common.{◌≡◌, ℕ, suc, ◌+◌, ◌-◌, ◌≤◌, true, List, [], ◌∷◌, ◌++◌, length, refl, sym, ap, ◌∙◌, subst, append_assoc, append-nil, arith}
 use Rattle.std.specs.Prelude.{bytes_eq}
-use Rattle.std.specs.List.{concat, list_all, list_any}
-use Rattle.std.specs.Cmp.Lexicographic.{nat_list_eq_equiv}
-use Rattle.std.proofs.lemmas.Bool.{and_parts}
-use Rattle.std.proofs.lemmas.List.Folds.{list_all-append, list_any-append}
+use Rattle.std.specs.List.{concat, list_all}
+use Rattle.std.proofs.lemmas.Bool.{and_parts, and_from}
+use Rattle.std.proofs.lemmas.List.Folds.{list_all-append}
 use Rattle.avro_schema.specs.Value.{Value, values_size, values_depth, values_longest_blob, values_count, entries_size, entries_depth, entries_longest_blob, entries_count, keys_of}
 use Rattle.avro_schema.specs.Node.{Node, node_at}
 use Rattle.avro_schema.specs.Fits.{fits, each_fits, entries_fit, fields_fit, is_text, LimitValues}
@@ -38,17 +37,12 @@ pub values_size-count : (vs : List Value) → length vs ≤ values_size (values_
 values_size-count [] = omega arith
 values_size-count (v ∷ vs) = omega (arith, size-positive v, values_size-count vs)
 
-and-intro : (a b : Bool) → a ≡ true → b ≡ true → (a && b) ≡ true
-and-intro true true h k = refl
-and-intro true false h k = k
-and-intro false b h k = h
-
 pub each_fits-append : (nodes : List Node) (n : Node) (vs ws : List Value) → each_fits nodes n (values_from vs) ≡ true → each_fits nodes n (values_from ws) ≡ true
     → each_fits nodes n (values_from (vs ++ ws)) ≡ true
 each_fits-append nodes n [] ws h k = k
 each_fits-append nodes n (v ∷ vs) ws h k =
     let parts = and_parts (fits nodes n v) (each_fits nodes n (values_from vs)) h in
-    and-intro (fits nodes n v) (each_fits nodes n (values_from (vs ++ ws))) parts.0 (each_fits-append nodes n vs ws parts.1 k)
+    and_from (fits nodes n v) (each_fits nodes n (values_from (vs ++ ws))) parts.0 (each_fits-append nodes n vs ws parts.1 k)
 
 pub EachSpelled-append : (vs ws : List Value) (items more : List (List ℕ)) → EachSpelled (values_from vs) items → EachSpelled (values_from ws) more
     → EachSpelled (values_from (vs ++ ws)) (items ++ more)
@@ -59,12 +53,12 @@ EachSpelled-append (v ∷ vs) ws items more s t =
 -- values of fields, and the value of the next field
 pub fields_fit-push : (nodes : List Node) (places : List ℕ) (vs : List Value) (place : ℕ) (v : Value) → fields_fit nodes places (values_from vs) ≡ true
     → fits nodes (node_at nodes place) v ≡ true → fields_fit nodes (places ++ place ∷ []) (values_from (vs ++ v ∷ [])) ≡ true
-fields_fit-push nodes [] [] place v h k = and-intro (fits nodes (node_at nodes place) v) true k refl
+fields_fit-push nodes [] [] place v h k = and_from (fits nodes (node_at nodes place) v) true k refl
 fields_fit-push nodes [] (w ∷ vs) place v h k = absurd cc
 fields_fit-push nodes (p ∷ places) [] place v h k = absurd cc
 fields_fit-push nodes (p ∷ places) (w ∷ vs) place v h k =
     let parts = and_parts (fits nodes (node_at nodes p) w) (fields_fit nodes places (values_from vs)) h in
-    and-intro (fits nodes (node_at nodes p) w) (fields_fit nodes (places ++ place ∷ []) (values_from (vs ++ v ∷ []))) parts.0 (fields_fit-push nodes places vs place v parts.1 k)
+    and_from (fits nodes (node_at nodes p) w) (fields_fit nodes (places ++ place ∷ []) (values_from (vs ++ v ∷ []))) parts.0 (fields_fit-push nodes places vs place v parts.1 k)
 
 -- ---- Entries
 
@@ -94,7 +88,7 @@ pub entries_fit-append : (nodes : List Node) (n : Node) (vs ws : List (List ℕ 
 entries_fit-append nodes n [] ws h k = k
 entries_fit-append nodes n (v ∷ vs) ws h k =
     let parts = and_parts (fits nodes n v.1) (entries_fit nodes n (entries_from vs)) h in
-    and-intro (fits nodes n v.1) (entries_fit nodes n (entries_from (vs ++ ws))) parts.0 (entries_fit-append nodes n vs ws parts.1 k)
+    and_from (fits nodes n v.1) (entries_fit nodes n (entries_from (vs ++ ws))) parts.0 (entries_fit-append nodes n vs ws parts.1 k)
 
 pub EntriesSpelled-append : (vs ws : List (List ℕ × Value)) (items more : List (List ℕ)) → EntriesSpelled (entries_from vs) items → EntriesSpelled (entries_from ws) more
     → EntriesSpelled (entries_from (vs ++ ws)) (items ++ more)
@@ -105,26 +99,6 @@ EntriesSpelled-append (v ∷ vs) ws items more s t =
 pub keys_of-append : (vs ws : List (List ℕ × Value)) → keys_of (entries_from (vs ++ ws)) ≡ keys_of (entries_from vs) ++ keys_of (entries_from ws)
 keys_of-append [] ws = refl
 keys_of-append (v ∷ vs) ws = ap (λ (ks : List (List ℕ)). v.0 ∷ ks) (keys_of-append vs ws)
-
-or-none : (b c : Bool) → (b || c) ≡ false → (b ≡ false) × (c ≡ false)
-or-none false false h = (refl, refl)
-or-none false true h = absurd cc
-or-none true c h = absurd cc
-
-not-none : (b : Bool) → not b ≡ true → b ≡ false
-not-none false h = refl
-not-none true h = absurd cc
-
--- a key that doesn't stand before keeps them distinct
-pub distinct-push : (keys : List (List ℕ)) (k : List ℕ) → are_distinct bytes_eq keys ≡ true → list_any (bytes_eq k) keys ≡ false → are_distinct bytes_eq (keys ++ k ∷ []) ≡ true
-distinct-push [] k d h = refl
-distinct-push (x ∷ keys) k d h =
-    let parts = and_parts (not (list_any (bytes_eq x) keys)) (are_distinct bytes_eq keys) d in
-    let apart = or-none (bytes_eq k x) (list_any (bytes_eq k) keys) h in
-    let other : bytes_eq x k ≡ false = nat_list_eq_equiv.symm x k ∙ apart.0 in
-    let none : list_any (bytes_eq x) (keys ++ k ∷ []) ≡ false =
-    list_any-append (bytes_eq x) keys (k ∷ []) ∙ (λ i. not-none (list_any (bytes_eq x) keys) parts.0 i || (other i || false)) in
-    and-intro (not (list_any (bytes_eq x) (keys ++ k ∷ []))) (are_distinct bytes_eq (keys ++ k ∷ [])) (ap not none) (distinct-push keys k parts.1 apart.1)
 
 -- ---- Runs
 
@@ -188,7 +162,7 @@ module _ (nodes : List Node) (limits : LimitValues) (n : Node) where
     };
     joins = λ a b c xs ys items more r s. record {
       texts = ap (list_all is_text) (keys_of-append xs ys) ∙ list_all-append is_text (keys_of (entries_from xs)) (keys_of (entries_from ys))
-          ∙ and-intro (list_all is_text (keys_of (entries_from xs))) (list_all is_text (keys_of (entries_from ys))) r.texts s.texts;
+          ∙ and_from (list_all is_text (keys_of (entries_from xs))) (list_all is_text (keys_of (entries_from ys))) r.texts s.texts;
       distinct = s.distinct;
       fitting = entries_fit-append nodes n xs ys r.fitting s.fitting;
       spelled = EntriesSpelled-append xs ys items more r.spelled s.spelled;

@@ -16,8 +16,9 @@ use Rattle.avro_binary.specs.Elements.{IsKey}
 use Rattle.avro_binary.specs.CursorReads.{Moves, FindsValue, ReportsFault, left_at, ValuesRun, EntriesRun, value_breaks, entry_breaks, FindsRun, RunBreaks}
 use Rattle.avro_binary.specs.declared.error.ReadError.{ReadError}
 use Rattle.avro_binary.proofs.ElementLaws.{is_text-from_string}
-use Rattle.avro_binary.proofs.Behind.{behind-add}
-use Rattle.avro_binary.proofs.RunLaws.{Kind, distinct-push}
+use Rattle.avro_binary.proofs.public.Behind.{behind-add}
+use Rattle.avro_binary.proofs.RunLaws.{Kind}
+use Rattle.avro_binary.proofs.public.Distinct.{distinct-push}
 
 -- ---- Moves
 

@@ -1,5 +1,5 @@
 -- What stands in the output after an array or a map is written.
-use Rattle.std.proofs.Common.{◌≡◌, ℕ, zero, suc, ◌<◌, pos, List, [], ◌∷◌, ◌++◌, length, refl, sym, ap, ◌∙◌, append_assoc, arith}
+use Rattle.std.proofs.Common.{◌≡◌, ℕ, suc, ◌<◌, pos, List, [], ◌∷◌, ◌++◌, length, refl, sym, ap, ◌∙◌, arith}
 use Rattle.std.specs.Prelude.{String}
 use Rattle.std.specs.Global.{Box}
 use Rattle.std.specs.declared.alloc.Global.{Global}
@@ -11,13 +11,8 @@ use Rattle.avro_schema.specs.declared.datum.Datum.TheOpen.{Datum-F}
 use Rattle.avro_schema.specs.declared.datum.Datum.TheViews as view
 use Rattle.avro_schema.specs.declared.datum.Datum.TheVariants as variants
 use Rattle.avro_schema.specs.declared.datum.Datum.TheFolds.{fold-roll-Datum}
-use Rattle.avro_binary.specs.Encoding.{plain, plain_blocks, plain_values, plain_entries}
-
--- a count, the items and the end
-block-written : (count number : ℕ) (items old : List ℕ) → number ≡ count → 0 < count
-    → ((old ++ number_bytes (pos number)) ++ items) ++ 0 ∷ [] ≡ old ++ plain_blocks count items
-block-written zero number items old e h = absurd (omega arith)
-block-written (suc count) number items old e h = rw e (simp append_assoc)
+use Rattle.avro_binary.specs.Encoding.{plain, plain_values, plain_entries}
+use Rattle.avro_binary.proofs.public.Blocks.{block-written}
 
 values_count-length : (ds : List Datum) → length ds ≡ values_count (values_of ds)
 values_count-length [] = refl

@@ -1,10 +1,12 @@
 -- Faults behind bytes, and parts that are stopped behind others.
-use Rattle.std.proofs.Common.{◌≡◌, ◌≢◌, ℕ, Bool, ◌+◌, ◌-◌, ◌^◌, ◌<◌, ◌≤◌, max, ℤ, ◌<ℤ◌, pos, List, [], ◌++◌, length, take, drop, Some, append-nil, refl, sym, ap, subst, ◌∙◌, arith, inl, inr, length-append, length-take-le}
+use Rattle.std.proofs.Common.{◌≡◌, ◌≢◌, ℕ, Bool, ◌+◌, ◌-◌, ◌^◌, ◌<◌, ◌≤◌, max, ℤ, ◌<ℤ◌, pos, List, [], ◌++◌, length, take, drop, Some, append-nil, refl, sym, ap, subst, ◌∙◌, arith, inl, inr, length-take-le}
 use Rattle.std.proofs.lemmas.List.{drop-drop, length-drop, take-append-le}
+use Rattle.std.proofs.lemmas.Option.{same_Some, none-some}
 use Rattle.avro_zigzag.specs.NumberFault.{LongFails}
 use Rattle.avro_zigzag.specs.declared.VarError.TheVariants.{EndOfInput, OutOfRange}
 use Rattle.avro_binary.specs.Fault.{ReadFault, end_of_input, invalid_number, invalid_boolean, invalid_text, unknown_index, invalid_length, wrong_block_size, duplicate_key, limit_exceeded, behind}
 use Rattle.avro_binary.specs.Breaks.{LongBreaks, StartsWithLong, ContentBreaks}
+use Rattle.avro_binary.proofs.public.Behind.{behind-add}
 use Rattle.avro_container.specs.declared.part_error.PartError.{PartError}
 use Rattle.avro_container.specs.declared.error.CopyError.{CopyError}
 use Rattle.avro_container.specs.FileFault.{FileFault, in_header, invalid_metadata}
@@ -16,32 +18,7 @@ use Rattle.avro_container.specs.inside.HeaderParts.{Takes, Refused, PartStops, L
 use Rattle.avro_container.proofs.Taking.{GrowsBy-chain, TakesAtMost-later, TakesAtMost-from_grown, unless_failed}
 use Rattle.avro_container.proofs.Cut.{grown-behind}
 use Rattle.avro_container.proofs.Heads.{starts-grown}
-use Rattle.avro_container.proofs.Stopping.{some_inj, none_some, below_zero}
-
-pub behind-add : (a b : ℕ) (f : ReadFault) → behind (a + b) f ≡ behind a (behind b f)
-behind-add a b (end_of_input place) = ap end_of_input (omega arith)
-behind-add a b (invalid_number place) = ap invalid_number (omega arith)
-behind-add a b (invalid_boolean place) = ap invalid_boolean (omega arith)
-behind-add a b (invalid_text place) = ap invalid_text (omega arith)
-behind-add a b (unknown_index place) = ap unknown_index (omega arith)
-behind-add a b (invalid_length place) = ap invalid_length (omega arith)
-behind-add a b (wrong_block_size place) = ap wrong_block_size (omega arith)
-behind-add a b (duplicate_key place) = ap duplicate_key (omega arith)
-behind-add a b limit_exceeded = refl
-
-pub behind-append : (a b : List ℕ) (f : ReadFault) → behind (length (a ++ b)) f ≡ behind (length a) (behind (length b) f)
-behind-append a b f = ap (λ (n : ℕ). behind n f) (length-append a b) ∙ behind-add (length a) (length b) f
-
-pub behind-none : (f : ReadFault) → f ≡ behind 0 f
-behind-none (end_of_input place) = ap end_of_input (omega arith)
-behind-none (invalid_number place) = ap invalid_number (omega arith)
-behind-none (invalid_boolean place) = ap invalid_boolean (omega arith)
-behind-none (invalid_text place) = ap invalid_text (omega arith)
-behind-none (unknown_index place) = ap unknown_index (omega arith)
-behind-none (invalid_length place) = ap invalid_length (omega arith)
-behind-none (wrong_block_size place) = ap wrong_block_size (omega arith)
-behind-none (duplicate_key place) = ap duplicate_key (omega arith)
-behind-none limit_exceeded = refl
+use Rattle.avro_container.proofs.Stopping.{below_zero}
 
 -- what is no end of input is none behind other bytes
 still_no_end : (k : ℕ) (f : ReadFault) → ((place : ℕ) → f ≢ end_of_input place) → (place : ℕ) → behind k f ≢ end_of_input place
@@ -160,15 +137,15 @@ pub number_stops : (limit at : ℕ) (ended : Type 0) (bytes : List ℕ) (e : Par
     → header_part_fault at e ≡ Some f → PartStops limit at ended bytes LongBreaks LengthWants f
 number_stops limit at ended bytes PartError.OutOfRange f inside out over over_cut told below cut is =
     PartStops.broken (invalid_number 0) (OutOfRange, out refl, refl) (λ place q. cc)
-    (sym (some_inj _ _ is) ∙ ap (λ (n : ℕ). in_header (invalid_metadata (invalid_number n))) (omega arith))
+    (sym (same_Some _ _ is) ∙ ap (λ (n : ℕ). in_header (invalid_metadata (invalid_number n))) (omega arith))
 number_stops limit at ended bytes PartError.Limit f inside out over over_cut told below cut is =
     let past = over refl in
-    subst (PartStops limit at ended bytes LongBreaks LengthWants) (some_inj _ _ is) (PartStops.too_long 0 (LengthWants.in_number (over_cut refl)) (omega (arith, past)))
+    subst (PartStops limit at ended bytes LongBreaks LengthWants) (same_Some _ _ is) (PartStops.too_long 0 (LengthWants.in_number (over_cut refl)) (omega (arith, past)))
 number_stops limit at ended bytes PartError.Ended f inside out over over_cut told below cut is =
     let short = below refl in
-    subst (PartStops limit at ended bytes LongBreaks LengthWants) (some_inj _ _ is) (PartStops.is_cut 0 (LengthWants.in_number (cut refl)) (omega (arith, short, inside)) (told refl))
-number_stops limit at ended bytes PartError.Device f inside out over over_cut told below cut is = absurd (none_some f is)
-number_stops limit at ended bytes PartError.OutOfMemory f inside out over over_cut told below cut is = absurd (none_some f is)
+    subst (PartStops limit at ended bytes LongBreaks LengthWants) (same_Some _ _ is) (PartStops.is_cut 0 (LengthWants.in_number (cut refl)) (omega (arith, short, inside)) (told refl))
+number_stops limit at ended bytes PartError.Device f inside out over over_cut told below cut is = absurd (none-some f is)
+number_stops limit at ended bytes PartError.OutOfMemory f inside out over over_cut told below cut is = absurd (none-some f is)
 
 pub length_stops : (limit at : ℕ) (ended : Type 0) (bytes : List ℕ) (f : FileFault) → PartStops limit at ended bytes LongBreaks LengthWants f → PartStops limit at ended bytes LengthBreaks LengthWants f
 length_stops limit at ended bytes f stops =
@@ -211,7 +188,7 @@ content_stops limit at count len ended bytes is_content PartError.Limit f inside
     let past = over refl in
     let number = take len (drop at bytes) in
     let long : length number ≡ len = length-take-le len (drop at bytes) (omega (arith, length-drop at bytes, inside)) in
-    subst (PartStops limit at ended bytes (ContentBreaks is_content (2 ^ 63)) ContentWants) (some_inj _ _ is)
+    subst (PartStops limit at ended bytes (ContentBreaks is_content (2 ^ 63)) ContentWants) (same_Some _ _ is)
     (PartStops.too_long (length number + count) (ContentWants.in_content count number (drop (at + len) bytes) starts (omega (arith, length-drop (at + len) bytes, past, fits)) refl)
     (omega (arith, past, long)))
 content_stops limit at count len ended bytes is_content PartError.Ended f inside starts fits out over told short near is =
@@ -219,11 +196,11 @@ content_stops limit at count len ended bytes is_content PartError.Ended f inside
     let within = near refl in
     let number = take len (drop at bytes) in
     let long : length number ≡ len = length-take-le len (drop at bytes) (omega (arith, length-drop at bytes, inside)) in
-    subst (PartStops limit at ended bytes (ContentBreaks is_content (2 ^ 63)) ContentWants) (some_inj _ _ is)
+    subst (PartStops limit at ended bytes (ContentBreaks is_content (2 ^ 63)) ContentWants) (same_Some _ _ is)
     (PartStops.is_cut (length number + count) (ContentWants.in_content count number (drop (at + len) bytes) starts (omega (arith, length-drop (at + len) bytes, below)) refl)
     (omega (arith, within, below, long)) (told refl))
-content_stops limit at count len ended bytes is_content PartError.Device f inside starts fits out over told short near is = absurd (none_some f is)
-content_stops limit at count len ended bytes is_content PartError.OutOfMemory f inside starts fits out over told short near is = absurd (none_some f is)
+content_stops limit at count len ended bytes is_content PartError.Device f inside starts fits out over told short near is = absurd (none-some f is)
+content_stops limit at count len ended bytes is_content PartError.OutOfMemory f inside starts fits out over told short near is = absurd (none-some f is)
 
 -- a length below 0
 pub negative_length : (limit at : ℕ) (ended : Type 0) (bytes : List ℕ) (v : ℤ) (front rest : List ℕ) (f : FileFault) → v <ℤ pos 0
@@ -232,7 +209,7 @@ pub negative_length : (limit at : ℕ) (ended : Type 0) (bytes : List ℕ) (v : 
 negative_length limit at ended bytes v front rest f below starts is =
     let n = below_zero v below in
     PartStops.broken (invalid_length 0) (LengthBreaks.is_negative n.0 front rest (subst (λ w. StartsWithLong w (drop at bytes) front rest) n.1 starts)) (λ place q. cc)
-    (sym (some_inj _ _ is) ∙ ap (λ (n : ℕ). in_header (invalid_metadata (invalid_length n))) (omega arith))
+    (sym (same_Some _ _ is) ∙ ap (λ (n : ℕ). in_header (invalid_metadata (invalid_length n))) (omega arith))
 
 pub content_starts : (at count len : ℕ) (bytes : List ℕ) → at + len + count ≤ length bytes
     → StartsWithLong (pos count) (drop at bytes) (take len (drop at bytes)) (drop (at + len) bytes) → ContentFrom at (at + len) (at + len + count) bytes
@@ -249,7 +226,7 @@ content_starts at count len bytes inside starts =
 
 -- what reports a fault is not that the input failed
 pub reports_not_failed : (e : CopyError) (f : FileFault) → file_fault e ≡ Some f → e ≢ CopyError.InputFailed
-reports_not_failed e f is q = none_some f (sym (ap file_fault q) ∙ is)
+reports_not_failed e f is q = none-some f (sym (ap file_fault q) ∙ is)
 
 pub takes_none : {I : Type 0} (gives : I → List ℕ → I → Type 0) (failures : I → ℕ) → ((s : I) → gives s [] s) → (limit : ℕ) (s : I) (bytes : List ℕ)
     → Takes gives failures limit s s bytes bytes

@@ -1,6 +1,7 @@
 -- A block that is copied, or refused.
 use Rattle.std.proofs.Common.{◌≡◌, ℕ, suc, ◌+◌, ◌-◌, ◌<◌, ◌≤◌, List, [], ◌++◌, length, take, drop, Option, Some, None, Err, refl, sym, ap, subst, ◌∙◌, arith, length-append}
 use Rattle.std.proofs.lemmas.List.{take-append-drop}
+use Rattle.std.proofs.lemmas.Option.{none-some}
 use Rattle.avro_schema.specs.Value.{Value, Values, no_values, value, values_count}
 use Rattle.avro_resolve.specs.Resolve.{Resolved}
 use Rattle.avro_container.specs.declared.error.CopyError.{CopyError}
@@ -17,7 +18,6 @@ use Rattle.avro_container.specs.Parts.{block_part}
 use Rattle.avro_container.specs.Steps.{HasFault, PutsFront, Stored, reading_of}
 use Rattle.avro_container.proofs.Cut.{no_bytes}
 use Rattle.avro_container.proofs.Heads.{not_failed}
-use Rattle.avro_container.proofs.Stopping.{none_some}
 
 resolved-count : (resolve : Value → Resolved) (vs us : Values) → EachResolved resolve vs us → values_count us ≡ values_count vs
 resolved-count resolve no_values us e = ap values_count e
@@ -86,7 +86,7 @@ refuses-block {T = T} gives keeps none i i' o job limits h number ended old new 
           is_taken = lost.taken;
           is_put = none o;
           does = record {
-            refusal = record { puts = PutsFront.nothing refl; there = λ f told. absurd (none_some f (sym is ∙ told)) };
+            refusal = record { puts = PutsFront.nothing refl; there = λ f told. absurd (none-some f (sym is ∙ told)) };
             held = omega (arith, sum, near, lost.few);
           };
         }
@@ -124,7 +124,7 @@ refuses-putting gives keeps i i' o o' job limits h number ended count n old mid 
         refusal = record {
           puts = PutsFront.of_block h p.values (take n mid) (drop n mid) (block_part sync count packed) front.later is_some few p.is_block
               (all ∙ sym (take-append-drop n mid)) (block_copied job limits h count (take n mid) packed sync marked p) front.split;
-          there = λ f told. absurd (none_some f (sym none ∙ told));
+          there = λ f told. absurd (none-some f (sym none ∙ told));
         };
         held = omega (arith, ap length all, limited);
       };

@@ -1,6 +1,7 @@
 -- The data of a block behind its count and its size.
 use Rattle.std.proofs.Common.{◌≡◌, ℕ, ◌+◌, ◌<◌, ◌≤◌, List, ◌++◌, length, take, drop, Some, refl, sym, ap, subst, ◌∙◌, arith, append_assoc}
 use Rattle.std.proofs.lemmas.List.{drop-drop, length-drop}
+use Rattle.std.proofs.lemmas.Option.{same_Some, none-some}
 use Rattle.avro_container.specs.declared.part_error.PartError.{PartError}
 use Rattle.avro_container.specs.FileFault.{FileFault, in_block, cut_block, other_marker}
 use Rattle.avro_container.specs.FileSeen.{part_fault}
@@ -8,7 +9,6 @@ use Rattle.avro_container.specs.Filled.{GrowsBy, UnlessDevice}
 use Rattle.avro_container.specs.BlockFails.{FileLimitValues, BlockBegins, BlockFails, max_blocks}
 use Rattle.avro_container.specs.BlockStands.{IsBlockFault}
 use Rattle.avro_container.proofs.Cut.{grown-behind}
-use Rattle.avro_container.proofs.Stopping.{some_inj, none_some}
 
 -- a count and a size still stand at the front
 pub begins-grown : {I : Type 0} (gives : I → List ℕ → I → Type 0) (a b : I) (old new : List ℕ) (count size start : ℕ) → GrowsBy gives a b old new
@@ -42,13 +42,13 @@ body_stops gives a b old new limits sync number ended count size start PartError
 body_stops gives a b old new limits sync number ended count size start PartError.Limit f few inside begins counted sized out over told short grown is = absurd (over refl)
 body_stops gives a b old new limits sync number ended count size start PartError.Ended f few inside begins counted sized out over told short grown is = λ r same _. (
   cut_block,
-  sym (some_inj _ _ is),
+  sym (same_Some _ _ is),
   BlockFails.cut count size (drop start new) few (begins-grown gives a b old new count size start grown inside begins)
       (subst (λ l. count ≤ l.per_block) (sym same) counted) (subst (λ l. size ≤ l.block) (sym same) sized)
       (omega (arith, short refl, length-drop start new)) (told refl),
 )
-body_stops gives a b old new limits sync number ended count size start PartError.Device f few inside begins counted sized out over told short grown is = absurd (none_some f is)
-body_stops gives a b old new limits sync number ended count size start PartError.OutOfMemory f few inside begins counted sized out over told short grown is = absurd (none_some f is)
+body_stops gives a b old new limits sync number ended count size start PartError.Device f few inside begins counted sized out over told short grown is = absurd (none-some f is)
+body_stops gives a b old new limits sync number ended count size start PartError.OutOfMemory f few inside begins counted sized out over told short grown is = absurd (none-some f is)
 
 -- another marker behind them
 pub marker_fails : (new : List ℕ) (limits : FileLimitValues) (sync : List ℕ) (number : ℕ) (ended : Type 0) (count size start : ℕ) (f : FileFault)
@@ -57,7 +57,7 @@ pub marker_fails : (new : List ℕ) (limits : FileLimitValues) (sync : List ℕ)
     → IsBlockFault limits sync number ended new f
 marker_fails new limits sync number ended count size start f few begins counted sized there other is = λ r same same_sync. (
   other_marker,
-  sym (some_inj _ _ is),
+  sym (same_Some _ _ is),
   BlockFails.marker_differs count size (drop start new) few begins
       (subst (λ l. count ≤ l.per_block) (sym same) counted) (subst (λ l. size ≤ l.block) (sym same) sized)
       (omega (arith, there, length-drop start new))

@@ -1,17 +1,16 @@
 -- What holds between the steps of a copy, and what each step makes of it.
-use Rattle.std.proofs.Common.{◌≡◌, ℕ, ◌+◌, ◌-◌, ◌*◌, ◌<◌, ◌≤◌, List, [], ◌∷◌, ◌++◌, Some, None, Ok, Err, refl, sym, ap, subst, ◌∙◌, arith, append-nil}
+use Rattle.std.proofs.Common.{◌≡◌, ℕ, ◌+◌, ◌-◌, ◌*◌, ◌≤◌, List, [], ◌∷◌, ◌++◌, Some, None, Ok, Err, refl, sym, ap, subst, ◌∙◌, arith, append-nil}
 use Rattle.std.specs.List.{sum}
 use Rattle.std.proofs.lemmas.List.Sums.{sum_by_push}
 use Rattle.avro_container.specs.declared.copier_type.Copier.{Copier}
 use Rattle.avro_container.specs.declared.error.CopyError.{CopyError}
 use Rattle.avro_container.specs.declared.step.Step.{Step}
 use Rattle.avro_container.specs.Copied.{Job}
-use Rattle.avro_container.specs.File.{HeaderValue}
 use Rattle.avro_container.specs.FileFault.{FileFault}
 use Rattle.avro_container.specs.FileSeen.{file_fault}
 use Rattle.avro_container.specs.BlockFails.{FileLimitValues, max_blocks}
 use Rattle.avro_container.specs.Moved.{Moved}
-use Rattle.avro_container.specs.Steps.{Stored, Outcome, GoesOn, HeaderStep, BlockStep, Steps, Done, PutInAll, CopiedWhole, FaultStands, fresh}
+use Rattle.avro_container.specs.Steps.{Stored, Outcome, GoesOn, Steps, Done, PutInAll, CopiedWhole, FaultStands, fresh}
 use Rattle.avro_container.specs.CopierSeen.{stored_of, job_in, limits_in}
 use Rattle.avro_container.specs.Copying.{Moves, CopiesFile, CopiesFront, CopiesUpTo}
 use Rattle.avro_container.proofs.StepLaws.{Done-header, Done-block, CopiedWhole-end, PutInAll-refused, PutInAll-whole, FaultStands-refused}

@@ -7,6 +7,7 @@ use Rattle.std.proofs.lemmas.Bool.{and_parts, false≢true}
 use Rattle.std.proofs.lemmas.List.{take-append-drop, length-take-le, length-drop}
 use Rattle.std.proofs.lemmas.List.Folds.{concat-append}
 use Rattle.std.proofs.Math.Seq.{take-add}
+use Rattle.std.proofs.lemmas.Option.{same_Some, none-some}
 use Rattle.avro_schema.specs.Value.{Value, Values, no_values, value, values_count}
 use Rattle.avro_schema.specs.Node.{Node, root_of}
 use Rattle.avro_schema.specs.Seen.{values_from}
@@ -19,13 +20,12 @@ use Rattle.avro_binary.proofs.public.Zipped.{zipped-push}
 use Rattle.avro_resolve.specs.Resolve.{Resolved}
 use Rattle.avro_resolve.specs.Seen.{fault_of}
 use Rattle.avro_resolve.specs.declared.error.ReadResolveError.{ReadResolveError}
-use Rattle.avro_container.specs.BlockFails.{BlockReading, DataAreWhole, DataFail, IsNotTooMuch, datum_fault, each_within}
+use Rattle.avro_container.specs.BlockFails.{BlockReading, DataAreWhole, DataFail, IsNotTooMuch, datum_fault, each_within, DatumStands}
 use Rattle.avro_container.specs.Copied.{EachResolved}
 use Rattle.avro_container.specs.DataRead.{IsDataFault, StandForData}
 use Rattle.avro_container.specs.DatumRead.{MakesOf, PlaceFits, ReadsDatum, error_fault, place_in}
 use Rattle.avro_container.specs.FileFault.{FileFault, in_block, bytes_left, unresolved_datum}
 use Rattle.avro_container.proofs.Places.{breaks_inside}
-use Rattle.avro_container.proofs.Stopping.{none_some, some_inj}
 
 -- ---- One more datum behind others
 
@@ -137,7 +137,7 @@ data_break : (r : BlockReading) (number count m start : ℕ) (body : List ℕ) (
     → Some (in_block number (datum_fault m (behind start g))) ≡ Some f → IsDataFault r number count body f
 data_break r number count m start body us g f few inside whole breaks is = (
   datum_fault m (behind start g),
-  sym (some_inj _ _ is),
+  sym (same_Some _ _ is),
   DataFail.datum_breaks m (take start body) us (behind start g) few whole
       (record {
         rest = drop start body;
@@ -148,6 +148,18 @@ data_break r number count m start body us g f few inside whole breaks is = (
       }) refl,
 )
 
+-- the datum behind data that are whole, of which something was made
+pub datum_stands : (r : BlockReading) (start len : ℕ) (body : List ℕ) (outcome : Resolved) (made : MakesOf r.nodes r.limits.datum r.resolve (drop start body) len outcome)
+    → DatumStands r (take start body) body made.datum
+datum_stands r start len body outcome made = record {
+  bytes = take len (drop start body);
+  rest = drop len (drop start body);
+  encoded = made.encoded;
+  within = made.within;
+  split = sym (take-append-drop start body) ∙ ap (λ rest. take start body ++ rest) (sym (take-append-drop len (drop start body)))
+      ∙ sym (append_assoc (take start body) (take len (drop start body)) (drop len (drop start body)));
+}
+
 pub datum_fails : {O : Type 0} (stands : O → Value → Type 0) (r : BlockReading) (number count m start : ℕ) (body : List ℕ) (us : Values) (e : ReadResolveError) (f : FileFault)
     → m < count → start ≤ length body → DataAreWhole r m (take start body) us
     → ReadsDatum stands r.nodes r.limits.datum r.resolve (drop start body) (Err e) → error_fault number m start e ≡ Some f → IsDataFault r number count body f
@@ -155,22 +167,15 @@ datum_fails stands r number count m start body us (ReadResolveError.Read e) f fe
   where
     go : (told : Option ReadFault) → IfSome told (Breaks r.nodes r.limits.datum (root_of r.nodes) (drop start body))
         → option_map (λ g. in_block number (datum_fault m (behind start g))) told ≡ Some f → IsDataFault r number count body f
-    go None breaks is = absurd (none_some f is)
+    go None breaks is = absurd (none-some f is)
     go (Some g) breaks is = data_break r number count m start body us g f few inside whole breaks is
 datum_fails stands r number count m start body us (ReadResolveError.Resolve e) f few inside whole reads is =
     let len = reads.faulty.0 in
     let made = reads.faulty.1 in (
       unresolved_datum m (fault_of e),
-      sym (some_inj _ _ is),
+      sym (same_Some _ _ is),
       DataFail.datum_unresolved m (take start body) us made.datum (fault_of e) few whole
-          (record {
-            bytes = take len (drop start body);
-            rest = drop len (drop start body);
-            encoded = made.encoded;
-            within = made.within;
-            split = sym (take-append-drop start body) ∙ ap (λ rest. take start body ++ rest) (sym (take-append-drop len (drop start body)))
-                ∙ sym (append_assoc (take start body) (take len (drop start body)) (drop len (drop start body)));
-          }) made.resolves,
+          (datum_stands r start len body _ made) made.resolves,
     )
 
 -- what is said of a schema, limits and bytes goes over to the same ones
@@ -203,6 +208,6 @@ pub data_left : (r : BlockReading) (number count start : ℕ) (body : List ℕ) 
     → Some (in_block number bytes_left) ≡ Some f → IsDataFault r number count body f
 data_left r number count start body us f whole more is = (
   bytes_left,
-  sym (some_inj _ _ is),
+  sym (same_Some _ _ is),
   DataFail.some_left (take start body) (drop start body) us whole (sym (take-append-drop start body)) (omega (arith, more, length-drop start body)),
 )

@@ -2,6 +2,7 @@
 use Rattle.std.proofs.Common.{◌≡◌, ℕ, zero, suc, ◌+◌, ◌-◌, ◌^◌, ◌<◌, ◌≤◌, ℤ, pos, negsuc, true, false, List, ◌++◌, length, take, drop, Some, refl, sym, ap, subst, ◌∙◌, arith, length-take-le}
 use Rattle.std.specs.Prelude.{neg_ℤ}
 use Rattle.std.proofs.lemmas.List.{length-drop, drop-drop}
+use Rattle.std.proofs.lemmas.Option.{same_Some}
 use Rattle.avro_zigzag.specs.Number.{SpellsLong}
 use Rattle.avro_zigzag.specs.declared.VarError.TheVariants.{EndOfInput}
 use Rattle.avro_binary.specs.BlockHeads.{signed_count}
@@ -14,7 +15,6 @@ use Rattle.avro_container.specs.inside.MetadataParts.{TakesHead}
 use Rattle.avro_container.specs.declared.properties_head.PropertiesHead.{PropertiesHead}
 use Rattle.avro_container.proofs.PropertyRuns.{stretch_join, stretch_grown}
 use Rattle.avro_container.proofs.Behind.{stops-as, stops-whole}
-use Rattle.avro_container.proofs.Stopping.{some_inj}
 
 -- a number that fails is the count's
 pub count_stops : (limit at nodes : ℕ) (ended : Type 0) (bytes : List ℕ) (f : FileFault) → PartStops limit at ended bytes LongBreaks LengthWants f
@@ -51,7 +51,7 @@ pub least_stops : (limit at nodes : ℕ) (ended : Type 0) (bytes : List ℕ) (v 
     → StartsWithLong v (drop at bytes) front rest → Some (in_header (invalid_metadata (invalid_length at))) ≡ Some f → PartStops limit at ended bytes (HeadBreaks nodes) (HeadBreaks nodes) f
 least_stops limit at nodes ended bytes v front rest f least starts is =
     PartStops.broken (invalid_length 0) (HeadBreaks.count_least front rest (subst (λ w. StartsWithLong w (drop at bytes) front rest) least starts)) (λ place q. cc)
-    (sym (some_inj _ _ is) ∙ ap (λ (n : ℕ). in_header (invalid_metadata (invalid_length n))) (omega arith))
+    (sym (same_Some _ _ is) ∙ ap (λ (n : ℕ). in_header (invalid_metadata (invalid_length n))) (omega arith))
 
 -- where a number ends
 pub starts_stretch : (at len : ℕ) (v : ℤ) (bytes : List ℕ) → at + len ≤ length bytes → StartsWithLong v (drop at bytes) (take len (drop at bytes)) (drop len (drop at bytes))

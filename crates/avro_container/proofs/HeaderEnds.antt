@@ -2,6 +2,7 @@
 use Rattle.std.proofs.Common.{◌≡◌, ◌≢◌, ℕ, ◌+◌, ◌<◌, ◌≤◌, max, List, [], ◌++◌, length, take, drop, Some, Result, Ok, Err, true, codes, refl, sym, ap, subst, ◌∙◌, arith, append_assoc, length-append, length-take-le, take_all}
 use Rattle.std.specs.Result.{IfErr}
 use Rattle.std.proofs.lemmas.List.{take-append-drop, length-drop, drop-drop, take-append-le}
+use Rattle.std.proofs.lemmas.Option.{same_Some, none-some}
 use Rattle.avro_schema.specs.Node.{Node}
 use Rattle.avro_container.specs.File.{Property, property, is_plain_codec, IsHeader, magic}
 use Rattle.avro_container.specs.FileFault.{FileFault, in_header, no_magic, no_schema, refused_schema, unknown_codec, long_header, cut_header}
@@ -14,7 +15,6 @@ use Rattle.avro_container.specs.inside.MetadataParts.{MetadataEnds}
 use Rattle.avro_container.specs.declared.error.CopyError.{CopyError}
 use Rattle.avro_container.specs.declared.part_error.PartError.{PartError}
 use Rattle.avro_container.proofs.PropertyRuns.{stretch_grown}
-use Rattle.avro_container.proofs.Stopping.{some_inj, none_some}
 
 -- ---- The magic
 
@@ -24,18 +24,18 @@ pub magic_stops : (limit : ℕ) (ended : Type 0) (bytes : List ℕ) (e : PartErr
     → (e ≡ PartError.Ended → ended) → (e ≡ PartError.Ended → length bytes < 4) → file_fault r ≡ Some f → IsHeaderFault limit ended bytes f
 magic_stops limit ended bytes PartError.OutOfRange r f out over device memory end told short is = absurd (out refl)
 magic_stops limit ended bytes PartError.Limit r f out over device memory end told short is = absurd (over refl)
-magic_stops limit ended bytes PartError.Device r f out over device memory end told short is = absurd (none_some f (sym (ap file_fault (device refl)) ∙ is))
-magic_stops limit ended bytes PartError.OutOfMemory r f out over device memory end told short is = absurd (none_some f (sym (ap file_fault (memory refl)) ∙ is))
+magic_stops limit ended bytes PartError.Device r f out over device memory end told short is = absurd (none-some f (sym (ap file_fault (device refl)) ∙ is))
+magic_stops limit ended bytes PartError.OutOfMemory r f out over device memory end told short is = absurd (none-some f (sym (ap file_fault (memory refl)) ∙ is))
 magic_stops limit ended bytes PartError.Ended r f out over device memory end told short is =
-    (no_magic, sym (some_inj _ _ (sym (ap file_fault (end refl)) ∙ is)), HeaderFails.short_magic (short refl) (told refl))
+    (no_magic, sym (same_Some _ _ (sym (ap file_fault (end refl)) ∙ is)), HeaderFails.short_magic (short refl) (told refl))
 
 pub magic_differs : (limit : ℕ) (ended : Type 0) (bytes : List ℕ) (f : FileFault) → 4 ≤ length bytes → take 4 bytes ≢ magic → Some (in_header no_magic) ≡ Some f
     → IsHeaderFault limit ended bytes f
-magic_differs limit ended bytes f there other is = (no_magic, sym (some_inj _ _ is), HeaderFails.other_magic there other)
+magic_differs limit ended bytes f there other is = (no_magic, sym (same_Some _ _ is), HeaderFails.other_magic there other)
 
 pub magic_long : (limit : ℕ) (ended : Type 0) (bytes : List ℕ) (f : FileFault) → take 4 bytes ≡ magic → limit < 4 → Some (in_header long_header) ≡ Some f
     → IsHeaderFault limit ended bytes f
-magic_long limit ended bytes f begins small is = (long_header, sym (some_inj _ _ is), HeaderFails.no_room begins small)
+magic_long limit ended bytes f begins small is = (long_header, sym (same_Some _ _ is), HeaderFails.no_room begins small)
 
 -- it still stands there
 pub begins_grown : {I : Type 0} (gives : I → List ℕ → I → Type 0) (s t : I) (old new : List ℕ) (limit : ℕ) → GrowsBy gives s t old new → length new ≤ max (length old) limit
@@ -82,11 +82,11 @@ pub marker_part : (limit at : ℕ) (ended : Type 0) (bytes : List ℕ) (e : Part
 marker_part limit at ended bytes PartError.OutOfRange f fits out over told short near is = absurd (out refl)
 marker_part limit at ended bytes PartError.Limit f fits out over told short near is =
     let past = over refl in
-    subst (MarkerStops limit at ended bytes) (some_inj _ _ is) (MarkerStops.too_long (omega (arith, past, fits)) past)
+    subst (MarkerStops limit at ended bytes) (same_Some _ _ is) (MarkerStops.too_long (omega (arith, past, fits)) past)
 marker_part limit at ended bytes PartError.Ended f fits out over told short near is =
-    subst (MarkerStops limit at ended bytes) (some_inj _ _ is) (MarkerStops.is_cut (short refl) (near refl) (told refl))
-marker_part limit at ended bytes PartError.Device f fits out over told short near is = absurd (none_some f is)
-marker_part limit at ended bytes PartError.OutOfMemory f fits out over told short near is = absurd (none_some f is)
+    subst (MarkerStops limit at ended bytes) (same_Some _ _ is) (MarkerStops.is_cut (short refl) (near refl) (told refl))
+marker_part limit at ended bytes PartError.Device f fits out over told short near is = absurd (none-some f is)
+marker_part limit at ended bytes PartError.OutOfMemory f fits out over told short near is = absurd (none-some f is)
 
 -- ---- All three
 

@@ -1,22 +1,18 @@
 -- A header that is put.
-use Rattle.std.proofs.Common.{◌≡◌, ℕ, zero, suc, ◌<◌, pos, List, [], ◌∷◌, ◌++◌, length, refl, ap, arith, append_assoc}
+use Rattle.std.proofs.Common.{◌≡◌, ℕ, suc, ◌<◌, pos, List, [], ◌∷◌, ◌++◌, length, refl, ap, arith}
 use Rattle.std.specs.Prelude.{String}
 use Rattle.std.specs.declared.alloc.Global.{Global}
 use Rattle.std.specs.declared.vec.Vec.{Vec}
 use Rattle.avro_zigzag.specs.Number.{number_bytes}
 use Rattle.avro_schema.specs.Value.{entries_count}
-use Rattle.avro_binary.specs.Encoding.{plain, plain_blocks, plain_entries}
+use Rattle.avro_binary.specs.Encoding.{plain, plain_entries}
+use Rattle.avro_binary.proofs.public.Blocks.{block-written}
 use Rattle.avro_container.specs.File.{metadata_value, property_entries}
 use Rattle.avro_container.specs.Parts.{properties_of}
 
 count-entries : (es : List (String Global × Vec ℕ Global)) → length es ≡ entries_count (property_entries (properties_of es))
 count-entries [] = refl
 count-entries (e ∷ es) = ap suc (count-entries es)
-
-block-written : (count number : ℕ) (items old : List ℕ) → number ≡ count → 0 < count
-    → ((old ++ number_bytes (pos number)) ++ items) ++ 0 ∷ [] ≡ old ++ plain_blocks count items
-block-written zero number items old e h = absurd (omega arith)
-block-written (suc count) number items old e h = rw e (simp append_assoc)
 
 -- a count, the entries and the end
 pub metadata-written : (es : List (String Global × Vec ℕ Global)) (old : List ℕ) → 0 < length es

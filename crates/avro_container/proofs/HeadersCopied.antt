@@ -1,6 +1,7 @@
 -- A header that is copied, or refused.
 use Rattle.std.proofs.Common.{◌≡◌, ℕ, ◌≤◌, max, List, [], ◌++◌, length, take, drop, Option, Some, None, Err, refl, sym, ap, subst, ◌∙◌, arith}
 use Rattle.std.proofs.lemmas.List.{take-append-drop, length-take-le}
+use Rattle.std.proofs.lemmas.Option.{none-some}
 use Rattle.avro_container.specs.declared.error.CopyError.{CopyError}
 use Rattle.avro_container.specs.inside.BlockCopied.{RefusesWithin}
 use Rattle.avro_container.specs.BlockFails.{FileLimitValues}
@@ -15,7 +16,6 @@ use Rattle.avro_container.specs.HeaderTaken.{IsHeaderFault}
 use Rattle.avro_container.specs.Moved.{Moved}
 use Rattle.avro_container.specs.Steps.{HasFault, PutsFront, Stored}
 use Rattle.avro_container.proofs.Heads.{not_failed}
-use Rattle.avro_container.proofs.Stopping.{none_some}
 
 -- a header was taken and put
 pub copies-header : {I O : Type 0} (gives : I → List ℕ → I → Type 0) (keeps : O → List ℕ → O → Type 0) (i i' : I) (o o' : O) (job : Job) (limits : FileLimitValues)
@@ -62,7 +62,7 @@ refuses-header {T = T} gives keeps none i i' o job limits ended old new e before
           is_taken = lost.taken;
           is_put = none o;
           does = record {
-            refusal = record { puts = PutsFront.nothing refl; there = λ f told. absurd (none_some f (sym is ∙ told)) };
+            refusal = record { puts = PutsFront.nothing refl; there = λ f told. absurd (none-some f (sym is ∙ told)) };
             held = omega (arith, sum, lost.few);
           };
         }
@@ -98,7 +98,7 @@ refuses-putting gives keeps i i' o o' job limits h ended len old mid e before is
       does = record {
         refusal = record {
           puts = PutsFront.of_header h (take len mid) (drop len mid) front.later is_none stands (omega (arith, length-take-le len mid inside, short)) (all ∙ sym (take-append-drop len mid)) front.split;
-          there = λ f told. absurd (none_some f (sym none ∙ told));
+          there = λ f told. absurd (none-some f (sym none ∙ told));
         };
         held = omega (arith, ap length all, limited);
       };

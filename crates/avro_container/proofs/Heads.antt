@@ -1,6 +1,7 @@
 -- The count and the size of a block, behind which the buffer may grow.
 use Rattle.std.proofs.Common.{◌≡◌, ◌≢◌, ◌⊎◌, ℕ, ℤ, pos, ◌+◌, ◌<◌, ◌≤◌, List, ◌++◌, length, take, drop, Some, Result, Ok, Err, sym, ap, subst, ◌∙◌, arith, append_assoc, length-append}
 use Rattle.std.proofs.lemmas.List.{drop-drop}
+use Rattle.std.proofs.lemmas.Option.{same_Some, none-some}
 use Rattle.avro_binary.specs.Breaks.{StartsWithLong}
 use Rattle.avro_container.specs.declared.error.CopyError.{CopyError}
 use Rattle.avro_container.specs.FileFault.{FileFault, in_block, limit_passed}
@@ -9,7 +10,6 @@ use Rattle.avro_container.specs.Filled.{GrowsBy}
 use Rattle.avro_container.specs.BlockFails.{FileLimitValues, BlockBegins, BlockFails, max_blocks}
 use Rattle.avro_container.specs.BlockStands.{IsBlockFault}
 use Rattle.avro_container.proofs.Cut.{grown-behind}
-use Rattle.avro_container.proofs.Stopping.{some_inj, none_some}
 
 -- a number at the front still stands there
 pub starts-grown : {I : Type 0} (gives : I → List ℕ → I → Type 0) (a b : I) (old new : List ℕ) (v : ℤ) (len : ℕ) → GrowsBy gives a b old new
@@ -45,7 +45,7 @@ ok_err T x e q = cc
 
 -- an error that reports a fault is not that the input failed
 pub not_failed : (T : Type 0) (e : CopyError) (f : FileFault) → file_fault e ≡ Some f → ◌≢◌ {A = Result T CopyError} (Err e) (Err CopyError.InputFailed)
-not_failed T e f is q = none_some f (sym (ap file_fault (err_inj T e CopyError.InputFailed q)) ∙ is)
+not_failed T e f is q = none-some f (sym (ap file_fault (err_inj T e CopyError.InputFailed q)) ∙ is)
 
 -- too many data, or too many bytes of them
 pub head_large : (limits : FileLimitValues) (sync : List ℕ) (number : ℕ) (ended : Type 0) (bytes : List ℕ) (f : FileFault) (count size : ℕ) (rest : List ℕ)
@@ -53,6 +53,6 @@ pub head_large : (limits : FileLimitValues) (sync : List ℕ) (number : ℕ) (en
     → Some (in_block number limit_passed) ≡ Some f → IsBlockFault limits sync number ended bytes f
 head_large limits sync number ended bytes f count size rest few begins large is = λ r same _. (
   limit_passed,
-  sym (some_inj _ _ is),
+  sym (same_Some _ _ is),
   BlockFails.large count size rest few begins (subst (λ l. (l.per_block < count) ⊎ (l.block < size)) (sym same) large),
 )

@@ -1,23 +1,24 @@
 -- The blocks of a header's metadata, one behind another.
 use Rattle.std.proofs.Common.{◌≡◌, ℕ, ◌+◌, ◌-◌, ◌^◌, ◌<◌, ◌≤◌, pos, true, false, ◌&&◌, List, [], ◌∷◌, ◌++◌, length, refl, sym, ap, subst, ◌∙◌, arith, append_assoc, append-nil, length-append, bytes_eq}
-use Rattle.std.specs.Prelude.{neg_ℤ}
 use Rattle.std.specs.List.{concat, list_all}
-use Rattle.std.proofs.lemmas.Bool.Decides.{nat_tests}
+use Rattle.std.proofs.lemmas.Bool.{and_from}
 use Rattle.avro_zigzag.specs.Number.{SpellsLong, AreGroups}
 use Rattle.avro_schema.specs.Value.{keys_of, entries_count}
 use Rattle.avro_schema.specs.Node.{Node, root_of}
 use Rattle.avro_schema.specs.Fits.{is_count, is_text, entries_fit}
 use Rattle.avro_schema.specs.Distinct.{are_distinct}
-use Rattle.avro_binary.specs.Blocks.{IsInBlocks, no_more, counted as counted_block, sized as sized_block}
+use Rattle.avro_binary.specs.Blocks.{IsInBlocks, no_more}
 use Rattle.avro_binary.specs.Encoding.{Encodes}
 use Rattle.avro_binary.specs.Fault.{ReadFault, behind}
 use Rattle.avro_binary.specs.Breaks.{Left, all_left, Head, counted, sized, head_count, head_bytes, IsHead, HasSize, BlocksBreak, EntriesAreWhole}
+use Rattle.avro_binary.proofs.public.Behind.{behind-append, behind-none}
+use Rattle.avro_binary.proofs.public.Blocks.{block_first}
+use Rattle.avro_binary.proofs.public.Ranges.{is_count-from_below}
 use Rattle.avro_container.specs.File.{Property, property_entries, metadata_nodes, metadata_value}
 use Rattle.avro_container.specs.HeaderFails.{PropertyWants, entry_limits}
 use Rattle.avro_container.specs.inside.HeaderParts.{EachProperty, PropertiesRun, left_after, PropertyBreaks}
 use Rattle.avro_container.specs.inside.MetadataParts.{Blocks, BlockRun, MetadataRun, metadata_left}
-use Rattle.avro_container.proofs.Behind.{behind-append, behind-none}
-use Rattle.avro_container.proofs.PropertyRuns.{names-append, each-append, each-counted, each-spelled, each-texts, each-fit, entries-counted, keys-names, and-intro, run_whole}
+use Rattle.avro_container.proofs.PropertyRuns.{names-append, each-append, each-counted, each-spelled, each-texts, each-fit, entries-counted, keys-names, run_whole}
 
 -- ---- Each property has a byte at least
 
@@ -38,20 +39,7 @@ each-long (p ∷ ps) items s =
     let all : length (concat items) ≡ length s.0 + length (concat s.1) = ap (λ (is : List (List ℕ)). length (concat is)) s.4 ∙ length-append s.0 (concat s.1) in
     omega (arith, one, named, first, all, each-long ps s.1 s.3)
 
--- ---- A block before others
-
-block_first : (left : ℕ) (head : Head) (block later : List (List ℕ)) (rest : List ℕ) → IsHead left head → length block ≡ head_count head
-    → HasSize head (length (concat block)) → IsInBlocks later rest → IsInBlocks (block ++ later) (head_bytes head ++ concat block ++ rest)
-block_first left (counted count count_bytes) block later rest is same size blocks =
-    let some = is.0 in
-    let few = is.1 in
-    counted_block block later count_bytes rest refl (omega arith) (omega arith) (subst (λ (n : ℕ). SpellsLong (pos n) count_bytes) (sym same) is.3) refl blocks
-block_first left (sized count size count_bytes size_bytes) block later rest is same has blocks =
-    let some = is.0 in
-    let few = is.1 in
-    let short = is.3 in
-    sized_block block later count_bytes size_bytes rest refl (omega arith) (omega arith) (let s : size ≡ length (concat block) = has in omega arith)
-    (subst (λ (n : ℕ). SpellsLong (neg_ℤ (pos n)) count_bytes) (sym same) is.4) (subst (λ (n : ℕ). SpellsLong (pos n) size_bytes) has is.5) refl blocks
+-- ---- Blocks
 
 -- the properties of a block are whole
 pub block_whole : (left : Left) (head : Head) (ps : List Property) (body : List ℕ) → PropertiesRun left ps body → length ps ≡ head_count head → head_count head ≤ left.nodes
@@ -130,9 +118,9 @@ metadata_whole ps front last run none few = record {
       let counted = is_count (entries_count entries) in
       let texts = list_all is_text (keys_of entries) in
       let distinct = are_distinct bytes_eq (keys_of entries) in
-      and-intro (counted && texts && distinct) (entries_fit metadata_nodes Node.bytes entries)
-      (and-intro (counted && texts) distinct
-      (and-intro counted texts (is_count-from (entries_count entries) (omega (arith, few, entries-counted ps))) (each-texts ps run.items run.each))
+      and_from (counted && texts && distinct) (entries_fit metadata_nodes Node.bytes entries)
+      (and_from (counted && texts) distinct
+      (and_from counted texts (is_count-from_below (entries_count entries) (omega (arith, few, entries-counted ps))) (each-texts ps run.items run.each))
       (ap (are_distinct bytes_eq) (keys-names ps) ∙ run.distinct))
       (each-fit ps run.items run.each);
   spelled = (
@@ -141,6 +129,3 @@ metadata_whole ps front last run none few = record {
     subst (λ (is : List (List ℕ)). IsInBlocks is (front ++ last)) (append-nil run.items) (run.ends [] last (no_more none)),
   );
 }
-  where
-    is_count-from : (n : ℕ) → n < 2 ^ 63 → is_count n ≡ true
-    is_count-from n h = grind (arith, nat_tests)

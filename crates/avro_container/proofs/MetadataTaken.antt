@@ -5,6 +5,7 @@ use Rattle.std.specs.BTreeSet.{BTreeSet, contains_text}
 use Rattle.std.specs.declared.alloc.Global.{Global}
 use Rattle.avro_binary.specs.Fault.{ReadFault, wrong_block_size, behind}
 use Rattle.avro_binary.specs.Breaks.{Left, all_left, Head, counted, sized, head_count, head_bytes, IsHead, HasSize, HeadBreaks, BlocksBreak}
+use Rattle.avro_binary.proofs.public.Behind.{behind-append}
 use Rattle.avro_container.specs.File.{Property}
 use Rattle.avro_container.specs.FileFault.{FileFault, in_header, invalid_metadata}
 use Rattle.avro_container.specs.Filled.{GrowsBy}
@@ -12,7 +13,7 @@ use Rattle.avro_container.specs.HeaderFails.{PropertyWants, entry_limits}
 use Rattle.avro_container.specs.inside.HeaderParts.{Stretch, AreNames, names_of, left_after, PropertyBreaks, RunStops, PartStops, TakesProperties}
 use Rattle.avro_container.specs.inside.MetadataParts.{Blocks, BlockRun, MetadataRun, MetadataSoFar, MetadataEnds, TakesHead, metadata_left}
 use Rattle.avro_container.specs.declared.properties_head.PropertiesHead.{PropertiesHead}
-use Rattle.avro_container.proofs.Behind.{stops-whole, behind-append}
+use Rattle.avro_container.proofs.Behind.{stops-whole}
 use Rattle.avro_container.proofs.PropertyRuns.{stretch_none, stretch_join, stretch_grown, names-append, run_whole}
 use Rattle.avro_container.proofs.MetadataRuns.{metadata_none, metadata_push, metadata_whole, block_whole, head_few, groups-some}
 

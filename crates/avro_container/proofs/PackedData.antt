@@ -1,7 +1,7 @@
 -- The data of a block that are packed, one by one.
 use Rattle.std.proofs.Common.{◌≡◌, ℕ, suc, ◌+◌, ◌<◌, ◌≤◌, true, List, [], ◌++◌, length, take, drop, Some, Ok, sym, ap, subst, ◌∙◌, arith, append_assoc, append-nil}
-use Rattle.std.proofs.lemmas.List.{take-append-drop}
 use Rattle.std.proofs.Math.Seq.{take-add}
+use Rattle.std.proofs.lemmas.Option.{same_Some}
 use Rattle.avro_schema.specs.Value.{Value, Values, no_values, value}
 use Rattle.avro_binary.specs.Encoding.{plain, plain_values}
 use Rattle.avro_container.specs.BlockFails.{BlockReading, DataAreWhole, DataFail}
@@ -9,8 +9,7 @@ use Rattle.avro_container.specs.inside.DataPacked.{PacksData}
 use Rattle.avro_container.specs.DataRead.{IsDataFault}
 use Rattle.avro_container.specs.DatumRead.{MakesOf}
 use Rattle.avro_container.specs.FileFault.{FileFault, in_block, limit_passed}
-use Rattle.avro_container.proofs.Data.{add, whole-more, whole-none}
-use Rattle.avro_container.proofs.Stopping.{some_inj}
+use Rattle.avro_container.proofs.Data.{add, whole-more, whole-none, datum_stands}
 
 plain-add : (us : Values) (u : Value) → plain_values (add us u) ≡ plain_values us ++ plain u
 plain-add no_values u = append-nil (plain u)
@@ -53,15 +52,8 @@ pack-over r number count m start len body packed bytes f few before found copied
     let u = found.0 in
     let made = found.2 in (
       limit_passed,
-      sym (some_inj _ _ is),
+      sym (same_Some _ _ is),
       DataFail.too_much m (take start body) before.made made.datum u few before.whole
-          (record {
-            bytes = take len (drop start body);
-            rest = drop len (drop start body);
-            encoded = made.encoded;
-            within = made.within;
-            split = sym (take-append-drop start body) ∙ ap (λ rest. take start body ++ rest) (sym (take-append-drop len (drop start body)))
-                ∙ sym (append_assoc (take start body) (take len (drop start body)) (drop len (drop start body)));
-          }) made.resolves
+          (datum_stands r start len body (Ok u) made) made.resolves
           (copied, subst (λ b. r.limits.block < length b) (packed-add packed bytes before.made u before.packed_are found.1) over),
     )

@@ -1,16 +1,16 @@
 -- Properties of a header's metadata, one behind another.
-use Rattle.std.proofs.Common.{◌≡◌, ℕ, suc, ◌+◌, ◌-◌, ◌^◌, ◌<◌, ◌≤◌, Bool, true, false, not, ◌&&◌, ◌||◌, List, [], ◌∷◌, ◌++◌, length, drop, refl, sym, ap, subst, ◌∙◌, arith, append_assoc, append-nil, length-append, bytes_eq}
+use Rattle.std.proofs.Common.{◌≡◌, ℕ, suc, ◌+◌, ◌-◌, ◌^◌, ◌≤◌, true, false, List, [], ◌∷◌, ◌++◌, length, drop, refl, sym, ap, subst, ◌∙◌, arith, append_assoc, append-nil, length-append, bytes_eq}
 use Rattle.std.specs.List.{concat, list_any, list_all}
-use Rattle.std.specs.Cmp.Lexicographic.{nat_list_eq_equiv}
-use Rattle.std.proofs.lemmas.Bool.{and_parts}
-use Rattle.std.proofs.lemmas.Bool.Decides.{nat_tests}
-use Rattle.std.proofs.lemmas.List.Folds.{list_any-append}
+use Rattle.std.proofs.lemmas.Bool.{and_parts, and_from}
+use Rattle.std.proofs.lemmas.List.Folds.{concat-append}
 use Rattle.avro_schema.specs.Value.{Value, entries_size, entries_depth, entries_longest_blob, entries_count, keys_of}
 use Rattle.avro_schema.specs.Node.{Node}
 use Rattle.avro_schema.specs.Fits.{fits, entries_fit, is_count, is_text}
 use Rattle.avro_schema.specs.Distinct.{are_distinct}
+use Rattle.avro_schema.proofs.public.FitsParts.{is_count-below}
 use Rattle.avro_binary.specs.Encoding.{EntriesSpelled}
 use Rattle.avro_binary.specs.Breaks.{Left, EntriesAreWhole}
+use Rattle.avro_binary.proofs.public.Distinct.{distinct-push}
 use Rattle.avro_container.specs.File.{Property, property_entries, metadata_nodes}
 use Rattle.avro_container.specs.Filled.{GrowsBy}
 use Rattle.avro_container.specs.HeaderFails.{entry_limits}
@@ -46,40 +46,11 @@ pub names-append : (ps qs : List Property) → names_of (ps ++ qs) ≡ names_of 
 names-append [] qs = refl
 names-append (p ∷ ps) qs = ap (λ (ns : List (List ℕ)). p.name ∷ ns) (names-append ps qs)
 
-or-none : (b c : Bool) → (b || c) ≡ false → (b ≡ false) × (c ≡ false)
-or-none false false h = (refl, refl)
-or-none false true h = absurd cc
-or-none true c h = absurd cc
-
-not-none : (b : Bool) → not b ≡ true → b ≡ false
-not-none false h = refl
-not-none true h = absurd cc
-
-pub and-intro : (a b : Bool) → a ≡ true → b ≡ true → (a && b) ≡ true
-and-intro true true h k = refl
-and-intro true false h k = k
-and-intro false b h k = h
-
--- a name that doesn't stand before keeps them distinct
-distinct-push : (keys : List (List ℕ)) (k : List ℕ) → are_distinct bytes_eq keys ≡ true → list_any (bytes_eq k) keys ≡ false → are_distinct bytes_eq (keys ++ k ∷ []) ≡ true
-distinct-push [] k d h = refl
-distinct-push (x ∷ keys) k d h =
-    let parts = and_parts (not (list_any (bytes_eq x) keys)) (are_distinct bytes_eq keys) d in
-    let apart = or-none (bytes_eq k x) (list_any (bytes_eq k) keys) h in
-    let other : bytes_eq x k ≡ false = nat_list_eq_equiv.symm x k ∙ apart.0 in
-    let none : list_any (bytes_eq x) (keys ++ k ∷ []) ≡ false =
-    list_any-append (bytes_eq x) keys (k ∷ []) ∙ (λ i. not-none (list_any (bytes_eq x) keys) parts.0 i || (other i || false)) in
-    and-intro (not (list_any (bytes_eq x) (keys ++ k ∷ []))) (are_distinct bytes_eq (keys ++ k ∷ [])) (ap not none) (distinct-push keys k parts.1 apart.1)
-
 -- ---- Properties
 
 pub each-append : (ps qs : List Property) (items more : List (List ℕ)) → EachProperty ps items → EachProperty qs more → EachProperty (ps ++ qs) (items ++ more)
 each-append [] qs items more s t = subst (λ (is : List (List ℕ)). EachProperty qs (is ++ more)) (sym s) t
 each-append (p ∷ ps) qs items more s t = (s.0, s.1 ++ more, s.2, each-append ps qs s.1 more s.3 t, ap (λ (is : List (List ℕ)). is ++ more) s.4)
-
-pub concat-append : (items more : List (List ℕ)) → concat (items ++ more) ≡ concat items ++ concat more
-concat-append [] more = refl
-concat-append (x ∷ items) more = ap (λ (r : List ℕ). x ++ r) (concat-append items more) ∙ sym (append_assoc x (concat items) (concat more))
 
 pub each-counted : (ps : List Property) (items : List (List ℕ)) → EachProperty ps items → length items ≡ length ps
 each-counted [] items s = ap length s
@@ -92,21 +63,18 @@ each-spelled (p ∷ ps) items s =
 
 pub each-texts : (ps : List Property) (items : List (List ℕ)) → EachProperty ps items → list_all is_text (keys_of (property_entries ps)) ≡ true
 each-texts [] items s = refl
-each-texts (p ∷ ps) items s = and-intro (is_text p.name) (list_all is_text (keys_of (property_entries ps))) s.2.named.text (each-texts ps s.1 s.3)
+each-texts (p ∷ ps) items s = and_from (is_text p.name) (list_all is_text (keys_of (property_entries ps))) s.2.named.text (each-texts ps s.1 s.3)
 
 pub each-fit : (ps : List Property) (items : List (List ℕ)) → EachProperty ps items → entries_fit metadata_nodes Node.bytes (property_entries ps) ≡ true
 each-fit [] items s = refl
 each-fit (p ∷ ps) items s =
-    and-intro (fits metadata_nodes Node.bytes (Value.bytes p.content)) (entries_fit metadata_nodes Node.bytes (property_entries ps)) s.2.are_bytes (each-fit ps s.1 s.3)
-
-pub count-below : (n : ℕ) → is_count n ≡ true → n < 2 ^ 63
-count-below n h = grind (arith, nat_tests)
+    and_from (fits metadata_nodes Node.bytes (Value.bytes p.content)) (entries_fit metadata_nodes Node.bytes (property_entries ps)) s.2.are_bytes (each-fit ps s.1 s.3)
 
 each-short : (ps : List Property) (items : List (List ℕ)) → EachProperty ps items → entries_longest_blob (property_entries ps) ≤ 2 ^ 63
 each-short [] items s = omega arith
 each-short (p ∷ ps) items s =
-    let name = count-below (length p.name) (and_parts (is_count (length p.name)) _ s.2.named.text).0 in
-    let content = count-below (length p.content) (and_parts (is_count (length p.content)) _ s.2.are_bytes).0 in
+    let name = is_count-below (length p.name) (and_parts (is_count (length p.name)) _ s.2.named.text).0 in
+    let content = is_count-below (length p.content) (and_parts (is_count (length p.content)) _ s.2.are_bytes).0 in
     let rest = each-short ps s.1 s.3 in
     omega (arith, name, content, rest)
 

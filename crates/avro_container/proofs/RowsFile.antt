@@ -19,6 +19,7 @@ use Rattle.avro_container.specs.FileFault.{no_magic, cut_header, long_header, in
 use Rattle.avro_container.specs.BlockFails.{BlockReading, CountFails, DataAreWhole, DataFail, BlockFails}
 use Rattle.avro_container.specs.HeaderFails.{HeaderFails, EndsIn, ContentWants, PropertyWants, entry_limits}
 use Rattle.avro_container.specs.Copied.{Job, into, IsCopied}
+use Rattle.avro_container.proofs.Data.{whole-none}
 
 -- the marker 00 01 .. 0f
 abbrev marker : List ℕ
@@ -198,17 +199,7 @@ negative_count = BlockFails.count_fails (omega arith)
     (CountFails.is_negative 0 (1 ∷ []) (0 ∷ marker) (record { spelled = SpellsLong-number_bytes (negsuc 0) refl; in_range = refl; split = refl }))
 
 no_data : DataAreWhole one_int 0 [] no_values
-no_data = record {
-  values = no_values;
-  items = [];
-  counted = refl;
-  fitting = refl;
-  spelled = refl;
-  bytes_are = refl;
-  within = refl;
-  resolved = refl;
-  small = λ _. omega arith;
-}
+no_data = whole-none one_int
 
 one_datum : DataAreWhole one_int 1 (10 ∷ []) (value (Value.int (pos 5)) no_values)
 one_datum = record {

@@ -2,11 +2,11 @@
 use Rattle.std.proofs.Common.{◌≡◌, ℕ, pos, ◌+◌, ◌<◌, ◌≤◌, List, ◌++◌, length, take, drop, Some, refl, sym, ap, subst, ◌∙◌, arith, append_assoc, length-append}
 use Rattle.std.proofs.lemmas.List.{drop-drop, length-drop, length-take-le}
 use Rattle.std.proofs.Math.Seq.{take-add, take-append-add}
+use Rattle.std.proofs.lemmas.Option.{same_Some}
 use Rattle.avro_binary.specs.Breaks.{StartsWithLong}
 use Rattle.avro_container.specs.FileFault.{FileFault, in_block, limit_passed}
 use Rattle.avro_container.specs.BlockFails.{FileLimitValues, BlockBegins, BlockFails, max_blocks}
 use Rattle.avro_container.specs.BlockStands.{BlockStands, IsBlockFault}
-use Rattle.avro_container.proofs.Stopping.{some_inj}
 
 -- the count, the size, the data and the marker, of bytes that go on
 pub block_stands : (new : List ℕ) (limits : FileLimitValues) (sync : List ℕ) (count size start : ℕ) → start ≤ length new
@@ -45,4 +45,4 @@ block_stands new limits sync count size start inside begins few short there mark
 -- too many blocks
 pub too_many : (new : List ℕ) (limits : FileLimitValues) (sync : List ℕ) (number : ℕ) (ended : Type 0) (f : FileFault) → max_blocks ≤ number → 0 < length new
     → Some (in_block number limit_passed) ≡ Some f → IsBlockFault limits sync number ended new f
-too_many new limits sync number ended f many some is = λ r _ _. (limit_passed, sym (some_inj _ _ is), BlockFails.too_many_blocks many some)
+too_many new limits sync number ended f many some is = λ r _ _. (limit_passed, sym (same_Some _ _ is), BlockFails.too_many_blocks many some)

@@ -1,6 +1,7 @@
 -- A count or a size that is not taken, as a fault of its block.
-use Rattle.std.proofs.Common.{◌≡◌, ℕ, ℤ, pos, negsuc, ◌<◌, ◌<ℤ◌, List, length, Some, None, refl, subst, arith}
+use Rattle.std.proofs.Common.{◌≡◌, ℕ, ℤ, pos, negsuc, ◌<◌, ◌<ℤ◌, List, length, Some, refl, subst, arith}
 use Rattle.std.proofs.lemmas.Int.{ints}
+use Rattle.std.proofs.lemmas.Option.{same_Some, none-some}
 use Rattle.avro_zigzag.specs.NumberFault.{LongFails}
 use Rattle.avro_zigzag.specs.declared.VarError.TheVariants.{EndOfInput, OutOfRange}
 use Rattle.avro_binary.specs.Breaks.{StartsWithLong}
@@ -10,22 +11,16 @@ use Rattle.avro_container.specs.FileSeen.{part_fault}
 use Rattle.avro_container.specs.BlockFails.{FileLimitValues, CountFails, BlockFails, max_blocks}
 use Rattle.avro_container.specs.BlockStands.{CountStops, IsBlockFault}
 
-pub some_inj : {A : Type 0} (x y : A) → Some x ≡ Some y → x ≡ y
-some_inj x y p = cc
-
-pub none_some : {A : Type 0} (x : A) → None ≡ Some x → ⊥
-none_some x p = cc
-
 pub count_stops : (number : ℕ) (ended : Type 0) (bytes : List ℕ) (e : PartError) (f : FileFault)
     → (e ≡ PartError.OutOfRange → LongFails bytes OutOfRange) → (e ≡ PartError.Limit → ⊥) → (e ≡ PartError.Ended → ended)
     → (e ≡ PartError.Ended → LongFails bytes EndOfInput) → part_fault number e ≡ Some f → CountStops number ended bytes f
 count_stops number ended bytes PartError.OutOfRange f out over told cut is =
-    subst (CountStops number ended bytes) (some_inj _ _ is) (CountStops.fails (CountFails.number_fails OutOfRange (out refl) (λ e. cc)))
+    subst (CountStops number ended bytes) (same_Some _ _ is) (CountStops.fails (CountFails.number_fails OutOfRange (out refl) (λ e. cc)))
 count_stops number ended bytes PartError.Limit f out over told cut is = absurd (over refl)
 count_stops number ended bytes PartError.Ended f out over told cut is =
-    subst (CountStops number ended bytes) (some_inj _ _ is) (CountStops.is_cut (cut refl) (told refl))
-count_stops number ended bytes PartError.Device f out over told cut is = absurd (none_some f is)
-count_stops number ended bytes PartError.OutOfMemory f out over told cut is = absurd (none_some f is)
+    subst (CountStops number ended bytes) (same_Some _ _ is) (CountStops.is_cut (cut refl) (told refl))
+count_stops number ended bytes PartError.Device f out over told cut is = absurd (none-some f is)
+count_stops number ended bytes PartError.OutOfMemory f out over told cut is = absurd (none-some f is)
 
 pub below_zero : (v : ℤ) → v <ℤ pos 0 → (n : ℕ) × (v ≡ negsuc n)
 below_zero (pos n) h = absurd (grind (arith, ints))
@@ -36,7 +31,7 @@ pub negative_stops : (number : ℕ) (ended : Type 0) (bytes : List ℕ) (v : ℤ
     → StartsWithLong v bytes front rest → Some (in_block number (invalid_count negative)) ≡ Some f → CountStops number ended bytes f
 negative_stops number ended bytes v front rest f below starts is =
     let n = below_zero v below in
-    subst (CountStops number ended bytes) (some_inj _ _ is)
+    subst (CountStops number ended bytes) (same_Some _ _ is)
     (CountStops.fails (CountFails.is_negative n.0 front rest (subst (λ w. StartsWithLong w bytes front rest) n.1 starts)))
 
 -- the count is the first part of a block, and the size the second

@@ -1,29 +1,30 @@
 -- Names and properties that are taken, and what stops them.
-use Rattle.std.proofs.Common.{◌≡◌, ℕ, zero, suc, ◌+◌, ◌-◌, ◌^◌, ◌<◌, ◌≤◌, pos, Bool, true, false, cond, ◌||◌, List, [], ◌∷◌, ◌++◌, length, take, drop, refl, sym, ap, subst, ◌∙◌, arith, append_assoc, append-nil, length-append, length-take-le, bytes_eq, get_or, nat_lt}
+use Rattle.std.proofs.Common.{◌≡◌, ℕ, zero, suc, ◌+◌, ◌-◌, ◌^◌, ◌<◌, ◌≤◌, pos, Bool, true, false, cond, ◌||◌, List, [], ◌∷◌, ◌++◌, length, take, drop, refl, sym, ap, subst, ◌∙◌, arith, append_assoc, append-nil, length-append, length-take-le, bytes_eq, get_or}
 use Rattle.std.specs.Prelude.{String}
 use Rattle.std.specs.declared.alloc.Global.{Global}
 use Rattle.std.specs.BTreeSet.{BTreeSet, contains_text}
-use Rattle.std.specs.List.{list_any, list_all}
+use Rattle.std.specs.List.{list_any}
 use Rattle.std.specs.Str.{is_utf8}
 use Rattle.std.specs.Cmp.Lexicographic.{nat_list_eq_equiv}
 use Rattle.std.proofs.lemmas.Bool.{and_parts}
-use Rattle.std.proofs.lemmas.Bool.Decides.{nat_tests}
 use Rattle.std.proofs.lemmas.List.Folds.{list_any-append}
 use Rattle.std.proofs.lemmas.List.{length-drop, take-append-drop, drop-drop}
 use Rattle.avro_zigzag.specs.Number.{SpellsLong}
 use Rattle.avro_schema.specs.Node.{Node}
 use Rattle.avro_schema.specs.Fits.{is_count}
 use Rattle.avro_schema.specs.Distinct.{are_distinct}
+use Rattle.avro_schema.proofs.public.FitsParts.{is_count-below}
 use Rattle.avro_binary.specs.Encoding.{SpellsBytes}
 use Rattle.avro_binary.specs.Fault.{ReadFault, invalid_text, duplicate_key}
 use Rattle.avro_binary.specs.Breaks.{Left, ContentBreaks, KeyBreaks, EntryBreaks, BreaksWithin}
+use Rattle.avro_binary.proofs.public.Ranges.{is_count-from_below, bytes-below}
 use Rattle.avro_container.specs.File.{Property, metadata_nodes}
 use Rattle.avro_container.specs.FileFault.{FileFault, in_header, invalid_metadata}
 use Rattle.avro_container.specs.Filled.{GrowsBy}
 use Rattle.avro_container.specs.HeaderFails.{ContentWants, PropertyWants}
 use Rattle.avro_container.specs.inside.HeaderParts.{Stretch, ContentFrom, AreNames, NameStands, names_of, left_after, PropertyBreaks, RunStops, PartStops, TakesName, TakesProperty, TakesProperties}
 use Rattle.avro_container.proofs.Behind.{stops-whole, stops-as}
-use Rattle.avro_container.proofs.PropertyRuns.{stretch_none, stretch_join, stretch_grown, names-append, run_none, run_push, count-below}
+use Rattle.avro_container.proofs.PropertyRuns.{stretch_none, stretch_join, stretch_grown, names-append, run_none, run_push}
 
 -- the content between two places, and the stretch of it with its length
 pub content_stretch : (at start end : ℕ) (bytes : List ℕ) → ContentFrom at start end bytes
@@ -53,9 +54,6 @@ content_small : (at start end : ℕ) (bytes : List ℕ) → ContentFrom at start
 content_small at start end bytes c small =
     let size : length (take (end - start) (drop start bytes)) ≡ end - start = length-take-le (end - start) (drop start bytes) (omega (arith, length-drop start bytes, c.ordered, c.inside)) in
     omega (arith, size, c.inside, small)
-
-is_count-from_below : (n : ℕ) → n < 2 ^ 63 → is_count n ≡ true
-is_count-from_below n h = grind (arith, nat_tests)
 
 -- ---- Names
 
@@ -132,7 +130,7 @@ pub value_stops : (limit at middle : ℕ) (ended : Type 0) (bytes name front : L
     → list_any (bytes_eq name) left.keys ≡ false → 0 < left.nodes
     → PartStops limit middle ended bytes (ContentBreaks (λ content. true) (2 ^ 63)) ContentWants f → PartStops limit at ended bytes (PropertyBreaks left) (PropertyWants left) f
 value_stops limit at middle ended bytes name front left f stretch stands new some stops =
-    let short : length name < 2 ^ 63 = count-below (length name) (and_parts (is_count (length name)) _ stands.text).0 in
+    let short : length name < 2 ^ 63 = is_count-below (length name) (and_parts (is_count (length name)) _ stands.text).0 in
     stops-whole limit at middle ended bytes front (ContentBreaks (λ content. true) (2 ^ 63)) ContentWants (PropertyBreaks left) (PropertyWants left) f stretch.place stretch.split
     (λ rest g b. EntryBreaks.value_breaks name front stands.spelled stands.text (omega (arith, short)) new
     (record { rest = rest; fault = g; split = refl; breaks = node_breaks left.nodes rest g some b; moved = refl }))
@@ -184,12 +182,6 @@ next_stops gives s t old new limit ended left names count done at middle first b
     (λ rest g b. record { properties = r.properties; front = r.front; few = fewer; run = r.run; next = record { rest = rest; fault = g; split = refl; breaks = b; moved = refl } })
     (λ rest g b. record { properties = r.properties; front = r.front; few = fewer; run = r.run; next = record { rest = rest; fault = g; split = refl; breaks = b; moved = refl } })
     stops
-
-bytes-below : (xs : List ℕ) → ((i : ℕ) → get_or xs i 0 < 2 ^ 8) → list_all (λ x. nat_lt x 256) xs ≡ true
-bytes-below [] h = refl
-bytes-below (x ∷ xs) h =
-    let first : nat_lt x 256 ≡ true = let b : x < 2 ^ 8 = h zero in grind (arith, nat_tests) in
-    rw (first, bytes-below xs (λ i. h (suc i))) refl
 
 -- a name as the first part of a property
 pub content_key_stops : (limit at : ℕ) (ended : Type 0) (bytes : List ℕ) (keys : List (List ℕ)) (f : FileFault)

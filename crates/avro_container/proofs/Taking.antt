@@ -14,11 +14,12 @@ GrowsBy-chain gives chain a b c old mid new p q = record {
   grown = q.grown ∙ ap (λ m. m ++ q.bytes) p.grown ∙ append_assoc old p.bytes q.bytes;
 }
 
-pub TakesAtMost-later : {I : Type 0} (gives : I → List ℕ → I → Type 0)
+-- a call behind another
+pub TakesAtMost-behind : {I : Type 0} (gives : I → List ℕ → I → Type 0)
     → ((s t u : I) (front back : List ℕ) → gives s front t → gives t back u → gives s (front ++ back) u)
-    → (a b c : I) (old mid : List ℕ) (limit : ℕ) → GrowsBy gives a b old mid → TakesAtMost gives b c (limit - length mid)
-    → length mid ≤ max (length old) limit → TakesAtMost gives a c (limit - length old)
-TakesAtMost-later gives chain a b c old mid limit p q fits =
+    → (a b c : I) (old mid : List ℕ) (room most : ℕ) → GrowsBy gives a b old mid → TakesAtMost gives b c room → length mid + room ≤ length old + most
+    → TakesAtMost gives a c most
+TakesAtMost-behind gives chain a b c old mid room most p q fits =
     let long : length mid ≡ length old + length p.bytes = ap length p.grown ∙ length-append old p.bytes in
     let sum : length (p.bytes ++ q.bytes) ≡ length p.bytes + length q.bytes = length-append p.bytes q.bytes in
     record {
@@ -26,6 +27,13 @@ TakesAtMost-later gives chain a b c old mid limit p q fits =
       taken = chain a b c p.bytes q.bytes p.taken q.taken;
       few = omega (arith, long, sum, fits, q.few);
     }
+
+pub TakesAtMost-later : {I : Type 0} (gives : I → List ℕ → I → Type 0)
+    → ((s t u : I) (front back : List ℕ) → gives s front t → gives t back u → gives s (front ++ back) u)
+    → (a b c : I) (old mid : List ℕ) (limit : ℕ) → GrowsBy gives a b old mid → TakesAtMost gives b c (limit - length mid)
+    → length mid ≤ max (length old) limit → TakesAtMost gives a c (limit - length old)
+TakesAtMost-later gives chain a b c old mid limit p q fits =
+    TakesAtMost-behind gives chain a b c old mid (limit - length mid) (limit - length old) p q (omega (arith, fits))
 
 -- what is said of a call whose bytes are not lost
 pub UnlessDevice-then : {P Q : Type 0} (e : PartError) → UnlessDevice e P → (P → Q) → UnlessDevice e Q
@@ -34,19 +42,6 @@ UnlessDevice-then PartError.Limit p go = go p
 UnlessDevice-then PartError.Ended p go = go p
 UnlessDevice-then PartError.Device p go = tt
 UnlessDevice-then PartError.OutOfMemory p go = go p
-
-pub TakesAtMost-behind : {I : Type 0} (gives : I → List ℕ → I → Type 0)
-    → ((s t u : I) (front back : List ℕ) → gives s front t → gives t back u → gives s (front ++ back) u)
-    → (a b c : I) (old mid : List ℕ) (room want : ℕ) → GrowsBy gives a b old mid → TakesAtMost gives b c room → length mid + room ≤ want
-    → TakesAtMost gives a c (want - length old)
-TakesAtMost-behind gives chain a b c old mid room want p q fits =
-    let long : length mid ≡ length old + length p.bytes = ap length p.grown ∙ length-append old p.bytes in
-    let sum : length (p.bytes ++ q.bytes) ≡ length p.bytes + length q.bytes = length-append p.bytes q.bytes in
-    record {
-      bytes = p.bytes ++ q.bytes;
-      taken = chain a b c p.bytes q.bytes p.taken q.taken;
-      few = omega (arith, long, sum, fits, q.few);
-    }
 
 pub unless_failed : {P : Type 0} (e : PartError) (r : CopyError) → (e ≡ PartError.Device → r ≡ CopyError.InputFailed) → UnlessDevice e P
     → r ≢ CopyError.InputFailed → P

@@ -55,15 +55,11 @@ pub(crate) fn bytes_of_certificates<'a, R: Files + AllocGlobal>(
     rt: &R,
     word: &'a str,
 ) -> Result<Vec<u8>, Failure<'a>> {
-    match bytes_of(rt, word, Certificate::MAX_LEN as u64) {
-        Ok(bytes) => {
-            if bytes.len() > Certificate::MAX_LEN {
-                return Err(Failure::of_certificate(word, CertError::Malformed));
-            }
-            Ok(bytes)
-        }
-        Err(e) => Err(Failure::of_reading(word, &e)),
+    let bytes = bytes_of(rt, word, Certificate::MAX_LEN as u64)?;
+    if bytes.len() > Certificate::MAX_LEN {
+        return Err(Failure::of_certificate(word, CertError::Malformed));
     }
+    Ok(bytes)
 }
 
 fn print_finding<O: Write>(out: &mut O, text: &str, finding: Finding) -> io::Result<Finding> {

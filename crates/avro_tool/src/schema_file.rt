@@ -13,12 +13,10 @@ pub(crate) fn read_schema_file<'a, R: Files + AllocGlobal>(
     rt: &R,
     word: &'a str,
 ) -> Result<Schema, Failure<'a>> {
-    match bytes_of(rt, word, MAX_TEXT) {
-        Ok(bytes) => match read_schema(rt.alloc(), &bytes) {
-            Ok(schema) => Ok(schema),
-            Err(e) => Err(Failure::of_schema(word, e)),
-        },
-        Err(e) => Err(Failure::of_reading(word, &e)),
+    let bytes = bytes_of(rt, word, MAX_TEXT)?;
+    match read_schema(rt.alloc(), &bytes) {
+        Ok(schema) => Ok(schema),
+        Err(e) => Err(Failure::of_schema(word, e)),
     }
 }
 
@@ -27,12 +25,10 @@ pub(crate) fn read_text_file<'a, R: Files + AllocGlobal>(
     rt: &R,
     word: &'a str,
 ) -> Result<ReaderText, Failure<'a>> {
-    match bytes_of(rt, word, MAX_TEXT) {
-        Ok(bytes) => match ReaderText::read(rt.alloc(), &bytes) {
-            Ok(text) => Ok(text),
-            Err(e) => Err(Failure::of_schema(word, e)),
-        },
-        Err(e) => Err(Failure::of_reading(word, &e)),
+    let bytes = bytes_of(rt, word, MAX_TEXT)?;
+    match ReaderText::read(rt.alloc(), &bytes) {
+        Ok(text) => Ok(text),
+        Err(e) => Err(Failure::of_schema(word, e)),
     }
 }
 
@@ -48,11 +44,18 @@ pub(crate) fn read_reader<'a, R: Files + AllocGlobal>(
 }
 
 /// The bytes of a file, up to one more than a text may have.
-pub(crate) fn bytes_of<R: Files + AllocGlobal>(
+pub(crate) fn bytes_of<'a, R: Files + AllocGlobal>(
     rt: &R,
-    path: &str,
+    word: &'a str,
     limit: u64,
-) -> io::Result<Vec<u8>> {
+) -> Result<Vec<u8>, Failure<'a>> {
+    match read_bytes(rt, word, limit) {
+        Ok(bytes) => Ok(bytes),
+        Err(e) => Err(Failure::of_reading(word, &e)),
+    }
+}
+
+fn read_bytes<R: Files + AllocGlobal>(rt: &R, path: &str, limit: u64) -> io::Result<Vec<u8>> {
     let mut bytes = Vec::new(rt.alloc());
     fs::open(rt, path)?
         .take(limit.saturating_add(1))

@@ -53,11 +53,8 @@ fn show_data<'a, I: Input, O: Write>(
         Ok(header) => header,
         Err(error) => return Err(Failure::of_container(word, error)),
     };
-    let plan = match plan_for(alloc, &header, reader) {
-        Ok(plan) => plan,
-        Err(Memory) => return Err(Failure::OutOfMemory),
-    };
-    show_blocks(alloc, input, word, &header, &plan, out)
+    let plan = plan_for(alloc, &header, reader)?;
+    show_blocks(alloc, input, word, &header, &plan, &limits, out)
 }
 
 /// Prints the data of the blocks behind a header, those of a block once the whole block was read.
@@ -67,10 +64,11 @@ fn show_blocks<'a, I: Input, O: Write>(
     word: &'a str,
     header: &Header,
     plan: &Option<Plan<'_>>,
+    limits: &FileLimits,
     out: &mut O,
 ) -> Result<Finding, Failure<'a>> {
     let schema = shown_schema(header, plan);
-    let mut blocks = Blocks::new(alloc, header, &FileLimits::default());
+    let mut blocks = Blocks::new(alloc, header, limits);
     for _ in 0..u64::MAX {
         match next_data(&mut blocks, input, plan) {
             Ok(Some(data)) => show_block(alloc, schema, &data, out)?,
@@ -115,13 +113,9 @@ fn next_data<I: Input>(
         (values_of all.items) ≡ true)) }
     ensures same { blocks.new.header ≡ blocks.old.header }
 {
-    match blocks.next(input) {
-        Ok(Some(block)) => match read_block(&block, plan) {
-            Ok(data) => Ok(Some(data)),
-            Err(error) => Err(error),
-        },
-        Ok(None) => Ok(None),
-        Err(error) => Err(error),
+    match blocks.next(input)? {
+        Some(block) => Ok(Some(read_block(&block, plan)?)),
+        None => Ok(None),
     }
 }
 

@@ -93,25 +93,25 @@ read_item_blocks-returns-in-Ok-array g t c =
 
 -- ---- Maps
 
-pub read_entry_blocks-loop-entries-init : goal.read_entry_blocks-loop-entries-init
-read_entry_blocks-loop-entries-init g t c =
+pub maps::read_entry_blocks-loop-entries-init : goal.maps::read_entry_blocks-loop-entries-init
+maps::read_entry_blocks-loop-entries-init g t c =
     let nodes = schema_nodes c.args.schema.now in
     ([], [], c.new-keys.ensures, blocks_none (entries_kind nodes (limits_at c.args.cursor.now) (node_at nodes c.args.place.0)) c.args.cursor.now refl, c.in-Ok.ensures.kept, c.in-Ok.ensures.stands nodes c.args.place.0)
 
-pub read_entry_blocks-returns-in_err-head : goal.read_entry_blocks-returns-in_err-head
-read_entry_blocks-returns-in_err-head g t c =
+pub maps::read_entry_blocks-returns-in_err-head : goal.maps::read_entry_blocks-returns-in_err-head
+maps::read_entry_blocks-returns-in_err-head g t c =
     let p = err_from_is_err_and c.from_residual.result c.from_residual.ensures.1 in
     rw (p.1, p.2) (record { found = tt; refused = head_refused c.loop-entries.invariant.3 c.in_err-head.field-0.0 c.in_err-head.ensures.refused })
 
-pub read_entry_blocks-returns-in-Ok-map : goal.read_entry_blocks-returns-in-Ok-map
-read_entry_blocks-returns-in-Ok-map g t c =
+pub maps::read_entry_blocks-returns-in-Ok-map : goal.maps::read_entry_blocks-returns-in-Ok-map
+maps::read_entry_blocks-returns-in-Ok-map g t c =
     let inv = c.loop-entries.invariant in
     let nodes = schema_nodes c.args.schema.now in
     let end = end_read c.loop-entries.cursor c.block.new.self (rw c.in_default.is at c.in_ok-head.ensures.found) in
     map_found nodes c.args.place.0 inv.3 end c.in-Ok-map.out c.nodes-nodes.ensures.in_range (g.met.M.Make.keeps_on c.args.maker.now c.loop-entries.maker c.map.new.self inv.4 c.in-Ok-map.ensures.kept, c.in-Ok-map.ensures.stands nodes c.args.place.0 c.args.at inv.0 inv.5)
 
-pub read_entry_blocks-returns-in_err-read_entries : goal.read_entry_blocks-returns-in_err-read_entries
-read_entry_blocks-returns-in_err-read_entries g t c =
+pub maps::read_entry_blocks-returns-in_err-read_entries : goal.maps::read_entry_blocks-returns-in_err-read_entries
+maps::read_entry_blocks-returns-in_err-read_entries g t c =
     let inv = c.loop-entries.invariant in
     let done = inv.3 in
     let head = head_read c.loop-entries.cursor c.block.new.self c.in-Some.head (rw c.in-Some.is at c.in_ok-head.ensures.found) in
@@ -119,16 +119,16 @@ read_entry_blocks-returns-in_err-read_entries g t c =
     let p = err_from_is_err_and c.from_residual-in_err-read_entries.result c.from_residual-in_err-read_entries.ensures.1 in
     rw (p.1, p.2) (record { found = tt; refused = item_refused done head c.count-count.result c.in_err-read_entries.field-0.0 c.count-count.ensures read.refused })
 
-pub read_entry_blocks-loop-entries-smaller : goal.read_entry_blocks-loop-entries-smaller
-read_entry_blocks-loop-entries-smaller g t c =
+pub maps::read_entry_blocks-loop-entries-smaller : goal.maps::read_entry_blocks-loop-entries-smaller
+maps::read_entry_blocks-loop-entries-smaller g t c =
     let inv = c.loop-entries.invariant in
     let done = inv.3 in
     let head = head_read c.loop-entries.cursor c.block.new.self c.in-Some.head (rw c.in-Some.is at c.in_ok-head.ensures.found) in
     let read = c.in_ok-read_entries.ensures (limits_at c.args.cursor.now) inv.1 (depth_kept done head) (blob_kept done head) inv.2 done.stand.distinct in
     block_smaller done head read.found.3 (read.found.2 ∙ c.count-count.ensures)
 
-pub read_entry_blocks-loop-entries-preserved : goal.read_entry_blocks-loop-entries-preserved
-read_entry_blocks-loop-entries-preserved g t c =
+pub maps::read_entry_blocks-loop-entries-preserved : goal.maps::read_entry_blocks-loop-entries-preserved
+maps::read_entry_blocks-loop-entries-preserved g t c =
     let inv = c.loop-entries.invariant in
     let done = inv.3 in
     let head = head_read c.loop-entries.cursor c.block.new.self c.in-Some.head (rw c.in-Some.is at c.in_ok-head.ensures.found) in
@@ -139,8 +139,8 @@ read_entry_blocks-loop-entries-preserved g t c =
     let ends = c.in_ok-end_block.ensures c.loop-entries.cursor.place size head.head head.is_block (place_is done head found counted) in
     (inv.0 ++ read.found.0, read.found.1, read.found.4.0, blocks_push done head found counted (has_size tt c.loop-entries.cursor.place head.head size ends), g.met.M.Make.keeps_on c.args.maker.now c.loop-entries.maker c.read_entries.new.maker inv.4 read.found.4.1, read.found.4.2 c.args.at inv.0 inv.5)
 
-pub read_entry_blocks-returns-in_err-end_block : goal.read_entry_blocks-returns-in_err-end_block
-read_entry_blocks-returns-in_err-end_block g t c =
+pub maps::read_entry_blocks-returns-in_err-end_block : goal.maps::read_entry_blocks-returns-in_err-end_block
+maps::read_entry_blocks-returns-in_err-end_block g t c =
     let inv = c.loop-entries.invariant in
     let done = inv.3 in
     let head = head_read c.loop-entries.cursor c.block.new.self c.in-Some.head (rw c.in-Some.is at c.in_ok-head.ensures.found) in
@@ -153,11 +153,10 @@ read_entry_blocks-returns-in_err-end_block g t c =
 
 -- ---- Entries
 
-pub read_entries-returns-in_err-key : goal.read_entries-returns-in_err-key
-read_entries-returns-in_err-key g t c = λ limits before d b are distinct.
+pub maps::read_entries-returns-in_err-key : goal.maps::read_entries-returns-in_err-key
+maps::read_entries-returns-in_err-key g t c = λ limits before d b are distinct.
     let nodes = schema_nodes c.args.schema.now in
     let n = node_at nodes c.args.place.0 in
-    let start = c.args.cursor.now in
     let now = c.loop-done.cursor in
     let so_far = c.loop-done.invariant.1 limits before d b are distinct in
     let xs = so_far.0 in
@@ -170,14 +169,12 @@ read_entries-returns-in_err-key g t c = λ limits before d b are distinct.
     let p = err_from_is_err_and c.from_residual.result c.from_residual.ensures.1 in
     let e = c.in_err-key.field-0.0 in
     let read = c.in_err-key.ensures.read keys so_far.3 in
-    let refused = run_breaks (entries_kind nodes limits n) run c.args.count e few (key_report nodes limits n now keys e long read.refused) in
-    rw (p.1, p.2) (record { found = tt; refused = refused })
+    rw (p.1, p.2) (record { found = tt; refused = run_breaks (entries_kind nodes limits n) run c.args.count e few (key_report nodes limits n now keys e long read.refused) })
 
-pub read_entries-returns-in_err-value : goal.read_entries-returns-in_err-value
-read_entries-returns-in_err-value g t c = λ limits before d b are distinct.
+pub maps::read_entries-returns-in_err-value : goal.maps::read_entries-returns-in_err-value
+maps::read_entries-returns-in_err-value g t c = λ limits before d b are distinct.
     let nodes = schema_nodes c.args.schema.now in
     let n = node_at nodes c.args.place.0 in
-    let start = c.args.cursor.now in
     let now = c.loop-done.cursor in
     let so_far = c.loop-done.invariant.1 limits before d b are distinct in
     let xs = so_far.0 in
@@ -190,23 +187,17 @@ read_entries-returns-in_err-value g t c = λ limits before d b are distinct.
     let few : length xs < c.args.count = omega arith in
     let mid = c.key.new.self in
     let read = c.in_ok-key.ensures.read keys so_far.3 in
-    let key = c.in_ok-key.key.now in
-    let front = read.found.0 in
-    let is = read.found.1 in
-    let passes = read.found.2 in
     let p = err_from_is_err_and c.from_residual-in_err-value.result c.from_residual-in_err-value.ensures.1 in
     let e = c.in_err-value.field-0.0 in
-    let refused = run_breaks (entries_kind nodes limits n) run c.args.count e few
-    (entry_report nodes limits n now mid keys key front e is passes deep long c.in_err-value.ensures.refused) in
-    rw (p.1, p.2) (record { found = tt; refused = refused })
+    let reported = entry_report nodes limits n now mid keys c.in_ok-key.key.now read.found.0 e read.found.1 read.found.2 deep long c.in_err-value.ensures.refused in
+    rw (p.1, p.2) (record { found = tt; refused = run_breaks (entries_kind nodes limits n) run c.args.count e few reported })
 
-pub read_entries-loop-done-preserved : goal.read_entries-loop-done-preserved
-read_entries-loop-done-preserved g t c = (
+pub maps::read_entries-loop-done-preserved : goal.maps::read_entries-loop-done-preserved
+maps::read_entries-loop-done-preserved g t c = (
   let found = c.in_ok-value.ensures.found in found.1.moves.depth ∙ c.in_ok-key.ensures.depth ∙ c.loop-done.invariant.0,
   λ limits before d b are distinct.
       let nodes = schema_nodes c.args.schema.now in
       let n = node_at nodes c.args.place.0 in
-      let start = c.args.cursor.now in
       let now = c.loop-done.cursor in
       let so_far = c.loop-done.invariant.1 limits before d b are distinct in
       let xs = so_far.0 in
@@ -239,8 +230,8 @@ read_entries-loop-done-preserved g t c = (
       (xs ++ (key, v) ∷ [], keys ++ key ∷ [], omega (arith, length-append xs ((key, v) ∷ [])), read.added, more, kept, stand),
 )
 
-pub read_entries-returns : goal.read_entries-returns
-read_entries-returns g t c = λ limits before d b are distinct.
+pub maps::read_entries-returns : goal.maps::read_entries-returns
+maps::read_entries-returns g t c = λ limits before d b are distinct.
     let so_far = c.loop-done.invariant.1 limits before d b are distinct in
     let xs = so_far.0 in
     let keys = so_far.1 in
@@ -258,7 +249,6 @@ read_items-returns-in_err-value g t c = λ limits d b.
     let p = err_from_is_err_and c.from_residual.result c.from_residual.ensures.1 in
     let nodes = schema_nodes c.args.schema.now in
     let n = node_at nodes c.args.place.0 in
-    let start = c.args.cursor.now in
     let now = c.loop-done.cursor in
     let so_far = c.loop-done.invariant.1 limits d b in
     let counted = so_far.1 in
@@ -266,15 +256,13 @@ read_items-returns-in_err-value g t c = λ limits d b.
     let few : length so_far.0 < c.args.count = omega arith in
     let e = c.in_err-value.field-0.0 in
     let reported = value_report nodes limits n now [] e (d ∙ sym so_far.2.moves.depth) (b ∙ sym so_far.2.moves.blob) c.in_err-value.ensures.refused in
-    let refused = run_breaks (values_kind nodes limits n) so_far.2 c.args.count e few reported in
-    rw (p.1, p.2) (record { found = tt; refused = refused })
+    rw (p.1, p.2) (record { found = tt; refused = run_breaks (values_kind nodes limits n) so_far.2 c.args.count e few reported })
 
 pub read_items-loop-done-preserved : goal.read_items-loop-done-preserved
 read_items-loop-done-preserved g t c =
     let found = c.in_ok-value.ensures.found in
     let nodes = schema_nodes c.args.schema.now in
     let n = node_at nodes c.args.place.0 in
-    let start = c.args.cursor.now in
     let now = c.loop-done.cursor in
     let after = c.read_place.new.cursor in
     let v = found.0 in
@@ -318,61 +306,43 @@ read_place-returns-then-not-has g t c =
 
 pub read_place-returns-in-Null : goal.read_place-returns-in-Null
 read_place-returns-in-Null g t c =
-    let nodes = schema_nodes c.args.schema.now in
-    let is : node_at nodes c.args.place.0 ≡ Node.null = sym c.node.ensures ∙ ap node_of c.in-Null.is in
-    rw is (c.read_null-in-Null.ensures nodes)
+    rw (sym c.node.ensures ∙ ap node_of c.in-Null.is) (c.read_null-in-Null.ensures (schema_nodes c.args.schema.now))
 
 pub read_place-returns-in-Boolean : goal.read_place-returns-in-Boolean
 read_place-returns-in-Boolean g t c =
-    let nodes = schema_nodes c.args.schema.now in
-    let is : node_at nodes c.args.place.0 ≡ Node.boolean = sym c.node.ensures ∙ ap node_of c.in-Boolean.is in
-    rw is (c.read_boolean.ensures nodes)
+    rw (sym c.node.ensures ∙ ap node_of c.in-Boolean.is) (c.read_boolean.ensures (schema_nodes c.args.schema.now))
 
 pub read_place-returns-in-Int : goal.read_place-returns-in-Int
 read_place-returns-in-Int g t c =
-    let nodes = schema_nodes c.args.schema.now in
-    let is : node_at nodes c.args.place.0 ≡ Node.int = sym c.node.ensures ∙ ap node_of c.in-Int.is in
-    rw is (c.read_int.ensures nodes)
+    rw (sym c.node.ensures ∙ ap node_of c.in-Int.is) (c.read_int.ensures (schema_nodes c.args.schema.now))
 
 pub read_place-returns-in-Long : goal.read_place-returns-in-Long
 read_place-returns-in-Long g t c =
-    let nodes = schema_nodes c.args.schema.now in
-    let is : node_at nodes c.args.place.0 ≡ Node.long = sym c.node.ensures ∙ ap node_of c.in-Long.is in
-    rw is (c.read_long.ensures nodes)
+    rw (sym c.node.ensures ∙ ap node_of c.in-Long.is) (c.read_long.ensures (schema_nodes c.args.schema.now))
 
 pub read_place-returns-in-Bytes : goal.read_place-returns-in-Bytes
 read_place-returns-in-Bytes g t c =
-    let nodes = schema_nodes c.args.schema.now in
-    let is : node_at nodes c.args.place.0 ≡ Node.bytes = sym c.node.ensures ∙ ap node_of c.in-Bytes.is in
-    rw is (c.read_bytes.ensures nodes)
+    rw (sym c.node.ensures ∙ ap node_of c.in-Bytes.is) (c.read_bytes.ensures (schema_nodes c.args.schema.now))
 
 pub read_place-returns-in-Str : goal.read_place-returns-in-Str
 read_place-returns-in-Str g t c =
-    let nodes = schema_nodes c.args.schema.now in
-    let is : node_at nodes c.args.place.0 ≡ Node.string = sym c.node.ensures ∙ ap node_of c.in-Str.is in
-    rw is (c.read_text.ensures nodes)
+    rw (sym c.node.ensures ∙ ap node_of c.in-Str.is) (c.read_text.ensures (schema_nodes c.args.schema.now))
 
 pub read_place-returns-in-Record : goal.read_place-returns-in-Record
 read_place-returns-in-Record g t c =
-    let nodes = schema_nodes c.args.schema.now in
     let record_is = c.in-Record.record in
-    let is : node_at nodes c.args.place.0 ≡ Node.record_of record_is.name record_is.aliases.items (seen_fields record_is.fields.items) = sym c.node.ensures ∙ ap node_of c.in-Record.is in
-    rw (is, ← c.deref-in-Record.ensures.value) (c.read_record.ensures record_is.name record_is.aliases.items)
+    rw (sym c.node.ensures ∙ ap node_of c.in-Record.is, ← c.deref-in-Record.ensures.value) (c.read_record.ensures record_is.name record_is.aliases.items)
 
 pub read_place-returns-in-Enum : goal.read_place-returns-in-Enum
 read_place-returns-in-Enum g t c =
-    let nodes = schema_nodes c.args.schema.now in
     let enum_is = c.in-Enum.enumeration in
-    let is : node_at nodes c.args.place.0 ≡ Node.enum enum_is.name enum_is.aliases.items (texts_of enum_is.symbols.items) enum_is.default = sym c.node.ensures ∙ ap node_of c.in-Enum.is in
-    let l = c.len.ensures in
-    rw is (c.read_symbol.ensures nodes enum_is.name enum_is.aliases.items (texts_of enum_is.symbols.items) enum_is.default (l ∙ enum_is.symbols.ok.0 ∙ sym (texts-length enum_is.symbols.items)))
+    rw (sym c.node.ensures ∙ ap node_of c.in-Enum.is) (c.read_symbol.ensures (schema_nodes c.args.schema.now) enum_is.name enum_is.aliases.items (texts_of enum_is.symbols.items) enum_is.default
+    (c.len.ensures ∙ enum_is.symbols.ok.0 ∙ sym (texts-length enum_is.symbols.items)))
 
 pub read_place-returns-in-Fixed : goal.read_place-returns-in-Fixed
 read_place-returns-in-Fixed g t c =
-    let nodes = schema_nodes c.args.schema.now in
     let fixed_is = c.in-Fixed.fixed in
-    let is : node_at nodes c.args.place.0 ≡ Node.fixed fixed_is.name fixed_is.aliases.items fixed_is.size = sym c.node.ensures ∙ ap node_of c.in-Fixed.is in
-    rw is (c.read_fixed.ensures nodes fixed_is.name fixed_is.aliases.items)
+    rw (sym c.node.ensures ∙ ap node_of c.in-Fixed.is) (c.read_fixed.ensures (schema_nodes c.args.schema.now) fixed_is.name fixed_is.aliases.items)
 
 -- ---- Nodes with parts
 
@@ -387,13 +357,13 @@ read_array-returns-in_err-out g t c =
     rw (p.1, p.2) (node_refused (schema_nodes c.args.schema.now) (Node.array c.args.place.0) c.args.cursor.now c.enter.new.self c.read_item_blocks.new.cursor c.read_item_blocks.new.cursor
     c.in_err-out.field-0.0 c.in_ok-enter.ensures.entered c.in_err-out.ensures)
 
-pub read_map-returns-in_err-enter : goal.read_map-returns-in_err-enter
-read_map-returns-in_err-enter g t c =
+pub maps::read_map-returns-in_err-enter : goal.maps::read_map-returns-in_err-enter
+maps::read_map-returns-in_err-enter g t c =
     let p = err_from_is_err_and c.from_residual.result c.from_residual.ensures.1 in
     rw (p.1, p.2) (enter_refused (schema_nodes c.args.schema.now) (Node.map_of c.args.place.0) c.args.cursor.now c.enter.new.self c.in_err-enter.field-0.0 c.in_err-enter.ensures.refused)
 
-pub read_map-returns-in_err-out : goal.read_map-returns-in_err-out
-read_map-returns-in_err-out g t c =
+pub maps::read_map-returns-in_err-out : goal.maps::read_map-returns-in_err-out
+maps::read_map-returns-in_err-out g t c =
     let p = err_from_is_err_and c.from_residual-in_err-out.result c.from_residual-in_err-out.ensures.1 in
     rw (p.1, p.2) (node_refused (schema_nodes c.args.schema.now) (Node.map_of c.args.place.0) c.args.cursor.now c.enter.new.self c.read_entry_blocks.new.cursor c.read_entry_blocks.new.cursor
     c.in_err-out.field-0.0 c.in_ok-enter.ensures.entered c.in_err-out.ensures)
@@ -482,8 +452,7 @@ read_fields-returns-in-Ok-record g t c = λ name aliases.
     let so_far = c.loop-field.invariant in
     let past : length fields ≤ i = c.loop-field-test.false in
     let done = subst (λ (ps : List ℕ). FieldsDone nodes ps c.args.cursor.now c.loop-field.cursor so_far.0) (places_all fields i past) so_far.1 in
-    record_found nodes name aliases (seen_fields fields) c.args.cursor.now c.loop-field.cursor so_far.0 c.in-Ok-record.out
-    (subst (λ (ps : List ℕ). FieldsDone nodes ps c.args.cursor.now c.loop-field.cursor so_far.0) (places_all fields i past) so_far.1)
+    record_found nodes name aliases (seen_fields fields) c.args.cursor.now c.loop-field.cursor so_far.0 c.in-Ok-record.out done
     (g.met.M.Make.keeps_on c.args.maker.now c.loop-field.maker c.record.new.self so_far.3 c.in-Ok-record.ensures.kept, c.in-Ok-record.ensures.stands nodes name aliases (seen_fields fields) c.args.at so_far.0 so_far.4 done.fitting)
 
 -- ---- Unions
@@ -538,8 +507,8 @@ read_items-loop-done-init g t c = (
       ([], refl, none, g.met.M.Make.keeps_itself c.args.maker.now, kept),
 )
 
-pub read_entries-loop-done-init : goal.read_entries-loop-done-init
-read_entries-loop-done-init g t c = (
+pub maps::read_entries-loop-done-init : goal.maps::read_entries-loop-done-init
+maps::read_entries-loop-done-init g t c = (
   refl,
   λ limits before d b are distinct.
       let nodes = schema_nodes c.args.schema.now in

@@ -16,8 +16,8 @@ decreases-read_place g l = 4 * l.cursor.now.depth + 1
 abbrev pub decreases-read_array : goal.decreases-read_array
 decreases-read_array g l = 4 * l.cursor.now.depth
 
-abbrev pub decreases-read_map : goal.decreases-read_map
-decreases-read_map g l = 4 * l.cursor.now.depth
+abbrev pub decreases-maps::read_map : goal.decreases-maps::read_map
+decreases-maps::read_map g l = 4 * l.cursor.now.depth
 
 abbrev pub decreases-read_union : goal.decreases-read_union
 decreases-read_union g l = 4 * l.cursor.now.depth
@@ -28,8 +28,8 @@ decreases-read_record g l = 4 * l.cursor.now.depth
 abbrev pub decreases-read_item_blocks : goal.decreases-read_item_blocks
 decreases-read_item_blocks g l = 4 * l.cursor.now.depth + 3
 
-abbrev pub decreases-read_entry_blocks : goal.decreases-read_entry_blocks
-decreases-read_entry_blocks g l = 4 * l.cursor.now.depth + 3
+abbrev pub decreases-maps::read_entry_blocks : goal.decreases-maps::read_entry_blocks
+decreases-maps::read_entry_blocks g l = 4 * l.cursor.now.depth + 3
 
 abbrev pub decreases-read_branch : goal.decreases-read_branch
 decreases-read_branch g l = 4 * l.cursor.now.depth + 3
@@ -40,8 +40,8 @@ decreases-read_fields g l = 4 * l.cursor.now.depth + 3
 abbrev pub decreases-read_items : goal.decreases-read_items
 decreases-read_items g l = 4 * l.cursor.now.depth + 2
 
-abbrev pub decreases-read_entries : goal.decreases-read_entries
-decreases-read_entries g l = 4 * l.cursor.now.depth + 2
+abbrev pub decreases-maps::read_entries : goal.decreases-maps::read_entries
+decreases-maps::read_entries g l = 4 * l.cursor.now.depth + 2
 
 -- the blocks so far, which are of some items
 abbrev pub invariant-read_item_blocks-loop-items : goal.invariant-read_item_blocks-loop-items
@@ -51,13 +51,13 @@ invariant-read_item_blocks-loop-items g l = (xs : List Value) × ArrayDone (sche
 abbrev pub decreases-read_item_blocks-loop-items : goal.decreases-read_item_blocks-loop-items
 decreases-read_item_blocks-loop-items g l = l.cursor.nodes
 
-abbrev pub invariant-read_entry_blocks-loop-entries : goal.invariant-read_entry_blocks-loop-entries
-invariant-read_entry_blocks-loop-entries g l =
+abbrev pub invariant-maps::read_entry_blocks-loop-entries : goal.invariant-maps::read_entry_blocks-loop-entries
+invariant-maps::read_entry_blocks-loop-entries g l =
     (xs : List (List ℕ × Value)) × (keys : List (List ℕ)) × (l.keys ≡ key_set keys) × MapDone (schema_nodes l.schema) l.place.0 l.initial.cursor l.cursor keys xs
     × g.M.Make.keeps l.fn.maker l.maker × g.M.Make.entries_stand_for l.maker (schema_nodes l.schema) l.place.0 l.fn.at l.entries xs
 
-abbrev pub decreases-read_entry_blocks-loop-entries : goal.decreases-read_entry_blocks-loop-entries
-decreases-read_entry_blocks-loop-entries g l = l.cursor.nodes
+abbrev pub decreases-maps::read_entry_blocks-loop-entries : goal.decreases-maps::read_entry_blocks-loop-entries
+decreases-maps::read_entry_blocks-loop-entries g l = l.cursor.nodes
 
 -- so many items so far
 abbrev pub invariant-read_items-loop-done : goal.invariant-read_items-loop-done
@@ -68,8 +68,8 @@ invariant-read_items-loop-done g l =
     × ((at : _) (us : List Value) → g.M.Make.items_stand_for l.initial.maker (schema_nodes l.schema) l.place.0 at l.initial.items us → g.M.Make.items_stand_for l.maker (schema_nodes l.schema) l.place.0 at l.items (us ++ xs)))
 
 -- so many entries so far
-abbrev pub invariant-read_entries-loop-done : goal.invariant-read_entries-loop-done
-invariant-read_entries-loop-done g l =
+abbrev pub invariant-maps::read_entries-loop-done : goal.invariant-maps::read_entries-loop-done
+invariant-maps::read_entries-loop-done g l =
     (l.cursor.depth ≡ l.initial.cursor.depth) × ((limits : LimitValues) (before : List (List ℕ)) → limits.depth ≡ l.initial.cursor.depth → limits.blob ≡ l.initial.cursor.blob
     → l.initial.keys ≡ key_set before → are_distinct bytes_eq before ≡ true
     → (xs : List (List ℕ × Value)) × (keys : List (List ℕ)) × (length xs ≡ l._done) × (l.keys ≡ key_set keys)

@@ -1,9 +1,9 @@
 -- A block, part by part.
 use Rattle.std.proofs.Common.{Err, ap, sym, ◌∙◌, arith, rules}
+use Rattle.std.proofs.lemmas.Option.{none-some}
 use Rattle.avro_container.specs.Filled.{GrowsBy}
 use Rattle.avro_container.specs.Held.{held}
 use Rattle.avro_container.proofs.Taking.{GrowsBy-chain, TakesAtMost-later}
-use Rattle.avro_container.proofs.Stopping.{none_some}
 use Rattle.avro_container.proofs.Heads.{err_inj, ok_err}
 use Rattle.avro_container.proofs.Bodies.{begins-grown}
 use Rattle.avro_container.proofs.Standing.{block_stands, too_many}
@@ -13,7 +13,7 @@ pub returns-in-Err-clause-taken : goal.returns-in-Err-clause-taken
 returns-in-Err-clause-taken g c = λ other. c.in-Err.ensures.taken (λ q. other (ap Err (err_inj _ _ _ q)))
 
 pub returns-in-Err-clause-refused : goal.returns-in-Err-clause-refused
-returns-in-Err-clause-refused g c = λ f is. absurd (none_some f (sym c.in-Err.ensures.refused ∙ is))
+returns-in-Err-clause-refused g c = λ f is. absurd (none-some f (sym c.in-Err.ensures.refused ∙ is))
 
 pub returns-in-Err-clause-fails : goal.returns-in-Err-clause-fails
 returns-in-Err-clause-fails g c = λ q. c.in-Err.ensures.fails (ap Err (err_inj _ _ _ q))

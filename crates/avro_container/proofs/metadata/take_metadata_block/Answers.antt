@@ -1,10 +1,10 @@
 -- A block of the metadata that was taken, or what stops it.
 use Rattle.std.proofs.Common.{sym, arith}
+use Rattle.std.proofs.lemmas.Option.{same_Some}
 use Rattle.avro_container.specs.Held.{held}
 use Rattle.avro_container.specs.Parts.{properties_of}
 use Rattle.avro_container.specs.inside.MetadataParts.{metadata_left}
 use Rattle.avro_container.proofs.Behind.{own_refused, then_refused, takes_then, reports_not_failed}
-use Rattle.avro_container.proofs.Stopping.{some_inj}
 use Rattle.avro_container.proofs.MetadataTaken.{next_head_stops, next_run_stops, block_pushed, size_stops, metadata_ended, many_left, few_so_far, head_small, head_further}
 use Rattle.avro_container.proofs.metadata.take_metadata_block.Goals as goal
 
@@ -65,7 +65,7 @@ returns-then-is_other_size-clause-refused g c = λ f is m.
     let other = c.is_other_size.ensures.other c.if-is_other_size.true in
     size_stops g.I.Input.gives _ _ _ old mid new c.args.reach.limit c.args.at c.in-Ok-take_properties.end (g.I.Input.ended c.take_properties.new.input) _ _ before after head f
     c.in-Ok.ensures.took.grown c.in-Ok-take_properties.ensures.took.grown m c.in-Ok.ensures.found (omega (arith, c.if-head-eq0.false)) other.0 many
-    (c.in-Ok-take_properties.ensures.found (metadata_left before) (omega (arith, few, many)) m.named m.run.distinct) other.1 (sym (some_inj _ _ is))
+    (c.in-Ok-take_properties.ensures.found (metadata_left before) (omega (arith, few, many)) m.named m.run.distinct) other.1 (sym (same_Some _ _ is))
 
 pub returns-clause-further : goal.returns-clause-further
 returns-clause-further g c =

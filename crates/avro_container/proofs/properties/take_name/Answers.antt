@@ -3,9 +3,9 @@ use Rattle.std.proofs.Common.{◌≡◌, ◌-◌, true, false, cond, bytes_eq, L
 use Rattle.std.specs.Prelude.{string_bytes}
 use Rattle.std.specs.BTreeSet.{contains_text}
 use Rattle.std.specs.Str.{is_utf8}
+use Rattle.std.proofs.lemmas.Option.{same_Some, none-some}
 use Rattle.avro_container.specs.Held.{held}
 use Rattle.avro_container.proofs.Behind.{own_refused, memory_refused}
-use Rattle.avro_container.proofs.Stopping.{some_inj, none_some}
 use Rattle.avro_container.proofs.Taken.{takes_name, no_text_stops, twice_stops, content_key_stops}
 use Rattle.avro_container.proofs.properties.take_name.Goals as goal
 
@@ -39,7 +39,7 @@ returns-in-Err-NoText-clause-refused g c = λ f keys is are.
     let behind : c.split_at.result.1.now ≡ drop start new = c.split_at.ensures.back ∙ ap (drop start) c.bytes.ensures in
     let content : c.split_at-2.result.0.now ≡ take (end - start) (drop start new) = c.split_at-2.ensures.front ∙ ap (take (end - start)) behind in
     no_text_stops c.args.reach.limit c.args.at start end (g.I.Input.ended c.take_content.new.input) new c.split_at-2.result.0.now keys f c.in-Ok.ensures.found
-    (omega (arith, c.in-Ok.ensures.took.limited, c.requires.fits, c.requires.small)) content (c.in-Err-NoText.ensures.no_text (ap Err c.in-Err-NoText.field-0-is)) (sym (some_inj _ _ is))
+    (omega (arith, c.in-Ok.ensures.took.limited, c.requires.fits, c.requires.small)) content (c.in-Err-NoText.ensures.no_text (ap Err c.in-Err-NoText.field-0-is)) (sym (same_Some _ _ is))
 
 pub returns-in-Err-Twice-clause-lost : goal.returns-in-Err-Twice-clause-lost
 returns-in-Err-Twice-clause-lost g c =
@@ -53,11 +53,11 @@ returns-in-Err-Twice-clause-refused g c = λ f keys is are.
     let behind : c.split_at.result.1.now ≡ drop start new = c.split_at.ensures.back ∙ ap (drop start) c.bytes.ensures in
     let content : c.split_at-2.result.0.now ≡ take (end - start) (drop start new) = c.split_at-2.ensures.front ∙ ap (take (end - start)) behind in
     twice_stops c.args.reach.limit c.args.at start end (g.I.Input.ended c.take_content.new.input) new c.split_at-2.result.0.now c.args.names.now keys f c.in-Ok.ensures.found
-    (omega (arith, c.in-Ok.ensures.took.limited, c.requires.fits, c.requires.small)) content (c.in-Err-Twice.ensures.text (ap Err c.in-Err-Twice.field-0-is)) (c.in-Err-Twice.ensures.twice (ap Err c.in-Err-Twice.field-0-is)) are (sym (some_inj _ _ is))
+    (omega (arith, c.in-Ok.ensures.took.limited, c.requires.fits, c.requires.small)) content (c.in-Err-Twice.ensures.text (ap Err c.in-Err-Twice.field-0-is)) (c.in-Err-Twice.ensures.twice (ap Err c.in-Err-Twice.field-0-is)) are (sym (same_Some _ _ is))
 
 pub returns-in-Err-OutOfMemory-clause-lost : goal.returns-in-Err-OutOfMemory-clause-lost
 returns-in-Err-OutOfMemory-clause-lost g c =
     memory_refused g.I.Input.gives g.I.Input.failures g.met.I.Input.chain c.args.reach.limit _ _ _ _ c.in-Ok.ensures.took
 
 pub returns-in-Err-OutOfMemory-clause-refused : goal.returns-in-Err-OutOfMemory-clause-refused
-returns-in-Err-OutOfMemory-clause-refused g c = λ f keys is are. absurd (none_some f is)
+returns-in-Err-OutOfMemory-clause-refused g c = λ f keys is are. absurd (none-some f is)

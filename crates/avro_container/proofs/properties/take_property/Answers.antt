@@ -1,11 +1,11 @@
 -- A property that was taken, or what stops it.
 use Rattle.std.proofs.Common.{◌≡◌, ◌-◌, take, drop, true, ap, ◌∙◌, arith}
 use Rattle.std.specs.Prelude.{string_bytes}
+use Rattle.std.proofs.lemmas.Option.{none-some}
 use Rattle.avro_container.specs.Filled.{GrowsBy}
 use Rattle.avro_container.specs.Held.{held}
 use Rattle.avro_container.proofs.Behind.{memory_refused, then_refused, takes_then, reports_not_failed}
 use Rattle.avro_container.proofs.PropertyRuns.{stretch_grown}
-use Rattle.avro_container.proofs.Stopping.{none_some}
 use Rattle.avro_container.proofs.Taken.{name_stops, value_stops, takes_property}
 use Rattle.avro_container.proofs.properties.take_property.Goals as goal
 
@@ -52,4 +52,4 @@ returns-in-Err-add_property-clause-lost g c =
     c.in-Ok.ensures.took c.in-Ok-take_content.ensures.took)
 
 pub returns-in-Err-add_property-clause-refused : goal.returns-in-Err-add_property-clause-refused
-returns-in-Err-add_property-clause-refused g c = λ f left is some are. absurd (none_some f is)
+returns-in-Err-add_property-clause-refused g c = λ f left is some are. absurd (none-some f is)

@@ -2,7 +2,7 @@
 use Rattle.avro_tool.proofs.FittingData.{data_fit}
 use Rattle.avro_tool.proofs.showing_data.next_data.Goals as goal
 
-pub returns-in-Ok-clause-fit : goal.returns-in-Ok-clause-fit
-returns-in-Ok-clause-fit g c =
-    let made = rw c.in-Ok-Some.field-0-is at c.in-Ok-Some.ensures.made in
-    rw (← made.0) (data_fit _ _ c.in-Ok.ensures)
+pub returns-in_ok-read_block-in-Some-clause-fit : goal.returns-in_ok-read_block-in-Some-clause-fit
+returns-in_ok-read_block-in-Some-clause-fit g c =
+    let made = rw c.in-Some.is at c.in_ok-block.ensures.made in
+    rw (← made.0) (data_fit _ _ c.in_ok-read_block-in-Some.ensures)

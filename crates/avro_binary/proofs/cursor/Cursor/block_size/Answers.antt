@@ -6,7 +6,7 @@ use Rattle.avro_binary.specs.Breaks.{StartsWithLong, number_fault}
 use Rattle.avro_binary.specs.Fault.{ReadFault, invalid_length, behind}
 use Rattle.avro_binary.proofs.CursorSteps.{starts_with_long}
 use Rattle.avro_binary.proofs.HeadLaws.{size_below, size_failed}
-use Rattle.avro_binary.proofs.Behind.{behind-add}
+use Rattle.avro_binary.proofs.public.Behind.{behind-add}
 use Rattle.avro_binary.proofs.cursor.Cursor.block_size.Goals as goal
 
 pub returns-then-size-lt0-clause-refused : goal.returns-then-size-lt0-clause-refused

@@ -1,0 +1,108 @@
+//! Reading maps, within the cycle that reads a place.
+
+ghost use Rattle.std.specs.Prelude.{◌≡◌, List, ℕ, ◌++◌, true, bytes_eq};
+ghost use Rattle.avro_schema.specs.Distinct.{are_distinct};
+ghost use Rattle.avro_schema.specs.Fits.{LimitValues};
+ghost use Rattle.avro_schema.specs.Node.{Node as SeenNode, node_at};
+ghost use Rattle.avro_schema.specs.SeenSchema.{schema_nodes};
+ghost use Rattle.avro_schema.specs.Value.{Value};
+ghost use Rattle.avro_binary.specs.CursorReads.{ReadsNode, ReadsRun, EntriesRun, entry_breaks, outside, left_node};
+ghost use Rattle.avro_binary.specs.KeySet.{key_set};
+ghost use Rattle.avro_binary.specs.Making.{Made};
+
+use crate::cursor::Cursor;
+use crate::error::ReadError;
+use crate::keys::Keys;
+use crate::make::Make;
+use crate::reading::read_place;
+use avro_schema::{NodeId, Schema};
+use std::alloc::Global;
+
+/// Reads a map.
+#[cycle(reading)]
+#[inline(never)]
+pub(crate) fn read_map<M: Make>(
+    alloc: Global,
+    schema: &Schema,
+    place: NodeId,
+    cursor: &mut Cursor<'_>,
+    maker: &mut M,
+    at: M::At,
+) -> Result<M::Out, ReadError>
+    ensures { ReadsNode (Made M.keeps (λ m. M.stands_for m (schema_nodes schema.now) (SeenNode.map_of place.0) at) maker.old maker.new) (schema_nodes schema.now) (SeenNode.map_of place.0) cursor.old cursor.new result }
+{
+    cursor.enter()?;
+    let out = read_entry_blocks(alloc, schema, place, cursor, maker, at)?;
+    cursor.leave();
+    Ok(out)
+}
+
+/// Reads the blocks of a map. A count makes no room: entries are kept one by one.
+#[cycle(reading)]
+#[inline(always)]
+fn read_entry_blocks<M: Make>(
+    alloc: Global,
+    schema: &Schema,
+    place: NodeId,
+    cursor: &mut Cursor<'_>,
+    maker: &mut M,
+    at: M::At,
+) -> Result<M::Out, ReadError>
+    ensures { ReadsNode (Made M.keeps (λ m. M.stands_for m (schema_nodes schema.now) (SeenNode.map_of place.0) at) maker.old maker.new) (schema_nodes schema.now) (SeenNode.map_of place.0) (outside cursor.old) (left_node cursor.new) result }
+{
+    // Its contract says that fewer than 2^32 nodes are left, so that no count of parts is too large.
+    let _nodes = cursor.nodes();
+    let mut keys = Keys::new(alloc);
+    let mut entries = match maker.entries(alloc, at) {
+        Ok(entries) => entries,
+        Err(_) => return Err(ReadError::OutOfMemory),
+    };
+    while let Some(head) = cursor.block()? {
+        let count = head.count();
+        read_entries(
+            alloc,
+            schema,
+            place,
+            count,
+            cursor,
+            &mut keys,
+            maker,
+            &mut entries,
+        )?;
+        cursor.end_block(&head)?;
+    }
+    match maker.map(alloc, entries) {
+        Ok(out) => Ok(out),
+        Err(_) => Err(ReadError::OutOfMemory),
+    }
+}
+
+/// Reads a number of entries, none of whose keys is among those before it, and adds them to those before.
+#[cycle(reading)]
+fn read_entries<'a, M: Make>(
+    alloc: Global,
+    schema: &Schema,
+    place: NodeId,
+    count: u32,
+    cursor: &mut Cursor<'a>,
+    keys: &mut Keys<'a>,
+    maker: &mut M,
+    entries: &mut M::Entries,
+) -> Result<(), ReadError>
+    ensures { (limits : LimitValues) (before : List (List ℕ)) → limits.depth ≡ cursor.old.depth → limits.blob ≡ cursor.old.blob → keys.old ≡ key_set before
+        → are_distinct bytes_eq before ≡ true → (let nodes = schema_nodes schema.now in let n = node_at nodes place.0 in
+        ReadsRun (EntriesRun nodes limits n) (entry_breaks nodes limits n)
+        (λ es after. (keys.new ≡ key_set after) × M.keeps maker.old maker.new × ((at : M.At) (fs : List (List ℕ × Value)) → M.entries_stand_for maker.old nodes place.0 at entries.old fs → M.entries_stand_for maker.new nodes place.0 at entries.new (fs ++ es)))
+        count before cursor.old cursor.new result) }
+{
+    for _done in 0..count {
+        let key = cursor.key(keys)?;
+        let at = maker.entry_at(entries);
+        let value = read_place(alloc, schema, place, cursor, maker, at)?;
+        match maker.entry(alloc, entries, key, value) {
+            Ok(()) => {}
+            Err(_) => return Err(ReadError::OutOfMemory),
+        }
+    }
+    Ok(())
+}
