@@ -1,18 +1,23 @@
 -- What a pair must hold, whole and part by part.
-use Rattle.std.proofs.Common.{◌≡◌, ℕ, zero, suc, ◌<◌, get_or, Bool, true, false, not, ◌&&◌, ◌||◌, List, [], ◌∷◌, Option, Some, None, cond, Vec, refl, sym, ap, ◌∙◌, arith}
+use Rattle.std.proofs.Common.{◌≡◌, ℕ, zero, suc, ◌+◌, ◌<◌, get_or, Bool, true, false, not, ◌&&◌, ◌||◌, List, [], ◌∷◌, ◌++◌, drop, Option, Some, None, cond, Vec, refl, sym, ap, ◌∙◌, subst, arith}
 use Rattle.std.specs.Prelude.{is_some, slice_get, unwrap_or, nat_lt, length}
 use Rattle.std.specs.List.{list_all}
 use Rattle.avro_schema.specs.Node.{Node, FieldNode, node_at, branches_of, field_places}
-use Rattle.avro_schema.specs.Seen.{seen_fields, node_of}
+use Rattle.avro_schema.specs.Seen.{field_of, seen_fields, node_of}
 use Rattle.avro_schema.specs.declared.schema.Node.{Node as KeptNode}
 use Rattle.avro_schema.specs.declared.schema.NodeId.{NodeId}
 use Rattle.std.specs.declared.alloc.Global.{Global}
 use Rattle.std.proofs.lemmas.Bool.{true≢false, false≢true}
 use Rattle.avro_schema.specs.declared.schema.Field.{Field}
-use Rattle.avro_resolve.specs.Match.{is_match}
+use Rattle.avro_resolve.specs.Match.{first_match, is_match}
+use Rattle.avro_resolve.specs.Pairs.{aim_of, branch_aim}
+use Rattle.avro_resolve.specs.declared.error.FaultKind.{FaultKind}
+use Rattle.avro_resolve.specs.declared.error.FaultKind.TheVariants.{NoMatch}
+use Rattle.avro_resolve.specs.declared.guided.Aim.{Aim}
+use Rattle.avro_resolve.specs.declared.guided.Aim.TheVariants.{Fault, To}
 use Rattle.avro_resolve.specs.Source.{source_of, missing_field_from}
 use Rattle.avro_certificate.specs.Closed.{Pair, is_among, has_local_fault, has_fault_of_kind, children_of, field_children, is_closed_at}
-use Rattle.avro_certificate.specs.inside.ClosedParts.{stands, closed_fields, closed_inside}
+use Rattle.avro_certificate.specs.inside.ClosedParts.{stands, closed_fields, closed_inside, closed_live}
 use Rattle.avro_certificate.proofs.public.NodeKinds.{fault_of_others}
 
 and_true : (b : Bool) → b ≡ (b && true)
@@ -72,24 +77,86 @@ field_at [] k d here = absurd (omega arith)
 field_at (f ∷ fs) zero d here = refl
 field_at (f ∷ fs) (suc k) d here = field_at fs k d (omega arith)
 
+-- a kept node that is no union
+pub plain_kept : (n : KeptNode) → ((x : Vec NodeId Global) → n ≡ KeptNode.Union x → ⊥) → branches_of (node_of n) ≡ None
+plain_kept (KeptNode.Union ids) h = absurd (h ids refl)
+plain_kept _ h = refl
+
+-- ---- Where a pair leads whose writer's node is not dead, and is no union
+
+module _ (writer reader : List Node) (dead : List ℕ) (pairs : List Pair) (w : ℕ) (r : NodeId) where
+  abbrev closed_led : Bool → Aim → Bool
+  closed_led own (Fault kind) = false
+  closed_led own (To (Some k) q) = stands dead pairs (record { w = w; r = q.0 })
+  closed_led own (To None q) = own
+
+  led_union : (n : Node) (places : List ℕ) (own : Bool) → branches_of n ≡ None → (o : Option ℕ) → first_match writer reader n places ≡ o
+      → closed_led own (branch_aim places (first_match writer reader n places)) ≡ closed_live writer reader dead pairs w r.0 n (Node.union places)
+  led_union (Node.union ps) places own plain o e = absurd (no_union ps plain)
+  led_union n places own plain None e = rw e refl
+  led_union n places own plain (Some k) e = rw e (and_true _)
+
+  led_plain : (n q : Node) → branches_of n ≡ None → branches_of q ≡ None → (t : Bool) → is_match writer reader n q ≡ t
+      → closed_led (closed_inside dead pairs n q) (cond t (To None r) (Fault NoMatch)) ≡ closed_live writer reader dead pairs w r.0 n q
+  led_plain n q h k true m = plain_is dead pairs writer reader w r.0 n q h k m
+  led_plain n q h k false m =
+      sym (ap (λ b. not b && list_all (stands dead pairs) (children_of writer reader w r.0 n q)) (fault_of_others writer reader n q h k)
+      ∙ ap (λ b. not (not b || has_fault_of_kind n q) && list_all (stands dead pairs) (children_of writer reader w r.0 n q)) m)
+
+  led_is : (n q : Node) → branches_of n ≡ None → closed_led (closed_inside dead pairs n q) (aim_of writer reader n r q) ≡ closed_live writer reader dead pairs w r.0 n q
+  led_is n (Node.union places) h = led_union n places (closed_inside dead pairs n (Node.union places)) h (first_match writer reader n places) refl
+  led_is n q h = led_plain n q h refl (is_match writer reader n q) refl
+
+  pub led_fault : (n q : Node) (aim : Aim) (kind : FaultKind) → branches_of n ≡ None → aim ≡ aim_of writer reader n r q → aim ≡ Fault kind
+      → false ≡ closed_live writer reader dead pairs w r.0 n q
+  led_fault n q aim kind h e is = ap (closed_led (closed_inside dead pairs n q)) (sym is ∙ e) ∙ led_is n q h
+
+  pub led_branch : (n q : Node) (aim : Aim) (k : ℕ) (b : NodeId) → branches_of n ≡ None → aim ≡ aim_of writer reader n r q → aim ≡ To (Some k) b
+      → stands dead pairs (record { w = w; r = b.0 }) ≡ closed_live writer reader dead pairs w r.0 n q
+  led_branch n q aim k b h e is = ap (closed_led (closed_inside dead pairs n q)) (sym is ∙ e) ∙ led_is n q h
+
+  pub led_inside : (n q : Node) (aim : Aim) (b : NodeId) → branches_of n ≡ None → aim ≡ aim_of writer reader n r q → aim ≡ To None b
+      → closed_inside dead pairs n q ≡ closed_live writer reader dead pairs w r.0 n q
+  led_inside n q aim b h e is = ap (closed_led (closed_inside dead pairs n q)) (sym is ∙ e) ∙ led_is n q h
+
 three : (a b c x : Bool) → a ≡ true → b ≡ true → c ≡ false → x ≡ (a && b && (c || x))
 three true true false x h k m = refl
 three true true true x h k m = absurd (true≢false m)
 three true false c x h k m = absurd (false≢true k)
 three false b c x h k m = absurd (false≢true h)
 
--- a kept node that is no union
-pub plain_kept : (n : KeptNode) → ((x : Vec NodeId Global) → n ≡ KeptNode.Union x → ⊥) → branches_of (node_of n) ≡ None
-plain_kept (KeptNode.Union ids) h = absurd (h ids refl)
-plain_kept _ h = refl
-
--- a pair of nodes of which the writer's is not dead, and none is a union
+-- a pair of nodes of which the writer's is not dead
 pub live_pair : (writer reader : List Node) (dead : List ℕ) (pairs : List Pair) (w r : ℕ) (n q : Node) (b : Bool) → n ≡ node_at writer w → q ≡ node_at reader r
-    → branches_of n ≡ None → branches_of q ≡ None → is_match writer reader (node_at writer w) (node_at reader r) ≡ true → b ≡ closed_inside dead pairs n q
+    → b ≡ closed_live writer reader dead pairs w r n q
     → nat_lt w (length writer) ≡ true → nat_lt r (length reader) ≡ true → is_among dead w ≡ false
     → b ≡ is_closed_at writer reader dead pairs (record { w = w; r = r })
-live_pair writer reader dead pairs w r n q b n_is q_is h k m e in_writer in_reader live =
-    e ∙ plain_is dead pairs writer reader w r n q h k (ap (λ x. is_match writer reader x q) n_is ∙ ap (λ y. is_match writer reader (node_at writer w) y) q_is ∙ m)
-    ∙ ap (λ x. not (has_local_fault writer reader x q) && list_all (stands dead pairs) (children_of writer reader w r x q)) n_is
-    ∙ ap (λ y. not (has_local_fault writer reader (node_at writer w) y) && list_all (stands dead pairs) (children_of writer reader w r (node_at writer w) y)) q_is
+live_pair writer reader dead pairs w r n q b n_is q_is e in_writer in_reader live =
+    e
+    ∙ ap (λ x. closed_live writer reader dead pairs w r x q) n_is
+    ∙ ap (closed_live writer reader dead pairs w r (node_at writer w)) q_is
     ∙ three (nat_lt w (length writer)) (nat_lt r (length reader)) (is_among dead w) _ in_writer in_reader live
+
+-- the fields of a reader's record from a place on
+pub seen_there : (fs : List Field) (i : ℕ) (d : Field) → i < length fs → slice_get (seen_fields fs) i ≡ Some (field_of (get_or fs i d))
+seen_there [] i d low = absurd (omega (arith, low))
+seen_there (f ∷ fs) zero d low = refl
+seen_there (f ∷ fs) (suc i) d low = seen_there fs i d (omega (arith, low))
+
+pub seen_from : (fs : List Field) (i : ℕ) (d : Field) → i < length fs → seen_fields (drop i fs) ≡ field_of (get_or fs i d) ∷ seen_fields (drop (i + 1) fs)
+seen_from fs i d low = subst (λ (j : ℕ). seen_fields (drop i fs) ≡ field_of (get_or fs i d) ∷ seen_fields (drop j fs)) (next i) (step fs i d low)
+  where
+    next : (i : ℕ) → suc i ≡ i + 1
+    next i = omega arith
+
+    step : (fs : List Field) (i : ℕ) (d : Field) → i < length fs → seen_fields (drop i fs) ≡ field_of (get_or fs i d) ∷ seen_fields (drop (suc i) fs)
+    step [] i d low = absurd (omega (arith, low))
+    step (f ∷ fs) zero d low = refl
+    step (f ∷ fs) (suc i) d low = step fs i d (omega (arith, low))
+
+-- each of a list of one more
+pub each_more : {A : Type 0} (P : A → Type 0) (xs : List A) (x : A) → ((k : ℕ) (y : A) → slice_get xs k ≡ Some y → P y) → P x
+    → (k : ℕ) (y : A) → slice_get (xs ++ x ∷ []) k ≡ Some y → P y
+each_more P [] x h last zero y got = let same : x ≡ y = cc in subst P same last
+each_more P [] x h last (suc k) y got = absurd cc
+each_more P (z ∷ zs) x h last zero y got = h 0 y got
+each_more P (z ∷ zs) x h last (suc k) y got = each_more P zs x (λ j z here. h (suc j) z here) last k y got

@@ -1,44 +1,44 @@
 //! Whether the sets of a certificate are closed over two schemas.
 
-ghost use Rattle.std.specs.Prelude.{◌≡◌, ◌&&◌, not, nat_lt, length, map, unwrap_or, slice_get, IfOk};
+ghost use Rattle.std.specs.Prelude.{◌≡◌, ◌&&◌, true, is_some, nat_lt, length, map, unwrap_or, slice_get, IfOk, OnOk, ◌++◌, ◌∷◌, []};
+ghost use Rattle.std.specs.Option.{IfSome};
 ghost use Rattle.std.specs.List.{list_all, list_any};
 ghost use Rattle.avro_schema.specs.Node.{node_at, field_places};
-ghost use Rattle.avro_schema.specs.Seen.{node_of, places_of, seen_fields, field_of, texts_of};
+ghost use Rattle.avro_schema.specs.Seen.{node_of, places_of, seen_fields, field_of};
 ghost use Rattle.avro_schema.specs.SeenSchema.{schema_nodes};
-ghost use Rattle.avro_resolve.specs.Match.{first_match_at};
-ghost use Rattle.avro_resolve.specs.Planned.{FindsFields};
-ghost use Rattle.avro_certificate.specs.Closed.{is_among, is_dead, is_dead_node, is_closed, is_closed_at, lacks_symbol};
-ghost use Rattle.avro_certificate.specs.inside.ClosedParts.{stands, closed_branch, closed_inside, closed_fields, closed_source};
+ghost use Rattle.avro_resolve.specs.Planned.{AreInside, ArePrepared, AreSources, IsPrepared};
+ghost use Rattle.avro_resolve.specs.Source.{source_of};
+ghost use Rattle.avro_certificate.specs.Closed.{is_among, is_dead, is_dead_node, is_closed, is_closed_at};
+ghost use Rattle.avro_certificate.specs.inside.ClosedParts.{stands, closed_inside, closed_fields, closed_live, closed_source};
 ghost use Rattle.avro_certificate.specs.SeenCertificate.{dead_of, pairs_in};
 ghost use Rattle.avro_certificate.specs.SeenPair.{pair_of};
 
 use crate::kept::Certificate;
 use crate::lookup::{has, has_dead};
-use crate::names::{branch_names, lacks_symbol, names_of};
-use avro_resolve::{Names, matches, source_in};
+use avro_resolve::{Aim, Names, Prepared, prepare};
 use avro_schema::{Field, Memory, Node, NodeId, Schema};
 use std::alloc::Global;
-use std::collections::BTreeMap;
 
-/// Whether a certificate shows that no datum of a writer's schema fails for a reader's: its nodes are
-/// nodes of the writer's that no datum has, the roots are accounted for, and each pair is closed.
+/// Tests whether a certificate shows that no datum of a writer's schema fails for a reader's: its nodes are
+/// nodes of the writer's that no datum has, the roots are accounted for, and each pair is closed. The answer is
+/// what was found by names of its pairs, and none where it does not show this.
 ///
 /// # Errors
 ///
 /// Memory ran out.
-pub fn is_closed(
+pub fn find_closed(
     alloc: Global,
     writer: &Schema,
     reader: &Schema,
     certificate: &Certificate,
-) -> Result<bool, Memory>
-    ensures { IfOk result (λ b. b ≡ is_closed (schema_nodes writer.now) (schema_nodes reader.now) (dead_of certificate.now) (pairs_in certificate.now)) }
+) -> Result<Option<Vec<Prepared>>, Memory>
+    ensures closed { IfOk result (λ o. is_some o ≡ is_closed (schema_nodes writer.now) (schema_nodes reader.now) (dead_of certificate.now) (pairs_in certificate.now)) }
+    ensures found { IfOk result (λ o. IfSome o (λ found. ArePrepared (schema_nodes writer.now) (schema_nodes reader.now) found.items)) }
 {
     if is_dead(writer, certificate) && has(certificate, 0, 0) {
-        let names = branch_names(alloc, writer, reader)?;
-        pairs_closed(alloc, writer, reader, &names, certificate)
+        find_pairs(alloc, writer, reader, certificate)
     } else {
-        Ok(false)
+        Ok(None)
     }
 }
 
@@ -90,26 +90,29 @@ fn has_dead_branches(certificate: &Certificate, places: &[NodeId]) -> bool
     true
 }
 
-fn pairs_closed(
+/// What was found by names of the pairs of a certificate, where each is closed.
+fn find_pairs(
     alloc: Global,
     writer: &Schema,
     reader: &Schema,
-    names: &Names,
     certificate: &Certificate,
-) -> Result<bool, Memory>
-    requires { names.now ≡ (writer.now, reader.now) }
-    ensures { IfOk result (λ b. b ≡ list_all (is_closed_at (schema_nodes writer.now) (schema_nodes reader.now) (dead_of certificate.now) (pairs_in certificate.now)) (pairs_in certificate.now)) }
+) -> Result<Option<Vec<Prepared>>, Memory>
+    ensures closed { IfOk result (λ o. is_some o ≡ list_all (is_closed_at (schema_nodes writer.now) (schema_nodes reader.now) (dead_of certificate.now) (pairs_in certificate.now)) (pairs_in certificate.now)) }
+    ensures found { IfOk result (λ o. IfSome o (λ found. ArePrepared (schema_nodes writer.now) (schema_nodes reader.now) found.items)) }
 {
+    let names = Names::new(alloc, writer, reader)?;
     let pairs = certificate.pairs();
+    let mut found = Vec::new(alloc);
     for pair in pairs {
-        if !is_closed_at(alloc, writer, reader, names, certificate, *pair)? {
-            return Ok(false);
+        if !is_closed_at(alloc, writer, reader, &names, certificate, *pair, &mut found)? {
+            return Ok(None);
         }
     }
-    Ok(true)
+    Ok(Some(found))
 }
 
-/// Whether a pair is one of nodes, and closed where its writer's node is not dead.
+/// Whether a pair is one of nodes, and closed where its writer's node is not dead. What is found of it by names
+/// is added to what was found of others.
 fn is_closed_at(
     alloc: Global,
     writer: &Schema,
@@ -117,9 +120,12 @@ fn is_closed_at(
     names: &Names,
     certificate: &Certificate,
     pair: (u32, u32),
+    found: &mut Vec<Prepared>,
 ) -> Result<bool, Memory>
     requires { names.now ≡ (writer.now, reader.now) }
-    ensures { IfOk result (λ b. b ≡ is_closed_at (schema_nodes writer.now) (schema_nodes reader.now) (dead_of certificate.now) (pairs_in certificate.now) (pair_of pair)) }
+    ensures closed { IfOk result (λ b. b ≡ is_closed_at (schema_nodes writer.now) (schema_nodes reader.now) (dead_of certificate.now) (pairs_in certificate.now) (pair_of pair)) }
+    ensures found { OnOk result (ArePrepared (schema_nodes writer.now) (schema_nodes reader.now) found.old.items
+        → ArePrepared (schema_nodes writer.now) (schema_nodes reader.now) found.new.items) }
 {
     let w = NodeId(pair.0);
     let r = NodeId(pair.1);
@@ -129,17 +135,42 @@ fn is_closed_at(
     if has_dead(certificate, w.0) {
         return Ok(true);
     }
-    match writer.node(w) {
-        Node::Union(places) => Ok(has_branches(certificate, places, r)),
-        n => match reader.node(r) {
-            Node::Union(places) => Ok(has_first_match(names, w, r, certificate, places)),
-            q => {
-                if matches(writer, w, reader, r) {
-                    is_closed_inside(alloc, certificate, n, q)
-                } else {
-                    Ok(false)
-                }
-            }
+    let kept = prepare(alloc, names, w, r)?;
+    let n = writer.node(w);
+    let q = reader.node(r);
+    let closed = is_closed_live(certificate, writer, reader, n, q, &kept);
+    push_pair(found, kept)?;
+    Ok(closed)
+}
+
+/// Adds what was found of a pair.
+fn push_pair(found: &mut Vec<Prepared>, pair: Prepared) -> Result<(), Memory>
+    ensures { OnOk result (found.new.items ≡ found.old.items ++ pair ∷ []) }
+{
+    found.push(pair)?;
+    Ok(())
+}
+
+/// Whether a pair is closed whose writer's node is not dead.
+fn is_closed_live(
+    certificate: &Certificate,
+    writer: &Schema,
+    reader: &Schema,
+    n: &Node,
+    q: &Node,
+    pair: &Prepared,
+) -> bool
+    requires pair { IsPrepared (schema_nodes writer.now) (schema_nodes reader.now) pair.now }
+    requires from { node_of n.now ≡ node_at (schema_nodes writer.now) pair.now.w.0 }
+    requires to { node_of q.now ≡ node_at (schema_nodes reader.now) pair.now.r.0 }
+    ensures { result ≡ closed_live (schema_nodes writer.now) (schema_nodes reader.now) (dead_of certificate.now) (pairs_in certificate.now) pair.now.w.0 pair.now.r.0 (node_of n.now) (node_of q.now) }
+{
+    match n {
+        Node::Union(places) => has_branches(certificate, places, pair.r),
+        _ => match pair.aim {
+            Aim::Fault(_) => false,
+            Aim::To(Some(_), branch) => has(certificate, pair.w.0, branch.0),
+            Aim::To(None, _) => is_closed_inside(certificate, n, q, pair),
         },
     }
 }
@@ -156,92 +187,47 @@ fn has_branches(certificate: &Certificate, places: &[NodeId], r: NodeId) -> bool
     true
 }
 
-/// Whether a branch of a reader's union matches, and the first that does is accounted for.
-fn has_first_match(
-    names: &Names,
-    w: NodeId,
-    r: NodeId,
-    certificate: &Certificate,
-    places: &[NodeId],
-) -> bool
-    ensures { result ≡ closed_branch (dead_of certificate.now) (pairs_in certificate.now) w.0 (places_of places.now)
-        (first_match_at (schema_nodes names.now.0) (schema_nodes names.now.1) (node_at (schema_nodes names.now.0) w.0) (node_at (schema_nodes names.now.1) r.0)) }
-{
-    match names.first_match(w, r) {
-        None => false,
-        Some(k) => has(certificate, w.0, branch_or_root(places, k)),
-    }
-}
-
 /// Whether two nodes that match, and are no unions, have no fault of their own and their parts are
 /// accounted for.
-fn is_closed_inside(
-    alloc: Global,
-    certificate: &Certificate,
-    n: &Node,
-    q: &Node,
-) -> Result<bool, Memory>
-    ensures { IfOk result (λ b. b ≡ closed_inside (dead_of certificate.now) (pairs_in certificate.now) (node_of n.now) (node_of q.now)) }
+fn is_closed_inside(certificate: &Certificate, n: &Node, q: &Node, pair: &Prepared) -> bool
+    requires { AreInside (node_of n.now) (node_of q.now) pair.now }
+    ensures { result ≡ closed_inside (dead_of certificate.now) (pairs_in certificate.now) (node_of n.now) (node_of q.now) }
 {
     match n {
-        Node::Bytes => Ok(!matches!(q, Node::Str)),
+        Node::Bytes => !matches!(q, Node::Str),
         Node::Array(a) => match q {
-            Node::Array(b) => Ok(has(certificate, a.0, b.0)),
-            _ => Ok(true),
+            Node::Array(b) => has(certificate, a.0, b.0),
+            _ => true,
         },
         Node::Map(a) => match q {
-            Node::Map(b) => Ok(has(certificate, a.0, b.0)),
-            _ => Ok(true),
+            Node::Map(b) => has(certificate, a.0, b.0),
+            _ => true,
         },
         Node::Record(a) => match q {
-            Node::Record(b) => has_sources(alloc, certificate, &a.fields, &b.fields),
-            _ => Ok(true),
+            Node::Record(b) => are_sourced(certificate, &a.fields, &b.fields, &pair.sources),
+            _ => true,
         },
-        Node::Enum(a) => match q {
-            Node::Enum(b) => has_symbols(alloc, &a.symbols, &b.symbols, b.default),
-            _ => Ok(true),
+        Node::Enum(_) => match q {
+            Node::Enum(_) => !pair.lacks_symbol(),
+            _ => true,
         },
-        _ => Ok(true),
+        _ => true,
     }
-}
-
-/// Whether the reader's enum has each of the writer's symbols, or a default.
-fn has_symbols(
-    alloc: Global,
-    symbols: &[String],
-    theirs: &[String],
-    default: Option<u32>,
-) -> Result<bool, Memory>
-    ensures { IfOk result (λ b. b ≡ not (lacks_symbol (texts_of symbols.now) (texts_of theirs.now) default)) }
-{
-    Ok(!lacks_symbol(alloc, symbols, theirs, default)?)
 }
 
 /// Whether each of the reader's fields has a source that is accounted for, or a default.
-fn has_sources(
-    alloc: Global,
-    certificate: &Certificate,
-    fields: &[Field],
-    theirs: &[Field],
-) -> Result<bool, Memory>
-    ensures { IfOk result (λ b. b ≡ closed_fields (dead_of certificate.now) (pairs_in certificate.now) (seen_fields fields.now) (seen_fields theirs.now)) }
-{
-    let names = names_of(alloc, fields)?;
-    Ok(are_sourced(certificate, &names, fields, theirs))
-}
-
-/// The same by the names of the writer's fields.
 fn are_sourced(
     certificate: &Certificate,
-    names: &BTreeMap<&str, usize>,
     fields: &[Field],
     theirs: &[Field],
+    sources: &[Option<usize>],
 ) -> bool
-    requires { FindsFields (seen_fields fields.now) names.now }
+    requires each { AreSources (seen_fields fields.now) (seen_fields theirs.now) sources.now }
+    requires all { length sources.now ≡ length theirs.now }
     ensures { result ≡ closed_fields (dead_of certificate.now) (pairs_in certificate.now) (seen_fields fields.now) (seen_fields theirs.now) }
 {
-    for field in theirs {
-        if !has_source(certificate, names, fields, field) {
+    for place in 0..theirs.len() {
+        if !has_source(certificate, fields, sources[place], &theirs[place]) {
             return false;
         }
     }
@@ -251,14 +237,14 @@ fn are_sourced(
 /// Whether a reader's field has a source that is accounted for, or a default.
 fn has_source(
     certificate: &Certificate,
-    names: &BTreeMap<&str, usize>,
     fields: &[Field],
+    source: Option<usize>,
     field: &Field,
 ) -> bool
-    requires { FindsFields (seen_fields fields.now) names.now }
+    requires { source ≡ source_of (seen_fields fields.now) (field_of field.now) }
     ensures { result ≡ closed_source (dead_of certificate.now) (pairs_in certificate.now) (seen_fields fields.now) (field_of field.now) }
 {
-    match source_in(names, fields, field) {
+    match source {
         None => field.default.is_some(),
         Some(place) => has(certificate, place_or_root(fields, place), field.node.0),
     }
@@ -271,15 +257,5 @@ fn place_or_root(fields: &[Field], place: usize) -> u32
     match fields.get(place) {
         None => 0,
         Some(field) => field.node.0,
-    }
-}
-
-/// The number of the node of a branch; past the end stands the root's.
-fn branch_or_root(places: &[NodeId], k: usize) -> u32
-    ensures { result ≡ unwrap_or (slice_get (places_of places.now) k) 0 }
-{
-    match places.get(k) {
-        None => 0,
-        Some(place) => place.0,
     }
 }

@@ -1,7 +1,7 @@
 use crate::deciding::certify;
 use avro_binary::{Build, ReadError};
 use avro_certificate::Certificate;
-use avro_resolve::{Plan, ReadResolveError};
+use avro_resolve::{Plan, PlanTable, Prepared, ReadResolveError};
 use avro_schema::{Limits, Memory, Schema};
 use std::alloc::Global;
 use std::marker::Model;
@@ -48,6 +48,7 @@ impl<'a> Approved<'a> {
     ghost use Rattle.avro_binary.specs.Encoding.{Encodes};
     ghost use Rattle.avro_binary.specs.Fault.{ReadFault};
     ghost use Rattle.avro_binary.specs.Seen.{read_fault, UnlessOutOfMemory, Reports};
+    ghost use Rattle.avro_resolve.specs.Planned.{ArePrepared};
     ghost use Rattle.avro_resolve.specs.Reading.{ReadsAs};
     ghost use Rattle.avro_resolve.specs.Resolve.{resolve_root};
     ghost use Rattle.avro_certificate.specs.Closed.{is_closed};
@@ -56,25 +57,31 @@ impl<'a> Approved<'a> {
     ghost use Rattle.avro_judge.specs.inside.Judged.{IsCertificateOf};
     ghost use Rattle.avro_certificate.specs.SeenCertificate.{dead_of, pairs_in};
 
-    /// The approval of two schemas that are compatible, by a plan of theirs, with their certificate where it
-    /// was made.
-    pub(crate) fn of(
+    /// The approval of two compatible schemas, by what was found by names of pairs of their nodes, and with their
+    /// certificate where it was made.
+    ///
+    /// # Errors
+    ///
+    /// Memory ran out.
+    pub(crate) fn by(
+        alloc: Global,
         writer: &'a Schema,
         reader: &'a Schema,
-        plan: Plan<'a>,
+        found: Vec<Prepared>,
         certificate: Option<Certificate>,
-    ) -> Approved<'a>
+    ) -> Result<Approved<'a>, Memory>
         requires compatible { AreCompatible (schema_nodes writer.now) (schema_nodes reader.now) }
-        requires theirs { plan ≡ (writer.now, reader.now) }
+        requires found { ArePrepared (schema_nodes writer.now) (schema_nodes reader.now) found.items }
         requires certified { IfSome certificate (IsCertificateOf (schema_nodes writer.now) (schema_nodes reader.now)) }
-        ensures { result ≡ (writer.now, reader.now) }
+        ensures { IfOk result (λ a. a ≡ (writer.now, reader.now)) }
     {
-        Approved {
+        let table = PlanTable::of(alloc, writer, reader, found)?;
+        Ok(Approved {
             writer,
             reader,
-            plan,
+            plan: Plan::of(writer, reader, table),
             certificate,
-        }
+        })
     }
 
     /// Reads a datum of the writer's from the front of bytes, and answers what a builder builds of what it

@@ -5,8 +5,7 @@ ghost use Rattle.avro_certificate.specs.Closed.{is_closed};
 ghost use Rattle.avro_certificate.specs.SeenCertificate.{dead_of, pairs_in};
 
 use crate::approval::Approved;
-use crate::planning::plan_for;
-use avro_certificate::{Certificate, is_closed};
+use avro_certificate::{Certificate, find_closed};
 use avro_schema::{Memory, Schema};
 use std::alloc::Global;
 
@@ -32,15 +31,11 @@ pub fn confirm<'a>(
     ensures of_these { IfOk result (λ o. IfSome o (λ a. a ≡ (writer.now, reader.now))) }
 {
     let _ = reader.len();
-    match is_closed(alloc, writer, reader, certificate) {
-        Ok(closed) => {
-            if closed {
-                let plan = plan_for(alloc, writer, reader, certificate.pairs())?;
-                Ok(Some(Approved::of(writer, reader, plan, None)))
-            } else {
-                Ok(None)
-            }
+    match find_closed(alloc, writer, reader, certificate)? {
+        Some(found) => {
+            let approved = Approved::by(alloc, writer, reader, found, None)?;
+            Ok(Some(approved))
         }
-        Err(error) => Err(error),
+        None => Ok(None),
     }
 }

@@ -6,8 +6,6 @@ ghost use Rattle.avro_schema.specs.SeenSchema.{schema_nodes};
 ghost use Rattle.avro_schema.specs.Value.{Value, size, depth};
 ghost use Rattle.avro_resolve.specs.Fault.{ResolutionFault};
 ghost use Rattle.avro_resolve.specs.Seen.{fault_of};
-ghost use Rattle.avro_resolve.specs.Planned.{ArePrepared};
-ghost use Rattle.avro_judge.specs.inside.Judged.{IsCertificateOf};
 ghost use Rattle.avro_judge.specs.Answered.{IsApproved, IfApproved, IfRefuted, IsUndecided};
 ghost use Rattle.avro_certificate.specs.Compatible.{AreCompatible, Errs, ErrsWith, ErrsOnlyAbove, ErrsLeastDeep};
 
@@ -15,8 +13,7 @@ use crate::approval::Approved;
 use crate::deciding::{Judged, decide};
 use crate::limits::JudgeLimits;
 use crate::verdict::{Cause, Refutation, Verdict};
-use avro_certificate::Certificate;
-use avro_resolve::{Fault, Plan, PlanTable, Prepared, ResolveError, resolve};
+use avro_resolve::{Fault, ResolveError, resolve};
 use avro_schema::{Datum, Memory, Schema};
 use std::alloc::Global;
 
@@ -39,25 +36,6 @@ fn fault_of_datum(
         Err(ResolveError::Memory) => Err(Memory),
         Ok(_) => unreachable!(),
     }
-}
-
-/// The approval of two compatible schemas, with their certificate. Its plan is made of what was found by names
-/// while they were judged.
-fn approve<'a>(
-    alloc: Global,
-    writer: &'a Schema,
-    reader: &'a Schema,
-    found: Vec<Prepared>,
-    certificate: Certificate,
-) -> Result<Approved<'a>, Memory>
-    requires compatible { AreCompatible (schema_nodes writer.now) (schema_nodes reader.now) }
-    requires certified { IsCertificateOf (schema_nodes writer.now) (schema_nodes reader.now) certificate }
-    requires found { ArePrepared (schema_nodes writer.now) (schema_nodes reader.now) found.items }
-    ensures { IfOk result (λ a. a ≡ (writer.now, reader.now)) }
-{
-    let table = PlanTable::of(alloc, writer, reader, found)?;
-    let plan = Plan::of(writer, reader, table);
-    Ok(Approved::of(writer, reader, plan, Some(certificate)))
 }
 
 /// Whether every datum of the writer's schema resolves into the reader's, of any size.
@@ -111,7 +89,7 @@ pub fn judge<'a>(
     let (judged, found) = decide(alloc, writer, reader, limits.size(), depth)?;
     match judged {
         Judged::Compatible(certificate) => {
-            let approved = approve(alloc, writer, reader, found, certificate)?;
+            let approved = Approved::by(alloc, writer, reader, found, Some(certificate))?;
             Ok(Verdict::Approved(approved))
         }
         Judged::Size => Ok(Verdict::Undecided(Cause::Size)),

@@ -11,7 +11,6 @@ mod confirming;
 mod deciding;
 mod judging;
 mod limits;
-mod planning;
 mod refuting;
 mod verdict;
 

@@ -92,23 +92,11 @@ fn ask_fields(alloc: Global, writer: &[Field], pair: &Prepared) -> Result<Ask, M
     Ok(Ask::Fields(rows(alloc, writer, &pair.fields)?))
 }
 
-/// Whether some symbol has none of the reader's.
-fn lacks_one(symbols: &[Option<u32>]) -> bool
-    ensures { result ≡ list_any is_none symbols.now }
-{
-    for symbol in symbols {
-        if symbol.is_none() {
-            return true;
-        }
-    }
-    false
-}
-
 /// What two enums ask for.
 fn ask_symbols(pair: &Prepared) -> Ask
     ensures { ask_of result ≡ cond (list_any is_none pair.now.symbols.items) Asked.lone Asked.quiet }
 {
-    if lacks_one(&pair.symbols) {
+    if pair.lacks_symbol() {
         Ask::Lone
     } else {
         Ask::Quiet

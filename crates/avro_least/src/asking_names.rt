@@ -1,11 +1,11 @@
 //! The first symbol that a reader's enum lacks, by a table of names.
 
-ghost use Rattle.std.specs.Prelude.{◌≡◌, IfOk};
+ghost use Rattle.std.specs.Prelude.{◌≡◌, ℕ, List, IfOk, bytes_eq};
+ghost use Rattle.std.specs.List.{list_any};
 ghost use Rattle.avro_schema.specs.Seen.{texts_of};
 ghost use Rattle.avro_resolve.specs.Planned.{FindsSymbols};
 ghost use Rattle.avro_least.specs.BuiltErrors.{first_from, is_lacking};
 
-use avro_certificate::has_name;
 use avro_resolve::symbol_names;
 use avro_schema::Memory;
 use std::alloc::Global;
@@ -19,10 +19,8 @@ pub(crate) fn first_lacking(
 ) -> Result<usize, Memory>
     ensures { IfOk result (λ place. place ≡ first_from (is_lacking (texts_of theirs.now)) 0 (texts_of symbols.now)) }
 {
-    match symbol_names(alloc, theirs) {
-        Ok(names) => Ok(first_unnamed(&names, symbols, theirs)),
-        Err(_) => Err(Memory),
-    }
+    let names = symbol_names(alloc, theirs)?;
+    Ok(first_unnamed(&names, symbols, theirs))
 }
 
 /// The same by the names of the reader's symbols.
@@ -31,9 +29,16 @@ fn first_unnamed(names: &BTreeMap<&str, usize>, symbols: &[String], theirs: &[St
     ensures { result ≡ first_from (is_lacking (texts_of theirs.now)) 0 (texts_of symbols.now) }
 {
     for i in 0..symbols.len() {
-        if !has_name(names, theirs, symbols[i].as_str()) {
+        if !has_name(names, symbols[i].as_str()) {
             return i;
         }
     }
     symbols.len()
+}
+
+/// Whether a symbol is among those of a table.
+fn has_name(names: &BTreeMap<&str, usize>, symbol: &str) -> bool
+    ensures { (theirs : List (List ℕ)) → FindsSymbols theirs names.now → result ≡ list_any (bytes_eq symbol.now) theirs }
+{
+    names.contains_key(symbol)
 }

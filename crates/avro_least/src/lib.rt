@@ -9,10 +9,12 @@ mod asking;
 mod asking_names;
 mod build;
 mod build_errors;
+mod choosing;
 mod erring;
 mod kept;
 pub mod laws;
 mod least;
+mod made;
 mod reaching;
 
 pub use asking::{Ask, FieldAsk};

@@ -1,22 +1,21 @@
 //! The pairs of nodes that are reached from the roots.
 
-ghost use Rattle.std.specs.Prelude.{◌≡◌, ◌||◌, ◌<◌, ◌≤◌, ◌*◌, ◌/◌, ◌%◌, ◌^◌, ℕ, Bool, true, false, List, [], ◌∷◌, ◌++◌, length, nat_eq, nat_lt, slice_get, Some, IfOk, OnOk};
+ghost use Rattle.std.specs.Prelude.{◌≡◌, ◌||◌, ◌<◌, ◌≤◌, ◌*◌, ◌/◌, ◌%◌, ◌^◌, ℕ, Bool, true, false, List, [], ◌∷◌, ◌++◌, length, nat_eq, nat_lt, slice_get, Some, IfOk, IfSome, OnOk};
 ghost use Rattle.std.specs.List.{list_all};
 ghost use Rattle.indexmap.specs.IndexSet.{keys, index_set_len, IsUnique};
-ghost use Rattle.avro_schema.specs.Node.{node_at};
+ghost use Rattle.avro_schema.specs.Node.{Node as SeenNode, node_at};
 ghost use Rattle.avro_schema.specs.SeenSchema.{schema_nodes};
 ghost use Rattle.avro_resolve.specs.Planned.{ArePrepared, IsPrepared};
 ghost use Rattle.avro_certificate.specs.Closed.{Pair};
 ghost use Rattle.avro_least.specs.Tables.{pair_number};
 ghost use Rattle.avro_least.specs.SeenLeast.{table_of};
 ghost use Rattle.avro_least.specs.Reached.{is_key, AreFollowed, IsSteppedTo};
-ghost use Rattle.avro_least.specs.Asked.{asked_at, asked_children, live_numbers, steps_at, AreAsked};
+ghost use Rattle.avro_least.specs.Asked.{asked, asked_at, asked_children, live_numbers, steps_at, AreAsked};
 ghost use Rattle.avro_least.specs.SeenAsk.{ask_of, asks_of};
 
 use crate::asking::{Ask, ask_of_pair};
 use crate::kept::Least;
 use crate::least::{count, entry};
-use avro_certificate::branch_names;
 use avro_resolve::{Names, Prepared, prepare};
 use avro_schema::{Memory, NodeId, Schema};
 use indexmap::IndexSet;
@@ -128,21 +127,6 @@ pub fn readers(reader: &Schema, key: u64) -> NodeId
     NodeId((key % u64::from(count(reader))) as u32)
 }
 
-/// What is found of a pair by names.
-pub(crate) fn find_pair(
-    alloc: Global,
-    names: &Names,
-    w: NodeId,
-    r: NodeId,
-) -> Result<Prepared, Memory>
-    ensures { IfOk result (λ p. IsPrepared (schema_nodes names.now.0) (schema_nodes names.now.1) p × (p.w ≡ w) × (p.r ≡ r)) }
-{
-    match prepare(alloc, names, w, r) {
-        Ok(pair) => Ok(pair),
-        Err(_) => Err(Memory),
-    }
-}
-
 /// What a pair asks for. What is found of it by names is added to what was found of others.
 fn ask_at(
     alloc: Global,
@@ -160,7 +144,7 @@ fn ask_at(
 {
     let w = writers(writer, reader, key);
     let r = readers(reader, key);
-    let pair = find_pair(alloc, names, w, r)?;
+    let pair = prepare(alloc, names, w, r)?;
     let ask = ask_of_pair(alloc, writer, reader, &pair)?;
     push_pair(found, pair)?;
     Ok(ask)
@@ -231,7 +215,7 @@ pub fn reach(
 {
     let _ = count(writer);
     let _ = count(reader);
-    let names = branch_names(alloc, writer, reader)?;
+    let names = Names::new(alloc, writer, reader)?;
     let mut known = IndexSet::new(alloc);
     let mut found = Vec::new(alloc);
     let mut asks = Vec::new(alloc);
@@ -251,4 +235,47 @@ pub fn reach(
         next += 1;
     }
     Ok(Reached { known, found, asks })
+}
+
+/// What was found of a pair, if it is one that was reached.
+fn found_of(reached: &Reached, count: u32, w: NodeId, r: NodeId) -> Option<&Prepared>
+    ensures { (writer reader : List SeenNode) → ArePrepared writer reader reached.now.found.items
+        → IfSome result (λ p. IsPrepared writer reader p.now × (p.now.w ≡ w) × (p.now.r ≡ r)) }
+{
+    let place = match reached.known.get_index_of(&number(count, w, r)) {
+        Some(place) => place,
+        None => return None,
+    };
+    if place >= reached.found.len() {
+        return None;
+    }
+    let pair = &reached.found[place];
+    if pair.w == w && pair.r == r {
+        Some(pair)
+    } else {
+        None
+    }
+}
+
+/// What a pair asks for, by what was found of it, and else by names.
+pub(crate) fn ask_for(
+    alloc: Global,
+    writer: &Schema,
+    reader: &Schema,
+    count: u32,
+    reached: &Reached,
+    w: NodeId,
+    r: NodeId,
+) -> Result<Ask, Memory>
+    requires { ArePrepared (schema_nodes writer.now) (schema_nodes reader.now) reached.now.found.items }
+    ensures { IfOk result (λ a. ask_of a ≡ asked (schema_nodes writer.now) (schema_nodes reader.now) (node_at (schema_nodes writer.now) w.0) (node_at (schema_nodes reader.now) r.0)) }
+{
+    match found_of(reached, count, w, r) {
+        Some(pair) => ask_of_pair(alloc, writer, reader, pair),
+        None => {
+            let names = Names::none(alloc, writer, reader);
+            let pair = prepare(alloc, &names, w, r)?;
+            ask_of_pair(alloc, writer, reader, &pair)
+        }
+    }
 }

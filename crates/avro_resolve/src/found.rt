@@ -1,5 +1,5 @@
-use avro_schema::NodeId;
-use std::alloc::{AllocError, Global};
+use avro_schema::{Memory, NodeId};
+use std::alloc::Global;
 use std::collections::BTreeMap;
 
 /// The pairs of nodes that were found so far, each once, and the place of each among them.
@@ -26,16 +26,13 @@ impl Found {
     }
 
     /// The place of a pair, which is added behind the others where it is new.
-    pub fn place_of(&mut self, w: NodeId, r: NodeId) -> Result<u32, AllocError> {
+    pub fn place_of(&mut self, w: NodeId, r: NodeId) -> Result<u32, Memory> {
         match self.places.get(&(w, r)) {
             Some(place) => return Ok(*place),
             None => {}
         }
         let place = self.count;
-        match self.places.insert((w, r), place) {
-            Ok(_) => {}
-            Err(_) => return Err(AllocError),
-        }
+        self.places.insert((w, r), place)?;
         self.pairs.push((w, r))?;
         self.count = place.saturating_add(1);
         Ok(place)

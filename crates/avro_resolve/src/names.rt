@@ -3,8 +3,8 @@ use crate::guided::Aim;
 use crate::pairs::{aim_after, first_match_after};
 use crate::symbol_tables::{symbol_by, symbol_tables};
 use crate::union_tables::{start_by, union_tables};
-use avro_schema::{Field, NodeId, Schema};
-use std::alloc::{AllocError, Global};
+use avro_schema::{Field, Memory, NodeId, Schema};
+use std::alloc::Global;
 use std::collections::BTreeMap;
 use std::marker::Model;
 
@@ -57,11 +57,7 @@ impl<'a> Names<'a> {
     /// # Errors
     ///
     /// Memory ran out.
-    pub fn new(
-        alloc: Global,
-        writer: &'a Schema,
-        reader: &'a Schema,
-    ) -> Result<Names<'a>, AllocError>
+    pub fn new(alloc: Global, writer: &'a Schema, reader: &'a Schema) -> Result<Names<'a>, Memory>
         ensures { IfOk result (λ names. names ≡ (writer.now, reader.now)) }
     {
         let unions = union_tables(alloc, reader)?;

@@ -1,14 +1,14 @@
 use crate::guided::{Aim, At};
 use crate::parts::{items_of, values_of};
 use crate::prepared::Prepared;
-use avro_schema::{Node, NodeId, Schema};
-use std::alloc::{AllocError, Global};
+use avro_schema::{Memory, Node, NodeId, Schema};
+use std::alloc::Global;
 
 /// A pair of nodes, and its place among those of a plan.
 pub type PlacedPair = (NodeId, NodeId, u32);
 
 /// The pairs that are kept, in order, each with its place.
-fn in_order(alloc: Global, pairs: &[Prepared]) -> Result<Vec<PlacedPair>, AllocError> {
+fn in_order(alloc: Global, pairs: &[Prepared]) -> Result<Vec<PlacedPair>, Memory> {
     let mut order = Vec::new(alloc);
     let mut place = 0u32;
     for pair in pairs {
@@ -104,7 +104,7 @@ pub fn places_of(
     writer: &Schema,
     reader: &Schema,
     pairs: &[Prepared],
-) -> Result<(Vec<Vec<u32>>, u32), AllocError> {
+) -> Result<(Vec<Vec<u32>>, u32), Memory> {
     let order = in_order(alloc, pairs)?;
     let root = place_in(&order, writer.root(), reader.root());
     let mut places = Vec::new(alloc);
@@ -121,7 +121,7 @@ fn places_of_parts(
     reader: &Schema,
     pair: &Prepared,
     order: &[PlacedPair],
-) -> Result<Vec<u32>, AllocError> {
+) -> Result<Vec<u32>, Memory> {
     let mut parts = Vec::new(alloc);
     for part in 0..count_of_parts(writer, pair) {
         let place = match part_at(writer, reader, pair, part) {

@@ -52,10 +52,9 @@ impl<'a> Plan<'a> {
     ) -> Result<Plan<'a>, Memory>
         ensures { IfOk result (λ plan. plan ≡ (writer.now, reader.now)) }
     {
-        match prepare_all(alloc, writer, reader, pairs) {
-            Ok(kept) => Ok(Plan::of(writer, reader, PlanTable::of(alloc, writer, reader, kept)?)),
-            Err(_) => Err(Memory),
-        }
+        let kept = prepare_all(alloc, writer, reader, pairs)?;
+        let table = PlanTable::of(alloc, writer, reader, kept)?;
+        Ok(Plan::of(writer, reader, table))
     }
 
     /// The plan that keeps this of two schemas.

@@ -33,10 +33,8 @@ impl PlanTable {
         requires { ArePrepared (schema_nodes writer.now) (schema_nodes reader.now) pairs.items }
         ensures { IfOk result (λ table. IsTableOf (schema_nodes writer.now) (schema_nodes reader.now) table) }
     {
-        match places_of(alloc, writer, reader, &pairs) {
-            Ok((parts, root)) => Ok(PlanTable { pairs, parts, root }),
-            Err(_) => Err(Memory),
-        }
+        let (parts, root) = places_of(alloc, writer, reader, &pairs)?;
+        Ok(PlanTable { pairs, parts, root })
     }
 
     /// What a plan keeps of the pairs that the roots lead to.
@@ -47,14 +45,12 @@ impl PlanTable {
     pub fn reached(alloc: Global, writer: &Schema, reader: &Schema) -> Result<PlanTable, Memory>
         ensures { IfOk result (λ table. IsTableOf (schema_nodes writer.now) (schema_nodes reader.now) table) }
     {
-        match prepare_reached(alloc, writer, reader) {
-            Ok((pairs, parts)) => Ok(PlanTable {
-                pairs,
-                parts,
-                root: 0,
-            }),
-            Err(_) => Err(Memory),
-        }
+        let (pairs, parts) = prepare_reached(alloc, writer, reader)?;
+        Ok(PlanTable {
+            pairs,
+            parts,
+            root: 0,
+        })
     }
 
     /// The plan that keeps this, of the schemas that it was made of.

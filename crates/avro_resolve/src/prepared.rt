@@ -19,3 +19,20 @@ pub struct Prepared {
     /// The reader's symbol for each of the writer's.
     pub symbols: Vec<Option<u32>>,
 }
+
+impl Prepared {
+    ghost use Rattle.std.specs.Prelude.{◌≡◌, is_none};
+    ghost use Rattle.std.specs.List.{list_any};
+
+    /// Whether some of the writer's symbols is none of the reader's, which has no default.
+    pub fn lacks_symbol(&self) -> bool
+        ensures { result ≡ list_any is_none self.now.symbols.items }
+    {
+        for symbol in &self.symbols {
+            if symbol.is_none() {
+                return true;
+            }
+        }
+        false
+    }
+}

@@ -11,8 +11,8 @@ use crate::names::Names;
 use crate::prepared::Prepared;
 use crate::sourcing::{fields_of, missing_among, node_of_field, source_kept};
 use crate::symbols::symbols_of;
-use avro_schema::{Field, NodeId, Schema};
-use std::alloc::{AllocError, Global};
+use avro_schema::{Field, Memory, NodeId, Schema};
+use std::alloc::Global;
 
 /// What a plan keeps of some pairs of nodes.
 pub fn prepare_all(
@@ -20,7 +20,7 @@ pub fn prepare_all(
     writer: &Schema,
     reader: &Schema,
     pairs: &[(NodeId, NodeId)],
-) -> Result<Vec<Prepared>, AllocError>
+) -> Result<Vec<Prepared>, Memory>
     ensures { IfOk result (λ kept. ArePrepared (schema_nodes writer.now) (schema_nodes reader.now) kept.items) }
 {
     let names = Names::new(alloc, writer, reader)?;
@@ -38,7 +38,7 @@ pub fn prepare_all(
 /// # Errors
 ///
 /// Memory ran out.
-pub fn prepare(alloc: Global, names: &Names, w: NodeId, r: NodeId) -> Result<Prepared, AllocError>
+pub fn prepare(alloc: Global, names: &Names, w: NodeId, r: NodeId) -> Result<Prepared, Memory>
     ensures { IfOk result (λ p. IsPrepared (schema_nodes names.now.0) (schema_nodes names.now.1) p × (p.w ≡ w) × (p.r ≡ r)) }
 {
     let aim = names.aim(w, r);
@@ -71,7 +71,7 @@ fn prepare_inside(
     w: NodeId,
     r: NodeId,
     aim: Aim,
-) -> Result<Prepared, AllocError>
+) -> Result<Prepared, Memory>
     ensures { IfOk result (λ p. AreInside (node_at (schema_nodes names.now.0) w.0) (node_at (schema_nodes names.now.1) r.0) p
         × (p.aim ≡ aim) × (p.w ≡ w) × (p.r ≡ r)) }
 {
@@ -97,7 +97,7 @@ fn find_sources(
     names: &Names,
     w: NodeId,
     reads: &[Field],
-) -> Result<Vec<Option<usize>>, AllocError>
+) -> Result<Vec<Option<usize>>, Memory>
     ensures each { IfOk result (λ found. AreSources (fields_at (node_at (schema_nodes names.now.0) w.0)) (seen_fields reads.now) found.items) }
     ensures all { IfOk result (λ found. length found.items ≡ length reads.now) }
 {
@@ -115,7 +115,7 @@ fn find_fields(
     writes: &[Field],
     reads: &[Field],
     sources: &[Option<usize>],
-) -> Result<Vec<At>, AllocError>
+) -> Result<Vec<At>, Memory>
     requires { AreSources (seen_fields writes.now) (seen_fields reads.now) sources.now }
     ensures each { IfOk result (λ found. AreFor (seen_fields writes.now) (seen_fields reads.now) found.items) }
     ensures all { IfOk result (λ found. length found.items ≡ suc (length (seen_fields writes.now))) }
@@ -138,7 +138,7 @@ fn find_fields(
 }
 
 /// So many parts that are for nothing.
-fn all_ignored(alloc: Global, count: usize) -> Result<Vec<At>, AllocError>
+fn all_ignored(alloc: Global, count: usize) -> Result<Vec<At>, Memory>
     ensures ignored { IfOk result (λ found. AreIgnored found.items) }
     ensures all { IfOk result (λ found. length found.items ≡ count) }
 {
@@ -164,7 +164,7 @@ fn find_symbols(
     names: &Names,
     writes: &[String],
     r: NodeId,
-) -> Result<Vec<Option<u32>>, AllocError>
+) -> Result<Vec<Option<u32>>, Memory>
     ensures each { IfOk result (λ found. AreTaken (texts_of writes.now) (node_at (schema_nodes names.now.1) r.0) found.items) }
     ensures all { IfOk result (λ found. length found.items ≡ length writes.now) }
 {

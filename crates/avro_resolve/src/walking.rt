@@ -8,8 +8,8 @@ use crate::names::Names;
 use crate::ordering::{count_of_parts, part_at};
 use crate::prepared::Prepared;
 use crate::preparing::prepare;
-use avro_schema::{NodeId, Schema};
-use std::alloc::{AllocError, Global};
+use avro_schema::{Memory, NodeId, Schema};
+use std::alloc::Global;
 
 /// What a plan keeps of the pairs of nodes that the roots lead to, and the places of the pairs of their parts.
 /// The roots' pair is the first.
@@ -17,7 +17,7 @@ pub fn prepare_reached(
     alloc: Global,
     writer: &Schema,
     reader: &Schema,
-) -> Result<(Vec<Prepared>, Vec<Vec<u32>>), AllocError>
+) -> Result<(Vec<Prepared>, Vec<Vec<u32>>), Memory>
     ensures { IfOk result (λ r. ArePrepared (schema_nodes writer.now) (schema_nodes reader.now) r.0.items) }
 {
     let names = Names::new(alloc, writer, reader)?;
@@ -50,7 +50,7 @@ fn find_parts(
     reader: &Schema,
     pair: &Prepared,
     found: &mut Found,
-) -> Result<Vec<u32>, AllocError> {
+) -> Result<Vec<u32>, Memory> {
     let mut parts = Vec::new(alloc);
     for part in 0..count_of_parts(writer, pair) {
         let place = match part_at(writer, reader, pair, part) {

@@ -2,7 +2,8 @@
 use Rattle.std.specs.Prelude.{ℕ, Bool, true, false, not, ◌&&◌, ◌||◌, List, [], ◌∷◌, Option, Some, None, slice_get, unwrap_or, is_some}
 use Rattle.avro_schema.specs.Node.{Node, FieldNode, field_places}
 use Rattle.avro_resolve.specs.Source.{source_of}
-use Rattle.avro_certificate.specs.Closed.{Pair, is_among, is_among_pairs, lacks_symbol}
+use Rattle.std.specs.List.{list_all}
+use Rattle.avro_certificate.specs.Closed.{Pair, children_of, has_local_fault, is_among, is_among_pairs, lacks_symbol}
 
 -- the sets account for a pair: its writer's node is dead, or the pair is there
 abbrev pub stands : List ℕ → List Pair → Pair → Bool
@@ -20,11 +21,6 @@ abbrev pub closed_fields : List ℕ → List Pair → List FieldNode → List Fi
 closed_fields dead pairs fields [] = true
 closed_fields dead pairs fields (f ∷ theirs) = closed_source dead pairs fields f && closed_fields dead pairs fields theirs
 
--- the first branch of a reader's union that matches
-abbrev pub closed_branch : List ℕ → List Pair → ℕ → List ℕ → Option ℕ → Bool
-closed_branch dead pairs w places None = false
-closed_branch dead pairs w places (Some k) = stands dead pairs (record { w = w; r = unwrap_or (slice_get places k) 0 })
-
 -- two nodes that match, and are no unions
 abbrev pub closed_inside : List ℕ → List Pair → Node → Node → Bool
 closed_inside dead pairs Node.bytes Node.string = false
@@ -33,3 +29,7 @@ closed_inside dead pairs (Node.map_of a) (Node.map_of b) = stands dead pairs (re
 closed_inside dead pairs (Node.record_of a xs fields) (Node.record_of b ys theirs) = closed_fields dead pairs fields theirs
 closed_inside dead pairs (Node.enum a xs symbols x) (Node.enum b ys theirs y) = not (lacks_symbol symbols theirs y)
 closed_inside dead pairs n q = true
+
+-- a pair of nodes whose writer's is not dead
+abbrev pub closed_live : List Node → List Node → List ℕ → List Pair → ℕ → ℕ → Node → Node → Bool
+closed_live writer reader dead pairs w r n q = not (has_local_fault writer reader n q) && list_all (stands dead pairs) (children_of writer reader w r n q)

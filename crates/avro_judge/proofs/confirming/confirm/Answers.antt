@@ -4,6 +4,6 @@ use Rattle.avro_certificate.specs.SeenCertificate.{dead_of, pairs_in}
 use Rattle.avro_certificate.proofs.public.Resolving.{closed_compatible}
 use Rattle.avro_judge.proofs.confirming.confirm.Goals as goal
 
-pub of-requires-clause-compatible : goal.of-requires-clause-compatible
-of-requires-clause-compatible c = closed_compatible (schema_nodes c.args.writer.now) (schema_nodes c.args.reader.now) (dead_of c.args.certificate.now) (pairs_in c.args.certificate.now)
-    c.len.ensures.formed (sym c.in-Ok.ensures ∙ c.if-closed.true)
+pub by-requires-clause-compatible : goal.by-requires-clause-compatible
+by-requires-clause-compatible c = closed_compatible (schema_nodes c.args.writer.now) (schema_nodes c.args.reader.now) (dead_of c.args.certificate.now) (pairs_in c.args.certificate.now)
+    c.len.ensures.formed (sym c.in-Some.ensures.closed)

@@ -4,7 +4,7 @@ use Rattle.avro_schema.specs.Node.{node_at}
 use Rattle.avro_schema.specs.SeenSchema.{schema_nodes}
 use Rattle.avro_least.specs.Asked.{asked}
 use Rattle.avro_least.specs.SeenAsk.{ask_of}
-use Rattle.avro_least.proofs.build_errors.ask_for.Goals as goal
+use Rattle.avro_least.proofs.reaching.ask_for.Goals as goal
 
 pub ask_of_pair-requires : goal.ask_of_pair-requires
 ask_of_pair-requires c = (c.in-Some.ensures (schema_nodes c.args.writer.now) (schema_nodes c.args.reader.now) c.requires).0
