@@ -72,7 +72,7 @@ breaks duplicate_field nodes place n = not (has_fields_rule n)
 breaks invalid_default nodes place n = has_good_edges nodes place n && not (has_defaults_rule nodes n)
 breaks limit_exceeded nodes place n = not (is_within_limit n)
 
--- each of the nodes from a place on
+-- whether one of the nodes from a place on breaks it
 abbrev pub some_breaks : NodeFault → List Node → ℕ → List Node → Bool
 some_breaks fault nodes place [] = false
 some_breaks fault nodes place (n ∷ ns) = breaks fault nodes place n || some_breaks fault nodes (suc place) ns

@@ -1,23 +1,29 @@
--- No fault of what a tree makes says that the text is no JSON.
-use Rattle.std.proofs.Common.{◌≡◌, ℕ, zero, suc, ◌+◌, ◌<◌, Bool, true, false, not, List, [], ◌∷◌, ◌++◌, Option, Some, None, Result, Ok, Err, length, refl, ap, arith, nat_lt, nat_le, subst, Ordering}
+-- No fault of a tree says that the text is no JSON, or that memory ran out.
+use Rattle.std.proofs.Common.{◌≡◌, ℕ, zero, suc, ◌+◌, ◌<◌, Bool, true, false, not, List, [], ◌∷◌, ◌++◌, Option, Some, None, Result, Ok, Err, length, refl, ap, arith, nat_lt, nat_le, subst, Ordering, sym, ◌∙◌, map}
 use Rattle.std.specs.Prelude.{Contains, slice_index_or, codes, is_some, option_and_then, ok_or, if◌then◌else◌}
 use Rattle.std.specs.List.{list_all}
 use Rattle.std.specs.Ordering.{nat_cmp, match_ordering}
 use Rattle.std.specs.Cmp.Lexicographic.{slice_cmp}
-use Rattle.std.proofs.lemmas.Bool.{and_parts}
+use Rattle.std.proofs.lemmas.Bool.{and_parts, false≢true}
 use Rattle.std.proofs.lemmas.List.Folds.{list_all-append}
 use Rattle.avro_name.specs.Name.{Name, is_namespace, has_dot, name_of}
 use Rattle.avro_schema.specs.Node.{Node}
 use Rattle.avro_schema.specs.WellFormed.{max_nodes, max_count}
+use Rattle.avro_schema.specs.Faulty.{NodeFault, unknown_node, duplicate_name, invalid_name, invalid_union, invalid_symbols, duplicate_field, invalid_default, limit_exceeded, faults_of_nodes}
 use Rattle.serde_json.specs.Data.{Data, Items, no_items, item, Members, no_members, member}
 use Rattle.serde_json.specs.Find.{get_member, as_str, as_number, as_u64}
 use Rattle.avro_schema_json.specs.declared.error.SchemaError.{SchemaError}
 use Rattle.avro_schema_json.specs.DeclaredAttributes.{unless, needed, text_in, as_texts, namespace_from, name_from, name_in, alias_texts_from, alias_texts_in, aliases_in, symbol_place, default_symbol_from, symbols_in, size_in}
+use Rattle.serde_json.specs.Written.{has_float}
+use Rattle.avro_schema_json.specs.DeclaredFaults.{faults_of, refusals_of_nodes, or_else, HasFault}
+use Rattle.avro_schema_json.specs.DeclaredSchema.{whole_nodes, are_all_defaults_read}
+use Rattle.avro_schema_json.specs.Refusals.{refusal_of_fault}
 use Rattle.avro_schema_json.specs.Declares.{RawField, RawNode, Known, Made, Meaning, faulty, joined, in_turn, above, alone, use_of, place_of, reference, Word, null_word, boolean_word, int_word, long_word, bytes_word, string_word, unsupported_word, type_name, word_of, type_of_word, union_of, container_of, defining, name_faults, record_named, enum_named, fixed_named, definition_of, Form, record_form, enum_form, fixed_form, array_form, map_form, error_form, word_form, no_form, form_of, type_of_form, field_of, no_field, meaning_of, branches_of, meaning_under, fields_under, fields_from, field_meanings, field_meaning, made_of}
 
 -- a fault that a tree can have
 abbrev is_of_tree : SchemaError → Bool
 is_of_tree SchemaError.NotJson = false
+is_of_tree SchemaError.OutOfMemory = false
 is_of_tree _ = true
 
 abbrev are_of_tree : List SchemaError → Bool
@@ -336,8 +342,43 @@ contained_at (x ∷ xs) (suc k) e h below at = contained_at xs k e (and_parts (i
 contained : (xs : List SchemaError) (e : SchemaError) → are_of_tree xs ≡ true → Contains xs e → is_of_tree e ≡ true
 contained xs e h c = contained_at xs c.0 e h c.1 c.2
 
+-- ---- the faults of a tree
+
+or_else-of_tree : (xs ys : List SchemaError) → are_of_tree xs ≡ true → are_of_tree ys ≡ true → are_of_tree (or_else xs ys) ≡ true
+or_else-of_tree [] ys h k = k
+or_else-of_tree (x ∷ xs) ys h k = h
+
+refusal-of_tree : (fault : NodeFault) → is_of_tree (refusal_of_fault fault) ≡ true
+refusal-of_tree unknown_node = refl
+refusal-of_tree duplicate_name = refl
+refusal-of_tree invalid_name = refl
+refusal-of_tree invalid_union = refl
+refusal-of_tree invalid_symbols = refl
+refusal-of_tree duplicate_field = refl
+refusal-of_tree invalid_default = refl
+refusal-of_tree limit_exceeded = refl
+
+refusals-of_tree : (faults : List NodeFault) → are_of_tree (map refusal_of_fault faults) ≡ true
+refusals-of_tree [] = refl
+refusals-of_tree (fault ∷ faults) = rw (refusal-of_tree fault, refusals-of_tree faults) refl
+
+all-of_tree : (tree : Data) → are_of_tree (faults_of tree) ≡ true
+all-of_tree tree =
+    let raws = (made_of tree).nodes in
+    let unread = unless (are_all_defaults_read raws) SchemaError.InvalidDefault in
+    let refused = refusals_of_nodes (whole_nodes raws) in
+    or_else-of_tree (unless (not (has_float tree)) SchemaError.UnsupportedNumber) (or_else (made_of tree).faults (or_else refused unread))
+    (unless-of_tree (not (has_float tree)) SchemaError.UnsupportedNumber refl)
+    (or_else-of_tree (made_of tree).faults (or_else refused unread) ((meaning-sound tree).at [] [] 0).clean
+    (or_else-of_tree refused unread (refusals-of_tree (faults_of_nodes (whole_nodes raws)))
+    (unless-of_tree (are_all_defaults_read raws) SchemaError.InvalidDefault refl)))
+
+of_tree-other : (e : SchemaError) → is_of_tree e ≡ true → (e ≡ SchemaError.NotJson → ⊥) × (e ≡ SchemaError.OutOfMemory → ⊥)
+of_tree-other e h =
+    (λ is. false≢true (sym (ap is_of_tree is) ∙ h), λ is. false≢true (sym (ap is_of_tree is) ∙ h))
+
+pub fault-other : (tree : Data) (e : SchemaError) → HasFault tree e → (e ≡ SchemaError.NotJson → ⊥) × (e ≡ SchemaError.OutOfMemory → ⊥)
+fault-other tree e c = of_tree-other e (contained (faults_of tree) e (all-of_tree tree) c)
+
 pub made_fault : (tree : Data) (e : SchemaError) → Contains (made_of tree).faults e → e ≡ SchemaError.NotJson → ⊥
-made_fault tree e c is =
-    let there : is_of_tree e ≡ true = contained (made_of tree).faults e ((meaning-sound tree).at [] [] 0).clean c in
-    let none : is_of_tree e ≡ false = ap is_of_tree is in
-    absurd cc
+made_fault tree e c = (of_tree-other e (contained (made_of tree).faults e ((meaning-sound tree).at [] [] 0).clean c)).0

@@ -33,7 +33,8 @@ faults_of tree =
 -- S3, a definition: its fullname is defined before it;
 -- S4, a name, namespace or alias, where it is read, and a symbol or a field's name, in the rules of its kind;
 -- S5, an attribute: it is missing or ill-typed; JSON that is no schema or no field;
--- S6, S7 and S8, the rules of a union, of symbols and of field names; S7 also a default that is no symbol;
+-- S6, the rules of a union whose edges are good;
+-- S7 and S8, the rules of symbols and of field names; S7 also a default that is no symbol;
 -- S9, a default that is no datum;
 -- S10, `float`, `double` and `error`;
 -- S11, a number that is not whole;

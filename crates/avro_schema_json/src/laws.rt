@@ -1,6 +1,6 @@
 //! Laws of what JSON declares.
 
-ghost use Rattle.std.specs.Prelude.{◌≡◌, ℕ, ◌∷◌, true, List, None, Some};
+ghost use Rattle.std.specs.Prelude.{◌≡◌, ◌≢◌, ℕ, ◌∷◌, true, List, None, Some};
 ghost use Rattle.avro_schema.specs.Fits.{fits};
 ghost use Rattle.avro_schema.specs.Node.{Node, branches_of, node_at};
 ghost use Rattle.avro_schema.specs.Value.{Value};
@@ -25,6 +25,11 @@ pub fn declared_is_schema()
 /// A tree with a fault declares no schema.
 pub fn fault_leaves_none()
     ensures { (tree : Data) (fault : SchemaError) → HasFault tree fault → declared tree ≡ None }
+{}
+
+/// No fault of a tree says that a text is no JSON, or that memory ran out.
+pub fn fault_is_of_tree()
+    ensures { (tree : Data) (fault : SchemaError) → HasFault tree fault → (fault ≢ SchemaError.NotJson) × (fault ≢ SchemaError.OutOfMemory) }
 {}
 
 /// A tree that declares no schema has a fault: one without faults declares a schema.

@@ -1,6 +1,6 @@
 //! Nodes with their defaults.
 
-ghost use Rattle.std.specs.Prelude.{◌≡◌, ◌≢◌, ◌⊎◌, ◌<◌, true, [], None, length, map, option_map, IfOk, IfErr, OnOk, Contains};
+ghost use Rattle.std.specs.Prelude.{◌≡◌, ◌⊎◌, ◌<◌, true, [], None, length, map, option_map, IfOk, IfErr, OnOk, Contains};
 ghost use Rattle.std.specs.List.{list_all};
 ghost use Rattle.std.specs.Vec.Iter.{into_iter_items};
 ghost use Rattle.avro_schema.specs.Seen.{value_of, node_of, seen_fields};
@@ -13,7 +13,7 @@ ghost use Rattle.avro_schema_json.specs.DeclaredSchema.{field_default, is_defaul
 ghost use Rattle.avro_schema_json.specs.OwnDefaults.{bares_of};
 ghost use Rattle.avro_schema_json.specs.SeenDefaults.{data_seen, lists_seen, defaults_of_node as node_defaults_by, first_or, others_of, filled_fields, filled_node, filled_nodes};
 ghost use Rattle.avro_schema_json.specs.SeenRaw.{raw_field_of, raw_fields_of, raw_node_of, raw_nodes_of};
-ghost use Rattle.avro_schema_json.specs.declared.error.SchemaError.TheVariants.{InvalidDefault, NotJson, OutOfMemory};
+ghost use Rattle.avro_schema_json.specs.declared.error.SchemaError.TheVariants.{InvalidDefault, OutOfMemory};
 
 use crate::defaults::default_of;
 use crate::error::SchemaError;
@@ -206,7 +206,6 @@ pub(crate) fn schema_of(alloc: Global, raws: Vec<RawNode<'_>>) -> Result<Schema,
     ensures read { OnOk result (are_all_defaults_read (raw_nodes_of raws.entry.items) ≡ true) }
     ensures refused { IfErr result (λ e. (e ≡ OutOfMemory)
         ⊎ Contains (or_else (refusals_of_nodes (whole_nodes (raw_nodes_of raws.entry.items))) (unless (are_all_defaults_read (raw_nodes_of raws.entry.items)) InvalidDefault)) e) }
-    ensures json { IfErr result (λ e. e ≢ NotJson) }
 {
     if has_repeated_branch(alloc, &raws)? {
         return Err(SchemaError::InvalidUnion);

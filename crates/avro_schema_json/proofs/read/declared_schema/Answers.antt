@@ -12,7 +12,7 @@ use Rattle.avro_schema_json.specs.DeclaredAttributes.{unless}
 use Rattle.avro_schema_json.specs.DeclaredFaults.{refusals_of_nodes, or_else, HasFault}
 use Rattle.avro_schema_json.specs.DeclaredSchema.{whole_nodes, are_all_defaults_read, DeclaresSchema}
 use Rattle.avro_schema_json.specs.SeenRaw.{raw_nodes_of}
-use Rattle.avro_schema_json.proofs.MadeSound.{made_fault}
+use Rattle.avro_schema_json.proofs.MadeSound.{made_fault, fault-other}
 use Rattle.avro_schema_json.proofs.ReadSeen.{declared-found, fault-found}
 use Rattle.avro_schema_json.proofs.read.declared_schema.Goals as goal
 
@@ -30,6 +30,12 @@ schema_refused tree raws (Ok schema) whole clean same refused = tt
 schema_refused tree raws (Err e) whole clean same (inl memory) = inl memory
 schema_refused tree raws (Err e) whole clean same (inr c) = inr (fault-found tree raws e whole clean same c)
 
+no_json : (tree : Data) (r : Result Schema SchemaError) → IfErr r (λ e. (e ≡ SchemaError.OutOfMemory) ⊎ HasFault tree e)
+    → IfErr r (λ e. e ≡ SchemaError.NotJson → ⊥)
+no_json tree (Ok schema) refused = tt
+no_json tree (Err e) (inl memory) = λ is. cc
+no_json tree (Err e) (inr c) = (fault-other tree e c).0
+
 made_refused : (tree : Data) (e : SchemaError) → (e ≡ SchemaError.OutOfMemory) ⊎ Contains (made_of tree).faults e → e ≡ SchemaError.NotJson → ⊥
 made_refused tree e (inl memory) is = cc
 made_refused tree e (inr c) is = made_fault tree e c is
@@ -45,6 +51,12 @@ returns-in-Ok-clause-refused c =
     let float = sym c.if-has_float.false ∙ c.has_float.ensures in
     schema_refused (view c.args.tree.now) (raw_nodes_of c.in-Ok.raws.items) c.schema_of.result float c.in-Ok.ensures.found.0 c.in-Ok.ensures.found.1
     c.schema_of.ensures.refused
+
+pub returns-in-Ok-clause-json : goal.returns-in-Ok-clause-json
+returns-in-Ok-clause-json c =
+    let float = sym c.if-has_float.false ∙ c.has_float.ensures in
+    no_json (view c.args.tree.now) c.schema_of.result (schema_refused (view c.args.tree.now) (raw_nodes_of c.in-Ok.raws.items) c.schema_of.result float
+    c.in-Ok.ensures.found.0 c.in-Ok.ensures.found.1 c.schema_of.ensures.refused)
 
 pub returns-in-Err-clause-json : goal.returns-in-Err-clause-json
 returns-in-Err-clause-json c = made_refused (view c.args.tree.now) c.in-Err.error c.in-Err.ensures.refused
