@@ -1,5 +1,5 @@
 -- What a pair must hold, whole and part by part.
-use Rattle.std.proofs.Common.{◌≡◌, ℕ, zero, suc, ◌+◌, ◌<◌, get_or, Bool, true, false, not, ◌&&◌, ◌||◌, List, [], ◌∷◌, ◌++◌, drop, Option, Some, None, cond, Vec, refl, sym, ap, ◌∙◌, subst, arith}
+use Rattle.std.proofs.Common.{◌≡◌, ℕ, zero, suc, ◌+◌, ◌<◌, get_or, Bool, true, false, not, ◌&&◌, ◌||◌, List, [], ◌∷◌, drop, Option, Some, None, cond, Vec, refl, sym, ap, ◌∙◌, subst, arith}
 use Rattle.std.specs.Prelude.{is_some, slice_get, unwrap_or, nat_lt, length}
 use Rattle.std.specs.List.{list_all}
 use Rattle.avro_schema.specs.Node.{Node, FieldNode, node_at, branches_of, field_places}
@@ -17,6 +17,7 @@ use Rattle.avro_resolve.specs.declared.guided.Aim.{Aim}
 use Rattle.avro_resolve.specs.declared.guided.Aim.TheVariants.{Fault, To}
 use Rattle.avro_resolve.specs.Source.{source_of, missing_field_from}
 use Rattle.avro_certificate.specs.Closed.{Pair, is_among, has_local_fault, has_fault_of_kind, children_of, field_children, is_closed_at}
+use Rattle.avro_certificate.specs.SeenPair.{pair_of, pairs_of}
 use Rattle.avro_certificate.specs.inside.ClosedParts.{stands, closed_fields, closed_inside, closed_live}
 use Rattle.avro_certificate.proofs.public.NodeKinds.{fault_of_others}
 
@@ -142,21 +143,15 @@ seen_there [] i d low = absurd (omega (arith, low))
 seen_there (f ∷ fs) zero d low = refl
 seen_there (f ∷ fs) (suc i) d low = seen_there fs i d (omega (arith, low))
 
-pub seen_from : (fs : List Field) (i : ℕ) (d : Field) → i < length fs → seen_fields (drop i fs) ≡ field_of (get_or fs i d) ∷ seen_fields (drop (i + 1) fs)
-seen_from fs i d low = subst (λ (j : ℕ). seen_fields (drop i fs) ≡ field_of (get_or fs i d) ∷ seen_fields (drop j fs)) (next i) (step fs i d low)
+-- pairs from an index on, of which the first passes
+pub pairs_next : (test : Pair → Bool) (ps : List (ℕ × ℕ)) (i : ℕ) → i < length ps → test (pair_of (get_or ps i (0, 0))) ≡ true
+    → list_all test (pairs_of (drop (i + 1) ps)) ≡ list_all test (pairs_of (drop i ps))
+pairs_next test ps i low passes = subst (λ (j : ℕ). list_all test (pairs_of (drop j ps)) ≡ list_all test (pairs_of (drop i ps))) (next i) (step ps i low passes)
   where
     next : (i : ℕ) → suc i ≡ i + 1
     next i = omega arith
 
-    step : (fs : List Field) (i : ℕ) (d : Field) → i < length fs → seen_fields (drop i fs) ≡ field_of (get_or fs i d) ∷ seen_fields (drop (suc i) fs)
-    step [] i d low = absurd (omega (arith, low))
-    step (f ∷ fs) zero d low = refl
-    step (f ∷ fs) (suc i) d low = step fs i d (omega (arith, low))
-
--- each of a list of one more
-pub each_more : {A : Type 0} (P : A → Type 0) (xs : List A) (x : A) → ((k : ℕ) (y : A) → slice_get xs k ≡ Some y → P y) → P x
-    → (k : ℕ) (y : A) → slice_get (xs ++ x ∷ []) k ≡ Some y → P y
-each_more P [] x h last zero y got = let same : x ≡ y = cc in subst P same last
-each_more P [] x h last (suc k) y got = absurd cc
-each_more P (z ∷ zs) x h last zero y got = h 0 y got
-each_more P (z ∷ zs) x h last (suc k) y got = each_more P zs x (λ j z here. h (suc j) z here) last k y got
+    step : (ps : List (ℕ × ℕ)) (i : ℕ) → i < length ps → test (pair_of (get_or ps i (0, 0))) ≡ true → list_all test (pairs_of (drop (suc i) ps)) ≡ list_all test (pairs_of (drop i ps))
+    step [] i low passes = absurd (omega (arith, low))
+    step (p ∷ ps) zero low passes = sym (ap (λ (b : Bool). b && list_all test (pairs_of ps)) passes)
+    step (p ∷ ps) (suc i) low passes = step ps i (omega (arith, low)) passes

@@ -104,7 +104,15 @@ fn find_pairs(
     let pairs = certificate.pairs();
     let mut found = Vec::new(alloc);
     for pair in pairs {
-        if !is_closed_at(alloc, writer, reader, &names, certificate, *pair, &mut found)? {
+        if !is_closed_at(
+            alloc,
+            writer,
+            reader,
+            &names,
+            certificate,
+            *pair,
+            &mut found,
+        )? {
             return Ok(None);
         }
     }

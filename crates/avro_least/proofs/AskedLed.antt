@@ -1,5 +1,5 @@
 -- What a pair asks for, by what is found of it.
-use Rattle.std.proofs.Common.{◌≡◌, ℕ, zero, suc, ◌+◌, ◌≤◌, ◌<◌, Bool, true, false, cond, List, [], ◌∷◌, ◌++◌, Option, Some, None, Vec, length, refl, sym, ap, ◌∙◌, subst, arith}
+use Rattle.std.proofs.Common.{◌≡◌, ℕ, zero, suc, ◌+◌, ◌≤◌, ◌<◌, Bool, true, false, cond, List, [], ◌∷◌, Option, Some, None, Vec, length, refl, sym, ap, ◌∙◌, arith}
 use Rattle.std.specs.declared.alloc.Global.{Global}
 use Rattle.std.specs.Prelude.{option_map, slice_get, unwrap_or}
 use Rattle.avro_schema.specs.Node.{Node, FieldNode, branches_of, field_places}
@@ -52,14 +52,6 @@ module _ (writer reader : List Node) where
 pub plain_node : (n : KeptNode) → ((places : Vec NodeId Global) → n ≡ KeptNode.Union places → ⊥) → branches_of (node_of n) ≡ None
 plain_node (KeptNode.Union places) h = absurd (h places refl)
 plain_node _ h = refl
-
--- each of a list of one more
-pub each_more : {A : Type 0} (P : A → Type 0) (xs : List A) (x : A) → ((k : ℕ) (y : A) → slice_get xs k ≡ Some y → P y) → P x
-    → (k : ℕ) (y : A) → slice_get (xs ++ x ∷ []) k ≡ Some y → P y
-each_more P [] x h last zero y got = let same : x ≡ y = cc in subst P same last
-each_more P [] x h last (suc k) y got = absurd cc
-each_more P (z ∷ zs) x h last zero y got = h 0 y got
-each_more P (z ∷ zs) x h last (suc k) y got = each_more P zs x (λ j z here. h (suc j) z here) last k y got
 
 -- ---- Fields
 

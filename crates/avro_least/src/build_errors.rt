@@ -13,10 +13,10 @@ ghost use Rattle.avro_least.specs.Tables.{erring_of};
 
 use crate::asking::{Ask, FieldAsk};
 use crate::build::{build, make_record, place_at, push_datum, wrap};
-use crate::choosing::{best_error_place, best_row};
 use crate::kept::Least;
 use crate::made::{around_part, lone_at};
 use crate::reaching::{Reached, ask_for};
+use crate::selecting::{best_error_place, best_row};
 use avro_schema::{Datum, Memory, NodeId, Schema};
 use std::alloc::Global;
 

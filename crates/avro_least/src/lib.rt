@@ -9,13 +9,13 @@ mod asking;
 mod asking_names;
 mod build;
 mod build_errors;
-mod choosing;
 mod erring;
 mod kept;
 pub mod laws;
 mod least;
 mod made;
 mod reaching;
+mod selecting;
 
 pub use asking::{Ask, FieldAsk};
 pub use build_errors::build_error;

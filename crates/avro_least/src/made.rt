@@ -1,6 +1,6 @@
 //! The parts that a datum that errs is made of.
 
-ghost use Rattle.std.specs.Prelude.{◌≡◌, ◌<◌, [], ◌∷◌, IfOk};
+ghost use Rattle.std.specs.Prelude.{◌≡◌, ◌<◌, ℕ, [], ◌∷◌, IfOk};
 ghost use Rattle.avro_schema.specs.Node.{node_at};
 ghost use Rattle.avro_schema.specs.Seen.{node_of, value_of, values_from};
 ghost use Rattle.avro_schema.specs.SeenSchema.{schema_nodes};
@@ -77,7 +77,12 @@ pub(crate) fn lone_at(
 }
 
 /// An array of one item, or a map of one entry with the empty key.
-pub(crate) fn around_part(alloc: Global, writer: &Schema, w: NodeId, value: Datum) -> Result<Datum, Memory>
+pub(crate) fn around_part(
+    alloc: Global,
+    writer: &Schema,
+    w: NodeId,
+    value: Datum,
+) -> Result<Datum, Memory>
     ensures { IfOk result (λ d. value_of d ≡ part_value (node_at (schema_nodes writer.now) w.0) (value_of value)) }
 {
     let null = Node::Null;

@@ -1,5 +1,5 @@
 -- What a test of a list says of its elements.
-use Rattle.std.proofs.Common.{◌≡◌, ℕ, zero, suc, Bool, true, false, not, ◌&&◌, ◌||◌, List, [], ◌∷◌, Some, length, ◌<◌, ◌⊎◌, inl, inr, refl, sym, ◌∙◌, subst, arith}
+use Rattle.std.proofs.Common.{◌≡◌, ℕ, zero, suc, Bool, true, false, not, ◌&&◌, ◌||◌, List, [], ◌∷◌, ◌++◌, Some, length, ◌<◌, ◌⊎◌, inl, inr, refl, sym, ◌∙◌, subst, arith}
 use Rattle.std.proofs.lemmas.Bool.{false≢true, true≢false, eqb-true}
 use Rattle.std.specs.Prelude.{◌==◌, slice_get, unwrap_or}
 use Rattle.std.specs.List.{list_all, list_any, prefix_len}
@@ -102,3 +102,11 @@ prefix_len_below test (x ∷ xs) some = first (test x) refl (prefix_len_below te
     first false e later =
         let h = later (or_not (test x) (list_any test xs) some (λ p. true≢false (sym p ∙ e))) in
         rw e (omega arith)
+
+-- each of a list of one more
+pub each_more : {A : Type 0} (P : A → Type 0) (xs : List A) (x : A) → ((k : ℕ) (y : A) → slice_get xs k ≡ Some y → P y) → P x
+    → (k : ℕ) (y : A) → slice_get (xs ++ x ∷ []) k ≡ Some y → P y
+each_more P [] x h last zero y got = let same : x ≡ y = cc in subst P same last
+each_more P [] x h last (suc k) y got = absurd cc
+each_more P (z ∷ zs) x h last zero y got = h 0 y got
+each_more P (z ∷ zs) x h last (suc k) y got = each_more P zs x (λ j z here. h (suc j) z here) last k y got

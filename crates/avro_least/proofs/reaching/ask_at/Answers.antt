@@ -1,7 +1,7 @@
 use Rattle.std.proofs.Common.{◌∙◌, ap, sym, subst}
 use Rattle.avro_schema.specs.SeenSchema.{schema_nodes}
 use Rattle.avro_resolve.specs.Planned.{ArePrepared, IsPrepared}
-use Rattle.avro_least.proofs.AskedLed.{each_more}
+use Rattle.avro_certificate.proofs.public.Tests.{each_more}
 use Rattle.avro_least.proofs.reaching.ask_at.Goals as goal
 
 pub returns-clause-found : goal.returns-clause-found

@@ -4,7 +4,7 @@ use Rattle.avro_least.specs.Tables.{erring_of}
 use Rattle.avro_least.specs.SeenLeast.{seen, seen_all, table_of}
 use Rattle.avro_least.specs.SeenAsk.{rows_of}
 use Rattle.avro_least.specs.BuiltErrors.{total_from}
-use Rattle.avro_least.proofs.choosing.total.Given as goal
+use Rattle.avro_least.proofs.selecting.total.Given as goal
 
 abbrev pub invariant-loop-i : goal.invariant-loop-i
 invariant-loop-i l = (l.i ≤ length l.rows)

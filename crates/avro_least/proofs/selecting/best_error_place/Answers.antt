@@ -9,7 +9,7 @@ use Rattle.avro_schema.specs.declared.schema.NodeId.{NodeId}
 use Rattle.avro_least.specs.Tables.{LeastTable, erring_of}
 use Rattle.avro_least.specs.SeenLeast.{seen_all, table_of}
 use Rattle.avro_least.proofs.ShownData.{best_is}
-use Rattle.avro_least.proofs.choosing.best_error_place.Goals as goal
+use Rattle.avro_least.proofs.selecting.best_error_place.Goals as goal
 
 place_here : (ids : List NodeId) (i p : ℕ) (d : NodeId) → i < length ids → slice_get (places_of ids) i ≡ Some p → (get_or ids i d).0 ≡ p
 place_here ids i p d within got = some_same (get_or ids i d).0 p (sym (slice_get-map (λ id. id.0) ids i ∙ ap (option_map (λ id. id.0)) (slice_get-get_or ids i d within)) ∙ got)

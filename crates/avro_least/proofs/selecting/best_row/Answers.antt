@@ -5,7 +5,7 @@ use Rattle.avro_least.specs.Tables.{erring_of}
 use Rattle.avro_least.specs.SeenLeast.{seen, seen_all, table_of}
 use Rattle.avro_least.specs.SeenAsk.{rows_of}
 use Rattle.avro_least.specs.BuiltErrors.{total_from}
-use Rattle.avro_least.proofs.choosing.best_row.Goals as goal
+use Rattle.avro_least.proofs.selecting.best_row.Goals as goal
 
 pub loop-i-preserved : goal.loop-i-preserved
 loop-i-preserved c j below same = elim (cases_eq j c.loop-i.i) [

@@ -4,7 +4,7 @@ use Rattle.indexmap.specs.IndexSet.{keys}
 use Rattle.avro_schema.specs.Seen.{places_of}
 use Rattle.avro_least.specs.Tables.{erring_of}
 use Rattle.avro_least.specs.SeenLeast.{seen, seen_all, table_of}
-use Rattle.avro_least.proofs.choosing.best_error_place.Given as goal
+use Rattle.avro_least.proofs.selecting.best_error_place.Given as goal
 
 abbrev pub invariant-loop-i : goal.invariant-loop-i
 invariant-loop-i l = (j p : ℕ) → j < l.i → slice_get (places_of l.places) j ≡ Some p

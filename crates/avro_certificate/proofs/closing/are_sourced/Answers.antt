@@ -1,0 +1,13 @@
+use Rattle.std.proofs.Common.{◌∙◌, None, Some, ap, sym, arith}
+use Rattle.std.proofs.lemmas.Option.{slice_get-get_or}
+use Rattle.std.specs.Prelude.{slice_index_or}
+use Rattle.avro_schema.specs.Seen.{field_of}
+use Rattle.avro_certificate.proofs.ClosedParts.{seen_there}
+use Rattle.avro_certificate.proofs.closing.are_sourced.Goals as goal
+
+pub has_source-requires : goal.has_source-requires
+has_source-requires c =
+    let place = c.loop-place.place in
+    let field = c.index-theirs-place.result in
+    c.requires.each place (slice_index_or c.args.sources.now place None) (slice_get-get_or c.args.sources.now place None (omega (arith, c.loop-place-test.true, c.requires.all))) (field_of field)
+    (seen_there c.args.theirs.now place field c.loop-place-test.true ∙ ap (λ f. Some (field_of f)) (sym c.index-theirs-place.is))

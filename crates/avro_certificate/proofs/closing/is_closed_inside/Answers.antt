@@ -1,0 +1,23 @@
+use Rattle.std.proofs.Common.{◌∙◌, ap, not, subst, sym}
+use Rattle.avro_schema.specs.Seen.{node_of, texts_of}
+use Rattle.avro_schema.specs.declared.schema.Node.{Node as KeptNode}
+use Rattle.avro_resolve.specs.Planned.{AreInside}
+use Rattle.avro_certificate.specs.SeenCertificate.{dead_of, pairs_in}
+use Rattle.avro_certificate.specs.inside.ClosedParts.{closed_inside}
+use Rattle.avro_certificate.proofs.public.Symbols.{lacks_same}
+use Rattle.avro_certificate.proofs.closing.is_closed_inside.Goals as goal
+
+pub returns-in-Enum-q : goal.returns-in-Enum-q
+returns-in-Enum-q c =
+    let pair = c.args.pair.now in
+    let dead = dead_of c.args.certificate.now in
+    let pairs = pairs_in c.args.certificate.now in
+    let n = KeptNode.Enum c.in-Enum.field-0 in
+    let q = KeptNode.Enum c.in-Enum-q.field-0 in
+    let inside : AreInside (node_of n) (node_of q) pair =
+    subst (λ (m : KeptNode). AreInside (node_of n) (node_of m) pair) c.in-Enum-q.is (subst (λ (m : KeptNode). AreInside (node_of m) (node_of c.args.q.now) pair) c.in-Enum.is c.requires) in
+    ap not
+    (c.lacks_symbol.ensures
+    ∙ lacks_same (texts_of c.in-Enum.field-0.symbols.items) (texts_of c.in-Enum-q.field-0.symbols.items) c.in-Enum-q.field-0.default pair.symbols.items inside.all_symbols inside.symbols)
+    ∙ ap (λ (m : KeptNode). closed_inside dead pairs (node_of n) (node_of m)) (sym c.in-Enum-q.is)
+    ∙ ap (λ (m : KeptNode). closed_inside dead pairs (node_of m) (node_of c.args.q.now)) (sym c.in-Enum.is)
