@@ -3,9 +3,12 @@
 //!
 //! [`resolve`] answers it of a datum that is at hand. [`read_resolved`] answers it of bytes, which are
 //! read once: a builder gets each part as it is for the reader, and no writer's datum is made.
-//! [`decode_resolved`] is the same with the datum as the answer. A [`Plan`] reads as [`read_resolved`]
-//! does, by what it found ahead of some pairs of nodes: of those that it is given, or of those that the
-//! roots lead to.
+//! [`decode_resolved`] is the same with the datum as the answer.
+//!
+//! [`prepare`] finds what two nodes are to each other, by [`Names`], the tables of names of two schemas. A
+//! [`PlanTable`] keeps what was found of some pairs of nodes: of those that it is given, or of those that the
+//! roots lead to. A [`Plan`] reads as [`read_resolved`] does, by such a table beside its schemas; a [`PlanRef`]
+//! borrows both.
 #![tactic(auto)]
 
 mod by_node;
@@ -47,7 +50,7 @@ pub use error::{Fault, FaultKind, ReadResolveError, ResolveError};
 pub use guided::{Aim, At};
 pub use matching::matches;
 pub use names::Names;
-pub use naming::{field_names, source_in, symbol_names};
+pub use naming::symbol_names;
 pub use pairs::first_match;
 pub use plan::Plan;
 pub use plan_ref::PlanRef;
