@@ -54,9 +54,9 @@ def enum(symbols, **more):
     return {"type": "enum", "name": "E", "symbols": symbols, **more}
 
 
-def enums(count):
+def enums(count, **more):
     """Fields of an enum of one symbol each, all of one simple name."""
-    return ["null", record("R", [(f"f{i}", enum(["S0"], namespace=f"n{i}")) for i in range(count)])]
+    return ["null", record("R", [(f"f{i}", enum(["S0"], namespace=f"n{i}", **more)) for i in range(count)])]
 
 
 def one_enum(count, symbols):
@@ -79,6 +79,7 @@ def pairs():
     yield "the same against itself", aliased(2_000), aliased(2_000)
     yield "one alias eight times", ["null"], same_alias(3_000)
     yield "enums against one long enum", enums(2_000), one_enum(2_000, 60_000)
+    yield "one long enum against enums", one_enum(500, 60_000), enums(500, default="S0")
     yield "unions of 1,000 records", branches(1_000), branches(1_000)
 
 
