@@ -13,12 +13,12 @@ middle-false : (a b c : Bool) → b ≡ false → false ≡ (a && b && c)
 middle-false false b c h = refl
 middle-false true b c h = rw h refl
 
-pub no_union : (nodes : List Node) (places : List ℕ) (found : Option (Vec Kind)) → AreKinds nodes places found → found ≡ None → false ≡ is_union nodes places
-no_union nodes places None are is = middle-false (nat_lt 0 (length places)) (list_all (has_kind nodes) places) (are_distinct same_kind (filter_map (kind_at nodes) places)) are
-no_union nodes places (Some kinds) are is = absurd cc
+pub no_union : (nodes : List Node) (ids : List ℕ) (found : Option (Vec Kind)) → AreKinds nodes ids found → found ≡ None → false ≡ is_union nodes ids
+no_union nodes ids None are is = middle-false (nat_lt 0 (length ids)) (list_all (has_kind nodes) ids) (are_distinct same_kind (filter_map (kind_at nodes) ids)) are
+no_union nodes ids (Some kinds) are is = absurd cc
 
-pub union_by_kinds : (nodes : List Node) (places : List ℕ) (found : Option (Vec Kind)) (kinds : Vec Kind) → AreKinds nodes places found → found ≡ Some kinds
-    → nat_lt 0 (length places) ≡ true → are_distinct same_kind (map kind_of kinds.items) ≡ is_union nodes places
-union_by_kinds nodes places found kinds are is some =
+pub union_by_kinds : (nodes : List Node) (ids : List ℕ) (found : Option (Vec Kind)) (kinds : Vec Kind) → AreKinds nodes ids found → found ≡ Some kinds
+    → nat_lt 0 (length ids) ≡ true → are_distinct same_kind (map kind_of kinds.items) ≡ is_union nodes ids
+union_by_kinds nodes ids found kinds are is some =
     let these = rw is at are in
     rw (some, these.0, these.1) refl

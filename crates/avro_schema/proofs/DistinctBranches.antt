@@ -52,20 +52,20 @@ module _ (nodes : List Node) where
       let both = or_parts (same_kind k found.0) (list_any (same_kind k) (filter_map (kind_at nodes) ys)) none' in
       rw (another x y k found.0 e found.1 both.0, none_again x k ys e parts.1 both.1) refl
 
-  distinct_places : (xs : List ℕ) → list_all (has_kind nodes) xs ≡ true → are_distinct same_kind (filter_map (kind_at nodes) xs) ≡ true
+  distinct_ids : (xs : List ℕ) → list_all (has_kind nodes) xs ≡ true → are_distinct same_kind (filter_map (kind_at nodes) xs) ≡ true
       → are_distinct (eq_by_cmp nat_cmp) xs ≡ true
-  distinct_places [] some h = refl
-  distinct_places (x ∷ xs) some h =
+  distinct_ids [] some h = refl
+  distinct_ids (x ∷ xs) some h =
       let parts = and_parts (has_kind nodes x) (list_all (has_kind nodes) xs) some in
       let found = has_some (kind_at nodes x) parts.0 in
       let h' = subst (λ (o : Option BranchKind). are_distinct same_kind (cons_option o (filter_map (kind_at nodes) xs)) ≡ true) found.1 h in
       let both = and_parts (not (list_any (same_kind found.0) (filter_map (kind_at nodes) xs))) (are_distinct same_kind (filter_map (kind_at nodes) xs)) h' in
-      rw (none_again x found.0 xs found.1 parts.1 (not-true (list_any (same_kind found.0) (filter_map (kind_at nodes) xs)) both.0), distinct_places xs parts.1 both.1) refl
+      rw (none_again x found.0 xs found.1 parts.1 (not-true (list_any (same_kind found.0) (filter_map (kind_at nodes) xs)) both.0), distinct_ids xs parts.1 both.1) refl
 
   -- where a node stands twice there is no union
-  pub repeated_branch : (places : List ℕ) → false ≡ are_distinct (eq_by_cmp nat_cmp) places → false ≡ is_union nodes places
-  repeated_branch places twice =
-      sym (false_from_ne_true (is_union nodes places) (λ h.
-      let all = and_parts (nat_lt 0 (length places) && list_all (has_kind nodes) places) (are_distinct same_kind (filter_map (kind_at nodes) places)) h in
-      let some = and_parts (nat_lt 0 (length places)) (list_all (has_kind nodes) places) all.0 in
-      false≢true (twice ∙ distinct_places places some.1 all.1)))
+  pub repeated_branch : (ids : List ℕ) → false ≡ are_distinct (eq_by_cmp nat_cmp) ids → false ≡ is_union nodes ids
+  repeated_branch ids twice =
+      sym (false_from_ne_true (is_union nodes ids) (λ h.
+      let all = and_parts (nat_lt 0 (length ids) && list_all (has_kind nodes) ids) (are_distinct same_kind (filter_map (kind_at nodes) ids)) h in
+      let some = and_parts (nat_lt 0 (length ids)) (list_all (has_kind nodes) ids) all.0 in
+      false≢true (twice ∙ distinct_ids ids some.1 all.1)))

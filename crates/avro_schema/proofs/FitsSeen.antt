@@ -35,13 +35,13 @@ keys-texts : (es : List (String Global × Datum)) → list_all is_text (keys_of 
 keys-texts [] = refl
 keys-texts (e ∷ es) = rw (is_text-string e.0, keys-texts es) refl
 
-pub fits-array : (nodes : List Node) (place : ℕ) (ds : Vec Datum)
-    → fits nodes (Node.array place) (Value.array (values_of ds.items)) ≡ each_fits nodes (node_at nodes place) (values_of ds.items)
-fits-array nodes place ds = rw (is_count-values ds) refl
+pub fits-array : (nodes : List Node) (id : ℕ) (ds : Vec Datum)
+    → fits nodes (Node.array id) (Value.array (values_of ds.items)) ≡ each_fits nodes (node_at nodes id) (values_of ds.items)
+fits-array nodes id ds = rw (is_count-values ds) refl
 
-pub fits-map : (nodes : List Node) (place : ℕ) (es : Vec (String Global × Datum)) (r : Bool) → r ≡ are_distinct bytes_eq (keys_of (entries_of es.items)) → r ≡ true
-    → fits nodes (Node.map_of place) (Value.map_of (entries_of es.items)) ≡ entries_fit nodes (node_at nodes place) (entries_of es.items)
-fits-map nodes place es r is passes = rw (is_count-entries es, keys-texts es.items, ← is, passes) refl
+pub fits-map : (nodes : List Node) (id : ℕ) (es : Vec (String Global × Datum)) (r : Bool) → r ≡ are_distinct bytes_eq (keys_of (entries_of es.items)) → r ≡ true
+    → fits nodes (Node.map_of id) (Value.map_of (entries_of es.items)) ≡ entries_fit nodes (node_at nodes id) (entries_of es.items)
+fits-map nodes id es r is passes = rw (is_count-entries es, keys-texts es.items, ← is, passes) refl
 
 and-none : (a b : Bool) → false ≡ b → false ≡ (a && b)
 and-none false b h = refl

@@ -52,7 +52,7 @@ fixed_of_two = refl
 fixed_of_one_for_two : fits [] (Node.fixed (simply (codes "F")) [] 2) (Value.fixed (0 ∷ [])) ≡ false
 fixed_of_one_for_two = refl
 
--- the place of a symbol
+-- the index of a symbol
 abbrev two_symbols : Node
 two_symbols = Node.enum (simply (codes "E")) [] (codes "A" ∷ codes "B" ∷ []) None
 

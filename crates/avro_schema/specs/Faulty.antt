@@ -30,7 +30,7 @@ all_faults =
     unknown_node ∷ duplicate_name ∷ invalid_name ∷ invalid_union ∷ invalid_symbols ∷ duplicate_field ∷ invalid_default ∷ limit_exceeded ∷ []
 
 abbrev pub has_good_edges : List Node → ℕ → Node → Bool
-has_good_edges nodes place n = list_all (is_edge nodes place) (edges_of n)
+has_good_edges nodes id n = list_all (is_edge nodes id) (edges_of n)
 
 -- the names of a node's symbols, or of its fields
 abbrev pub names_inside : Node → List (List ℕ)
@@ -40,7 +40,7 @@ names_inside _ = []
 
 -- The rules of each kind of node by itself.
 abbrev pub has_union_rule : List Node → Node → Bool
-has_union_rule nodes (Node.union places) = is_union nodes places
+has_union_rule nodes (Node.union ids) = is_union nodes ids
 has_union_rule nodes _ = true
 
 abbrev pub has_symbols_rule : Node → Bool
@@ -60,22 +60,22 @@ is_within_limit (Node.enum name aliases symbols default) = nat_le (length symbol
 is_within_limit (Node.fixed name aliases count) = nat_le count max_count
 is_within_limit _ = true
 
--- Whether the node of a place breaks a rule. What a node asks of those that its edges go to is a rule only where the
+-- Whether the node of an id breaks a rule. What a node asks of those that its edges go to is a rule only where the
 -- edges are good.
 abbrev pub breaks : NodeFault → List Node → ℕ → Node → Bool
-breaks unknown_node nodes place n = not (has_good_edges nodes place n)
-breaks duplicate_name nodes place n = false
-breaks invalid_name nodes place n = not (list_all is_simple_name (names_inside n) && has_good_names n)
-breaks invalid_union nodes place n = has_good_edges nodes place n && not (has_union_rule nodes n)
-breaks invalid_symbols nodes place n = not (has_symbols_rule n)
-breaks duplicate_field nodes place n = not (has_fields_rule n)
-breaks invalid_default nodes place n = has_good_edges nodes place n && not (has_defaults_rule nodes n)
-breaks limit_exceeded nodes place n = not (is_within_limit n)
+breaks unknown_node nodes id n = not (has_good_edges nodes id n)
+breaks duplicate_name nodes id n = false
+breaks invalid_name nodes id n = not (list_all is_simple_name (names_inside n) && has_good_names n)
+breaks invalid_union nodes id n = has_good_edges nodes id n && not (has_union_rule nodes n)
+breaks invalid_symbols nodes id n = not (has_symbols_rule n)
+breaks duplicate_field nodes id n = not (has_fields_rule n)
+breaks invalid_default nodes id n = has_good_edges nodes id n && not (has_defaults_rule nodes n)
+breaks limit_exceeded nodes id n = not (is_within_limit n)
 
--- whether one of the nodes from a place on breaks it
+-- whether one of the nodes from an id on breaks it
 abbrev pub some_breaks : NodeFault → List Node → ℕ → List Node → Bool
-some_breaks fault nodes place [] = false
-some_breaks fault nodes place (n ∷ ns) = breaks fault nodes place n || some_breaks fault nodes (suc place) ns
+some_breaks fault nodes id [] = false
+some_breaks fault nodes id (n ∷ ns) = breaks fault nodes id n || some_breaks fault nodes (suc id) ns
 
 -- whether the list of nodes breaks a rule
 abbrev pub list_breaks : NodeFault → List Node → Bool
@@ -109,9 +109,9 @@ fault_of DraftError.OutOfMemory = None
 abbrev pub IsRefused : List Node → DraftError → Type 0
 IsRefused nodes e = IfSome (fault_of e) (λ fault. IsThere fault nodes)
 
--- the same of the node of a place
+-- the same of the node of an id
 abbrev pub IsRefusedAt : List Node → ℕ → Node → DraftError → Type 0
-IsRefusedAt nodes place n e = IfSome (fault_of e) (λ fault. breaks fault nodes place n ≡ true)
+IsRefusedAt nodes id n e = IfSome (fault_of e) (λ fault. breaks fault nodes id n ≡ true)
 
 abbrev pub IsRefusedSomewhere : List Node → DraftError → Type 0
-IsRefusedSomewhere nodes e = (place : ℕ) × (place < length nodes) × IsRefusedAt nodes place (node_at nodes place) e
+IsRefusedSomewhere nodes e = (id : ℕ) × (id < length nodes) × IsRefusedAt nodes id (node_at nodes id) e

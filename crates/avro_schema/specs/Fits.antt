@@ -53,8 +53,8 @@ abbrev pub is_string_node : Node → Bool
 is_string_node Node.string = true
 is_string_node _ = false
 
--- By cases on the datum: it has the kind of the node, each number, length, text and place is in range, keys are
--- distinct, and each part fits the node of its place.
+-- By cases on the datum: it has the kind of the node, each number, length, text and index is in range, keys are
+-- distinct, and each part fits the node of its id.
 abbrev mutual
   pub fits : List Node → Node → Value → Bool
   fits nodes n Value.null = is_null_node n
@@ -63,12 +63,12 @@ abbrev mutual
   fits nodes n (Value.long i) = is_long_node n && is_long i
   fits nodes n (Value.bytes b) = is_bytes_node n && are_bytes b
   fits nodes n (Value.string t) = is_string_node n && is_text t
-  fits nodes n (Value.array vs) = is_count (values_count vs) && is_some_and (λ place. each_fits nodes (node_at nodes place) vs) (items_node n)
+  fits nodes n (Value.array vs) = is_count (values_count vs) && is_some_and (λ id. each_fits nodes (node_at nodes id) vs) (items_node n)
   fits nodes n (Value.map_of es) =
       is_count (entries_count es) && list_all is_text (keys_of es) && are_distinct bytes_eq (keys_of es)
-      && is_some_and (λ place. entries_fit nodes (node_at nodes place) es) (values_node n)
+      && is_some_and (λ id. entries_fit nodes (node_at nodes id) es) (values_node n)
   fits nodes n (Value.union k v) =
-      is_some_and (λ place. fits nodes (node_at nodes place) v) (option_and_then (λ places. slice_get places k) (branches_of n))
+      is_some_and (λ id. fits nodes (node_at nodes id) v) (option_and_then (λ ids. slice_get ids k) (branches_of n))
   fits nodes n (Value.record_of vs) = is_some_and (λ fields. fields_fit nodes (field_places fields) vs) (fields_of n)
   fits nodes n (Value.enum k) = is_some_and (λ symbols. nat_lt k (length symbols)) (symbols_of n)
   fits nodes n (Value.fixed b) = are_bytes b && is_some_and (λ count. length b == count) (fixed_length n)
@@ -82,12 +82,12 @@ abbrev mutual
   entries_fit nodes n no_entries = true
   entries_fit nodes n (entry k v es) = fits nodes n v && entries_fit nodes n es
 
-  -- there is one value for each place, and it fits the node there
+  -- there is one value for each id, and it fits the node there
   pub fields_fit : List Node → List ℕ → Values → Bool
   fields_fit nodes [] no_values = true
-  fields_fit nodes (place ∷ places) no_values = false
+  fields_fit nodes (id ∷ ids) no_values = false
   fields_fit nodes [] (value v vs) = false
-  fields_fit nodes (place ∷ places) (value v vs) = fits nodes (node_at nodes place) v && fields_fit nodes places vs
+  fields_fit nodes (id ∷ ids) (value v vs) = fits nodes (node_at nodes id) v && fields_fit nodes ids vs
 
 -- the greatest depth, number of nodes, and length of one bytes, string, key or fixed
 pub record LimitValues : Type 0 where

@@ -1,5 +1,5 @@
 -- The nodes of a schema (Avro 1.11, "Schema Declaration"). A schema is the list of its nodes, the first of which is
--- its root; an edge is a place in that list.
+-- its root; an edge is an id: an index in that list.
 use Rattle.std.specs.Prelude.{ℕ, List, [], ◌∷◌, Option, Some, None, slice_get, map, unwrap_or}
 use Rattle.avro_name.specs.Name.{Name}
 use Rattle.avro_schema.specs.Value.{Value}
@@ -26,14 +26,14 @@ pub data Node : Type 0 where
   union : List ℕ → Node
   -- name, aliases, fields
   record_of : Name → List Name → List FieldNode → Node
-  -- name, aliases, symbols, the place of the default symbol
+  -- name, aliases, symbols, the index of the default symbol
   enum : Name → List Name → List (List ℕ) → Option ℕ → Node
   -- name, aliases, number of bytes
   fixed : Name → List Name → ℕ → Node
 
--- the node at a place; no edge of a well-formed schema is out of range
+-- the node of an id; no edge of a well-formed schema is out of range
 abbrev pub node_at : List Node → ℕ → Node
-node_at nodes place = unwrap_or (slice_get nodes place) Node.null
+node_at nodes id = unwrap_or (slice_get nodes id) Node.null
 
 abbrev pub root_of : List Node → Node
 root_of nodes = node_at nodes 0
@@ -54,15 +54,15 @@ node_aliases _ = []
 
 -- the items' node of an array, the values' node of a map, the branches of a union
 abbrev pub items_node : Node → Option ℕ
-items_node (Node.array place) = Some place
+items_node (Node.array id) = Some id
 items_node _ = None
 
 abbrev pub values_node : Node → Option ℕ
-values_node (Node.map_of place) = Some place
+values_node (Node.map_of id) = Some id
 values_node _ = None
 
 abbrev pub branches_of : Node → Option (List ℕ)
-branches_of (Node.union places) = Some places
+branches_of (Node.union ids) = Some ids
 branches_of _ = None
 
 -- the fields of a record, the symbols of an enum and its default, the number of bytes of a fixed
@@ -84,8 +84,8 @@ field_places fields = map (λ f. f.node) fields
 
 -- the edges of a node
 abbrev pub edges_of : Node → List ℕ
-edges_of (Node.array place) = place ∷ []
-edges_of (Node.map_of place) = place ∷ []
-edges_of (Node.union places) = places
+edges_of (Node.array id) = id ∷ []
+edges_of (Node.map_of id) = id ∷ []
+edges_of (Node.union ids) = ids
 edges_of (Node.record_of name aliases fields) = field_places fields
 edges_of _ = []

@@ -51,7 +51,7 @@ entries_of es = entries_from (map pair_of es)
 abbrev pub texts_of : List (String Global) → List (List ℕ)
 texts_of ts = map (λ t. string_bytes t) ts
 
--- the places of some nodes
+-- the ids of some nodes
 abbrev pub places_of : List NodeId → List ℕ
 places_of ids = map (λ id. id.0) ids
 

@@ -17,14 +17,14 @@ kind_of Kind.Array = unnamed 6
 kind_of Kind.Map = unnamed 7
 kind_of (Kind.Named name) = named name.now
 
--- the kind of the node at a place
+-- the kind of the node of an id
 abbrev pub kind_at : List Node → ℕ → Option BranchKind
-kind_at nodes place = branch_kind (node_at nodes place)
+kind_at nodes id = branch_kind (node_at nodes id)
 
 abbrev pub has_kind : List Node → ℕ → Bool
-has_kind nodes place = is_some (kind_at nodes place)
+has_kind nodes id = is_some (kind_at nodes id)
 
 -- the kinds of the branches, or nothing where one has none
 abbrev pub AreKinds : List Node → List ℕ → Option (Vec Kind) → Type 0
-AreKinds nodes places found = MatchOption found (list_all (has_kind nodes) places ≡ false)
-    (λ kinds. (list_all (has_kind nodes) places ≡ true) × (map kind_of kinds.items ≡ filter_map (kind_at nodes) places))
+AreKinds nodes ids found = MatchOption found (list_all (has_kind nodes) ids ≡ false)
+    (λ kinds. (list_all (has_kind nodes) ids ≡ true) × (map kind_of kinds.items ≡ filter_map (kind_at nodes) ids))

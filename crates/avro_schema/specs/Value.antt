@@ -13,11 +13,11 @@ mutual
     string : List ℕ → Value
     array : Values → Value
     map_of : Entries → Value
-    -- the place of the branch, and its value
+    -- the index of the branch, and its value
     union : ℕ → Value → Value
     -- a value for each field
     record_of : Values → Value
-    -- the place of the symbol
+    -- the index of the symbol
     enum : ℕ → Value
     fixed : List ℕ → Value
 

@@ -31,9 +31,9 @@ branch_kind Node.int = Some (unnamed 2)
 branch_kind Node.long = Some (unnamed 3)
 branch_kind Node.bytes = Some (unnamed 4)
 branch_kind Node.string = Some (unnamed 5)
-branch_kind (Node.array place) = Some (unnamed 6)
-branch_kind (Node.map_of place) = Some (unnamed 7)
-branch_kind (Node.union places) = None
+branch_kind (Node.array id) = Some (unnamed 6)
+branch_kind (Node.map_of id) = Some (unnamed 7)
+branch_kind (Node.union ids) = None
 branch_kind (Node.record_of name aliases fields) = Some (named name)
 branch_kind (Node.enum name aliases symbols default) = Some (named name)
 branch_kind (Node.fixed name aliases count) = Some (named name)
@@ -46,15 +46,15 @@ same_kind (named a) (named b) = same_name a b
 
 -- a union has a branch, none of them a union, and no two of one kind
 abbrev pub is_union : List Node → List ℕ → Bool
-is_union nodes places =
-    nat_lt 0 (length places) && list_all (λ place. is_some (branch_kind (node_at nodes place))) places
-    && are_distinct same_kind (filter_map (λ place. branch_kind (node_at nodes place)) places)
+is_union nodes ids =
+    nat_lt 0 (length ids) && list_all (λ id. is_some (branch_kind (node_at nodes id))) ids
+    && are_distinct same_kind (filter_map (λ id. branch_kind (node_at nodes id)) ids)
 
 abbrev pub is_default : List (List ℕ) → Option ℕ → Bool
 is_default symbols None = true
-is_default symbols (Some place) = nat_lt place (length symbols)
+is_default symbols (Some index) = nat_lt index (length symbols)
 
--- an enum has a symbol, and at most `max_count`, which are distinct names; its default is the place of one
+-- an enum has a symbol, and at most `max_count`, which are distinct names; its default is the index of one
 abbrev pub is_enum : List (List ℕ) → Option ℕ → Bool
 is_enum symbols default =
     nat_lt 0 (length symbols) && nat_le (length symbols) max_count && list_all is_simple_name symbols
@@ -80,7 +80,7 @@ are_fields nodes fields =
 
 -- what a node of each kind meets by itself
 abbrev pub meets_its_rules : List Node → Node → Bool
-meets_its_rules nodes (Node.union places) = is_union nodes places
+meets_its_rules nodes (Node.union ids) = is_union nodes ids
 meets_its_rules nodes (Node.record_of name aliases fields) = are_fields nodes fields
 meets_its_rules nodes (Node.enum name aliases symbols default) = is_enum symbols default
 meets_its_rules nodes (Node.fixed name aliases count) = nat_le count max_count
@@ -95,14 +95,14 @@ has_good_names n = has_good_name (node_name n) && list_all is_full_name (node_al
     has_good_name (Some name) = is_full_name name
 
 abbrev pub is_good_node : List Node → ℕ → Node → Bool
-is_good_node nodes place n = list_all (is_edge nodes place) (edges_of n) && has_good_names n && meets_its_rules nodes n
+is_good_node nodes id n = list_all (is_edge nodes id) (edges_of n) && has_good_names n && meets_its_rules nodes n
 
--- each of the nodes from a place on
+-- each of the nodes from an id on
 abbrev pub are_good_nodes : List Node → ℕ → List Node → Bool
-are_good_nodes nodes place [] = true
-are_good_nodes nodes place (n ∷ ns) = is_good_node nodes place n && are_good_nodes nodes (suc place) ns
+are_good_nodes nodes id [] = true
+are_good_nodes nodes id (n ∷ ns) = is_good_node nodes id n && are_good_nodes nodes (suc id) ns
 
--- 1 to `max_nodes` nodes, each good at its place, and no fullname is defined twice
+-- 1 to `max_nodes` nodes, each good under its id, and no fullname is defined twice
 abbrev pub is_schema : List Node → Bool
 is_schema nodes =
     nat_lt 0 (length nodes) && nat_le (length nodes) max_nodes && are_good_nodes nodes 0 nodes

@@ -48,11 +48,11 @@ fn kind_of_node(node: &Node) -> Option<Kind<'_>>
     }
 }
 
-/// The kind of the node at a place; a place without a node has that of null.
-fn kind_at(nodes: &[Node], place: NodeId) -> Option<Kind<'_>>
-    ensures { option_map kind_of result ≡ branch_kind (node_at (nodes_of nodes.now) place.0) }
+/// The kind of the node of an id; an id without a node has that of null.
+fn kind_at(nodes: &[Node], id: NodeId) -> Option<Kind<'_>>
+    ensures { option_map kind_of result ≡ branch_kind (node_at (nodes_of nodes.now) id.0) }
 {
-    match nodes.get(place.0 as usize) {
+    match nodes.get(id.0 as usize) {
         Some(node) => kind_of_node(node),
         None => Some(Kind::Null),
     }
@@ -78,14 +78,14 @@ fn kinds<'a>(
 
 /// Whether no node stands twice. It looks at the numbers alone, so that long names that are used many
 /// times are not compared.
-fn are_unique_places(alloc: Global, branches: &[NodeId]) -> Result<bool, Memory>
+fn are_unique_ids(alloc: Global, branches: &[NodeId]) -> Result<bool, Memory>
     ensures { IfOk result (λ answer. answer ≡ are_distinct (eq_by_cmp nat_cmp) (places_of branches.now)) }
 {
-    let mut places: Vec<u32> = Vec::new(alloc);
+    let mut ids: Vec<u32> = Vec::new(alloc);
     for branch in branches {
-        places.push(branch.0)?;
+        ids.push(branch.0)?;
     }
-    are_unique(places)
+    are_unique(ids)
 }
 
 /// Whether branches make a union.
@@ -95,7 +95,7 @@ pub(crate) fn is_union(alloc: Global, nodes: &[Node], branches: &[NodeId]) -> Re
     if branches.is_empty() {
         return Ok(false);
     }
-    if !are_unique_places(alloc, branches)? {
+    if !are_unique_ids(alloc, branches)? {
         return Ok(false);
     }
     match kinds(alloc, nodes, branches)? {

@@ -11,10 +11,8 @@ ghost use Rattle.avro_schema.specs.declared.schema.Node.TheVariants as kept;
 use crate::branches::is_union;
 use crate::datum::{Datum, Memory};
 use crate::fault::DraftError;
-use crate::fitting::fits_place;
-use crate::naming::{
-    are_simple_names, have_unique_names, name_of, names_of_fields, read_names, texts,
-};
+use crate::fitting::fits_at;
+use crate::naming::{are_simple_names, have_unique_names, names_of_fields, read_names, texts};
 use crate::schema::{EnumNode, Field, FixedNode, Node, NodeId, RecordNode};
 use crate::uniqueness::are_unique_texts;
 use std::alloc::Global;
@@ -60,19 +58,19 @@ fn check_each(alloc: Global, nodes: &[Node]) -> Result<(), DraftError>
     Ok(())
 }
 
-/// Tests the rules of a node at its place.
-fn check_node(alloc: Global, nodes: &[Node], place: usize, node: &Node) -> Result<(), DraftError>
-    ensures good { OnOk result (is_good_node (nodes_of nodes.now) place (node_of node.now) ≡ true) }
-    ensures broken { IfErr result (IsRefusedAt (nodes_of nodes.now) place (node_of node.now)) }
+/// Tests the rules of a node under its id.
+fn check_node(alloc: Global, nodes: &[Node], id: usize, node: &Node) -> Result<(), DraftError>
+    ensures good { OnOk result (is_good_node (nodes_of nodes.now) id (node_of node.now) ≡ true) }
+    ensures broken { IfErr result (IsRefusedAt (nodes_of nodes.now) id (node_of node.now)) }
 {
     match node {
         Node::Null | Node::Boolean | Node::Int | Node::Long | Node::Bytes | Node::Str => Ok(()),
-        Node::Array(items) => check_array(nodes, place, *items),
-        Node::Map(values) => check_map(nodes, place, *values),
-        Node::Union(branches) => check_union(alloc, nodes, place, branches),
-        Node::Record(record) => check_record(alloc, nodes, place, record),
-        Node::Enum(enumeration) => check_enum(alloc, nodes, place, enumeration),
-        Node::Fixed(fixed) => check_fixed(nodes, place, fixed),
+        Node::Array(items) => check_array(nodes, id, *items),
+        Node::Map(values) => check_map(nodes, id, *values),
+        Node::Union(branches) => check_union(alloc, nodes, id, branches),
+        Node::Record(record) => check_record(alloc, nodes, id, record),
+        Node::Enum(enumeration) => check_enum(alloc, nodes, id, enumeration),
+        Node::Fixed(fixed) => check_fixed(nodes, id, fixed),
     }
 }
 
@@ -81,17 +79,17 @@ fn is_edge(nodes: &[Node], from: usize, to: NodeId) -> bool
     ensures { result ≡ is_good_edge (nodes_of nodes.now) from to.0 }
 {
     match nodes.get(to.0 as usize) {
-        Some(node) => from < to.0 as usize || name_of(node).is_some(),
+        Some(node) => from < to.0 as usize || node.name().is_some(),
         None => false,
     }
 }
 
 /// Whether edges are good.
-fn are_edges(nodes: &[Node], from: usize, places: &[NodeId]) -> bool
-    ensures { result ≡ list_all (is_good_edge (nodes_of nodes.now) from) (places_of places.now) }
+fn are_edges(nodes: &[Node], from: usize, ids: &[NodeId]) -> bool
+    ensures { result ≡ list_all (is_good_edge (nodes_of nodes.now) from) (places_of ids.now) }
 {
-    for place in places {
-        if !is_edge(nodes, from, *place) {
+    for id in ids {
+        if !is_edge(nodes, from, *id) {
             return false;
         }
     }
@@ -111,22 +109,22 @@ fn are_field_edges(nodes: &[Node], from: usize, fields: &[Field]) -> bool
 }
 
 /// Tests the rules of an array.
-fn check_array(nodes: &[Node], place: usize, items: NodeId) -> Result<(), DraftError>
-    ensures good { OnOk result (is_good_node (nodes_of nodes.now) place (SeenNode.array items.0) ≡ true) }
-    ensures broken { IfErr result (IsRefusedAt (nodes_of nodes.now) place (SeenNode.array items.0)) }
+fn check_array(nodes: &[Node], id: usize, items: NodeId) -> Result<(), DraftError>
+    ensures good { OnOk result (is_good_node (nodes_of nodes.now) id (SeenNode.array items.0) ≡ true) }
+    ensures broken { IfErr result (IsRefusedAt (nodes_of nodes.now) id (SeenNode.array items.0)) }
 {
-    if !is_edge(nodes, place, items) {
+    if !is_edge(nodes, id, items) {
         return Err(DraftError::UnknownNode);
     }
     Ok(())
 }
 
 /// Tests the rules of a map.
-fn check_map(nodes: &[Node], place: usize, values: NodeId) -> Result<(), DraftError>
-    ensures good { OnOk result (is_good_node (nodes_of nodes.now) place (SeenNode.map_of values.0) ≡ true) }
-    ensures broken { IfErr result (IsRefusedAt (nodes_of nodes.now) place (SeenNode.map_of values.0)) }
+fn check_map(nodes: &[Node], id: usize, values: NodeId) -> Result<(), DraftError>
+    ensures good { OnOk result (is_good_node (nodes_of nodes.now) id (SeenNode.map_of values.0) ≡ true) }
+    ensures broken { IfErr result (IsRefusedAt (nodes_of nodes.now) id (SeenNode.map_of values.0)) }
 {
-    if !is_edge(nodes, place, values) {
+    if !is_edge(nodes, id, values) {
         return Err(DraftError::UnknownNode);
     }
     Ok(())
@@ -136,13 +134,13 @@ fn check_map(nodes: &[Node], place: usize, values: NodeId) -> Result<(), DraftEr
 fn check_union(
     alloc: Global,
     nodes: &[Node],
-    place: usize,
+    id: usize,
     branches: &[NodeId],
 ) -> Result<(), DraftError>
-    ensures good { OnOk result (is_good_node (nodes_of nodes.now) place (SeenNode.union (places_of branches.now)) ≡ true) }
-    ensures broken { IfErr result (IsRefusedAt (nodes_of nodes.now) place (SeenNode.union (places_of branches.now))) }
+    ensures good { OnOk result (is_good_node (nodes_of nodes.now) id (SeenNode.union (places_of branches.now)) ≡ true) }
+    ensures broken { IfErr result (IsRefusedAt (nodes_of nodes.now) id (SeenNode.union (places_of branches.now))) }
 {
-    if !are_edges(nodes, place, branches) {
+    if !are_edges(nodes, id, branches) {
         return Err(DraftError::UnknownNode);
     }
     if !is_union(alloc, nodes, branches)? {
@@ -155,16 +153,16 @@ fn check_union(
 fn check_record(
     alloc: Global,
     nodes: &[Node],
-    place: usize,
+    id: usize,
     record_node: &RecordNode,
 ) -> Result<(), DraftError>
-    ensures good { OnOk result (is_good_node (nodes_of nodes.now) place (node_of (kept.Record record_node.now)) ≡ true) }
-    ensures broken { IfErr result (IsRefusedAt (nodes_of nodes.now) place (node_of (kept.Record record_node.now))) }
+    ensures good { OnOk result (is_good_node (nodes_of nodes.now) id (node_of (kept.Record record_node.now)) ≡ true) }
+    ensures broken { IfErr result (IsRefusedAt (nodes_of nodes.now) id (node_of (kept.Record record_node.now))) }
 {
     // A name that is read is known to be a fullname, which the rules of the node ask of it.
     let _ = record_node.name.simple();
     read_names(&record_node.aliases);
-    if !are_field_edges(nodes, place, &record_node.fields) {
+    if !are_field_edges(nodes, id, &record_node.fields) {
         return Err(DraftError::UnknownNode);
     }
     let names = names_of_fields(alloc, &record_node.fields)?;
@@ -184,11 +182,11 @@ fn check_record(
 fn check_enum(
     alloc: Global,
     nodes: &[Node],
-    place: usize,
+    id: usize,
     enumeration: &EnumNode,
 ) -> Result<(), DraftError>
-    ensures good { OnOk result (is_good_node (nodes_of nodes.now) place (node_of (kept.Enum enumeration.now)) ≡ true) }
-    ensures broken { IfErr result (IsRefusedAt (nodes_of nodes.now) place (node_of (kept.Enum enumeration.now))) }
+    ensures good { OnOk result (is_good_node (nodes_of nodes.now) id (node_of (kept.Enum enumeration.now)) ≡ true) }
+    ensures broken { IfErr result (IsRefusedAt (nodes_of nodes.now) id (node_of (kept.Enum enumeration.now))) }
 {
     // A name that is read is known to be a fullname, which the rules of the node ask of it.
     let _ = enumeration.name.simple();
@@ -201,8 +199,8 @@ fn check_enum(
         return Err(DraftError::LimitExceeded);
     }
     match enumeration.default {
-        Some(place) => {
-            if place as usize >= count {
+        Some(index) => {
+            if index as usize >= count {
                 return Err(DraftError::InvalidSymbols);
             }
         }
@@ -219,9 +217,9 @@ fn check_enum(
 }
 
 /// Tests the rules of a fixed.
-fn check_fixed(nodes: &[Node], place: usize, fixed: &FixedNode) -> Result<(), DraftError>
-    ensures good { OnOk result (is_good_node (nodes_of nodes.now) place (node_of (kept.Fixed fixed.now)) ≡ true) }
-    ensures broken { IfErr result (IsRefusedAt (nodes_of nodes.now) place (node_of (kept.Fixed fixed.now))) }
+fn check_fixed(nodes: &[Node], id: usize, fixed: &FixedNode) -> Result<(), DraftError>
+    ensures good { OnOk result (is_good_node (nodes_of nodes.now) id (node_of (kept.Fixed fixed.now)) ≡ true) }
+    ensures broken { IfErr result (IsRefusedAt (nodes_of nodes.now) id (node_of (kept.Fixed fixed.now))) }
 {
     // A name that is read is known to be a fullname, which the rules of the node ask of it.
     let _ = fixed.name.simple();
@@ -250,6 +248,6 @@ fn has_good_default(alloc: Global, nodes: &[Node], field: &Field) -> Result<bool
 {
     match &field.default {
         None => Ok(true),
-        Some(datum) => fits_place(alloc, nodes, field.node, datum),
+        Some(datum) => fits_at(alloc, nodes, field.node, datum),
     }
 }

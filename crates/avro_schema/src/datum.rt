@@ -42,11 +42,11 @@ pub enum Datum {
     Array(Vec<Datum>),
     /// The keys of a map, each with its value.
     Map(Vec<(String, Datum)>),
-    /// The place of a union's branch, and the value.
+    /// The index of a union's branch, and the value.
     Union(u32, Box<Datum>),
     /// A value for each field of a record.
     Record(Vec<Datum>),
-    /// The place of an enum's symbol.
+    /// The index of an enum's symbol.
     Enum(u32),
     /// The bytes of a fixed.
     Fixed(Vec<u8>),

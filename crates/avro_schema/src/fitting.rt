@@ -20,20 +20,20 @@ pub fn fits(alloc: Global, schema: &Schema, node: NodeId, datum: &Datum) -> Resu
     ensures { IfOk result (λ answer.
         answer ≡ value_fits (schema_nodes schema.now) (node_at (schema_nodes schema.now) node.0) (value_of datum.now)) }
 {
-    fits_place(alloc, schema.nodes(), node, datum)
+    fits_at(alloc, schema.nodes(), node, datum)
 }
 
-/// Whether a datum is one of the node at a place; a place without a node is that of null.
+/// Whether a datum is one of the node of an id; an id without a node is that of null.
 #[cycle(fitting)]
-pub(crate) fn fits_place(
+pub(crate) fn fits_at(
     alloc: Global,
     nodes: &[Node],
-    place: NodeId,
+    id: NodeId,
     datum: &Datum,
 ) -> Result<bool, Memory>
-    ensures { IfOk result (λ answer. answer ≡ value_fits (nodes_of nodes.now) (node_at (nodes_of nodes.now) place.0) (value_of datum.now)) }
+    ensures { IfOk result (λ answer. answer ≡ value_fits (nodes_of nodes.now) (node_at (nodes_of nodes.now) id.0) (value_of datum.now)) }
 {
-    match nodes.get(place.0 as usize) {
+    match nodes.get(id.0 as usize) {
         Some(node) => fits_node(alloc, nodes, node, datum),
         None => fits_node(alloc, nodes, &Node::Null, datum),
     }
@@ -53,8 +53,8 @@ fn fits_node(alloc: Global, nodes: &[Node], node: &Node, datum: &Datum) -> Resul
         Datum::Str(text) => Ok(fits_text(node, text)),
         Datum::Array(items) => fits_array(alloc, nodes, node, items),
         Datum::Map(entries) => fits_map(alloc, nodes, node, entries),
-        Datum::Union(branch, value) => match branch_node(node, *branch) {
-            Some(place) => fits_place(alloc, nodes, place, value),
+        Datum::Union(branch, value) => match node.branch(*branch) {
+            Some(id) => fits_at(alloc, nodes, id, value),
             None => Ok(false),
         },
         Datum::Record(values) => fits_record(alloc, nodes, node, values),
@@ -95,7 +95,7 @@ fn fits_text(node: &Node, text: &String) -> bool
     matches!(node, Node::Str)
 }
 
-/// Whether the place of a symbol is one of the node's data.
+/// Whether the index of a symbol is one of the node's data.
 fn fits_enum(node: &Node, symbol: u32) -> bool
     ensures { (nodes : List SeenNode) → result ≡ value_fits nodes (node_of node.now) (Value.enum symbol) }
 {
@@ -115,16 +115,6 @@ fn fits_fixed(node: &Node, bytes: &Vec<u8>) -> bool
     }
 }
 
-/// The node of a union's branch.
-fn branch_node(node: &Node, branch: u32) -> Option<NodeId>
-    ensures { option_map (λ id. id.0) result ≡ option_and_then (λ places. slice_get places branch) (branches_of (node_of node.now)) }
-{
-    match node {
-        Node::Union(branches) => branches.get(branch as usize).copied(),
-        _ => None,
-    }
-}
-
 /// Whether items are one of the node's data.
 #[cycle(fitting)]
 fn fits_array(
@@ -136,18 +126,18 @@ fn fits_array(
     ensures { IfOk result (λ answer. answer ≡ value_fits (nodes_of nodes.now) (node_of node.now) (Value.array (values_of items.now.items))) }
 {
     match node {
-        Node::Array(place) => each_fits(alloc, nodes, *place, items),
+        Node::Array(id) => each_fits(alloc, nodes, *id, items),
         _ => Ok(false),
     }
 }
 
-/// Whether each of some data is one of the node at a place.
+/// Whether each of some data is one of the node of an id.
 #[cycle(fitting)]
-fn each_fits(alloc: Global, nodes: &[Node], place: NodeId, items: &[Datum]) -> Result<bool, Memory>
-    ensures { IfOk result (λ answer. answer ≡ values_fit (nodes_of nodes.now) (node_at (nodes_of nodes.now) place.0) (values_of items.now)) }
+fn each_fits(alloc: Global, nodes: &[Node], id: NodeId, items: &[Datum]) -> Result<bool, Memory>
+    ensures { IfOk result (λ answer. answer ≡ values_fit (nodes_of nodes.now) (node_at (nodes_of nodes.now) id.0) (values_of items.now)) }
 {
     for item in items {
-        if !fits_place(alloc, nodes, place, item)? {
+        if !fits_at(alloc, nodes, id, item)? {
             return Ok(false);
         }
     }
@@ -165,11 +155,11 @@ fn fits_map(
     ensures { IfOk result (λ answer. answer ≡ value_fits (nodes_of nodes.now) (node_of node.now) (Value.map_of (entries_of entries.now.items))) }
 {
     match node {
-        Node::Map(place) => {
+        Node::Map(id) => {
             if !are_unique_texts(keys(alloc, entries)?)? {
                 return Ok(false);
             }
-            entries_fit(alloc, nodes, *place, entries)
+            entries_fit(alloc, nodes, *id, entries)
         }
         _ => Ok(false),
     }
@@ -186,18 +176,18 @@ fn keys(alloc: Global, entries: &[(String, Datum)]) -> Result<Vec<&str>, Memory>
     Ok(keys)
 }
 
-/// Whether each value of a map is one of the node at a place.
+/// Whether each value of a map is one of the node of an id.
 #[cycle(fitting)]
 fn entries_fit(
     alloc: Global,
     nodes: &[Node],
-    place: NodeId,
+    id: NodeId,
     entries: &[(String, Datum)],
 ) -> Result<bool, Memory>
-    ensures { IfOk result (λ answer. answer ≡ values_of_map_fit (nodes_of nodes.now) (node_at (nodes_of nodes.now) place.0) (entries_of entries.now)) }
+    ensures { IfOk result (λ answer. answer ≡ values_of_map_fit (nodes_of nodes.now) (node_at (nodes_of nodes.now) id.0) (entries_of entries.now)) }
 {
     for entry in entries {
-        if !fits_place(alloc, nodes, place, &entry.1)? {
+        if !fits_at(alloc, nodes, id, &entry.1)? {
             return Ok(false);
         }
     }
@@ -229,7 +219,7 @@ fn fields_fit(
         return Ok(false);
     }
     for i in 0..values.len() {
-        if !fits_place(alloc, nodes, fields[i].node, &values[i])? {
+        if !fits_at(alloc, nodes, fields[i].node, &values[i])? {
             return Ok(false);
         }
     }

@@ -13,6 +13,7 @@ mod fitting;
 pub mod laws;
 mod limits;
 mod naming;
+mod parts;
 mod schema;
 mod uniqueness;
 

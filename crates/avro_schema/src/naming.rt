@@ -61,33 +61,13 @@ pub(crate) fn read_names(names: &[FullName])
     }
 }
 
-/// The name of a record, an enum or a fixed.
-pub(crate) fn name_of(node: &Node) -> Option<&FullName>
-    ensures { option_map (λ n. n.now) result ≡ node_name (node_of node.now) }
-{
-    match node {
-        Node::Record(record) => Some(&record.name),
-        Node::Enum(enumeration) => Some(&enumeration.name),
-        Node::Fixed(fixed) => Some(&fixed.name),
-        Node::Null
-        | Node::Boolean
-        | Node::Int
-        | Node::Long
-        | Node::Bytes
-        | Node::Str
-        | Node::Array(_)
-        | Node::Map(_)
-        | Node::Union(_) => None,
-    }
-}
-
 /// The names of the records, enums and fixed.
 fn names_of_types(alloc: Global, nodes: &[Node]) -> Result<Vec<&FullName>, Memory>
     ensures { IfOk result (λ names. map (λ n. n.now) names.items ≡ filter_map node_name (nodes_of nodes.now)) }
 {
     let mut names: Vec<&FullName> = Vec::new(alloc);
     for node in nodes {
-        match name_of(node) {
+        match node.name() {
             Some(name) => names.push(name)?,
             None => {}
         }

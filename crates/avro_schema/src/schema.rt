@@ -5,7 +5,7 @@ ghost use Rattle.avro_schema.specs.WellFormed.{is_schema};
 use crate::datum::Datum;
 use avro_name::FullName;
 
-/// The place of a node among those of its schema; 0 is the root.
+/// The index of a node among those of its schema; 0 is the root.
 #[derive(Clone, Copy, Debug, PartialEq, Eq, PartialOrd, Ord, Hash)]
 pub struct NodeId(pub u32);
 
@@ -55,7 +55,7 @@ pub struct Field {
     pub default: Option<Datum>,
 }
 
-/// An enum: its fullname, its aliases, its symbols in order, and the place of its default.
+/// An enum: its fullname, its aliases, its symbols in order, and the index of its default.
 #[derive(Debug, PartialEq, Drop)]
 pub struct EnumNode {
     pub name: FullName,

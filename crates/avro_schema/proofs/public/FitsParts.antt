@@ -25,17 +25,17 @@ and_then-some f None y h = cc
 and_then-some f (Some x) y h = (x, refl, h)
 
 -- the node that has an items' node, a values' node, branches or fields
-pub array-from_items_node : (n : Node) (place : ℕ) → items_node n ≡ Some place → n ≡ Node.array place
-array-from_items_node (Node.array items) place h = cc
-array-from_items_node _ place h = cc
+pub array-from_items_node : (n : Node) (id : ℕ) → items_node n ≡ Some id → n ≡ Node.array id
+array-from_items_node (Node.array items) id h = cc
+array-from_items_node _ id h = cc
 
-pub map_of-from_values_node : (n : Node) (place : ℕ) → values_node n ≡ Some place → n ≡ Node.map_of place
-map_of-from_values_node (Node.map_of values) place h = cc
-map_of-from_values_node _ place h = cc
+pub map_of-from_values_node : (n : Node) (id : ℕ) → values_node n ≡ Some id → n ≡ Node.map_of id
+map_of-from_values_node (Node.map_of values) id h = cc
+map_of-from_values_node _ id h = cc
 
-pub union-from_branches_of : (n : Node) (places : List ℕ) → branches_of n ≡ Some places → n ≡ Node.union places
-union-from_branches_of (Node.union branches) places h = cc
-union-from_branches_of _ places h = cc
+pub union-from_branches_of : (n : Node) (ids : List ℕ) → branches_of n ≡ Some ids → n ≡ Node.union ids
+union-from_branches_of (Node.union branches) ids h = cc
+union-from_branches_of _ ids h = cc
 
 pub record_of-from_fields_of : (n : Node) (fields : List FieldNode) → fields_of n ≡ Some fields
     → (name : Name) × (aliases : List Name) × (n ≡ Node.record_of name aliases fields)
@@ -44,30 +44,30 @@ record_of-from_fields_of _ fields h = cc
 
 -- an array that fits
 pub record ArrayFits (nodes : List Node) (n : Node) (vs : Values) : Type 0 where
-  pub place : ℕ
-  pub is_array : n ≡ Node.array place
+  pub id : ℕ
+  pub is_array : n ≡ Node.array id
   pub counted : is_count (values_count vs) ≡ true
-  pub fitting : each_fits nodes (node_at nodes place) vs ≡ true
+  pub fitting : each_fits nodes (node_at nodes id) vs ≡ true
 
 pub ArrayFits-from_fits : (nodes : List Node) (n : Node) (vs : Values) → fits nodes n (Value.array vs) ≡ true → ArrayFits nodes n vs
 ArrayFits-from_fits nodes n vs h =
-    let test = λ (place : ℕ). each_fits nodes (node_at nodes place) vs in
+    let test = λ (id : ℕ). each_fits nodes (node_at nodes id) vs in
     let parts = and_parts (is_count (values_count vs)) (is_some_and test (items_node n)) h in
     let found = is_some_and-some test (items_node n) parts.1 in
-    record { place = found.0; is_array = array-from_items_node n found.0 found.1; counted = parts.0; fitting = found.2 }
+    record { id = found.0; is_array = array-from_items_node n found.0 found.1; counted = parts.0; fitting = found.2 }
 
 -- a map that fits
 pub record MapFits (nodes : List Node) (n : Node) (es : Entries) : Type 0 where
-  pub place : ℕ
-  pub is_map : n ≡ Node.map_of place
+  pub id : ℕ
+  pub is_map : n ≡ Node.map_of id
   pub counted : is_count (entries_count es) ≡ true
   pub texts : list_all is_text (keys_of es) ≡ true
   pub distinct : are_distinct bytes_eq (keys_of es) ≡ true
-  pub fitting : entries_fit nodes (node_at nodes place) es ≡ true
+  pub fitting : entries_fit nodes (node_at nodes id) es ≡ true
 
 pub MapFits-from_fits : (nodes : List Node) (n : Node) (es : Entries) → fits nodes n (Value.map_of es) ≡ true → MapFits nodes n es
 MapFits-from_fits nodes n es h =
-    let test = λ (place : ℕ). entries_fit nodes (node_at nodes place) es in
+    let test = λ (id : ℕ). entries_fit nodes (node_at nodes id) es in
     let count = is_count (entries_count es) in
     let texts = list_all is_text (keys_of es) in
     let distinct = are_distinct bytes_eq (keys_of es) in
@@ -76,7 +76,7 @@ MapFits-from_fits nodes n es h =
     let two = and_parts count texts three.0 in
     let found = is_some_and-some test (values_node n) all.1 in
     record {
-      place = found.0;
+      id = found.0;
       is_map = map_of-from_values_node n found.0 found.1;
       counted = two.0;
       texts = two.1;
@@ -86,20 +86,20 @@ MapFits-from_fits nodes n es h =
 
 -- a union that fits
 pub record UnionFits (nodes : List Node) (n : Node) (k : ℕ) (v : Value) : Type 0 where
-  pub places : List ℕ
-  pub place : ℕ
-  pub is_union : n ≡ Node.union places
-  pub is_branch : slice_get places k ≡ Some place
-  pub fitting : fits nodes (node_at nodes place) v ≡ true
+  pub ids : List ℕ
+  pub id : ℕ
+  pub is_union : n ≡ Node.union ids
+  pub is_branch : slice_get ids k ≡ Some id
+  pub fitting : fits nodes (node_at nodes id) v ≡ true
 
 pub UnionFits-from_fits : (nodes : List Node) (n : Node) (k : ℕ) (v : Value) → fits nodes n (Value.union k v) ≡ true → UnionFits nodes n k v
 UnionFits-from_fits nodes n k v h =
-    let branch = λ (places : List ℕ). slice_get places k in
-    let found = is_some_and-some (λ (place : ℕ). fits nodes (node_at nodes place) v) (option_and_then branch (branches_of n)) h in
+    let branch = λ (ids : List ℕ). slice_get ids k in
+    let found = is_some_and-some (λ (id : ℕ). fits nodes (node_at nodes id) v) (option_and_then branch (branches_of n)) h in
     let union = and_then-some branch (branches_of n) found.0 found.1 in
     record {
-      places = union.0;
-      place = found.0;
+      ids = union.0;
+      id = found.0;
       is_union = union-from_branches_of n union.0 union.1;
       is_branch = union.2;
       fitting = found.2;

@@ -45,7 +45,7 @@ record KindRules (nodes : List Node) (n : Node) : Type 0 where
   limit : is_within_limit n ≡ true
 
 rules_meet : (nodes : List Node) (n : Node) → KindRules nodes n → meets_its_rules nodes n ≡ true
-rules_meet nodes (Node.union places) rules = rules.branches
+rules_meet nodes (Node.union ids) rules = rules.branches
 rules_meet nodes (Node.record_of name aliases fields) rules = rw (rules.names, rules.fields, rules.defaults) refl
 rules_meet nodes (Node.enum name aliases symbols default) rules =
     let three = and_parts (nat_lt 0 (length symbols) && are_distinct bytes_eq symbols) (is_default symbols default) rules.symbols in
@@ -55,7 +55,7 @@ rules_meet nodes (Node.fixed name aliases count) rules = rules.limit
 rules_meet nodes _ rules = refl
 
 no_rules : (nodes : List Node) (n : Node) → meets_its_rules nodes n ≡ true → KindRules nodes n
-no_rules nodes (Node.union places) met = record { names = refl; branches = met; symbols = refl; fields = refl; defaults = refl; limit = refl }
+no_rules nodes (Node.union ids) met = record { names = refl; branches = met; symbols = refl; fields = refl; defaults = refl; limit = refl }
 no_rules nodes (Node.record_of name aliases fields) met =
     let names = list_all is_simple_name (flat_map field_names fields) in
     let distinct = are_distinct bytes_eq (flat_map field_names fields) in
@@ -75,52 +75,52 @@ no_rules nodes (Node.enum name aliases symbols default) met =
 no_rules nodes (Node.fixed name aliases count) met = record { names = refl; branches = refl; symbols = refl; fields = refl; defaults = refl; limit = met }
 no_rules nodes _ met = record { names = refl; branches = refl; symbols = refl; fields = refl; defaults = refl; limit = refl }
 
-good-from_none_broken : (nodes : List Node) (place : ℕ) (n : Node) → ((fault : NodeFault) → breaks fault nodes place n ≡ false) → is_good_node nodes place n ≡ true
-good-from_none_broken nodes place n clean =
-    let edges = kept (has_good_edges nodes place n) (clean unknown_node) in
+good-from_none_broken : (nodes : List Node) (id : ℕ) (n : Node) → ((fault : NodeFault) → breaks fault nodes id n ≡ false) → is_good_node nodes id n ≡ true
+good-from_none_broken nodes id n clean =
+    let edges = kept (has_good_edges nodes id n) (clean unknown_node) in
     let names = and_parts (list_all is_simple_name (names_inside n)) (has_good_names n)
     (kept (list_all is_simple_name (names_inside n) && has_good_names n) (clean invalid_name)) in
     let rules = rules_meet nodes n (record {
       names = names.0;
-      branches = kept-under (has_good_edges nodes place n) (has_union_rule nodes n) edges (clean invalid_union);
+      branches = kept-under (has_good_edges nodes id n) (has_union_rule nodes n) edges (clean invalid_union);
       symbols = kept (has_symbols_rule n) (clean invalid_symbols);
       fields = kept (has_fields_rule n) (clean duplicate_field);
-      defaults = kept-under (has_good_edges nodes place n) (has_defaults_rule nodes n) edges (clean invalid_default);
+      defaults = kept-under (has_good_edges nodes id n) (has_defaults_rule nodes n) edges (clean invalid_default);
       limit = kept (is_within_limit n) (clean limit_exceeded);
     }) in
     rw (edges, names.1, rules) refl
 
-none_broken-from_good : (fault : NodeFault) (nodes : List Node) (place : ℕ) (n : Node) → is_good_node nodes place n ≡ true → breaks fault nodes place n ≡ false
-none_broken-from_good fault nodes place n good =
-    let edges = has_good_edges nodes place n in
+none_broken-from_good : (fault : NodeFault) (nodes : List Node) (id : ℕ) (n : Node) → is_good_node nodes id n ≡ true → breaks fault nodes id n ≡ false
+none_broken-from_good fault nodes id n good =
+    let edges = has_good_edges nodes id n in
     let three = and_parts (edges && has_good_names n) (meets_its_rules nodes n) good in
     let two = and_parts edges (has_good_names n) three.0 in
     by_fault fault two.0 two.1 (no_rules nodes n three.1)
   where
-    by_fault : (fault : NodeFault) → has_good_edges nodes place n ≡ true → has_good_names n ≡ true → KindRules nodes n → breaks fault nodes place n ≡ false
-    by_fault unknown_node edges names rules = unbroken (has_good_edges nodes place n) edges
+    by_fault : (fault : NodeFault) → has_good_edges nodes id n ≡ true → has_good_names n ≡ true → KindRules nodes n → breaks fault nodes id n ≡ false
+    by_fault unknown_node edges names rules = unbroken (has_good_edges nodes id n) edges
     by_fault duplicate_name edges names rules = refl
     by_fault invalid_name edges names rules = unbroken (list_all is_simple_name (names_inside n) && has_good_names n) (rw (rules.names, names) refl)
-    by_fault invalid_union edges names rules = unbroken-under (has_good_edges nodes place n) (has_union_rule nodes n) rules.branches
+    by_fault invalid_union edges names rules = unbroken-under (has_good_edges nodes id n) (has_union_rule nodes n) rules.branches
     by_fault invalid_symbols edges names rules = unbroken (has_symbols_rule n) rules.symbols
     by_fault duplicate_field edges names rules = unbroken (has_fields_rule n) rules.fields
-    by_fault invalid_default edges names rules = unbroken-under (has_good_edges nodes place n) (has_defaults_rule nodes n) rules.defaults
+    by_fault invalid_default edges names rules = unbroken-under (has_good_edges nodes id n) (has_defaults_rule nodes n) rules.defaults
     by_fault limit_exceeded edges names rules = unbroken (is_within_limit n) rules.limit
 
 -- ---- nodes
 
-good_nodes-from_none_broken : (nodes : List Node) (place : ℕ) (ns : List Node) → ((fault : NodeFault) → some_breaks fault nodes place ns ≡ false) → are_good_nodes nodes place ns ≡ true
-good_nodes-from_none_broken nodes place [] clean = refl
-good_nodes-from_none_broken nodes place (n ∷ ns) clean =
-    let first = good-from_none_broken nodes place n (λ fault. (or_parts (breaks fault nodes place n) (some_breaks fault nodes (suc place) ns) (clean fault)).0) in
-    let rest = good_nodes-from_none_broken nodes (suc place) ns (λ fault. (or_parts (breaks fault nodes place n) (some_breaks fault nodes (suc place) ns) (clean fault)).1) in
+good_nodes-from_none_broken : (nodes : List Node) (id : ℕ) (ns : List Node) → ((fault : NodeFault) → some_breaks fault nodes id ns ≡ false) → are_good_nodes nodes id ns ≡ true
+good_nodes-from_none_broken nodes id [] clean = refl
+good_nodes-from_none_broken nodes id (n ∷ ns) clean =
+    let first = good-from_none_broken nodes id n (λ fault. (or_parts (breaks fault nodes id n) (some_breaks fault nodes (suc id) ns) (clean fault)).0) in
+    let rest = good_nodes-from_none_broken nodes (suc id) ns (λ fault. (or_parts (breaks fault nodes id n) (some_breaks fault nodes (suc id) ns) (clean fault)).1) in
     rw (first, rest) refl
 
-none_broken-from_good_nodes : (fault : NodeFault) (nodes : List Node) (place : ℕ) (ns : List Node) → are_good_nodes nodes place ns ≡ true → some_breaks fault nodes place ns ≡ false
-none_broken-from_good_nodes fault nodes place [] good = refl
-none_broken-from_good_nodes fault nodes place (n ∷ ns) good =
-    let parts = and_parts (is_good_node nodes place n) (are_good_nodes nodes (suc place) ns) good in
-    rw (none_broken-from_good fault nodes place n parts.0, none_broken-from_good_nodes fault nodes (suc place) ns parts.1) refl
+none_broken-from_good_nodes : (fault : NodeFault) (nodes : List Node) (id : ℕ) (ns : List Node) → are_good_nodes nodes id ns ≡ true → some_breaks fault nodes id ns ≡ false
+none_broken-from_good_nodes fault nodes id [] good = refl
+none_broken-from_good_nodes fault nodes id (n ∷ ns) good =
+    let parts = and_parts (is_good_node nodes id n) (are_good_nodes nodes (suc id) ns) good in
+    rw (none_broken-from_good fault nodes id n parts.0, none_broken-from_good_nodes fault nodes (suc id) ns parts.1) refl
 
 pub is_schema-from_no_fault : (nodes : List Node) → ((fault : NodeFault) → has_fault fault nodes ≡ false) → is_schema nodes ≡ true
 is_schema-from_no_fault nodes clean =
@@ -191,8 +191,8 @@ no_element (y ∷ xs) x is c = cc
 
 pub there-contains : (fault : NodeFault) (nodes : List Node) → IsThere fault nodes → Contains (faults_of_nodes nodes) fault
 there-contains fault nodes there =
-    let place = among_all fault in
-    kept_at (λ f. has_fault f nodes) all_faults fault place.0 place.1 place.2 there
+    let id = among_all fault in
+    kept_at (λ f. has_fault f nodes) all_faults fault id.0 id.1 id.2 there
 
 pub is_schema-from_no_faults : (nodes : List Node) → faults_of_nodes nodes ≡ [] → is_schema nodes ≡ true
 is_schema-from_no_faults nodes none =
@@ -203,20 +203,20 @@ no_faults-from_is_schema nodes formed = none_kept (λ f. has_fault f nodes) all_
 
 -- ---- as errors name them
 
-broken_at : (fault : NodeFault) (nodes : List Node) (from : ℕ) (ns : List Node) (i place : ℕ) → i + from ≡ place → i < length ns
-    → breaks fault nodes place (node_at ns i) ≡ true → some_breaks fault nodes from ns ≡ true
-broken_at fault nodes from [] i place is below h = absurd (omega (arith, below))
-broken_at fault nodes from (n ∷ ns) zero place is below h =
-    let here : place ≡ from = omega (arith, is) in
+broken_at : (fault : NodeFault) (nodes : List Node) (from : ℕ) (ns : List Node) (i id : ℕ) → i + from ≡ id → i < length ns
+    → breaks fault nodes id (node_at ns i) ≡ true → some_breaks fault nodes from ns ≡ true
+broken_at fault nodes from [] i id is below h = absurd (omega (arith, below))
+broken_at fault nodes from (n ∷ ns) zero id is below h =
+    let here : id ≡ from = omega (arith, is) in
     let first : breaks fault nodes from n ≡ true = subst (λ p. breaks fault nodes p n ≡ true) here h in
     rw first refl
-broken_at fault nodes from (n ∷ ns) (suc i) place is below h =
-    or_right (breaks fault nodes from n) (some_breaks fault nodes (suc from) ns) (broken_at fault nodes (suc from) ns i place (omega (arith, is)) (omega (arith, below)) h)
+broken_at fault nodes from (n ∷ ns) (suc i) id is below h =
+    or_right (breaks fault nodes from n) (some_breaks fault nodes (suc from) ns) (broken_at fault nodes (suc from) ns i id (omega (arith, is)) (omega (arith, below)) h)
 
--- a rule that the node of some place breaks
-pub broken-there : (fault : NodeFault) (nodes : List Node) (place : ℕ) → place < length nodes → breaks fault nodes place (node_at nodes place) ≡ true → IsThere fault nodes
-broken-there fault nodes place below h =
-    or_right (list_breaks fault nodes) (some_breaks fault nodes 0 nodes) (broken_at fault nodes 0 nodes place place (omega arith) below h)
+-- a rule that the node of some id breaks
+pub broken-there : (fault : NodeFault) (nodes : List Node) (id : ℕ) → id < length nodes → breaks fault nodes id (node_at nodes id) ≡ true → IsThere fault nodes
+broken-there fault nodes id below h =
+    or_right (list_breaks fault nodes) (some_breaks fault nodes 0 nodes) (broken_at fault nodes 0 nodes id id (omega arith) below h)
 
 pub somewhere-there : (e : DraftError) (nodes : List Node) → IsRefusedSomewhere nodes e → IsRefused nodes e
 somewhere-there e nodes some = IfSome_then (fault_of e) some.2 (λ fault h. broken-there fault nodes some.0 some.1 h)

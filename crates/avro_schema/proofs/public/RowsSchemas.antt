@@ -14,13 +14,13 @@ within namespace word = record { namespace = namespace; simple = word }
 
 -- a field with neither alias nor default, with aliases, and with a default
 abbrev pub plain_field : List ℕ → ℕ → FieldNode
-plain_field word place = record { name = word; aliases = []; node = place; default = None }
+plain_field word id = record { name = word; aliases = []; node = id; default = None }
 
 abbrev pub aliased_field : List ℕ → List (List ℕ) → ℕ → FieldNode
-aliased_field word aliases place = record { name = word; aliases = aliases; node = place; default = None }
+aliased_field word aliases id = record { name = word; aliases = aliases; node = id; default = None }
 
 abbrev pub default_field : List ℕ → ℕ → Value → FieldNode
-default_field word place v = record { name = word; aliases = []; node = place; default = Some v }
+default_field word id v = record { name = word; aliases = []; node = id; default = Some v }
 
 -- values in a row
 abbrev pub one_value : Value → Values
@@ -154,12 +154,12 @@ int_or_nothing-good = refl
 
 -- so many records, each of which holds the next one twice, before one of an enum of one symbol
 abbrev pub doubled_from : ℕ → ℕ → List Node
-doubled_from place zero =
-    Node.record_of (simply (codes "R")) [] (plain_field (codes "f") (suc place) ∷ [])
+doubled_from id zero =
+    Node.record_of (simply (codes "R")) [] (plain_field (codes "f") (suc id) ∷ [])
     ∷ Node.enum (simply (codes "E")) [] (codes "A" ∷ []) None ∷ []
-doubled_from place (suc more) =
-    Node.record_of (simply (82 ∷ (65 + more) ∷ [])) [] (plain_field (codes "a") (suc place) ∷ plain_field (codes "b") (suc place) ∷ [])
-    ∷ doubled_from (suc place) more
+doubled_from id (suc more) =
+    Node.record_of (simply (82 ∷ (65 + more) ∷ [])) [] (plain_field (codes "a") (suc id) ∷ plain_field (codes "b") (suc id) ∷ [])
+    ∷ doubled_from (suc id) more
 
 abbrev pub doubled : ℕ → List Node
 doubled times = doubled_from 0 times

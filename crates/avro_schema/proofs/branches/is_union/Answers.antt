@@ -15,4 +15,4 @@ pub returns-in-None : goal.returns-in-None
 returns-in-None c = no_union (nodes_of c.args.nodes.now) (places_of c.args.branches.now) c.in_ok-kinds.field-0 c.in_ok-kinds.ensures c.in-None.is
 
 pub returns-then-not-branch : goal.returns-then-not-branch
-returns-then-not-branch c = repeated_branch (nodes_of c.args.nodes.now) (places_of c.args.branches.now) (sym c.if-not-branch.true ∙ c.in_ok-are_unique_places.ensures)
+returns-then-not-branch c = repeated_branch (nodes_of c.args.nodes.now) (places_of c.args.branches.now) (sym c.if-not-branch.true ∙ c.in_ok-are_unique_ids.ensures)

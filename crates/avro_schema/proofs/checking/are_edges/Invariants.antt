@@ -4,5 +4,5 @@ use Rattle.avro_schema.specs.Seen.{nodes_of, places_of}
 use Rattle.avro_schema.specs.WellFormed.{is_edge}
 use Rattle.avro_schema.proofs.checking.are_edges.Given as goal
 
-abbrev pub invariant-loop-place : goal.invariant-loop-place
-invariant-loop-place l = list_all (is_edge (nodes_of l.nodes) l.from) (places_of l.places) ≡ list_all (is_edge (nodes_of l.nodes) l.from) (places_of (drop l.place-index l.places))
+abbrev pub invariant-loop-id : goal.invariant-loop-id
+invariant-loop-id l = list_all (is_edge (nodes_of l.nodes) l.from) (places_of l.ids) ≡ list_all (is_edge (nodes_of l.nodes) l.from) (places_of (drop l.id-index l.ids))

@@ -29,7 +29,7 @@ fits_node-returns-in-Map t c = rw (c.in-Map.is, value_of-Map c.in-Map.entries) c
 
 pub fits_array-returns-in-Array : goal.fits_array-returns-in-Array
 fits_array-returns-in-Array t c =
-    rw (c.in-Array.is, fits-array (nodes_of c.args.nodes.now) c.in-Array.place.0 c.args.items.now, ← c.deref.ensures.value) c.each_fits.ensures
+    rw (c.in-Array.is, fits-array (nodes_of c.args.nodes.now) c.in-Array.id.0 c.args.items.now, ← c.deref.ensures.value) c.each_fits.ensures
 
 pub fields_fit-returns-then-fields-values : goal.fields_fit-returns-then-fields-values
 fields_fit-returns-then-fields-values t c =
@@ -38,5 +38,5 @@ fields_fit-returns-then-fields-values t c =
 pub fits_map-returns-else-not-branch : goal.fits_map-returns-else-not-branch
 fits_map-returns-else-not-branch t c =
     let unique = c.in_ok-are_unique_texts-in-Map.ensures ∙ ap (are_distinct bytes_eq) (c.in_ok-keys-in-Map.ensures ∙ ap (λ es. keys_of (entries_of es)) c.deref.ensures.value) in
-    let seen = fits-map (nodes_of c.args.nodes.now) c.in-Map.place.0 c.args.entries.now c.in_ok-are_unique_texts-in-Map.field-0 unique c.if-not-branch.false in
+    let seen = fits-map (nodes_of c.args.nodes.now) c.in-Map.id.0 c.args.entries.now c.in_ok-are_unique_texts-in-Map.field-0 unique c.if-not-branch.false in
     rw (c.in-Map.is, seen, ← c.deref-in-Map.ensures.value) c.entries_fit.ensures

@@ -6,12 +6,12 @@ use Rattle.avro_schema.proofs.fitting.+fitting.Given as goal
 
 abbrev pub invariant-each_fits-loop-item : goal.invariant-each_fits-loop-item
 invariant-each_fits-loop-item l =
-    let node = node_at (nodes_of l.nodes) l.place.0 in
+    let node = node_at (nodes_of l.nodes) l.id.0 in
     each_fits (nodes_of l.nodes) node (values_of l.items) ≡ each_fits (nodes_of l.nodes) node (values_of (drop l.item-index l.items))
 
 abbrev pub invariant-entries_fit-loop-entry : goal.invariant-entries_fit-loop-entry
 invariant-entries_fit-loop-entry l =
-    let node = node_at (nodes_of l.nodes) l.place.0 in
+    let node = node_at (nodes_of l.nodes) l.id.0 in
     entries_fit (nodes_of l.nodes) node (entries_of l.entries) ≡ entries_fit (nodes_of l.nodes) node (entries_of (drop l.entry-index l.entries))
 
 abbrev pub invariant-fields_fit-loop-i : goal.invariant-fields_fit-loop-i

@@ -1,6 +1,0 @@
-use Rattle.std.proofs.Common.{◌≡◌, ◌++◌, drop}
-use Rattle.avro_schema.specs.Seen.{places_of}
-use Rattle.avro_schema.proofs.branches.are_unique_places.Given as goal
-
-abbrev pub invariant-loop-branch : goal.invariant-loop-branch
-invariant-loop-branch l = l.places.items ++ places_of (drop l.branch-index l.branches) ≡ places_of l.branches
