@@ -23,7 +23,7 @@ pub record HeadRead (before after : CursorValue) (block : Block) : Type 0 where
   pub head : Head
   pub is_head : IsHead before.nodes head
   pub passes : Passes before (head_bytes head) after
-  pub is_block : IsBlock before.place head block
+  pub is_block : IsBlock before.offset head block
   pub counted : block.count ≡ head_count head
 
 -- a head counts something
@@ -31,19 +31,19 @@ pub some-head : (left : ℕ) (head : Head) → IsHead left head → 0 < head_cou
 some-head left (counted count count_bytes) is = is.0
 some-head left (sized count size count_bytes size_bytes) is = is.0
 
-block-count : (place : ℕ) (head : Head) (block : Block) → IsBlock place head block → block.count ≡ head_count head
-block-count place (counted count count_bytes) block is = is.0
-block-count place (sized count size count_bytes size_bytes) block is = is.0
+block-count : (offset : ℕ) (head : Head) (block : Block) → IsBlock offset head block → block.count ≡ head_count head
+block-count offset (counted count count_bytes) block is = is.0
+block-count offset (sized count size count_bytes size_bytes) block is = is.0
 
 pub head_read : (before after : CursorValue) (block : Block)
-    → (head : Option Head) × (front : List ℕ) × IsHeadOrEnd before.nodes head front × Passes before front after × IsBlockOrEnd before.place head (Some block)
+    → (head : Option Head) × (front : List ℕ) × IsHeadOrEnd before.nodes head front × Passes before front after × IsBlockOrEnd before.offset head (Some block)
     → HeadRead before after block
 head_read before after block (Some head, front, is, passes, answer) = record {
   head = head;
   is_head = is.0;
   passes = subst (λ (bytes : List ℕ). Passes before bytes after) is.1 passes;
   is_block = answer;
-  counted = block-count before.place head block answer;
+  counted = block-count before.offset head block answer;
 }
 head_read before after block (None, front, is, passes, answer) = absurd answer
 
@@ -54,7 +54,7 @@ pub record EndRead (before after : CursorValue) : Type 0 where
   pub passes : Passes before front after
 
 pub end_read : (before after : CursorValue)
-    → (head : Option Head) × (front : List ℕ) × IsHeadOrEnd before.nodes head front × Passes before front after × IsBlockOrEnd before.place head None
+    → (head : Option Head) × (front : List ℕ) × IsHeadOrEnd before.nodes head front × Passes before front after × IsBlockOrEnd before.offset head None
     → EndRead before after
 end_read before after (Some head, front, is, passes, answer) = absurd answer
 end_read before after (None, front, is, passes, answer) = record { front = front; spelled = is; passes = passes }
@@ -65,9 +65,9 @@ ended x = Ok x
 abbrev pub as_error : (A : Type 0) → ReadError → Result A ReadError
 as_error A e = Err e
 
-pub has_size : {A : Type 0} (x : A) (place : ℕ) (head : Head) (n : ℕ) → EndsBlock place head n (ended x) → HasSize head n
-has_size x place (counted count count_bytes) n ends = tt
-has_size x place (sized count size count_bytes size_bytes) n ends = ends
+pub has_size : {A : Type 0} (x : A) (offset : ℕ) (head : Head) (n : ℕ) → EndsBlock offset head n (ended x) → HasSize head n
+has_size x offset (counted count count_bytes) n ends = tt
+has_size x offset (sized count size count_bytes size_bytes) n ends = ends
 
 -- ---- The blocks so far
 
@@ -146,9 +146,9 @@ module _ {E : Type 0} {kind : Kind E} {start now : CursorValue} {keys : List (Li
           subst (λ (n : ℕ). kind.are_whole (left_at now keys) n (concat found.items) (left_at after then_keys)) (counted_is ∙ head.counted)
           (whole_behind ys found.items (left_at after then_keys) found.stand)
 
-      -- the place behind the items
-      pub place_is : after.place ≡ now.place + length (head_bytes head.head) + length (concat found.items)
-      place_is = let p = head.passes.place in let q = found.moves.place in omega arith
+      -- the offset behind the items
+      pub offset_is : after.offset ≡ now.offset + length (head_bytes head.head) + length (concat found.items)
+      offset_is = let p = head.passes.offset in let q = found.moves.offset in omega arith
 
       -- fewer nodes are left behind the block
       pub block_smaller : after.nodes < now.nodes
@@ -183,12 +183,12 @@ module _ {E : Type 0} {kind : Kind E} {start now : CursorValue} {keys : List (Li
           }
 
       -- the size of the block is another
-      pub size_refused : (A : Type 0) (e : ReadError) → EndsBlock now.place head.head (length (concat found.items)) (as_error A e) → ReportsFault AllBreak start e
+      pub size_refused : (A : Type 0) (e : ReadError) → EndsBlock now.offset head.head (length (concat found.items)) (as_error A e) → ReportsFault AllBreak start e
       size_refused A e ends = report_moved start now done.front e RestBreaks AllBreak done.moves
           done.breaks (size-differs A e head.head head.is_head whole (split_behind (concat found.items) after.bytes found.moves.split) ends)
         where
           size-differs : (B : Type 0) (error : ReadError) (h : Head) → IsHead now.nodes h → kind.are_whole (left_at now keys) (head_count h) (concat found.items) (left_at after then_keys)
-              → now.bytes ≡ head_bytes h ++ concat found.items ++ after.bytes → EndsBlock now.place h (length (concat found.items)) (as_error B error)
+              → now.bytes ≡ head_bytes h ++ concat found.items ++ after.bytes → EndsBlock now.offset h (length (concat found.items)) (as_error B error)
               → ReportsFault RestBreaks now error
           size-differs B error (counted count count_bytes) is w split ended_so = absurd cc
           size-differs B error (sized count size count_bytes size_bytes) is w split ended_so =

@@ -16,7 +16,7 @@ inside_of c = record c { depth = c.depth - 1 }
 
 pub passes_inside : (counted after : CursorValue) (front : List ℕ) → Passes counted front after → Passes (inside_of counted) front (inside_of after)
 passes_inside counted after front p =
-    record { split = p.split; place = p.place; depth = ap (λ (n : ℕ). n - 1) p.depth; nodes = p.nodes; blob = p.blob }
+    record { split = p.split; offset = p.offset; depth = ap (λ (n : ℕ). n - 1) p.depth; nodes = p.nodes; blob = p.blob }
 
 pub finds_inside : {A R : Type 0} (seen : R → A) (IsElement : A → List ℕ → Type 0) (counted after : CursorValue) (r : R) → Finds seen IsElement counted after r
     → Finds seen IsElement (inside_of counted) (inside_of after) r
@@ -27,7 +27,7 @@ outside-inside : (before counted : CursorValue) → Counts before counted → ou
 outside-inside before counted c =
     let deep : suc (counted.depth - 1) ≡ before.depth = let d = c.depth in let some = c.some in omega arith in
     let many : suc counted.nodes ≡ before.nodes = let n = c.nodes in omega arith in
-    λ i. record { bytes = c.bytes i; place = c.place i; depth = deep i; nodes = many i; blob = c.blob i }
+    λ i. record { bytes = c.bytes i; offset = c.offset i; depth = deep i; nodes = many i; blob = c.blob i }
 
 left-inside : (before counted after : CursorValue) → Counts before counted → after.depth ≡ counted.depth → left_node (inside_of after) ≡ after
 left-inside before counted after c same =

@@ -25,10 +25,10 @@ int_found before after bytes value answer len same is spelled in_range passes =
     element_found (λ v. v) IsInt IntBreaks int_part before after answer (take len before.bytes)
     (rw is in_range, rw (is, ← same) spelled) passes
 
-pub int_refused : (before : CursorValue) (bytes : List ℕ) (e : VarError) (error : ReadError) (place : ℕ) → bytes ≡ before.bytes → place ≡ before.place
-    → IntFails bytes e → read_fault error ≡ Some (behind place (number_fault e))
+pub int_refused : (before : CursorValue) (bytes : List ℕ) (e : VarError) (error : ReadError) (offset : ℕ) → bytes ≡ before.bytes → offset ≡ before.offset
+    → IntFails bytes e → read_fault error ≡ Some (behind offset (number_fault e))
     → ReadsElement (λ v. v) IsInt IntBreaks before before (Err error)
-int_refused before bytes e error place same at fails reports =
+int_refused before bytes e error offset same at fails reports =
     element_refused (λ v. v) IsInt IntBreaks int_part before before error (number_fault e)
     (e, subst (λ (b : List ℕ). IntFails b e) same fails, refl) (reports ∙ ap (λ (n : ℕ). Some (behind n (number_fault e))) at) refl
 
@@ -39,16 +39,16 @@ long_found before after bytes value answer len same is spelled in_range passes =
     element_found (λ v. v) IsLong LongBreaks long_part before after answer (take len before.bytes)
     (rw is in_range, rw (is, ← same) spelled) passes
 
-pub long_refused : (before : CursorValue) (bytes : List ℕ) (e : VarError) (error : ReadError) (place : ℕ) → bytes ≡ before.bytes → place ≡ before.place
-    → LongFails bytes e → read_fault error ≡ Some (behind place (number_fault e))
+pub long_refused : (before : CursorValue) (bytes : List ℕ) (e : VarError) (error : ReadError) (offset : ℕ) → bytes ≡ before.bytes → offset ≡ before.offset
+    → LongFails bytes e → read_fault error ≡ Some (behind offset (number_fault e))
     → ReadsElement (λ v. v) IsLong LongBreaks before before (Err error)
-long_refused before bytes e error place same at fails reports =
+long_refused before bytes e error offset same at fails reports =
     element_refused (λ v. v) IsLong LongBreaks long_part before before error (number_fault e)
     (e, subst (λ (b : List ℕ). LongFails b e) same fails, refl) (reports ∙ ap (λ (n : ℕ). Some (behind n (number_fault e))) at) refl
 
--- a place, as a fault at the front reports it
-pub from_front : (make : ℕ → ReadFault) (place offset : ℕ) → offset ≡ place → Some (make offset) ≡ Some (make (place + 0))
-from_front make place offset same = ap (λ (n : ℕ). Some (make n)) (same ∙ sym (add-zero place))
+-- an offset, as a fault at the front reports it
+pub from_front : (make : ℕ → ReadFault) (start offset : ℕ) → offset ≡ start → Some (make offset) ≡ Some (make (start + 0))
+from_front make start offset same = ap (λ (n : ℕ). Some (make n)) (same ∙ sym (add-zero start))
 
 boolean-ends : (bytes : List ℕ) → slice_get bytes 0 ≡ None → BooleanBreaks bytes (end_of_input 0)
 boolean-ends [] h = refl
@@ -58,25 +58,25 @@ boolean-high : (bytes : List ℕ) (x : ℕ) → slice_get bytes 0 ≡ Some x →
 boolean-high [] x h high = absurd cc
 boolean-high (y ∷ bytes) x h high = let same : y ≡ x = cc in (rw same high, refl)
 
-pub boolean_ended : (before : CursorValue) (bytes : List ℕ) (place : ℕ) → bytes ≡ before.bytes → place ≡ before.place → slice_get bytes 0 ≡ None
-    → ReadsElement (λ b. b) IsBoolean BooleanBreaks before before (Err (ReadError.EndOfInput place))
-boolean_ended before bytes place same at none =
-    element_refused (λ b. b) IsBoolean BooleanBreaks boolean_part before before (ReadError.EndOfInput place) (end_of_input 0)
-    (boolean-ends before.bytes (rw (← same) none)) (from_front end_of_input before.place place at) refl
+pub boolean_ended : (before : CursorValue) (bytes : List ℕ) (offset : ℕ) → bytes ≡ before.bytes → offset ≡ before.offset → slice_get bytes 0 ≡ None
+    → ReadsElement (λ b. b) IsBoolean BooleanBreaks before before (Err (ReadError.EndOfInput offset))
+boolean_ended before bytes offset same at none =
+    element_refused (λ b. b) IsBoolean BooleanBreaks boolean_part before before (ReadError.EndOfInput offset) (end_of_input 0)
+    (boolean-ends before.bytes (rw (← same) none)) (from_front end_of_input before.offset offset at) refl
 
-pub boolean_refused : (before : CursorValue) (bytes : List ℕ) (x place : ℕ) → bytes ≡ before.bytes → place ≡ before.place → slice_get bytes 0 ≡ Some x → 1 < x
-    → ReadsElement (λ b. b) IsBoolean BooleanBreaks before before (Err (ReadError.InvalidBoolean place))
-boolean_refused before bytes x place same at some high =
-    element_refused (λ b. b) IsBoolean BooleanBreaks boolean_part before before (ReadError.InvalidBoolean place) (invalid_boolean 0)
-    (boolean-high before.bytes x (rw (← same) some) high) (from_front invalid_boolean before.place place at) refl
+pub boolean_refused : (before : CursorValue) (bytes : List ℕ) (x offset : ℕ) → bytes ≡ before.bytes → offset ≡ before.offset → slice_get bytes 0 ≡ Some x → 1 < x
+    → ReadsElement (λ b. b) IsBoolean BooleanBreaks before before (Err (ReadError.InvalidBoolean offset))
+boolean_refused before bytes x offset same at some high =
+    element_refused (λ b. b) IsBoolean BooleanBreaks boolean_part before before (ReadError.InvalidBoolean offset) (invalid_boolean 0)
+    (boolean-high before.bytes x (rw (← same) some) high) (from_front invalid_boolean before.offset offset at) refl
 
-pub index_unknown : (before : CursorValue) (bytes : List ℕ) (choices : ℕ) (value : ℤ) (len place : ℕ) → bytes ≡ before.bytes → place ≡ before.place
+pub index_unknown : (before : CursorValue) (bytes : List ℕ) (choices : ℕ) (value : ℤ) (len offset : ℕ) → bytes ≡ before.bytes → offset ≡ before.offset
     → SpellsInt value (take len bytes) → is_int value ≡ true → is_index choices value ≡ false
-    → ReadsElement (λ n. n) (IsIndex choices) (IndexBreaks choices) before before (Err (ReadError.UnknownIndex place))
-index_unknown before bytes choices value len place same at spelled in_range none =
-    element_refused (λ n. n) (IsIndex choices) (IndexBreaks choices) (index_part choices) before before (ReadError.UnknownIndex place) (unknown_index 0)
+    → ReadsElement (λ n. n) (IsIndex choices) (IndexBreaks choices) before before (Err (ReadError.UnknownIndex offset))
+index_unknown before bytes choices value len offset same at spelled in_range none =
+    element_refused (λ n. n) (IsIndex choices) (IndexBreaks choices) (index_part choices) before before (ReadError.UnknownIndex offset) (unknown_index 0)
     (unknown value (take len bytes) (drop len bytes) spelled in_range (sym same ∙ sym (take-append-drop len bytes)) none)
-    (from_front unknown_index before.place place at) refl
+    (from_front unknown_index before.offset offset at) refl
 
 pub index_found : (before after : CursorValue) (bytes : List ℕ) (choices : ℕ) (value : ℤ) (answer len : ℕ) → bytes ≡ before.bytes → value ≡ pos answer
     → answer < choices → SpellsInt value (take len bytes) → is_int value ≡ true → Passes before (take len before.bytes) after
@@ -85,10 +85,10 @@ index_found before after bytes choices value answer len same is small spelled in
     element_found (λ n. n) (IsIndex choices) (IndexBreaks choices) (index_part choices) before after answer (take len before.bytes)
     (small, (subst (λ (v : ℤ). is_int v ≡ true) is in_range, subst (λ (v : ℤ). SpellsInt v (take len before.bytes)) is (rw (← same) spelled))) passes
 
-pub index_refused : (before : CursorValue) (bytes : List ℕ) (choices : ℕ) (e : VarError) (error : ReadError) (place : ℕ) → bytes ≡ before.bytes → place ≡ before.place
-    → IntFails bytes e → read_fault error ≡ Some (behind place (number_fault e))
+pub index_refused : (before : CursorValue) (bytes : List ℕ) (choices : ℕ) (e : VarError) (error : ReadError) (offset : ℕ) → bytes ≡ before.bytes → offset ≡ before.offset
+    → IntFails bytes e → read_fault error ≡ Some (behind offset (number_fault e))
     → ReadsElement (λ n. n) (IsIndex choices) (IndexBreaks choices) before before (Err error)
-index_refused before bytes choices e error place same at fails reports =
+index_refused before bytes choices e error offset same at fails reports =
     element_refused (λ n. n) (IsIndex choices) (IndexBreaks choices) (index_part choices) before before error (number_fault e)
     (number_breaks (e, subst (λ (b : List ℕ). IntFails b e) same fails, refl)) (reports ∙ ap (λ (n : ℕ). Some (behind n (number_fault e))) at) refl
 
@@ -108,13 +108,13 @@ module _ (is_content : List ℕ → Bool) (blob : ℕ) (bytes : List ℕ) where
   length_over (pos n) number rest s h = too_long n number rest s (omega (arith, ints))
 
   -- a length whose content is cut
-  pub content_cut : (n len place offset : ℕ) → StartsWithLong (pos n) bytes (take len bytes) (drop len bytes) → n ≤ blob → length (drop len bytes) < n → len ≤ length bytes
-      → offset ≡ place + len
-      → (f : ReadFault) × ContentBreaks is_content blob bytes f × (Some (end_of_input offset) ≡ Some (behind place f))
-  content_cut n len place offset s small short inside at = (
+  pub content_cut : (n len start offset : ℕ) → StartsWithLong (pos n) bytes (take len bytes) (drop len bytes) → n ≤ blob → length (drop len bytes) < n → len ≤ length bytes
+      → offset ≡ start + len
+      → (f : ReadFault) × ContentBreaks is_content blob bytes f × (Some (end_of_input offset) ≡ Some (behind start f))
+  content_cut n len start offset s small short inside at = (
     end_of_input (length (take len bytes)),
     cut n (take len bytes) (drop len bytes) s small short,
-    ap (λ (k : ℕ). Some (end_of_input k)) (at ∙ ap (λ (k : ℕ). place + k) (sym (length-take-le len bytes inside))),
+    ap (λ (k : ℕ). Some (end_of_input k)) (at ∙ ap (λ (k : ℕ). start + k) (sym (length-take-le len bytes inside))),
   )
 
 -- a content behind its length
@@ -142,10 +142,10 @@ content_is is_content blob bytes content len s right =
     record { right = right; countable = s.countable; within = s.within; spelled = (s.number, s.spelled, front) }
 
 -- a content that is not of its kind
-pub content_invalid : (is_content : List ℕ → Bool) (blob : ℕ) (bytes content : List ℕ) (len place offset : ℕ) → ContentStands blob bytes content len
-    → is_content content ≡ false → offset ≡ place + (len - length content)
-    → (f : ReadFault) × ContentBreaks is_content blob bytes f × (Some (invalid_text offset) ≡ Some (behind place f))
-content_invalid is_content blob bytes content len place offset s wrong at =
+pub content_invalid : (is_content : List ℕ → Bool) (blob : ℕ) (bytes content : List ℕ) (len start offset : ℕ) → ContentStands blob bytes content len
+    → is_content content ≡ false → offset ≡ start + (len - length content)
+    → (f : ReadFault) × ContentBreaks is_content blob bytes f × (Some (invalid_text offset) ≡ Some (behind start f))
+content_invalid is_content blob bytes content len start offset s wrong at =
     let starts : StartsWithLong (pos (length content)) bytes s.number (content ++ s.rest) = record {
       spelled = s.spelled;
       in_range = long_count (length content) s.countable;
@@ -154,7 +154,7 @@ content_invalid is_content blob bytes content len place offset s wrong at =
     let number : len - length content ≡ length s.number = let b = s.both in omega arith in (
       invalid_text (length s.number),
       invalid (length content) s.number (content ++ s.rest) starts s.within (omega (arith, length-append content s.rest)) (ap is_content (take-append_seam content s.rest) ∙ wrong),
-      ap (λ (k : ℕ). Some (invalid_text k)) (at ∙ ap (λ (k : ℕ). place + k) number),
+      ap (λ (k : ℕ). Some (invalid_text k)) (at ∙ ap (λ (k : ℕ). start + k) number),
     )
 
 -- a test that does not hold

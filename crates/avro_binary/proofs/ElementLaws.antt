@@ -36,13 +36,13 @@ module _ {A R : Type 0} (seen : R → A) (IsElement : A → List ℕ → Type 0)
   }
 
   -- a fault at the front is reported
-  pub element_refused : (e : ReadError) (f : ReadFault) → ElementBreaks before.bytes f → read_fault e ≡ Some (behind before.place f) → after ≡ before
+  pub element_refused : (e : ReadError) (f : ReadFault) → ElementBreaks before.bytes f → read_fault e ≡ Some (behind before.offset f) → after ≡ before
       → ReadsElement seen IsElement ElementBreaks before after (Err e)
   element_refused e f b reports same = record {
     found = tt;
     stands = λ v front rest is split. absurd (part.excludes v front rest f is (subst (λ (bytes : List ℕ). ElementBreaks bytes f) split b));
     refused = (f, b, reports);
-    breaks = λ g other. reports ∙ ap (λ (h : ReadFault). Some (behind before.place h)) (part.one_fault before.bytes f g b other);
+    breaks = λ g other. reports ∙ ap (λ (h : ReadFault). Some (behind before.offset h)) (part.one_fault before.bytes f g b other);
     unchanged = same;
   }
 
@@ -217,7 +217,7 @@ module _ (is_content : List ℕ → Bool) (blob : ℕ) where
   pub content_part : IsPart (IsContent is_content blob) (ContentBreaks is_content blob)
   content_part = record { one = content-one; excludes = content-excludes; one_fault = content-one_fault }
 
--- a number that is no place breaks so
+-- a number that is no index breaks so
 index-first : (choices : ℕ) (bytes : List ℕ) (f g : ReadFault) → IntBreaks bytes f → IndexBreaks choices bytes g → f ≡ g
 index-first choices bytes f g b (number_breaks d) = int_part.one_fault bytes f g b d
 index-first choices bytes f g b (unknown v number rest s r split h) = absurd (int-excludes_fault v bytes number rest b.0 r s split b.1)

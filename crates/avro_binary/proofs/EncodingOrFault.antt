@@ -46,17 +46,17 @@ module _ {E : Type 0} (kind : Kind E) (d blob : ℕ) where
 -- ---- Blocks
 
 abbrev block_of : ℕ → Head → Block
-block_of place (counted count count_bytes) = record { count = count; size = None }
-block_of place (sized count size count_bytes size_bytes) =
-    record { count = count; size = Some (record { bytes = size; place = place + length count_bytes; items = place + length count_bytes + length size_bytes }) }
+block_of offset (counted count count_bytes) = record { count = count; size = None }
+block_of offset (sized count size count_bytes size_bytes) =
+    record { count = count; size = Some (record { bytes = size; offset = offset + length count_bytes; items = offset + length count_bytes + length size_bytes }) }
 
-is-block : (place : ℕ) (head : Head) → IsBlock place head (block_of place head)
-is-block place (counted count count_bytes) = (refl, refl)
-is-block place (sized count size count_bytes size_bytes) = (refl, refl)
+is-block : (offset : ℕ) (head : Head) → IsBlock offset head (block_of offset head)
+is-block offset (counted count count_bytes) = (refl, refl)
+is-block offset (sized count size count_bytes size_bytes) = (refl, refl)
 
-block-counts : (place : ℕ) (head : Head) → (block_of place head).count ≡ head_count head
-block-counts place (counted count count_bytes) = refl
-block-counts place (sized count size count_bytes size_bytes) = refl
+block-counts : (offset : ℕ) (head : Head) → (block_of offset head).count ≡ head_count head
+block-counts offset (counted count count_bytes) = refl
+block-counts offset (sized count size count_bytes size_bytes) = refl
 
 same_or : (m n : ℕ) → (m ≡ n) ⊎ (m ≢ n)
 same_or m n = elim (below_or m n) [
@@ -67,23 +67,23 @@ same_or m n = elim (below_or m n) [
   ]
 ]
 
-size_or : (place : ℕ) (head : Head) (n : ℕ) → HasSize head n ⊎ ((e : ReadError) × IsOfFault e × EndsBlock place head n (as_error (Unit {0}) e))
-size_or place (counted count count_bytes) n = inl tt
-size_or place (sized count size count_bytes size_bytes) n = elim (same_or size n) [
+size_or : (offset : ℕ) (head : Head) (n : ℕ) → HasSize head n ⊎ ((e : ReadError) × IsOfFault e × EndsBlock offset head n (as_error (Unit {0}) e))
+size_or offset (counted count count_bytes) n = inl tt
+size_or offset (sized count size count_bytes size_bytes) n = elim (same_or size n) [
   | inl same ↦ inl same
   | inr other ↦
-      let fault = behind place (wrong_block_size (length count_bytes)) in
+      let fault = behind offset (wrong_block_size (length count_bytes)) in
       inr (error_of fault, (fault, error-reports fault), (other, error-reports fault))
 ]
 
 head_of : (now : CursorValue) (head : Head) (front rest : List ℕ) → IsHeadOrEnd now.nodes (Some head) front → now.bytes ≡ front ++ rest
-    → HeadRead now (moved_to now front rest) (block_of now.place head)
+    → HeadRead now (moved_to now front rest) (block_of now.offset head)
 head_of now head front rest is split = record {
   head = head;
   is_head = is.0;
   passes = subst (λ (bytes : List ℕ). Passes now bytes (moved_to now front rest)) is.1 (passes_to now front rest split);
-  is_block = is-block now.place head;
-  counted = block-counts now.place head;
+  is_block = is-block now.offset head;
+  counted = block-counts now.offset head;
 }
 
 end_of : (now : CursorValue) (front rest : List ℕ) → IsHeadOrEnd now.nodes None front → now.bytes ≡ front ++ rest → EndRead now (moved_to now front rest)
@@ -104,11 +104,11 @@ module _ {E : Type 0} (kind : Kind E) (d blob : ℕ) (one : ReadsOne kind d blob
       | Some head ↦ λ is.
           let mid = moved_to now g.1 g.2 in
           let read = head_of now head g.1 g.2 is g.4 in
-          let count = (block_of now.place head).count in
+          let count = (block_of now.offset head).count in
           let none = run_none kind mid keys (kind.laws.prepared _ _ xs done.items done.stand) in
           elim (run_read kind d blob one mid (sym (blob_kept done read) ∙ long) keys count count mid keys [] (omega arith) none (ready_passed d now g.1 g.2 ready g.4)) [
             | inr f ↦ inr (f.0, f.1, item_refused done read count f.0 refl f.2)
-            | inl r ↦ elim (size_or now.place read.head (length (concat r.4.items))) [
+            | inl r ↦ elim (size_or now.offset read.head (length (concat r.4.items))) [
               | inr w ↦ inr (w.0, w.1, size_refused done read r.4 r.3 (Unit {0}) w.0 w.2)
               | inl has ↦ blocks_read fuel r.0 r.1 (xs ++ r.2) (blocks_push done read r.4 r.3 has) (let less = block_smaller done read r.4 r.3 in omega arith) r.5
             ]
@@ -116,12 +116,12 @@ module _ {E : Type 0} (kind : Kind E) (d blob : ℕ) (one : ReadsOne kind d blob
     ] g.3
   ]
 
-module _ (nodes : List Node) (place : ℕ) (c : CursorValue) (ready : IsReady c.depth c) (child : Children nodes c.depth) where
+module _ (nodes : List Node) (id : ℕ) (c : CursorValue) (ready : IsReady c.depth c) (child : Children nodes c.depth) where
   abbrev one_of : Node
-  one_of = node_at nodes place
+  one_of = node_at nodes id
 
   value_read : ReadsOne (values_kind nodes (limits_at c) one_of) c.depth c.blob
-  value_read now keys now_ready long prepared = elim (child place now now_ready) [
+  value_read now keys now_ready long prepared = elim (child id now now_ready) [
     | inl g ↦ inl (g.0, keys, g.1, g.2.front, value_run nodes (limits_at c) one_of now g.0 keys g.1 g.2 (sym now_ready.deep) (sym long), g.2.moves, value_moves nodes one_of now c.depth now_ready g)
     | inr f ↦ inr (f.0, f.1, value_report nodes (limits_at c) one_of now keys f.0 (sym now_ready.deep) (sym long) f.2)
   ]
@@ -133,7 +133,7 @@ module _ (nodes : List Node) (place : ℕ) (c : CursorValue) (ready : IsReady c.
         let mid = moved_to now k.1 k.2 in
         let passes = passes_to now k.1 k.2 k.4 in
         let mid_ready = ready_passed c.depth now k.1 k.2 now_ready k.4 in
-        elim (child place mid mid_ready) [
+        elim (child id mid mid_ready) [
           | inr f ↦ inr (f.0, f.1, entry_report nodes (limits_at c) one_of now mid keys k.0 k.1 f.0 k.3 passes (sym now_ready.deep) (sym long) f.2)
           | inl g ↦ inl (
             g.0,
@@ -147,19 +147,19 @@ module _ (nodes : List Node) (place : ℕ) (c : CursorValue) (ready : IsReady c.
         ]
   ]
 
-  array_reads : Reads nodes (Node.array place) (outside c)
+  array_reads : Reads nodes (Node.array id) (outside c)
   array_reads =
       let kind = values_kind nodes (limits_at c) one_of in
       elim (blocks_read kind c.depth c.blob value_read c refl (suc c.nodes) c [] [] (blocks_none kind c tt) (omega arith) ready) [
-        | inl g ↦ found_by nodes (Node.array place) (outside c) (left_node g.1) (array_found nodes place g.4 g.5 tt ready.many tt)
+        | inl g ↦ found_by nodes (Node.array id) (outside c) (left_node g.1) (array_found nodes id g.4 g.5 tt ready.many tt)
         | inr f ↦ inr (f.0, f.1, f.2)
       ]
 
-  map_reads : Reads nodes (Node.map_of place) (outside c)
+  map_reads : Reads nodes (Node.map_of id) (outside c)
   map_reads =
       let kind = entries_kind nodes (limits_at c) one_of in
       elim (blocks_read kind c.depth c.blob entry_read c refl (suc c.nodes) c [] [] (blocks_none kind c refl) (omega arith) ready) [
-        | inl g ↦ found_by nodes (Node.map_of place) (outside c) (left_node g.1) (map_found nodes place g.4 g.5 tt ready.many tt)
+        | inl g ↦ found_by nodes (Node.map_of id) (outside c) (left_node g.1) (map_found nodes id g.4 g.5 tt ready.many tt)
         | inr f ↦ inr (f.0, f.1, f.2)
       ]
 
@@ -173,9 +173,9 @@ entered_reads nodes c ready child Node.int = int_reads nodes c ready
 entered_reads nodes c ready child Node.long = long_reads nodes c ready
 entered_reads nodes c ready child Node.bytes = bytes_reads nodes c ready
 entered_reads nodes c ready child Node.string = string_reads nodes c ready
-entered_reads nodes c ready child (Node.array place) = array_reads nodes place c ready child
-entered_reads nodes c ready child (Node.map_of place) = map_reads nodes place c ready child
-entered_reads nodes c ready child (Node.union places) = union_reads nodes c ready child places
+entered_reads nodes c ready child (Node.array id) = array_reads nodes id c ready child
+entered_reads nodes c ready child (Node.map_of id) = map_reads nodes id c ready child
+entered_reads nodes c ready child (Node.union ids) = union_reads nodes c ready child ids
 entered_reads nodes c ready child (Node.record_of name aliases fields) = record_reads nodes c ready child name aliases fields
 entered_reads nodes c ready child (Node.enum name aliases symbols default) = symbol_reads nodes c ready name aliases symbols default
 entered_reads nodes c ready child (Node.fixed name aliases count) = fixed_reads nodes c ready name aliases count
@@ -194,7 +194,7 @@ with_nodes nodes n d (suc k) c ready e child =
 
 node_reads : (d : ℕ) (nodes : List Node) (n : Node) (c : CursorValue) → IsReady d c → Reads nodes n c
 node_reads zero nodes n c ready = limit_refused nodes n c (inl ready.deep)
-node_reads (suc d) nodes n c ready = with_nodes nodes n d c.nodes c ready refl (λ place b b_ready. node_reads d nodes (node_at nodes place) b b_ready)
+node_reads (suc d) nodes n c ready = with_nodes nodes n d c.nodes c ready refl (λ id b b_ready. node_reads d nodes (node_at nodes id) b b_ready)
 
 pub encoding_or_fault_lem : (nodes : List Node) (n : Node) (limits : LimitValues) (bytes : List ℕ) → AreBytes bytes → limits.nodes < 2 ^ 32 → limits.blob < 2 ^ 63
     → ((v : Value) × (front rest : List ℕ) × Encodes nodes n v front × (is_within limits v ≡ true) × (bytes ≡ front ++ rest)) ⊎ ((f : ReadFault) × Breaks nodes limits n bytes f)

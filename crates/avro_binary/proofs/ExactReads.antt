@@ -24,7 +24,7 @@ use Rattle.avro_binary.proofs.OneFaults.{one_fault_lem}
 
 -- a cursor at the front of bytes
 abbrev pub front_of : List ℕ → LimitValues → CursorValue
-front_of bytes limits = record { bytes = bytes; place = 0; depth = limits.depth; nodes = limits.nodes; blob = limits.blob }
+front_of bytes limits = record { bytes = bytes; offset = 0; depth = limits.depth; nodes = limits.nodes; blob = limits.blob }
 
 pub within-from : (limits : LimitValues) (v : Value) → depth v ≤ limits.depth → size v ≤ limits.nodes → longest_blob v ≤ limits.blob → is_within limits v ≡ true
 within-from limits v d n b =
@@ -33,22 +33,22 @@ within-from limits v d n b =
     let long : nat_le (longest_blob v) limits.blob ≡ true = search (rules, tests) in
     rw (deep, many, long) refl
 
-module _ (nodes : List Node) (formed : is_schema nodes ≡ true) (place : ℕ) (limits : LimitValues) (bytes : List ℕ) where
+module _ (nodes : List Node) (formed : is_schema nodes ≡ true) (id : ℕ) (limits : LimitValues) (bytes : List ℕ) where
   -- the front that was passed
   pub record FrontIs (v : Value) (len : ℕ) : Type 0 where
     pub front : List ℕ
     pub rest : List ℕ
     pub split : bytes ≡ front ++ rest
     pub length_is : len ≡ length front
-    pub encoded : Encodes nodes (node_at nodes place) v front
+    pub encoded : Encodes nodes (node_at nodes id) v front
     pub within : is_within limits v ≡ true
 
-  pub front_is : (v : Value) (after : CursorValue) → FindsValue nodes (node_at nodes place) (front_of bytes limits) after v → FrontIs v after.place
+  pub front_is : (v : Value) (after : CursorValue) → FindsValue nodes (node_at nodes id) (front_of bytes limits) after v → FrontIs v after.offset
   front_is v after found = record {
     front = found.front;
     rest = after.bytes;
     split = found.moves.split;
-    length_is = let p = found.moves.place in omega arith;
+    length_is = let p = found.moves.offset in omega arith;
     encoded = found.encoded;
     within = within-from limits v found.deep (let m = found.many in omega arith) found.long;
   }
@@ -60,62 +60,62 @@ module _ (nodes : List Node) (formed : is_schema nodes ≡ true) (place : ℕ) (
   front-inside v len is = let l = is.length_is in omega (arith, ap length is.split, length-append is.front is.rest)
 
   -- no other datum stands there
-  front-only : (v : Value) (len : ℕ) (is : FrontIs v len) (w : Value) (front rest : List ℕ) → Encodes nodes (node_at nodes place) w front → bytes ≡ front ++ rest
+  front-only : (v : Value) (len : ℕ) (is : FrontIs v len) (w : Value) (front rest : List ℕ) → Encodes nodes (node_at nodes id) w front → bytes ≡ front ++ rest
       → (is.front ≡ front) × (v ≡ w)
   front-only v len is w front rest encoded split =
-      one_front nodes (node_at nodes place) v w is.front front is.rest rest is.encoded encoded (sym is.split ∙ split)
+      one_front nodes (node_at nodes id) v w is.front front is.rest rest is.encoded encoded (sym is.split ∙ split)
 
-  front-whole : (v : Value) (len : ℕ) → FrontIs v len → (f : ReadFault) → Breaks nodes limits (node_at nodes place) bytes f → ⊥
-  front-whole v len is f b = no_front_within nodes limits place bytes f v is.front is.rest formed b is.encoded is.within is.split
+  front-whole : (v : Value) (len : ℕ) → FrontIs v len → (f : ReadFault) → Breaks nodes limits (node_at nodes id) bytes f → ⊥
+  front-whole v len is f b = no_front_within nodes limits id bytes f v is.front is.rest formed b is.encoded is.within is.split
 
   -- what an error tells of the bytes
   abbrev pub Told : Option ReadFault → Type 0
-  Told fault = IfSome fault (λ g. (f : ReadFault) × Breaks nodes limits (node_at nodes place) bytes f × (g ≡ behind 0 f))
+  Told fault = IfSome fault (λ g. (f : ReadFault) × Breaks nodes limits (node_at nodes id) bytes f × (g ≡ behind 0 f))
 
   abbrev FaultIs : Option ReadFault → Type 0
-  FaultIs fault = IfSome fault (Breaks nodes limits (node_at nodes place) bytes)
+  FaultIs fault = IfSome fault (Breaks nodes limits (node_at nodes id) bytes)
 
   told-breaks : (fault : Option ReadFault) → Told fault → FaultIs fault
   told-breaks None t = tt
-  told-breaks (Some g) t = subst (Breaks nodes limits (node_at nodes place) bytes) (sym (t.2 ∙ sym (behind-none t.0))) t.1
+  told-breaks (Some g) t = subst (Breaks nodes limits (node_at nodes id) bytes) (sym (t.2 ∙ sym (behind-none t.0))) t.1
 
   told-none : (fault : Option ReadFault) → Told fault
-      → IfSome fault (λ f. (f ≡ limit_exceeded → ⊥) → (v : Value) (front rest : List ℕ) → Encodes nodes (node_at nodes place) v front → bytes ≡ front ++ rest → ⊥)
+      → IfSome fault (λ f. (f ≡ limit_exceeded → ⊥) → (v : Value) (front rest : List ℕ) → Encodes nodes (node_at nodes id) v front → bytes ≡ front ++ rest → ⊥)
   told-none None t = tt
-  told-none (Some g) t = λ no_limit v front rest encoded split. no_front_of_fault nodes limits place bytes g v front rest formed (told-breaks (Some g) t) no_limit encoded split
+  told-none (Some g) t = λ no_limit v front rest encoded split. no_front_of_fault nodes limits id bytes g v front rest formed (told-breaks (Some g) t) no_limit encoded split
 
   -- an error that tells nothing is want of memory
   silent : (A : Type 0) (P : Type 0) (e : ReadError) → read_fault e ≡ None → UnlessOutOfMemory (as_error {A = A} e) P
   silent A P ReadError.OutOfMemory h = tt
   silent A P _ h = absurd cc
 
-  reported : (A : Type 0) (e : ReadError) (fault : Option ReadFault) → read_fault e ≡ fault → Told fault → (f : ReadFault) → Breaks nodes limits (node_at nodes place) bytes f
+  reported : (A : Type 0) (e : ReadError) (fault : Option ReadFault) → read_fault e ≡ fault → Told fault → (f : ReadFault) → Breaks nodes limits (node_at nodes id) bytes f
       → UnlessOutOfMemory (as_error {A = A} e) (read_fault e ≡ Some f)
   reported A e None is t f b = silent A (read_fault e ≡ Some f) e is
   reported A e (Some g) is t f b =
       unless_reported A e g (read_fault e ≡ Some f) is
-      (is ∙ ap (λ (h : ReadFault). Some h) (one_fault_lem nodes limits place bytes g f formed (told-breaks (Some g) t) b))
+      (is ∙ ap (λ (h : ReadFault). Some h) (one_fault_lem nodes limits id bytes g f formed (told-breaks (Some g) t) b))
 
   stays_out : (A : Type 0) (P : Type 0) (e : ReadError) (fault : Option ReadFault) → read_fault e ≡ fault → Told fault → (v : Value) (front rest : List ℕ)
-      → Encodes nodes (node_at nodes place) v front → is_within limits v ≡ true → bytes ≡ front ++ rest → UnlessOutOfMemory (as_error {A = A} e) P
+      → Encodes nodes (node_at nodes id) v front → is_within limits v ≡ true → bytes ≡ front ++ rest → UnlessOutOfMemory (as_error {A = A} e) P
   stays_out A P e None is t v front rest encoded within split = silent A P e is
   stays_out A P e (Some g) is t v front rest encoded within split =
-      absurd (no_front_within nodes limits place bytes g v front rest formed (told-breaks (Some g) t) encoded within split)
+      absurd (no_front_within nodes limits id bytes g v front rest formed (told-breaks (Some g) t) encoded within split)
 
   -- ---- From the cursor's call
 
   module _ {R : Type 0} {stands : R → Value → Type 0} (before after : CursorValue) (at_front : before ≡ front_of bytes limits) where
-    moved_front : (result : Result R ReadError) → ReadsNode stands nodes (node_at nodes place) before after result
-        → ReadsNode stands nodes (node_at nodes place) (front_of bytes limits) after result
-    moved_front result reads = subst (λ (b : CursorValue). ReadsNode stands nodes (node_at nodes place) b after result) at_front reads
+    moved_front : (result : Result R ReadError) → ReadsNode stands nodes (node_at nodes id) before after result
+        → ReadsNode stands nodes (node_at nodes id) (front_of bytes limits) after result
+    moved_front result reads = subst (λ (b : CursorValue). ReadsNode stands nodes (node_at nodes id) b after result) at_front reads
 
-    pub built : (r : R) (len : ℕ) → len ≡ after.place → ReadsNode stands nodes (node_at nodes place) before after (Ok r)
-        → BuildsExactly stands nodes (node_at nodes place) limits bytes (Ok (r, len))
+    pub built : (r : R) (len : ℕ) → len ≡ after.offset → ReadsNode stands nodes (node_at nodes id) before after (Ok r)
+        → BuildsExactly stands nodes (node_at nodes id) limits bytes (Ok (r, len))
     built r len at_end reads =
         let found = (moved_front (Ok r) reads).found in
         let v = found.0 in
         let is = subst (λ (n : ℕ). FrontIs v n) (sym at_end) (front_is v after found.1) in record {
-          found = (v, found.2, front-inside v len is, subst (Encodes nodes (node_at nodes place) v) (sym (front-taken v len is)) is.encoded, is.within);
+          found = (v, found.2, front-inside v len is, subst (Encodes nodes (node_at nodes id) v) (sym (front-taken v len is)) is.encoded, is.within);
           begins = λ w front rest encoded within split.
               let same = front-only v len is w front rest encoded split in
               (subst (stands r) same.1 found.2, is.length_is ∙ ap (λ (q : List ℕ). length q) same.0);
@@ -124,8 +124,8 @@ module _ (nodes : List Node) (formed : is_schema nodes ≡ true) (place : ℕ) (
           no_front = tt;
         }
 
-    pub build_refused : (e : ReadError) → ReadsNode stands nodes (node_at nodes place) before after (Err e)
-        → BuildsExactly stands nodes (node_at nodes place) limits bytes (Err e)
+    pub build_refused : (e : ReadError) → ReadsNode stands nodes (node_at nodes id) before after (Err e)
+        → BuildsExactly stands nodes (node_at nodes id) limits bytes (Err e)
     build_refused e reads =
         let t = (moved_front (Err e) reads).refused in record {
           found = tt;

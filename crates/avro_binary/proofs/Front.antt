@@ -42,9 +42,9 @@ EntriesTold nodes n no_entries = Unit {0}
 EntriesTold nodes n (entry k v es) = IsTold nodes n v × EntriesTold nodes n es
 
 abbrev pub FieldsTold : List Node → List ℕ → Values → Type 0
-FieldsTold nodes places no_values = Unit {0}
+FieldsTold nodes ids no_values = Unit {0}
 FieldsTold nodes [] (value v vs) = Unit {0}
-FieldsTold nodes (place ∷ places) (value v vs) = IsTold nodes (node_at nodes place) v × FieldsTold nodes places vs
+FieldsTold nodes (id ∷ ids) (value v vs) = IsTold nodes (node_at nodes id) v × FieldsTold nodes ids vs
 
 -- bytes of a value of the node
 abbrev pub IsItem : List Node → Node → List ℕ → Type 0
@@ -131,22 +131,22 @@ entries_same nodes n (entry k v es) (entry l w fs) items told h s t =
     cc
 
 -- the values of the same fields
-pub fields_same : (nodes : List Node) (places : List ℕ) (vs ws : Values) (items others : List (List ℕ)) (x y : List ℕ) → FieldsTold nodes places vs
-    → fields_fit nodes places vs ≡ true → fields_fit nodes places ws ≡ true → EachSpelled vs items → EachSpelled ws others → concat items ++ x ≡ concat others ++ y
+pub fields_same : (nodes : List Node) (ids : List ℕ) (vs ws : Values) (items others : List (List ℕ)) (x y : List ℕ) → FieldsTold nodes ids vs
+    → fields_fit nodes ids vs ≡ true → fields_fit nodes ids ws ≡ true → EachSpelled vs items → EachSpelled ws others → concat items ++ x ≡ concat others ++ y
     → (concat items ≡ concat others) × (vs ≡ ws)
 fields_same nodes [] no_values no_values items others x y told g h s t e = (ap concat (s ∙ sym t), refl)
 fields_same nodes [] no_values (value w ws) items others x y told g h s t e = absurd (false≢true h)
 fields_same nodes [] (value v vs) ws items others x y told g h s t e = absurd (false≢true g)
-fields_same nodes (place ∷ places) no_values ws items others x y told g h s t e = absurd (false≢true g)
-fields_same nodes (place ∷ places) (value v vs) no_values items others x y told g h s t e = absurd (false≢true h)
-fields_same nodes (place ∷ places) (value v vs) (value w ws) items others x y told g h s t e =
-    let mine = and_parts (fits nodes (node_at nodes place) v) (fields_fit nodes places vs) g in
-    let parts = and_parts (fits nodes (node_at nodes place) w) (fields_fit nodes places ws) h in
+fields_same nodes (id ∷ ids) no_values ws items others x y told g h s t e = absurd (false≢true g)
+fields_same nodes (id ∷ ids) (value v vs) no_values items others x y told g h s t e = absurd (false≢true h)
+fields_same nodes (id ∷ ids) (value v vs) (value w ws) items others x y told g h s t e =
+    let mine = and_parts (fits nodes (node_at nodes id) v) (fields_fit nodes ids vs) g in
+    let parts = and_parts (fits nodes (node_at nodes id) w) (fields_fit nodes ids ws) h in
     let joined : s.0 ++ (concat s.1 ++ x) ≡ t.0 ++ (concat t.1 ++ y) =
     sym (append_assoc s.0 (concat s.1) x) ∙ ap (λ (is : List (List ℕ)). concat is ++ x) (sym s.4) ∙ e
     ∙ ap (λ (is : List (List ℕ)). concat is ++ y) t.4 ∙ append_assoc t.0 (concat t.1) y in
     let first = told.0 w s.0 t.0 (concat s.1 ++ x) (concat t.1 ++ y) parts.0 s.2 t.2 joined in
-    let rest = fields_same nodes places vs ws s.1 t.1 x y told.1 mine.1 parts.1 s.3 t.3
+    let rest = fields_same nodes ids vs ws s.1 t.1 x y told.1 mine.1 parts.1 s.3 t.3
     (same_behind s.0 t.0 (concat s.1 ++ x) (concat t.1 ++ y) first.0 joined) in
     let front : s.0 ++ concat s.1 ≡ t.0 ++ concat t.1 = cc in
     (ap concat s.4 ∙ front ∙ sym (ap concat t.4), cc)
@@ -163,17 +163,17 @@ same_boolean false true x y e = absurd cc
 same_length : (a b : List ℕ) (count : ℕ) → (length a == count) ≡ true → (length b == count) ≡ true → length a ≡ length b
 same_length a b count h k = grind (arith, nat_tests)
 
-told_array : (nodes : List Node) (place : ℕ) (vs ws : Values) (a b x y : List ℕ) → EachTold nodes (node_at nodes place) vs → each_fits nodes (node_at nodes place) ws ≡ true
+told_array : (nodes : List Node) (id : ℕ) (vs ws : Values) (a b x y : List ℕ) → EachTold nodes (node_at nodes id) vs → each_fits nodes (node_at nodes id) ws ≡ true
     → Spells (Value.array vs) a → Spells (Value.array ws) b → a ++ x ≡ b ++ y → (a ≡ b) × (vs ≡ ws)
-told_array nodes place vs ws a b x y told h s t e =
-    let n = node_at nodes place in
+told_array nodes id vs ws a b x y told h s t e =
+    let n = node_at nodes id in
     let same = same_blocks (IsItem nodes n) s.0 t.0 a b x y (items_alone nodes n vs s.0 told s.1) (items_are nodes n ws t.0 h t.1) s.2 t.2 e in
     (same.1, items_same nodes n vs ws s.0 told h s.1 (subst (EachSpelled ws) (sym same.0) t.1))
 
-told_map : (nodes : List Node) (place : ℕ) (es fs : Entries) (a b x y : List ℕ) → EntriesTold nodes (node_at nodes place) es → entries_fit nodes (node_at nodes place) fs ≡ true
+told_map : (nodes : List Node) (id : ℕ) (es fs : Entries) (a b x y : List ℕ) → EntriesTold nodes (node_at nodes id) es → entries_fit nodes (node_at nodes id) fs ≡ true
     → Spells (Value.map_of es) a → Spells (Value.map_of fs) b → a ++ x ≡ b ++ y → (a ≡ b) × (es ≡ fs)
-told_map nodes place es fs a b x y told h s t e =
-    let n = node_at nodes place in
+told_map nodes id es fs a b x y told h s t e =
+    let n = node_at nodes id in
     let same = same_blocks (IsEntryItem nodes n) s.0 t.0 a b x y (entries_alone nodes n es s.0 told s.1) (entries_are nodes n fs t.0 h t.1) s.2 t.2 e in
     (same.1, entries_same nodes n es fs s.0 told h s.1 (subst (EntriesSpelled fs) (sym same.0) t.1))
 
@@ -229,14 +229,14 @@ mutual
       sym (append_assoc s.0 s.1 x) ∙ ap (λ (f : List ℕ). f ++ x) (sym s.4) ∙ e ∙ ap (λ (f : List ℕ). f ++ y) other.4 ∙ append_assoc other.0 other.1 y in
       let number = one_spelling_lem (pos k) (pos is.0) s.0 other.0 (s.1 ++ x) (other.1 ++ y) s.2 other.2 joined in
       let one : k ≡ is.0 = same_from_pos k is.0 number.1 in
-      let place : is.2 ≡ parts.place = same_place parts.places k is.0 parts.place is.2 one parts.is_branch is.4 in
-      let there = subst (λ (p : ℕ). fits nodes (node_at nodes p) is.1 ≡ true) place is.5 in
+      let there_is : is.2 ≡ parts.place = same_id parts.places k is.0 parts.place is.2 one parts.is_branch is.4 in
+      let there = subst (λ (p : ℕ). fits nodes (node_at nodes p) is.1 ≡ true) there_is is.5 in
       let same = told nodes (node_at nodes parts.place) v parts.fitting is.1 s.1 other.1 x y there s.3 other.3
       (same_behind s.0 other.0 (s.1 ++ x) (other.1 ++ y) number.0 joined) in
       (union_bytes a b s.0 s.1 other.0 other.1 s.4 other.4 number.0 same.0, union_is k is.0 v is.1 one same.1 ∙ sym is.3)
     where
-      same_place : (places : List ℕ) (k j p q : ℕ) → k ≡ j → slice_get places k ≡ Some p → slice_get places j ≡ Some q → q ≡ p
-      same_place places k j p q e g h = cc
+      same_id : (ids : List ℕ) (k j p q : ℕ) → k ≡ j → slice_get ids k ≡ Some p → slice_get ids j ≡ Some q → q ≡ p
+      same_id ids k j p q e g h = cc
 
       union_bytes : (a b c d c' d' : List ℕ) → a ≡ c ++ d → b ≡ c' ++ d' → c ≡ c' → d ≡ d' → a ≡ b
       union_bytes a b c d c' d' l r e f = cc
@@ -275,12 +275,12 @@ mutual
   entries_told nodes n (entry k v es) h =
       let parts = and_parts (fits nodes n v) (entries_fit nodes n es) h in (told nodes n v parts.0, entries_told nodes n es parts.1)
 
-  pub fields_told : (nodes : List Node) (places : List ℕ) (vs : Values) → fields_fit nodes places vs ≡ true → FieldsTold nodes places vs
-  fields_told nodes places no_values h = tt
+  pub fields_told : (nodes : List Node) (ids : List ℕ) (vs : Values) → fields_fit nodes ids vs ≡ true → FieldsTold nodes ids vs
+  fields_told nodes ids no_values h = tt
   fields_told nodes [] (value v vs) h = absurd (false≢true h)
-  fields_told nodes (place ∷ places) (value v vs) h =
-      let parts = and_parts (fits nodes (node_at nodes place) v) (fields_fit nodes places vs) h in
-      (told nodes (node_at nodes place) v parts.0, fields_told nodes places vs parts.1)
+  fields_told nodes (id ∷ ids) (value v vs) h =
+      let parts = and_parts (fits nodes (node_at nodes id) v) (fields_fit nodes ids vs) h in
+      (told nodes (node_at nodes id) v parts.0, fields_told nodes ids vs parts.1)
 
 -- the same of encodings
 pub one_front : (nodes : List Node) (n : Node) (v w : Value) (a b x y : List ℕ) → Encodes nodes n v a → Encodes nodes n w b → a ++ x ≡ b ++ y

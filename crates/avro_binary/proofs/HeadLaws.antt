@@ -196,25 +196,25 @@ head_error e = Err e
 
 -- a head that stands at the front is answered
 pub head_found : (before after : CursorValue) (head : Option Head) (block : Option Block) (front : List ℕ) → IsHeadOrEnd before.nodes head front
-    → Passes before front after → IsBlockOrEnd before.place head block → ReadsHead before after (Ok block)
+    → Passes before front after → IsBlockOrEnd before.offset head block → ReadsHead before after (Ok block)
 head_found before after head block front is passes answer = record {
   found = (head, front, is, passes, answer);
   stands = λ other its_front rest other_is split.
       let same = (head_part before.nodes).one other head its_front front rest after.bytes other_is is (sym split ∙ passes.split) in
-      (subst (λ (h : Option Head). IsBlockOrEnd before.place h block) (sym same.1) answer, subst (λ (bytes : List ℕ). Passes before bytes after) (sym same.0) passes);
+      (subst (λ (h : Option Head). IsBlockOrEnd before.offset h block) (sym same.1) answer, subst (λ (bytes : List ℕ). Passes before bytes after) (sym same.0) passes);
   refused = tt;
   breaks = λ f b. (head_part before.nodes).excludes head front after.bytes f is (subst (λ (bytes : List ℕ). HeadBreaks before.nodes bytes f) passes.split b);
   unchanged = tt;
 }
 
 -- a fault at the front is reported
-pub head_refused : (before : CursorValue) (e : ReadError) (f : ReadFault) → HeadBreaks before.nodes before.bytes f → read_fault e ≡ Some (behind before.place f)
+pub head_refused : (before : CursorValue) (e : ReadError) (f : ReadFault) → HeadBreaks before.nodes before.bytes f → read_fault e ≡ Some (behind before.offset f)
     → ReadsHead before before (Err e)
 head_refused before e f b reports = record {
   found = tt;
   stands = λ head front rest is split. absurd ((head_part before.nodes).excludes head front rest f is (subst (λ (bytes : List ℕ). HeadBreaks before.nodes bytes f) split b));
   refused = (f, b, reports);
-  breaks = λ g other. reports ∙ ap (λ (h : ReadFault). Some (behind before.place h)) ((head_part before.nodes).one_fault before.bytes f g b other);
+  breaks = λ g other. reports ∙ ap (λ (h : ReadFault). Some (behind before.offset h)) ((head_part before.nodes).one_fault before.bytes f g b other);
   unchanged = refl;
 }
 

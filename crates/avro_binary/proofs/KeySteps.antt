@@ -76,26 +76,26 @@ module _ {R : Type 0} (seen : R → List ℕ) (keys : List (List ℕ)) (before a
       }
 
   -- what is refused by a fault
-  pub key_refused : (e : ReadError) (f : ReadFault) → KeyBreaks keys before.blob before.bytes f → read_fault e ≡ Some (behind before.place f)
+  pub key_refused : (e : ReadError) (f : ReadFault) → KeyBreaks keys before.blob before.bytes f → read_fault e ≡ Some (behind before.offset f)
       → after ≡ before → set_after ≡ set_before → ReadsKey seen keys before after set_before set_after (Err e)
   key_refused e f b reports same same_set = record {
     found = tt;
     added = tt;
     stands = λ key front rest is split. absurd ((key_part keys before.blob).excludes key front rest f is (subst (λ (bytes : List ℕ). KeyBreaks keys before.blob bytes f) split b));
     refused = rw reports (f, b, refl);
-    breaks = λ g other. unless_reported R e (behind before.place f) (read_fault e ≡ Some (behind before.place g)) reports
-        (reports ∙ ap (λ (h : ReadFault). Some (behind before.place h)) ((key_part keys before.blob).one_fault before.bytes f g b other));
+    breaks = λ g other. unless_reported R e (behind before.offset f) (read_fault e ≡ Some (behind before.offset g)) reports
+        (reports ∙ ap (λ (h : ReadFault). Some (behind before.offset h)) ((key_part keys before.blob).one_fault before.bytes f g b other));
     unchanged = (same, same_set);
   }
 
   -- a key of before
-  pub key_twice : (key : List ℕ) (len place : ℕ) → ContentStands before.blob before.bytes key len → is_utf8 key ≡ true → set.contains set_before key ≡ true
-      → set_after ≡ set.insert set_before key → place ≡ before.place → after ≡ before → ReadsKey seen keys before after set_before set_after (Err (ReadError.DuplicateKey place))
-  key_twice key len place stands valid old added at same =
+  pub key_twice : (key : List ℕ) (len offset : ℕ) → ContentStands before.blob before.bytes key len → is_utf8 key ≡ true → set.contains set_before key ≡ true
+      → set_after ≡ set.insert set_before key → offset ≡ before.offset → after ≡ before → ReadsKey seen keys before after set_before set_after (Err (ReadError.DuplicateKey offset))
+  key_twice key len offset stands valid old added at same =
       let is = content_is is_utf8 before.blob before.bytes key len stands valid in
-      key_refused (ReadError.DuplicateKey place) (duplicate_key 0)
+      key_refused (ReadError.DuplicateKey offset) (duplicate_key 0)
       (twice key (take len before.bytes) stands.rest is.spelled (is_text-from_string before.blob key (take len before.bytes) is) stands.within (split_is is) (sym (has key) ∙ old))
-      (from_front duplicate_key before.place place at) same (added ∙ key_set-again set_before key old)
+      (from_front duplicate_key before.offset offset at) same (added ∙ key_set-again set_before key old)
     where
       split_is : (p : IsString before.blob key (take len before.bytes)) → before.bytes ≡ take len before.bytes ++ stands.rest
       split_is p =

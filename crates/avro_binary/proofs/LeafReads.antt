@@ -38,7 +38,7 @@ module _ {R : Type 0} {stands : R → Value → Type 0} (nodes : List Node) wher
         deep = omega arith;
         many = let same = passes.nodes in omega arith;
         long = short;
-        moves = record { split = passes.split; place = passes.place; depth = ap suc passes.depth; blob = passes.blob };
+        moves = record { split = passes.split; offset = passes.offset; depth = ap suc passes.depth; blob = passes.blob };
       },
       s,
     );
@@ -101,4 +101,4 @@ module _ {R : Type 0} {stands : R → Value → Type 0} (nodes : List Node) wher
   -- null takes no bytes
   pub null_found : (at : CursorValue) (r : R) → stands r Value.null → ReadsNode stands nodes Node.null (outside at) (left_node at) (Ok r)
   null_found at r s = leaf_found Node.null at at Value.null [] r (record { fitting = refl; spelled = refl }) refl refl (omega arith)
-      (record { split = refl; place = omega arith; depth = refl; nodes = refl; blob = refl }) s
+      (record { split = refl; offset = omega arith; depth = refl; nodes = refl; blob = refl }) s

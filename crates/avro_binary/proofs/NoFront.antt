@@ -49,21 +49,21 @@ pub slice_get-middle : (before : List ℕ) (x : ℕ) (after : List ℕ) → slic
 slice_get-middle [] x after = refl
 slice_get-middle (y ∷ before) x after = slice_get-middle before x after
 
-union_none : (W : Type 0) (nodes : List Node) (left : LimitValues) (child : ChildBreaks) (places : List ℕ) (bytes : List ℕ) (f : ReadFault)
-    (k place : ℕ) (v : Value) (number first rest : List ℕ)
-    → ((p : ℕ) → NoneAt W nodes (node_at nodes p) left.depth left.blob (λ c. child c (node_at nodes p))) → length places ≤ 2 ^ 31
-    → IndexBreaks (length places) bytes f ⊎ BranchBreaks nodes left child places bytes f → (f ≡ limit_exceeded → W) → slice_get places k ≡ Some place
-    → fits nodes (node_at nodes place) v ≡ true → SpellsInt (pos k) number → Spells v first → (W → IsSmall left.depth left.nodes left.blob v)
+union_none : (W : Type 0) (nodes : List Node) (left : LimitValues) (child : ChildBreaks) (ids : List ℕ) (bytes : List ℕ) (f : ReadFault)
+    (k id : ℕ) (v : Value) (number first rest : List ℕ)
+    → ((p : ℕ) → NoneAt W nodes (node_at nodes p) left.depth left.blob (λ c. child c (node_at nodes p))) → length ids ≤ 2 ^ 31
+    → IndexBreaks (length ids) bytes f ⊎ BranchBreaks nodes left child ids bytes f → (f ≡ limit_exceeded → W) → slice_get ids k ≡ Some id
+    → fits nodes (node_at nodes id) v ≡ true → SpellsInt (pos k) number → Spells v first → (W → IsSmall left.depth left.nodes left.blob v)
     → bytes ≡ number ++ (first ++ rest) → ⊥
-union_none W nodes left child places bytes f k place v number first rest none few (inl b) limit at h s t small e =
-    index_none (length places) bytes f k number (first ++ rest) b (slice_get_within places k place at) few s e
-union_none W nodes left child places bytes f k place v number first rest none few (inr b) limit at h s t small e =
+union_none W nodes left child ids bytes f k id v number first rest none few (inl b) limit at h s t small e =
+    index_none (length ids) bytes f k number (first ++ rest) b (slice_get_within ids k id at) few s e
+union_none W nodes left child ids bytes f k id v number first rest none few (inr b) limit at h s t small e =
     let joined : b.number ++ b.breaks.rest ≡ number ++ (first ++ rest) = sym b.breaks.split ∙ e in
     let same = one_spelling_lem (pos (length b.before)) (pos k) b.number number b.breaks.rest (first ++ rest) b.spelled s joined in
-    let here : slice_get places k ≡ Some b.branch =
-    ap (λ (i : ℕ). slice_get places i) (sym (same_from_pos (length b.before) k same.1))
-    ∙ ap (λ (ps : List ℕ). slice_get ps (length b.before)) b.places_are ∙ slice_get-middle b.before b.branch b.after in
-    let branch : place ≡ b.branch = cc in
+    let here : slice_get ids k ≡ Some b.branch =
+    ap (λ (i : ℕ). slice_get ids i) (sym (same_from_pos (length b.before) k same.1))
+    ∙ ap (λ (ps : List ℕ). slice_get ps (length b.before)) b.ids_are ∙ slice_get-middle b.before b.branch b.after in
+    let branch : id ≡ b.branch = cc in
     none b.branch left.nodes b.breaks.rest b.breaks.fault b.breaks.breaks (behind_limit f b.breaks.fault (length b.number) W b.breaks.moved limit) v first rest
     (subst (λ (p : ℕ). fits nodes (node_at nodes p) v ≡ true) branch h) t small (same_behind b.number number b.breaks.rest (first ++ rest) same.0 joined)
 
@@ -80,10 +80,10 @@ fields_none W nodes d b child [] field after no_values (value w ws) items others
     none field (c - 0) rest f broken limit w t.0 (concat t.1 ++ x) parts.0 t.2
     (λ u. let k = AreSmall-first d c b w ws (small u) in (k.0, omega (arith, k.1), k.2))
     (ap (λ (is : List (List ℕ)). concat is ++ rest) (sym s) ∙ e ∙ ap (λ (is : List (List ℕ)). concat is ++ x) t.4 ∙ append_assoc t.0 (concat t.1) x)
-fields_none W nodes d b child (place ∷ before) field after no_values ws items others c rest x f none g s h t small broken limit e = false≢true g
-fields_none W nodes d b child (place ∷ before) field after (value v vs) no_values items others c rest x f none g s h t small broken limit e = false≢true h
-fields_none W nodes d b child (place ∷ before) field after (value v vs) (value w ws) items others c rest x f none g s h t small broken limit e =
-    let n = node_at nodes place in
+fields_none W nodes d b child (id ∷ before) field after no_values ws items others c rest x f none g s h t small broken limit e = false≢true g
+fields_none W nodes d b child (id ∷ before) field after (value v vs) no_values items others c rest x f none g s h t small broken limit e = false≢true h
+fields_none W nodes d b child (id ∷ before) field after (value v vs) (value w ws) items others c rest x f none g s h t small broken limit e =
+    let n = node_at nodes id in
     let mine = and_parts (fits nodes n v) (fields_fit nodes before vs) g in
     let parts = and_parts (fits nodes n w) (fields_fit nodes (before ++ field ∷ after) ws) h in
     let joined : s.0 ++ (concat s.1 ++ rest) ≡ t.0 ++ (concat t.1 ++ x) =
@@ -95,13 +95,13 @@ fields_none W nodes d b child (place ∷ before) field after (value v vs) (value
     fields_none W nodes d b child before field after vs ws s.1 t.1 (c - size w) rest x f none mine.1 s.3 parts.1 t.3 (λ u. AreSmall-others d c b w ws (small u))
     (subst (λ (q : ℕ). child q (node_at nodes field) rest f) left broken) limit (same_behind s.0 t.0 (concat s.1 ++ rest) (concat t.1 ++ x) first.0 joined)
 
-record_none : (W : Type 0) (nodes : List Node) (left : LimitValues) (child : ChildBreaks) (places : List ℕ) (bytes : List ℕ) (f : ReadFault) (ws : Values)
+record_none : (W : Type 0) (nodes : List Node) (left : LimitValues) (child : ChildBreaks) (ids : List ℕ) (bytes : List ℕ) (f : ReadFault) (ws : Values)
     (others : List (List ℕ)) (rest : List ℕ) → ((p : ℕ) → NoneAt W nodes (node_at nodes p) left.depth left.blob (λ c. child c (node_at nodes p)))
-    → FieldsBreak nodes left child places bytes f → (f ≡ limit_exceeded → W) → fields_fit nodes places ws ≡ true → EachSpelled ws others
+    → FieldsBreak nodes left child ids bytes f → (f ≡ limit_exceeded → W) → fields_fit nodes ids ws ≡ true → EachSpelled ws others
     → (W → AreSmall left.depth left.nodes left.blob ws) → bytes ≡ concat others ++ rest → ⊥
-record_none W nodes left child places bytes f ws others rest none b limit h s small e =
+record_none W nodes left child ids bytes f ws others rest none b limit h s small e =
     fields_none W nodes left.depth left.blob child b.before b.field b.after b.values ws b.items others left.nodes b.breaks.rest rest b.breaks.fault none b.fitting b.spelled
-    (subst (λ (ps : List ℕ). fields_fit nodes ps ws ≡ true) b.places_are h) s small b.breaks.breaks
+    (subst (λ (ps : List ℕ). fields_fit nodes ps ws ≡ true) b.ids_are h) s small b.breaks.breaks
     (behind_limit f b.breaks.fault (length (concat b.items)) W b.breaks.moved limit) (sym b.breaks.split ∙ e)
 
 -- ---- Each kind
@@ -134,18 +134,18 @@ module _ (W : Type 0) (nodes : List Node) (left : LimitValues) (child : ChildBre
       let is = string_value nodes v k in
       let t = stands_as v (Value.string is.0) bytes front rest is.1 s in
       content_none W is_utf8 left.blob bytes f is.0 front rest b limit (λ w. (t.1 w).2) t.0 (is_text-short is.0 is.2) (is_text-valid is.0 is.2) t.2
-  node_none (Node.array place) bytes f v front rest few b limit k s =
-      let n = node_at nodes place in
-      let is = array_value nodes place v k in
+  node_none (Node.array id) bytes f v front rest few b limit k s =
+      let n = node_at nodes id in
+      let is = array_value nodes id v k in
       let t = stands_as v (Value.array is.0) bytes front rest is.1 s in
-      blocks_none W (ItemsAreWhole nodes left n) (λ state. child state.nodes n) (ValuesFollow W nodes n left) (values_follow W nodes n left (λ c. child c n) (none place))
+      blocks_none W (ItemsAreWhole nodes left n) (λ state. child state.nodes n) (ValuesFollow W nodes n left) (values_follow W nodes n left (λ c. child c n) (none id))
       b limit t.0.0 front rest
       (record { values = is.0; fitting = is.3; spelled = t.0.1; small = λ w. let m = t.1 w in (omega (arith, m.0), omega (arith, m.1), m.2) }) t.0.2 t.2
-  node_none (Node.map_of place) bytes f v front rest few b limit k s =
-      let n = node_at nodes place in
-      let is = map_value nodes place v k in
+  node_none (Node.map_of id) bytes f v front rest few b limit k s =
+      let n = node_at nodes id in
+      let is = map_value nodes id v k in
       let t = stands_as v (Value.map_of is.0) bytes front rest is.1 s in
-      blocks_none W (EntriesAreWhole nodes left n) (EntryBreaks left child n) (EntriesFollow W nodes n left) (entries_follow W nodes n left child (none place))
+      blocks_none W (EntriesAreWhole nodes left n) (EntryBreaks left child n) (EntriesFollow W nodes n left) (entries_follow W nodes n left child (none id))
       b limit t.0.0 front rest
       (record {
         entries = is.0;
@@ -155,10 +155,10 @@ module _ (W : Type 0) (nodes : List Node) (left : LimitValues) (child : ChildBre
         spelled = t.0.1;
         small = λ w. let m = t.1 w in (omega (arith, m.0), omega (arith, m.1), m.2);
       }) t.0.2 t.2
-  node_none (Node.union places) bytes f v front rest few b limit k s =
-      let is = union_value nodes places v k in
+  node_none (Node.union ids) bytes f v front rest few b limit k s =
+      let is = union_value nodes ids v k in
       let t = stands_as v (Value.union is.0 is.1) bytes front rest is.3 s in
-      union_none W nodes left child places bytes f is.0 is.2 is.1 t.0.0 t.0.1 rest none few b limit is.4 is.5 t.0.2 t.0.3
+      union_none W nodes left child ids bytes f is.0 is.2 is.1 t.0.0 t.0.1 rest none few b limit is.4 is.5 t.0.2 t.0.3
       (λ w. let m = t.1 w in (omega (arith, m.0), omega (arith, m.1), m.2))
       (t.2 ∙ ap (λ (q : List ℕ). q ++ rest) t.0.4 ∙ append_assoc t.0.0 t.0.1 rest)
   node_none (Node.record_of name aliases fields) bytes f v front rest few b limit k s =
@@ -197,17 +197,17 @@ within-small limits v h =
     at_most m n e = grind (arith, nat_tests)
 
 -- a fault that is no limit leaves no front that encodes any datum
-pub no_front_of_fault : (nodes : List Node) (limits : LimitValues) (place : ℕ) (bytes : List ℕ) (f : ReadFault) (v : Value) (front rest : List ℕ) → is_schema nodes ≡ true
-    → Breaks nodes limits (node_at nodes place) bytes f → f ≢ limit_exceeded → Encodes nodes (node_at nodes place) v front → bytes ≡ front ++ rest → ⊥
-no_front_of_fault nodes limits place bytes f v front rest formed b no_limit encodes e =
+pub no_front_of_fault : (nodes : List Node) (limits : LimitValues) (id : ℕ) (bytes : List ℕ) (f : ReadFault) (v : Value) (front rest : List ℕ) → is_schema nodes ≡ true
+    → Breaks nodes limits (node_at nodes id) bytes f → f ≢ limit_exceeded → Encodes nodes (node_at nodes id) v front → bytes ≡ front ++ rest → ⊥
+no_front_of_fault nodes limits id bytes f v front rest formed b no_limit encodes e =
     let few = HasFewChoices-from_is_schema nodes formed in
-    none_within ⊥ nodes few limits.blob limits.depth (node_at nodes place) (few place) limits.nodes bytes f b no_limit v front rest encodes.fitting encodes.spelled
+    none_within ⊥ nodes few limits.blob limits.depth (node_at nodes id) (few id) limits.nodes bytes f b no_limit v front rest encodes.fitting encodes.spelled
     (λ w. absurd w) e
 
 -- no fault leaves a front that encodes a datum within limits
-pub no_front_within : (nodes : List Node) (limits : LimitValues) (place : ℕ) (bytes : List ℕ) (f : ReadFault) (v : Value) (front rest : List ℕ) → is_schema nodes ≡ true
-    → Breaks nodes limits (node_at nodes place) bytes f → Encodes nodes (node_at nodes place) v front → is_within limits v ≡ true → bytes ≡ front ++ rest → ⊥
-no_front_within nodes limits place bytes f v front rest formed b encodes within e =
+pub no_front_within : (nodes : List Node) (limits : LimitValues) (id : ℕ) (bytes : List ℕ) (f : ReadFault) (v : Value) (front rest : List ℕ) → is_schema nodes ≡ true
+    → Breaks nodes limits (node_at nodes id) bytes f → Encodes nodes (node_at nodes id) v front → is_within limits v ≡ true → bytes ≡ front ++ rest → ⊥
+no_front_within nodes limits id bytes f v front rest formed b encodes within e =
     let few = HasFewChoices-from_is_schema nodes formed in
-    none_within (Unit {0}) nodes few limits.blob limits.depth (node_at nodes place) (few place) limits.nodes bytes f b (λ _. tt) v front rest encodes.fitting encodes.spelled
+    none_within (Unit {0}) nodes few limits.blob limits.depth (node_at nodes id) (few id) limits.nodes bytes f b (λ _. tt) v front rest encodes.fitting encodes.spelled
     (λ _. within-small limits v within) e

@@ -47,31 +47,31 @@ abbrev pub IsOfFault : ReadError → Type 0
 IsOfFault e = (fault : ReadFault) × (read_fault e ≡ Some fault)
 
 abbrev pub error_at : CursorValue → ReadFault → ReadError
-error_at c f = error_of (behind c.place f)
+error_at c f = error_of (behind c.offset f)
 
 pub of-fault : (c : CursorValue) (f : ReadFault) → IsOfFault (error_at c f)
-of-fault c f = (behind c.place f, error-reports (behind c.place f))
+of-fault c f = (behind c.offset f, error-reports (behind c.offset f))
 
 pub refuses : (B : List ℕ → ReadFault → Type 0) (c : CursorValue) (f : ReadFault) → B c.bytes f → Refuses B c (error_at c f)
-refuses B c f b = (f, b, error-reports (behind c.place f))
+refuses B c f b = (f, b, error-reports (behind c.offset f))
 
 pub reports : (B : List ℕ → ReadFault → Type 0) (c : CursorValue) (f : ReadFault) → B c.bytes f → ReportsFault B c (error_at c f)
 reports B c f b =
-    subst (λ (o : Option ReadFault). IfSome o (λ fault. (g : ReadFault) × B c.bytes g × (fault ≡ behind c.place g))) (sym (error-reports (behind c.place f))) (f, b, refl)
+    subst (λ (o : Option ReadFault). IfSome o (λ fault. (g : ReadFault) × B c.bytes g × (fault ≡ behind c.offset g))) (sym (error-reports (behind c.offset f))) (f, b, refl)
 
 pub reported : (B : List ℕ → ReadFault → Type 0) (c : CursorValue) (e : ReadError) → IsOfFault e → ReportsFault B c e → (f : ReadFault) × B c.bytes f
 reported B c e is r =
-    let fault = subst (λ (o : Option ReadFault). IfSome o (λ fault. (g : ReadFault) × B c.bytes g × (fault ≡ behind c.place g))) is.1 r in
+    let fault = subst (λ (o : Option ReadFault). IfSome o (λ fault. (g : ReadFault) × B c.bytes g × (fault ≡ behind c.offset g))) is.1 r in
     (fault.0, fault.1)
 
 -- ---- Cursors
 
 -- a cursor that passed so many bytes, before these
 abbrev pub moved_to : CursorValue → List ℕ → List ℕ → CursorValue
-moved_to c front rest = record c { bytes = rest; place = c.place + length front }
+moved_to c front rest = record c { bytes = rest; offset = c.offset + length front }
 
 pub passes_to : (c : CursorValue) (front rest : List ℕ) → c.bytes ≡ front ++ rest → Passes c front (moved_to c front rest)
-passes_to c front rest split = record { split = split; place = refl; depth = refl; nodes = refl; blob = refl }
+passes_to c front rest split = record { split = split; offset = refl; depth = refl; nodes = refl; blob = refl }
 
 -- a cursor before bytes, where so much depth is left and limits are in range
 pub record IsReady (depth : ℕ) (c : CursorValue) : Type 0 where
@@ -119,7 +119,7 @@ refused_reads nodes n c refused = record { found = tt; refused = refused.2 }
 
 -- the nodes of the parts are read so
 abbrev pub Children : List Node → ℕ → Type 0
-Children nodes d = (place : ℕ) (c : CursorValue) → IsReady d c → Reads nodes (node_at nodes place) c
+Children nodes d = (id : ℕ) (c : CursorValue) → IsReady d c → Reads nodes (node_at nodes id) c
 
 pub value_moves : (nodes : List Node) (n : Node) (c : CursorValue) (d : ℕ) → IsReady d c → (found : Found nodes n c) → IsReady d found.0
 value_moves nodes n c d ready found =
@@ -176,30 +176,30 @@ module _ (nodes : List Node) (c : CursorValue) (ready : IsReady c.depth c) where
 
 -- ---- Unions and records
 
-pub place-at : (places : List ℕ) (k : ℕ) → k < length places → slice_get places k ≡ Some (get_or places k 0)
-place-at [] k h = absurd (omega arith)
-place-at (p ∷ places) zero h = refl
-place-at (p ∷ places) (suc k) h = place-at places k (omega arith)
+pub id-at : (ids : List ℕ) (k : ℕ) → k < length ids → slice_get ids k ≡ Some (get_or ids k 0)
+id-at [] k h = absurd (omega arith)
+id-at (p ∷ ids) zero h = refl
+id-at (p ∷ ids) (suc k) h = id-at ids k (omega arith)
 
 module _ (nodes : List Node) (c : CursorValue) (ready : IsReady c.depth c) (child : Children nodes c.depth) where
-  branch_reads : (places : List ℕ) (k : ℕ) (front rest : List ℕ) → IsIndex (length places) k front → c.bytes ≡ front ++ rest → Reads nodes (Node.union places) (outside c)
-  branch_reads places k front rest is split =
+  branch_reads : (ids : List ℕ) (k : ℕ) (front rest : List ℕ) → IsIndex (length ids) k front → c.bytes ≡ front ++ rest → Reads nodes (Node.union ids) (outside c)
+  branch_reads ids k front rest is split =
       let mid = moved_to c front rest in
-      let place = get_or places k 0 in
-      let at = place-at places k is.0 in
-      let found : Finds (λ (x : ℕ). x) (IsIndex (length places)) c mid k = (front, is, passes_to c front rest split) in
-      elim (child place mid (ready_passed c.depth c front rest ready split)) [
-        | inl g ↦ found_by nodes (Node.union places) (outside c) (left_node g.0)
-            (union_found nodes places c mid k place at found g.0 tt tt (found_reads nodes (node_at nodes place) mid g) (λ v h. tt))
-        | inr b ↦ refused_by nodes (Node.union places) (outside c) (left_node c) b.0 b.1
-            (branch_refused nodes places c mid k place at found c mid b.0 (refused_reads nodes (node_at nodes place) mid b))
+      let id = get_or ids k 0 in
+      let at = id-at ids k is.0 in
+      let found : Finds (λ (x : ℕ). x) (IsIndex (length ids)) c mid k = (front, is, passes_to c front rest split) in
+      elim (child id mid (ready_passed c.depth c front rest ready split)) [
+        | inl g ↦ found_by nodes (Node.union ids) (outside c) (left_node g.0)
+            (union_found nodes ids c mid k id at found g.0 tt tt (found_reads nodes (node_at nodes id) mid g) (λ v h. tt))
+        | inr b ↦ refused_by nodes (Node.union ids) (outside c) (left_node c) b.0 b.1
+            (branch_refused nodes ids c mid k id at found c mid b.0 (refused_reads nodes (node_at nodes id) mid b))
       ]
 
-  pub union_reads : (places : List ℕ) → Reads nodes (Node.union places) (outside c)
-  union_reads places = elim (index_or_fault (length places) c.bytes ready.are) [
-    | inl g ↦ branch_reads places g.0 g.1 g.2 g.3 g.4
-    | inr f ↦ refused_by nodes (Node.union places) (outside c) (left_node c) (error_at c f.0) (of-fault c f.0)
-        (branch_unread nodes places c c c (error_at c f.0) (refuses (IndexBreaks (length places)) c f.0 f.1))
+  pub union_reads : (ids : List ℕ) → Reads nodes (Node.union ids) (outside c)
+  union_reads ids = elim (index_or_fault (length ids) c.bytes ready.are) [
+    | inl g ↦ branch_reads ids g.0 g.1 g.2 g.3 g.4
+    | inr f ↦ refused_by nodes (Node.union ids) (outside c) (left_node c) (error_at c f.0) (of-fault c f.0)
+        (branch_unread nodes ids c c c (error_at c f.0) (refuses (IndexBreaks (length ids)) c f.0 f.1))
   ]
 
   module _ (name : Name) (aliases : List Name) (fields : List FieldNode) where
@@ -208,11 +208,11 @@ module _ (nodes : List Node) (c : CursorValue) (ready : IsReady c.depth c) (chil
     fields_read done [] are now vs so_far now_ready =
         found_by nodes (Node.record_of name aliases fields) (outside c) (left_node now)
         (record_found nodes name aliases fields c now vs tt (subst (λ (ps : List ℕ). FieldsDone nodes ps c now vs) (sym (are ∙ append-nil done)) so_far) tt)
-    fields_read done (place ∷ rest) are now vs so_far now_ready = elim (child place now now_ready) [
-      | inl g ↦ fields_read (done ++ place ∷ []) rest (are ∙ sym (append_assoc done (place ∷ []) rest)) g.0 (vs ++ g.1 ∷ [])
-          (fields_push nodes done c now vs so_far place g.0 g.1 g.2) (value_moves nodes (node_at nodes place) now c.depth now_ready g)
+    fields_read done (id ∷ rest) are now vs so_far now_ready = elim (child id now now_ready) [
+      | inl g ↦ fields_read (done ++ id ∷ []) rest (are ∙ sym (append_assoc done (id ∷ []) rest)) g.0 (vs ++ g.1 ∷ [])
+          (fields_push nodes done c now vs so_far id g.0 g.1 g.2) (value_moves nodes (node_at nodes id) now c.depth now_ready g)
       | inr b ↦ refused_by nodes (Node.record_of name aliases fields) (outside c) (left_node now) b.0 b.1
-          (record_refused nodes name aliases fields c now b.0 (field_breaks nodes done c now vs so_far (field_places fields) rest place are b.0 b.2))
+          (record_refused nodes name aliases fields c now b.0 (field_breaks nodes done c now vs so_far (field_places fields) rest id are b.0 b.2))
     ]
 
     pub record_reads : Reads nodes (Node.record_of name aliases fields) (outside c)

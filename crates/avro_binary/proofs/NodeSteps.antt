@@ -35,7 +35,7 @@ entered-from : (before mid : CursorValue) → Enters before mid → outside mid 
 entered-from before mid e =
     let deep : suc mid.depth ≡ before.depth = let d = e.depth in omega arith in
     let many : suc mid.nodes ≡ before.nodes = let n = e.nodes in omega arith in
-    λ i. record { bytes = e.bytes i; place = e.place i; depth = deep i; nodes = many i; blob = e.blob i }
+    λ i. record { bytes = e.bytes i; offset = e.offset i; depth = deep i; nodes = many i; blob = e.blob i }
 
 left-from : (inside after : CursorValue) → after ≡ record inside { depth = inside.depth + 1 } → left_node inside ≡ after
 left-from inside after is =
@@ -71,11 +71,11 @@ module _ {R : Type 0} {stands : R → Value → Type 0} (nodes : List Node) (n :
 
 -- the blocks of an array so far
 abbrev pub ArrayDone : List Node → ℕ → CursorValue → CursorValue → List (List ℕ) → List Value → Type 0
-ArrayDone nodes place start now keys xs = BlocksDone (values_kind nodes (limits_at start) (node_at nodes place)) start now keys xs
+ArrayDone nodes id start now keys xs = BlocksDone (values_kind nodes (limits_at start) (node_at nodes id)) start now keys xs
 
 -- the same of a map, with the keys so far
 abbrev pub MapDone : List Node → ℕ → CursorValue → CursorValue → List (List ℕ) → List (List ℕ × Value) → Type 0
-MapDone nodes place start now keys xs = BlocksDone (entries_kind nodes (limits_at start) (node_at nodes place)) start now keys xs
+MapDone nodes id start now keys xs = BlocksDone (entries_kind nodes (limits_at start) (node_at nodes id)) start now keys xs
 
 -- blocks that no more come behind
 ended : (items : List (List ℕ)) (front end : List ℕ) → ((later : List (List ℕ)) (bytes : List ℕ) → IsInBlocks later bytes → IsInBlocks (items ++ later) (front ++ bytes))
@@ -97,33 +97,33 @@ blocks_found {start = start} {now = now} {after = after} nodes n done end v r en
           deep = deep;
           many = many;
           long = long;
-          moves = record { split = moved.split; place = moved.place; depth = ap suc moved.depth; blob = moved.blob };
+          moves = record { split = moved.split; offset = moved.offset; depth = ap suc moved.depth; blob = moved.blob };
         },
         s,
       );
       refused = tt;
     }
 
-module _ {R : Type 0} {stands : R → Value → Type 0} {start now after : CursorValue} {keys : List (List ℕ)} (nodes : List Node) (place : ℕ) where
-  pub array_found : {xs : List Value} → ArrayDone nodes place start now keys xs → EndRead now after → (r : R) → start.nodes < 2 ^ 32 → stands r (Value.array (values_from xs))
-      → ReadsNode stands nodes (Node.array place) (outside start) (left_node after) (Ok r)
+module _ {R : Type 0} {stands : R → Value → Type 0} {start now after : CursorValue} {keys : List (List ℕ)} (nodes : List Node) (id : ℕ) where
+  pub array_found : {xs : List Value} → ArrayDone nodes id start now keys xs → EndRead now after → (r : R) → start.nodes < 2 ^ 32 → stands r (Value.array (values_from xs))
+      → ReadsNode stands nodes (Node.array id) (outside start) (left_node after) (Ok r)
   array_found {xs = xs} done end r small s =
-      let few = (values_kind nodes (limits_at start) (node_at nodes place)).laws.few (left_at start []) (left_at now keys) xs done.items done.stand in
+      let few = (values_kind nodes (limits_at start) (node_at nodes id)).laws.few (left_at start []) (left_at now keys) xs done.items done.stand in
       let counted : is_count (values_count (values_from xs)) ≡ true = ap is_count (values_count-from xs) ∙ is_count-from_below (length xs) (omega arith) in
-      blocks_found nodes (Node.array place) done end (Value.array (values_from xs)) r
+      blocks_found nodes (Node.array id) done end (Value.array (values_from xs)) r
       (record {
         fitting = rw (counted, done.stand.fitting) refl;
         spelled = (done.items, done.stand.spelled, ended done.items done.front end.front done.ends end.spelled);
       })
       (let d = done.stand.deep in omega arith) (let m = done.stand.many in let p = end.passes.nodes in omega arith) done.stand.long s
 
-  pub map_found : {xs : List (List ℕ × Value)} → MapDone nodes place start now keys xs → EndRead now after → (r : R) → start.nodes < 2 ^ 32 → stands r (Value.map_of (entries_from xs))
-      → ReadsNode stands nodes (Node.map_of place) (outside start) (left_node after) (Ok r)
+  pub map_found : {xs : List (List ℕ × Value)} → MapDone nodes id start now keys xs → EndRead now after → (r : R) → start.nodes < 2 ^ 32 → stands r (Value.map_of (entries_from xs))
+      → ReadsNode stands nodes (Node.map_of id) (outside start) (left_node after) (Ok r)
   map_found {xs = xs} done end r small s =
-      let few = (entries_kind nodes (limits_at start) (node_at nodes place)).laws.few (left_at start []) (left_at now keys) xs done.items done.stand in
+      let few = (entries_kind nodes (limits_at start) (node_at nodes id)).laws.few (left_at start []) (left_at now keys) xs done.items done.stand in
       let counted : is_count (entries_count (entries_from xs)) ≡ true = ap is_count (entries_count-from xs) ∙ is_count-from_below (length xs) (omega arith) in
       let distinct : are_distinct bytes_eq (keys_of (entries_from xs)) ≡ true = ap (are_distinct bytes_eq) (sym done.stand.keys) ∙ done.stand.distinct in
-      blocks_found nodes (Node.map_of place) done end (Value.map_of (entries_from xs)) r
+      blocks_found nodes (Node.map_of id) done end (Value.map_of (entries_from xs)) r
       (record {
         fitting = rw (counted, done.stand.texts, distinct, done.stand.fitting) refl;
         spelled = (done.items, done.stand.spelled, ended done.items done.front end.front done.ends end.spelled);
@@ -132,29 +132,29 @@ module _ {R : Type 0} {stands : R → Value → Type 0} {start now after : Curso
 
 -- ---- Unions
 
--- a place in a list
-pub record IsAt (places : List ℕ) (k place : ℕ) : Type 0 where
+-- where an id stands in a list
+pub record IsAt (ids : List ℕ) (k id : ℕ) : Type 0 where
   pub before : List ℕ
   pub after : List ℕ
-  pub places_are : places ≡ before ++ place ∷ after
+  pub ids_are : ids ≡ before ++ id ∷ after
   pub length_is : length before ≡ k
 
-pub is_at : (places : List ℕ) (k place : ℕ) → slice_get places k ≡ Some place → IsAt places k place
-is_at [] k place h = absurd cc
-is_at (p ∷ places) zero place h = record { before = []; after = places; places_are = let same : p ≡ place = cc in ap (λ (q : ℕ). q ∷ places) same; length_is = refl }
-is_at (p ∷ places) (suc k) place h =
-    let rest = is_at places k place h in
-    record { before = p ∷ rest.before; after = rest.after; places_are = ap (λ (ps : List ℕ). p ∷ ps) rest.places_are; length_is = ap suc rest.length_is }
+pub is_at : (ids : List ℕ) (k id : ℕ) → slice_get ids k ≡ Some id → IsAt ids k id
+is_at [] k id h = absurd cc
+is_at (p ∷ ids) zero id h = record { before = []; after = ids; ids_are = let same : p ≡ id = cc in ap (λ (q : ℕ). q ∷ ids) same; length_is = refl }
+is_at (p ∷ ids) (suc k) id h =
+    let rest = is_at ids k id h in
+    record { before = p ∷ rest.before; after = rest.after; ids_are = ap (λ (ps : List ℕ). p ∷ ps) rest.ids_are; length_is = ap suc rest.length_is }
 
-module _ {R : Type 0} {stands : R → Value → Type 0} (nodes : List Node) (places : List ℕ) (start mid : CursorValue) where
-  -- no place of a branch
-  pub branch_unread : (after : CursorValue) (e : ReadError) → Refuses (IndexBreaks (length places)) start e
-      → ReadsNode stands nodes (Node.union places) (outside start) (left_node after) (Err e)
+module _ {R : Type 0} {stands : R → Value → Type 0} (nodes : List Node) (ids : List ℕ) (start mid : CursorValue) where
+  -- no index of a branch
+  pub branch_unread : (after : CursorValue) (e : ReadError) → Refuses (IndexBreaks (length ids)) start e
+      → ReadsNode stands nodes (Node.union ids) (outside start) (left_node after) (Err e)
   branch_unread after e refused = record { found = tt; refused = rw (refused.2) (refused.0, inl refused.1, refl) }
 
-  module _ (k place : ℕ) (at : slice_get places k ≡ Some place) (found : Finds (λ (x : ℕ). x) (IsIndex (length places)) start mid k) where
-    pub union_found : {S : Type 0} {gives : S → Value → Type 0} (after : CursorValue) (s : S) (r : R) → ReadsNode gives nodes (node_at nodes place) mid after (Ok s)
-        → ((v : Value) → gives s v → stands r (Value.union k v)) → ReadsNode stands nodes (Node.union places) (outside start) (left_node after) (Ok r)
+  module _ (k id : ℕ) (at : slice_get ids k ≡ Some id) (found : Finds (λ (x : ℕ). x) (IsIndex (length ids)) start mid k) where
+    pub union_found : {S : Type 0} {gives : S → Value → Type 0} (after : CursorValue) (s : S) (r : R) → ReadsNode gives nodes (node_at nodes id) mid after (Ok s)
+        → ((v : Value) → gives s v → stands r (Value.union k v)) → ReadsNode stands nodes (Node.union ids) (outside start) (left_node after) (Ok r)
     union_found after s r reads step =
         let v = reads.found.0 in
         let value = reads.found.1 in
@@ -172,7 +172,7 @@ module _ {R : Type 0} {stands : R → Value → Type 0} (nodes : List Node) (pla
               deep = let d = value.deep in let p = passes.depth in omega arith;
               many = let m = value.many in let p = passes.nodes in omega arith;
               long = let l = value.long in let p = passes.blob in omega arith;
-              moves = record { split = moved.split; place = moved.place; depth = ap suc moved.depth; blob = moved.blob };
+              moves = record { split = moved.split; offset = moved.offset; depth = ap suc moved.depth; blob = moved.blob };
             },
             step v reads.found.2,
           );
@@ -180,28 +180,28 @@ module _ {R : Type 0} {stands : R → Value → Type 0} (nodes : List Node) (pla
         }
 
     -- the branch breaks
-    pub branch_refused : {S : Type 0} {gives : S → Value → Type 0} (after elsewhere : CursorValue) (e : ReadError) → ReadsNode gives nodes (node_at nodes place) mid elsewhere (Err e)
-        → ReadsNode stands nodes (Node.union places) (outside start) (left_node after) (Err e)
+    pub branch_refused : {S : Type 0} {gives : S → Value → Type 0} (after elsewhere : CursorValue) (e : ReadError) → ReadsNode gives nodes (node_at nodes id) mid elsewhere (Err e)
+        → ReadsNode stands nodes (Node.union ids) (outside start) (left_node after) (Err e)
     branch_refused after elsewhere e reads =
-        let where_is = is_at places k place at in
+        let where_is = is_at ids k id at in
         let passes = found.2 in
         record {
           found = tt;
-          refused = report_moved start mid found.0 e (BreaksWithin nodes mid.depth mid.nodes mid.blob (node_at nodes place))
-              (NodeBreaks nodes (limits_at start) (child_breaks nodes (limits_at start)) (Node.union places)) (moves-passed start mid found.0 passes)
+          refused = report_moved start mid found.0 e (BreaksWithin nodes mid.depth mid.nodes mid.blob (node_at nodes id))
+              (NodeBreaks nodes (limits_at start) (child_breaks nodes (limits_at start)) (Node.union ids)) (moves-passed start mid found.0 passes)
               (λ f h. inr (record {
                 before = where_is.before;
-                branch = place;
+                branch = id;
                 after = where_is.after;
-                places_are = where_is.places_are;
+                ids_are = where_is.ids_are;
                 number = found.0;
                 spelled = subst (λ (q : ℕ). SpellsInt (pos q) found.0) (sym where_is.length_is) found.1.1.1;
                 breaks = record {
                   rest = mid.bytes;
                   fault = f;
                   split = passes.split;
-                  breaks = subst (λ (left : ℕ). BreaksWithin nodes start.depth left start.blob (node_at nodes place) mid.bytes f) passes.nodes
-                      (breaks_within-same nodes mid.depth start.depth mid.nodes mid.blob start.blob (node_at nodes place) mid.bytes f passes.depth passes.blob h);
+                  breaks = subst (λ (left : ℕ). BreaksWithin nodes start.depth left start.blob (node_at nodes id) mid.bytes f) passes.nodes
+                      (breaks_within-same nodes mid.depth start.depth mid.nodes mid.blob start.blob (node_at nodes id) mid.bytes f passes.depth passes.blob h);
                   moved = refl;
                 };
               })) reads.refused;
@@ -209,49 +209,49 @@ module _ {R : Type 0} {stands : R → Value → Type 0} (nodes : List Node) (pla
 
 -- ---- Records
 
--- the place of a field, among those of all
-pub places_split : (fields : List Field) (i : ℕ) (d : Field) → i < length fields
+-- the id of a field, among those of all
+pub ids_split : (fields : List Field) (i : ℕ) (d : Field) → i < length fields
     → field_places (seen_fields fields) ≡ take i (field_places (seen_fields fields)) ++ (get_or fields i d).node.0 ∷ drop (suc i) (field_places (seen_fields fields))
-places_split [] i d h = absurd (omega arith)
-places_split (f ∷ fields) zero d h = refl
-places_split (f ∷ fields) (suc i) d h = ap (λ (ps : List ℕ). f.node.0 ∷ ps) (places_split fields i d (omega arith))
+ids_split [] i d h = absurd (omega arith)
+ids_split (f ∷ fields) zero d h = refl
+ids_split (f ∷ fields) (suc i) d h = ap (λ (ps : List ℕ). f.node.0 ∷ ps) (ids_split fields i d (omega arith))
 
-pub places_next : (fields : List Field) (i : ℕ) (d : Field) → i < length fields
+pub ids_next : (fields : List Field) (i : ℕ) (d : Field) → i < length fields
     → take (suc i) (field_places (seen_fields fields)) ≡ take i (field_places (seen_fields fields)) ++ (get_or fields i d).node.0 ∷ []
-places_next [] i d h = absurd (omega arith)
-places_next (f ∷ fields) zero d h = refl
-places_next (f ∷ fields) (suc i) d h = ap (λ (ps : List ℕ). f.node.0 ∷ ps) (places_next fields i d (omega arith))
+ids_next [] i d h = absurd (omega arith)
+ids_next (f ∷ fields) zero d h = refl
+ids_next (f ∷ fields) (suc i) d h = ap (λ (ps : List ℕ). f.node.0 ∷ ps) (ids_next fields i d (omega arith))
 
-pub places_all : (fields : List Field) (i : ℕ) → length fields ≤ i → take i (field_places (seen_fields fields)) ≡ field_places (seen_fields fields)
-places_all [] zero h = refl
-places_all [] (suc i) h = refl
-places_all (f ∷ fields) zero h = absurd (omega arith)
-places_all (f ∷ fields) (suc i) h = ap (λ (ps : List ℕ). f.node.0 ∷ ps) (places_all fields i (omega arith))
+pub ids_all : (fields : List Field) (i : ℕ) → length fields ≤ i → take i (field_places (seen_fields fields)) ≡ field_places (seen_fields fields)
+ids_all [] zero h = refl
+ids_all [] (suc i) h = refl
+ids_all (f ∷ fields) zero h = absurd (omega arith)
+ids_all (f ∷ fields) (suc i) h = ap (λ (ps : List ℕ). f.node.0 ∷ ps) (ids_all fields i (omega arith))
 
--- the place of a branch
+-- the id of a branch
 pub branch_at : (branches : List NodeId) (k : ℕ) (d : NodeId) → k < length branches → slice_get (places_of branches) k ≡ Some (get_or branches k d).0
 branch_at [] k d h = absurd (omega arith)
 branch_at (b ∷ branches) zero d h = refl
 branch_at (b ∷ branches) (suc k) d h = branch_at branches k d (omega arith)
 
-pub places-length : (branches : List NodeId) → length (places_of branches) ≡ length branches
-places-length [] = refl
-places-length (b ∷ branches) = ap suc (places-length branches)
+pub ids-length : (branches : List NodeId) → length (places_of branches) ≡ length branches
+ids-length [] = refl
+ids-length (b ∷ branches) = ap suc (ids-length branches)
 
 pub texts-length : (texts : List (String Global)) → length (texts_of texts) ≡ length texts
 texts-length [] = refl
 texts-length (t ∷ texts) = ap suc (texts-length texts)
 
--- a place past the nodes is that of null
+-- an id past the nodes is that of null
 pub null_past : (nodes : List Node) (k : ℕ) → length nodes ≤ k → node_at nodes k ≡ Node.null
 null_past [] k h = refl
 null_past (n ∷ nodes) zero h = absurd (omega arith)
 null_past (n ∷ nodes) (suc k) h = null_past nodes k (omega arith)
 
--- values of the fields at some places were read, one behind another
-pub record FieldsDone (nodes : List Node) (places : List ℕ) (start now : CursorValue) (vs : List Value) : Type 0 where
+-- values of the fields of some ids were read, one behind another
+pub record FieldsDone (nodes : List Node) (ids : List ℕ) (start now : CursorValue) (vs : List Value) : Type 0 where
   pub items : List (List ℕ)
-  pub fitting : fields_fit nodes places (values_from vs) ≡ true
+  pub fitting : fields_fit nodes ids (values_from vs) ≡ true
   pub spelled : EachSpelled (values_from vs) items
   pub deep : values_depth (values_from vs) ≤ start.depth
   pub many : start.nodes ≡ now.nodes + values_size (values_from vs)
@@ -269,15 +269,15 @@ fields_none nodes at = record {
   moves = moves-none at;
 }
 
-module _ (nodes : List Node) (places : List ℕ) (start now : CursorValue) (vs : List Value) (done : FieldsDone nodes places start now vs) where
+module _ (nodes : List Node) (ids : List ℕ) (start now : CursorValue) (vs : List Value) (done : FieldsDone nodes ids start now vs) where
   -- one more value
-  pub fields_push : (place : ℕ) (after : CursorValue) (v : Value) → FindsValue nodes (node_at nodes place) now after v
-      → FieldsDone nodes (places ++ place ∷ []) start after (vs ++ v ∷ [])
-  fields_push place after v value =
+  pub fields_push : (id : ℕ) (after : CursorValue) (v : Value) → FindsValue nodes (node_at nodes id) now after v
+      → FieldsDone nodes (ids ++ id ∷ []) start after (vs ++ v ∷ [])
+  fields_push id after v value =
       let d = done.moves.depth in
       let b = done.moves.blob in record {
         items = done.items ++ value.front ∷ [];
-        fitting = fields_fit-push nodes places vs place v done.fitting value.encoded.fitting;
+        fitting = fields_fit-push nodes ids vs id v done.fitting value.encoded.fitting;
         spelled = EachSpelled-append vs (v ∷ []) done.items (value.front ∷ []) done.spelled (value.front, [], value.encoded.spelled, refl, refl);
         deep = values_depth-append vs (v ∷ []) start.depth done.deep (let h = value.deep in omega arith);
         many = let m = done.many in let k = value.many in omega (arith, values_size-append vs (v ∷ []));
@@ -288,18 +288,18 @@ module _ (nodes : List Node) (places : List ℕ) (start now : CursorValue) (vs :
       }
 
   -- a field breaks
-  pub field_breaks : (all after_places : List ℕ) (place : ℕ) → all ≡ places ++ place ∷ after_places → (e : ReadError)
-      → ReportsFault (BreaksWithin nodes now.depth now.nodes now.blob (node_at nodes place)) now e
+  pub field_breaks : (all after_ids : List ℕ) (id : ℕ) → all ≡ ids ++ id ∷ after_ids → (e : ReadError)
+      → ReportsFault (BreaksWithin nodes now.depth now.nodes now.blob (node_at nodes id)) now e
       → ReportsFault (FieldsBreak nodes (limits_at start) (child_breaks nodes (limits_at start)) all) start e
-  field_breaks all after_places place are e reported =
+  field_breaks all after_ids id are e reported =
       let fewer : now.nodes ≡ start.nodes - values_size (values_from vs) = let m = done.many in omega arith in
-      report_moved start now (concat done.items) e (BreaksWithin nodes now.depth now.nodes now.blob (node_at nodes place))
+      report_moved start now (concat done.items) e (BreaksWithin nodes now.depth now.nodes now.blob (node_at nodes id))
       (FieldsBreak nodes (limits_at start) (child_breaks nodes (limits_at start)) all) done.moves
       (λ f h. record {
-        before = places;
-        field = place;
-        after = after_places;
-        places_are = are;
+        before = ids;
+        field = id;
+        after = after_ids;
+        ids_are = are;
         values = values_from vs;
         items = done.items;
         fitting = done.fitting;
@@ -311,8 +311,8 @@ module _ (nodes : List Node) (places : List ℕ) (start now : CursorValue) (vs :
           rest = now.bytes;
           fault = f;
           split = done.moves.split;
-          breaks = subst (λ (left : ℕ). BreaksWithin nodes start.depth left start.blob (node_at nodes place) now.bytes f) fewer
-              (breaks_within-same nodes now.depth start.depth now.nodes now.blob start.blob (node_at nodes place) now.bytes f done.moves.depth done.moves.blob h);
+          breaks = subst (λ (left : ℕ). BreaksWithin nodes start.depth left start.blob (node_at nodes id) now.bytes f) fewer
+              (breaks_within-same nodes now.depth start.depth now.nodes now.blob start.blob (node_at nodes id) now.bytes f done.moves.depth done.moves.blob h);
           moved = refl;
         };
       }) reported
@@ -329,7 +329,7 @@ module _ {R : Type 0} {stands : R → Value → Type 0} (nodes : List Node) (nam
         deep = let d = done.deep in omega arith;
         many = let m = done.many in omega arith;
         long = done.long;
-        moves = record { split = done.moves.split; place = done.moves.place; depth = ap suc done.moves.depth; blob = done.moves.blob };
+        moves = record { split = done.moves.split; offset = done.moves.offset; depth = ap suc done.moves.depth; blob = done.moves.blob };
       },
       s,
     );

@@ -38,22 +38,22 @@ begins (p ∷ a) (q ∷ b) x y r s e l =
 
 -- ---- Unions
 
-branch_below : (before : List ℕ) (branch : ℕ) (after places : List ℕ) → places ≡ before ++ branch ∷ after → length before < length places
-branch_below before branch after places e = omega (arith, ap length e, length-append before (branch ∷ after))
+branch_below : (before : List ℕ) (branch : ℕ) (after ids : List ℕ) → ids ≡ before ++ branch ∷ after → length before < length ids
+branch_below before branch after ids e = omega (arith, ap length e, length-append before (branch ∷ after))
 
-union_one : (nodes : List Node) (left : LimitValues) (child : ChildBreaks) (places bytes : List ℕ) (f g : ReadFault) → ((p : ℕ) → OneAt (λ c. child c (node_at nodes p)))
-    → length places ≤ 2 ^ 31 → IndexBreaks (length places) bytes f ⊎ BranchBreaks nodes left child places bytes f
-    → IndexBreaks (length places) bytes g ⊎ BranchBreaks nodes left child places bytes g → f ≡ g
-union_one nodes left child places bytes f g one few (inl b) (inl c) = (index_part (length places)).one_fault bytes f g b c
-union_one nodes left child places bytes f g one few (inl b) (inr c) =
-    absurd (index_none (length places) bytes f (length c.before) c.number c.breaks.rest b (branch_below c.before c.branch c.after places c.places_are) few c.spelled c.breaks.split)
-union_one nodes left child places bytes f g one few (inr b) (inl c) =
-    absurd (index_none (length places) bytes g (length b.before) b.number b.breaks.rest c (branch_below b.before b.branch b.after places b.places_are) few b.spelled b.breaks.split)
-union_one nodes left child places bytes f g one few (inr b) (inr c) =
+union_one : (nodes : List Node) (left : LimitValues) (child : ChildBreaks) (ids bytes : List ℕ) (f g : ReadFault) → ((p : ℕ) → OneAt (λ c. child c (node_at nodes p)))
+    → length ids ≤ 2 ^ 31 → IndexBreaks (length ids) bytes f ⊎ BranchBreaks nodes left child ids bytes f
+    → IndexBreaks (length ids) bytes g ⊎ BranchBreaks nodes left child ids bytes g → f ≡ g
+union_one nodes left child ids bytes f g one few (inl b) (inl c) = (index_part (length ids)).one_fault bytes f g b c
+union_one nodes left child ids bytes f g one few (inl b) (inr c) =
+    absurd (index_none (length ids) bytes f (length c.before) c.number c.breaks.rest b (branch_below c.before c.branch c.after ids c.ids_are) few c.spelled c.breaks.split)
+union_one nodes left child ids bytes f g one few (inr b) (inl c) =
+    absurd (index_none (length ids) bytes g (length b.before) b.number b.breaks.rest c (branch_below b.before b.branch b.after ids b.ids_are) few b.spelled b.breaks.split)
+union_one nodes left child ids bytes f g one few (inr b) (inr c) =
     let joined = sym b.breaks.split ∙ c.breaks.split in
     let number = one_spelling_lem (pos (length b.before)) (pos (length c.before)) b.number c.number b.breaks.rest c.breaks.rest b.spelled c.spelled joined in
     let rests = same_behind b.number c.number b.breaks.rest c.breaks.rest number.0 joined in
-    let branch = (same_middle b.before c.before b.after c.after b.branch c.branch (sym b.places_are ∙ c.places_are) (same_from_pos (length b.before) (length c.before) number.1)).1 in
+    let branch = (same_middle b.before c.before b.after c.after b.branch c.branch (sym b.ids_are ∙ c.ids_are) (same_from_pos (length b.before) (length c.before) number.1)).1 in
     let there =
     subst (λ (p : ℕ). child left.nodes (node_at nodes p) c.breaks.rest b.breaks.fault) branch
     (subst (λ (r : List ℕ). child left.nodes (node_at nodes b.branch) r b.breaks.fault) rests b.breaks.breaks) in
@@ -62,22 +62,22 @@ union_one nodes left child places bytes f g one few (inr b) (inr c) =
 
 -- ---- Records
 
-module _ (nodes : List Node) (left : LimitValues) (child : ChildBreaks) (none : (p : ℕ) → NoneAt (Unit {0}) nodes (node_at nodes p) left.depth left.blob (λ c. child c (node_at nodes p))) (one : (p : ℕ) → OneAt (λ c. child c (node_at nodes p))) (places bytes : List ℕ) where
+module _ (nodes : List Node) (left : LimitValues) (child : ChildBreaks) (none : (p : ℕ) → NoneAt (Unit {0}) nodes (node_at nodes p) left.depth left.blob (λ c. child c (node_at nodes p))) (one : (p : ℕ) → OneAt (λ c. child c (node_at nodes p))) (ids bytes : List ℕ) where
   -- no field breaks before another that breaks
-  earlier_none : (f g : ReadFault) (b : FieldsBreak nodes left child places bytes f) (c : FieldsBreak nodes left child places bytes g) → length b.before < length c.before → ⊥
+  earlier_none : (f g : ReadFault) (b : FieldsBreak nodes left child ids bytes f) (c : FieldsBreak nodes left child ids bytes g) → length b.before < length c.before → ⊥
   earlier_none f g b c below =
-      let between = begins b.before c.before b.field c.field b.after c.after (sym b.places_are ∙ c.places_are) below in
+      let between = begins b.before c.before b.field c.field b.after c.after (sym b.ids_are ∙ c.ids_are) below in
       fields_none (Unit {0}) nodes left.depth left.blob child b.before b.field between.0 b.values c.values b.items c.items left.nodes b.breaks.rest c.breaks.rest b.breaks.fault none
       b.fitting b.spelled (subst (λ (ps : List ℕ). fields_fit nodes ps c.values ≡ true) between.1 c.fitting) c.spelled (λ _. (c.deep, c.many, c.long)) b.breaks.breaks (λ _. tt)
       (sym b.breaks.split ∙ c.breaks.split)
 
-  record_one : (f g : ReadFault) (b : FieldsBreak nodes left child places bytes f) (c : FieldsBreak nodes left child places bytes g)
+  record_one : (f g : ReadFault) (b : FieldsBreak nodes left child ids bytes f) (c : FieldsBreak nodes left child ids bytes g)
       → (length b.before < length c.before) ⊎ (length c.before < length b.before) ⊎ (length b.before ≡ length c.before) → f ≡ g
   record_one f g b c (inl below) = absurd (earlier_none f g b c below)
   record_one f g b c (inr (inl above)) = absurd (earlier_none g f c b above)
   record_one f g b c (inr (inr equal)) =
       let joined = sym b.breaks.split ∙ c.breaks.split in
-      let middle = same_middle b.before c.before b.after c.after b.field c.field (sym b.places_are ∙ c.places_are) equal in
+      let middle = same_middle b.before c.before b.after c.after b.field c.field (sym b.ids_are ∙ c.ids_are) equal in
       let fitting = subst (λ (ps : List ℕ). fields_fit nodes ps b.values ≡ true) middle.0 b.fitting in
       let same = fields_same nodes c.before b.values c.values b.items c.items b.breaks.rest c.breaks.rest (fields_told nodes c.before b.values fitting) fitting c.fitting b.spelled c.spelled joined in
       let rests = same_behind (concat b.items) (concat c.items) b.breaks.rest c.breaks.rest same.0 joined in
@@ -99,13 +99,13 @@ node_one nodes left child Node.int bytes f g none one few b c = int_part.one_fau
 node_one nodes left child Node.long bytes f g none one few b c = long_part.one_fault bytes f g b c
 node_one nodes left child Node.bytes bytes f g none one few b c = (content_part (λ content. true) left.blob).one_fault bytes f g b c
 node_one nodes left child Node.string bytes f g none one few b c = (content_part is_utf8 left.blob).one_fault bytes f g b c
-node_one nodes left child (Node.array place) bytes f g none one few b c =
-    let n = node_at nodes place in
-    blocks_one (ItemsAreWhole nodes left n) (λ state. child state.nodes n) (values_one nodes n left (λ q. child q n) (none place) (one place)) b g c
-node_one nodes left child (Node.map_of place) bytes f g none one few b c =
-    let n = node_at nodes place in
-    blocks_one (EntriesAreWhole nodes left n) (EntryBreaks left child n) (entries_one nodes n left child (none place) (one place)) b g c
-node_one nodes left child (Node.union places) bytes f g none one few b c = union_one nodes left child places bytes f g one few b c
+node_one nodes left child (Node.array id) bytes f g none one few b c =
+    let n = node_at nodes id in
+    blocks_one (ItemsAreWhole nodes left n) (λ state. child state.nodes n) (values_one nodes n left (λ q. child q n) (none id) (one id)) b g c
+node_one nodes left child (Node.map_of id) bytes f g none one few b c =
+    let n = node_at nodes id in
+    blocks_one (EntriesAreWhole nodes left n) (EntryBreaks left child n) (entries_one nodes n left child (none id) (one id)) b g c
+node_one nodes left child (Node.union ids) bytes f g none one few b c = union_one nodes left child ids bytes f g one few b c
 node_one nodes left child (Node.record_of name aliases fields) bytes f g none one few b c =
     record_one nodes left child none one (field_places fields) bytes f g b c (compared (length b.before) (length c.before))
 node_one nodes left child (Node.enum name aliases symbols default) bytes f g none one few b c = (index_part (length symbols)).one_fault bytes f g b c
@@ -122,7 +122,7 @@ one_within nodes few blob (suc depth) n h (suc c) bytes f g x y =
     (λ p. one_within nodes few blob depth (node_at nodes p) (few p)) h x y
 
 -- so of a node of a schema
-pub one_fault_lem : (nodes : List Node) (limits : LimitValues) (place : ℕ) (bytes : List ℕ) (f g : ReadFault) → is_schema nodes ≡ true → Breaks nodes limits (node_at nodes place) bytes f
-    → Breaks nodes limits (node_at nodes place) bytes g → f ≡ g
-one_fault_lem nodes limits place bytes f g formed b c =
-    let few = HasFewChoices-from_is_schema nodes formed in one_within nodes few limits.blob limits.depth (node_at nodes place) (few place) limits.nodes bytes f g b c
+pub one_fault_lem : (nodes : List Node) (limits : LimitValues) (id : ℕ) (bytes : List ℕ) (f g : ReadFault) → is_schema nodes ≡ true → Breaks nodes limits (node_at nodes id) bytes f
+    → Breaks nodes limits (node_at nodes id) bytes g → f ≡ g
+one_fault_lem nodes limits id bytes f g formed b c =
+    let few = HasFewChoices-from_is_schema nodes formed in one_within nodes few limits.blob limits.depth (node_at nodes id) (few id) limits.nodes bytes f g b c

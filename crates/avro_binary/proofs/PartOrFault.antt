@@ -1,4 +1,4 @@
--- Bytes begin with a part of an encoding, or have the fault of one: numbers, contents, places, keys and heads of blocks.
+-- Bytes begin with a part of an encoding, or have the fault of one: numbers, contents, indices, keys and heads of blocks.
 use Rattle.std.proofs.Common.{◌≡◌, ◌⊎◌, inl, inr, ℕ, zero, suc, ◌-◌, ◌^◌, ◌<◌, ◌≤◌, ℤ, pos, negsuc, nat_abs, Bool, true, false, ◌&&◌, nat_lt, List, [], ◌∷◌, ◌++◌, length, take, drop, get_or, Some, None, refl, sym, ap, ◌∙◌, subst, arith, append_assoc, length-take-le, bytes_eq}
 use Rattle.std.specs.List.{list_any, list_all}
 use Rattle.std.specs.Str.{is_utf8}
@@ -127,7 +127,7 @@ module _ (is_content : List ℕ → Bool) (blob : ℕ) (bytes : List ℕ) where
     | inr f ↦ inr (number_fault f.0, length_breaks (f.0, f.1, refl))
   ]
 
--- ---- The place of a branch or a symbol
+-- ---- The index of a branch or a symbol
 
 among : (choices : ℕ) (bytes : List ℕ) (v : ℤ) (number rest : List ℕ) → is_int v ≡ true → SpellsInt v number → bytes ≡ number ++ rest → PartOrFault (IsIndex choices) (IndexBreaks choices) bytes
 among choices bytes (negsuc n) number rest r s e = inr (unknown_index 0, unknown (negsuc n) number rest s r e refl)

@@ -68,10 +68,10 @@ IsInBlocks-plain_blocks (item ∷ items) (suc count) bytes counts joins h =
     (no_more (SpellsLong-number_bytes (pos 0) refl))
 
 -- the plain encoding of a datum that fits spells it, at a node of few choices
-module _ (nodes : List Node) (few : (place : ℕ) → HasFewChoices (node_at nodes place)) where
-  branch-int : (n : Node) (places : List ℕ) (k place : ℕ) → HasFewChoices n → n ≡ Node.union places → slice_get places k ≡ Some place → is_int (pos k) ≡ true
-  branch-int n places k place few is at =
-      pos-int k (length places) (slice_get_within places k place at) (subst HasFewChoices is few)
+module _ (nodes : List Node) (few : (id : ℕ) → HasFewChoices (node_at nodes id)) where
+  branch-int : (n : Node) (ids : List ℕ) (k id : ℕ) → HasFewChoices n → n ≡ Node.union ids → slice_get ids k ≡ Some id → is_int (pos k) ≡ true
+  branch-int n ids k id few is at =
+      pos-int k (length ids) (slice_get_within ids k id at) (subst HasFewChoices is few)
 
   symbol-int : (n : Node) (k : ℕ) → HasFewChoices n → is_some_and (λ symbols. nat_lt k (length symbols)) (symbols_of n) ≡ true → is_int (pos k) ≡ true
   symbol-int (Node.enum name aliases symbols default) k few h = pos-int k (length symbols) (below-from_test k (length symbols) h) few
@@ -81,68 +81,68 @@ module _ (nodes : List Node) (few : (place : ℕ) → HasFewChoices (node_at nod
   symbol-int Node.long k few h = absurd (false≢true h)
   symbol-int Node.bytes k few h = absurd (false≢true h)
   symbol-int Node.string k few h = absurd (false≢true h)
-  symbol-int (Node.array place) k few h = absurd (false≢true h)
-  symbol-int (Node.map_of place) k few h = absurd (false≢true h)
-  symbol-int (Node.union places) k few h = absurd (false≢true h)
+  symbol-int (Node.array id) k few h = absurd (false≢true h)
+  symbol-int (Node.map_of id) k few h = absurd (false≢true h)
+  symbol-int (Node.union ids) k few h = absurd (false≢true h)
   symbol-int (Node.record_of name aliases fields) k few h = absurd (false≢true h)
   symbol-int (Node.fixed name aliases count) k few h = absurd (false≢true h)
 
   mutual
-    pub Spells-plain : (place : ℕ) (v : Value) → fits nodes (node_at nodes place) v ≡ true → Spells v (plain v)
-    Spells-plain place Value.null h = refl
-    Spells-plain place (Value.boolean b) h = refl
-    Spells-plain place (Value.int i) h = SpellsInt-number_bytes i (and_parts (is_int_node (node_at nodes place)) (is_int i) h).1
-    Spells-plain place (Value.long i) h = SpellsLong-number_bytes i (and_parts (is_long_node (node_at nodes place)) (is_long i) h).1
-    Spells-plain place (Value.bytes b) h =
-        SpellsBytes-plain_bytes b (and_parts (is_count (length b)) _ (and_parts (is_bytes_node (node_at nodes place)) (are_bytes b) h).1).0
-    Spells-plain place (Value.string t) h =
-        SpellsBytes-plain_bytes t (and_parts (is_count (length t)) _ (and_parts (is_string_node (node_at nodes place)) (is_text t) h).1).0
-    Spells-plain place (Value.array vs) h =
-        let parts = ArrayFits-from_fits nodes (node_at nodes place) vs h in (
+    pub Spells-plain : (id : ℕ) (v : Value) → fits nodes (node_at nodes id) v ≡ true → Spells v (plain v)
+    Spells-plain id Value.null h = refl
+    Spells-plain id (Value.boolean b) h = refl
+    Spells-plain id (Value.int i) h = SpellsInt-number_bytes i (and_parts (is_int_node (node_at nodes id)) (is_int i) h).1
+    Spells-plain id (Value.long i) h = SpellsLong-number_bytes i (and_parts (is_long_node (node_at nodes id)) (is_long i) h).1
+    Spells-plain id (Value.bytes b) h =
+        SpellsBytes-plain_bytes b (and_parts (is_count (length b)) _ (and_parts (is_bytes_node (node_at nodes id)) (are_bytes b) h).1).0
+    Spells-plain id (Value.string t) h =
+        SpellsBytes-plain_bytes t (and_parts (is_count (length t)) _ (and_parts (is_string_node (node_at nodes id)) (is_text t) h).1).0
+    Spells-plain id (Value.array vs) h =
+        let parts = ArrayFits-from_fits nodes (node_at nodes id) vs h in (
           plain_items vs,
           EachSpelled-plain parts.place vs parts.fitting,
           IsInBlocks-plain_blocks (plain_items vs) (values_count vs) (plain_values vs) (length-plain_items vs) (concat-plain_items vs) parts.counted,
         )
-    Spells-plain place (Value.map_of es) h =
-        let parts = MapFits-from_fits nodes (node_at nodes place) es h in (
+    Spells-plain id (Value.map_of es) h =
+        let parts = MapFits-from_fits nodes (node_at nodes id) es h in (
           plain_entry_items es,
           EntriesSpelled-plain parts.place es parts.texts parts.fitting,
           IsInBlocks-plain_blocks (plain_entry_items es) (entries_count es) (plain_entries es) (length-plain_entry_items es) (concat-plain_entry_items es) parts.counted,
         )
-    Spells-plain place (Value.union k v) h =
-        let parts = UnionFits-from_fits nodes (node_at nodes place) k v h in
-        let number = SpellsInt-number_bytes (pos k) (branch-int (node_at nodes place) parts.places k parts.place (few place) parts.is_union parts.is_branch) in
+    Spells-plain id (Value.union k v) h =
+        let parts = UnionFits-from_fits nodes (node_at nodes id) k v h in
+        let number = SpellsInt-number_bytes (pos k) (branch-int (node_at nodes id) parts.places k parts.place (few id) parts.is_union parts.is_branch) in
         (number_bytes (pos k), plain v, number, Spells-plain parts.place v parts.fitting, refl)
-    Spells-plain place (Value.record_of vs) h =
-        let parts = RecordFits-from_fits nodes (node_at nodes place) vs h in
+    Spells-plain id (Value.record_of vs) h =
+        let parts = RecordFits-from_fits nodes (node_at nodes id) vs h in
         (plain_items vs, FieldsSpelled-plain (field_places parts.fields) vs parts.fitting, sym (concat-plain_items vs))
-    Spells-plain place (Value.enum k) h = SpellsInt-number_bytes (pos k) (symbol-int (node_at nodes place) k (few place) h)
-    Spells-plain place (Value.fixed b) h = refl
+    Spells-plain id (Value.enum k) h = SpellsInt-number_bytes (pos k) (symbol-int (node_at nodes id) k (few id) h)
+    Spells-plain id (Value.fixed b) h = refl
 
-    EachSpelled-plain : (place : ℕ) (vs : Values) → each_fits nodes (node_at nodes place) vs ≡ true → EachSpelled vs (plain_items vs)
-    EachSpelled-plain place no_values h = refl
-    EachSpelled-plain place (value v vs) h =
-        let parts = and_parts (fits nodes (node_at nodes place) v) (each_fits nodes (node_at nodes place) vs) h in
-        (plain v, plain_items vs, Spells-plain place v parts.0, EachSpelled-plain place vs parts.1, refl)
+    EachSpelled-plain : (id : ℕ) (vs : Values) → each_fits nodes (node_at nodes id) vs ≡ true → EachSpelled vs (plain_items vs)
+    EachSpelled-plain id no_values h = refl
+    EachSpelled-plain id (value v vs) h =
+        let parts = and_parts (fits nodes (node_at nodes id) v) (each_fits nodes (node_at nodes id) vs) h in
+        (plain v, plain_items vs, Spells-plain id v parts.0, EachSpelled-plain id vs parts.1, refl)
 
-    EntriesSpelled-plain : (place : ℕ) (es : Entries) → list_all is_text (keys_of es) ≡ true → entries_fit nodes (node_at nodes place) es ≡ true
+    EntriesSpelled-plain : (id : ℕ) (es : Entries) → list_all is_text (keys_of es) ≡ true → entries_fit nodes (node_at nodes id) es ≡ true
         → EntriesSpelled es (plain_entry_items es)
-    EntriesSpelled-plain place no_entries t h = refl
-    EntriesSpelled-plain place (entry k v es) t h =
+    EntriesSpelled-plain id no_entries t h = refl
+    EntriesSpelled-plain id (entry k v es) t h =
         let texts = and_parts (is_text k) (list_all is_text (keys_of es)) t in
-        let parts = and_parts (fits nodes (node_at nodes place) v) (entries_fit nodes (node_at nodes place) es) h in
+        let parts = and_parts (fits nodes (node_at nodes id) v) (entries_fit nodes (node_at nodes id) es) h in
         let key = SpellsBytes-plain_bytes k (and_parts (is_count (length k)) _ texts.0).0 in
-        (plain_bytes k, plain v, plain_entry_items es, key, Spells-plain place v parts.0, EntriesSpelled-plain place es texts.1 parts.1, refl)
+        (plain_bytes k, plain v, plain_entry_items es, key, Spells-plain id v parts.0, EntriesSpelled-plain id es texts.1 parts.1, refl)
 
-    FieldsSpelled-plain : (places : List ℕ) (vs : Values) → fields_fit nodes places vs ≡ true → EachSpelled vs (plain_items vs)
-    FieldsSpelled-plain places no_values h = refl
+    FieldsSpelled-plain : (ids : List ℕ) (vs : Values) → fields_fit nodes ids vs ≡ true → EachSpelled vs (plain_items vs)
+    FieldsSpelled-plain ids no_values h = refl
     FieldsSpelled-plain [] (value v vs) h = absurd (false≢true h)
-    FieldsSpelled-plain (place ∷ places) (value v vs) h =
-        let parts = and_parts (fits nodes (node_at nodes place) v) (fields_fit nodes places vs) h in
-        (plain v, plain_items vs, Spells-plain place v parts.0, FieldsSpelled-plain places vs parts.1, refl)
+    FieldsSpelled-plain (id ∷ ids) (value v vs) h =
+        let parts = and_parts (fits nodes (node_at nodes id) v) (fields_fit nodes ids vs) h in
+        (plain v, plain_items vs, Spells-plain id v parts.0, FieldsSpelled-plain ids vs parts.1, refl)
 
 -- and so it is an encoding
-pub Encodes-plain : (nodes : List Node) (place : ℕ) (v : Value) → is_schema nodes ≡ true → fits nodes (node_at nodes place) v ≡ true
-    → Encodes nodes (node_at nodes place) v (plain v)
-Encodes-plain nodes place v s h =
-    record { fitting = h; spelled = Spells-plain nodes (HasFewChoices-from_is_schema nodes s) place v h }
+pub Encodes-plain : (nodes : List Node) (id : ℕ) (v : Value) → is_schema nodes ≡ true → fits nodes (node_at nodes id) v ≡ true
+    → Encodes nodes (node_at nodes id) v (plain v)
+Encodes-plain nodes id v s h =
+    record { fitting = h; spelled = Spells-plain nodes (HasFewChoices-from_is_schema nodes s) id v h }

@@ -1,4 +1,4 @@
--- The first faults of bytes, with their places: derived.
+-- The first faults of bytes, with their offsets: derived.
 use Rattle.std.proofs.Common.{◌≡◌, ◌<◌, inl, inr, refl, sym, ℕ, zero, suc, ◌^◌, ◌-◌, ℤ, pos, negsuc, true, List, [], ◌∷◌, append-nil, bytes_eq, codes, arith}
 use Rattle.std.specs.Str.{is_utf8, chars}
 use lib.Utf8.{encode}
@@ -121,7 +121,7 @@ branch_cut = inr (record {
   before = 1 ∷ [];
   branch = 2;
   after = [];
-  places_are = refl;
+  ids_are = refl;
   number = 2 ∷ [];
   spelled = spells (pos 1) _ refl;
   breaks = record { rest = 0x80 ∷ []; fault = end_of_input 0; split = refl; breaks = (EndOfInput, ends refl (omega arith), refl); moved = refl };
@@ -133,7 +133,7 @@ second_field_cut = record {
   before = 1 ∷ [];
   field = 2;
   after = [];
-  places_are = refl;
+  ids_are = refl;
   values = one_value (Value.long (pos 27));
   items = (0x36 ∷ []) ∷ [];
   fitting = refl;
@@ -159,7 +159,7 @@ record_of_itself_within (suc depth) (suc nodes) blob bytes = record {
   before = [];
   field = 0;
   after = [];
-  places_are = refl;
+  ids_are = refl;
   values = no_values;
   items = [];
   fitting = refl;
@@ -232,7 +232,7 @@ item_cut_in_a_sized_block = item_fails (sized 2 1 (3 ∷ []) (2 ∷ [])) 1 (6 �
     (one_long (pos 3) (6 ∷ []) 1048575 refl (spells (pos 3) _ refl) (omega arith))
     (record { rest = 0x80 ∷ []; fault = end_of_input 0; split = refl; breaks = (EndOfInput, ends refl (omega arith), refl); moved = refl })
 
--- a later block breaks, at its place in all the bytes
+-- a later block breaks, at its offset in all the bytes
 second_block_breaks : RootBreaks array_of_long (2 ∷ 6 ∷ 1 ∷ 4 ∷ 0x36 ∷ 0 ∷ []) (wrong_block_size 3)
 second_block_breaks = later_breaks (counted 1 (2 ∷ [])) (6 ∷ []) (1 ∷ 4 ∷ 0x36 ∷ 0 ∷ []) (record { nodes = 1048574; keys = [] }) (wrong_block_size 1)
     (omega arith, omega arith, omega arith, spells (pos 1) _ refl)

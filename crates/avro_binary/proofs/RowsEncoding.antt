@@ -56,7 +56,7 @@ plain_no_bytes = refl
 plain_fixed : plain (Value.fixed (1 ∷ 2 ∷ [])) ≡ 1 ∷ 2 ∷ []
 plain_fixed = refl
 
--- places
+-- indices
 plain_symbol : plain (Value.enum 1) ≡ 2 ∷ []
 plain_symbol = refl
 

@@ -66,7 +66,7 @@ size_of_shortest_items = size_differs 2 2 (3 ∷ []) (4 ∷ []) (0x86 ∷ 0 ∷ 
     })
     refl (λ e. absurd (omega (arith, e)))
 
--- a branch's position and its int, in five bytes each
+-- a branch's index and its int, in five bytes each
 padded_branch : Encodes long_or_int (root_of long_or_int) (Value.union 1 (Value.int (pos 5))) (0x82 ∷ 0x80 ∷ 0x80 ∷ 0x80 ∷ 0 ∷ 0x8a ∷ 0x80 ∷ 0x80 ∷ 0x80 ∷ 0 ∷ [])
 padded_branch = record {
   fitting = refl;
@@ -76,7 +76,7 @@ padded_branch = record {
 padded_symbol : Encodes three_symbols (root_of three_symbols) (Value.enum 1) (0x82 ∷ 0 ∷ [])
 padded_symbol = record { fitting = refl; spelled = spells (pos 1) _ refl }
 
--- a sixth byte is none of a position's
+-- a sixth byte is none of an index's
 six_bytes_of_symbol : Breaks three_symbols ample (root_of three_symbols) (0x82 ∷ 0x80 ∷ 0x80 ∷ 0x80 ∷ 0x80 ∷ 0 ∷ []) (invalid_number 0)
 six_bytes_of_symbol = number_breaks (OutOfRange, too_large (0x82 ∷ 0x80 ∷ 0x80 ∷ 0x80 ∷ []) (0 ∷ []) 0x80 refl refl refl (omega arith), refl)
 

@@ -51,14 +51,14 @@ EachSpelled-append (v ∷ vs) ws items more s t =
     (s.0, s.1 ++ more, s.2, EachSpelled-append vs ws s.1 more s.3 t, ap (λ (is : List (List ℕ)). is ++ more) s.4)
 
 -- values of fields, and the value of the next field
-pub fields_fit-push : (nodes : List Node) (places : List ℕ) (vs : List Value) (place : ℕ) (v : Value) → fields_fit nodes places (values_from vs) ≡ true
-    → fits nodes (node_at nodes place) v ≡ true → fields_fit nodes (places ++ place ∷ []) (values_from (vs ++ v ∷ [])) ≡ true
-fields_fit-push nodes [] [] place v h k = and_from (fits nodes (node_at nodes place) v) true k refl
-fields_fit-push nodes [] (w ∷ vs) place v h k = absurd cc
-fields_fit-push nodes (p ∷ places) [] place v h k = absurd cc
-fields_fit-push nodes (p ∷ places) (w ∷ vs) place v h k =
-    let parts = and_parts (fits nodes (node_at nodes p) w) (fields_fit nodes places (values_from vs)) h in
-    and_from (fits nodes (node_at nodes p) w) (fields_fit nodes (places ++ place ∷ []) (values_from (vs ++ v ∷ []))) parts.0 (fields_fit-push nodes places vs place v parts.1 k)
+pub fields_fit-push : (nodes : List Node) (ids : List ℕ) (vs : List Value) (id : ℕ) (v : Value) → fields_fit nodes ids (values_from vs) ≡ true
+    → fits nodes (node_at nodes id) v ≡ true → fields_fit nodes (ids ++ id ∷ []) (values_from (vs ++ v ∷ [])) ≡ true
+fields_fit-push nodes [] [] id v h k = and_from (fits nodes (node_at nodes id) v) true k refl
+fields_fit-push nodes [] (w ∷ vs) id v h k = absurd cc
+fields_fit-push nodes (p ∷ ids) [] id v h k = absurd cc
+fields_fit-push nodes (p ∷ ids) (w ∷ vs) id v h k =
+    let parts = and_parts (fits nodes (node_at nodes p) w) (fields_fit nodes ids (values_from vs)) h in
+    and_from (fits nodes (node_at nodes p) w) (fields_fit nodes (ids ++ id ∷ []) (values_from (vs ++ v ∷ []))) parts.0 (fields_fit-push nodes ids vs id v parts.1 k)
 
 -- ---- Entries
 

@@ -23,15 +23,15 @@ use Rattle.avro_binary.proofs.public.Distinct.{distinct-push}
 -- ---- Moves
 
 pub moves-none : (at : CursorValue) → Moves at [] at
-moves-none at = record { split = refl; place = omega arith; depth = refl; blob = refl }
+moves-none at = record { split = refl; offset = omega arith; depth = refl; blob = refl }
 
 pub moves-passed : (before after : CursorValue) (front : List ℕ) → Passes before front after → Moves before front after
-moves-passed before after front p = record { split = p.split; place = p.place; depth = p.depth; blob = p.blob }
+moves-passed before after front p = record { split = p.split; offset = p.offset; depth = p.depth; blob = p.blob }
 
 pub moves-join : (a b c : CursorValue) (front more : List ℕ) → Moves a front b → Moves b more c → Moves a (front ++ more) c
 moves-join a b c front more m k = record {
   split = m.split ∙ ap (λ (rest : List ℕ). front ++ rest) k.split ∙ sym (append_assoc front more c.bytes);
-  place = let p = m.place in let q = k.place in omega (arith, length-append front more);
+  offset = let p = m.offset in let q = k.offset in omega (arith, length-append front more);
   depth = k.depth ∙ m.depth;
   blob = k.blob ∙ m.blob;
 }
@@ -49,18 +49,18 @@ some_map (Some x) P Q f p = f x p
 pub report_moved : (a b : CursorValue) (front : List ℕ) (e : ReadError) (P Q : List ℕ → ReadFault → Type 0) → Moves a front b
     → ((f : ReadFault) → P b.bytes f → Q a.bytes (behind (length front) f)) → ReportsFault P b e → ReportsFault Q a e
 report_moved a b front e P Q m step reported =
-    some_map (read_fault e) (λ fault. (f : ReadFault) × P b.bytes f × (fault ≡ behind b.place f)) (λ fault. (f : ReadFault) × Q a.bytes f × (fault ≡ behind a.place f))
+    some_map (read_fault e) (λ fault. (f : ReadFault) × P b.bytes f × (fault ≡ behind b.offset f)) (λ fault. (f : ReadFault) × Q a.bytes f × (fault ≡ behind a.offset f))
     (λ fault r. (
       behind (length front) r.0,
       step r.0 r.1,
-      r.2 ∙ ap (λ (p : ℕ). behind p r.0) m.place ∙ behind-add a.place (length front) r.0,
+      r.2 ∙ ap (λ (p : ℕ). behind p r.0) m.offset ∙ behind-add a.offset (length front) r.0,
     )) reported
 
 -- the same of bytes in place
 pub report_same : (a : CursorValue) (e : ReadError) (P Q : List ℕ → ReadFault → Type 0) → ((f : ReadFault) → P a.bytes f → Q a.bytes f)
     → ReportsFault P a e → ReportsFault Q a e
 report_same a e P Q step reported =
-    some_map (read_fault e) (λ fault. (f : ReadFault) × P a.bytes f × (fault ≡ behind a.place f)) (λ fault. (f : ReadFault) × Q a.bytes f × (fault ≡ behind a.place f))
+    some_map (read_fault e) (λ fault. (f : ReadFault) × P a.bytes f × (fault ≡ behind a.offset f)) (λ fault. (f : ReadFault) × Q a.bytes f × (fault ≡ behind a.offset f))
     (λ fault r. (r.0, step r.0 r.1, r.2)) reported
 
 -- what breaks within limits breaks within the same limits

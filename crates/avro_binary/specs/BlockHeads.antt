@@ -20,31 +20,31 @@ abbrev pub IsHeadOrEnd : ℕ → Option Head → List ℕ → Type 0
 IsHeadOrEnd nodes (Some head) bytes = IsHead nodes head × (bytes ≡ head_bytes head)
 IsHeadOrEnd nodes None bytes = SpellsLong (pos 0) bytes
 
--- the block is of a head that stands at a place
+-- the block is of a head that stands at an offset
 abbrev pub IsBlock : ℕ → Head → Block → Type 0
-IsBlock place (counted count count_bytes) block = (block.count ≡ count) × (block.size ≡ None)
-IsBlock place (sized count size count_bytes size_bytes) block =
+IsBlock offset (counted count count_bytes) block = (block.count ≡ count) × (block.size ≡ None)
+IsBlock offset (sized count size count_bytes size_bytes) block =
     (block.count ≡ count)
-    × (block.size ≡ Some (record { bytes = size; place = place + length count_bytes; items = place + length count_bytes + length size_bytes }))
+    × (block.size ≡ Some (record { bytes = size; offset = offset + length count_bytes; items = offset + length count_bytes + length size_bytes }))
 
 abbrev pub IsBlockOrEnd : ℕ → Option Head → Option Block → Type 0
-IsBlockOrEnd place (Some head) (Some block) = IsBlock place head block
-IsBlockOrEnd place (Some head) None = ⊥
-IsBlockOrEnd place None (Some block) = ⊥
-IsBlockOrEnd place None None = Unit {0}
+IsBlockOrEnd offset (Some head) (Some block) = IsBlock offset head block
+IsBlockOrEnd offset (Some head) None = ⊥
+IsBlockOrEnd offset None (Some block) = ⊥
+IsBlockOrEnd offset None None = Unit {0}
 
 -- A call that reads a head or the end, as one that reads an element.
 pub record ReadsHead (before after : CursorValue) (result : Result (Option Block) ReadError) : Type 0 where
-  pub found : IfOk result (λ r. (head : Option Head) × (front : List ℕ) × IsHeadOrEnd before.nodes head front × Passes before front after × IsBlockOrEnd before.place head r)
+  pub found : IfOk result (λ r. (head : Option Head) × (front : List ℕ) × IsHeadOrEnd before.nodes head front × Passes before front after × IsBlockOrEnd before.offset head r)
   pub stands : (head : Option Head) (front rest : List ℕ) → IsHeadOrEnd before.nodes head front → before.bytes ≡ front ++ rest
-      → IsOkAnd result (λ r. IsBlockOrEnd before.place head r) × Passes before front after
+      → IsOkAnd result (λ r. IsBlockOrEnd before.offset head r) × Passes before front after
   pub refused : IfErr result (Refuses (HeadBreaks before.nodes) before)
-  pub breaks : (f : ReadFault) → HeadBreaks before.nodes before.bytes f → Reports result (behind before.place f)
+  pub breaks : (f : ReadFault) → HeadBreaks before.nodes before.bytes f → Reports result (behind before.offset f)
   pub unchanged : OnErr result (after ≡ before)
 
--- The end of a block whose head stands at a place and whose items are a number of bytes: it is refused where its size is
+-- The end of a block whose head stands at an offset and whose items are a number of bytes: it is refused where its size is
 -- another.
 abbrev pub EndsBlock : {A : Type 0} → ℕ → Head → ℕ → Result A ReadError → Type 0
-EndsBlock place (counted count count_bytes) n result = IsOk result
-EndsBlock place (sized count size count_bytes size_bytes) n result =
-    MatchResult result (λ _. size ≡ n) (λ e. (size ≢ n) × (read_fault e ≡ Some (behind place (wrong_block_size (length count_bytes)))))
+EndsBlock offset (counted count count_bytes) n result = IsOk result
+EndsBlock offset (sized count size count_bytes size_bytes) n result =
+    MatchResult result (λ _. size ≡ n) (λ e. (size ≢ n) × (read_fault e ≡ Some (behind offset (wrong_block_size (length count_bytes)))))

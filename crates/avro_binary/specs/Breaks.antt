@@ -59,12 +59,12 @@ BytesBreaks = ContentBreaks (λ content. true)
 abbrev pub StringBreaks : ℕ → List ℕ → ReadFault → Type 0
 StringBreaks = ContentBreaks is_utf8
 
--- whether a number is a place below a count
+-- whether a number is an index below a count
 abbrev pub is_index : ℕ → ℤ → Bool
 is_index choices (pos n) = nat_lt n choices
 is_index choices (negsuc n) = false
 
--- the place of a branch or a symbol, below their count
+-- the index of a branch or a symbol, below their count
 pub data IndexBreaks (choices : ℕ) (bytes : List ℕ) : ReadFault → Type 0 where
   number_breaks : {f : ReadFault} → IntBreaks bytes f → IndexBreaks choices bytes f
   unknown : (v : ℤ) (number rest : List ℕ) → SpellsInt v number → is_int v ≡ true → bytes ≡ number ++ rest
@@ -82,22 +82,22 @@ pub record BreaksAfter (part_breaks : List ℕ → ReadFault → Type 0) (front 
   pub breaks : part_breaks rest fault
   pub moved : f ≡ behind (length front) fault
 
--- the branch behind a place
-pub record BranchBreaks (nodes : List Node) (left : LimitValues) (child : ChildBreaks) (places : List ℕ) (bytes : List ℕ) (f : ReadFault) : Type 0 where
+-- the branch behind its index
+pub record BranchBreaks (nodes : List Node) (left : LimitValues) (child : ChildBreaks) (ids : List ℕ) (bytes : List ℕ) (f : ReadFault) : Type 0 where
   pub before : List ℕ
   pub branch : ℕ
   pub after : List ℕ
-  pub places_are : places ≡ before ++ branch ∷ after
+  pub ids_are : ids ≡ before ++ branch ∷ after
   pub number : List ℕ
   pub spelled : SpellsInt (pos (length before)) number
   pub breaks : BreaksAfter (child left.nodes (node_at nodes branch)) number bytes f
 
 -- the fields before one are whole, and that one breaks
-pub record FieldsBreak (nodes : List Node) (left : LimitValues) (child : ChildBreaks) (places : List ℕ) (bytes : List ℕ) (f : ReadFault) : Type 0 where
+pub record FieldsBreak (nodes : List Node) (left : LimitValues) (child : ChildBreaks) (ids : List ℕ) (bytes : List ℕ) (f : ReadFault) : Type 0 where
   pub before : List ℕ
   pub field : ℕ
   pub after : List ℕ
-  pub places_are : places ≡ before ++ field ∷ after
+  pub ids_are : ids ≡ before ++ field ∷ after
   pub values : Values
   pub items : List (List ℕ)
   pub fitting : fields_fit nodes before values ≡ true
@@ -225,11 +225,11 @@ NodeBreaks nodes left child Node.int bytes f = IntBreaks bytes f
 NodeBreaks nodes left child Node.long bytes f = LongBreaks bytes f
 NodeBreaks nodes left child Node.bytes bytes f = BytesBreaks left.blob bytes f
 NodeBreaks nodes left child Node.string bytes f = StringBreaks left.blob bytes f
-NodeBreaks nodes left child (Node.array place) bytes f =
-    BlocksBreak (ItemsAreWhole nodes left (node_at nodes place)) (λ state. child state.nodes (node_at nodes place)) (all_left left) bytes f
-NodeBreaks nodes left child (Node.map_of place) bytes f =
-    BlocksBreak (EntriesAreWhole nodes left (node_at nodes place)) (EntryBreaks left child (node_at nodes place)) (all_left left) bytes f
-NodeBreaks nodes left child (Node.union places) bytes f = IndexBreaks (length places) bytes f ⊎ BranchBreaks nodes left child places bytes f
+NodeBreaks nodes left child (Node.array id) bytes f =
+    BlocksBreak (ItemsAreWhole nodes left (node_at nodes id)) (λ state. child state.nodes (node_at nodes id)) (all_left left) bytes f
+NodeBreaks nodes left child (Node.map_of id) bytes f =
+    BlocksBreak (EntriesAreWhole nodes left (node_at nodes id)) (EntryBreaks left child (node_at nodes id)) (all_left left) bytes f
+NodeBreaks nodes left child (Node.union ids) bytes f = IndexBreaks (length ids) bytes f ⊎ BranchBreaks nodes left child ids bytes f
 NodeBreaks nodes left child (Node.record_of name aliases fields) bytes f = FieldsBreak nodes left child (field_places fields) bytes f
 NodeBreaks nodes left child (Node.enum name aliases symbols default) bytes f = IndexBreaks (length symbols) bytes f
 NodeBreaks nodes left child (Node.fixed name aliases count) bytes f = FixedBreaks count left.blob bytes f

@@ -19,7 +19,7 @@ use Rattle.avro_binary.specs.declared.error.ReadError.{ReadError}
 -- The cursor has passed these bytes; nothing else of it has changed but the nodes left.
 pub record Moves (before : CursorValue) (front : List ℕ) (after : CursorValue) : Type 0 where
   pub split : before.bytes ≡ front ++ after.bytes
-  pub place : after.place ≡ before.place + length front
+  pub offset : after.offset ≡ before.offset + length front
   pub depth : after.depth ≡ before.depth
   pub blob : after.blob ≡ before.blob
 
@@ -34,7 +34,7 @@ pub record FindsValue (nodes : List Node) (n : Node) (before after : CursorValue
 
 -- the error, unless memory ran out, reports a fault of the bytes that are left
 abbrev pub ReportsFault : (List ℕ → ReadFault → Type 0) → CursorValue → ReadError → Type 0
-ReportsFault breaks before e = IfSome (read_fault e) (λ fault. (f : ReadFault) × breaks before.bytes f × (fault ≡ behind before.place f))
+ReportsFault breaks before e = IfSome (read_fault e) (λ fault. (f : ReadFault) × breaks before.bytes f × (fault ≡ behind before.offset f))
 
 -- A call that reads a datum of a node; `stands` says which datum an answer stands for.
 pub record ReadsNode {R : Type 0} (stands : R → Value → Type 0) (nodes : List Node) (n : Node) (before after : CursorValue) (result : Result R ReadError) : Type 0 where

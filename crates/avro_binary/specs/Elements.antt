@@ -40,7 +40,7 @@ IsString = IsContent is_utf8
 abbrev pub IsFixed : ℕ → ℕ → List ℕ → List ℕ → Type 0
 IsFixed count blob content bytes = (bytes ≡ content) × (length content ≡ count) × (count ≤ blob)
 
--- the place of a branch or a symbol, below their count
+-- the index of a branch or a symbol, below their count
 abbrev pub IsIndex : ℕ → ℕ → List ℕ → Type 0
 IsIndex choices n bytes = (n < choices) × IsInt (pos n) bytes
 
@@ -54,7 +54,7 @@ Finds seen IsElement before after r = (front : List ℕ) × IsElement (seen r) f
 
 -- the error reports the fault of the element that should stand at the front
 abbrev pub Refuses : (List ℕ → ReadFault → Type 0) → CursorValue → ReadError → Type 0
-Refuses ElementBreaks before e = (f : ReadFault) × ElementBreaks before.bytes f × (read_fault e ≡ Some (behind before.place f))
+Refuses ElementBreaks before e = (f : ReadFault) × ElementBreaks before.bytes f × (read_fault e ≡ Some (behind before.offset f))
 
 -- A call that reads an element: `seen` is what contracts see of an answer. It answers exactly an element that stands at
 -- the front, and refuses exactly by the fault of one; a refusal leaves the cursor as it was.
@@ -63,7 +63,7 @@ pub record ReadsElement {A R : Type 0} (seen : R → A) (IsElement : A → List 
   pub stands : (v : A) (front rest : List ℕ) → IsElement v front → before.bytes ≡ front ++ rest
       → IsOkAnd result (λ r. seen r ≡ v) × Passes before front after
   pub refused : IfErr result (Refuses ElementBreaks before)
-  pub breaks : (f : ReadFault) → ElementBreaks before.bytes f → Reports result (behind before.place f)
+  pub breaks : (f : ReadFault) → ElementBreaks before.bytes f → Reports result (behind before.offset f)
   pub unchanged : OnErr result (after ≡ before)
 
 -- a content stands at the front behind its length, and the two have a number of bytes together
@@ -84,6 +84,6 @@ pub record ReadsKey {R : Type 0} (seen : R → List ℕ) (keys : List (List ℕ)
   pub stands : (key front rest : List ℕ) → IsKey keys before.blob key front → before.bytes ≡ front ++ rest
       → UnlessOutOfMemory result (IsOkAnd result (λ r. seen r ≡ key) × Passes before front after)
   pub refused : IfErr result (λ e. IfSome (read_fault e) (λ fault.
-      (f : ReadFault) × KeyBreaks keys before.blob before.bytes f × (fault ≡ behind before.place f)))
-  pub breaks : (f : ReadFault) → KeyBreaks keys before.blob before.bytes f → UnlessOutOfMemory result (Reports result (behind before.place f))
+      (f : ReadFault) × KeyBreaks keys before.blob before.bytes f × (fault ≡ behind before.offset f)))
+  pub breaks : (f : ReadFault) → KeyBreaks keys before.blob before.bytes f → UnlessOutOfMemory result (Reports result (behind before.offset f))
   pub unchanged : OnErr result ((after ≡ before) × (set_after ≡ set_before))

@@ -24,7 +24,7 @@ abbrev mutual
   Spells (Value.array vs) bytes = (items : List (List ℕ)) × EachSpelled vs items × IsInBlocks items bytes
   Spells (Value.map_of es) bytes = (items : List (List ℕ)) × EntriesSpelled es items × IsInBlocks items bytes
   Spells (Value.union k v) bytes =
-      (place rest : List ℕ) × SpellsInt (pos k) place × Spells v rest × (bytes ≡ place ++ rest)
+      (index rest : List ℕ) × SpellsInt (pos k) index × Spells v rest × (bytes ≡ index ++ rest)
   Spells (Value.record_of vs) bytes = (items : List (List ℕ)) × EachSpelled vs items × (bytes ≡ concat items)
   Spells (Value.enum k) bytes = SpellsInt (pos k) bytes
   Spells (Value.fixed b) bytes = bytes ≡ b

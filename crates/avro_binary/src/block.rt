@@ -13,7 +13,7 @@ pub struct Block {
 pub(crate) struct BlockSize {
     pub(crate) bytes: u64,
     /// Where the size stands.
-    pub(crate) place: usize,
+    pub(crate) offset: usize,
     /// Where the items begin.
     pub(crate) items: usize,
 }

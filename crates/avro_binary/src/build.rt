@@ -58,18 +58,18 @@ pub trait Build {
     fn fixed(&mut self, alloc: Global, content: &[u8]) -> Result<Self::Out, AllocError>
         ensures { IfOk result (λ out. stands_for out (Value.fixed content.now)) };
 
-    /// Builds an enum, of the place of its symbol.
-    fn symbol(&mut self, alloc: Global, place: u32) -> Result<Self::Out, AllocError>
-        ensures { IfOk result (λ out. stands_for out (Value.enum place)) };
+    /// Builds an enum, of the index of its symbol.
+    fn symbol(&mut self, alloc: Global, index: u32) -> Result<Self::Out, AllocError>
+        ensures { IfOk result (λ out. stands_for out (Value.enum index)) };
 
-    /// Builds a union, of the place of its branch and what was built of its value.
+    /// Builds a union, of the index of its branch and what was built of its value.
     fn branch(
         &mut self,
         alloc: Global,
-        place: u32,
+        index: u32,
         value: Self::Out,
     ) -> Result<Self::Out, AllocError>
-        ensures { (v : Value) → stands_for value v → IfOk result (λ out. stands_for out (Value.union place v)) };
+        ensures { (v : Value) → stands_for value v → IfOk result (λ out. stands_for out (Value.union index v)) };
 
     /// Builds a record, of what was built of the values of its fields, in order.
     fn fields(&mut self, alloc: Global, values: Vec<Self::Out>) -> Result<Self::Out, AllocError>

@@ -13,7 +13,7 @@ use avro_schema::Limits;
 use avro_zigzag::VarError;
 use std::marker::Model;
 
-/// A place in bytes, and what is left of the limits there. Each call reads one element, and answers
+/// An offset in bytes, and what is left of the limits there. Each call reads one element, and answers
 /// slices of the bytes.
 ///
 /// A call that answers an error leaves the cursor where it was.
@@ -32,7 +32,7 @@ impl<'a> Model for Cursor<'a> {
 
     ghost Value = { CursorValue };
 
-    ghost view = { λ c. record { bytes = c.rest.now; place = c.len - length c.rest.now; depth = c.depth; nodes = c.nodes; blob = c.blob } };
+    ghost view = { λ c. record { bytes = c.rest.now; offset = c.len - length c.rest.now; depth = c.depth; nodes = c.nodes; blob = c.blob } };
 
     ghost invariant = { λ c. (length c.rest.now ≤ c.len) × (c.depth ≤ 256) };
 }
@@ -40,7 +40,7 @@ impl<'a> Model for Cursor<'a> {
 impl<'a> Cursor<'a> {
     /// A cursor at the front of bytes.
     pub fn new(bytes: &'a [u8], limits: &Limits) -> Self
-        ensures { result ≡ record { bytes = bytes.now; place = 0; depth = limits.now.depth; nodes = limits.now.nodes; blob = limits.now.blob } }
+        ensures { result ≡ record { bytes = bytes.now; offset = 0; depth = limits.now.depth; nodes = limits.now.nodes; blob = limits.now.blob } }
     {
         Cursor {
             rest: bytes,
@@ -53,8 +53,8 @@ impl<'a> Cursor<'a> {
 
     /// How many bytes were read.
     #[inline(always)]
-    pub fn place(&self) -> usize
-        ensures { result ≡ self.now.place }
+    pub fn offset(&self) -> usize
+        ensures { result ≡ self.now.offset }
     {
         self.len - self.rest.len()
     }
@@ -89,9 +89,9 @@ impl<'a> Cursor<'a> {
 
     /// The offset behind a number of the bytes that are left.
     #[inline(always)]
-    fn place_behind(&self, count: usize) -> usize
+    fn offset_behind(&self, count: usize) -> usize
         requires { count ≤ length self.now.bytes }
-        ensures { result ≡ self.now.place + count }
+        ensures { result ≡ self.now.offset + count }
     {
         self.len - (self.rest.len() - count)
     }

@@ -12,7 +12,7 @@ ghost use Rattle.avro_binary.specs.Breaks.{Breaks};
 
 /// The plain encoding of a datum that fits a schema's node is an encoding of it.
 pub fn plain_encodes()
-    ensures { (nodes : List Node) (place : ℕ) (v : Value) → is_schema nodes ≡ true → fits nodes (node_at nodes place) v ≡ true → Encodes nodes (node_at nodes place) v (plain v) }
+    ensures { (nodes : List Node) (id : ℕ) (v : Value) → is_schema nodes ≡ true → fits nodes (node_at nodes id) v ≡ true → Encodes nodes (node_at nodes id) v (plain v) }
 {}
 
 /// No encoding at a node begins another: the bytes tell where a datum ends and which one it is.
@@ -22,20 +22,20 @@ pub fn prefix()
 
 /// Bytes with a fault that is no limit begin with no encoding of any datum.
 pub fn fault_leaves_none()
-    ensures { (nodes : List Node) (limits : LimitValues) (place : ℕ) (bytes : List ℕ) (f : ReadFault) (v : Value) (front rest : List ℕ) → is_schema nodes ≡ true
-        → Breaks nodes limits (node_at nodes place) bytes f → f ≢ limit_exceeded → Encodes nodes (node_at nodes place) v front → bytes ≡ front ++ rest → ⊥ }
+    ensures { (nodes : List Node) (limits : LimitValues) (id : ℕ) (bytes : List ℕ) (f : ReadFault) (v : Value) (front rest : List ℕ) → is_schema nodes ≡ true
+        → Breaks nodes limits (node_at nodes id) bytes f → f ≢ limit_exceeded → Encodes nodes (node_at nodes id) v front → bytes ≡ front ++ rest → ⊥ }
 {}
 
 /// Bytes with a fault begin with no encoding of a datum within limits.
 pub fn fault_or_within()
-    ensures { (nodes : List Node) (limits : LimitValues) (place : ℕ) (bytes : List ℕ) (f : ReadFault) (v : Value) (front rest : List ℕ) → is_schema nodes ≡ true
-        → Breaks nodes limits (node_at nodes place) bytes f → Encodes nodes (node_at nodes place) v front → is_within limits v ≡ true → bytes ≡ front ++ rest → ⊥ }
+    ensures { (nodes : List Node) (limits : LimitValues) (id : ℕ) (bytes : List ℕ) (f : ReadFault) (v : Value) (front rest : List ℕ) → is_schema nodes ≡ true
+        → Breaks nodes limits (node_at nodes id) bytes f → Encodes nodes (node_at nodes id) v front → is_within limits v ≡ true → bytes ≡ front ++ rest → ⊥ }
 {}
 
-/// At most one fault holds of bytes: one code and one place.
+/// At most one fault holds of bytes: one code and one offset.
 pub fn one_fault()
-    ensures { (nodes : List Node) (limits : LimitValues) (place : ℕ) (bytes : List ℕ) (f g : ReadFault) → is_schema nodes ≡ true
-        → Breaks nodes limits (node_at nodes place) bytes f → Breaks nodes limits (node_at nodes place) bytes g → f ≡ g }
+    ensures { (nodes : List Node) (limits : LimitValues) (id : ℕ) (bytes : List ℕ) (f g : ReadFault) → is_schema nodes ≡ true
+        → Breaks nodes limits (node_at nodes id) bytes f → Breaks nodes limits (node_at nodes id) bytes g → f ≡ g }
 {}
 
 /// Bytes begin with an encoding of a datum of the node within limits, or have a fault: no case is missing among the faults.

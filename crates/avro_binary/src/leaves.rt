@@ -137,7 +137,7 @@ pub(crate) fn read_text<M: Make>(
     }
 }
 
-/// Reads the place of a symbol, below their count.
+/// Reads the index of a symbol, below their count.
 #[inline(always)]
 pub(crate) fn read_symbol<M: Make>(
     alloc: Global,

@@ -2,7 +2,7 @@
 //!
 //! [`decode`] reads a datum of any kind from the front of bytes, whatever follows it. It accepts the
 //! valid encodings of data within limits and nothing else, and answers the first fault of other bytes
-//! with its place. [`walk`] answers the same length or fault, and makes no datum. [`encode`] appends
+//! with its offset. [`walk`] answers the same length or fault, and makes no datum. [`encode`] appends
 //! the plain encoding of a datum.
 //!
 //! Both go over a [`Cursor`], which reads one element a call, in place. A count or a length makes no
@@ -37,7 +37,7 @@ pub use make::Make;
 pub use nothing::Nothing;
 pub use own::Own;
 pub use read::{decode, read_made, read_own};
-pub use reading::read_place;
+pub use reading::read_at;
 pub use tree::Tree;
 pub use walking::walk;
 pub use write::{append_plain, encode};

@@ -33,10 +33,10 @@ pub trait Make {
     /// Which datum of a node an answer stands for, by what it is for.
     ghost stands_for: { Self → List Node → Node → Self.At → Self.Out → Value → Type 0 };
 
-    /// Which data the items of an array stand for, by the place of their node and what the array is for.
+    /// Which data the items of an array stand for, by the id of their node and what the array is for.
     ghost items_stand_for: { Self → List Node → ℕ → Self.At → Self.Items → List Value → Type 0 };
 
-    /// Which keys and data the entries of a map stand for, by the place of their node and what the map is for.
+    /// Which keys and data the entries of a map stand for, by the id of their node and what the map is for.
     ghost entries_stand_for: { Self → List Node → ℕ → Self.At → Self.Entries → List (List ℕ × Value) → Type 0 };
 
     /// Which data the first fields of a record stand for, by what the record is for.
@@ -99,16 +99,16 @@ pub trait Make {
         ensures kept { OnOk result (keeps self.old self.new) }
         ensures stands { (nodes : List Node) (name : Name) (aliases : List Name) (size : ℕ) → IfOk result (λ out. stands_for self.new nodes (Node.fixed name aliases size) at out (Value.fixed content.now)) };
 
-    /// Makes an enum, of the place of its symbol.
-    fn symbol(&mut self, alloc: Global, at: Self::At, place: u32) -> Result<Self::Out, AllocError>
+    /// Makes an enum, of the index of its symbol.
+    fn symbol(&mut self, alloc: Global, at: Self::At, index: u32) -> Result<Self::Out, AllocError>
         ensures kept { OnOk result (keeps self.old self.new) }
-        ensures stands { (nodes : List Node) (name : Name) (aliases : List Name) (texts : List (List ℕ)) (default : Option ℕ) → place < length texts → IfOk result (λ out. stands_for self.new nodes (Node.enum name aliases texts default) at out (Value.enum place)) };
+        ensures stands { (nodes : List Node) (name : Name) (aliases : List Name) (texts : List (List ℕ)) (default : Option ℕ) → index < length texts → IfOk result (λ out. stands_for self.new nodes (Node.enum name aliases texts default) at out (Value.enum index)) };
 
     /// What the value of a branch is for.
     fn branch_at(&self, at: Self::At, branch: u32) -> Self::At
         ensures { result ≡ branch_at self.now at branch };
 
-    /// Makes a union, of the place of its branch and what was made of its value.
+    /// Makes a union, of the index of its branch and what was made of its value.
     fn branch(
         &mut self,
         alloc: Global,
@@ -117,14 +117,14 @@ pub trait Make {
         value: Self::Out,
     ) -> Result<Self::Out, AllocError>
         ensures kept { OnOk result (keeps self.old self.new) }
-        ensures stands { (nodes : List Node) (places : List ℕ) (place : ℕ) (v : Value) → slice_get places branch ≡ Some place
-            → stands_for self.old nodes (node_at nodes place) (branch_at self.old at branch) value v
-            → IfOk result (λ out. stands_for self.new nodes (Node.union places) at out (Value.union branch v)) };
+        ensures stands { (nodes : List Node) (ids : List ℕ) (id : ℕ) (v : Value) → slice_get ids branch ≡ Some id
+            → stands_for self.old nodes (node_at nodes id) (branch_at self.old at branch) value v
+            → IfOk result (λ out. stands_for self.new nodes (Node.union ids) at out (Value.union branch v)) };
 
     /// No items of an array.
     fn items(&mut self, alloc: Global, at: Self::At) -> Result<Self::Items, AllocError>
         ensures kept { OnOk result (keeps self.old self.new) }
-        ensures stands { (nodes : List Node) (place : ℕ) → IfOk result (λ items. items_stand_for self.new nodes place at items []) };
+        ensures stands { (nodes : List Node) (id : ℕ) → IfOk result (λ items. items_stand_for self.new nodes id at items []) };
 
     /// What the next item is for.
     fn item_at(&self, items: &Self::Items) -> Self::At
@@ -138,20 +138,20 @@ pub trait Make {
         value: Self::Out,
     ) -> Result<(), AllocError>
         ensures kept { OnOk result (keeps self.old self.new) }
-        ensures stands { (nodes : List Node) (place : ℕ) (at : Self.At) (vs : List Value) (v : Value) → items_stand_for self.old nodes place at items.old vs
-            → stands_for self.old nodes (node_at nodes place) (item_at self.old items.old) value v
-            → OnOk result (items_stand_for self.new nodes place at items.new (vs ++ v ∷ [])) };
+        ensures stands { (nodes : List Node) (id : ℕ) (at : Self.At) (vs : List Value) (v : Value) → items_stand_for self.old nodes id at items.old vs
+            → stands_for self.old nodes (node_at nodes id) (item_at self.old items.old) value v
+            → OnOk result (items_stand_for self.new nodes id at items.new (vs ++ v ∷ [])) };
 
     /// Makes an array, of its items.
     fn array(&mut self, alloc: Global, items: Self::Items) -> Result<Self::Out, AllocError>
         ensures kept { OnOk result (keeps self.old self.new) }
-        ensures stands { (nodes : List Node) (place : ℕ) (at : Self.At) (vs : List Value) → items_stand_for self.old nodes place at items vs
-            → IfOk result (λ out. stands_for self.new nodes (Node.array place) at out (Value.array (values_from vs))) };
+        ensures stands { (nodes : List Node) (id : ℕ) (at : Self.At) (vs : List Value) → items_stand_for self.old nodes id at items vs
+            → IfOk result (λ out. stands_for self.new nodes (Node.array id) at out (Value.array (values_from vs))) };
 
     /// No entries of a map.
     fn entries(&mut self, alloc: Global, at: Self::At) -> Result<Self::Entries, AllocError>
         ensures kept { OnOk result (keeps self.old self.new) }
-        ensures stands { (nodes : List Node) (place : ℕ) → IfOk result (λ entries. entries_stand_for self.new nodes place at entries []) };
+        ensures stands { (nodes : List Node) (id : ℕ) → IfOk result (λ entries. entries_stand_for self.new nodes id at entries []) };
 
     /// What the value of the next entry is for.
     fn entry_at(&self, entries: &Self::Entries) -> Self::At
@@ -166,15 +166,15 @@ pub trait Make {
         value: Self::Out,
     ) -> Result<(), AllocError>
         ensures kept { OnOk result (keeps self.old self.new) }
-        ensures stands { (nodes : List Node) (place : ℕ) (at : Self.At) (es : List (List ℕ × Value)) (v : Value) → entries_stand_for self.old nodes place at entries.old es
-            → stands_for self.old nodes (node_at nodes place) (entry_at self.old entries.old) value v
-            → OnOk result (entries_stand_for self.new nodes place at entries.new (es ++ (key.now, v) ∷ [])) };
+        ensures stands { (nodes : List Node) (id : ℕ) (at : Self.At) (es : List (List ℕ × Value)) (v : Value) → entries_stand_for self.old nodes id at entries.old es
+            → stands_for self.old nodes (node_at nodes id) (entry_at self.old entries.old) value v
+            → OnOk result (entries_stand_for self.new nodes id at entries.new (es ++ (key.now, v) ∷ [])) };
 
     /// Makes a map, of its entries.
     fn map(&mut self, alloc: Global, entries: Self::Entries) -> Result<Self::Out, AllocError>
         ensures kept { OnOk result (keeps self.old self.new) }
-        ensures stands { (nodes : List Node) (place : ℕ) (at : Self.At) (es : List (List ℕ × Value)) → entries_stand_for self.old nodes place at entries es
-            → IfOk result (λ out. stands_for self.new nodes (Node.map_of place) at out (Value.map_of (entries_from es))) };
+        ensures stands { (nodes : List Node) (id : ℕ) (at : Self.At) (es : List (List ℕ × Value)) → entries_stand_for self.old nodes id at entries es
+            → IfOk result (λ out. stands_for self.new nodes (Node.map_of id) at out (Value.map_of (entries_from es))) };
 
     /// No fields of a record.
     fn fields(&mut self, alloc: Global, at: Self::At) -> Result<Self::Fields, AllocError>
@@ -193,8 +193,8 @@ pub trait Make {
         value: Self::Out,
     ) -> Result<(), AllocError>
         ensures kept { OnOk result (keeps self.old self.new) }
-        ensures stands { (nodes : List Node) (fs : List FieldNode) (place : ℕ) (at : Self.At) (vs : List Value) (v : Value) → fields_stand_for self.old nodes fs at fields.old vs
-            → slice_get (field_places fs) (length vs) ≡ Some place → stands_for self.old nodes (node_at nodes place) (field_at self.old fields.old) value v
+        ensures stands { (nodes : List Node) (fs : List FieldNode) (id : ℕ) (at : Self.At) (vs : List Value) (v : Value) → fields_stand_for self.old nodes fs at fields.old vs
+            → slice_get (field_places fs) (length vs) ≡ Some id → stands_for self.old nodes (node_at nodes id) (field_at self.old fields.old) value v
             → OnOk result (fields_stand_for self.new nodes fs at fields.new (vs ++ v ∷ [])) };
 
     /// Makes a record, of the values of its fields.
@@ -210,12 +210,12 @@ pub trait Make {
     ghost keeps_on: { (s t u : Self) → keeps s t → keeps t u → keeps s u };
 
     /// Items stand for the same data at a later maker.
-    ghost items_kept: { (s t : Self) (nodes : List Node) (place : ℕ) (at : Self.At) (items : Self.Items) (vs : List Value) → keeps s t
-        → items_stand_for s nodes place at items vs → items_stand_for t nodes place at items vs };
+    ghost items_kept: { (s t : Self) (nodes : List Node) (id : ℕ) (at : Self.At) (items : Self.Items) (vs : List Value) → keeps s t
+        → items_stand_for s nodes id at items vs → items_stand_for t nodes id at items vs };
 
     /// Entries stand for the same keys and data at a later maker.
-    ghost entries_kept: { (s t : Self) (nodes : List Node) (place : ℕ) (at : Self.At) (entries : Self.Entries) (es : List (List ℕ × Value)) → keeps s t
-        → entries_stand_for s nodes place at entries es → entries_stand_for t nodes place at entries es };
+    ghost entries_kept: { (s t : Self) (nodes : List Node) (id : ℕ) (at : Self.At) (entries : Self.Entries) (es : List (List ℕ × Value)) → keeps s t
+        → entries_stand_for s nodes id at entries es → entries_stand_for t nodes id at entries es };
 
     /// Fields stand for the same data at a later maker.
     ghost fields_kept: { (s t : Self) (nodes : List Node) (fs : List FieldNode) (at : Self.At) (fields : Self.Fields) (vs : List Value) → keeps s t

@@ -52,11 +52,11 @@ impl Build for Nothing {
         Ok(())
     }
 
-    fn symbol(&mut self, _alloc: Global, _place: u32) -> Result<(), AllocError> {
+    fn symbol(&mut self, _alloc: Global, _index: u32) -> Result<(), AllocError> {
         Ok(())
     }
 
-    fn branch(&mut self, _alloc: Global, _place: u32, _value: ()) -> Result<(), AllocError> {
+    fn branch(&mut self, _alloc: Global, _index: u32, _value: ()) -> Result<(), AllocError> {
         Ok(())
     }
 
@@ -121,9 +121,9 @@ impl Make for Nothing {
 
     ghost stands_for = { λ _ nodes n at out v. Unit {0} };
 
-    ghost items_stand_for = { λ _ nodes place at items vs. Unit {0} };
+    ghost items_stand_for = { λ _ nodes id at items vs. Unit {0} };
 
-    ghost entries_stand_for = { λ _ nodes place at entries es. Unit {0} };
+    ghost entries_stand_for = { λ _ nodes id at entries es. Unit {0} };
 
     ghost fields_stand_for = { λ _ nodes fs at fields vs. Unit {0} };
 
@@ -139,9 +139,9 @@ impl Make for Nothing {
 
     ghost keeps_on = { λ s t u before after. tt };
 
-    ghost items_kept = { λ s t nodes place at items vs kept stand. tt };
+    ghost items_kept = { λ s t nodes id at items vs kept stand. tt };
 
-    ghost entries_kept = { λ s t nodes place at entries es kept stand. tt };
+    ghost entries_kept = { λ s t nodes id at entries es kept stand. tt };
 
     ghost fields_kept = { λ s t nodes fs at fields vs kept stand. tt };
 
@@ -181,7 +181,7 @@ impl Make for Nothing {
         Ok(())
     }
 
-    fn symbol(&mut self, _alloc: Global, _at: (), _place: u32) -> Result<(), AllocError> {
+    fn symbol(&mut self, _alloc: Global, _at: (), _index: u32) -> Result<(), AllocError> {
         Ok(())
     }
 

@@ -35,9 +35,9 @@ impl<'b, B: Build> Make for Own<'b, B> {
 
     ghost stands_for = { λ _ nodes n at out v. B.stands_for out v };
 
-    ghost items_stand_for = { λ _ nodes place at items vs. B.items_stand_for items vs };
+    ghost items_stand_for = { λ _ nodes id at items vs. B.items_stand_for items vs };
 
-    ghost entries_stand_for = { λ _ nodes place at entries es. B.entries_stand_for entries es };
+    ghost entries_stand_for = { λ _ nodes id at entries es. B.entries_stand_for entries es };
 
     ghost fields_stand_for = { λ _ nodes fs at fields vs. AllZip B.stands_for fields.items vs };
 
@@ -53,9 +53,9 @@ impl<'b, B: Build> Make for Own<'b, B> {
 
     ghost keeps_on = { λ s t u before after. tt };
 
-    ghost items_kept = { λ s t nodes place at items vs kept stand. stand };
+    ghost items_kept = { λ s t nodes id at items vs kept stand. stand };
 
-    ghost entries_kept = { λ s t nodes place at entries es kept stand. stand };
+    ghost entries_kept = { λ s t nodes id at entries es kept stand. stand };
 
     ghost fields_kept = { λ s t nodes fs at fields vs kept stand. stand };
 
@@ -95,8 +95,8 @@ impl<'b, B: Build> Make for Own<'b, B> {
         self.builder.fixed(alloc, content)
     }
 
-    fn symbol(&mut self, alloc: Global, _at: (), place: u32) -> Result<B::Out, AllocError> {
-        self.builder.symbol(alloc, place)
+    fn symbol(&mut self, alloc: Global, _at: (), index: u32) -> Result<B::Out, AllocError> {
+        self.builder.symbol(alloc, index)
     }
 
     fn branch_at(&self, _at: (), _branch: u32) {}

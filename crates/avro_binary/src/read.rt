@@ -9,7 +9,7 @@ use crate::cursor::Cursor;
 use crate::error::ReadError;
 use crate::make::Make;
 use crate::own::Own;
-use crate::reading::read_place;
+use crate::reading::read_at;
 use crate::tree::Tree;
 use avro_schema::{Datum, Limits, NodeId, Schema};
 use std::alloc::Global;
@@ -88,6 +88,6 @@ pub fn read_made<M: Make>(
     // Its contract says that the schema is well formed, which the laws of faults ask for.
     let _count = schema.len();
     let mut cursor = Cursor::new(bytes, limits);
-    let made = read_place(alloc, schema, node, &mut cursor, maker, at)?;
-    Ok((made, cursor.place()))
+    let made = read_at(alloc, schema, node, &mut cursor, maker, at)?;
+    Ok((made, cursor.offset()))
 }

@@ -20,27 +20,27 @@ use crate::reading::maps::read_map;
 use avro_schema::{Field, Node, NodeId, Schema};
 use std::alloc::Global;
 
-/// Reads a datum of the node at a place. A place without a node is that of null.
+/// Reads a datum of the node of an id. An id without a node is that of null.
 ///
 /// # Errors
 ///
 /// The first fault that is met from left to right (Avro 1.11, "Binary Encoding"); `OutOfMemory`.
 #[cycle(reading)]
 #[inline(always)]
-pub fn read_place<M: Make>(
+pub fn read_at<M: Make>(
     alloc: Global,
     schema: &Schema,
-    place: NodeId,
+    id: NodeId,
     cursor: &mut Cursor<'_>,
     maker: &mut M,
     at: M::At,
 ) -> Result<M::Out, ReadError>
-    ensures { ReadsNode (Made M.keeps (λ m. M.stands_for m (schema_nodes schema.now) (node_at (schema_nodes schema.now) place.0) at) maker.old maker.new) (schema_nodes schema.now) (node_at (schema_nodes schema.now) place.0) cursor.old cursor.new result }
+    ensures { ReadsNode (Made M.keeps (λ m. M.stands_for m (schema_nodes schema.now) (node_at (schema_nodes schema.now) id.0) at) maker.old maker.new) (schema_nodes schema.now) (node_at (schema_nodes schema.now) id.0) cursor.old cursor.new result }
 {
-    if !schema.has(place) {
+    if !schema.has(id) {
         return read_null(alloc, cursor, maker, at);
     }
-    match schema.node(place) {
+    match schema.node(id) {
         Node::Null => read_null(alloc, cursor, maker, at),
         Node::Boolean => read_boolean(alloc, cursor, maker, at),
         Node::Int => read_int(alloc, cursor, maker, at),
@@ -62,15 +62,15 @@ pub fn read_place<M: Make>(
 fn read_array<M: Make>(
     alloc: Global,
     schema: &Schema,
-    place: NodeId,
+    id: NodeId,
     cursor: &mut Cursor<'_>,
     maker: &mut M,
     at: M::At,
 ) -> Result<M::Out, ReadError>
-    ensures { ReadsNode (Made M.keeps (λ m. M.stands_for m (schema_nodes schema.now) (SeenNode.array place.0) at) maker.old maker.new) (schema_nodes schema.now) (SeenNode.array place.0) cursor.old cursor.new result }
+    ensures { ReadsNode (Made M.keeps (λ m. M.stands_for m (schema_nodes schema.now) (SeenNode.array id.0) at) maker.old maker.new) (schema_nodes schema.now) (SeenNode.array id.0) cursor.old cursor.new result }
 {
     cursor.enter()?;
-    let out = read_item_blocks(alloc, schema, place, cursor, maker, at)?;
+    let out = read_item_blocks(alloc, schema, id, cursor, maker, at)?;
     cursor.leave();
     Ok(out)
 }
@@ -81,12 +81,12 @@ fn read_array<M: Make>(
 fn read_item_blocks<M: Make>(
     alloc: Global,
     schema: &Schema,
-    place: NodeId,
+    id: NodeId,
     cursor: &mut Cursor<'_>,
     maker: &mut M,
     at: M::At,
 ) -> Result<M::Out, ReadError>
-    ensures { ReadsNode (Made M.keeps (λ m. M.stands_for m (schema_nodes schema.now) (SeenNode.array place.0) at) maker.old maker.new) (schema_nodes schema.now) (SeenNode.array place.0) (outside cursor.old) (left_node cursor.new) result }
+    ensures { ReadsNode (Made M.keeps (λ m. M.stands_for m (schema_nodes schema.now) (SeenNode.array id.0) at) maker.old maker.new) (schema_nodes schema.now) (SeenNode.array id.0) (outside cursor.old) (left_node cursor.new) result }
 {
     // Its contract says that fewer than 2^32 nodes are left, so that no count of parts is too large.
     let _nodes = cursor.nodes();
@@ -95,15 +95,7 @@ fn read_item_blocks<M: Make>(
         Err(_) => return Err(ReadError::OutOfMemory),
     };
     while let Some(block) = cursor.block()? {
-        read_items(
-            alloc,
-            schema,
-            place,
-            block.count(),
-            cursor,
-            maker,
-            &mut items,
-        )?;
+        read_items(alloc, schema, id, block.count(), cursor, maker, &mut items)?;
         cursor.end_block(&block)?;
     }
     match maker.array(alloc, items) {
@@ -117,19 +109,19 @@ fn read_item_blocks<M: Make>(
 fn read_items<M: Make>(
     alloc: Global,
     schema: &Schema,
-    place: NodeId,
+    id: NodeId,
     count: u32,
     cursor: &mut Cursor<'_>,
     maker: &mut M,
     items: &mut M::Items,
 ) -> Result<(), ReadError>
-    ensures { (limits : LimitValues) → limits.depth ≡ cursor.old.depth → limits.blob ≡ cursor.old.blob → (let nodes = schema_nodes schema.now in let n = node_at nodes place.0 in
+    ensures { (limits : LimitValues) → limits.depth ≡ cursor.old.depth → limits.blob ≡ cursor.old.blob → (let nodes = schema_nodes schema.now in let n = node_at nodes id.0 in
         ReadsRun (ValuesRun nodes limits n) (value_breaks nodes limits n)
-        (λ vs after. M.keeps maker.old maker.new × ((at : M.At) (us : List Value) → M.items_stand_for maker.old nodes place.0 at items.old us → M.items_stand_for maker.new nodes place.0 at items.new (us ++ vs))) count [] cursor.old cursor.new result) }
+        (λ vs after. M.keeps maker.old maker.new × ((at : M.At) (us : List Value) → M.items_stand_for maker.old nodes id.0 at items.old us → M.items_stand_for maker.new nodes id.0 at items.new (us ++ vs))) count [] cursor.old cursor.new result) }
 {
     for _done in 0..count {
         let at = maker.item_at(items);
-        let value = read_place(alloc, schema, place, cursor, maker, at)?;
+        let value = read_at(alloc, schema, id, cursor, maker, at)?;
         match maker.item(alloc, items, value) {
             Ok(()) => {}
             Err(_) => return Err(ReadError::OutOfMemory),
@@ -157,7 +149,7 @@ fn read_union<M: Make>(
     Ok(out)
 }
 
-/// Reads the place of a branch and a datum of the branch.
+/// Reads the index of a branch and a datum of the branch.
 #[cycle(reading)]
 #[inline(always)]
 fn read_branch<M: Make>(
@@ -172,7 +164,7 @@ fn read_branch<M: Make>(
 {
     let branch = cursor.index(branches.len())?;
     let part = maker.branch_at(at, branch as u32);
-    let value = read_place(alloc, schema, branches[branch], cursor, maker, part)?;
+    let value = read_at(alloc, schema, branches[branch], cursor, maker, part)?;
     match maker.branch(alloc, at, branch as u32, value) {
         Ok(out) => Ok(out),
         Err(_) => Err(ReadError::OutOfMemory),
@@ -217,7 +209,7 @@ fn read_fields<M: Make>(
     };
     for field in fields {
         let part = maker.field_at(&values);
-        let value = read_place(alloc, schema, field.node, cursor, maker, part)?;
+        let value = read_at(alloc, schema, field.node, cursor, maker, part)?;
         match maker.field(alloc, &mut values, value) {
             Ok(()) => {}
             Err(_) => return Err(ReadError::OutOfMemory),

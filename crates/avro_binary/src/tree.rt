@@ -52,12 +52,12 @@ impl Build for Tree {
         Ok(Datum::Fixed(content.to_vec(alloc)?))
     }
 
-    fn symbol(&mut self, _alloc: Global, place: u32) -> Result<Datum, AllocError> {
-        Ok(Datum::Enum(place))
+    fn symbol(&mut self, _alloc: Global, index: u32) -> Result<Datum, AllocError> {
+        Ok(Datum::Enum(index))
     }
 
-    fn branch(&mut self, alloc: Global, place: u32, value: Datum) -> Result<Datum, AllocError> {
-        Ok(Datum::Union(place, Box::new(alloc, value)?))
+    fn branch(&mut self, alloc: Global, index: u32, value: Datum) -> Result<Datum, AllocError> {
+        Ok(Datum::Union(index, Box::new(alloc, value)?))
     }
 
     fn items(&mut self, alloc: Global) -> Result<Vec<Datum>, AllocError> {

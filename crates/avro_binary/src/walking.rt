@@ -6,7 +6,7 @@ ghost use Rattle.avro_binary.specs.Reading.{WalksExactly};
 use crate::cursor::Cursor;
 use crate::error::ReadError;
 use crate::nothing::Nothing;
-use crate::reading::read_place;
+use crate::reading::read_at;
 use avro_schema::{Limits, NodeId, Schema};
 use std::alloc::Global;
 
@@ -30,6 +30,6 @@ pub fn walk(
     let _count = schema.len();
     let mut cursor = Cursor::new(bytes, limits);
     let mut nothing = Nothing;
-    read_place(alloc, schema, node, &mut cursor, &mut nothing, ())?;
-    Ok(cursor.place())
+    read_at(alloc, schema, node, &mut cursor, &mut nothing, ())?;
+    Ok(cursor.offset())
 }

@@ -86,11 +86,11 @@ fn write_datum(datum: &Datum, out: &mut Vec<u8>) -> Result<(), AllocError>
         Datum::Array(items) => write_array(items, out),
         Datum::Map(entries) => write_map(entries, out),
         Datum::Union(branch, value) => {
-            write_place(*branch, out)?;
+            write_index(*branch, out)?;
             write_datum(value, out)
         }
         Datum::Record(values) => write_items(values, out),
-        Datum::Enum(symbol) => write_place(*symbol, out),
+        Datum::Enum(symbol) => write_index(*symbol, out),
         Datum::Fixed(bytes) => out.extend_from_slice(bytes),
     }
 }
@@ -141,12 +141,12 @@ fn write_count(count: usize, out: &mut Vec<u8>) -> Result<(), AllocError>
     write_number(count as i64, out)
 }
 
-/// Appends the place of a branch or of a symbol.
-fn write_place(place: u32, out: &mut Vec<u8>) -> Result<(), AllocError>
-    ensures appended { OnOk result (out.new.items ≡ out.old.items ++ number_bytes (pos place)) }
+/// Appends the index of a branch or of a symbol.
+fn write_index(index: u32, out: &mut Vec<u8>) -> Result<(), AllocError>
+    ensures appended { OnOk result (out.new.items ≡ out.old.items ++ number_bytes (pos index)) }
     ensures kept { take (length out.old.items) out.new.items ≡ out.old.items }
 {
-    write_number(i64::from(place), out)
+    write_number(i64::from(index), out)
 }
 
 /// Appends a length and the bytes.

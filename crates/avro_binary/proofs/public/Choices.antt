@@ -1,4 +1,4 @@
--- A schema's unions and enums have so few choices that the place of each is an int.
+-- A schema's unions and enums have so few choices that the index of each is an int.
 use Rattle.std.proofs.Common.{◌≡◌, ℕ, zero, suc, ◌^◌, ◌<◌, ◌≤◌, Bool, true, false, List, [], ◌∷◌, Option, Some, None, length, refl, sym, ap, ◌∙◌, subst, inl, inr, arith}
 use Rattle.std.specs.Prelude.{nat_lt, nat_le, ◌&&◌, ◌||◌, not, bytes_eq, eqb, is_some, slice_get, unwrap_or, filter_map}
 use Rattle.std.specs.List.{list_all, list_any, AllByRecursion, IsDistinct, cons_option}
@@ -13,11 +13,11 @@ use Rattle.avro_schema.specs.Distinct.{are_distinct}
 
 -- at most 2^31 branches or symbols
 abbrev pub HasFewChoices : Node → Type 0
-HasFewChoices (Node.union places) = length places ≤ 2 ^ 31
+HasFewChoices (Node.union ids) = length ids ≤ 2 ^ 31
 HasFewChoices (Node.enum name aliases symbols default) = length symbols ≤ 2 ^ 31
 HasFewChoices _ = Unit {0}
 
--- ---- The branches of a union are distinct places
+-- ---- The branches of a union are distinct ids
 
 same_kind-self : (k : BranchKind) → same_kind k k ≡ true
 same_kind-self (unnamed a) = (Decides-eqb a a).1 refl
@@ -31,48 +31,48 @@ has_some None h = absurd (false≢true h)
 has_some (Some x) h = (x, refl)
 
 module _ (nodes : List Node) where
-  abbrev kind_at_place : ℕ → Option BranchKind
-  kind_at_place place = branch_kind (node_at nodes place)
+  abbrev kind_at_id : ℕ → Option BranchKind
+  kind_at_id id = branch_kind (node_at nodes id)
 
-  another : (x y : ℕ) (k j : BranchKind) (t : Bool) → kind_at_place x ≡ Some k → kind_at_place y ≡ Some j → same_kind k j ≡ false → eqb x y ≡ t → t ≡ false
+  another : (x y : ℕ) (k j : BranchKind) (t : Bool) → kind_at_id x ≡ Some k → kind_at_id y ≡ Some j → same_kind k j ≡ false → eqb x y ≡ t → t ≡ false
   another x y k j false e f apart h = refl
   another x y k j true e f apart h =
-      let same : k ≡ j = one_kind (kind_at_place x) (kind_at_place y) k j (ap kind_at_place (eqb-true x y h)) e f in
+      let same : k ≡ j = one_kind (kind_at_id x) (kind_at_id y) k j (ap kind_at_id (eqb-true x y h)) e f in
       absurd (false≢true (sym apart ∙ ap (same_kind k) (sym same) ∙ same_kind-self k))
     where
       one_kind : (p q : Option BranchKind) (k j : BranchKind) → p ≡ q → p ≡ Some k → q ≡ Some j → k ≡ j
       one_kind p q k j a e f = cc
 
-  kinds_apart : (x : ℕ) (k : BranchKind) (xs : List ℕ) → kind_at_place x ≡ Some k → list_all (λ place. is_some (kind_at_place place)) xs ≡ true
-      → list_any (same_kind k) (filter_map kind_at_place xs) ≡ false → AllByRecursion (λ y. eqb x y ≡ false) xs
+  kinds_apart : (x : ℕ) (k : BranchKind) (xs : List ℕ) → kind_at_id x ≡ Some k → list_all (λ id. is_some (kind_at_id id)) xs ≡ true
+      → list_any (same_kind k) (filter_map kind_at_id xs) ≡ false → AllByRecursion (λ y. eqb x y ≡ false) xs
   kinds_apart x k [] e some none = tt
   kinds_apart x k (y ∷ ys) e some none =
-      let parts = and_parts (is_some (kind_at_place y)) (list_all (λ place. is_some (kind_at_place place)) ys) some in
-      let found = has_some (kind_at_place y) parts.0 in
-      let none' = subst (λ (o : Option BranchKind). list_any (same_kind k) (cons_option o (filter_map kind_at_place ys)) ≡ false) found.1 none in
-      let both = or_parts (same_kind k found.0) (list_any (same_kind k) (filter_map kind_at_place ys)) none' in
+      let parts = and_parts (is_some (kind_at_id y)) (list_all (λ id. is_some (kind_at_id id)) ys) some in
+      let found = has_some (kind_at_id y) parts.0 in
+      let none' = subst (λ (o : Option BranchKind). list_any (same_kind k) (cons_option o (filter_map kind_at_id ys)) ≡ false) found.1 none in
+      let both = or_parts (same_kind k found.0) (list_any (same_kind k) (filter_map kind_at_id ys)) none' in
       (another x y k found.0 (eqb x y) e found.1 both.0 refl, kinds_apart x k ys e parts.1 both.1)
 
-  distinct_places : (xs : List ℕ) → list_all (λ place. is_some (kind_at_place place)) xs ≡ true → are_distinct same_kind (filter_map kind_at_place xs) ≡ true → IsDistinct eqb xs
+  distinct_ids : (xs : List ℕ) → list_all (λ id. is_some (kind_at_id id)) xs ≡ true → are_distinct same_kind (filter_map kind_at_id xs) ≡ true → IsDistinct eqb xs
   unfolding IsDistinct
-  distinct_places [] some h = tt
-  distinct_places (x ∷ xs) some h =
-      let parts = and_parts (is_some (kind_at_place x)) (list_all (λ place. is_some (kind_at_place place)) xs) some in
-      let found = has_some (kind_at_place x) parts.0 in
-      let h' = subst (λ (o : Option BranchKind). are_distinct same_kind (cons_option o (filter_map kind_at_place xs)) ≡ true) found.1 h in
-      let both = and_parts (not (list_any (same_kind found.0) (filter_map kind_at_place xs))) (are_distinct same_kind (filter_map kind_at_place xs)) h' in (
-        kinds_apart x found.0 xs found.1 parts.1 (not-true (list_any (same_kind found.0) (filter_map kind_at_place xs)) both.0),
-        distinct_places xs parts.1 both.1,
+  distinct_ids [] some h = tt
+  distinct_ids (x ∷ xs) some h =
+      let parts = and_parts (is_some (kind_at_id x)) (list_all (λ id. is_some (kind_at_id id)) xs) some in
+      let found = has_some (kind_at_id x) parts.0 in
+      let h' = subst (λ (o : Option BranchKind). are_distinct same_kind (cons_option o (filter_map kind_at_id xs)) ≡ true) found.1 h in
+      let both = and_parts (not (list_any (same_kind found.0) (filter_map kind_at_id xs))) (are_distinct same_kind (filter_map kind_at_id xs)) h' in (
+        kinds_apart x found.0 xs found.1 parts.1 (not-true (list_any (same_kind found.0) (filter_map kind_at_id xs)) both.0),
+        distinct_ids xs parts.1 both.1,
       )
 
-  places_below : (from : ℕ) (xs : List ℕ) (q : ℕ) → list_all (is_edge nodes from) xs ≡ true → list_any (eqb q) xs ≡ true → q < length nodes
-  places_below from [] q edges h = absurd (false≢true h)
-  places_below from (x ∷ xs) q edges h =
+  ids_below : (from : ℕ) (xs : List ℕ) (q : ℕ) → list_all (is_edge nodes from) xs ≡ true → list_any (eqb q) xs ≡ true → q < length nodes
+  ids_below from [] q edges h = absurd (false≢true h)
+  ids_below from (x ∷ xs) q edges h =
       let parts = and_parts (is_edge nodes from x) (list_all (is_edge nodes from) xs) edges in
       let inside = and_parts (nat_lt x (length nodes)) (nat_lt from x || is_some (node_name (node_at nodes x))) parts.0 in
       elim (or_cases (eqb q x) (list_any (eqb q) xs) h) [
         | inl e ↦ below q x (length nodes) (eqb-true q x e) inside.0
-        | inr e ↦ places_below from xs q parts.1 e
+        | inr e ↦ ids_below from xs q parts.1 e
       ]
     where
       below : (q x n : ℕ) → q ≡ x → nat_lt x n ≡ true → q < n
@@ -80,19 +80,19 @@ module _ (nodes : List Node) where
 
   -- ---- Each node
 
-  few_places : (from : ℕ) (places : List ℕ) → length nodes ≤ 4096 → list_all (is_edge nodes from) places ≡ true → meets_its_rules nodes (Node.union places) ≡ true
-      → length places ≤ 2 ^ 31
-  few_places from places few edges h =
-      let some = λ (place : ℕ). is_some (kind_at_place place) in
-      let all = and_parts (nat_lt 0 (length places) && list_all some places) (are_distinct same_kind (filter_map kind_at_place places)) h in
-      let two = and_parts (nat_lt 0 (length places)) (list_all some places) all.0 in
-      omega (arith, length-le_from_distinct_below places (length nodes) (distinct_places places two.1 all.1) (λ q. places_below from places q edges))
+  few_ids : (from : ℕ) (ids : List ℕ) → length nodes ≤ 4096 → list_all (is_edge nodes from) ids ≡ true → meets_its_rules nodes (Node.union ids) ≡ true
+      → length ids ≤ 2 ^ 31
+  few_ids from ids few edges h =
+      let some = λ (id : ℕ). is_some (kind_at_id id) in
+      let all = and_parts (nat_lt 0 (length ids) && list_all some ids) (are_distinct same_kind (filter_map kind_at_id ids)) h in
+      let two = and_parts (nat_lt 0 (length ids)) (list_all some ids) all.0 in
+      omega (arith, length-le_from_distinct_below ids (length nodes) (distinct_ids ids two.1 all.1) (λ q. ids_below from ids q edges))
 
   few_choices : (from : ℕ) (n : Node) → length nodes ≤ 4096 → is_good_node nodes from n ≡ true → HasFewChoices n
-  few_choices from (Node.union places) few h =
-      let n = Node.union places in
-      let all = and_parts (list_all (is_edge nodes from) places && has_good_names n) (meets_its_rules nodes n) h in
-      few_places from places few (and_parts (list_all (is_edge nodes from) places) (has_good_names n) all.0).0 all.1
+  few_choices from (Node.union ids) few h =
+      let n = Node.union ids in
+      let all = and_parts (list_all (is_edge nodes from) ids && has_good_names n) (meets_its_rules nodes n) h in
+      few_ids from ids few (and_parts (list_all (is_edge nodes from) ids) (has_good_names n) all.0).0 all.1
   few_choices from (Node.enum name aliases symbols default) few h =
       let n = Node.enum name aliases symbols default in
       let all = and_parts (list_all (is_edge nodes from) [] && has_good_names n) (meets_its_rules nodes n) h in
@@ -114,8 +114,8 @@ module _ (nodes : List Node) where
   few_from from (n ∷ ns) (suc k) few h = few_from (suc from) ns k few (and_parts (is_good_node nodes from n) (are_good_nodes nodes (suc from) ns) h).1
 
 -- so has each node of a schema
-pub HasFewChoices-from_is_schema : (nodes : List Node) → is_schema nodes ≡ true → (place : ℕ) → HasFewChoices (node_at nodes place)
-HasFewChoices-from_is_schema nodes h place = few_from nodes 0 nodes place (few (length nodes) (grind arith)) (grind arith)
+pub HasFewChoices-from_is_schema : (nodes : List Node) → is_schema nodes ≡ true → (id : ℕ) → HasFewChoices (node_at nodes id)
+HasFewChoices-from_is_schema nodes h id = few_from nodes 0 nodes id (few (length nodes) (grind arith)) (grind arith)
   where
     few : (n : ℕ) → nat_le n 4096 ≡ true → n ≤ 4096
     few n e = grind (arith, nat_tests)

@@ -1,4 +1,4 @@
--- Lists that go together, place by place.
+-- Lists that go together, item by item.
 use Rattle.std.proofs.Common.{◌≡◌, List, [], ◌∷◌, ◌++◌, refl}
 use Rattle.std.specs.List.{AllZip}
 use Rattle.std.specs.Prelude.{map}

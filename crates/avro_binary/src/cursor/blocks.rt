@@ -25,7 +25,7 @@ impl<'a> Cursor<'a> {
             Ok((count, len)) => {
                 if count == i64::MIN {
                     return Err(ReadError::InvalidLength {
-                        place: self.place(),
+                        place: self.offset(),
                     });
                 }
                 let magnitude = count.unsigned_abs();
@@ -34,7 +34,7 @@ impl<'a> Cursor<'a> {
                 }
                 Ok((count < 0, magnitude as u32, len))
             }
-            Err(error) => Err(number_error(error, self.place())),
+            Err(error) => Err(number_error(error, self.offset())),
         }
     }
 
@@ -50,12 +50,12 @@ impl<'a> Cursor<'a> {
             Ok((size, more)) => {
                 if size < 0 {
                     return Err(ReadError::InvalidLength {
-                        place: self.place_behind(len),
+                        place: self.offset_behind(len),
                     });
                 }
                 Ok((size as u64, len + more))
             }
-            Err(error) => Err(number_error(error, self.place_behind(len))),
+            Err(error) => Err(number_error(error, self.offset_behind(len))),
         }
     }
 
@@ -95,12 +95,12 @@ impl<'a> Cursor<'a> {
     {
         match self.block_size(len) {
             Ok((bytes, both)) => {
-                let place = self.place_behind(len);
-                let items = self.place_behind(both);
+                let offset = self.offset_behind(len);
+                let items = self.offset_behind(both);
                 self.pass(both);
                 let size = BlockSize {
                     bytes,
-                    place,
+                    offset,
                     items,
                 };
                 Ok(Some(Block {
@@ -119,15 +119,15 @@ impl<'a> Cursor<'a> {
     ///
     /// `WrongBlockSize`.
     pub fn end_block(&self, block: &Block) -> Result<(), ReadError>
-        ensures { (place n : ℕ) (head : Head) → IsBlock place head block.now → self.now.place ≡ place + length (head_bytes head) + n → EndsBlock place head n result }
+        ensures { (offset n : ℕ) (head : Head) → IsBlock offset head block.now → self.now.offset ≡ offset + length (head_bytes head) + n → EndsBlock offset head n result }
     {
         match block.size {
             Some(size) => {
-                let place = self.place();
-                if place >= size.items && (place - size.items) as u64 == size.bytes {
+                let offset = self.offset();
+                if offset >= size.items && (offset - size.items) as u64 == size.bytes {
                     Ok(())
                 } else {
-                    Err(ReadError::WrongBlockSize { place: size.place })
+                    Err(ReadError::WrongBlockSize { place: size.offset })
                 }
             }
             None => Ok(()),

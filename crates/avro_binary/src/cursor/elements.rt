@@ -22,7 +22,7 @@ impl<'a> Cursor<'a> {
     {
         match self.rest().first() {
             None => Err(ReadError::EndOfInput {
-                place: self.place(),
+                place: self.offset(),
             }),
             Some(0) => {
                 self.pass(1);
@@ -33,7 +33,7 @@ impl<'a> Cursor<'a> {
                 Ok(true)
             }
             Some(_) => Err(ReadError::InvalidBoolean {
-                place: self.place(),
+                place: self.offset(),
             }),
         }
     }
@@ -52,7 +52,7 @@ impl<'a> Cursor<'a> {
                 self.pass(len);
                 Ok(value)
             }
-            Err(error) => Err(number_error(error, self.place())),
+            Err(error) => Err(number_error(error, self.offset())),
         }
     }
 
@@ -70,7 +70,7 @@ impl<'a> Cursor<'a> {
                 self.pass(len);
                 Ok(number)
             }
-            Err(error) => Err(number_error(error, self.place())),
+            Err(error) => Err(number_error(error, self.offset())),
         }
     }
 
@@ -88,13 +88,13 @@ impl<'a> Cursor<'a> {
         let size = size as usize;
         if size > self.rest().len() {
             return Err(ReadError::EndOfInput {
-                place: self.place(),
+                place: self.offset(),
             });
         }
         Ok(self.pass(size))
     }
 
-    /// Reads the place of a branch or a symbol, below their count.
+    /// Reads the index of a branch or a symbol, below their count.
     ///
     /// # Errors
     ///
@@ -103,16 +103,16 @@ impl<'a> Cursor<'a> {
         ensures { ReadsElement (λ n. n) (IsIndex choices) (IndexBreaks choices) self.old self.new result }
     {
         match read_int(self.rest()) {
-            Ok((value, len)) => match place_of(value, choices) {
+            Ok((value, len)) => match index_of(value, choices) {
                 Some(index) => {
                     self.pass(len);
                     Ok(index)
                 }
                 None => Err(ReadError::UnknownIndex {
-                    place: self.place(),
+                    place: self.offset(),
                 }),
             },
-            Err(error) => Err(number_error(error, self.place())),
+            Err(error) => Err(number_error(error, self.offset())),
         }
     }
 
@@ -128,7 +128,7 @@ impl<'a> Cursor<'a> {
             Ok((count, len)) => {
                 if count < 0 {
                     return Err(ReadError::InvalidLength {
-                        place: self.place(),
+                        place: self.offset(),
                     });
                 }
                 if count > i64::from(self.blob) {
@@ -136,7 +136,7 @@ impl<'a> Cursor<'a> {
                 }
                 Ok((count as usize, len))
             }
-            Err(error) => Err(number_error(error, self.place())),
+            Err(error) => Err(number_error(error, self.offset())),
         }
     }
 
@@ -151,7 +151,7 @@ impl<'a> Cursor<'a> {
                 let (_, behind) = self.rest().split_at(len);
                 if count > behind.len() {
                     return Err(ReadError::EndOfInput {
-                        place: self.place_behind(len),
+                        place: self.offset_behind(len),
                     });
                 }
                 let (content, _) = behind.split_at(count);
@@ -172,7 +172,7 @@ impl<'a> Cursor<'a> {
             Ok((content, len)) => match text_of(content) {
                 Some(text) => Ok((text, len)),
                 None => Err(ReadError::InvalidText {
-                    place: self.place_behind(len - content.len()),
+                    place: self.offset_behind(len - content.len()),
                 }),
             },
             Err(error) => Err(error),
@@ -231,7 +231,7 @@ impl<'a> Cursor<'a> {
                     Ok(text)
                 }
                 Ok(false) => Err(ReadError::DuplicateKey {
-                    place: self.place(),
+                    place: self.offset(),
                 }),
                 Err(_) => Err(ReadError::OutOfMemory),
             },
@@ -240,8 +240,8 @@ impl<'a> Cursor<'a> {
     }
 }
 
-/// The place that a number names, below a count.
-fn place_of(value: i32, choices: usize) -> Option<usize>
+/// The index that a number names, below a count.
+fn index_of(value: i32, choices: usize) -> Option<usize>
     ensures some { IfSome result (λ index. (value ≡ pos index) × (index < choices)) }
     ensures none { IfNone result (is_index choices value ≡ false) }
 {

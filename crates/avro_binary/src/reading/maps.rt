@@ -1,4 +1,4 @@
-//! Reading maps, within the cycle that reads a place.
+//! Reading maps, within the cycle that reads a node.
 
 ghost use Rattle.std.specs.Prelude.{◌≡◌, List, ℕ, ◌++◌, true, bytes_eq};
 ghost use Rattle.avro_schema.specs.Distinct.{are_distinct};
@@ -14,7 +14,7 @@ use crate::cursor::Cursor;
 use crate::error::ReadError;
 use crate::keys::Keys;
 use crate::make::Make;
-use crate::reading::read_place;
+use crate::reading::read_at;
 use avro_schema::{NodeId, Schema};
 use std::alloc::Global;
 
@@ -24,15 +24,15 @@ use std::alloc::Global;
 pub(crate) fn read_map<M: Make>(
     alloc: Global,
     schema: &Schema,
-    place: NodeId,
+    id: NodeId,
     cursor: &mut Cursor<'_>,
     maker: &mut M,
     at: M::At,
 ) -> Result<M::Out, ReadError>
-    ensures { ReadsNode (Made M.keeps (λ m. M.stands_for m (schema_nodes schema.now) (SeenNode.map_of place.0) at) maker.old maker.new) (schema_nodes schema.now) (SeenNode.map_of place.0) cursor.old cursor.new result }
+    ensures { ReadsNode (Made M.keeps (λ m. M.stands_for m (schema_nodes schema.now) (SeenNode.map_of id.0) at) maker.old maker.new) (schema_nodes schema.now) (SeenNode.map_of id.0) cursor.old cursor.new result }
 {
     cursor.enter()?;
-    let out = read_entry_blocks(alloc, schema, place, cursor, maker, at)?;
+    let out = read_entry_blocks(alloc, schema, id, cursor, maker, at)?;
     cursor.leave();
     Ok(out)
 }
@@ -43,12 +43,12 @@ pub(crate) fn read_map<M: Make>(
 fn read_entry_blocks<M: Make>(
     alloc: Global,
     schema: &Schema,
-    place: NodeId,
+    id: NodeId,
     cursor: &mut Cursor<'_>,
     maker: &mut M,
     at: M::At,
 ) -> Result<M::Out, ReadError>
-    ensures { ReadsNode (Made M.keeps (λ m. M.stands_for m (schema_nodes schema.now) (SeenNode.map_of place.0) at) maker.old maker.new) (schema_nodes schema.now) (SeenNode.map_of place.0) (outside cursor.old) (left_node cursor.new) result }
+    ensures { ReadsNode (Made M.keeps (λ m. M.stands_for m (schema_nodes schema.now) (SeenNode.map_of id.0) at) maker.old maker.new) (schema_nodes schema.now) (SeenNode.map_of id.0) (outside cursor.old) (left_node cursor.new) result }
 {
     // Its contract says that fewer than 2^32 nodes are left, so that no count of parts is too large.
     let _nodes = cursor.nodes();
@@ -62,7 +62,7 @@ fn read_entry_blocks<M: Make>(
         read_entries(
             alloc,
             schema,
-            place,
+            id,
             count,
             cursor,
             &mut keys,
@@ -82,7 +82,7 @@ fn read_entry_blocks<M: Make>(
 fn read_entries<'a, M: Make>(
     alloc: Global,
     schema: &Schema,
-    place: NodeId,
+    id: NodeId,
     count: u32,
     cursor: &mut Cursor<'a>,
     keys: &mut Keys<'a>,
@@ -90,15 +90,15 @@ fn read_entries<'a, M: Make>(
     entries: &mut M::Entries,
 ) -> Result<(), ReadError>
     ensures { (limits : LimitValues) (before : List (List ℕ)) → limits.depth ≡ cursor.old.depth → limits.blob ≡ cursor.old.blob → keys.old ≡ key_set before
-        → are_distinct bytes_eq before ≡ true → (let nodes = schema_nodes schema.now in let n = node_at nodes place.0 in
+        → are_distinct bytes_eq before ≡ true → (let nodes = schema_nodes schema.now in let n = node_at nodes id.0 in
         ReadsRun (EntriesRun nodes limits n) (entry_breaks nodes limits n)
-        (λ es after. (keys.new ≡ key_set after) × M.keeps maker.old maker.new × ((at : M.At) (fs : List (List ℕ × Value)) → M.entries_stand_for maker.old nodes place.0 at entries.old fs → M.entries_stand_for maker.new nodes place.0 at entries.new (fs ++ es)))
+        (λ es after. (keys.new ≡ key_set after) × M.keeps maker.old maker.new × ((at : M.At) (fs : List (List ℕ × Value)) → M.entries_stand_for maker.old nodes id.0 at entries.old fs → M.entries_stand_for maker.new nodes id.0 at entries.new (fs ++ es)))
         count before cursor.old cursor.new result) }
 {
     for _done in 0..count {
         let key = cursor.key(keys)?;
         let at = maker.entry_at(entries);
-        let value = read_place(alloc, schema, place, cursor, maker, at)?;
+        let value = read_at(alloc, schema, id, cursor, maker, at)?;
         match maker.entry(alloc, entries, key, value) {
             Ok(()) => {}
             Err(_) => return Err(ReadError::OutOfMemory),

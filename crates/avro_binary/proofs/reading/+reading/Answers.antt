@@ -11,13 +11,13 @@ use Rattle.avro_schema.specs.SeenSchema.{schema_nodes}
 use Rattle.avro_binary.specs.Elements.{Finds, IsIndex}
 use Rattle.avro_binary.specs.Making.{Made}
 use Rattle.avro_binary.specs.CursorReads.{limits_at}
-use Rattle.avro_binary.proofs.BlockSteps.{head_read, end_read, has_size, blocks_none, head_refused, item_refused, size_refused, depth_kept, blob_kept, place_is, block_smaller, blocks_push}
-use Rattle.avro_binary.proofs.NodeSteps.{node_left, node_refused, enter_refused, ArrayDone, array_found, map_found, FieldsDone, fields_none, branch_refused, union_found, branch_at, places-length, texts-length, null_past, fields_push, field_breaks, record_found, record_refused, places_split, places_next, places_all}
+use Rattle.avro_binary.proofs.BlockSteps.{head_read, end_read, has_size, blocks_none, head_refused, item_refused, size_refused, depth_kept, blob_kept, offset_is, block_smaller, blocks_push}
+use Rattle.avro_binary.proofs.NodeSteps.{node_left, node_refused, enter_refused, ArrayDone, array_found, map_found, FieldsDone, fields_none, branch_refused, union_found, branch_at, ids-length, texts-length, null_past, fields_push, field_breaks, record_found, record_refused, ids_split, ids_next, ids_all}
 use Rattle.avro_binary.proofs.RunLaws.{values_kind, entries_kind}
 use Rattle.avro_binary.proofs.RunSteps.{run_none, run_push, run_breaks, value_run, value_report, entry_run, entry_report, key_report, moves-join, moves-passed}
 use Rattle.avro_binary.proofs.reading.+reading.Goals as goal
 
--- a place that a test finds past the end
+-- an id that a test finds past the end
 not-below : (k n : ℕ) (b : Bool) → b ≡ false → (k < n → IsTrue b) → n ≤ k
 not-below k n true h f = absurd cc
 not-below k n false h f = elim (nat_lt k n) as (λ x. nat_lt k n ≡ x → n ≤ k) [
@@ -25,18 +25,18 @@ not-below k n false h f = elim (nat_lt k n) as (λ x. nat_lt k n ≡ x → n ≤
   | false ↦ λ e. search (rules, tests)
 ] refl
 
--- the place of a field
-field_place_at : (fields : List Field) (k : ℕ) (d : Field) → k < length fields → slice_get (field_places (seen_fields fields)) k ≡ Some (get_or fields k d).node.0
-field_place_at [] k d h = absurd (omega arith)
-field_place_at (f ∷ fields) zero d h = refl
-field_place_at (f ∷ fields) (suc k) d h = field_place_at fields k d (omega arith)
+-- the id of a field
+field_id_at : (fields : List Field) (k : ℕ) (d : Field) → k < length fields → slice_get (field_places (seen_fields fields)) k ≡ Some (get_or fields k d).node.0
+field_id_at [] k d h = absurd (omega arith)
+field_id_at (f ∷ fields) zero d h = refl
+field_id_at (f ∷ fields) (suc k) d h = field_id_at fields k d (omega arith)
 
 -- ---- Arrays
 
 pub read_item_blocks-loop-items-init : goal.read_item_blocks-loop-items-init
 read_item_blocks-loop-items-init g t c =
     let nodes = schema_nodes c.args.schema.now in
-    ([], blocks_none (values_kind nodes (limits_at c.args.cursor.now) (node_at nodes c.args.place.0)) c.args.cursor.now tt, c.in-Ok.ensures.kept, c.in-Ok.ensures.stands nodes c.args.place.0)
+    ([], blocks_none (values_kind nodes (limits_at c.args.cursor.now) (node_at nodes c.args.id.0)) c.args.cursor.now tt, c.in-Ok.ensures.kept, c.in-Ok.ensures.stands nodes c.args.id.0)
 
 pub read_item_blocks-returns-in_err-block : goal.read_item_blocks-returns-in_err-block
 read_item_blocks-returns-in_err-block g t c =
@@ -69,8 +69,8 @@ read_item_blocks-loop-items-preserved g t c =
     let found = read.found.3 in
     let counted = read.found.2 ∙ c.count.ensures in
     let size = length (concat found.items) in
-    let ends = c.in_ok-end_block.ensures c.loop-items.cursor.place size head.head head.is_block (place_is done head found counted) in
-    (inv.0 ++ read.found.0, subst (λ (keys : List (List ℕ)). ArrayDone (schema_nodes c.args.schema.now) c.args.place.0 c.args.cursor.now c.read_items.new.cursor keys (inv.0 ++ read.found.0)) found.stand.keys (blocks_push done head found counted (has_size tt c.loop-items.cursor.place head.head size ends)), g.met.M.Make.keeps_on c.args.maker.now c.loop-items.maker c.read_items.new.maker inv.2 read.found.4.0, read.found.4.1 c.args.at inv.0 inv.3)
+    let ends = c.in_ok-end_block.ensures c.loop-items.cursor.offset size head.head head.is_block (offset_is done head found counted) in
+    (inv.0 ++ read.found.0, subst (λ (keys : List (List ℕ)). ArrayDone (schema_nodes c.args.schema.now) c.args.id.0 c.args.cursor.now c.read_items.new.cursor keys (inv.0 ++ read.found.0)) found.stand.keys (blocks_push done head found counted (has_size tt c.loop-items.cursor.offset head.head size ends)), g.met.M.Make.keeps_on c.args.maker.now c.loop-items.maker c.read_items.new.maker inv.2 read.found.4.0, read.found.4.1 c.args.at inv.0 inv.3)
 
 pub read_item_blocks-returns-in_err-end_block : goal.read_item_blocks-returns-in_err-end_block
 read_item_blocks-returns-in_err-end_block g t c =
@@ -81,7 +81,7 @@ read_item_blocks-returns-in_err-end_block g t c =
     let found = read.found.3 in
     let counted = read.found.2 ∙ c.count.ensures in
     let p = err_from_is_err_and c.from_residual-in_err-end_block.result c.from_residual-in_err-end_block.ensures.1 in
-    let ends = c.in_err-end_block.ensures c.loop-items.cursor.place (length (concat found.items)) head.head head.is_block (place_is done head found counted) in
+    let ends = c.in_err-end_block.ensures c.loop-items.cursor.offset (length (concat found.items)) head.head head.is_block (offset_is done head found counted) in
     rw (p.1, p.2) (record { found = tt; refused = size_refused done head found counted (Unit {0}) c.in_err-end_block.field-0.0 ends })
 
 pub read_item_blocks-returns-in-Ok-array : goal.read_item_blocks-returns-in-Ok-array
@@ -89,14 +89,14 @@ read_item_blocks-returns-in-Ok-array g t c =
     let inv = c.loop-items.invariant in
     let nodes = schema_nodes c.args.schema.now in
     let end = end_read c.loop-items.cursor c.block.new.self (rw c.in_default.is at c.in_ok-block.ensures.found) in
-    array_found nodes c.args.place.0 inv.1 end c.in-Ok-array.out c.nodes-nodes.ensures.in_range (g.met.M.Make.keeps_on c.args.maker.now c.loop-items.maker c.array.new.self inv.2 c.in-Ok-array.ensures.kept, c.in-Ok-array.ensures.stands nodes c.args.place.0 c.args.at inv.0 inv.3)
+    array_found nodes c.args.id.0 inv.1 end c.in-Ok-array.out c.nodes-nodes.ensures.in_range (g.met.M.Make.keeps_on c.args.maker.now c.loop-items.maker c.array.new.self inv.2 c.in-Ok-array.ensures.kept, c.in-Ok-array.ensures.stands nodes c.args.id.0 c.args.at inv.0 inv.3)
 
 -- ---- Maps
 
 pub maps::read_entry_blocks-loop-entries-init : goal.maps::read_entry_blocks-loop-entries-init
 maps::read_entry_blocks-loop-entries-init g t c =
     let nodes = schema_nodes c.args.schema.now in
-    ([], [], c.new-keys.ensures, blocks_none (entries_kind nodes (limits_at c.args.cursor.now) (node_at nodes c.args.place.0)) c.args.cursor.now refl, c.in-Ok.ensures.kept, c.in-Ok.ensures.stands nodes c.args.place.0)
+    ([], [], c.new-keys.ensures, blocks_none (entries_kind nodes (limits_at c.args.cursor.now) (node_at nodes c.args.id.0)) c.args.cursor.now refl, c.in-Ok.ensures.kept, c.in-Ok.ensures.stands nodes c.args.id.0)
 
 pub maps::read_entry_blocks-returns-in_err-head : goal.maps::read_entry_blocks-returns-in_err-head
 maps::read_entry_blocks-returns-in_err-head g t c =
@@ -108,7 +108,7 @@ maps::read_entry_blocks-returns-in-Ok-map g t c =
     let inv = c.loop-entries.invariant in
     let nodes = schema_nodes c.args.schema.now in
     let end = end_read c.loop-entries.cursor c.block.new.self (rw c.in_default.is at c.in_ok-head.ensures.found) in
-    map_found nodes c.args.place.0 inv.3 end c.in-Ok-map.out c.nodes-nodes.ensures.in_range (g.met.M.Make.keeps_on c.args.maker.now c.loop-entries.maker c.map.new.self inv.4 c.in-Ok-map.ensures.kept, c.in-Ok-map.ensures.stands nodes c.args.place.0 c.args.at inv.0 inv.5)
+    map_found nodes c.args.id.0 inv.3 end c.in-Ok-map.out c.nodes-nodes.ensures.in_range (g.met.M.Make.keeps_on c.args.maker.now c.loop-entries.maker c.map.new.self inv.4 c.in-Ok-map.ensures.kept, c.in-Ok-map.ensures.stands nodes c.args.id.0 c.args.at inv.0 inv.5)
 
 pub maps::read_entry_blocks-returns-in_err-read_entries : goal.maps::read_entry_blocks-returns-in_err-read_entries
 maps::read_entry_blocks-returns-in_err-read_entries g t c =
@@ -136,8 +136,8 @@ maps::read_entry_blocks-loop-entries-preserved g t c =
     let found = read.found.3 in
     let counted = read.found.2 ∙ c.count-count.ensures in
     let size = length (concat found.items) in
-    let ends = c.in_ok-end_block.ensures c.loop-entries.cursor.place size head.head head.is_block (place_is done head found counted) in
-    (inv.0 ++ read.found.0, read.found.1, read.found.4.0, blocks_push done head found counted (has_size tt c.loop-entries.cursor.place head.head size ends), g.met.M.Make.keeps_on c.args.maker.now c.loop-entries.maker c.read_entries.new.maker inv.4 read.found.4.1, read.found.4.2 c.args.at inv.0 inv.5)
+    let ends = c.in_ok-end_block.ensures c.loop-entries.cursor.offset size head.head head.is_block (offset_is done head found counted) in
+    (inv.0 ++ read.found.0, read.found.1, read.found.4.0, blocks_push done head found counted (has_size tt c.loop-entries.cursor.offset head.head size ends), g.met.M.Make.keeps_on c.args.maker.now c.loop-entries.maker c.read_entries.new.maker inv.4 read.found.4.1, read.found.4.2 c.args.at inv.0 inv.5)
 
 pub maps::read_entry_blocks-returns-in_err-end_block : goal.maps::read_entry_blocks-returns-in_err-end_block
 maps::read_entry_blocks-returns-in_err-end_block g t c =
@@ -148,7 +148,7 @@ maps::read_entry_blocks-returns-in_err-end_block g t c =
     let found = read.found.3 in
     let counted = read.found.2 ∙ c.count-count.ensures in
     let p = err_from_is_err_and c.from_residual-in_err-end_block.result c.from_residual-in_err-end_block.ensures.1 in
-    let ends = c.in_err-end_block.ensures c.loop-entries.cursor.place (length (concat found.items)) head.head head.is_block (place_is done head found counted) in
+    let ends = c.in_err-end_block.ensures c.loop-entries.cursor.offset (length (concat found.items)) head.head head.is_block (offset_is done head found counted) in
     rw (p.1, p.2) (record { found = tt; refused = size_refused done head found counted (Unit {0}) c.in_err-end_block.field-0.0 ends })
 
 -- ---- Entries
@@ -156,7 +156,7 @@ maps::read_entry_blocks-returns-in_err-end_block g t c =
 pub maps::read_entries-returns-in_err-key : goal.maps::read_entries-returns-in_err-key
 maps::read_entries-returns-in_err-key g t c = λ limits before d b are distinct.
     let nodes = schema_nodes c.args.schema.now in
-    let n = node_at nodes c.args.place.0 in
+    let n = node_at nodes c.args.id.0 in
     let now = c.loop-done.cursor in
     let so_far = c.loop-done.invariant.1 limits before d b are distinct in
     let xs = so_far.0 in
@@ -174,7 +174,7 @@ maps::read_entries-returns-in_err-key g t c = λ limits before d b are distinct.
 pub maps::read_entries-returns-in_err-value : goal.maps::read_entries-returns-in_err-value
 maps::read_entries-returns-in_err-value g t c = λ limits before d b are distinct.
     let nodes = schema_nodes c.args.schema.now in
-    let n = node_at nodes c.args.place.0 in
+    let n = node_at nodes c.args.id.0 in
     let now = c.loop-done.cursor in
     let so_far = c.loop-done.invariant.1 limits before d b are distinct in
     let xs = so_far.0 in
@@ -197,7 +197,7 @@ maps::read_entries-loop-done-preserved g t c = (
   let found = c.in_ok-value.ensures.found in found.1.moves.depth ∙ c.in_ok-key.ensures.depth ∙ c.loop-done.invariant.0,
   λ limits before d b are distinct.
       let nodes = schema_nodes c.args.schema.now in
-      let n = node_at nodes c.args.place.0 in
+      let n = node_at nodes c.args.id.0 in
       let now = c.loop-done.cursor in
       let so_far = c.loop-done.invariant.1 limits before d b are distinct in
       let xs = so_far.0 in
@@ -212,7 +212,7 @@ maps::read_entries-loop-done-preserved g t c = (
       let is = read.found.1 in
       let passes = read.found.2 in
       let found = c.in_ok-value.ensures.found in
-      let after = c.read_place.new.cursor in
+      let after = c.read_at.new.cursor in
       let v = found.0 in
       let value = found.1 in
       let one = entry_run nodes limits n now mid after keys key front v value ((entries_kind nodes limits n).laws.prepared _ _ xs run.items run.stand) is passes deep long in
@@ -220,13 +220,13 @@ maps::read_entries-loop-done-preserved g t c = (
       let more = run_push (entries_kind nodes limits n) run after (keys ++ key ∷ []) (key, v) (front ++ value.front) one moved in
       let counted = so_far.2 in
       let maker = c.loop-done.maker in
-      let made = c.read_place.new.maker in
+      let made = c.read_at.new.maker in
       let entries = c.loop-done.entries in
       let is_for = subst (λ (a : g.row.M-At.Denot). g.M.Make.stands_for made nodes n a c.in_ok-value.value v) (c.entry_at-at.ensures ∙ g.met.M.Make.entry_at_kept maker made entries found.2.0) found.2.1 in
       let kept = g.met.M.Make.keeps_on c.args.maker.now maker c.entry.new.self so_far.5 (g.met.M.Make.keeps_on maker made c.entry.new.self found.2.0 c.in-Ok.ensures.kept) in
-      let stand = λ (at : g.row.M-At.Denot) (fs : List (List ℕ × Value)) (h : g.M.Make.entries_stand_for c.args.maker.now nodes c.args.place.0 at c.args.entries.now fs).
-      subst (λ (es : List (List ℕ × Value)). g.M.Make.entries_stand_for c.entry.new.self nodes c.args.place.0 at c.entry.new.entries es) (append_assoc fs xs ((key, v) ∷ []))
-      (c.in-Ok.ensures.stands nodes c.args.place.0 at (fs ++ xs) v (g.met.M.Make.entries_kept maker made nodes c.args.place.0 at entries (fs ++ xs) found.2.0 (so_far.6 at fs h)) is_for) in
+      let stand = λ (at : g.row.M-At.Denot) (fs : List (List ℕ × Value)) (h : g.M.Make.entries_stand_for c.args.maker.now nodes c.args.id.0 at c.args.entries.now fs).
+      subst (λ (es : List (List ℕ × Value)). g.M.Make.entries_stand_for c.entry.new.self nodes c.args.id.0 at c.entry.new.entries es) (append_assoc fs xs ((key, v) ∷ []))
+      (c.in-Ok.ensures.stands nodes c.args.id.0 at (fs ++ xs) v (g.met.M.Make.entries_kept maker made nodes c.args.id.0 at entries (fs ++ xs) found.2.0 (so_far.6 at fs h)) is_for) in
       (xs ++ (key, v) ∷ [], keys ++ key ∷ [], omega (arith, length-append xs ((key, v) ∷ [])), read.added, more, kept, stand),
 )
 
@@ -248,7 +248,7 @@ pub read_items-returns-in_err-value : goal.read_items-returns-in_err-value
 read_items-returns-in_err-value g t c = λ limits d b.
     let p = err_from_is_err_and c.from_residual.result c.from_residual.ensures.1 in
     let nodes = schema_nodes c.args.schema.now in
-    let n = node_at nodes c.args.place.0 in
+    let n = node_at nodes c.args.id.0 in
     let now = c.loop-done.cursor in
     let so_far = c.loop-done.invariant.1 limits d b in
     let counted = so_far.1 in
@@ -262,9 +262,9 @@ pub read_items-loop-done-preserved : goal.read_items-loop-done-preserved
 read_items-loop-done-preserved g t c =
     let found = c.in_ok-value.ensures.found in
     let nodes = schema_nodes c.args.schema.now in
-    let n = node_at nodes c.args.place.0 in
+    let n = node_at nodes c.args.id.0 in
     let now = c.loop-done.cursor in
-    let after = c.read_place.new.cursor in
+    let after = c.read_at.new.cursor in
     let v = found.0 in
     let value = found.1 in (
       value.moves.depth ∙ c.loop-done.invariant.0,
@@ -275,13 +275,13 @@ read_items-loop-done-preserved g t c =
           let one = value_run nodes limits n now after [] v value (d ∙ sym so_far.2.moves.depth) (b ∙ sym so_far.2.moves.blob) in
           let more = run_push (values_kind nodes limits n) so_far.2 after [] v value.front one value.moves in
           let maker = c.loop-done.maker in
-          let made = c.read_place.new.maker in
+          let made = c.read_at.new.maker in
           let items = c.loop-done.items in
           let is_for = subst (λ (a : g.row.M-At.Denot). g.M.Make.stands_for made nodes n a c.in_ok-value.value v) (c.item_at-at.ensures ∙ g.met.M.Make.item_at_kept maker made items found.2.0) found.2.1 in
           let kept = g.met.M.Make.keeps_on c.args.maker.now maker c.item.new.self so_far.3 (g.met.M.Make.keeps_on maker made c.item.new.self found.2.0 c.in-Ok.ensures.kept) in
-          let stand = λ (at : g.row.M-At.Denot) (us : List Value) (h : g.M.Make.items_stand_for c.args.maker.now nodes c.args.place.0 at c.args.items.now us).
-          subst (λ (vs : List Value). g.M.Make.items_stand_for c.item.new.self nodes c.args.place.0 at c.item.new.items vs) (append_assoc us xs (v ∷ []))
-          (c.in-Ok.ensures.stands nodes c.args.place.0 at (us ++ xs) v (g.met.M.Make.items_kept maker made nodes c.args.place.0 at items (us ++ xs) found.2.0 (so_far.4 at us h)) is_for) in
+          let stand = λ (at : g.row.M-At.Denot) (us : List Value) (h : g.M.Make.items_stand_for c.args.maker.now nodes c.args.id.0 at c.args.items.now us).
+          subst (λ (vs : List Value). g.M.Make.items_stand_for c.item.new.self nodes c.args.id.0 at c.item.new.items vs) (append_assoc us xs (v ∷ []))
+          (c.in-Ok.ensures.stands nodes c.args.id.0 at (us ++ xs) v (g.met.M.Make.items_kept maker made nodes c.args.id.0 at items (us ++ xs) found.2.0 (so_far.4 at us h)) is_for) in
           (xs ++ v ∷ [], omega (arith, length-append xs (v ∷ [])), more, kept, stand),
     )
 
@@ -296,51 +296,51 @@ read_items-returns g t c = λ limits d b.
 
 -- ---- Nodes
 
-pub read_place-returns-then-not-has : goal.read_place-returns-then-not-has
-read_place-returns-then-not-has g t c =
+pub read_at-returns-then-not-has : goal.read_at-returns-then-not-has
+read_at-returns-then-not-has g t c =
     let nodes = schema_nodes c.args.schema.now in
     let none = c.if-not-has.true in
     let has = c.has.ensures in
-    let past : length nodes ≤ c.args.place.0 = not-below c.args.place.0 (length nodes) c.has.result none has.1 in
-    rw (null_past nodes c.args.place.0 past) (c.read_null.ensures nodes)
+    let past : length nodes ≤ c.args.id.0 = not-below c.args.id.0 (length nodes) c.has.result none has.1 in
+    rw (null_past nodes c.args.id.0 past) (c.read_null.ensures nodes)
 
-pub read_place-returns-in-Null : goal.read_place-returns-in-Null
-read_place-returns-in-Null g t c =
+pub read_at-returns-in-Null : goal.read_at-returns-in-Null
+read_at-returns-in-Null g t c =
     rw (sym c.node.ensures ∙ ap node_of c.in-Null.is) (c.read_null-in-Null.ensures (schema_nodes c.args.schema.now))
 
-pub read_place-returns-in-Boolean : goal.read_place-returns-in-Boolean
-read_place-returns-in-Boolean g t c =
+pub read_at-returns-in-Boolean : goal.read_at-returns-in-Boolean
+read_at-returns-in-Boolean g t c =
     rw (sym c.node.ensures ∙ ap node_of c.in-Boolean.is) (c.read_boolean.ensures (schema_nodes c.args.schema.now))
 
-pub read_place-returns-in-Int : goal.read_place-returns-in-Int
-read_place-returns-in-Int g t c =
+pub read_at-returns-in-Int : goal.read_at-returns-in-Int
+read_at-returns-in-Int g t c =
     rw (sym c.node.ensures ∙ ap node_of c.in-Int.is) (c.read_int.ensures (schema_nodes c.args.schema.now))
 
-pub read_place-returns-in-Long : goal.read_place-returns-in-Long
-read_place-returns-in-Long g t c =
+pub read_at-returns-in-Long : goal.read_at-returns-in-Long
+read_at-returns-in-Long g t c =
     rw (sym c.node.ensures ∙ ap node_of c.in-Long.is) (c.read_long.ensures (schema_nodes c.args.schema.now))
 
-pub read_place-returns-in-Bytes : goal.read_place-returns-in-Bytes
-read_place-returns-in-Bytes g t c =
+pub read_at-returns-in-Bytes : goal.read_at-returns-in-Bytes
+read_at-returns-in-Bytes g t c =
     rw (sym c.node.ensures ∙ ap node_of c.in-Bytes.is) (c.read_bytes.ensures (schema_nodes c.args.schema.now))
 
-pub read_place-returns-in-Str : goal.read_place-returns-in-Str
-read_place-returns-in-Str g t c =
+pub read_at-returns-in-Str : goal.read_at-returns-in-Str
+read_at-returns-in-Str g t c =
     rw (sym c.node.ensures ∙ ap node_of c.in-Str.is) (c.read_text.ensures (schema_nodes c.args.schema.now))
 
-pub read_place-returns-in-Record : goal.read_place-returns-in-Record
-read_place-returns-in-Record g t c =
+pub read_at-returns-in-Record : goal.read_at-returns-in-Record
+read_at-returns-in-Record g t c =
     let record_is = c.in-Record.record in
     rw (sym c.node.ensures ∙ ap node_of c.in-Record.is, ← c.deref-in-Record.ensures.value) (c.read_record.ensures record_is.name record_is.aliases.items)
 
-pub read_place-returns-in-Enum : goal.read_place-returns-in-Enum
-read_place-returns-in-Enum g t c =
+pub read_at-returns-in-Enum : goal.read_at-returns-in-Enum
+read_at-returns-in-Enum g t c =
     let enum_is = c.in-Enum.enumeration in
     rw (sym c.node.ensures ∙ ap node_of c.in-Enum.is) (c.read_symbol.ensures (schema_nodes c.args.schema.now) enum_is.name enum_is.aliases.items (texts_of enum_is.symbols.items) enum_is.default
     (c.len.ensures ∙ enum_is.symbols.ok.0 ∙ sym (texts-length enum_is.symbols.items)))
 
-pub read_place-returns-in-Fixed : goal.read_place-returns-in-Fixed
-read_place-returns-in-Fixed g t c =
+pub read_at-returns-in-Fixed : goal.read_at-returns-in-Fixed
+read_at-returns-in-Fixed g t c =
     let fixed_is = c.in-Fixed.fixed in
     rw (sym c.node.ensures ∙ ap node_of c.in-Fixed.is) (c.read_fixed.ensures (schema_nodes c.args.schema.now) fixed_is.name fixed_is.aliases.items)
 
@@ -349,23 +349,23 @@ read_place-returns-in-Fixed g t c =
 pub read_array-returns-in_err-enter : goal.read_array-returns-in_err-enter
 read_array-returns-in_err-enter g t c =
     let p = err_from_is_err_and c.from_residual.result c.from_residual.ensures.1 in
-    rw (p.1, p.2) (enter_refused (schema_nodes c.args.schema.now) (Node.array c.args.place.0) c.args.cursor.now c.enter.new.self c.in_err-enter.field-0.0 c.in_err-enter.ensures.refused)
+    rw (p.1, p.2) (enter_refused (schema_nodes c.args.schema.now) (Node.array c.args.id.0) c.args.cursor.now c.enter.new.self c.in_err-enter.field-0.0 c.in_err-enter.ensures.refused)
 
 pub read_array-returns-in_err-out : goal.read_array-returns-in_err-out
 read_array-returns-in_err-out g t c =
     let p = err_from_is_err_and c.from_residual-in_err-out.result c.from_residual-in_err-out.ensures.1 in
-    rw (p.1, p.2) (node_refused (schema_nodes c.args.schema.now) (Node.array c.args.place.0) c.args.cursor.now c.enter.new.self c.read_item_blocks.new.cursor c.read_item_blocks.new.cursor
+    rw (p.1, p.2) (node_refused (schema_nodes c.args.schema.now) (Node.array c.args.id.0) c.args.cursor.now c.enter.new.self c.read_item_blocks.new.cursor c.read_item_blocks.new.cursor
     c.in_err-out.field-0.0 c.in_ok-enter.ensures.entered c.in_err-out.ensures)
 
 pub maps::read_map-returns-in_err-enter : goal.maps::read_map-returns-in_err-enter
 maps::read_map-returns-in_err-enter g t c =
     let p = err_from_is_err_and c.from_residual.result c.from_residual.ensures.1 in
-    rw (p.1, p.2) (enter_refused (schema_nodes c.args.schema.now) (Node.map_of c.args.place.0) c.args.cursor.now c.enter.new.self c.in_err-enter.field-0.0 c.in_err-enter.ensures.refused)
+    rw (p.1, p.2) (enter_refused (schema_nodes c.args.schema.now) (Node.map_of c.args.id.0) c.args.cursor.now c.enter.new.self c.in_err-enter.field-0.0 c.in_err-enter.ensures.refused)
 
 pub maps::read_map-returns-in_err-out : goal.maps::read_map-returns-in_err-out
 maps::read_map-returns-in_err-out g t c =
     let p = err_from_is_err_and c.from_residual-in_err-out.result c.from_residual-in_err-out.ensures.1 in
-    rw (p.1, p.2) (node_refused (schema_nodes c.args.schema.now) (Node.map_of c.args.place.0) c.args.cursor.now c.enter.new.self c.read_entry_blocks.new.cursor c.read_entry_blocks.new.cursor
+    rw (p.1, p.2) (node_refused (schema_nodes c.args.schema.now) (Node.map_of c.args.id.0) c.args.cursor.now c.enter.new.self c.read_entry_blocks.new.cursor c.read_entry_blocks.new.cursor
     c.in_err-out.field-0.0 c.in_ok-enter.ensures.entered c.in_err-out.ensures)
 
 pub read_union-returns-in_err-enter : goal.read_union-returns-in_err-enter
@@ -407,21 +407,21 @@ read_fields-returns-in_err-value g t c = λ name aliases.
     let p = err_from_is_err_and c.from_residual.result c.from_residual.ensures.1 in
     let nodes = schema_nodes c.args.schema.now in
     let fields = c.args.fields.now in
-    let places = field_places (seen_fields fields) in
+    let ids = field_places (seen_fields fields) in
     let i = c.loop-field.field-index in
     let so_far = c.loop-field.invariant in
     let field = c.field-item.result in
     let below : i < length fields = c.loop-field-test.true in
     let e = c.in_err-value.field-0.0 in
-    let are = places_split fields i field below ∙ ap (λ (f : Field). take i places ++ f.node.0 ∷ drop (suc i) places) (sym c.field-item.is) in
-    rw (p.1, p.2) (record_refused nodes name aliases (seen_fields fields) c.args.cursor.now c.read_place.new.cursor e
-    (field_breaks nodes (take i places) c.args.cursor.now c.loop-field.cursor so_far.0 so_far.1 places (drop (suc i) places) field.node.0 are e c.in_err-value.ensures.refused))
+    let are = ids_split fields i field below ∙ ap (λ (f : Field). take i ids ++ f.node.0 ∷ drop (suc i) ids) (sym c.field-item.is) in
+    rw (p.1, p.2) (record_refused nodes name aliases (seen_fields fields) c.args.cursor.now c.read_at.new.cursor e
+    (field_breaks nodes (take i ids) c.args.cursor.now c.loop-field.cursor so_far.0 so_far.1 ids (drop (suc i) ids) field.node.0 are e c.in_err-value.ensures.refused))
 
 pub read_fields-loop-field-preserved : goal.read_fields-loop-field-preserved
 read_fields-loop-field-preserved g t c =
     let nodes = schema_nodes c.args.schema.now in
     let fields = c.args.fields.now in
-    let places = field_places (seen_fields fields) in
+    let ids = field_places (seen_fields fields) in
     let i = c.loop-field.field-index in
     let so_far = c.loop-field.invariant in
     let field = c.field-item.result in
@@ -429,15 +429,15 @@ read_fields-loop-field-preserved g t c =
     let found = c.in_ok-value.ensures.found in
     let next : i + 1 ≡ suc i = omega arith in
     let maker = c.loop-field.maker in
-    let made = c.read_place.new.maker in
+    let made = c.read_at.new.maker in
     let values = c.loop-field.values in
     let counted : length so_far.0 ≡ i = so_far.2 in
-    let at_field : slice_get places (length so_far.0) ≡ Some field.node.0 = ap (λ (k : ℕ). slice_get places k) counted ∙ field_place_at fields i field below ∙ ap (λ (f : Field). Some f.node.0) (sym c.field-item.is) in
-    let are : take i places ++ field.node.0 ∷ [] ≡ take (i + 1) places =
-    ap (λ (f : Field). take i places ++ f.node.0 ∷ []) c.field-item.is ∙ sym (places_next fields i field below) ∙ ap (λ (m : ℕ). take m places) (sym next) in (
+    let at_field : slice_get ids (length so_far.0) ≡ Some field.node.0 = ap (λ (k : ℕ). slice_get ids k) counted ∙ field_id_at fields i field below ∙ ap (λ (f : Field). Some f.node.0) (sym c.field-item.is) in
+    let are : take i ids ++ field.node.0 ∷ [] ≡ take (i + 1) ids =
+    ap (λ (f : Field). take i ids ++ f.node.0 ∷ []) c.field-item.is ∙ sym (ids_next fields i field below) ∙ ap (λ (m : ℕ). take m ids) (sym next) in (
       so_far.0 ++ found.0 ∷ [],
-      subst (λ (ps : List ℕ). FieldsDone nodes ps c.args.cursor.now c.read_place.new.cursor (so_far.0 ++ found.0 ∷ [])) are
-          (fields_push nodes (take i places) c.args.cursor.now c.loop-field.cursor so_far.0 so_far.1 field.node.0 c.read_place.new.cursor found.0 found.1),
+      subst (λ (ps : List ℕ). FieldsDone nodes ps c.args.cursor.now c.read_at.new.cursor (so_far.0 ++ found.0 ∷ [])) are
+          (fields_push nodes (take i ids) c.args.cursor.now c.loop-field.cursor so_far.0 so_far.1 field.node.0 c.read_at.new.cursor found.0 found.1),
       omega (arith, length-append so_far.0 (found.0 ∷ [])),
       g.met.M.Make.keeps_on c.args.maker.now maker c.field.new.self so_far.3 (g.met.M.Make.keeps_on maker made c.field.new.self found.2.0 c.in-Ok-field.ensures.kept),
       c.in-Ok-field.ensures.stands nodes (seen_fields fields) field.node.0 c.args.at so_far.0 found.0 (g.met.M.Make.fields_kept maker made nodes (seen_fields fields) c.args.at values so_far.0 found.2.0 so_far.4) at_field
@@ -451,7 +451,7 @@ read_fields-returns-in-Ok-record g t c = λ name aliases.
     let i = c.loop-field.field-index in
     let so_far = c.loop-field.invariant in
     let past : length fields ≤ i = c.loop-field-test.false in
-    let done = subst (λ (ps : List ℕ). FieldsDone nodes ps c.args.cursor.now c.loop-field.cursor so_far.0) (places_all fields i past) so_far.1 in
+    let done = subst (λ (ps : List ℕ). FieldsDone nodes ps c.args.cursor.now c.loop-field.cursor so_far.0) (ids_all fields i past) so_far.1 in
     record_found nodes name aliases (seen_fields fields) c.args.cursor.now c.loop-field.cursor so_far.0 c.in-Ok-record.out done
     (g.met.M.Make.keeps_on c.args.maker.now c.loop-field.maker c.record.new.self so_far.3 c.in-Ok-record.ensures.kept, c.in-Ok-record.ensures.stands nodes name aliases (seen_fields fields) c.args.at so_far.0 so_far.4 done.fitting)
 
@@ -463,10 +463,10 @@ read_branch-returns-in_err-value g t c =
     let branches = c.args.branches.now in
     let start = c.args.cursor.now in
     let mid = c.index.new.self in
-    let after = c.read_place.new.cursor in
+    let after = c.read_at.new.cursor in
     let k = c.in_ok-branch.branch in
     let found = c.in_ok-branch.ensures.found in
-    let among = subst (λ (n : ℕ). Finds (λ (x : ℕ). x) (IsIndex n) start mid k) (sym (places-length branches)) found in
+    let among = subst (λ (n : ℕ). Finds (λ (x : ℕ). x) (IsIndex n) start mid k) (sym (ids-length branches)) found in
     let branch = get_or branches k (record { 0 = 0 }) in
     let at = branch_at branches k (record { 0 = 0 }) found.1.0 in
     let p = err_from_is_err_and c.from_residual-in_err-value.result c.from_residual-in_err-value.ensures.1 in
@@ -478,14 +478,14 @@ read_branch-returns-in_Ok-out g t c =
     let branches = c.args.branches.now in
     let start = c.args.cursor.now in
     let mid = c.index.new.self in
-    let after = c.read_place.new.cursor in
+    let after = c.read_at.new.cursor in
     let k = c.in_ok-branch.branch in
     let found = c.in_ok-branch.ensures.found in
-    let among = subst (λ (n : ℕ). Finds (λ (x : ℕ). x) (IsIndex n) start mid k) (sym (places-length branches)) found in
+    let among = subst (λ (n : ℕ). Finds (λ (x : ℕ). x) (IsIndex n) start mid k) (sym (ids-length branches)) found in
     let branch = get_or branches k (record { 0 = 0 }) in
     let at = branch_at branches k (record { 0 = 0 }) found.1.0 in
     let maker = c.args.maker.now in
-    let made = c.read_place.new.maker in
+    let made = c.read_at.new.maker in
     let step = λ (v : Value) (is : Made g.M.Make.keeps (λ m. g.M.Make.stands_for m nodes (node_at nodes branch.0) c.branch_at-part.result) maker made c.in_ok-value.value v).
     let part = c.branch_at-part.ensures ∙ g.met.M.Make.branch_at_kept maker made c.args.at k is.0 in
     let whole : Made g.M.Make.keeps (λ m. g.M.Make.stands_for m nodes (Node.union (places_of branches)) c.args.at) maker c.branch-out.new.self c.in_Ok-out.out (Value.union k v) = (
@@ -501,9 +501,9 @@ read_items-loop-done-init g t c = (
   refl,
   λ limits d b.
       let nodes = schema_nodes c.args.schema.now in
-      let n = node_at nodes c.args.place.0 in
+      let n = node_at nodes c.args.id.0 in
       let none = run_none (values_kind nodes limits n) c.args.cursor.now [] tt in
-      let kept = λ (at : g.row.M-At.Denot) (us : List Value) (h : g.M.Make.items_stand_for c.args.maker.now nodes c.args.place.0 at c.args.items.now us). subst (λ (vs : List Value). g.M.Make.items_stand_for c.args.maker.now nodes c.args.place.0 at c.args.items.now vs) (sym (append-nil us)) h in
+      let kept = λ (at : g.row.M-At.Denot) (us : List Value) (h : g.M.Make.items_stand_for c.args.maker.now nodes c.args.id.0 at c.args.items.now us). subst (λ (vs : List Value). g.M.Make.items_stand_for c.args.maker.now nodes c.args.id.0 at c.args.items.now vs) (sym (append-nil us)) h in
       ([], refl, none, g.met.M.Make.keeps_itself c.args.maker.now, kept),
 )
 
@@ -512,10 +512,10 @@ maps::read_entries-loop-done-init g t c = (
   refl,
   λ limits before d b are distinct.
       let nodes = schema_nodes c.args.schema.now in
-      let n = node_at nodes c.args.place.0 in
+      let n = node_at nodes c.args.id.0 in
       let none = run_none (entries_kind nodes limits n) c.args.cursor.now before distinct in
-      let kept = λ (at : g.row.M-At.Denot) (fs : List (List ℕ × Value)) (h : g.M.Make.entries_stand_for c.args.maker.now nodes c.args.place.0 at c.args.entries.now fs).
-      subst (λ (es : List (List ℕ × Value)). g.M.Make.entries_stand_for c.args.maker.now nodes c.args.place.0 at c.args.entries.now es) (sym (append-nil fs)) h in
+      let kept = λ (at : g.row.M-At.Denot) (fs : List (List ℕ × Value)) (h : g.M.Make.entries_stand_for c.args.maker.now nodes c.args.id.0 at c.args.entries.now fs).
+      subst (λ (es : List (List ℕ × Value)). g.M.Make.entries_stand_for c.args.maker.now nodes c.args.id.0 at c.args.entries.now es) (sym (append-nil fs)) h in
       ([], before, refl, are, none, g.met.M.Make.keeps_itself c.args.maker.now, kept),
 )
 

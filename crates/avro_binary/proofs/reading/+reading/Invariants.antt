@@ -10,8 +10,8 @@ use Rattle.avro_binary.specs.KeySet.{key_set}
 use Rattle.avro_binary.proofs.NodeSteps.{ArrayDone, MapDone, FieldsDone}
 use Rattle.avro_binary.proofs.reading.+reading.Given as goal
 
-abbrev pub decreases-read_place : goal.decreases-read_place
-decreases-read_place g l = 4 * l.cursor.now.depth + 1
+abbrev pub decreases-read_at : goal.decreases-read_at
+decreases-read_at g l = 4 * l.cursor.now.depth + 1
 
 abbrev pub decreases-read_array : goal.decreases-read_array
 decreases-read_array g l = 4 * l.cursor.now.depth
@@ -45,16 +45,16 @@ decreases-maps::read_entries g l = 4 * l.cursor.now.depth + 2
 
 -- the blocks so far, which are of some items
 abbrev pub invariant-read_item_blocks-loop-items : goal.invariant-read_item_blocks-loop-items
-invariant-read_item_blocks-loop-items g l = (xs : List Value) × ArrayDone (schema_nodes l.schema) l.place.0 l.initial.cursor l.cursor [] xs
-    × g.M.Make.keeps l.fn.maker l.maker × g.M.Make.items_stand_for l.maker (schema_nodes l.schema) l.place.0 l.fn.at l.items xs
+invariant-read_item_blocks-loop-items g l = (xs : List Value) × ArrayDone (schema_nodes l.schema) l.id.0 l.initial.cursor l.cursor [] xs
+    × g.M.Make.keeps l.fn.maker l.maker × g.M.Make.items_stand_for l.maker (schema_nodes l.schema) l.id.0 l.fn.at l.items xs
 
 abbrev pub decreases-read_item_blocks-loop-items : goal.decreases-read_item_blocks-loop-items
 decreases-read_item_blocks-loop-items g l = l.cursor.nodes
 
 abbrev pub invariant-maps::read_entry_blocks-loop-entries : goal.invariant-maps::read_entry_blocks-loop-entries
 invariant-maps::read_entry_blocks-loop-entries g l =
-    (xs : List (List ℕ × Value)) × (keys : List (List ℕ)) × (l.keys ≡ key_set keys) × MapDone (schema_nodes l.schema) l.place.0 l.initial.cursor l.cursor keys xs
-    × g.M.Make.keeps l.fn.maker l.maker × g.M.Make.entries_stand_for l.maker (schema_nodes l.schema) l.place.0 l.fn.at l.entries xs
+    (xs : List (List ℕ × Value)) × (keys : List (List ℕ)) × (l.keys ≡ key_set keys) × MapDone (schema_nodes l.schema) l.id.0 l.initial.cursor l.cursor keys xs
+    × g.M.Make.keeps l.fn.maker l.maker × g.M.Make.entries_stand_for l.maker (schema_nodes l.schema) l.id.0 l.fn.at l.entries xs
 
 abbrev pub decreases-maps::read_entry_blocks-loop-entries : goal.decreases-maps::read_entry_blocks-loop-entries
 decreases-maps::read_entry_blocks-loop-entries g l = l.cursor.nodes
@@ -63,9 +63,9 @@ decreases-maps::read_entry_blocks-loop-entries g l = l.cursor.nodes
 abbrev pub invariant-read_items-loop-done : goal.invariant-read_items-loop-done
 invariant-read_items-loop-done g l =
     (l.cursor.depth ≡ l.initial.cursor.depth) × ((limits : LimitValues) → limits.depth ≡ l.initial.cursor.depth → limits.blob ≡ l.initial.cursor.blob
-    → (xs : List Value) × (length xs ≡ l._done) × FindsRun (ValuesRun (schema_nodes l.schema) limits (node_at (schema_nodes l.schema) l.place.0)) l.initial.cursor l.cursor [] [] xs
+    → (xs : List Value) × (length xs ≡ l._done) × FindsRun (ValuesRun (schema_nodes l.schema) limits (node_at (schema_nodes l.schema) l.id.0)) l.initial.cursor l.cursor [] [] xs
     × g.M.Make.keeps l.initial.maker l.maker
-    × ((at : _) (us : List Value) → g.M.Make.items_stand_for l.initial.maker (schema_nodes l.schema) l.place.0 at l.initial.items us → g.M.Make.items_stand_for l.maker (schema_nodes l.schema) l.place.0 at l.items (us ++ xs)))
+    × ((at : _) (us : List Value) → g.M.Make.items_stand_for l.initial.maker (schema_nodes l.schema) l.id.0 at l.initial.items us → g.M.Make.items_stand_for l.maker (schema_nodes l.schema) l.id.0 at l.items (us ++ xs)))
 
 -- so many entries so far
 abbrev pub invariant-maps::read_entries-loop-done : goal.invariant-maps::read_entries-loop-done
@@ -73,9 +73,9 @@ invariant-maps::read_entries-loop-done g l =
     (l.cursor.depth ≡ l.initial.cursor.depth) × ((limits : LimitValues) (before : List (List ℕ)) → limits.depth ≡ l.initial.cursor.depth → limits.blob ≡ l.initial.cursor.blob
     → l.initial.keys ≡ key_set before → are_distinct bytes_eq before ≡ true
     → (xs : List (List ℕ × Value)) × (keys : List (List ℕ)) × (length xs ≡ l._done) × (l.keys ≡ key_set keys)
-    × FindsRun (EntriesRun (schema_nodes l.schema) limits (node_at (schema_nodes l.schema) l.place.0)) l.initial.cursor l.cursor before keys xs
+    × FindsRun (EntriesRun (schema_nodes l.schema) limits (node_at (schema_nodes l.schema) l.id.0)) l.initial.cursor l.cursor before keys xs
     × g.M.Make.keeps l.initial.maker l.maker
-    × ((at : _) (fs : List (List ℕ × Value)) → g.M.Make.entries_stand_for l.initial.maker (schema_nodes l.schema) l.place.0 at l.initial.entries fs → g.M.Make.entries_stand_for l.maker (schema_nodes l.schema) l.place.0 at l.entries (fs ++ xs)))
+    × ((at : _) (fs : List (List ℕ × Value)) → g.M.Make.entries_stand_for l.initial.maker (schema_nodes l.schema) l.id.0 at l.initial.entries fs → g.M.Make.entries_stand_for l.maker (schema_nodes l.schema) l.id.0 at l.entries (fs ++ xs)))
 
 -- the values of the fields before one
 abbrev pub invariant-read_fields-loop-field : goal.invariant-read_fields-loop-field

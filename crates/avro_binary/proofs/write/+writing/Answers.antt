@@ -39,10 +39,10 @@ write_map-returns-clause-appended t c =
 pub write_datum-returns-in-Map-clause-appended : goal.write_datum-returns-in-Map-clause-appended
 write_datum-returns-in-Map-clause-appended t c = rw (c.in-Map.is, value_of-Map c.in-Map.entries) c.write_map.ensures.appended
 
-pub write_datum-returns-in_ok-write_place-in-Union-clause-appended :
-    goal.write_datum-returns-in_ok-write_place-in-Union-clause-appended
-write_datum-returns-in_ok-write_place-in-Union-clause-appended t c =
-    let place = number_bytes (pos c.in-Union.branch) in
+pub write_datum-returns-in_ok-write_index-in-Union-clause-appended :
+    goal.write_datum-returns-in_ok-write_index-in-Union-clause-appended
+write_datum-returns-in_ok-write_index-in-Union-clause-appended t c =
+    let index = number_bytes (pos c.in-Union.branch) in
     let branch = plain (value_of c.in-Union.value.value) in
-    rw (c.in-Union.is, value_of-Union c.in-Union.branch c.in-Union.value, ← append_assoc c.args.out.now.items place branch, ← c.in_ok-write_place-in-Union.ensures.appended, ← c.deref-in-Union.ensures)
+    rw (c.in-Union.is, value_of-Union c.in-Union.branch c.in-Union.value, ← append_assoc c.args.out.now.items index branch, ← c.in_ok-write_index-in-Union.ensures.appended, ← c.deref-in-Union.ensures)
     c.write_datum.ensures.appended

@@ -19,7 +19,7 @@ returns-then-count-clause-refused c =
     let starts : StartsWithLong c.in-Ok.count bytes (take len bytes) (drop len bytes) = starts_with_long c.in-Ok.count bytes len (rw (← c.rest.ensures) read.found.1) read.in_range in (
       invalid_length 0,
       least_count c.args.self.now.nodes bytes c.in-Ok.count (take len bytes) (drop len bytes) starts least,
-      from_front invalid_length c.args.self.now.place c.place.result c.place.ensures,
+      from_front invalid_length c.args.self.now.offset c.offset.result c.offset.ensures,
     )
 
 pub returns-then-magnitude-from-clause-refused : goal.returns-then-magnitude-from-clause-refused
@@ -40,5 +40,5 @@ pub returns-in-Err-clause-refused : goal.returns-in-Err-clause-refused
 returns-in-Err-clause-refused c = (
   number_fault c.in-Err.error,
   count_fails (c.in-Err.error, subst (λ (b : List ℕ). LongFails b c.in-Err.error) c.rest.ensures c.in-Err.ensures.refused, refl),
-  c.number_error.ensures ∙ ap (λ (n : ℕ). Some (behind n (number_fault c.in-Err.error))) c.place-in-Err.ensures,
+  c.number_error.ensures ∙ ap (λ (n : ℕ). Some (behind n (number_fault c.in-Err.error))) c.offset-in-Err.ensures,
 )

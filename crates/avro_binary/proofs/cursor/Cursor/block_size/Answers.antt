@@ -22,7 +22,7 @@ returns-then-size-lt0-clause-refused c = λ n spelled small few.
     starts_with_long c.in-Ok.size (drop len now.bytes) c.in-Ok.more (rw (← back) read.found.1) read.in_range in (
       invalid_length (length (take len now.bytes)),
       size_below now.nodes now.bytes n len c.in-Ok.size _ _ spelled (omega arith) few starts below,
-      ap (λ (k : ℕ). Some (invalid_length k)) (c.place_behind.ensures ∙ ap (λ (k : ℕ). now.place + k) (sym (length-take-le len now.bytes c.requires))),
+      ap (λ (k : ℕ). Some (invalid_length k)) (c.offset_behind.ensures ∙ ap (λ (k : ℕ). now.offset + k) (sym (length-take-le len now.bytes c.requires))),
     )
 
 pub returns-in-Err-clause-refused : goal.returns-in-Err-clause-refused
@@ -31,9 +31,9 @@ returns-in-Err-clause-refused c = λ n spelled small few.
     let len = c.args.len in
     let back : c.split_at.result.1.now ≡ drop len now.bytes = c.split_at.ensures.back ∙ ap (λ (k : List ℕ). drop len k) c.rest.ensures in
     let fault = number_fault c.in-Err.error in
-    let at : c.place_behind-in-Err.result ≡ now.place + length (take len now.bytes) = c.place_behind-in-Err.ensures ∙ ap (λ (k : ℕ). now.place + k) (sym (length-take-le len now.bytes c.requires)) in (
+    let at : c.offset_behind-in-Err.result ≡ now.offset + length (take len now.bytes) = c.offset_behind-in-Err.ensures ∙ ap (λ (k : ℕ). now.offset + k) (sym (length-take-le len now.bytes c.requires)) in (
       behind (length (take len now.bytes)) fault,
       size_failed now.nodes now.bytes n len fault spelled (omega arith) few
           (c.in-Err.error, subst (λ (b : List ℕ). LongFails b c.in-Err.error) back c.in-Err.ensures.refused, refl),
-      c.number_error.ensures ∙ ap (λ (k : ℕ). Some (behind k fault)) at ∙ ap (λ (f : ReadFault). Some f) (behind-add now.place (length (take len now.bytes)) fault),
+      c.number_error.ensures ∙ ap (λ (k : ℕ). Some (behind k fault)) at ∙ ap (λ (f : ReadFault). Some f) (behind-add now.offset (length (take len now.bytes)) fault),
     )

@@ -3,11 +3,11 @@ use Rattle.avro_binary.proofs.CursorSteps.{boolean_ended, boolean_refused}
 use Rattle.avro_binary.proofs.cursor.Cursor.boolean.Goals as goal
 
 pub returns-in-None : goal.returns-in-None
-returns-in-None c = boolean_ended c.args.self.now c.rest.result.now c.place.result c.rest.ensures c.place.ensures (sym c.in-None.ensures.value)
+returns-in-None c = boolean_ended c.args.self.now c.rest.result.now c.offset.result c.rest.ensures c.offset.ensures (sym c.in-None.ensures.value)
 
 pub returns-in-Some : goal.returns-in-Some
 returns-in-Some c =
     let s = c.in-Some in
     let high : 1 < c.in-Some.field-0.now = omega arith in
-    boolean_refused c.args.self.now c.rest.result.now c.in-Some.field-0.now c.place-in-Some.result c.rest.ensures c.place-in-Some.ensures
+    boolean_refused c.args.self.now c.rest.result.now c.in-Some.field-0.now c.offset-in-Some.result c.rest.ensures c.offset-in-Some.ensures
     (sym c.in-Some.ensures.value) high

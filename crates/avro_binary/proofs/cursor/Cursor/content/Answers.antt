@@ -10,7 +10,7 @@ returns-then-count-behind-clause-refused c = λ is_content.
     let back : c.split_at.result.1.now ≡ drop len now.bytes = c.split_at.ensures.back ∙ ap (λ (k : List ℕ). drop len k) c.rest.ensures in
     let sizes = ap length back in
     let short : length (drop len now.bytes) < c.in-Ok.count = omega arith in
-    content_cut is_content now.blob now.bytes c.in-Ok.count len now.place c.place_behind.result count.stands count.within short count.inside c.place_behind.ensures
+    content_cut is_content now.blob now.bytes c.in-Ok.count len now.offset c.offset_behind.result count.stands count.within short count.inside c.offset_behind.ensures
 
 pub returns-else-count-behind-clause-stands : goal.returns-else-count-behind-clause-stands
 returns-else-count-behind-clause-stands c =

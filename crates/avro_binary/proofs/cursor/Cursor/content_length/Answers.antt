@@ -19,7 +19,7 @@ returns-then-count-lt0-clause-refused c = λ is_content.
     let starts : StartsWithLong c.in-Ok.count bytes (take len bytes) (drop len bytes) = starts_with_long c.in-Ok.count bytes len (rw (← c.rest.ensures) read.found.1) read.in_range in (
       invalid_length 0,
       length_negative is_content c.args.self.now.blob bytes c.in-Ok.count (take len bytes) (drop len bytes) starts below,
-      from_front invalid_length c.args.self.now.place c.place.result c.place.ensures,
+      from_front invalid_length c.args.self.now.offset c.offset.result c.offset.ensures,
     )
 
 pub returns-then-count-from-clause-refused : goal.returns-then-count-from-clause-refused
@@ -39,5 +39,5 @@ pub returns-in-Err-clause-refused : goal.returns-in-Err-clause-refused
 returns-in-Err-clause-refused c = λ is_content. (
   number_fault c.in-Err.error,
   length_breaks (c.in-Err.error, subst (λ (b : List ℕ). LongFails b c.in-Err.error) c.rest.ensures c.in-Err.ensures.refused, refl),
-  c.number_error.ensures ∙ ap (λ (n : ℕ). Some (behind n (number_fault c.in-Err.error))) c.place-in-Err.ensures,
+  c.number_error.ensures ∙ ap (λ (n : ℕ). Some (behind n (number_fault c.in-Err.error))) c.offset-in-Err.ensures,
 )

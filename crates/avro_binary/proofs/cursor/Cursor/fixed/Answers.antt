@@ -22,5 +22,5 @@ returns-then-size-rest c =
     let under : c.args.size ≤ c.args.self.now.blob = omega arith in
     let short : length c.args.self.now.bytes < c.args.size = omega arith in
     element_refused (λ content. content.now) (IsFixed c.args.size c.args.self.now.blob) (FixedBreaks c.args.size c.args.self.now.blob)
-    (fixed_part c.args.size c.args.self.now.blob) c.args.self.now c.args.self.now (ReadError.EndOfInput c.place.result) (end_of_input 0)
-    (inr (under, short, refl)) (from_front end_of_input c.args.self.now.place c.place.result c.place.ensures) refl
+    (fixed_part c.args.size c.args.self.now.blob) c.args.self.now c.args.self.now (ReadError.EndOfInput c.offset.result) (end_of_input 0)
+    (inr (under, short, refl)) (from_front end_of_input c.args.self.now.offset c.offset.result c.offset.ensures) refl

@@ -12,5 +12,5 @@ returns-in-Ok c =
 
 pub returns-in-Err : goal.returns-in-Err
 returns-in-Err c =
-    int_refused c.args.self.now c.rest.result.now c.in-Err.error c.number_error.result c.place.result c.rest.ensures c.place.ensures
+    int_refused c.args.self.now c.rest.result.now c.in-Err.error c.number_error.result c.offset.result c.rest.ensures c.offset.ensures
     c.in-Err.ensures.refused c.number_error.ensures

@@ -26,9 +26,9 @@ returns-in-Ok-false-clause-read c = λ keys are.
     let text = c.in-Ok.ensures in
     let add = c.in-Ok-false.ensures in
     let old = not-false (set.contains c.args.seen.now c.as_bytes.result.now) (sym c.in-Ok-false.field-0-test ∙ add.is_new) in
-    key_twice (λ text. text.now) keys c.args.self.now c.args.self.now c.args.seen.now c.add.new.self are c.in-Ok.text.now c.in-Ok.len c.place.result text.stands text.valid
+    key_twice (λ text. text.now) keys c.args.self.now c.args.self.now c.args.seen.now c.add.new.self are c.in-Ok.text.now c.in-Ok.len c.offset.result text.stands text.valid
     (ap (set.contains c.args.seen.now) (sym c.as_bytes.ensures.value) ∙ old)
-    (add.added ∙ ap (λ (k : List ℕ). set.insert c.args.seen.now k) c.as_bytes.ensures.value) c.place.ensures refl
+    (add.added ∙ ap (λ (k : List ℕ). set.insert c.args.seen.now k) c.as_bytes.ensures.value) c.offset.ensures refl
 
 pub returns-in-Err-clause-read : goal.returns-in-Err-clause-read
 returns-in-Err-clause-read c = λ keys are.

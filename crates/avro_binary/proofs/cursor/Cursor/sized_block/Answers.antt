@@ -25,9 +25,9 @@ returns-in-Ok c =
     let front : take both now.bytes ≡ take len now.bytes ++ size_bytes = take_both len both now.bytes inside.0 in
     let count_length = length-take-le len now.bytes c.requires.inside in
     let size_length = length-take-le (both - len) (drop len now.bytes) (omega (arith, length-drop len now.bytes, inside.1)) in
-    let at_size : c.place_behind-place.result ≡ now.place + length (take len now.bytes) = c.place_behind-place.ensures ∙ ap (λ (n : ℕ). now.place + n) (sym count_length) in
-    let at_items : c.place_behind-items.result ≡ now.place + length (take len now.bytes) + length size_bytes =
-    let e = c.place_behind-items.ensures in omega (arith, count_length, size_length, inside.0) in
+    let at_size : c.offset_behind-offset.result ≡ now.offset + length (take len now.bytes) = c.offset_behind-offset.ensures ∙ ap (λ (n : ℕ). now.offset + n) (sym count_length) in
+    let at_items : c.offset_behind-items.result ≡ now.offset + length (take len now.bytes) + length size_bytes =
+    let e = c.offset_behind-items.ensures in omega (arith, count_length, size_length, inside.0) in
     head_found now c.pass.new.self (Some (sized c.args.count c.in-Ok.bytes (take len now.bytes) size_bytes)) _ (take both now.bytes)
     ((c.requires.some, c.requires.small, c.requires.within, long-below c.in-Ok.bytes stands.in_range, c.requires.spelled, stands.spelled), front)
-    c.pass.ensures.passed (refl, λ i. Some (record { bytes = c.in-Ok.bytes; place = at_size i; items = at_items i }))
+    c.pass.ensures.passed (refl, λ i. Some (record { bytes = c.in-Ok.bytes; offset = at_size i; items = at_items i }))
