@@ -211,27 +211,27 @@ mutual
       (same.0, ap Value.string same.1 ∙ sym is.1)
   told nodes n (Value.array vs) g w a b x y h s t e =
       let parts = ArrayFits-from_fits nodes n vs g in
-      let is = array_value nodes parts.place w (kind_at nodes n (Node.array parts.place) w parts.is_array h) in
-      let each = each_told nodes (node_at nodes parts.place) vs parts.fitting in
-      let same = told_array nodes parts.place vs is.0 a b x y each is.3 s (respelled w (Value.array is.0) b is.1 t) e in
+      let is = array_value nodes parts.id w (kind_at nodes n (Node.array parts.id) w parts.is_array h) in
+      let each = each_told nodes (node_at nodes parts.id) vs parts.fitting in
+      let same = told_array nodes parts.id vs is.0 a b x y each is.3 s (respelled w (Value.array is.0) b is.1 t) e in
       (same.0, ap Value.array same.1 ∙ sym is.1)
   told nodes n (Value.map_of es) g w a b x y h s t e =
       let parts = MapFits-from_fits nodes n es g in
-      let is = map_value nodes parts.place w (kind_at nodes n (Node.map_of parts.place) w parts.is_map h) in
-      let each = entries_told nodes (node_at nodes parts.place) es parts.fitting in
-      let same = told_map nodes parts.place es is.0 a b x y each is.4 s (respelled w (Value.map_of is.0) b is.1 t) e in
+      let is = map_value nodes parts.id w (kind_at nodes n (Node.map_of parts.id) w parts.is_map h) in
+      let each = entries_told nodes (node_at nodes parts.id) es parts.fitting in
+      let same = told_map nodes parts.id es is.0 a b x y each is.4 s (respelled w (Value.map_of is.0) b is.1 t) e in
       (same.0, ap Value.map_of same.1 ∙ sym is.1)
   told nodes n (Value.union k v) g w a b x y h s t e =
       let parts = UnionFits-from_fits nodes n k v g in
-      let is = union_value nodes parts.places w (kind_at nodes n (Node.union parts.places) w parts.is_union h) in
+      let is = union_value nodes parts.ids w (kind_at nodes n (Node.union parts.ids) w parts.is_union h) in
       let other = respelled w (Value.union is.0 is.1) b is.3 t in
       let joined : s.0 ++ (s.1 ++ x) ≡ other.0 ++ (other.1 ++ y) =
       sym (append_assoc s.0 s.1 x) ∙ ap (λ (f : List ℕ). f ++ x) (sym s.4) ∙ e ∙ ap (λ (f : List ℕ). f ++ y) other.4 ∙ append_assoc other.0 other.1 y in
       let number = one_spelling_lem (pos k) (pos is.0) s.0 other.0 (s.1 ++ x) (other.1 ++ y) s.2 other.2 joined in
       let one : k ≡ is.0 = same_from_pos k is.0 number.1 in
-      let there_is : is.2 ≡ parts.place = same_id parts.places k is.0 parts.place is.2 one parts.is_branch is.4 in
+      let there_is : is.2 ≡ parts.id = same_id parts.ids k is.0 parts.id is.2 one parts.is_branch is.4 in
       let there = subst (λ (p : ℕ). fits nodes (node_at nodes p) is.1 ≡ true) there_is is.5 in
-      let same = told nodes (node_at nodes parts.place) v parts.fitting is.1 s.1 other.1 x y there s.3 other.3
+      let same = told nodes (node_at nodes parts.id) v parts.fitting is.1 s.1 other.1 x y there s.3 other.3
       (same_behind s.0 other.0 (s.1 ++ x) (other.1 ++ y) number.0 joined) in
       (union_bytes a b s.0 s.1 other.0 other.1 s.4 other.4 number.0 same.0, union_is k is.0 v is.1 one same.1 ∙ sym is.3)
     where

@@ -24,7 +24,7 @@ string_value nodes _ k = absurd cc
 pub array_value : (nodes : List Node) (id : ℕ) (v : Value) → FitsKind nodes (Node.array id) v
     → (vs : Values) × (v ≡ Value.array vs) × (is_count (values_count vs) ≡ true) × (each_fits nodes (node_at nodes id) vs ≡ true)
 array_value nodes id (Value.array vs) k =
-    let same : k.place ≡ id = let e = k.is_array in cc in
+    let same : k.id ≡ id = let e = k.is_array in cc in
     (vs, refl, k.counted, subst (λ (p : ℕ). each_fits nodes (node_at nodes p) vs ≡ true) same k.fitting)
 array_value nodes id _ k = absurd cc
 
@@ -32,15 +32,15 @@ pub map_value : (nodes : List Node) (id : ℕ) (v : Value) → FitsKind nodes (N
     → (es : Entries) × (v ≡ Value.map_of es) × (list_all is_text (keys_of es) ≡ true) × (are_distinct bytes_eq (keys_of es) ≡ true)
     × (entries_fit nodes (node_at nodes id) es ≡ true)
 map_value nodes id (Value.map_of es) k =
-    let same : k.place ≡ id = let e = k.is_map in cc in
+    let same : k.id ≡ id = let e = k.is_map in cc in
     (es, refl, k.texts, k.distinct, subst (λ (p : ℕ). entries_fit nodes (node_at nodes p) es ≡ true) same k.fitting)
 map_value nodes id _ k = absurd cc
 
 pub union_value : (nodes : List Node) (ids : List ℕ) (v : Value) → FitsKind nodes (Node.union ids) v
     → (k : ℕ) × (u : Value) × (id : ℕ) × (v ≡ Value.union k u) × (slice_get ids k ≡ Some id) × (fits nodes (node_at nodes id) u ≡ true)
 union_value nodes ids (Value.union k u) h =
-    let same : h.places ≡ ids = let e = h.is_union in cc in
-    (k, u, h.place, refl, subst (λ (ps : List ℕ). slice_get ps k ≡ Some h.place) same h.is_branch, h.fitting)
+    let same : h.ids ≡ ids = let e = h.is_union in cc in
+    (k, u, h.id, refl, subst (λ (ps : List ℕ). slice_get ps k ≡ Some h.id) same h.is_branch, h.fitting)
 union_value nodes ids _ h = absurd cc
 
 pub record_value : (nodes : List Node) (name : Name) (aliases : List Name) (fields : List FieldNode) (v : Value)

@@ -100,19 +100,19 @@ module _ (nodes : List Node) (few : (id : ℕ) → HasFewChoices (node_at nodes 
     Spells-plain id (Value.array vs) h =
         let parts = ArrayFits-from_fits nodes (node_at nodes id) vs h in (
           plain_items vs,
-          EachSpelled-plain parts.place vs parts.fitting,
+          EachSpelled-plain parts.id vs parts.fitting,
           IsInBlocks-plain_blocks (plain_items vs) (values_count vs) (plain_values vs) (length-plain_items vs) (concat-plain_items vs) parts.counted,
         )
     Spells-plain id (Value.map_of es) h =
         let parts = MapFits-from_fits nodes (node_at nodes id) es h in (
           plain_entry_items es,
-          EntriesSpelled-plain parts.place es parts.texts parts.fitting,
+          EntriesSpelled-plain parts.id es parts.texts parts.fitting,
           IsInBlocks-plain_blocks (plain_entry_items es) (entries_count es) (plain_entries es) (length-plain_entry_items es) (concat-plain_entry_items es) parts.counted,
         )
     Spells-plain id (Value.union k v) h =
         let parts = UnionFits-from_fits nodes (node_at nodes id) k v h in
-        let number = SpellsInt-number_bytes (pos k) (branch-int (node_at nodes id) parts.places k parts.place (few id) parts.is_union parts.is_branch) in
-        (number_bytes (pos k), plain v, number, Spells-plain parts.place v parts.fitting, refl)
+        let number = SpellsInt-number_bytes (pos k) (branch-int (node_at nodes id) parts.ids k parts.id (few id) parts.is_union parts.is_branch) in
+        (number_bytes (pos k), plain v, number, Spells-plain parts.id v parts.fitting, refl)
     Spells-plain id (Value.record_of vs) h =
         let parts = RecordFits-from_fits nodes (node_at nodes id) vs h in
         (plain_items vs, FieldsSpelled-plain (field_places parts.fields) vs parts.fitting, sym (concat-plain_items vs))
