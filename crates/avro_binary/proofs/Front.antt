@@ -6,7 +6,7 @@ use Rattle.std.proofs.lemmas.Bool.{and_parts, false≢true}
 use Rattle.std.proofs.lemmas.Bool.Decides.{nat_tests}
 use Rattle.avro_zigzag.proofs.public.Spelling.{one_spelling_lem}
 use Rattle.avro_schema.specs.Value.{Value, Values, Entries, no_values, value, no_entries, entry}
-use Rattle.avro_schema.specs.Node.{Node, node_at, field_places}
+use Rattle.avro_schema.specs.Node.{Node, node_at, field_ids}
 use Rattle.avro_schema.specs.Fits.{fits, each_fits, entries_fit, fields_fit}
 use Rattle.avro_schema.proofs.public.FitsParts.{ArrayFits-from_fits, MapFits-from_fits, UnionFits-from_fits, RecordFits-from_fits}
 use Rattle.avro_schema.proofs.public.FitsKind.{FitsKind-from_fits, null_value, boolean_value, int_value, long_value}
@@ -247,8 +247,8 @@ mutual
       let parts = RecordFits-from_fits nodes n vs g in
       let is = record_value nodes parts.name parts.aliases parts.fields w (kind_at nodes n (Node.record_of parts.name parts.aliases parts.fields) w parts.is_record h) in
       let other = respelled w (Value.record_of is.0) b is.1 t in
-      let each = fields_told nodes (field_places parts.fields) vs parts.fitting in
-      let same = fields_same nodes (field_places parts.fields) vs is.0 s.0 other.0 x y each parts.fitting is.2 s.1 other.1
+      let each = fields_told nodes (field_ids parts.fields) vs parts.fitting in
+      let same = fields_same nodes (field_ids parts.fields) vs is.0 s.0 other.0 x y each parts.fitting is.2 s.1 other.1
       (ap (λ (f : List ℕ). f ++ x) (sym s.2) ∙ e ∙ ap (λ (f : List ℕ). f ++ y) other.2) in
       (s.2 ∙ same.0 ∙ sym other.2, ap Value.record_of same.1 ∙ sym is.1)
   told nodes n (Value.enum k) g w a b x y h s t e =

@@ -4,7 +4,7 @@ use Rattle.std.specs.Prelude.{length, slice_get, nat_lt, ◌==◌, bytes_eq}
 use Rattle.std.specs.List.{list_all}
 use Rattle.avro_name.specs.Name.{Name}
 use Rattle.avro_schema.specs.Value.{Value, Values, Entries, values_count, keys_of}
-use Rattle.avro_schema.specs.Node.{Node, FieldNode, node_at, symbols_of, fixed_length, field_places}
+use Rattle.avro_schema.specs.Node.{Node, FieldNode, node_at, symbols_of, fixed_length, field_ids}
 use Rattle.avro_schema.specs.Fits.{fits, each_fits, entries_fit, fields_fit, is_count, are_bytes, is_text}
 use Rattle.avro_schema.specs.Distinct.{are_distinct}
 use Rattle.avro_schema.proofs.public.FitsKind.{FitsKind, FitsKind-from_fits}
@@ -44,10 +44,10 @@ union_value nodes ids (Value.union k u) h =
 union_value nodes ids _ h = absurd cc
 
 pub record_value : (nodes : List Node) (name : Name) (aliases : List Name) (fields : List FieldNode) (v : Value)
-    → FitsKind nodes (Node.record_of name aliases fields) v → (vs : Values) × (v ≡ Value.record_of vs) × (fields_fit nodes (field_places fields) vs ≡ true)
+    → FitsKind nodes (Node.record_of name aliases fields) v → (vs : Values) × (v ≡ Value.record_of vs) × (fields_fit nodes (field_ids fields) vs ≡ true)
 record_value nodes name aliases fields (Value.record_of vs) k =
     let same : k.fields ≡ fields = let e = k.is_record in cc in
-    (vs, refl, subst (λ (fs : List FieldNode). fields_fit nodes (field_places fs) vs ≡ true) same k.fitting)
+    (vs, refl, subst (λ (fs : List FieldNode). fields_fit nodes (field_ids fs) vs ≡ true) same k.fitting)
 record_value nodes name aliases fields _ k = absurd cc
 
 pub enum_value : (nodes : List Node) (name : Name) (aliases : List Name) (symbols : List (List ℕ)) (default : Option ℕ) (v : Value)

@@ -10,7 +10,7 @@ use Rattle.avro_zigzag.specs.Number.{SpellsInt}
 use Rattle.avro_zigzag.proofs.public.Faults.{long-excludes_fault, int-excludes_fault}
 use Rattle.avro_zigzag.proofs.public.Spelling.{one_spelling_lem}
 use Rattle.avro_schema.specs.Value.{Value, Values, no_values, value, size, depth, longest_blob, values_size}
-use Rattle.avro_schema.specs.Node.{Node, node_at, field_places}
+use Rattle.avro_schema.specs.Node.{Node, node_at, field_ids}
 use Rattle.avro_schema.specs.Fits.{fits, fields_fit, are_bytes, is_count, LimitValues, is_within}
 use Rattle.avro_schema.specs.WellFormed.{is_schema}
 use Rattle.avro_schema.proofs.public.FitsParts.{is_count-below}
@@ -164,7 +164,7 @@ module _ (W : Type 0) (nodes : List Node) (left : LimitValues) (child : ChildBre
   node_none (Node.record_of name aliases fields) bytes f v front rest few b limit k s =
       let is = record_value nodes name aliases fields v k in
       let t = stands_as v (Value.record_of is.0) bytes front rest is.1 s in
-      record_none W nodes left child (field_places fields) bytes f is.0 t.0.0 rest none b limit is.2 t.0.1
+      record_none W nodes left child (field_ids fields) bytes f is.0 t.0.0 rest none b limit is.2 t.0.1
       (λ w. let m = t.1 w in (omega (arith, m.0), omega (arith, m.1), m.2)) (t.2 ∙ ap (λ (q : List ℕ). q ++ rest) t.0.2)
   node_none (Node.enum name aliases symbols default) bytes f v front rest few b limit k s =
       let is = enum_value nodes name aliases symbols default v k in

@@ -5,7 +5,7 @@ use Rattle.std.specs.Prelude.{slice_get}
 use Rattle.std.specs.Option.{IfSome}
 use Rattle.avro_name.specs.Name.{Name}
 use Rattle.avro_schema.specs.Value.{Value}
-use Rattle.avro_schema.specs.Node.{Node, FieldNode, node_at, field_places}
+use Rattle.avro_schema.specs.Node.{Node, FieldNode, node_at, field_ids}
 use Rattle.avro_binary.specs.Fault.{ReadFault, end_of_input, invalid_number, invalid_boolean, invalid_text, unknown_index, invalid_length, wrong_block_size, duplicate_key, limit_exceeded, behind}
 use Rattle.avro_binary.specs.Breaks.{BreaksWithin, NodeBreaks, BooleanBreaks, IntBreaks, LongBreaks, BytesBreaks, StringBreaks, IndexBreaks, FixedBreaks}
 use Rattle.avro_binary.specs.Seen.{read_fault}
@@ -203,7 +203,7 @@ module _ (nodes : List Node) (c : CursorValue) (ready : IsReady c.depth c) (chil
   ]
 
   module _ (name : Name) (aliases : List Name) (fields : List FieldNode) where
-    fields_read : (done rest : List ℕ) → field_places fields ≡ done ++ rest → (now : CursorValue) (vs : List Value) → FieldsDone nodes done c now vs → IsReady c.depth now
+    fields_read : (done rest : List ℕ) → field_ids fields ≡ done ++ rest → (now : CursorValue) (vs : List Value) → FieldsDone nodes done c now vs → IsReady c.depth now
         → Reads nodes (Node.record_of name aliases fields) (outside c)
     fields_read done [] are now vs so_far now_ready =
         found_by nodes (Node.record_of name aliases fields) (outside c) (left_node now)
@@ -212,8 +212,8 @@ module _ (nodes : List Node) (c : CursorValue) (ready : IsReady c.depth c) (chil
       | inl g ↦ fields_read (done ++ id ∷ []) rest (are ∙ sym (append_assoc done (id ∷ []) rest)) g.0 (vs ++ g.1 ∷ [])
           (fields_push nodes done c now vs so_far id g.0 g.1 g.2) (value_moves nodes (node_at nodes id) now c.depth now_ready g)
       | inr b ↦ refused_by nodes (Node.record_of name aliases fields) (outside c) (left_node now) b.0 b.1
-          (record_refused nodes name aliases fields c now b.0 (field_breaks nodes done c now vs so_far (field_places fields) rest id are b.0 b.2))
+          (record_refused nodes name aliases fields c now b.0 (field_breaks nodes done c now vs so_far (field_ids fields) rest id are b.0 b.2))
     ]
 
     pub record_reads : Reads nodes (Node.record_of name aliases fields) (outside c)
-    record_reads = fields_read [] (field_places fields) refl c [] (fields_none nodes c) ready
+    record_reads = fields_read [] (field_ids fields) refl c [] (fields_none nodes c) ready

@@ -7,9 +7,9 @@ use Rattle.avro_name.specs.Name.{Name}
 use Rattle.avro_zigzag.specs.Number.{SpellsInt, SpellsLong}
 use Rattle.avro_binary.specs.Encoding.{Encodes}
 use Rattle.avro_schema.specs.Value.{Value, size, depth, longest_blob, values_size, values_depth, values_longest_blob, values_count, entries_count, keys_of}
-use Rattle.avro_schema.specs.Node.{Node, FieldNode, node_at, field_places}
+use Rattle.avro_schema.specs.Node.{Node, FieldNode, node_at, field_ids}
 use Rattle.avro_schema.specs.Fits.{fields_fit, is_count}
-use Rattle.avro_schema.specs.Seen.{values_from, entries_from, seen_fields, places_of, texts_of}
+use Rattle.avro_schema.specs.Seen.{values_from, entries_from, seen_fields, ids_of, texts_of}
 use Rattle.avro_schema.specs.declared.schema.Field.{Field}
 use Rattle.avro_schema.specs.declared.schema.NodeId.{NodeId}
 use Rattle.std.specs.declared.alloc.Global.{Global}
@@ -211,30 +211,30 @@ module _ {R : Type 0} {stands : R → Value → Type 0} (nodes : List Node) (ids
 
 -- the id of a field, among those of all
 pub ids_split : (fields : List Field) (i : ℕ) (d : Field) → i < length fields
-    → field_places (seen_fields fields) ≡ take i (field_places (seen_fields fields)) ++ (get_or fields i d).node.0 ∷ drop (suc i) (field_places (seen_fields fields))
+    → field_ids (seen_fields fields) ≡ take i (field_ids (seen_fields fields)) ++ (get_or fields i d).node.0 ∷ drop (suc i) (field_ids (seen_fields fields))
 ids_split [] i d h = absurd (omega arith)
 ids_split (f ∷ fields) zero d h = refl
 ids_split (f ∷ fields) (suc i) d h = ap (λ (ps : List ℕ). f.node.0 ∷ ps) (ids_split fields i d (omega arith))
 
 pub ids_next : (fields : List Field) (i : ℕ) (d : Field) → i < length fields
-    → take (suc i) (field_places (seen_fields fields)) ≡ take i (field_places (seen_fields fields)) ++ (get_or fields i d).node.0 ∷ []
+    → take (suc i) (field_ids (seen_fields fields)) ≡ take i (field_ids (seen_fields fields)) ++ (get_or fields i d).node.0 ∷ []
 ids_next [] i d h = absurd (omega arith)
 ids_next (f ∷ fields) zero d h = refl
 ids_next (f ∷ fields) (suc i) d h = ap (λ (ps : List ℕ). f.node.0 ∷ ps) (ids_next fields i d (omega arith))
 
-pub ids_all : (fields : List Field) (i : ℕ) → length fields ≤ i → take i (field_places (seen_fields fields)) ≡ field_places (seen_fields fields)
+pub ids_all : (fields : List Field) (i : ℕ) → length fields ≤ i → take i (field_ids (seen_fields fields)) ≡ field_ids (seen_fields fields)
 ids_all [] zero h = refl
 ids_all [] (suc i) h = refl
 ids_all (f ∷ fields) zero h = absurd (omega arith)
 ids_all (f ∷ fields) (suc i) h = ap (λ (ps : List ℕ). f.node.0 ∷ ps) (ids_all fields i (omega arith))
 
 -- the id of a branch
-pub branch_at : (branches : List NodeId) (k : ℕ) (d : NodeId) → k < length branches → slice_get (places_of branches) k ≡ Some (get_or branches k d).0
+pub branch_at : (branches : List NodeId) (k : ℕ) (d : NodeId) → k < length branches → slice_get (ids_of branches) k ≡ Some (get_or branches k d).0
 branch_at [] k d h = absurd (omega arith)
 branch_at (b ∷ branches) zero d h = refl
 branch_at (b ∷ branches) (suc k) d h = branch_at branches k d (omega arith)
 
-pub ids-length : (branches : List NodeId) → length (places_of branches) ≡ length branches
+pub ids-length : (branches : List NodeId) → length (ids_of branches) ≡ length branches
 ids-length [] = refl
 ids-length (b ∷ branches) = ap suc (ids-length branches)
 
@@ -318,7 +318,7 @@ module _ (nodes : List Node) (ids : List ℕ) (start now : CursorValue) (vs : Li
       }) reported
 
 module _ {R : Type 0} {stands : R → Value → Type 0} (nodes : List Node) (name : Name) (aliases : List Name) (fields : List FieldNode) (start now : CursorValue) where
-  pub record_found : (vs : List Value) (r : R) → FieldsDone nodes (field_places fields) start now vs → stands r (Value.record_of (values_from vs))
+  pub record_found : (vs : List Value) (r : R) → FieldsDone nodes (field_ids fields) start now vs → stands r (Value.record_of (values_from vs))
       → ReadsNode stands nodes (Node.record_of name aliases fields) (outside start) (left_node now) (Ok r)
   record_found vs r done s = record {
     found = (
@@ -336,6 +336,6 @@ module _ {R : Type 0} {stands : R → Value → Type 0} (nodes : List Node) (nam
     refused = tt;
   }
 
-  pub record_refused : (e : ReadError) → ReportsFault (FieldsBreak nodes (limits_at start) (child_breaks nodes (limits_at start)) (field_places fields)) start e
+  pub record_refused : (e : ReadError) → ReportsFault (FieldsBreak nodes (limits_at start) (child_breaks nodes (limits_at start)) (field_ids fields)) start e
       → ReadsNode stands nodes (Node.record_of name aliases fields) (outside start) (left_node now) (Err e)
   record_refused e reported = record { found = tt; refused = reported }

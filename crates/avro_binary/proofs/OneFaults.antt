@@ -4,7 +4,7 @@ use Rattle.std.specs.List.{concat}
 use Rattle.std.specs.Str.{is_utf8}
 use Rattle.avro_zigzag.proofs.public.Spelling.{one_spelling_lem}
 use Rattle.avro_schema.specs.Value.{Values, values_size}
-use Rattle.avro_schema.specs.Node.{Node, node_at, field_places}
+use Rattle.avro_schema.specs.Node.{Node, node_at, field_ids}
 use Rattle.avro_schema.specs.Fits.{fields_fit, LimitValues}
 use Rattle.avro_schema.specs.WellFormed.{is_schema}
 use Rattle.avro_binary.specs.Fault.{ReadFault}
@@ -107,7 +107,7 @@ node_one nodes left child (Node.map_of id) bytes f g none one few b c =
     blocks_one (EntriesAreWhole nodes left n) (EntryBreaks left child n) (entries_one nodes n left child (none id) (one id)) b g c
 node_one nodes left child (Node.union ids) bytes f g none one few b c = union_one nodes left child ids bytes f g one few b c
 node_one nodes left child (Node.record_of name aliases fields) bytes f g none one few b c =
-    record_one nodes left child none one (field_places fields) bytes f g b c (compared (length b.before) (length c.before))
+    record_one nodes left child none one (field_ids fields) bytes f g b c (compared (length b.before) (length c.before))
 node_one nodes left child (Node.enum name aliases symbols default) bytes f g none one few b c = (index_part (length symbols)).one_fault bytes f g b c
 node_one nodes left child (Node.fixed name aliases count) bytes f g none one few b c = (fixed_part count left.blob).one_fault bytes f g b c
 

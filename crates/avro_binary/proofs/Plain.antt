@@ -9,7 +9,7 @@ use Rattle.std.proofs.lemmas.List.{append-nil}
 use Rattle.avro_zigzag.specs.Number.{number_bytes}
 use Rattle.avro_zigzag.proofs.public.Spelling.{SpellsInt-number_bytes, SpellsLong-number_bytes}
 use Rattle.avro_schema.specs.Value.{Value, Values, Entries, no_values, value, no_entries, entry, values_count, entries_count, keys_of}
-use Rattle.avro_schema.specs.Node.{Node, node_at, symbols_of, field_places}
+use Rattle.avro_schema.specs.Node.{Node, node_at, symbols_of, field_ids}
 use Rattle.avro_schema.specs.Fits.{fits, each_fits, entries_fit, fields_fit, is_int, is_long, is_count, are_bytes, is_text, is_some_and, is_int_node, is_long_node, is_bytes_node, is_string_node}
 use Rattle.avro_schema.specs.WellFormed.{is_schema}
 use Rattle.avro_schema.proofs.public.FitsParts.{is_count-below, ArrayFits-from_fits, MapFits-from_fits, UnionFits-from_fits, RecordFits-from_fits}
@@ -115,7 +115,7 @@ module _ (nodes : List Node) (few : (id : ℕ) → HasFewChoices (node_at nodes 
         (number_bytes (pos k), plain v, number, Spells-plain parts.id v parts.fitting, refl)
     Spells-plain id (Value.record_of vs) h =
         let parts = RecordFits-from_fits nodes (node_at nodes id) vs h in
-        (plain_items vs, FieldsSpelled-plain (field_places parts.fields) vs parts.fitting, sym (concat-plain_items vs))
+        (plain_items vs, FieldsSpelled-plain (field_ids parts.fields) vs parts.fitting, sym (concat-plain_items vs))
     Spells-plain id (Value.enum k) h = SpellsInt-number_bytes (pos k) (symbol-int (node_at nodes id) k (few id) h)
     Spells-plain id (Value.fixed b) h = refl
 

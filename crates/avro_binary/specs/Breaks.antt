@@ -8,7 +8,7 @@ use Rattle.avro_zigzag.specs.NumberFault.{IntFails, LongFails}
 use Rattle.avro_zigzag.specs.declared.VarError.{VarError}
 use Rattle.avro_zigzag.specs.declared.VarError.TheVariants.{EndOfInput, NotShortest, OutOfRange}
 use Rattle.avro_schema.specs.Value.{Values, Entries, values_size, values_depth, values_longest_blob, values_count, entries_size, entries_depth, entries_longest_blob, entries_count, keys_of}
-use Rattle.avro_schema.specs.Node.{Node, node_at, field_places}
+use Rattle.avro_schema.specs.Node.{Node, node_at, field_ids}
 use Rattle.avro_schema.specs.Fits.{is_int, is_long, is_text, each_fits, entries_fit, fields_fit, LimitValues}
 use Rattle.avro_schema.specs.Distinct.{are_distinct}
 use Rattle.avro_binary.specs.Encoding.{SpellsBytes, EachSpelled, EntriesSpelled}
@@ -230,7 +230,7 @@ NodeBreaks nodes left child (Node.array id) bytes f =
 NodeBreaks nodes left child (Node.map_of id) bytes f =
     BlocksBreak (EntriesAreWhole nodes left (node_at nodes id)) (EntryBreaks left child (node_at nodes id)) (all_left left) bytes f
 NodeBreaks nodes left child (Node.union ids) bytes f = IndexBreaks (length ids) bytes f ⊎ BranchBreaks nodes left child ids bytes f
-NodeBreaks nodes left child (Node.record_of name aliases fields) bytes f = FieldsBreak nodes left child (field_places fields) bytes f
+NodeBreaks nodes left child (Node.record_of name aliases fields) bytes f = FieldsBreak nodes left child (field_ids fields) bytes f
 NodeBreaks nodes left child (Node.enum name aliases symbols default) bytes f = IndexBreaks (length symbols) bytes f
 NodeBreaks nodes left child (Node.fixed name aliases count) bytes f = FixedBreaks count left.blob bytes f
 

@@ -1,7 +1,7 @@
 ghost use Rattle.std.specs.Prelude.{◌≡◌, ◌<◌, ℕ, List, [], ◌∷◌, ◌++◌, Option, Some, true, length, slice_get, IfOk, OnOk};
 ghost use Rattle.avro_name.specs.Name.{Name};
 ghost use Rattle.avro_schema.specs.Fits.{fields_fit};
-ghost use Rattle.avro_schema.specs.Node.{Node, FieldNode, node_at, field_places};
+ghost use Rattle.avro_schema.specs.Node.{Node, FieldNode, node_at, field_ids};
 ghost use Rattle.avro_schema.specs.Seen.{values_from, entries_from};
 ghost use Rattle.avro_schema.specs.Value.{Value};
 
@@ -194,14 +194,14 @@ pub trait Make {
     ) -> Result<(), AllocError>
         ensures kept { OnOk result (keeps self.old self.new) }
         ensures stands { (nodes : List Node) (fs : List FieldNode) (id : ℕ) (at : Self.At) (vs : List Value) (v : Value) → fields_stand_for self.old nodes fs at fields.old vs
-            → slice_get (field_places fs) (length vs) ≡ Some id → stands_for self.old nodes (node_at nodes id) (field_at self.old fields.old) value v
+            → slice_get (field_ids fs) (length vs) ≡ Some id → stands_for self.old nodes (node_at nodes id) (field_at self.old fields.old) value v
             → OnOk result (fields_stand_for self.new nodes fs at fields.new (vs ++ v ∷ [])) };
 
     /// Makes a record, of the values of its fields.
     fn record(&mut self, alloc: Global, fields: Self::Fields) -> Result<Self::Out, AllocError>
         ensures kept { OnOk result (keeps self.old self.new) }
         ensures stands { (nodes : List Node) (name : Name) (aliases : List Name) (fs : List FieldNode) (at : Self.At) (vs : List Value) → fields_stand_for self.old nodes fs at fields vs
-            → fields_fit nodes (field_places fs) (values_from vs) ≡ true → IfOk result (λ out. stands_for self.new nodes (Node.record_of name aliases fs) at out (Value.record_of (values_from vs))) };
+            → fields_fit nodes (field_ids fs) (values_from vs) ≡ true → IfOk result (λ out. stands_for self.new nodes (Node.record_of name aliases fs) at out (Value.record_of (values_from vs))) };
 
     /// A maker keeps what it has made.
     ghost keeps_itself: { (s : Self) → keeps s s };

@@ -2,7 +2,7 @@ ghost use Rattle.std.specs.Prelude.{◌≡◌, List, [], ◌++◌};
 ghost use Rattle.avro_name.specs.Name.{Name};
 ghost use Rattle.avro_schema.specs.Fits.{LimitValues};
 ghost use Rattle.avro_schema.specs.Node.{Node as SeenNode, node_at};
-ghost use Rattle.avro_schema.specs.Seen.{places_of, seen_fields};
+ghost use Rattle.avro_schema.specs.Seen.{ids_of, seen_fields};
 ghost use Rattle.avro_schema.specs.SeenSchema.{schema_nodes};
 ghost use Rattle.avro_schema.specs.Value.{Value};
 ghost use Rattle.avro_binary.specs.CursorReads.{ReadsNode, ReadsRun, ValuesRun, value_breaks, outside, left_node};
@@ -141,7 +141,7 @@ fn read_union<M: Make>(
     maker: &mut M,
     at: M::At,
 ) -> Result<M::Out, ReadError>
-    ensures { ReadsNode (Made M.keeps (λ m. M.stands_for m (schema_nodes schema.now) (SeenNode.union (places_of branches.now)) at) maker.old maker.new) (schema_nodes schema.now) (SeenNode.union (places_of branches.now)) cursor.old cursor.new result }
+    ensures { ReadsNode (Made M.keeps (λ m. M.stands_for m (schema_nodes schema.now) (SeenNode.union (ids_of branches.now)) at) maker.old maker.new) (schema_nodes schema.now) (SeenNode.union (ids_of branches.now)) cursor.old cursor.new result }
 {
     cursor.enter()?;
     let out = read_branch(alloc, schema, branches, cursor, maker, at)?;
@@ -160,7 +160,7 @@ fn read_branch<M: Make>(
     maker: &mut M,
     at: M::At,
 ) -> Result<M::Out, ReadError>
-    ensures { ReadsNode (Made M.keeps (λ m. M.stands_for m (schema_nodes schema.now) (SeenNode.union (places_of branches.now)) at) maker.old maker.new) (schema_nodes schema.now) (SeenNode.union (places_of branches.now)) (outside cursor.old) (left_node cursor.new) result }
+    ensures { ReadsNode (Made M.keeps (λ m. M.stands_for m (schema_nodes schema.now) (SeenNode.union (ids_of branches.now)) at) maker.old maker.new) (schema_nodes schema.now) (SeenNode.union (ids_of branches.now)) (outside cursor.old) (left_node cursor.new) result }
 {
     let branch = cursor.index(branches.len())?;
     let part = maker.branch_at(at, branch as u32);

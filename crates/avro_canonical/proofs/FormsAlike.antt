@@ -3,7 +3,7 @@ use Rattle.std.proofs.Common.{◌≡◌, ◌⊎◌, inl, inr, ⊎_elim, ℕ, Boo
 use Rattle.std.proofs.lemmas.Bool.{false≢true}
 use Rattle.avro_name.specs.Name.{Name, same_name}
 use Rattle.avro_schema.specs.Value.{Value}
-use Rattle.avro_schema.specs.Node.{items_node, values_node, branches_of, fields_of, Node, FieldNode, node_at, root_of, node_name, field_places}
+use Rattle.avro_schema.specs.Node.{items_node, values_node, branches_of, fields_of, Node, FieldNode, node_at, root_of, node_name, field_ids}
 use Rattle.avro_schema.specs.Fits.{fits}
 use Rattle.avro_schema.specs.WellFormed.{is_schema}
 use Rattle.avro_canonical.specs.Form.{Form, Forms, FieldForms, no_forms, form, no_fields, field, written_after, written_after_all, written_after_fields}
@@ -155,7 +155,7 @@ matching {a = a} {b = b} {all = all} (IsForm.record_of h ds) (IsForm.record_of k
 }
   where
     each_field : {w : List Name} {xs ys : List FieldNode} {fs : FieldForms} → AreFieldForms a w xs fs → AreFieldForms b w ys fs → AreAmong (written_after_fields w fs) all
-        → Each (λ p q. Alike a b all (node_at a p) (node_at b q)) (field_places xs) (field_places ys)
+        → Each (λ p q. Alike a b all (node_at a p) (node_at b q)) (field_ids xs) (field_ids ys)
     each_field no_field no_field within = no_places
     each_field {w = w} (next_field {f = f} {fs = fs} d ds) (next_field e es) within =
         places (record { written = w; form = f; first = d; second = e; within = λ name h. within name (grows_fields name (written_after w f) fs h) }) (each_field ds es within)

@@ -4,7 +4,7 @@ use Rattle.std.specs.List.{list_all}
 use Rattle.std.proofs.lemmas.Bool.{and_parts, and_from, lt-ltb}
 use Rattle.std.proofs.lemmas.Option.{slice_get_past}
 use Rattle.avro_name.specs.Name.{Name, is_full_name, is_simple_name}
-use Rattle.avro_schema.specs.Node.{Node, node_at, node_name, field_places}
+use Rattle.avro_schema.specs.Node.{Node, node_at, node_name, field_ids}
 use Rattle.avro_schema.specs.Distinct.{are_distinct}
 use Rattle.avro_schema.specs.WellFormed.{is_good_node, are_good_nodes, is_edge, is_union, has_good_default, field_names}
 use Rattle.avro_schema_json.specs.Declares.{Known, defining}
@@ -60,7 +60,7 @@ edges_laid nodes (form f fs) written known next from others after good is stands
     (known_stand nodes f known next _ stands cut.0) cut.1)
 
 field_edges_laid : (nodes : List Node) (fs : FieldForms) (written : List Name) (known : Known) (next from : ℕ) (others : List Node) → from < next → FieldsWellMade written fs → IsKnown written known
-    → KnownStand nodes known → Stand nodes next (laid_in_fields known next fs) others → list_all (is_edge nodes from) (field_places (laid_fields known next fs)) ≡ true
+    → KnownStand nodes known → Stand nodes next (laid_in_fields known next fs) others → list_all (is_edge nodes from) (field_ids (laid_fields known next fs)) ≡ true
 field_edges_laid nodes no_fields written known next from others after good is stands e = refl
 field_edges_laid nodes (field name f fs) written known next from others after good is stands e =
     let cut = stand_cut nodes next (laid known next f) (laid_in_fields (known_after known next f) (next + nodes_in f) fs) others (nodes_in f) (laid_count known next f) e in
@@ -80,7 +80,7 @@ laid_defaults : (nodes : List Node) (known : Known) (next : ℕ) (fs : FieldForm
 laid_defaults nodes known next no_fields = refl
 laid_defaults nodes known next (field name f fs) = laid_defaults nodes (known_after known next f) (next + nodes_in f) fs
 
-good_record : (nodes : List Node) (known : Known) (at next : ℕ) (name : Name) (fs : FieldForms) → list_all (is_edge nodes at) (field_places (laid_fields known next fs)) ≡ true
+good_record : (nodes : List Node) (known : Known) (at next : ℕ) (name : Name) (fs : FieldForms) → list_all (is_edge nodes at) (field_ids (laid_fields known next fs)) ≡ true
     → is_full_name name ≡ true → are_names (names_of fs) ≡ true → is_good_node nodes at (Node.record_of name [] (laid_fields known next fs)) ≡ true
 good_record nodes known at next name fs edges full named =
     let both = and_parts (list_all is_simple_name (names_of fs)) (are_distinct bytes_eq (names_of fs)) named in

@@ -2,7 +2,7 @@
 use Rattle.std.proofs.Common.{◌≡◌, ℕ, zero, suc, Bool, ◌&&◌, List, [], ◌∷◌, Option, Some, None, refl, ◌∙◌, ap, length, slice_get, option_and_then, bytes_eq, nat_lt, ◌==◌}
 use Rattle.std.specs.List.{list_all}
 use Rattle.avro_schema.specs.Value.{Value, Values, Entries, no_values, value, no_entries, entry, values_count, entries_count, keys_of}
-use Rattle.avro_schema.specs.Node.{Node, FieldNode, node_at, items_node, values_node, branches_of, fields_of, symbols_of, fixed_length, field_places}
+use Rattle.avro_schema.specs.Node.{Node, FieldNode, node_at, items_node, values_node, branches_of, fields_of, symbols_of, fixed_length, field_ids}
 use Rattle.avro_schema.specs.Fits.{fits, each_fits, entries_fit, fields_fit, is_some_and, is_count, is_text, is_int, is_long, are_bytes, is_null_node, is_boolean_node, is_int_node, is_long_node, is_bytes_node, is_string_node}
 use Rattle.avro_schema.specs.Distinct.{are_distinct}
 
@@ -32,7 +32,7 @@ pub record Matching (P : ℕ → ℕ → Type 0) (m n : Node) : Type 0 where
   pub items : BothAt P (items_node m) (items_node n)
   pub values : BothAt P (values_node m) (values_node n)
   pub branches : EachAt P (λ ps. ps) (branches_of m) (branches_of n)
-  pub fields : EachAt P field_places (fields_of m) (fields_of n)
+  pub fields : EachAt P field_ids (fields_of m) (fields_of n)
 
 pub by_both : {P : ℕ → ℕ → Type 0} {o u : Option ℕ} (f g : ℕ → Bool) → ((p q : ℕ) → P p q → f p ≡ g q) → BothAt P o u → is_some_and f o ≡ is_some_and g u
 by_both f g same neither = refl
@@ -49,10 +49,10 @@ pub by_branch : {P : ℕ → ℕ → Type 0} {o u : Option (List ℕ)} (f g : �
 by_branch f g same k none_each = refl
 by_branch f g same k (each rs) = by_place f g same k rs
 
-pub by_fields : {P : ℕ → ℕ → Type 0} {o u : Option (List FieldNode)} (f g : List ℕ → Bool) → ((ps qs : List ℕ) → Each P ps qs → f ps ≡ g qs) → EachAt P field_places o u
-    → is_some_and (λ xs. f (field_places xs)) o ≡ is_some_and (λ xs. g (field_places xs)) u
+pub by_fields : {P : ℕ → ℕ → Type 0} {o u : Option (List FieldNode)} (f g : List ℕ → Bool) → ((ps qs : List ℕ) → Each P ps qs → f ps ≡ g qs) → EachAt P field_ids o u
+    → is_some_and (λ xs. f (field_ids xs)) o ≡ is_some_and (λ xs. g (field_ids xs)) u
 by_fields f g same none_each = refl
-by_fields f g same (each {x = x} {y = y} rs) = same (field_places x) (field_places y) rs
+by_fields f g same (each {x = x} {y = y} rs) = same (field_ids x) (field_ids y) rs
 
 -- a relation of places whose parts are related again
 abbrev pub Closed : List Node → List Node → (ℕ → ℕ → Type 0) → Type 0

@@ -2,7 +2,7 @@
 use Rattle.std.specs.Prelude.{◌≡◌, ℕ, Bool, false, List, [], ◌∷◌, ◌++◌, map, reverse, codes, decimal, Option, Some, None}
 use Rattle.avro_name.specs.Name.{Name}
 use Rattle.avro_schema.specs.Node.{Node, FieldNode, node_at, node_name}
-use Rattle.avro_schema.specs.Seen.{places_of, seen_fields}
+use Rattle.avro_schema.specs.Seen.{ids_of, seen_fields}
 use Rattle.avro_canonical.specs.Form.{Form, Forms, FieldForms, quoted, full_text, with_commas, form_text, form_texts, field_texts, after_commas, written_after, written_after_all, written_after_fields}
 use Rattle.avro_canonical.specs.Canonical.{IsForm, AreForms, AreFieldForms, is_among}
 use Rattle.avro_canonical.specs.declared.part.Part.{Part}
@@ -19,7 +19,7 @@ pub data Pending : Type 0 where
 
 abbrev pub pending_of : Part → Pending
 pending_of (Part.Place id) = place id.0
-pending_of (Part.Branches ids) = branches (places_of ids.now)
+pending_of (Part.Branches ids) = branches (ids_of ids.now)
 pending_of (Part.Fields fs) = fields (seen_fields fs.now)
 pending_of Part.End = end
 

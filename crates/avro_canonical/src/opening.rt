@@ -1,5 +1,5 @@
 ghost use Rattle.std.specs.Prelude.{◌≡◌, ◌++◌, ◌∷◌, [], OnOk, string_bytes, codes};
-ghost use Rattle.avro_schema.specs.Seen.{node_of, seen_fields, field_of, places_of};
+ghost use Rattle.avro_schema.specs.Seen.{node_of, seen_fields, field_of, ids_of};
 ghost use Rattle.avro_canonical.specs.Pending.{pendings_of, place, branches, fields as fields_left, end, head_text, opening_of, opening_of_first, parts_of, first_field, first_branch};
 
 use crate::part::Part;
@@ -36,7 +36,7 @@ pub(crate) fn open_branches<'a>(
     parts: &mut Vec<Part<'a>>,
     branches: &'a [NodeId],
 ) -> Result<(), Memory>
-    ensures { OnOk result (pendings_of parts.new.items ≡ first_branch (places_of branches.now) ++ pendings_of parts.old.items) }
+    ensures { OnOk result (pendings_of parts.new.items ≡ first_branch (ids_of branches.now) ++ pendings_of parts.old.items) }
 {
     match branches.split_first() {
         None => put_part(parts, Part::Branches(branches)),

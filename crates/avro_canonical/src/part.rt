@@ -1,6 +1,6 @@
 ghost use Rattle.std.specs.Prelude.{◌≡◌, ◌∷◌, [], OnOk, MatchOption};
 ghost use Rattle.avro_schema.specs.Node.{FieldNode};
-ghost use Rattle.avro_schema.specs.Seen.{seen_fields, places_of};
+ghost use Rattle.avro_schema.specs.Seen.{seen_fields, ids_of};
 
 use avro_schema::{Field, Memory, NodeId};
 

@@ -1,5 +1,5 @@
 ghost use Rattle.std.specs.Prelude.{◌≡◌, ◌++◌, ◌∷◌, true, OnOk, string_bytes};
-ghost use Rattle.avro_schema.specs.Seen.{seen_fields, places_of};
+ghost use Rattle.avro_schema.specs.Seen.{seen_fields, ids_of};
 ghost use Rattle.avro_schema.specs.SeenSchema.{schema_nodes};
 ghost use Rattle.avro_schema.specs.WellFormed.{is_schema};
 ghost use Rattle.avro_canonical.specs.Pending.{pending_of, pendings_of, place, before_branch, next_branch as branches_next, before_field, following_fields, IsStep};
@@ -46,8 +46,8 @@ fn next_branch<'a>(
     parts: &mut Vec<Part<'a>>,
     branches: &'a [NodeId],
 ) -> Result<(), Memory>
-    ensures text { OnOk result (string_bytes out.new ≡ string_bytes out.old ++ before_branch (places_of branches.now)) }
-    ensures left { OnOk result (pendings_of parts.new.items ≡ branches_next (places_of branches.now) ++ pendings_of parts.old.items) }
+    ensures text { OnOk result (string_bytes out.new ≡ string_bytes out.old ++ before_branch (ids_of branches.now)) }
+    ensures left { OnOk result (pendings_of parts.new.items ≡ branches_next (ids_of branches.now) ++ pendings_of parts.old.items) }
 {
     if branches.is_empty() {
         return put(out, "]");

@@ -2,7 +2,7 @@
 use Rattle.std.proofs.Common.{◌≡◌, ℕ, zero, suc, ◌+◌, ◌<◌, get_or, Bool, true, false, not, ◌&&◌, ◌||◌, List, [], ◌∷◌, drop, Option, Some, None, cond, Vec, refl, sym, ap, ◌∙◌, subst, arith}
 use Rattle.std.specs.Prelude.{is_some, slice_get, unwrap_or, nat_lt, length}
 use Rattle.std.specs.List.{list_all}
-use Rattle.avro_schema.specs.Node.{Node, FieldNode, node_at, branches_of, field_places}
+use Rattle.avro_schema.specs.Node.{Node, FieldNode, node_at, branches_of, field_ids}
 use Rattle.avro_schema.specs.Seen.{field_of, seen_fields, node_of}
 use Rattle.avro_schema.specs.declared.schema.Node.{Node as KeptNode}
 use Rattle.avro_schema.specs.declared.schema.NodeId.{NodeId}
@@ -41,7 +41,7 @@ module _ (dead : List ℕ) (pairs : List Pair) where
       default true h = h
       default false h = refl
   step f fields theirs place (Some source) e rest =
-      rw e (swapped (stands dead pairs (record { w = unwrap_or (slice_get (field_places fields) source) 0; r = f.node })) _ _ _ rest)
+      rw e (swapped (stands dead pairs (record { w = unwrap_or (slice_get (field_ids fields) source) 0; r = f.node })) _ _ _ rest)
     where
       swapped : (s c m k : Bool) → c ≡ (m && k) → (s && c) ≡ (m && (s && k))
       swapped true c m k h = h
@@ -73,7 +73,7 @@ module _ (dead : List ℕ) (pairs : List Pair) where
       ∙ ap (λ b. not b && list_all (stands dead pairs) (children_of writer reader w r n q)) (sym (fault_of_others writer reader n q h k))
 
 -- the node of a field
-pub field_at : (fs : List Field) (k : ℕ) (d : Field) → k < length fs → (get_or fs k d).node.0 ≡ unwrap_or (slice_get (field_places (seen_fields fs)) k) 0
+pub field_at : (fs : List Field) (k : ℕ) (d : Field) → k < length fs → (get_or fs k d).node.0 ≡ unwrap_or (slice_get (field_ids (seen_fields fs)) k) 0
 field_at [] k d here = absurd (omega arith)
 field_at (f ∷ fs) zero d here = refl
 field_at (f ∷ fs) (suc k) d here = field_at fs k d (omega arith)

@@ -1,7 +1,7 @@
 -- Sets of nodes and of pairs of nodes that show that two schemas are compatible.
 use Rattle.std.specs.Prelude.{ℕ, Bool, true, false, not, ◌&&◌, ◌||◌, List, [], ◌∷◌, Option, Some, None, length, slice_get, nat_lt, ◌==◌, map, is_some, is_none, flat_map, bytes_eq, unwrap_or}
 use Rattle.std.specs.List.{list_all, list_any}
-use Rattle.avro_schema.specs.Node.{Node, FieldNode, node_at, field_places}
+use Rattle.avro_schema.specs.Node.{Node, FieldNode, node_at, field_ids}
 use Rattle.avro_resolve.specs.Match.{is_match, first_match}
 use Rattle.avro_resolve.specs.Source.{source_of, missing_field}
 
@@ -11,7 +11,7 @@ is_among xs x = list_any (λ y. y == x) xs
 
 -- a record with a field in the set, or a union with all of its branches in the set
 abbrev pub is_dead_node : List ℕ → Node → Bool
-is_dead_node dead (Node.record_of name aliases fields) = list_any (is_among dead) (field_places fields)
+is_dead_node dead (Node.record_of name aliases fields) = list_any (is_among dead) (field_ids fields)
 is_dead_node dead (Node.union places) = list_all (is_among dead) places
 is_dead_node dead n = false
 
@@ -55,7 +55,7 @@ field_children fields theirs = flat_map (λ f. of_source f (source_of fields f))
   where
     of_source : FieldNode → Option ℕ → List Pair
     of_source f None = []
-    of_source f (Some place) = record { w = unwrap_or (slice_get (field_places fields) place) 0; r = f.node } ∷ []
+    of_source f (Some place) = record { w = unwrap_or (slice_get (field_ids fields) place) 0; r = f.node } ∷ []
 
 -- The pairs that a pair asks for: each branch of a writer's union with the same reader's node; the same writer's node with
 -- the first branch of a reader's union that matches; the sources with their fields; the items or the values.

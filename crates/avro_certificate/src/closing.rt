@@ -3,8 +3,8 @@
 ghost use Rattle.std.specs.Prelude.{◌≡◌, ◌&&◌, true, is_some, nat_lt, length, map, unwrap_or, slice_get, IfOk, OnOk, ◌++◌, ◌∷◌, []};
 ghost use Rattle.std.specs.Option.{IfSome};
 ghost use Rattle.std.specs.List.{list_all, list_any};
-ghost use Rattle.avro_schema.specs.Node.{node_at, field_places};
-ghost use Rattle.avro_schema.specs.Seen.{node_of, places_of, seen_fields, field_of};
+ghost use Rattle.avro_schema.specs.Node.{node_at, field_ids};
+ghost use Rattle.avro_schema.specs.Seen.{node_of, ids_of, seen_fields, field_of};
 ghost use Rattle.avro_schema.specs.SeenSchema.{schema_nodes};
 ghost use Rattle.avro_resolve.specs.Planned.{AreInside, ArePrepared, AreSources, IsPrepared};
 ghost use Rattle.avro_resolve.specs.Source.{source_of};
@@ -69,7 +69,7 @@ fn is_dead_place(writer: &Schema, certificate: &Certificate, id: NodeId) -> bool
 }
 
 fn has_dead_field(certificate: &Certificate, fields: &[Field]) -> bool
-    ensures { result ≡ list_any (is_among (dead_of certificate.now)) (field_places (seen_fields fields.now)) }
+    ensures { result ≡ list_any (is_among (dead_of certificate.now)) (field_ids (seen_fields fields.now)) }
 {
     for field in fields {
         if has_dead(certificate, field.node.0) {
@@ -80,7 +80,7 @@ fn has_dead_field(certificate: &Certificate, fields: &[Field]) -> bool
 }
 
 fn has_dead_branches(certificate: &Certificate, places: &[NodeId]) -> bool
-    ensures { result ≡ list_all (is_among (dead_of certificate.now)) (places_of places.now) }
+    ensures { result ≡ list_all (is_among (dead_of certificate.now)) (ids_of places.now) }
 {
     for place in places {
         if !has_dead(certificate, place.0) {
@@ -185,7 +185,7 @@ fn is_closed_live(
 
 /// Whether each branch of a writer's union is accounted for with the reader's node.
 fn has_branches(certificate: &Certificate, places: &[NodeId], r: NodeId) -> bool
-    ensures { result ≡ list_all (stands (dead_of certificate.now) (pairs_in certificate.now)) (map (λ place. record { w = place; r = r.0 }) (places_of places.now)) }
+    ensures { result ≡ list_all (stands (dead_of certificate.now) (pairs_in certificate.now)) (map (λ place. record { w = place; r = r.0 }) (ids_of places.now)) }
 {
     for place in places {
         if !has(certificate, place.0, r.0) {
@@ -260,7 +260,7 @@ fn has_source(
 
 /// The number of the node of a field; past the end stands the root's.
 fn place_or_root(fields: &[Field], place: usize) -> u32
-    ensures { result ≡ unwrap_or (slice_get (field_places (seen_fields fields.now)) place) 0 }
+    ensures { result ≡ unwrap_or (slice_get (field_ids (seen_fields fields.now)) place) 0 }
 {
     match fields.get(place) {
         None => 0,

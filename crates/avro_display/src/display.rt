@@ -8,7 +8,7 @@ ghost use Rattle.serde_json.specs.Data.{array, object, no_members};
 ghost use Rattle.serde_json.specs.View.{view};
 
 use crate::labels::{bytes_text, copy_of_text, labelled, put_member, symbol_text};
-use crate::parts::{branch_place, items_place, node_fields, part, values_place};
+use crate::parts::{branch_id, items_place, node_fields, part, values_place};
 use avro_schema::{Datum, Field, Memory, Node, NodeId, Schema};
 use serde_json::{Map, Value};
 use std::alloc::Global;
@@ -60,7 +60,7 @@ fn displayed(alloc: Global, schema: &Schema, node: &Node, datum: &Datum) -> Resu
             displayed_branch(
                 alloc,
                 schema,
-                part(schema, &Node::Null, branch_place(node, *branch)),
+                part(schema, &Node::Null, branch_id(node, *branch)),
                 value,
             )
         }

@@ -45,7 +45,7 @@ pub(crate) fn values_place(node: &Node) -> Option<NodeId>
 }
 
 /// The place of the node of a union's branch.
-pub(crate) fn branch_place(node: &Node, branch: u32) -> Option<NodeId>
+pub(crate) fn branch_id(node: &Node, branch: u32) -> Option<NodeId>
     ensures { option_map (λ id. id.0) result ≡ option_and_then (λ places. slice_get places branch) (branches_of (node_of node.now)) }
 {
     match node {

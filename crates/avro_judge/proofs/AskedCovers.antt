@@ -8,7 +8,7 @@ use Rattle.std.proofs.Math.ListN.{get_or}
 use Rattle.std.specs.Prelude.{slice_get, unwrap_or, is_none, option_map, flat_map, bytes_eq}
 use Rattle.std.specs.List.{list_all}
 use Rattle.avro_name.specs.Name.{is_simple_name}
-use Rattle.avro_schema.specs.Node.{Node, FieldNode, branches_of, field_places}
+use Rattle.avro_schema.specs.Node.{Node, FieldNode, branches_of, field_ids}
 use Rattle.avro_schema.specs.Distinct.{are_distinct}
 use Rattle.avro_schema.specs.WellFormed.{field_names, meets_its_rules, has_good_default}
 use Rattle.avro_resolve.specs.Match.{is_match, first_match}
@@ -46,7 +46,7 @@ module _ (writer reader : List Node) (test : Pair → Bool) where
   children_pass : (fields theirs gs : List FieldNode) → are_distinct bytes_eq (flat_map field_names theirs) ≡ true
       → ((g : FieldNode) → IsField g gs → IsField g theirs)
       → ((k : ℕ) (f : FieldNode) → k < length fields → reader_field fields theirs k ≡ Some f
-      → test (record { w = unwrap_or (slice_get (field_places fields) k) 0; r = f.node }) ≡ true)
+      → test (record { w = unwrap_or (slice_get (field_ids fields) k) 0; r = f.node }) ≡ true)
       → list_all test (field_children fields gs) ≡ true
   children_pass fields theirs [] distinct all each = refl
   children_pass fields theirs (g ∷ gs) distinct all each =
@@ -57,20 +57,20 @@ module _ (writer reader : List Node) (test : Pair → Bool) where
       of_source (Some k) e rest =
           let reads = reader_field-source fields theirs k g (all g here) distinct e in
           let named = first_place-named fields g (field_names g) k e in
-          rw e (and_from (test (record { w = unwrap_or (slice_get (field_places fields) k) 0; r = g.node })) (list_all test (field_children fields gs))
-          (subst (λ (r : ℕ). test (record { w = unwrap_or (slice_get (field_places fields) k) 0; r = r }) ≡ true) reads.2 (each k reads.0 named.0 reads.1)) rest)
+          rw e (and_from (test (record { w = unwrap_or (slice_get (field_ids fields) k) 0; r = g.node })) (list_all test (field_children fields gs))
+          (subst (λ (r : ℕ). test (record { w = unwrap_or (slice_get (field_ids fields) k) 0; r = r }) ≡ true) reads.2 (each k reads.0 named.0 reads.1)) rest)
 
   record_pass : (fields theirs : List FieldNode) → are_distinct bytes_eq (flat_map field_names theirs) ≡ true
-      → list_all test (flat_map row_child (rows_from fields theirs 0 (field_places fields))) ≡ true → list_all test (field_children fields theirs) ≡ true
+      → list_all test (flat_map row_child (rows_from fields theirs 0 (field_ids fields))) ≡ true → list_all test (field_children fields theirs) ≡ true
   record_pass fields theirs distinct h = children_pass fields theirs theirs distinct (λ g is. is) (λ k f within found. each k f (omega (arith, within, length-map fields (λ g. g.node))) found)
     where
-      each : (k : ℕ) (f : FieldNode) → k < length (field_places fields) → reader_field fields theirs k ≡ Some f
-          → test (record { w = unwrap_or (slice_get (field_places fields) k) 0; r = f.node }) ≡ true
+      each : (k : ℕ) (f : FieldNode) → k < length (field_ids fields) → reader_field fields theirs k ≡ Some f
+          → test (record { w = unwrap_or (slice_get (field_ids fields) k) 0; r = f.node }) ≡ true
       each k f within found =
-          let got : slice_get (field_places fields) k ≡ Some (get_or (field_places fields) k 0) = slice_get-get_or (field_places fields) k 0 within in
+          let got : slice_get (field_ids fields) k ≡ Some (get_or (field_ids fields) k 0) = slice_get-get_or (field_ids fields) k 0 within in
           let from : k ≡ 0 + k = omega arith in
           subst (λ (o : Option ℕ). test (record { w = unwrap_or o 0; r = f.node }) ≡ true) (sym got)
-          (row_passes fields theirs 0 (field_places fields) h k (get_or (field_places fields) k 0) f got (subst (λ (n : ℕ). reader_field fields theirs n ≡ Some f) from found))
+          (row_passes fields theirs 0 (field_ids fields) h k (get_or (field_ids fields) k 0) f got (subst (λ (n : ℕ). reader_field fields theirs n ≡ Some f) from found))
 
   inside_pass : (w r : ℕ) (n q : Node) → branches_of n ≡ None → branches_of q ≡ None → meets_its_rules reader q ≡ true → has_fault_of_kind n q ≡ false
       → list_all test (asked_children w r (asked_inside n q)) ≡ true → list_all test (children_of writer reader w r n q) ≡ true
@@ -80,7 +80,7 @@ module _ (writer reader : List Node) (test : Pair → Bool) where
       record_pass fields theirs
       (and_right (list_all is_simple_name (flat_map field_names theirs)) (are_distinct bytes_eq (flat_map field_names theirs))
       (and_left _ (list_all (has_good_default reader) theirs) rules))
-      (subst (λ (t : Bool). list_all test (asked_children w r (cond t Asked.whole (Asked.fields (rows_from fields theirs 0 (field_places fields))))) ≡ true) good h)
+      (subst (λ (t : Bool). list_all test (asked_children w r (cond t Asked.whole (Asked.fields (rows_from fields theirs 0 (field_ids fields))))) ≡ true) good h)
   inside_pass w r (Node.array a) (Node.array b) plain their_plain rules good h = h
   inside_pass w r (Node.map_of a) (Node.map_of b) plain their_plain rules good h = h
   inside_pass w r (Node.union ps) _ plain their_plain rules good h = absurd (grind arith)

@@ -3,7 +3,7 @@ use Rattle.std.proofs.Common.{◌≡◌, ℕ, suc, ◌+◌, Bool, true, false, c
 use Rattle.std.proofs.lemmas.Bool.{and_from, eqb-true, eq-eqb}
 use Rattle.std.specs.Prelude.{slice_get, unwrap_or, is_some, flat_map, ◌==◌}
 use Rattle.std.specs.List.{list_all}
-use Rattle.avro_schema.specs.Node.{Node, FieldNode, branches_of, field_places}
+use Rattle.avro_schema.specs.Node.{Node, FieldNode, branches_of, field_ids}
 use Rattle.avro_resolve.specs.Match.{is_match, first_match}
 use Rattle.avro_resolve.specs.Source.{reader_field, missing_field, source_of}
 use Rattle.avro_certificate.specs.Closed.{Pair, same_pair, is_among_pairs, children_of, field_children, lacks_symbol}
@@ -14,28 +14,28 @@ use Rattle.avro_certificate.proofs.public.NodeKinds.{children_of_union}
 module _ (writer reader : List Node) (test : Pair → Bool) where
   -- the pair of a writer's field and the reader's field whose source it is
   source_taken : (ws rs : List FieldNode) (place : ℕ) (f : FieldNode) → list_all test (field_children ws rs) ≡ true → reader_field ws rs place ≡ Some f
-      → test (record { w = unwrap_or (slice_get (field_places ws) place) 0; r = f.node }) ≡ true
+      → test (record { w = unwrap_or (slice_get (field_ids ws) place) 0; r = f.node }) ≡ true
   source_taken ws [] place f h e = absurd (grind arith)
   source_taken ws (g ∷ gs) place f h e = by_source (source_of ws g) refl h e (source_taken ws gs place f)
     where
       by_source : (o : Option ℕ) → source_of ws g ≡ o → list_all test (field_children ws (g ∷ gs)) ≡ true → reader_field ws (g ∷ gs) place ≡ Some f
-          → (list_all test (field_children ws gs) ≡ true → reader_field ws gs place ≡ Some f → test (record { w = unwrap_or (slice_get (field_places ws) place) 0; r = f.node }) ≡ true)
-          → test (record { w = unwrap_or (slice_get (field_places ws) place) 0; r = f.node }) ≡ true
+          → (list_all test (field_children ws gs) ≡ true → reader_field ws gs place ≡ Some f → test (record { w = unwrap_or (slice_get (field_ids ws) place) 0; r = f.node }) ≡ true)
+          → test (record { w = unwrap_or (slice_get (field_ids ws) place) 0; r = f.node }) ≡ true
       by_source None is h e later = later (rw is at h) (rw is at e)
       by_source (Some k) is h e later = chosen (k == place) refl (rw is at h) (rw is at e)
         where
           chosen : (t : Bool) → (k == place) ≡ t
-              → (test (record { w = unwrap_or (slice_get (field_places ws) k) 0; r = g.node }) && list_all test (field_children ws gs)) ≡ true
+              → (test (record { w = unwrap_or (slice_get (field_ids ws) k) 0; r = g.node }) && list_all test (field_children ws gs)) ≡ true
               → cond t (Some g) (reader_field ws gs place) ≡ Some f
-              → test (record { w = unwrap_or (slice_get (field_places ws) place) 0; r = f.node }) ≡ true
+              → test (record { w = unwrap_or (slice_get (field_ids ws) place) 0; r = f.node }) ≡ true
           chosen true same all found =
-              subst (λ (x : ℕ). test (record { w = unwrap_or (slice_get (field_places ws) x) 0; r = f.node }) ≡ true) (eqb-true k place same)
-              (subst (λ (x : FieldNode). test (record { w = unwrap_or (slice_get (field_places ws) k) 0; r = x.node }) ≡ true) (some_same g f found)
-              (and_left (test (record { w = unwrap_or (slice_get (field_places ws) k) 0; r = g.node })) (list_all test (field_children ws gs)) all))
+              subst (λ (x : ℕ). test (record { w = unwrap_or (slice_get (field_ids ws) x) 0; r = f.node }) ≡ true) (eqb-true k place same)
+              (subst (λ (x : FieldNode). test (record { w = unwrap_or (slice_get (field_ids ws) k) 0; r = x.node }) ≡ true) (some_same g f found)
+              (and_left (test (record { w = unwrap_or (slice_get (field_ids ws) k) 0; r = g.node })) (list_all test (field_children ws gs)) all))
             where
               some_same : (a b : FieldNode) → Some a ≡ Some b → a ≡ b
               some_same a b e = cc
-          chosen false same all found = later (and_right (test (record { w = unwrap_or (slice_get (field_places ws) k) 0; r = g.node })) (list_all test (field_children ws gs)) all) found
+          chosen false same all found = later (and_right (test (record { w = unwrap_or (slice_get (field_ids ws) k) 0; r = g.node })) (list_all test (field_children ws gs)) all) found
 
   rows_taken : (ws rs : List FieldNode) (place : ℕ) (ps : List ℕ)
       → ((k p : ℕ) (f : FieldNode) → slice_get ps k ≡ Some p → reader_field ws rs (place + k) ≡ Some f → test (record { w = p; r = f.node }) ≡ true)
@@ -58,8 +58,8 @@ module _ (writer reader : List Node) (test : Pair → Bool) where
           (each 0 p f refl (subst (λ (n : ℕ). reader_field ws rs n ≡ Some f) at e)) rest)
 
   record_taken : (fields theirs : List FieldNode) → list_all test (field_children fields theirs) ≡ true
-      → list_all test (flat_map row_child (rows_from fields theirs 0 (field_places fields))) ≡ true
-  record_taken fields theirs h = rows_taken fields theirs 0 (field_places fields) (λ k p f got found.
+      → list_all test (flat_map row_child (rows_from fields theirs 0 (field_ids fields))) ≡ true
+  record_taken fields theirs h = rows_taken fields theirs 0 (field_ids fields) (λ k p f got found.
       subst (λ (o : Option ℕ). test (record { w = unwrap_or o 0; r = f.node }) ≡ true) got (source_taken fields theirs k f h (from k f found)))
     where
       from : (k : ℕ) (f : FieldNode) → reader_field fields theirs (0 + k) ≡ Some f → reader_field fields theirs k ≡ Some f
@@ -77,7 +77,7 @@ module _ (writer reader : List Node) (test : Pair → Bool) where
       chosen false = refl
   inside_taken w r (Node.record_of a xs fields) (Node.record_of b ys theirs) h = chosen (is_some (missing_field fields theirs))
     where
-      chosen : (t : Bool) → list_all test (asked_children w r (cond t Asked.whole (Asked.fields (rows_from fields theirs 0 (field_places fields))))) ≡ true
+      chosen : (t : Bool) → list_all test (asked_children w r (cond t Asked.whole (Asked.fields (rows_from fields theirs 0 (field_ids fields))))) ≡ true
       chosen true = refl
       chosen false = record_taken fields theirs h
   inside_taken w r (Node.array a) (Node.array b) h = h

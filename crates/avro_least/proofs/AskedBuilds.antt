@@ -8,7 +8,7 @@ use Rattle.std.specs.List.{list_all}
 use Rattle.avro_name.specs.Name.{Name}
 use Rattle.avro_schema.specs.Value.{Value, value, size, depth, values_size, values_depth}
 use Rattle.avro_schema.specs.Seen.{values_from}
-use Rattle.avro_schema.specs.Node.{Node, FieldNode, node_at, branches_of, field_places}
+use Rattle.avro_schema.specs.Node.{Node, FieldNode, node_at, branches_of, field_ids}
 use Rattle.avro_schema.specs.Fits.{fits, fields_fit}
 use Rattle.avro_binary.proofs.public.Choices.{HasFewChoices-from_is_schema}
 use Rattle.avro_resolve.specs.Fault.{ResolutionFault}
@@ -125,7 +125,7 @@ module _ (writer reader : List Node) (limit : ℕ) (table : LeastTable) (erring 
       inside_no : (n q : Node) → Asked.branches places ≡ asked_inside n q → ⊥
       inside_no (Node.record_of a xs fields) (Node.record_of b ys theirs) s = chosen (is_some (missing_field fields theirs)) s
         where
-          chosen : (t : Bool) → Asked.branches places ≡ cond t Asked.whole (Asked.fields (rows_from fields theirs 0 (field_places fields))) → ⊥
+          chosen : (t : Bool) → Asked.branches places ≡ cond t Asked.whole (Asked.fields (rows_from fields theirs 0 (field_ids fields))) → ⊥
           chosen true s = grind arith
           chosen false s = grind arith
       inside_no (Node.enum a xs symbols x) (Node.enum b ys theirs y) s = chosen (lacks_symbol symbols theirs y) s
@@ -304,7 +304,7 @@ module _ (writer reader : List Node) (limit : ℕ) (table : LeastTable) (erring 
           faulty = λ t. absurd (false≢true t);
         }
 
-    rows_err : (fields theirs : List FieldNode) (place k : ℕ) (ps : List ℕ) (vs : List Value) → drop place (field_places fields) ≡ ps
+    rows_err : (fields theirs : List FieldNode) (place k : ℕ) (ps : List ℕ) (vs : List Value) → drop place (field_ids fields) ≡ ps
         → BuildsRows writer reader limit table erring less k place (rows_from fields theirs place ps) vs
         → list_all known (flat_map row_child (rows_from fields theirs place ps)) ≡ true
         → (e : Least) → total_from limit table erring k place (rows_from fields theirs place ps) ≡ Some e → e.nodes ≤ limit → e.nodes ≤ less
@@ -321,7 +321,7 @@ module _ (writer reader : List Node) (limit : ℕ) (table : LeastTable) (erring 
         let own = row_is fields theirs place (place == k) p v both.first (reader_field fields theirs place) refl b.0
         (and_left (list_all known (row_child (record { node = p; theirs = option_map (λ g. g.node) (reader_field fields theirs place) }))) (list_all known (flat_map row_child (rows_from fields theirs (suc place) ps))) parts)
         both.first_is (omega (arith, few, both.nodes)) (omega (arith, small, both.nodes)) in
-        let rest = rows_err fields theirs (suc place) k ps vs (drop_more (field_places fields) ps place p at) b.1
+        let rest = rows_err fields theirs (suc place) k ps vs (drop_more (field_ids fields) ps place p at) b.1
         (and_right (list_all known (row_child (record { node = p; theirs = option_map (λ g. g.node) (reader_field fields theirs place) }))) (list_all known (flat_map row_child (rows_from fields theirs (suc place) ps))) parts)
         both.second both.second_is (omega (arith, few, both.nodes)) (omega (arith, small, both.nodes)) in
         let count : size v ≡ both.first.nodes = ap (λ (l : Least). l.nodes) own.numbers in
@@ -339,7 +339,7 @@ module _ (writer reader : List Node) (limit : ℕ) (table : LeastTable) (erring 
             → place ≤ k → k < place + length (p ∷ ps) → IsFault (resolve_sources writer reader fields theirs place (value v (values_from vs)))
         chosen true m here later from to =
             let found = here refl in
-            field_faults writer reader fields theirs place p found.0 v (values_from vs) found.1 (slice_get_of_drop (field_places fields) ps place p at) found.2
+            field_faults writer reader fields theirs place p found.0 v (values_from vs) found.1 (slice_get_of_drop (field_ids fields) ps place p at) found.2
         chosen false m here later from to =
             let apart : place ≡ k → ⊥ = λ e. true≢false (sym (eq-eqb place k e) ∙ m) in
             fault_later (reader_field fields theirs place) place _ (resolve_sources writer reader fields theirs (suc place) (values_from vs))
@@ -356,7 +356,7 @@ module _ (writer reader : List Node) (limit : ℕ) (table : LeastTable) (erring 
     from_is : n ≡ Node.record_of name aliases fields
     to_is : q ≡ Node.record_of other others theirs
     none : is_some (missing_field fields theirs) ≡ false
-    rows_is : rows ≡ rows_from fields theirs 0 (field_places fields)
+    rows_is : rows ≡ rows_from fields theirs 0 (field_ids fields)
 
   abbrev rows_in : Asked → List Row
   rows_in (Asked.fields rows) = rows
@@ -365,7 +365,7 @@ module _ (writer reader : List Node) (limit : ℕ) (table : LeastTable) (erring 
   records_inside : (n q : Node) (rows : List Row) → Asked.fields rows ≡ asked_inside n q → IsRecords n q rows
   records_inside (Node.record_of a xs fields) (Node.record_of b ys theirs) rows e = chosen (is_some (missing_field fields theirs)) refl e
     where
-      chosen : (t : Bool) → is_some (missing_field fields theirs) ≡ t → Asked.fields rows ≡ cond t Asked.whole (Asked.fields (rows_from fields theirs 0 (field_places fields)))
+      chosen : (t : Bool) → is_some (missing_field fields theirs) ≡ t → Asked.fields rows ≡ cond t Asked.whole (Asked.fields (rows_from fields theirs 0 (field_ids fields)))
           → IsRecords (Node.record_of a xs fields) (Node.record_of b ys theirs) rows
       chosen true m s = absurd (grind arith)
       chosen false m s = record { name = a; other = b; aliases = xs; others = ys; fields = fields; theirs = theirs; from_is = refl; to_is = refl; none = m; rows_is = ap rows_in s }
@@ -398,7 +398,7 @@ module _ (writer reader : List Node) (limit : ℕ) (table : LeastTable) (erring 
   rows_count fields theirs place (p ∷ ps) = ap suc (rows_count fields theirs (suc place) ps)
 
   -- the finished record
-  record_errs : (n q : Node) (rows : List Row) (k : ℕ) (vs : List Value) (e : Least) (is : IsRecords n q rows) → k < length rows → RowsErr is.fields is.theirs 0 k (field_places is.fields) vs e
+  record_errs : (n q : Node) (rows : List Row) (k : ℕ) (vs : List Value) (e : Least) (is : IsRecords n q rows) → k < length rows → RowsErr is.fields is.theirs 0 k (field_ids is.fields) vs e
       → (fits writer n (Value.record_of (values_from vs)) ≡ true) × IsFault (resolve writer reader n q (Value.record_of (values_from vs)))
   record_errs n q rows k vs e is within errs = (
     subst (λ (m : Node). fits writer m (Value.record_of (values_from vs)) ≡ true) (sym is.from_is) errs.fitting,
@@ -413,8 +413,8 @@ module _ (writer reader : List Node) (limit : ℕ) (table : LeastTable) (erring 
       not_missing None x f = fault_map _ x f
       not_missing (Some place) x f = tt
 
-      count : k < 0 + length (field_places is.fields)
-      count = omega (arith, within, ap length is.rows_is ∙ rows_count is.fields is.theirs 0 (field_places is.fields))
+      count : k < 0 + length (field_ids is.fields)
+      count = omega (arith, within, ap length is.rows_is ∙ rows_count is.fields is.theirs 0 (field_ids is.fields))
 
   pub fields_builds : (left less w r : ℕ) (rows : List Row) (k : ℕ) (vs : List Value) → left ≤ suc less → BuildsRows writer reader limit table erring less k 0 rows vs
       → ((j : ℕ) → j < length rows → total_from limit table erring j 0 rows ≡ err_of_rows limit table erring rows
@@ -430,8 +430,8 @@ module _ (writer reader : List Node) (limit : ℕ) (table : LeastTable) (erring 
       let chosen = choice exists.0 exists.1 (subst (λ (j : ℕ). total_from limit table erring j 0 rows ≡ err_of_rows limit table erring rows) place (exists.2 ∙ sym inner.is)) in
       let found = records_asked (node_at writer w) (node_at reader r) rows is in
       let own = found.1 in
-      let errs : RowsErr own.fields own.theirs 0 k (field_places own.fields) vs inner.inner =
-      rows_err known ex less own.fields own.theirs 0 k (field_places own.fields) vs refl
+      let errs : RowsErr own.fields own.theirs 0 k (field_ids own.fields) vs inner.inner =
+      rows_err known ex less own.fields own.theirs 0 k (field_ids own.fields) vs refl
       (subst (λ (rs : List Row). BuildsRows writer reader limit table erring less k 0 rs vs) own.rows_is built)
       (subst (λ (rs : List Row). list_all known (flat_map row_child rs) ≡ true) own.rows_is (closed_of known ex w r (Asked.fields rows) is kn within))
       inner.inner (subst (λ (rs : List Row). total_from limit table erring k 0 rs ≡ Some inner.inner) own.rows_is (chosen.1 ∙ inner.is))

@@ -2,7 +2,7 @@
 use Rattle.std.proofs.Common.{◌≡◌, ℕ, zero, suc, ◌+◌, ◌≤◌, ◌<◌, Bool, true, false, cond, List, [], ◌∷◌, Option, Some, None, Vec, length, refl, sym, ap, ◌∙◌, arith}
 use Rattle.std.specs.declared.alloc.Global.{Global}
 use Rattle.std.specs.Prelude.{option_map, slice_get, unwrap_or}
-use Rattle.avro_schema.specs.Node.{Node, FieldNode, branches_of, field_places}
+use Rattle.avro_schema.specs.Node.{Node, FieldNode, branches_of, field_ids}
 use Rattle.avro_schema.specs.declared.schema.NodeId.{NodeId}
 use Rattle.avro_schema.specs.declared.schema.Node.{Node as KeptNode}
 use Rattle.avro_schema.specs.Seen.{node_of}
@@ -67,7 +67,7 @@ there (x ∷ xs) (suc k) h = there xs k (omega (arith, h))
 theirs_found : (ws rs : List FieldNode) (parts : List At) (k : ℕ) → AreFor ws rs parts → k < length parts → theirs_at parts k ≡ option_map (λ f. f.node) (reader_field ws rs k)
 theirs_found ws rs parts k h low =
     let found = there parts k low in
-    ap theirs_in (found.1 ∙ ap Some (h k found.0 found.1)) ∙ theirs_same (unwrap_or (slice_get (field_places ws) k) 0) (reader_field ws rs k)
+    ap theirs_in (found.1 ∙ ap Some (h k found.0 found.1)) ∙ theirs_same (unwrap_or (slice_get (field_ids ws) k) 0) (reader_field ws rs k)
 
 rows_found : (ws rs : List FieldNode) (parts : List At) (k : ℕ) (ps : List ℕ) → AreFor ws rs parts → k + length ps ≤ length parts → rows_by parts k ps ≡ rows_from ws rs k ps
 rows_found ws rs parts k [] h all = refl
@@ -75,10 +75,10 @@ rows_found ws rs parts k (p ∷ ps) h all =
     ap (λ (o : Option ℕ). record { node = p; theirs = o } ∷ rows_by parts (suc k) ps) (theirs_found ws rs parts k h (omega (arith, all)))
     ∙ ap (λ (rows : List Row). record { node = p; theirs = option_map (λ f. f.node) (reader_field ws rs k) } ∷ rows) (rows_found ws rs parts (suc k) ps h (omega (arith, all)))
 
-as_many : (fs : List FieldNode) → length (field_places fs) ≡ length fs
+as_many : (fs : List FieldNode) → length (field_ids fs) ≡ length fs
 as_many [] = refl
 as_many (f ∷ fs) = ap suc (as_many fs)
 
 -- the rows of the parts are those of the fields
-pub rows_same : (ws rs : List FieldNode) (parts : List At) → AreFor ws rs parts → length parts ≡ suc (length ws) → rows_by parts 0 (field_places ws) ≡ rows_from ws rs 0 (field_places ws)
-rows_same ws rs parts h all = rows_found ws rs parts 0 (field_places ws) h (omega (arith, all, as_many ws))
+pub rows_same : (ws rs : List FieldNode) (parts : List At) → AreFor ws rs parts → length parts ≡ suc (length ws) → rows_by parts 0 (field_ids ws) ≡ rows_from ws rs 0 (field_ids ws)
+rows_same ws rs parts h all = rows_found ws rs parts 0 (field_ids ws) h (omega (arith, all, as_many ws))

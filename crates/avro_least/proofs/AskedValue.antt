@@ -3,7 +3,7 @@ use Rattle.std.proofs.Common.{◌≡◌, ℕ, suc, Bool, true, false, cond, List
 use Rattle.std.proofs.lemmas.List.Folds.{list_all-append}
 use Rattle.std.specs.Prelude.{is_some, option_map, map, flat_map}
 use Rattle.std.specs.List.{list_all}
-use Rattle.avro_schema.specs.Node.{Node, FieldNode, branches_of, field_places}
+use Rattle.avro_schema.specs.Node.{Node, FieldNode, branches_of, field_ids}
 use Rattle.avro_resolve.specs.Match.{is_match, first_match}
 use Rattle.avro_resolve.specs.Source.{reader_field, missing_field}
 use Rattle.avro_certificate.specs.Closed.{Pair, lacks_symbol}
@@ -36,10 +36,10 @@ module _ (limit : ℕ) (table : LeastTable) (erring : ErringTable) where
       chosen false = refl
   inside_value w r (Node.record_of a xs fs) (Node.record_of b ys theirs) = chosen (is_some (missing_field fs theirs))
     where
-      chosen : (t : Bool) → asked_value limit table erring w r (cond t Asked.whole (Asked.fields (rows_from fs theirs 0 (field_places fs))))
-          ≡ cond t (table w) (around limit (err_of_fields limit table erring fs theirs 0 (field_places fs)))
+      chosen : (t : Bool) → asked_value limit table erring w r (cond t Asked.whole (Asked.fields (rows_from fs theirs 0 (field_ids fs))))
+          ≡ cond t (table w) (around limit (err_of_fields limit table erring fs theirs 0 (field_ids fs)))
       chosen true = refl
-      chosen false = ap (around limit) (rows_value fs theirs 0 (field_places fs))
+      chosen false = ap (around limit) (rows_value fs theirs 0 (field_ids fs))
   inside_value w r (Node.array a) (Node.array b) = refl
   inside_value w r (Node.map_of a) (Node.map_of b) = refl
   inside_value w r _ _ = refl

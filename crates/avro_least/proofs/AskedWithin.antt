@@ -3,7 +3,7 @@ use Rattle.std.proofs.Common.{◌≡◌, ℕ, zero, suc, ◌+◌, Bool, true, fa
 use Rattle.std.proofs.lemmas.Bool.{and_from, and_parts}
 use Rattle.std.specs.Prelude.{slice_get, unwrap_or, is_some, map, flat_map, nat_lt}
 use Rattle.std.specs.List.{list_all}
-use Rattle.avro_schema.specs.Node.{Node, FieldNode, node_at, field_places, edges_of}
+use Rattle.avro_schema.specs.Node.{Node, FieldNode, node_at, field_ids, edges_of}
 use Rattle.avro_schema.specs.WellFormed.{is_schema, is_edge, is_good_node, are_good_nodes}
 use Rattle.avro_resolve.specs.Match.{is_match, first_match}
 use Rattle.avro_resolve.specs.Source.{reader_field, missing_field, is_place, source_of}
@@ -54,21 +54,21 @@ module _ (writer reader : List Node) where
   one_within w r h k = and_from (is_within (record { w = w; r = r })) true (and_from (nat_lt w (length writer)) (nat_lt r (length reader)) h k) refl
 
   -- the node of some reader's field
-  field_within : (ws rs : List FieldNode) (place : ℕ) (f : FieldNode) → are_within reader (field_places rs) ≡ true → reader_field ws rs place ≡ Some f
+  field_within : (ws rs : List FieldNode) (place : ℕ) (f : FieldNode) → are_within reader (field_ids rs) ≡ true → reader_field ws rs place ≡ Some f
       → nat_lt f.node (length reader) ≡ true
   field_within ws [] place f h e = absurd (grind arith)
   field_within ws (g ∷ gs) place f h e =
-      chosen (is_place (source_of ws g) place) e (field_within ws gs place f (and_right (nat_lt g.node (length reader)) (are_within reader (field_places gs)) h))
+      chosen (is_place (source_of ws g) place) e (field_within ws gs place f (and_right (nat_lt g.node (length reader)) (are_within reader (field_ids gs)) h))
     where
       chosen : (t : Bool) → cond t (Some g) (reader_field ws gs place) ≡ Some f → (reader_field ws gs place ≡ Some f → nat_lt f.node (length reader) ≡ true)
           → nat_lt f.node (length reader) ≡ true
-      chosen true e later = subst (λ (x : FieldNode). nat_lt x.node (length reader) ≡ true) (some_same g f e) (and_left _ (are_within reader (field_places gs)) h)
+      chosen true e later = subst (λ (x : FieldNode). nat_lt x.node (length reader) ≡ true) (some_same g f e) (and_left _ (are_within reader (field_ids gs)) h)
         where
           some_same : (a b : FieldNode) → Some a ≡ Some b → a ≡ b
           some_same a b e = cc
       chosen false e later = later e
 
-  rows_within : (ws rs : List FieldNode) (place : ℕ) (ps : List ℕ) → are_within reader (field_places rs) ≡ true → are_within writer ps ≡ true
+  rows_within : (ws rs : List FieldNode) (place : ℕ) (ps : List ℕ) → are_within reader (field_ids rs) ≡ true → are_within writer ps ≡ true
       → list_all is_within (flat_map row_child (rows_from ws rs place ps)) ≡ true
   rows_within ws rs place [] h k = refl
   rows_within ws rs place (p ∷ ps) h k =
@@ -91,9 +91,9 @@ module _ (writer reader : List Node) where
       chosen false = refl
   inside_within w r (Node.record_of a xs fs) (Node.record_of b ys theirs) h k = chosen (is_some (missing_field fs theirs))
     where
-      chosen : (t : Bool) → list_all is_within (asked_children w r (cond t Asked.whole (Asked.fields (rows_from fs theirs 0 (field_places fs))))) ≡ true
+      chosen : (t : Bool) → list_all is_within (asked_children w r (cond t Asked.whole (Asked.fields (rows_from fs theirs 0 (field_ids fs))))) ≡ true
       chosen true = refl
-      chosen false = rows_within fs theirs 0 (field_places fs) k h
+      chosen false = rows_within fs theirs 0 (field_ids fs) k h
   inside_within w r (Node.array a) (Node.array b) h k = one_within a b (and_left (nat_lt a (length writer)) true h) (and_left (nat_lt b (length reader)) true k)
   inside_within w r (Node.map_of a) (Node.map_of b) h k = one_within a b (and_left (nat_lt a (length writer)) true h) (and_left (nat_lt b (length reader)) true k)
   inside_within w r _ _ h k = refl

@@ -8,7 +8,7 @@ use Rattle.avro_schema.specs.declared.schema.Node.{Node as KeptNode}
 use Rattle.avro_schema.specs.declared.schema.NodeId.{NodeId}
 use Rattle.avro_schema.specs.declared.schema.RecordNode.{RecordNode}
 use Rattle.std.specs.Global.{Vec}
-use Rattle.avro_schema.specs.Node.{Node, FieldNode, node_at, branches_of, fields_of, field_places}
+use Rattle.avro_schema.specs.Node.{Node, FieldNode, node_at, branches_of, fields_of, field_ids}
 use Rattle.avro_schema.specs.Fits.{fits, fields_fit, are_bytes}
 use Rattle.avro_schema.specs.WellFormed.{is_schema, meets_its_rules}
 use Rattle.avro_least.specs.Tables.{Least, LeastTable, IsLowForData, AreDataShown, IsLeastOf, IsWithin, count_of, Exactly, best_of, all_of, least_datum, no_parts}
@@ -98,11 +98,11 @@ module _ (nodes : List Node) (table : LeastTable) (left : ℕ) where
         depth_is = ap (λ (n : ℕ). max n (values_depth (values_from vs))) level ∙ ap (max both.first.depth) others.depth_is ∙ sym both.depth;
       }
 
-  pub record_builds : (fields : List FieldNode) (vs : List Value) → BuildsAll nodes table left (field_places fields) vs → BuildsRecord nodes table left fields (Value.record_of (values_from vs))
+  pub record_builds : (fields : List FieldNode) (vs : List Value) → BuildsAll nodes table left (field_ids fields) vs → BuildsRecord nodes table left fields (Value.record_of (values_from vs))
   record_builds fields vs all name aliases limit p formed low shown within here few =
       let step = step_is nodes limit table low shown p within in
-      let inside = around_is limit (all_of limit table (field_places fields)) step.0 (sym (ap (least_datum limit table) here) ∙ step.3) step.2 in
-      let parts = fields_least limit formed low shown (field_places fields) vs all inside.inner inside.is (omega (arith, step.2, inside.nodes)) (omega (arith, few_nodes p step.0 step.1 few, inside.nodes)) in
+      let inside = around_is limit (all_of limit table (field_ids fields)) step.0 (sym (ap (least_datum limit table) here) ∙ step.3) step.2 in
+      let parts = fields_least limit formed low shown (field_ids fields) vs all inside.inner inside.is (omega (arith, step.2, inside.nodes)) (omega (arith, few_nodes p step.0 step.1 few, inside.nodes)) in
       record {
         fitting = subst (λ (m : Node). fits nodes m (Value.record_of (values_from vs)) ≡ true) (sym here) parts.fitting;
         numbers = step.1 ∙ ap Some (numbers step.0 inside.inner parts.nodes_is parts.depth_is inside.nodes inside.depth);

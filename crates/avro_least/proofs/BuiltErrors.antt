@@ -4,7 +4,7 @@ use Rattle.std.proofs.lemmas.Bool.{and_from, false≢true, lt-ltb}
 use Rattle.std.specs.Prelude.{slice_get, is_some, unwrap_or, position, bytes_eq}
 use Rattle.std.specs.List.{list_any}
 use Rattle.avro_schema.specs.Value.{Value, no_values, value, no_entries, entry, size, depth}
-use Rattle.avro_schema.specs.Node.{Node, node_at, branches_of, items_node, values_node, field_places}
+use Rattle.avro_schema.specs.Node.{Node, node_at, branches_of, items_node, values_node, field_ids}
 use Rattle.avro_schema.specs.Fits.{fits, entries_fit, is_some_and, is_text}
 use Rattle.avro_schema.specs.WellFormed.{is_schema}
 use Rattle.avro_binary.proofs.public.Choices.{HasFewChoices, HasFewChoices-from_is_schema}
@@ -25,7 +25,7 @@ module _ (writer reader : List Node) where
   whole_plain : (n q : Node) (v : Value) → branches_of n ≡ None → branches_of q ≡ None → fits writer n v ≡ true → asked_inside n q ≡ Asked.whole → IsFault (resolve writer reader n q v)
   whole_plain (Node.record_of a xs fields) (Node.record_of b ys theirs) v plain their_plain fit e = chosen (is_some (missing_field fields theirs)) refl e
     where
-      chosen : (t : Bool) → is_some (missing_field fields theirs) ≡ t → cond t Asked.whole (Asked.fields (rows_from fields theirs 0 (field_places fields))) ≡ Asked.whole
+      chosen : (t : Bool) → is_some (missing_field fields theirs) ≡ t → cond t Asked.whole (Asked.fields (rows_from fields theirs 0 (field_ids fields))) ≡ Asked.whole
           → IsFault (resolve writer reader (Node.record_of a xs fields) (Node.record_of b ys theirs) v)
       chosen true m s = missing_errs writer reader a b xs ys fields theirs v fit m
       chosen false m s = absurd (grind arith)
@@ -82,7 +82,7 @@ module _ (writer reader : List Node) where
   inside_not_same : (n q : Node) → is_same (asked_inside n q) ≡ false
   inside_not_same (Node.record_of a xs fields) (Node.record_of b ys theirs) = chosen (is_some (missing_field fields theirs))
     where
-      chosen : (t : Bool) → is_same (cond t Asked.whole (Asked.fields (rows_from fields theirs 0 (field_places fields)))) ≡ false
+      chosen : (t : Bool) → is_same (cond t Asked.whole (Asked.fields (rows_from fields theirs 0 (field_ids fields)))) ≡ false
       chosen true = refl
       chosen false = refl
   inside_not_same (Node.enum a xs symbols x) (Node.enum b ys theirs y) = chosen (lacks_symbol symbols theirs y)
@@ -192,7 +192,7 @@ module _ (writer reader : List Node) where
       chosen false l s = absurd (grind arith)
   lone_inside (Node.record_of a xs fields) (Node.record_of b ys theirs) v few m e is = absurd (chosen (is_some (missing_field fields theirs)) e)
     where
-      chosen : (t : Bool) → Asked.lone ≡ cond t Asked.whole (Asked.fields (rows_from fields theirs 0 (field_places fields))) → ⊥
+      chosen : (t : Bool) → Asked.lone ≡ cond t Asked.whole (Asked.fields (rows_from fields theirs 0 (field_ids fields))) → ⊥
       chosen true s = grind arith
       chosen false s = grind arith
   lone_inside _ _ v few m e is = absurd (grind arith)
@@ -283,7 +283,7 @@ module _ (writer reader : List Node) where
       chosen false s = grind arith
   part_inside (Node.record_of c xs fields) (Node.record_of d ys theirs) a b v e fit f = absurd (chosen (is_some (missing_field fields theirs)) e)
     where
-      chosen : (t : Bool) → Asked.part a b ≡ cond t Asked.whole (Asked.fields (rows_from fields theirs 0 (field_places fields))) → ⊥
+      chosen : (t : Bool) → Asked.part a b ≡ cond t Asked.whole (Asked.fields (rows_from fields theirs 0 (field_ids fields))) → ⊥
       chosen true s = grind arith
       chosen false s = grind arith
   part_inside _ _ a b v e fit f = absurd (grind arith)

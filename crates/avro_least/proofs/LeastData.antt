@@ -3,7 +3,7 @@ use Rattle.std.proofs.Common.{◌≡◌, ℕ, Bool, true, false, List, [], ◌�
 use Rattle.std.proofs.lemmas.Bool.{false≢true}
 use Rattle.std.specs.Prelude.{slice_get, option_and_then}
 use Rattle.avro_schema.specs.Value.{Value, Values, no_values, value, size, depth, values_size, values_depth, values_count}
-use Rattle.avro_schema.specs.Node.{Node, node_at, branches_of, fields_of, field_places}
+use Rattle.avro_schema.specs.Node.{Node, node_at, branches_of, fields_of, field_ids}
 use Rattle.avro_schema.specs.Fits.{fits, fields_fit, is_some_and, is_count, are_bytes}
 use Rattle.avro_least.specs.Tables.{LeastTable, AtMost, IsLowForData, least_datum, all_of}
 use Rattle.avro_certificate.proofs.public.Tests.{and_left, and_right}
@@ -54,11 +54,11 @@ union_step nodes limit table _ k v h below = absurd (false≢true h)
 
 -- a record's is no more than its fields'
 record_step : (nodes : List Node) (limit : ℕ) (table : LeastTable) (n : Node) (vs : Values)
-    → is_some_and (λ fields. fields_fit nodes (field_places fields) vs) (fields_of n) ≡ true
+    → is_some_and (λ fields. fields_fit nodes (field_ids fields) vs) (fields_of n) ≡ true
     → ((ps : List ℕ) → fields_fit nodes ps vs ≡ true → AtMost (all_of limit table ps) (values_size vs) (values_depth vs))
     → AtMost (least_datum limit table n) (size (Value.record_of vs)) (depth (Value.record_of vs))
 record_step nodes limit table (Node.record_of name aliases fields) vs h below =
-    under_around limit _ (values_size vs) (values_depth vs) (below (field_places fields) h)
+    under_around limit _ (values_size vs) (values_depth vs) (below (field_ids fields) h)
 record_step nodes limit table _ vs h below = absurd (false≢true h)
 
 module _ (nodes : List Node) (limit : ℕ) (table : LeastTable) (low : IsLowForData nodes limit table) where

@@ -3,7 +3,7 @@ use Rattle.std.proofs.Common.{◌≡◌, ℕ, zero, suc, Bool, true, false, cond
 use Rattle.std.proofs.lemmas.Bool.{false≢true}
 use Rattle.std.specs.Prelude.{slice_get, unwrap_or, option_and_then, nat_lt, is_some}
 use Rattle.avro_schema.specs.Value.{Value, Values, Entries, no_values, value, no_entries, entry, size, depth, values_size, values_depth, entries_size, entries_depth, values_count}
-use Rattle.avro_schema.specs.Node.{Node, FieldNode, node_at, branches_of, items_node, values_node, fields_of, symbols_of, field_places}
+use Rattle.avro_schema.specs.Node.{Node, FieldNode, node_at, branches_of, items_node, values_node, fields_of, symbols_of, field_ids}
 use Rattle.avro_schema.specs.Fits.{fits, each_fits, entries_fit, fields_fit, is_some_and, is_count, are_bytes, is_bytes_node}
 use Rattle.avro_schema.specs.WellFormed.{is_schema}
 use Rattle.avro_resolve.specs.Fault.{ResolutionFault, fault_here, no_match}
@@ -190,26 +190,26 @@ module _ (writer reader : List Node) (limit : ℕ) (table : LeastTable) (erring 
       into steps _ q h plain m = absurd (false≢true h)
 
   -- a record's fields
-  inner_record : (w : ℕ) (n : Node) (vs : Values) → is_some_and (λ fields. fields_fit writer (field_places fields) vs) (fields_of n) ≡ true
+  inner_record : (w : ℕ) (n : Node) (vs : Values) → is_some_and (λ fields. fields_fit writer (field_ids fields) vs) (fields_of n) ≡ true
       → AtMost (table w) (suc (values_size vs)) (suc (values_depth vs))
-      → ((fields theirs : List FieldNode) → fields_fit writer (field_places fields) vs ≡ true
+      → ((fields theirs : List FieldNode) → fields_fit writer (field_ids fields) vs ≡ true
       → OnErr (resolve_sources writer reader fields theirs 0 vs)
-      (AtMost (err_of_fields limit table erring fields theirs 0 (field_places fields)) (values_size vs) (values_depth vs)))
+      (AtMost (err_of_fields limit table erring fields theirs 0 (field_ids fields)) (values_size vs) (values_depth vs)))
       → Inner writer reader limit table erring w n
       (λ q. record_or_missing (fields_at n) (fields_at q) (missing_field (fields_at n) (fields_at q))
       (resolve_sources writer reader (fields_at n) (fields_at q) 0 vs))
       (suc (values_size vs)) (suc (values_depth vs))
   inner_record w n vs h own each q plain m = into (length writer) n q h plain m
     where
-      parts : (fields theirs : List FieldNode) (o : Option ℕ) → fields_fit writer (field_places fields) vs ≡ true
+      parts : (fields theirs : List FieldNode) (o : Option ℕ) → fields_fit writer (field_ids fields) vs ≡ true
           → OnErr (record_or_missing fields theirs o (resolve_sources writer reader fields theirs 0 vs))
-          (AtMost (cond (is_some o) (table w) (around limit (err_of_fields limit table erring fields theirs 0 (field_places fields)))) (suc (values_size vs)) (suc (values_depth vs)))
+          (AtMost (cond (is_some o) (table w) (around limit (err_of_fields limit table erring fields theirs 0 (field_ids fields)))) (suc (values_size vs)) (suc (values_depth vs)))
       parts fields theirs None f = on_map _ (resolve_sources writer reader fields theirs 0 vs) _
           (on_mono (resolve_sources writer reader fields theirs 0 vs) _ _
-          (under_around limit (err_of_fields limit table erring fields theirs 0 (field_places fields)) (values_size vs) (values_depth vs)) (each fields theirs f))
+          (under_around limit (err_of_fields limit table erring fields theirs 0 (field_ids fields)) (values_size vs) (values_depth vs)) (each fields theirs f))
       parts fields theirs (Some place) f = own
 
-      into : (steps : ℕ) (n q : Node) → is_some_and (λ fields. fields_fit writer (field_places fields) vs) (fields_of n) ≡ true
+      into : (steps : ℕ) (n q : Node) → is_some_and (λ fields. fields_fit writer (field_ids fields) vs) (fields_of n) ≡ true
           → branches_of q ≡ None → match_within steps writer reader n q ≡ true
           → OnErr (record_or_missing (fields_at n) (fields_at q) (missing_field (fields_at n) (fields_at q)) (resolve_sources writer reader (fields_at n) (fields_at q) 0 vs))
           (AtMost (err_inside limit table erring w n q) (suc (values_size vs)) (suc (values_depth vs)))
@@ -276,7 +276,7 @@ module _ (writer reader : List Node) (limit : ℕ) (table : LeastTable) (erring 
     step_errors (Value.union k v) w r h = union_step v k w r (node_at writer w) h (λ p f. lower_at v p r f (step_errors v p r f))
     step_errors (Value.record_of vs) w r h = plain_step (Value.record_of vs) w r _ refl h
         (inner_record w (node_at writer w) vs h (at_most_data writer limit table low.for_data (Value.record_of vs) w h)
-        (λ fields theirs f. at_most_sources vs fields theirs 0 (field_places fields) refl f))
+        (λ fields theirs f. at_most_sources vs fields theirs 0 (field_ids fields) refl f))
     step_errors (Value.enum k) w r h = plain_step (Value.enum k) w r (enum_as (symbol_at (node_at writer w) k)) refl h (inner_enum w (node_at writer w) k h)
     step_errors (Value.fixed b) w r h = plain_step (Value.fixed b) w r (λ q. Ok (Value.fixed b)) refl h (λ q plain m. tt)
 
@@ -313,7 +313,7 @@ module _ (writer reader : List Node) (limit : ℕ) (table : LeastTable) (erring 
         (at_most_entries es w r (suc place) (and_right (fits writer (node_at writer w) v) (entries_fit writer (node_at writer w) es) h)))
 
     -- the writer's fields from a place on
-    at_most_sources : (vs : Values) (fields theirs : List FieldNode) (place : ℕ) (places : List ℕ) → drop place (field_places fields) ≡ places
+    at_most_sources : (vs : Values) (fields theirs : List FieldNode) (place : ℕ) (places : List ℕ) → drop place (field_ids fields) ≡ places
         → fields_fit writer places vs ≡ true
         → OnErr (resolve_sources writer reader fields theirs place vs)
         (AtMost (err_of_fields limit table erring fields theirs place places) (values_size vs) (values_depth vs))
@@ -321,7 +321,7 @@ module _ (writer reader : List Node) (limit : ℕ) (table : LeastTable) (erring 
     at_most_sources (value v vs) fields theirs place [] e h = absurd (false≢true h)
     at_most_sources (value v vs) fields theirs place (p ∷ ps) e h =
         on_sourced (reader_field fields theirs place) place _ (resolve_sources writer reader fields theirs (suc place) vs) _
-        (λ f here. rw (here, slice_get_of_drop (field_places fields) ps place p e)
+        (λ f here. rw (here, slice_get_of_drop (field_ids fields) ps place p e)
         (on_mono (resolve writer reader (node_at writer p) (node_at reader f.node) v) (AtMost (erring p f.node) (size v) (depth v)) _
         (λ x. under_lesser_left (together limit (erring p f.node) (all_of limit table ps)) (together limit (table p) (err_of_fields limit table erring fields theirs (suc place) ps)) _ _
         (under_together limit (erring p f.node) (all_of limit table ps) (size v) (depth v) (values_size vs) (values_depth vs) x
@@ -334,7 +334,7 @@ module _ (writer reader : List Node) (limit : ℕ) (table : LeastTable) (erring 
         (together limit (table p) (err_of_fields limit table erring fields theirs (suc place) ps)) _ _
         (under_together limit (table p) (err_of_fields limit table erring fields theirs (suc place) ps) (size v) (depth v) (values_size vs) (values_depth vs)
         (at_most_data writer limit table low.for_data v p (and_left (fits writer (node_at writer p) v) (fields_fit writer ps vs) h)) x))
-        (at_most_sources vs fields theirs (suc place) ps (drop_more (field_places fields) ps place p e)
+        (at_most_sources vs fields theirs (suc place) ps (drop_more (field_ids fields) ps place p e)
         (and_right (fits writer (node_at writer p) v) (fields_fit writer ps vs) h)))
 
   -- no datum that errs is below the pair's entry

@@ -7,7 +7,7 @@ use Rattle.std.specs.Prelude.{max, slice_get, is_some, nat_lt, nat_le, ◌==◌}
 use Rattle.std.specs.List.{list_all}
 use Rattle.std.specs.Str.{is_utf8, chars}
 use Rattle.avro_schema.specs.Value.{Value, Values, no_values, value, no_entries, size, depth, values_size, values_depth}
-use Rattle.avro_schema.specs.Node.{Node, node_at, field_places}
+use Rattle.avro_schema.specs.Node.{Node, node_at, field_ids}
 use Rattle.avro_schema.specs.Fits.{fits, fields_fit, is_count, are_bytes, is_text}
 use Rattle.avro_schema.specs.WellFormed.{meets_its_rules, max_count}
 use Rattle.avro_least.specs.Tables.{Least, LeastTable, Exactly, ShowsData, AreDataShown, capped, around, together, lesser, precedes, best_of, all_of, least_datum}
@@ -123,11 +123,11 @@ module _ (writer : List Node) (limit : ℕ) (table : LeastTable) (shown : AreDat
       let some = around_some limit (best_of table places) h in
       union_shown places (best_is table places some) some
   step_shown (Node.record_of name aliases fields) rules h =
-      let parts = shown_fields (field_places fields) (around_some limit (all_of limit table (field_places fields)) h) in
+      let parts = shown_fields (field_ids fields) (around_some limit (all_of limit table (field_ids fields)) h) in
       record {
         datum = Value.record_of parts.values;
         fitting = parts.fitting;
-        exact = exact_around limit (all_of limit table (field_places fields)) (values_size parts.values) (values_depth parts.values) parts.exact;
+        exact = exact_around limit (all_of limit table (field_ids fields)) (values_size parts.values) (values_depth parts.values) parts.exact;
       }
   step_shown Node.null rules h = record { datum = Value.null; fitting = refl; exact = λ k. (refl, refl) }
   step_shown Node.boolean rules h = record { datum = Value.boolean false; fitting = refl; exact = λ k. (refl, refl) }

@@ -9,7 +9,7 @@ use Rattle.std.proofs.lemmas.List.Quantifiers.{position-Some}
 use Rattle.std.proofs.lemmas.Option.{unwrap_or-slice_get}
 use Rattle.avro_certificate.proofs.public.Successes.{bytes_eq-sym}
 use Rattle.avro_schema.specs.Value.{Value, Values, no_values, value, no_entries, entry, size, depth, values_size, values_depth, values_count}
-use Rattle.avro_schema.specs.Node.{Node, FieldNode, node_at, branches_of, items_node, values_node, field_places}
+use Rattle.avro_schema.specs.Node.{Node, FieldNode, node_at, branches_of, items_node, values_node, field_ids}
 use Rattle.avro_schema.specs.Fits.{fits, entries_fit, fields_fit, is_some_and, is_count, are_bytes, is_text}
 use Rattle.avro_schema.specs.WellFormed.{is_schema}
 use Rattle.avro_resolve.specs.Fault.{ResolutionFault, fault_here, no_match}
@@ -130,7 +130,7 @@ lacking symbols theirs None h =
 module _ (writer reader : List Node) where
   -- a field that errs
   pub field_faults : (fields theirs : List FieldNode) (place p : ℕ) (f : FieldNode) (v : Value) (rest : Values) → reader_field fields theirs place ≡ Some f
-      → slice_get (field_places fields) place ≡ Some p → IsFault (resolve writer reader (node_at writer p) (node_at reader f.node) v)
+      → slice_get (field_ids fields) place ≡ Some p → IsFault (resolve writer reader (node_at writer p) (node_at reader f.node) v)
       → IsFault (resolve_sources writer reader fields theirs place (value v rest))
   field_faults fields theirs place p f v rest found here h = rw (found, here)
       (fault_first (λ v later. (place, v) ∷ later) (inside place (resolve writer reader (node_at writer p) (node_at reader f.node) v))
@@ -174,7 +174,7 @@ module _ (writer reader : List Node) (limit : ℕ) (table : LeastTable) (erring 
     faulty : IsFault (resolve_sources writer reader fields theirs place values)
     exact : Exactly limit e (values_size values) (values_depth values)
 
-  erring_fields : (fields theirs : List FieldNode) (place : ℕ) (ps : List ℕ) → drop place (field_places fields) ≡ ps
+  erring_fields : (fields theirs : List FieldNode) (place : ℕ) (ps : List ℕ) → drop place (field_ids fields) ≡ ps
       → list_all known (field_children fields theirs) ≡ true → is_some (err_of_fields limit table erring fields theirs place ps) ≡ true
       → ErringFields fields theirs place ps (err_of_fields limit table erring fields theirs place ps)
   erring_fields fields theirs place [] e children h = absurd (false≢true h)
@@ -189,14 +189,14 @@ module _ (writer reader : List Node) (limit : ℕ) (table : LeastTable) (erring 
             let parts = together_some limit (table p) (err_of_fields limit table erring fields theirs (suc place) ps) later.0 in
             subst (λ (x : Option Least). ErringFields fields theirs place (p ∷ ps) x) (sym later.1)
             (later_errs (live p parts.0)
-            (erring_fields fields theirs (suc place) ps (drop_more (field_places fields) ps place p e) children parts.1))
+            (erring_fields fields theirs (suc place) ps (drop_more (field_ids fields) ps place p e) children parts.1))
       ]
     where
       here_errs : (o : Option FieldNode) → reader_field fields theirs place ≡ o → is_some (err_of_field erring p o) ≡ true → is_some (all_of limit table ps) ≡ true
           → ErringFields fields theirs place (p ∷ ps) (together limit (err_of_field erring p o) (all_of limit table ps))
       here_errs None found some others = absurd (false≢true some)
       here_errs (Some f) found some others =
-          let at_place = slice_get_of_drop (field_places fields) ps place p e in
+          let at_place = slice_get_of_drop (field_ids fields) ps place p e in
           let there = subst (λ (o : Option ℕ). known (record { w = unwrap_or o 0; r = f.node }) ≡ true) at_place (source_child known fields theirs place f found children) in
           let first = errors p f.node there some in
           let rest = shown_fields writer limit table live ps others in
@@ -238,18 +238,18 @@ module _ (writer reader : List Node) (limit : ℕ) (table : LeastTable) (erring 
   inside_step w r (Node.record_of a xs fields) (Node.record_of b ys theirs) own children h = chosen (is_some (missing_field fields theirs)) refl h
     where
       chosen : (t : Bool) → is_some (missing_field fields theirs) ≡ t
-          → is_some (cond t (table w) (around limit (err_of_fields limit table erring fields theirs 0 (field_places fields)))) ≡ true
+          → is_some (cond t (table w) (around limit (err_of_fields limit table erring fields theirs 0 (field_ids fields)))) ≡ true
           → ShowsError writer reader limit (Node.record_of a xs fields) (Node.record_of b ys theirs)
-          (cond t (table w) (around limit (err_of_fields limit table erring fields theirs 0 (field_places fields))))
+          (cond t (table w) (around limit (err_of_fields limit table erring fields theirs 0 (field_ids fields))))
       chosen true e s = let d = own s in
           shows (Node.record_of a xs fields) (Node.record_of b ys theirs) (table w) d.datum d.fitting (missing_errs writer reader a b xs ys fields theirs d.datum d.fitting e) d.exact
       chosen false e s =
-          let parts = erring_fields fields theirs 0 (field_places fields) refl children (around_some limit (err_of_fields limit table erring fields theirs 0 (field_places fields)) s) in
+          let parts = erring_fields fields theirs 0 (field_ids fields) refl children (around_some limit (err_of_fields limit table erring fields theirs 0 (field_ids fields)) s) in
           shows (Node.record_of a xs fields) (Node.record_of b ys theirs) _ (Value.record_of parts.values) parts.fitting
           (fault_matched writer reader (Node.record_of a xs fields) (Node.record_of b ys theirs)
           (λ q. record_or_missing fields (fields_at q) (missing_field fields (fields_at q)) (resolve_sources writer reader fields (fields_at q) 0 parts.values))
           (not_missing (missing_field fields theirs) (resolve_sources writer reader fields theirs 0 parts.values) parts.faulty))
-          (exact_around limit (err_of_fields limit table erring fields theirs 0 (field_places fields)) (values_size parts.values) (values_depth parts.values) parts.exact)
+          (exact_around limit (err_of_fields limit table erring fields theirs 0 (field_ids fields)) (values_size parts.values) (values_depth parts.values) parts.exact)
         where
           not_missing : (o : Option ℕ) (x : Result Sourced ResolutionFault) → IsFault x → IsFault (record_or_missing fields theirs o x)
           not_missing None x f = fault_map _ x f

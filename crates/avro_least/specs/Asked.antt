@@ -1,6 +1,6 @@
 -- What a pair of nodes asks for, once all names are compared.
 use Rattle.std.specs.Prelude.{◌≡◌, true, ℕ, zero, suc, cond, List, [], ◌∷◌, Option, Some, None, slice_get, unwrap_or, option_map, map, is_some, is_none, Bool, ◌||◌, ◌&&◌, nat_lt, length, ◌/◌, ◌%◌, flat_map}
-use Rattle.avro_schema.specs.Node.{Node, FieldNode, node_at, field_places}
+use Rattle.avro_schema.specs.Node.{Node, FieldNode, node_at, field_ids}
 use Rattle.avro_resolve.specs.Match.{is_match, first_match}
 use Rattle.avro_resolve.specs.Source.{reader_field, missing_field}
 use Rattle.avro_certificate.specs.Closed.{Pair, lacks_symbol}
@@ -37,7 +37,7 @@ abbrev pub asked_inside : Node → Node → Asked
 asked_inside Node.bytes Node.string = lone
 asked_inside (Node.enum a xs symbols x) (Node.enum b ys theirs y) = cond (lacks_symbol symbols theirs y) lone quiet
 asked_inside (Node.record_of a xs fs) (Node.record_of b ys theirs) =
-    cond (is_some (missing_field fs theirs)) whole (fields (rows_from fs theirs 0 (field_places fs)))
+    cond (is_some (missing_field fs theirs)) whole (fields (rows_from fs theirs 0 (field_ids fs)))
 asked_inside (Node.array a) (Node.array b) = part a b
 asked_inside (Node.map_of a) (Node.map_of b) = part a b
 asked_inside n q = quiet

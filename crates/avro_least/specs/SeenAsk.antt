@@ -1,6 +1,6 @@
 -- How contracts see what a pair asks for.
 use Rattle.std.specs.Prelude.{ℕ, suc, List, [], ◌∷◌, Option, Some, None, option_map, map, slice_get}
-use Rattle.avro_schema.specs.Seen.{places_of}
+use Rattle.avro_schema.specs.Seen.{ids_of}
 use Rattle.avro_resolve.specs.declared.guided.At.{At}
 use Rattle.avro_least.specs.Asked.{Row, Asked}
 use Rattle.avro_least.specs.declared.asking.FieldAsk.{FieldAsk}
@@ -18,7 +18,7 @@ ask_of Ask.Whole = Asked.whole
 ask_of Ask.Lone = Asked.lone
 ask_of (Ask.Same r) = Asked.same r.0
 ask_of (Ask.Part w r) = Asked.part w.0 r.0
-ask_of (Ask.Branches places) = Asked.branches (places_of places.items)
+ask_of (Ask.Branches places) = Asked.branches (ids_of places.items)
 ask_of (Ask.Fields rows) = Asked.fields (rows_of rows.items)
 
 abbrev pub asks_of : List Ask → List Asked

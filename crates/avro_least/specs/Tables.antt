@@ -1,7 +1,7 @@
 -- The least data of a writer's nodes, and the least data that err at pairs of nodes, as tables that no step lowers.
 use Rattle.std.specs.Prelude.{◌≡◌, ℕ, suc, ◌+◌, max, ◌≤◌, Bool, true, cond, ◌&&◌, ◌||◌, List, [], ◌∷◌, Option, Some, None, slice_get, unwrap_or, Err, nat_lt, nat_le, ◌==◌, is_some, position, length, ◌*◌, ◌/◌, ◌%◌}
 use Rattle.avro_schema.specs.Value.{Value, size, depth}
-use Rattle.avro_schema.specs.Node.{Node, FieldNode, node_at, field_places}
+use Rattle.avro_schema.specs.Node.{Node, FieldNode, node_at, field_ids}
 use Rattle.avro_schema.specs.Fits.{fits}
 use Rattle.avro_resolve.specs.Match.{is_match, first_match}
 use Rattle.avro_resolve.specs.Source.{reader_field, missing_field}
@@ -69,7 +69,7 @@ best_of table (p ∷ ps) = lesser (table p) (best_of table ps)
 -- what a node's entry is by those of its parts
 abbrev pub least_datum : ℕ → LeastTable → Node → Option Least
 least_datum limit table (Node.union places) = around limit (best_of table places)
-least_datum limit table (Node.record_of name aliases fields) = around limit (all_of limit table (field_places fields))
+least_datum limit table (Node.record_of name aliases fields) = around limit (all_of limit table (field_ids fields))
 least_datum limit table _ = Some one
 
 -- no step lowers the table
@@ -97,7 +97,7 @@ abbrev pub err_inside : ℕ → LeastTable → ErringTable → ℕ → Node → 
 err_inside limit table erring w Node.bytes Node.string = Some one
 err_inside limit table erring w (Node.enum a xs symbols x) (Node.enum b ys theirs y) = cond (lacks_symbol symbols theirs y) (Some one) None
 err_inside limit table erring w (Node.record_of a xs fields) (Node.record_of b ys theirs) =
-    cond (is_some (missing_field fields theirs)) (table w) (around limit (err_of_fields limit table erring fields theirs 0 (field_places fields)))
+    cond (is_some (missing_field fields theirs)) (table w) (around limit (err_of_fields limit table erring fields theirs 0 (field_ids fields)))
 err_inside limit table erring w (Node.array a) (Node.array b) = around limit (erring a b)
 err_inside limit table erring w (Node.map_of a) (Node.map_of b) = around limit (erring a b)
 err_inside limit table erring w n q = None

@@ -2,7 +2,7 @@
 
 ghost use Rattle.std.specs.Prelude.{◌≡◌, IfOk, is_none, is_some, cond, option_map};
 ghost use Rattle.std.specs.List.{list_any};
-ghost use Rattle.avro_schema.specs.Node.{Node as SeenNode, node_at, field_places};
+ghost use Rattle.avro_schema.specs.Node.{Node as SeenNode, node_at, field_ids};
 ghost use Rattle.avro_schema.specs.Seen.{node_of, seen_fields};
 ghost use Rattle.avro_schema.specs.SeenSchema.{schema_nodes};
 ghost use Rattle.avro_resolve.specs.Planned.{AreInside, IsPrepared};
@@ -66,7 +66,7 @@ fn theirs_at(parts: &[At], place: usize) -> Option<NodeId>
 
 /// Each writer's field, beside the reader's field that its part is for.
 fn rows(alloc: Global, writer: &[Field], parts: &[At]) -> Result<Vec<FieldAsk>, Memory>
-    ensures { IfOk result (λ rows. rows_of rows.items ≡ rows_by parts.now 0 (field_places (seen_fields writer.now))) }
+    ensures { IfOk result (λ rows. rows_of rows.items ≡ rows_by parts.now 0 (field_ids (seen_fields writer.now))) }
 {
     let mut rows = Vec::new(alloc);
     for i in 0..writer.len() {
@@ -84,7 +84,7 @@ fn rows(alloc: Global, writer: &[Field], parts: &[At]) -> Result<Vec<FieldAsk>, 
 /// What two records ask for.
 fn ask_fields(alloc: Global, writer: &[Field], pair: &Prepared) -> Result<Ask, Memory>
     ensures { IfOk result (λ a. ask_of a ≡ cond (is_some pair.now.missing) Asked.whole
-        (Asked.fields (rows_by pair.now.fields.items 0 (field_places (seen_fields writer.now))))) }
+        (Asked.fields (rows_by pair.now.fields.items 0 (field_ids (seen_fields writer.now))))) }
 {
     if pair.missing.is_some() {
         return Ok(Ask::Whole);

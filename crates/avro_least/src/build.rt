@@ -2,7 +2,7 @@
 
 ghost use Rattle.std.specs.Prelude.{◌≡◌, ◌<◌, ◌≤◌, ℕ, true, length, IfOk, OnOk, [], ◌∷◌, ◌++◌, Some, slice_get, is_some, map};
 ghost use Rattle.std.proofs.Math.ListN.{replicate};
-ghost use Rattle.avro_schema.specs.Seen.{value_of, values_from, node_of, places_of, seen_fields};
+ghost use Rattle.avro_schema.specs.Seen.{value_of, values_from, node_of, ids_of, seen_fields};
 ghost use Rattle.avro_least.specs.Tables.{best_of};
 ghost use Rattle.avro_least.specs.SeenLeast.{seen, table_of};
 ghost use Rattle.avro_schema.specs.Value.{Value};
@@ -33,8 +33,8 @@ pub(crate) fn are_same(a: Option<Least>, b: Option<Least>) -> bool
 
 /// The first place of the best entry.
 fn best_place(table: &[Option<Least>], places: &[NodeId]) -> usize
-    ensures { is_some (best_of (table_of table.now) (places_of places.now)) ≡ true
-        → (p : ℕ) × (slice_get (places_of places.now) result ≡ Some p) × (table_of table.now p ≡ best_of (table_of table.now) (places_of places.now)) }
+    ensures { is_some (best_of (table_of table.now) (ids_of places.now)) ≡ true
+        → (p : ℕ) × (slice_get (ids_of places.now) result ≡ Some p) × (table_of table.now p ≡ best_of (table_of table.now) (ids_of places.now)) }
 {
     let best = best_of(table, places);
     for i in 0..places.len() {
@@ -107,7 +107,7 @@ pub(crate) fn wrap(alloc: Global, k: usize, value: Datum) -> Result<Datum, Memor
 
 /// The place at an index.
 pub(crate) fn place_at(places: &[NodeId], k: usize) -> NodeId
-    ensures { (p : ℕ) → slice_get (places_of places.now) k ≡ Some p → result.0 ≡ p }
+    ensures { (p : ℕ) → slice_get (ids_of places.now) k ≡ Some p → result.0 ≡ p }
 {
     match places.get(k) {
         None => NodeId(0),
@@ -172,7 +172,7 @@ fn build_branch(
     places: &[NodeId],
     left: u32,
 ) -> Result<Datum, Memory>
-    ensures { IfOk result (λ d. BuildsAt (schema_nodes schema.now) (table_of table.now) left (SeenNode.union (places_of places.now)) (value_of d)) }
+    ensures { IfOk result (λ d. BuildsAt (schema_nodes schema.now) (table_of table.now) left (SeenNode.union (ids_of places.now)) (value_of d)) }
 {
     let k = best_place(table, places);
     let value = build(alloc, schema, table, place_at(places, k), left)?;

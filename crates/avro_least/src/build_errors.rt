@@ -2,7 +2,7 @@
 
 ghost use Rattle.std.specs.Prelude.{◌≡◌, ◌+◌, ◌≤◌, ℕ, IfOk};
 ghost use Rattle.indexmap.specs.IndexSet.{keys};
-ghost use Rattle.avro_schema.specs.Seen.{places_of, value_of};
+ghost use Rattle.avro_schema.specs.Seen.{ids_of, value_of};
 ghost use Rattle.avro_schema.specs.SeenSchema.{schema_nodes};
 ghost use Rattle.avro_resolve.specs.Planned.{ArePrepared};
 ghost use Rattle.avro_least.specs.Asked.{Asked};
@@ -163,7 +163,7 @@ fn build_branches(
 ) -> Result<Datum, Memory>
     requires few { limit ≤ 16777216 }
     requires found { ArePrepared (schema_nodes writer.now) (schema_nodes reader.now) reached.now.found.items }
-    ensures { IfOk result (λ d. (w more : ℕ) → more ≤ left + 1 → BuildsAsked (schema_nodes writer.now) (schema_nodes reader.now) limit (table_of table.now) (erring_of count (table_of table.now) (keys reached.now.known) (seen_all entries.now)) more w r.0 (Asked.branches (places_of places.now)) (value_of d)) }
+    ensures { IfOk result (λ d. (w more : ℕ) → more ≤ left + 1 → BuildsAsked (schema_nodes writer.now) (schema_nodes reader.now) limit (table_of table.now) (erring_of count (table_of table.now) (keys reached.now.known) (seen_all entries.now)) more w r.0 (Asked.branches (ids_of places.now)) (value_of d)) }
 {
     let k = best_error_place(table, count, reached, entries, places, r);
     let value = build_error(

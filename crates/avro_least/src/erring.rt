@@ -3,7 +3,7 @@
 ghost use Rattle.std.specs.Prelude.{◌≡◌, ◌<◌, ◌≤◌, ◌*◌, ℕ, Bool, true, false, List, Option, length, nat_lt, slice_get, map, Some, None, IfOk, position, ◌==◌, cond};
 ghost use Rattle.std.specs.List.{list_all};
 ghost use Rattle.indexmap.specs.IndexSet.{keys};
-ghost use Rattle.avro_schema.specs.Seen.{places_of};
+ghost use Rattle.avro_schema.specs.Seen.{ids_of};
 ghost use Rattle.avro_schema.specs.SeenSchema.{schema_nodes};
 ghost use Rattle.avro_schema.specs.WellFormed.{is_schema};
 ghost use Rattle.avro_least.specs.Tables.{erring_of, reached_entry, pair_number, no_parts, best_of, AreDataShown, AreLow, IsLowForData};
@@ -84,7 +84,7 @@ pub(crate) fn best_branch(
     places: &[NodeId],
     r: NodeId,
 ) -> Option<Least>
-    ensures { seen result ≡ best_of (λ p. erring_of count (table_of table.now) (keys known.now) (seen_all entries.now) p r.0) (places_of places.now) }
+    ensures { seen result ≡ best_of (λ p. erring_of count (table_of table.now) (keys known.now) (seen_all entries.now) p r.0) (ids_of places.now) }
 {
     let mut best = None;
     let mut i = places.len();

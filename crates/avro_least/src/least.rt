@@ -2,8 +2,8 @@
 
 ghost use Rattle.std.specs.Prelude.{◌≡◌, ◌<◌, ◌≤◌, ℕ, Bool, true, false, length, IfOk, Some, None};
 ghost use Rattle.std.proofs.Math.ListN.{replicate};
-ghost use Rattle.avro_schema.specs.Seen.{node_of, places_of, seen_fields};
-ghost use Rattle.avro_schema.specs.Node.{Node as SeenNode, field_places};
+ghost use Rattle.avro_schema.specs.Seen.{node_of, ids_of, seen_fields};
+ghost use Rattle.avro_schema.specs.Node.{Node as SeenNode, field_ids};
 ghost use Rattle.avro_schema.specs.SeenSchema.{schema_nodes};
 ghost use Rattle.avro_schema.specs.WellFormed.{is_schema};
 ghost use Rattle.avro_least.specs.Tables.{capped, around, together, lesser, best_of, all_of, least_datum, IsLowForData, AreDataShown, Least as SeenLeast};
@@ -98,7 +98,7 @@ pub fn entry(table: &[Option<Least>], place: NodeId) -> Option<Least>
 
 /// The best of some places.
 pub(crate) fn best_of(table: &[Option<Least>], places: &[NodeId]) -> Option<Least>
-    ensures { seen result ≡ best_of (table_of table.now) (places_of places.now) }
+    ensures { seen result ≡ best_of (table_of table.now) (ids_of places.now) }
 {
     let mut best = None;
     let mut i = places.len();
@@ -112,7 +112,7 @@ pub(crate) fn best_of(table: &[Option<Least>], places: &[NodeId]) -> Option<Leas
 /// All fields together.
 fn all_of(limit: u32, table: &[Option<Least>], fields: &[Field]) -> Option<Least>
     requires { limit ≤ 16777216 }
-    ensures { seen result ≡ all_of limit (table_of table.now) (field_places (seen_fields fields.now)) }
+    ensures { seen result ≡ all_of limit (table_of table.now) (field_ids (seen_fields fields.now)) }
 {
     let mut all = Some(Least { nodes: 0, depth: 0 });
     let mut i = fields.len();

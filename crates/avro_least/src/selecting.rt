@@ -2,7 +2,7 @@
 
 ghost use Rattle.std.specs.Prelude.{◌≡◌, ◌<◌, ◌≤◌, ℕ, true, length, slice_get, Some, is_some};
 ghost use Rattle.indexmap.specs.IndexSet.{keys};
-ghost use Rattle.avro_schema.specs.Seen.{places_of};
+ghost use Rattle.avro_schema.specs.Seen.{ids_of};
 ghost use Rattle.avro_least.specs.Asked.{err_of_rows};
 ghost use Rattle.avro_least.specs.BuiltErrors.{part_of_row, total_from};
 ghost use Rattle.avro_least.specs.SeenAsk.{row_of, rows_of};
@@ -26,9 +26,9 @@ pub(crate) fn best_error_place(
     places: &[NodeId],
     r: NodeId,
 ) -> usize
-    ensures { is_some (best_of (λ p. erring_of count (table_of table.now) (keys reached.now.known) (seen_all entries.now) p r.0) (places_of places.now)) ≡ true
-        → (p : ℕ) × (slice_get (places_of places.now) result ≡ Some p)
-        × (erring_of count (table_of table.now) (keys reached.now.known) (seen_all entries.now) p r.0 ≡ best_of (λ p. erring_of count (table_of table.now) (keys reached.now.known) (seen_all entries.now) p r.0) (places_of places.now)) }
+    ensures { is_some (best_of (λ p. erring_of count (table_of table.now) (keys reached.now.known) (seen_all entries.now) p r.0) (ids_of places.now)) ≡ true
+        → (p : ℕ) × (slice_get (ids_of places.now) result ≡ Some p)
+        × (erring_of count (table_of table.now) (keys reached.now.known) (seen_all entries.now) p r.0 ≡ best_of (λ p. erring_of count (table_of table.now) (keys reached.now.known) (seen_all entries.now) p r.0) (ids_of places.now)) }
 {
     let best = best_branch(table, count, &reached.known, entries, places, r);
     for i in 0..places.len() {

@@ -11,7 +11,7 @@ use Rattle.avro_schema.proofs.public.Parts.{size-positive}
 use Rattle.avro_resolve.specs.Ends.{turned, joined}
 use Rattle.avro_resolve.specs.Fault.{ResolutionFault, fault_in}
 use Rattle.avro_resolve.specs.Guided.{MadeAs, StandsAs, IsSmall, ItemsGood, ItemsStandAs}
-use Rattle.avro_resolve.specs.Pairs.{wrapped, item_place}
+use Rattle.avro_resolve.specs.Pairs.{wrapped, item_id}
 use Rattle.avro_resolve.specs.Resolve.{Resolved, resolve, resolve_items, both, inside, result_map, part_at}
 use Rattle.avro_resolve.specs.declared.error.Fault.{Fault}
 use Rattle.avro_resolve.specs.declared.guided.At.{At}
@@ -63,12 +63,12 @@ module _ {I : Type 0} (S : I → List Value → Type 0) (writer reader : List No
   array_leads : (xs : List Value) → resolve writer reader w r (Value.array (values_from xs)) ≡ wrapped branch (result_map Value.array (items_run 0 xs))
   array_leads xs =
       good.leads (λ q. result_map Value.array (resolve_items writer reader (part_at writer (items_node w)) (part_at reader (items_node q)) 0 (values_from xs)))
-      ∙ ap (λ (i : ℕ). wrapped branch (result_map Value.array (resolve_items writer reader (node_at writer i) (node_at reader (item_place (node_at reader good.to))) 0 (values_from xs)))) (sym good.of_writer)
+      ∙ ap (λ (i : ℕ). wrapped branch (result_map Value.array (resolve_items writer reader (node_at writer i) (node_at reader (item_id (node_at reader good.to))) 0 (values_from xs)))) (sym good.of_writer)
       ∙ ap (λ (i : ℕ). wrapped branch (result_map Value.array (resolve_items writer reader (node_at writer a.0) (node_at reader i) 0 (values_from xs)))) (sym good.of_reader)
 
   node_there : (nodes : List Node) (place : ℕ) → nodes ≡ writer → Node.array place ≡ w → node_at nodes place ≡ node_at writer a.0
   node_there nodes place are is =
-      let same : place ≡ a.0 = ap item_place is ∙ sym good.of_writer in
+      let same : place ≡ a.0 = ap item_id is ∙ sym good.of_writer in
       ap (λ (ns : List Node). node_at ns place) are ∙ ap (node_at writer) same
 
   array_whole : resolve writer reader w r (Value.array (values_from vs)) ≡ wrapped branch (Ok (Value.array (values_from good.made)))

@@ -3,7 +3,7 @@ use Rattle.std.proofs.Common.{◌≡◌, ℕ, zero, suc, ◌+◌, ◌<◌, ◌�
 use Rattle.std.proofs.Math.ListN.{set}
 use Rattle.std.specs.Prelude.{slice_get, slice_index_or, unwrap_or, ◌==◌}
 use Rattle.std.proofs.lemmas.Bool.{cases_eq, eq-eqb, eqb-true, false_from_ne_true}
-use Rattle.avro_schema.specs.Node.{FieldNode, field_places}
+use Rattle.avro_schema.specs.Node.{FieldNode, field_ids}
 use Rattle.avro_schema.specs.Seen.{seen_fields, field_of}
 use Rattle.avro_schema.specs.declared.schema.Field.{Field}
 use Rattle.avro_schema.specs.declared.schema.NodeId.{NodeId}
@@ -54,7 +54,7 @@ noted_other (part ∷ parts) (suc place) (suc k) at x got ne = noted_other parts
 -- each is what the writer's field at its place is for among them
 abbrev pub AreForFrom : List FieldNode → List Field → ℕ → List At → Type 0
 AreForFrom ws reads n parts = (k : ℕ) (at : At) → slice_get parts k ≡ Some at
-    → at ≡ part_to (unwrap_or (slice_get (field_places ws) k) 0) (reader_field ws (seen_fields (drop n reads)) k)
+    → at ≡ part_to (unwrap_or (slice_get (field_ids ws) k) 0) (reader_field ws (seen_fields (drop n reads)) k)
 
 all_dropped : (reads : List Field) → drop (length reads) reads ≡ []
 all_dropped [] = refl
@@ -63,22 +63,22 @@ all_dropped (f ∷ reads) = all_dropped reads
 pub for_none : (ws : List FieldNode) (reads : List Field) (n : ℕ) (parts : List At) → n ≡ length reads → AreIgnored parts → AreForFrom ws reads n parts
 for_none ws reads n parts e none = λ k at got.
     none k at got
-    ∙ ap (λ (fs : List Field). part_to (unwrap_or (slice_get (field_places ws) k) 0) (reader_field ws (seen_fields fs) k)) (sym (ap (λ (m : ℕ). drop m reads) e ∙ all_dropped reads))
+    ∙ ap (λ (fs : List Field). part_to (unwrap_or (slice_get (field_ids ws) k) 0) (reader_field ws (seen_fields fs) k)) (sym (ap (λ (m : ℕ). drop m reads) e ∙ all_dropped reads))
 
 module _ (ws : List FieldNode) (reads : List Field) (i : ℕ) (f : Field) (low : i < length reads) (is : f ≡ slice_index_or reads i f) where
-  past : (k : ℕ) (at : At) → is_place (source_of ws (field_of f)) k ≡ false → at ≡ part_to (unwrap_or (slice_get (field_places ws) k) 0) (reader_field ws (seen_fields (drop (i + 1) reads)) k)
-      → at ≡ part_to (unwrap_or (slice_get (field_places ws) k) 0) (reader_field ws (seen_fields (drop i reads)) k)
-  past k at other h = h ∙ ap (part_to (unwrap_or (slice_get (field_places ws) k) 0)) (sym (reader_past ws reads i k f low is other))
+  past : (k : ℕ) (at : At) → is_place (source_of ws (field_of f)) k ≡ false → at ≡ part_to (unwrap_or (slice_get (field_ids ws) k) 0) (reader_field ws (seen_fields (drop (i + 1) reads)) k)
+      → at ≡ part_to (unwrap_or (slice_get (field_ids ws) k) 0) (reader_field ws (seen_fields (drop i reads)) k)
+  past k at other h = h ∙ ap (part_to (unwrap_or (slice_get (field_ids ws) k) 0)) (sym (reader_past ws reads i k f low is other))
 
   pub for_past : (parts : List At) → source_of ws (field_of f) ≡ None → AreForFrom ws reads (i + 1) parts → AreForFrom ws reads i parts
   for_past parts e h = λ k at got. past k at (ap (λ (o : Option ℕ). is_place o k) e) (h k at got)
 
-  pub for_noted : (parts new : List At) (place : ℕ) (node : NodeId) → source_of ws (field_of f) ≡ Some place → node.0 ≡ unwrap_or (slice_get (field_places ws) place) 0
+  pub for_noted : (parts new : List At) (place : ℕ) (node : NodeId) → source_of ws (field_of f) ≡ Some place → node.0 ≡ unwrap_or (slice_get (field_ids ws) place) 0
       → new ≡ noted parts place (Pair node f.node) → AreForFrom ws reads (i + 1) parts → AreForFrom ws reads i new
   for_noted parts new place node e there put h = λ k at got.
       let known = subst (λ (xs : List At). slice_get xs k ≡ Some at) put got in
       ⊎_elim
       (λ same. noted_here parts place k (Pair node f.node) at known same
-      ∙ part_found ws reads i k f low is (ap (λ (o : Option ℕ). is_place o k) e ∙ eq-eqb place k (sym same)) _ refl node _ (there ∙ ap (λ (j : ℕ). unwrap_or (slice_get (field_places ws) j) 0) (sym same)))
+      ∙ part_found ws reads i k f low is (ap (λ (o : Option ℕ). is_place o k) e ∙ eq-eqb place k (sym same)) _ refl node _ (there ∙ ap (λ (j : ℕ). unwrap_or (slice_get (field_ids ws) j) 0) (sym same)))
       (λ ne. past k at (ap (λ (o : Option ℕ). is_place o k) e ∙ false_from_ne_true (place == k) (λ t. ne (sym (eqb-true place k t)))) (h k at (noted_other parts place k (Pair node f.node) at known ne)))
       (cases_eq k place)

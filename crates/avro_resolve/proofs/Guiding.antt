@@ -9,7 +9,7 @@ use Rattle.avro_schema.specs.declared.schema.NodeId.{NodeId}
 use Rattle.avro_resolve.specs.Ends.{turned}
 use Rattle.avro_resolve.specs.Fault.{ResolutionFault, fault_in}
 use Rattle.avro_resolve.specs.Guided.{MadeAs, IsNothing, StandsAs, SoFar, IsSmall, branch_for}
-use Rattle.avro_resolve.specs.Pairs.{IsAim, wrapped, branch_place}
+use Rattle.avro_resolve.specs.Pairs.{IsAim, wrapped, branch_id}
 use Rattle.avro_resolve.specs.Resolve.{Resolved, resolve, inside, result_map, through}
 use Rattle.avro_resolve.specs.declared.error.Fault.{Fault}
 use Rattle.avro_resolve.specs.declared.guided.Aim.{Aim}
@@ -51,9 +51,9 @@ pub branch_made : {O : Type 0} (S : O → Value → Type 0) (writer reader nodes
     → StandsAs S writer reader nodes (node_at nodes p) (branch_for writer at k) made v → StandsAs S writer reader nodes (Node.union places) at outer (Value.union k v)
 branch_made S writer reader nodes places k p v Ignored made outer e none step h = none h
 branch_made S writer reader nodes places k p v (Pair w r) made outer e none step h = λ are is small.
-    let there : p ≡ branch_place (node_at writer w.0) k = sym (ap (λ (o : Option ℕ). unwrap_or o 0) e) ∙ ap (λ (n : Node). branch_place n k) is in
+    let there : p ≡ branch_id (node_at writer w.0) k = sym (ap (λ (o : Option ℕ). unwrap_or o 0) e) ∙ ap (λ (n : Node). branch_id n k) is in
     let less : size v ≤ suc (size v) = omega arith in
-    step (resolve writer reader (node_at writer (branch_place (node_at writer w.0) k)) (node_at reader r.0) v)
+    step (resolve writer reader (node_at writer (branch_id (node_at writer w.0) k)) (node_at reader r.0) v)
     (h are (ap (λ (ns : List Node). node_at ns p) are ∙ ap (node_at writer) there) (smaller (size v) (suc (size v)) less small))
 
 pub branch_bad : (fault outer : Fault) (q : Resolved) → turned outer ≡ fault_in 0 (turned fault) → q ≡ Err (turned fault) → inside 0 q ≡ Err (turned outer)

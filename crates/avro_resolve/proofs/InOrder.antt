@@ -8,7 +8,7 @@ use Rattle.avro_schema.specs.Seen.{value_of, values_of, entries_of, values_from,
 use Rattle.avro_schema.specs.declared.datum.Datum.{Datum}
 use Rattle.avro_resolve.specs.Fault.{ResolutionFault}
 use Rattle.avro_resolve.specs.Resolve.{Resolved, resolve, resolve_items, resolve_entries, both, inside, result_map}
-use Rattle.avro_resolve.specs.Pairs.{value_place}
+use Rattle.avro_resolve.specs.Pairs.{value_id}
 use Rattle.avro_resolve.specs.Ends.{Fails, taken_as, joined, joined_entries}
 use Rattle.avro_resolve.specs.declared.error.ResolveError.{ResolveError}
 
@@ -155,9 +155,9 @@ fails_mapped ResolveError.Memory f r bad = tt
 
 -- what a map's values are taken as
 module _ (writer reader : List Node) (w q : Node) (a b : ℕ) (v : Value) (es : Entries) where
-  pub taken_map : v ≡ Value.map_of es → a ≡ value_place w → b ≡ value_place q
+  pub taken_map : v ≡ Value.map_of es → a ≡ value_id w → b ≡ value_id q
       → taken_as writer reader w v q ≡ result_map Value.map_of (resolve_entries writer reader (node_at writer a) (node_at reader b) 0 es)
   taken_map e of_writer of_reader =
       ap (λ (u : Value). taken_as writer reader w u q) e
-      ∙ ap (λ (k : ℕ). result_map Value.map_of (resolve_entries writer reader (node_at writer k) (node_at reader (value_place q)) 0 es)) (sym of_writer)
+      ∙ ap (λ (k : ℕ). result_map Value.map_of (resolve_entries writer reader (node_at writer k) (node_at reader (value_id q)) 0 es)) (sym of_writer)
       ∙ ap (λ (k : ℕ). result_map Value.map_of (resolve_entries writer reader (node_at writer a) (node_at reader k) 0 es)) (sym of_reader)

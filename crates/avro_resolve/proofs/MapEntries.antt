@@ -11,7 +11,7 @@ use Rattle.avro_schema.proofs.public.Parts.{size-positive}
 use Rattle.avro_resolve.specs.Ends.{turned, joined_entries}
 use Rattle.avro_resolve.specs.Fault.{ResolutionFault, fault_in}
 use Rattle.avro_resolve.specs.Guided.{MadeAs, StandsAs, IsSmall, EntriesGood, EntriesStandAs}
-use Rattle.avro_resolve.specs.Pairs.{wrapped, value_place}
+use Rattle.avro_resolve.specs.Pairs.{wrapped, value_id}
 use Rattle.avro_resolve.specs.Resolve.{Resolved, resolve, resolve_entries, both, inside, result_map, part_at}
 use Rattle.avro_resolve.specs.declared.error.Fault.{Fault}
 use Rattle.avro_resolve.specs.declared.guided.At.{At}
@@ -63,12 +63,12 @@ module _ {I : Type 0} (S : I → List (List ℕ × Value) → Type 0) (writer re
   map_leads : (xs : List (List ℕ × Value)) → resolve writer reader w r (Value.map_of (entries_from xs)) ≡ wrapped branch (result_map Value.map_of (entries_run 0 xs))
   map_leads xs =
       good.leads (λ q. result_map Value.map_of (resolve_entries writer reader (part_at writer (values_node w)) (part_at reader (values_node q)) 0 (entries_from xs)))
-      ∙ ap (λ (i : ℕ). wrapped branch (result_map Value.map_of (resolve_entries writer reader (node_at writer i) (node_at reader (value_place (node_at reader good.to))) 0 (entries_from xs)))) (sym good.of_writer)
+      ∙ ap (λ (i : ℕ). wrapped branch (result_map Value.map_of (resolve_entries writer reader (node_at writer i) (node_at reader (value_id (node_at reader good.to))) 0 (entries_from xs)))) (sym good.of_writer)
       ∙ ap (λ (i : ℕ). wrapped branch (result_map Value.map_of (resolve_entries writer reader (node_at writer a.0) (node_at reader i) 0 (entries_from xs)))) (sym good.of_reader)
 
   node_there : (nodes : List Node) (place : ℕ) → nodes ≡ writer → Node.map_of place ≡ w → node_at nodes place ≡ node_at writer a.0
   node_there nodes place are is =
-      let same : place ≡ a.0 = ap value_place is ∙ sym good.of_writer in
+      let same : place ≡ a.0 = ap value_id is ∙ sym good.of_writer in
       ap (λ (ns : List Node). node_at ns place) are ∙ ap (node_at writer) same
 
   map_whole : resolve writer reader w r (Value.map_of (entries_from vs)) ≡ wrapped branch (Ok (Value.map_of (entries_from good.made)))

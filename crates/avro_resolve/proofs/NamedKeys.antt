@@ -9,7 +9,7 @@ use Rattle.std.specs.Cmp.Lexicographic.{slice_cmp}
 use Rattle.std.proofs.lemmas.Map.Text.{is_eq-slice_cmp}
 use Rattle.std.proofs.lemmas.Slice.Eq.{bytes_eq-Decides}
 use Rattle.avro_name.specs.Name.{Name}
-use Rattle.avro_schema.specs.Seen.{places_of}
+use Rattle.avro_schema.specs.Seen.{ids_of}
 use Rattle.avro_schema.specs.declared.schema.NodeId.{NodeId}
 use Rattle.avro_resolve.specs.NameTables.{NameKey, key_cmp, has_simple}
 use Rattle.avro_resolve.proofs.InOrder.{next_in, none_from}
@@ -63,16 +63,16 @@ alias_none aliases n kind place key old high = neither (kind == key.0) ∙ ap (�
 
 -- the first of the branches from a place on that passes
 abbrev pub branch_from : (ℕ → Bool) → List NodeId → ℕ → Option ℕ
-branch_from test branches n = position_from test n (places_of (drop n branches))
+branch_from test branches n = position_from test n (ids_of (drop n branches))
 
 pub branch_next : (test : ℕ → Bool) (branches : List NodeId) (n : ℕ) (d : NodeId) (before after : Option ℕ) → n < length branches
     → before ≡ branch_from test branches (n + 1) → after ≡ cond (test (slice_index_or branches n d).0) (Some n) before → after ≡ branch_from test branches n
 branch_next test branches n d before after low known put =
     put ∙ ap (λ o. cond (test (slice_index_or branches n d).0) (Some n) o) known
-    ∙ sym (ap (λ (bs : List NodeId). position_from test n (places_of bs)) (next_in branches n d low))
+    ∙ sym (ap (λ (bs : List NodeId). position_from test n (ids_of bs)) (next_in branches n d low))
 
 pub branch_none : (test : ℕ → Bool) (branches : List NodeId) (n : ℕ) → length branches ≤ n → None ≡ branch_from test branches n
-branch_none test branches n high = ap (λ (bs : List NodeId). position_from test n (places_of bs)) (sym (none_from branches n high))
+branch_none test branches n high = ap (λ (bs : List NodeId). position_from test n (ids_of bs)) (sym (none_from branches n high))
 
-pub branch_first : (test : ℕ → Bool) (branches : List NodeId) (n : ℕ) (found : Option ℕ) → n ≡ 0 → found ≡ branch_from test branches n → found ≡ position test (places_of branches)
-branch_first test branches n found none known = known ∙ ap (branch_from test branches) none ∙ sym (position_from-zero test (places_of branches))
+pub branch_first : (test : ℕ → Bool) (branches : List NodeId) (n : ℕ) (found : Option ℕ) → n ≡ 0 → found ≡ branch_from test branches n → found ≡ position test (ids_of branches)
+branch_first test branches n found none known = known ∙ ap (branch_from test branches) none ∙ sym (position_from-zero test (ids_of branches))

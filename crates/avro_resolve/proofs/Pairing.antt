@@ -2,8 +2,8 @@
 use Rattle.std.proofs.Common.{◌≡◌, ℕ, zero, suc, ◌-◌, ◌+◌, ◌<◌, ◌≤◌, Bool, true, false, IsTrue, List, [], ◌∷◌, length, refl, sym, ap, ◌∙◌, subst, arith, ◌↔◌, ⊎_elim}
 use Rattle.std.specs.Prelude.{slice_index_or, unwrap_or, Some, slice_get, drop}
 use Rattle.std.proofs.lemmas.Bool.{both_ways, cond-true, cases_lt}
-use Rattle.avro_schema.specs.Node.{Node, node_at, field_places}
-use Rattle.avro_schema.specs.Seen.{places_of, seen_fields}
+use Rattle.avro_schema.specs.Node.{Node, node_at, field_ids}
+use Rattle.avro_schema.specs.Seen.{ids_of, seen_fields}
 use Rattle.avro_schema.specs.declared.schema.NodeId.{NodeId}
 use Rattle.avro_schema.specs.declared.schema.Field.{Field}
 use Rattle.avro_schema.specs.WellFormed.{is_schema}
@@ -41,34 +41,34 @@ module _ (writer reader : List Node) (answer : Bool) where
 
 -- ---- The first match
 
-pub seen_get : (ids : List NodeId) (i : ℕ) (b : NodeId) → slice_get ids i ≡ Some b → slice_get (places_of ids) i ≡ Some b.0
+pub seen_get : (ids : List NodeId) (i : ℕ) (b : NodeId) → slice_get ids i ≡ Some b → slice_get (ids_of ids) i ≡ Some b.0
 seen_get [] i b e = absurd cc
 seen_get (x ∷ ids) zero b e = let same : x ≡ b = cc in ap (λ (y : NodeId). Some y.0) same
 seen_get (x ∷ ids) (suc i) b e = seen_get ids i b e
 
-pub places_from : (n : ℕ) (ids : List NodeId) → drop n (places_of ids) ≡ places_of (drop n ids)
+pub places_from : (n : ℕ) (ids : List NodeId) → drop n (ids_of ids) ≡ ids_of (drop n ids)
 places_from zero ids = refl
 places_from (suc n) [] = refl
 places_from (suc n) (x ∷ ids) = places_from n ids
 
 module _ (writer reader : List Node) (w : Node) where
   pub found_here : (k i : ℕ) (ids : List NodeId) (b : NodeId) → slice_get ids i ≡ Some b → is_match writer reader w (node_at reader b.0) ≡ true
-      → first_match_from k writer reader w (places_of (drop i ids)) ≡ Some k
+      → first_match_from k writer reader w (ids_of (drop i ids)) ≡ Some k
   found_here k i [] b e m = absurd cc
   found_here k zero (x ∷ ids) b e m =
       let same : b ≡ x = cc in
-      cond-true (is_match writer reader w (node_at reader x.0)) (Some k) (first_match_from (suc k) writer reader w (places_of ids))
+      cond-true (is_match writer reader w (node_at reader x.0)) (Some k) (first_match_from (suc k) writer reader w (ids_of ids))
       (subst (λ (y : NodeId). is_match writer reader w (node_at reader y.0) ≡ true) same m)
   found_here k (suc i) (x ∷ ids) b e m = found_here k i ids b e m
 
 -- ---- The node of a field
 
-pub node_then : (fs : List Field) (i : ℕ) (d : Field) → i < length fs → (slice_index_or fs i d).node.0 ≡ unwrap_or (slice_get (field_places (seen_fields fs)) i) 0
+pub node_then : (fs : List Field) (i : ℕ) (d : Field) → i < length fs → (slice_index_or fs i d).node.0 ≡ unwrap_or (slice_get (field_ids (seen_fields fs)) i) 0
 node_then [] i d low = absurd (omega (arith, low))
 node_then (f ∷ fs) zero d low = refl
 node_then (f ∷ fs) (suc i) d low = node_then fs i d (omega (arith, low))
 
-pub node_else : (fs : List Field) (i : ℕ) → length fs ≤ i → 0 ≡ unwrap_or (slice_get (field_places (seen_fields fs)) i) 0
+pub node_else : (fs : List Field) (i : ℕ) → length fs ≤ i → 0 ≡ unwrap_or (slice_get (field_ids (seen_fields fs)) i) 0
 node_else [] i high = refl
 node_else (f ∷ fs) zero high = absurd (omega (arith, high))
 node_else (f ∷ fs) (suc i) high = node_else fs i (omega (arith, high))
@@ -92,11 +92,11 @@ test_is_relation writer reader i r answer formed e = (
     outside : node_at writer i ≡ Node.null → Matches writer reader (node_at writer i) r → is_match writer reader (node_at writer i) r ≡ true
     outside none m = rw none (null_passes writer reader r (subst (λ (n : Node). Matches writer reader n r) none m))
 
-pub places_count : (ids : List NodeId) → length (places_of ids) ≡ length ids
+pub places_count : (ids : List NodeId) → length (ids_of ids) ≡ length ids
 places_count [] = refl
 places_count (x ∷ ids) = ap suc (places_count ids)
 
-pub place_below : (ids : List NodeId) (i : ℕ) → i < length ids → i < length (places_of ids)
+pub place_below : (ids : List NodeId) (i : ℕ) → i < length ids → i < length (ids_of ids)
 place_below ids i low = omega (arith, low, places_count ids)
 
 pub node_high : (nodes : List Node) (k count : ℕ) → count ≡ length nodes → count ≤ k → node_at nodes k ≡ Node.null

@@ -5,7 +5,7 @@ use Rattle.std.specs.List.{list_all, flat_map}
 use Rattle.std.proofs.lemmas.Bool.{and_parts, and_from, cond-true, cond-false, eq-eqb, ne_eqb, cases_eq}
 use Rattle.std.proofs.lemmas.Result.{IfOk-weaker}
 use Rattle.avro_schema.specs.Value.{Value}
-use Rattle.avro_schema.specs.Node.{Node, FieldNode, node_at, field_places}
+use Rattle.avro_schema.specs.Node.{Node, FieldNode, node_at, field_ids}
 use Rattle.avro_schema.specs.Distinct.{are_distinct}
 use Rattle.avro_schema.specs.Fits.{fits, fields_fit}
 use Rattle.avro_schema.specs.WellFormed.{field_names, has_good_default, are_fields}
@@ -124,13 +124,13 @@ value-fits reader ws rs found g none good all is = by_source (source_of ws g) re
 
 values-fit : (reader : List Node) (ws : List FieldNode) (found : Sourced) (gs : List FieldNode)
     → ((g : FieldNode) → IsField g gs → FitsAt reader (node_at reader g.node) (field_value ws found g))
-    → fields_fit reader (field_places gs) (field_values ws found gs) ≡ true
+    → fields_fit reader (field_ids gs) (field_values ws found gs) ≡ true
 values-fit reader ws found [] each = refl
 values-fit reader ws found (g ∷ gs) each =
-    and_from (fits reader (node_at reader g.node) (field_value ws found g)) (fields_fit reader (field_places gs) (field_values ws found gs))
+    and_from (fits reader (node_at reader g.node) (field_value ws found g)) (fields_fit reader (field_ids gs) (field_values ws found gs))
     (each g here) (values-fit reader ws found gs (λ f is. each f (later is)))
 
 -- the reader's fields fit, where the writer's places are sourced
 pub field_values-fit : (reader : List Node) (ws rs : List FieldNode) (found : Sourced) → missing_field ws rs ≡ None → are_fields reader rs ≡ true
-    → AreSourced reader ws rs 0 (length ws) found → fields_fit reader (field_places rs) (field_values ws found rs) ≡ true
+    → AreSourced reader ws rs 0 (length ws) found → fields_fit reader (field_ids rs) (field_values ws found rs) ≡ true
 field_values-fit reader ws rs found none good all = values-fit reader ws found rs (λ g is. value-fits reader ws rs found g none good all is)

@@ -6,7 +6,7 @@ use Rattle.std.specs.declared.alloc.AllocError.{AllocError}
 use Rattle.std.proofs.lemmas.List.{append_assoc}
 use Rattle.avro_name.specs.Name.{Name}
 use Rattle.avro_schema.specs.Value.{Value, size, values_size}
-use Rattle.avro_schema.specs.Node.{Node, FieldNode, node_at, field_places}
+use Rattle.avro_schema.specs.Node.{Node, FieldNode, node_at, field_ids}
 use Rattle.avro_schema.specs.Seen.{values_from}
 use Rattle.avro_schema.specs.declared.schema.NodeId.{NodeId}
 use Rattle.avro_resolve.specs.Ends.{turned, before, AllBelow, SlotsAre}
@@ -29,7 +29,7 @@ use Rattle.avro_resolve.proofs.Slots.{append_none, below_more, below_last, slots
 module _ (writer reader : List Node) (ws rs : List FieldNode) (k : ℕ) (v : Value) (more : List Value) where
   -- the node of the writer's field, and the fields that follow
   abbrev place_here : ℕ
-  place_here = unwrap_or (slice_get (field_places ws) k) 0
+  place_here = unwrap_or (slice_get (field_ids ws) k) 0
 
   abbrev value_for : FieldNode → Resolved
   value_for f = resolve writer reader (node_at writer place_here) (node_at reader f.node) v
@@ -94,7 +94,7 @@ module _ {O : Type 0} (S : O → Value → Type 0) (writer reader : List Node) (
       ∙ ap (λ (found : Sourced). wrapped branch (Ok (Value.record_of (field_values writes found reads)))) (append_none good.found)
 
   record_fails : (v : Value) (f : FieldNode) (g : ResolutionFault) → reader_field writes reads (length vs) ≡ Some f
-      → resolve writer reader (node_at writer (unwrap_or (slice_get (field_places writes) (length vs)) 0)) (node_at reader f.node) v ≡ Err g
+      → resolve writer reader (node_at writer (unwrap_or (slice_get (field_ids writes) (length vs)) 0)) (node_at reader f.node) v ≡ Err g
       → (more : List Value) → resolve writer reader w r (Value.record_of (values_from ((vs ++ v ∷ []) ++ more))) ≡ Err (fault_in (length slots) g)
   record_fails v f g is e more =
       record_leads ((vs ++ v ∷ []) ++ more)
@@ -103,12 +103,12 @@ module _ {O : Type 0} (S : O → Value → Type 0) (writer reader : List Node) (
       ∙ wrapped_fault branch (fault_in (length vs) g) ∙ ap (λ (k : ℕ). as_fault (fault_in k g)) (sym good.counted)
 
   -- the node that is read is the writer's field's
-  field_there : (nodes : List Node) (fs : List FieldNode) (place : ℕ) → nodes ≡ writer → fields_at w ≡ fs → slice_get (field_places fs) (length vs) ≡ Some place
-      → node_at nodes place ≡ node_at writer (unwrap_or (slice_get (field_places writes) (length vs)) 0)
+  field_there : (nodes : List Node) (fs : List FieldNode) (place : ℕ) → nodes ≡ writer → fields_at w ≡ fs → slice_get (field_ids fs) (length vs) ≡ Some place
+      → node_at nodes place ≡ node_at writer (unwrap_or (slice_get (field_ids writes) (length vs)) 0)
   field_there nodes fs place are of_record is =
       let same : writes ≡ fs = ap fields_at good.of_writer ∙ of_record in
-      let there : place ≡ unwrap_or (slice_get (field_places writes) (length vs)) 0 =
-      sym (ap (λ (gs : List FieldNode). unwrap_or (slice_get (field_places gs) (length vs)) 0) same ∙ ap (λ (o : Option ℕ). unwrap_or o 0) is) in
+      let there : place ≡ unwrap_or (slice_get (field_ids writes) (length vs)) 0 =
+      sym (ap (λ (gs : List FieldNode). unwrap_or (slice_get (field_ids gs) (length vs)) 0) same ∙ ap (λ (o : Option ℕ). unwrap_or o 0) is) in
       ap (λ (ns : List Node). node_at ns place) are ∙ ap (node_at writer) there
 
   counted_more : (o : Option O) (v : Value) → length (slots ++ o ∷ []) ≡ length (vs ++ v ∷ [])
@@ -135,7 +135,7 @@ module _ {O : Type 0} (S : O → Value → Type 0) (writer reader nodes : List N
 
 -- ---- Fields of a run
 
-module _ {O : Type 0} (S : O → Value → Type 0) (writer reader nodes : List Node) (fs : List FieldNode) (place : ℕ) (vs : List Value) (v : Value) (is_field : slice_get (field_places fs) (length vs) ≡ Some place) where
+module _ {O : Type 0} (S : O → Value → Type 0) (writer reader nodes : List Node) (fs : List FieldNode) (place : ℕ) (vs : List Value) (v : Value) (is_field : slice_get (field_ids fs) (length vs) ≡ Some place) where
   abbrev stands_at : NodeId → NodeId → ℕ → Made O → Type 0
   stands_at a b k made = StandsAs S writer reader nodes (node_at nodes place) (field_for (fields_at (node_at writer a.0)) (fields_at (node_at reader b.0)) k) made v
 
@@ -158,7 +158,7 @@ module _ {O : Type 0} (S : O → Value → Type 0) (writer reader nodes : List N
       let ws = fields_at (node_at writer a.0) in
       let rs = fields_at (node_at reader b.0) in
       let good = h are of_record (front_small small) in
-      let got = sourced_good S writer reader nodes (node_at nodes place) (unwrap_or (slice_get (field_places ws) (length vs)) 0) v are
+      let got = sourced_good S writer reader nodes (node_at nodes place) (unwrap_or (slice_get (field_ids ws) (length vs)) 0) v are
       (field_there S writer reader wn rn slots.items branch a b vs good nodes fs place are of_record is_field) (field_small small)
       (reader_field ws rs (length vs)) out (at_count a b (Made.Good out) (length slots.items) good.counted stands) in
       let found = good.found ++ (length vs, got.1) ∷ [] in
@@ -186,7 +186,7 @@ module _ {O : Type 0} (S : O → Value → Type 0) (writer reader nodes : List N
       let ws = fields_at (node_at writer a.0) in
       let rs = fields_at (node_at reader b.0) in
       let good = h are of_record (front_small small) in
-      let none = sourced_none S writer reader nodes (node_at nodes place) (unwrap_or (slice_get (field_places ws) (length vs)) 0) v are
+      let none = sourced_none S writer reader nodes (node_at nodes place) (unwrap_or (slice_get (field_ids ws) (length vs)) 0) v are
       (field_there S writer reader wn rn slots.items branch a b vs good nodes fs place are of_record is_field) (field_small small)
       (reader_field ws rs (length vs)) (at_count a b Made.Nothing (length slots.items) good.counted stands) in
       let one : length vs + 1 ≡ length (vs ++ v ∷ []) = omega (arith, one_longer vs v) in
@@ -214,7 +214,7 @@ module _ {O : Type 0} (S : O → Value → Type 0) (writer reader nodes : List N
       let rs = fields_at (node_at reader b.0) in
       let small = smaller (values_size (values_from (vs ++ v ∷ []))) (values_size (values_from ((vs ++ v ∷ []) ++ more))) (size_front (vs ++ v ∷ []) more) few in
       let good = h are of_record (front_small small) in
-      let got = sourced_bad S writer reader nodes (node_at nodes place) (unwrap_or (slice_get (field_places ws) (length vs)) 0) v are
+      let got = sourced_bad S writer reader nodes (node_at nodes place) (unwrap_or (slice_get (field_ids ws) (length vs)) 0) v are
       (field_there S writer reader wn rn slots.items branch a b vs good nodes fs place are of_record is_field) (field_small small)
       (reader_field ws rs (length vs)) fault (at_count a b (Made.Faulty fault) (length slots.items) good.counted stands) in
       record_fails S writer reader wn rn slots.items branch a b vs good v got.0 (turned fault) got.1 got.2 more ∙ ap as_fault (sym step)

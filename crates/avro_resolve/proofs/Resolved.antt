@@ -6,7 +6,7 @@ use Rattle.std.proofs.lemmas.Bool.{and_parts, and_from, both_ways}
 use Rattle.std.proofs.lemmas.List.{length-map}
 use Rattle.std.proofs.lemmas.Result.{IfOk-at_ok}
 use Rattle.avro_schema.specs.Value.{Value, Values, Entries, no_values, value, no_entries, entry, values_count, entries_count, keys_of}
-use Rattle.avro_schema.specs.Node.{Node, FieldNode, node_at, root_of, items_node, values_node, branches_of, field_places}
+use Rattle.avro_schema.specs.Node.{Node, FieldNode, node_at, root_of, items_node, values_node, branches_of, field_ids}
 use Rattle.avro_schema.specs.Distinct.{are_distinct}
 use Rattle.avro_schema.specs.Fits.{fits, each_fits, entries_fit, fields_fit, is_some_and, is_count, is_text}
 use Rattle.avro_schema.specs.WellFormed.{meets_its_rules, are_fields, is_schema}
@@ -96,12 +96,12 @@ record-at writer reader vs w q m plain good h sourced all (Some place) e = tt
 record-at writer reader vs w q m plain good h sourced all None e =
     IfOk-result_map (AreSourced reader (fields_at w) (fields_at q) 0 (length (fields_at w))) (FitsAt reader q)
     (λ found. Value.record_of (field_values (fields_at w) found (fields_at q))) sourced all
-    (λ found each. fields-kept writer reader (λ fields. fields_fit writer (field_places fields) vs)
-    (λ fields. fields_fit reader (field_places fields) (field_values (fields_at w) found (fields_at q))) m plain h
+    (λ found each. fields-kept writer reader (λ fields. fields_fit writer (field_ids fields) vs)
+    (λ fields. fields_fit reader (field_ids fields) (field_values (fields_at w) found (fields_at q))) m plain h
     (field_values-fit reader (fields_at w) (fields_at q) found e (good-fields reader q good) each))
 
-record-fields : (writer : List Node) (w : Node) (vs : Values) → FitsAt writer w (Value.record_of vs) → fields_fit writer (field_places (fields_at w)) vs ≡ true
-record-fields writer w vs h = fields-from (λ fields. fields_fit writer (field_places fields) vs) w h
+record-fields : (writer : List Node) (w : Node) (vs : Values) → FitsAt writer w (Value.record_of vs) → fields_fit writer (field_ids (fields_at w)) vs ≡ true
+record-fields writer w vs h = fields-from (λ fields. fields_fit writer (field_ids fields) vs) w h
 
 -- by induction on the writer's datum
 mutual
@@ -143,7 +143,7 @@ mutual
       (λ q. record_or_missing (fields_at w) (fields_at q) (missing_field (fields_at w) (fields_at q))
       (resolve_sources writer reader (fields_at w) (fields_at q) 0 vs)) rules good
       (λ q m plain meets. record-at writer reader vs w q m plain meets h (resolve_sources writer reader (fields_at w) (fields_at q) 0 vs)
-      (sources-fit writer reader rules (fields_at w) (fields_at q) 0 (length (fields_at w)) (field_places (fields_at w)) vs refl
+      (sources-fit writer reader rules (fields_at w) (fields_at q) 0 (length (fields_at w)) (field_ids (fields_at w)) vs refl
       (omega (arith, length-map (fields_at w) (λ f. f.node))) (record-fields writer w vs h))
       (missing_field (fields_at w) (fields_at q)) refl)
   resolve-fits writer reader rules w r (Value.enum k) good h =
@@ -174,7 +174,7 @@ mutual
       (λ u ds one more. (ap suc more.0, ap (λ (keys : List (List ℕ)). k ∷ keys) more.1, and_from (fits reader r u) (entries_fit reader r ds) one more.2))
 
   sources-fit : (writer reader : List Node) (rules : MeetRules reader) (ws rs : List FieldNode) (place to : ℕ) (ps : List ℕ) (vs : Values)
-      → drop place (field_places ws) ≡ ps → to ≡ place + length ps → fields_fit writer ps vs ≡ true
+      → drop place (field_ids ws) ≡ ps → to ≡ place + length ps → fields_fit writer ps vs ≡ true
       → IfOk (resolve_sources writer reader ws rs place vs) (AreSourced reader ws rs place to)
   sources-fit writer reader rules ws rs place to [] no_values e n h = λ k f low high is. absurd (omega arith)
   sources-fit writer reader rules ws rs place to (p ∷ ps) no_values e n h = absurd (both_ways false refl h)
@@ -184,9 +184,9 @@ mutual
       (λ f. resolve writer reader (node_at writer (unwrap_or (slice_get (map (λ g. g.node) ws) place) 0)) (node_at reader f.node) v)
       (resolve_sources writer reader ws rs (suc place) vs) refl
       (λ f. resolve-fits writer reader rules (node_at writer (unwrap_or (slice_get (map (λ g. g.node) ws) place) 0)) (node_at reader f.node) v (rules f.node)
-      (subst (λ (i : ℕ). FitsAt writer (node_at writer i) v) (sym (place_at (field_places ws) place p ps e).0)
+      (subst (λ (i : ℕ). FitsAt writer (node_at writer i) v) (sym (place_at (field_ids ws) place p ps e).0)
       (and_parts (fits writer (node_at writer p) v) (fields_fit writer ps vs) h).0))
-      (sources-fit writer reader rules ws rs (suc place) to ps vs (place_at (field_places ws) place p ps e).1 (omega arith)
+      (sources-fit writer reader rules ws rs (suc place) to ps vs (place_at (field_ids ws) place p ps e).1 (omega arith)
       (and_parts (fits writer (node_at writer p) v) (fields_fit writer ps vs) h).1)
 
 -- at the roots

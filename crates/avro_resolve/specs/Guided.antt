@@ -6,7 +6,7 @@ use Rattle.avro_schema.specs.Seen.{values_from, entries_from}
 use Rattle.avro_schema.specs.declared.schema.NodeId.{NodeId}
 use Rattle.avro_resolve.specs.Fault.{ResolutionFault}
 use Rattle.avro_resolve.specs.Ends.{turned, SlotsAre, AllBelow, joined, joined_entries, before}
-use Rattle.avro_resolve.specs.Pairs.{wrapped, item_place, value_place, branch_place, field_for}
+use Rattle.avro_resolve.specs.Pairs.{wrapped, item_id, value_id, branch_id, field_for}
 use Rattle.avro_resolve.specs.Resolve.{Resolved, Sourced, resolve, resolve_items, resolve_entries, resolve_sources, fields_at, result_map, through}
 use Rattle.avro_resolve.specs.Source.{missing_field}
 use Rattle.avro_resolve.specs.declared.guided.At.{At}
@@ -41,7 +41,7 @@ StandsAs S writer reader nodes n (Pair w r) out v =
 
 abbrev pub branch_for : List Node → At → ℕ → At
 branch_for writer Ignored k = Ignored
-branch_for writer (Pair w r) k = Pair (record { 0 = branch_place (node_at writer w.0) k }) r
+branch_for writer (Pair w r) k = Pair (record { 0 = branch_id (node_at writer w.0) k }) r
 
 -- a pair leads to a node, by a branch where there is one
 abbrev pub Leads : List Node → List Node → Node → Node → Option ℕ → ℕ → Type 0
@@ -57,8 +57,8 @@ SoFar {E = E} run join xs made = (more : List E) → run 0 (xs ++ more) ≡ resu
 pub record ItemsGood {I : Type 0} (S : I → List Value → Type 0) (writer reader : List Node) (w r : Node) (items : I) (count : ℕ) (branch : Option ℕ) (a b : NodeId) (vs : List Value) : Type 0 where
   pub to : ℕ
   pub leads : Leads writer reader w r branch to
-  pub of_writer : a.0 ≡ item_place w
-  pub of_reader : b.0 ≡ item_place (node_at reader to)
+  pub of_writer : a.0 ≡ item_id w
+  pub of_reader : b.0 ≡ item_id (node_at reader to)
   pub counted : count ≡ length vs
   pub made : List Value
   pub so_far : SoFar (λ k us. resolve_items writer reader (node_at writer a.0) (node_at reader b.0) k (values_from us)) joined vs made
@@ -86,8 +86,8 @@ ItemsStandAs S writer reader nodes place (Pair w r) items vs =
 pub record EntriesGood {I : Type 0} (S : I → List (List ℕ × Value) → Type 0) (writer reader : List Node) (w r : Node) (items : I) (count : ℕ) (branch : Option ℕ) (a b : NodeId) (vs : List (List ℕ × Value)) : Type 0 where
   pub to : ℕ
   pub leads : Leads writer reader w r branch to
-  pub of_writer : a.0 ≡ value_place w
-  pub of_reader : b.0 ≡ value_place (node_at reader to)
+  pub of_writer : a.0 ≡ value_id w
+  pub of_reader : b.0 ≡ value_id (node_at reader to)
   pub counted : count ≡ length vs
   pub made : List (List ℕ × Value)
   pub so_far : SoFar (λ k us. resolve_entries writer reader (node_at writer a.0) (node_at reader b.0) k (entries_from us)) joined_entries vs made

@@ -1,7 +1,7 @@
 -- What the code says of a pair of nodes.
 use Rattle.std.specs.Prelude.{◌≡◌, ◌<◌, ℕ, suc, Bool, true, false, List, [], Option, Some, None, length, slice_get, unwrap_or, Err, Ok, cond}
 use Rattle.avro_schema.specs.Value.{Value}
-use Rattle.avro_schema.specs.Node.{Node, FieldNode, node_at, field_places, items_node, values_node, branches_of}
+use Rattle.avro_schema.specs.Node.{Node, FieldNode, node_at, field_ids, items_node, values_node, branches_of}
 use Rattle.avro_schema.specs.declared.schema.NodeId.{NodeId}
 use Rattle.avro_resolve.specs.Fault.{fault_here, no_symbol}
 use Rattle.avro_resolve.specs.Match.{match_within, is_match, first_match}
@@ -57,14 +57,14 @@ abbrev pub IsAim : List Node → List Node → Node → Node → Aim → Type 0
 IsAim writer reader w r aim = (resolve : Node → Resolved) → through writer reader w r resolve ≡ aimed reader aim resolve
 
 -- the places of the parts of a node that has them
-abbrev pub item_place : Node → ℕ
-item_place n = unwrap_or (items_node n) 0
+abbrev pub item_id : Node → ℕ
+item_id n = unwrap_or (items_node n) 0
 
-abbrev pub value_place : Node → ℕ
-value_place n = unwrap_or (values_node n) 0
+abbrev pub value_id : Node → ℕ
+value_id n = unwrap_or (values_node n) 0
 
-abbrev pub branch_place : Node → ℕ → ℕ
-branch_place n k = unwrap_or (slice_get (unwrap_or (branches_of n) []) k) 0
+abbrev pub branch_id : Node → ℕ → ℕ
+branch_id n k = unwrap_or (slice_get (unwrap_or (branches_of n) []) k) 0
 
 -- the reader's symbol, or that there is none
 abbrev pub IsSymbol : Resolved → Option ℕ → Type 0
@@ -77,7 +77,7 @@ part_to j None = Ignored
 part_to j (Some f) = Pair (record { 0 = j }) (record { 0 = f.node })
 
 abbrev pub field_for : List FieldNode → List FieldNode → ℕ → At
-field_for ws rs k = part_to (unwrap_or (slice_get (field_places ws) k) 0) (reader_field ws rs k)
+field_for ws rs k = part_to (unwrap_or (slice_get (field_ids ws) k) 0) (reader_field ws rs k)
 
 -- the test of a node
 abbrev pub Tells : Bool → Node → Node → Type 0

@@ -1,7 +1,7 @@
 ghost use Rattle.std.specs.Prelude.{◌≡◌, ◌&&◌, ◌==◌, cond, bytes_eq, Some, IfOk, OnOk};
 ghost use Rattle.std.specs.BTreeMap.{get};
 ghost use Rattle.avro_schema.specs.Node.{node_at};
-ghost use Rattle.avro_schema.specs.Seen.{places_of};
+ghost use Rattle.avro_schema.specs.Seen.{ids_of};
 ghost use Rattle.avro_schema.specs.SeenSchema.{schema_nodes};
 ghost use Rattle.avro_resolve.specs.NameTables.{named_type as type_of, NameKey, key_cmp, passes, has_simple, is_named, FindsFirst};
 
@@ -18,7 +18,7 @@ pub fn first_branches<'r>(
     reader: &'r Schema,
     branches: &[NodeId],
 ) -> Result<BTreeMap<(u64, &'r str), usize>, AllocError>
-    ensures { IfOk result (λ first. FindsFirst (schema_nodes reader.now) (places_of branches.now) first) }
+    ensures { IfOk result (λ first. FindsFirst (schema_nodes reader.now) (ids_of branches.now) first) }
 {
     let mut first = BTreeMap::new(alloc);
     let mut left = branches.len();

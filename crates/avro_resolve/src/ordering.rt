@@ -99,7 +99,7 @@ fn part_inside(node: &Node, reader: &Schema, pair: &Prepared, part: usize) -> At
 }
 
 /// The places of the pairs of the parts of each pair, and the place of the roots' pair.
-pub fn places_of(
+pub fn ids_of(
     alloc: Global,
     writer: &Schema,
     reader: &Schema,

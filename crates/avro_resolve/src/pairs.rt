@@ -1,6 +1,6 @@
 ghost use Rattle.std.specs.Prelude.{◌≡◌, ◌≤◌, ◌^◌, length, List};
 ghost use Rattle.avro_schema.specs.Node.{Node as SeenNode, node_at};
-ghost use Rattle.avro_schema.specs.Seen.{node_of, places_of};
+ghost use Rattle.avro_schema.specs.Seen.{node_of, ids_of};
 ghost use Rattle.avro_schema.specs.SeenSchema.{schema_nodes};
 ghost use Rattle.avro_resolve.specs.Match.{first_match_at};
 ghost use Rattle.avro_resolve.specs.NameTables.{StartsAt};
@@ -56,9 +56,9 @@ fn first_matched(
     start: usize,
 ) -> Option<(usize, NodeId)>
     requires { StartsAt (schema_nodes writer.now) (schema_nodes reader.now)
-        (node_at (schema_nodes writer.now) w.0) (SeenNode.union (places_of branches.now)) start }
+        (node_at (schema_nodes writer.now) w.0) (SeenNode.union (ids_of branches.now)) start }
     ensures { IsFirst (schema_nodes writer.now) (schema_nodes reader.now)
-        (node_at (schema_nodes writer.now) w.0) (places_of branches.now) result }
+        (node_at (schema_nodes writer.now) w.0) (ids_of branches.now) result }
 {
     for place in start..branches.len() {
         let branch = branches[place];

@@ -39,7 +39,7 @@ impl<'a> PlanRef<'a> {
     ghost use Rattle.std.specs.Prelude.{◌≡◌, IfOk};
     ghost use Rattle.avro_schema.specs.Node.{node_at};
     ghost use Rattle.avro_schema.specs.SeenSchema.{schema_nodes};
-    ghost use Rattle.avro_resolve.specs.Pairs.{IsAim, IsSymbol, field_for, item_place, value_place, branch_place};
+    ghost use Rattle.avro_resolve.specs.Pairs.{IsAim, IsSymbol, field_for, item_id, value_id, branch_id};
     ghost use Rattle.avro_resolve.specs.Planned.{ArePrepared, AreSources};
     ghost use Rattle.avro_resolve.specs.Reading.{BuildsResolved};
     ghost use Rattle.avro_resolve.specs.Resolve.{enum_as, fields_at, symbol_at};
@@ -139,23 +139,23 @@ impl<'a> PlanRef<'a> {
 
     /// The nodes of the items of two nodes.
     pub(crate) fn items(&self, w: NodeId, q: NodeId) -> (NodeId, NodeId)
-        ensures of_writer { result.0.0 ≡ item_place (node_at (schema_nodes self.now.0) w.0) }
-        ensures of_reader { result.1.0 ≡ item_place (node_at (schema_nodes self.now.1) q.0) }
+        ensures of_writer { result.0.0 ≡ item_id (node_at (schema_nodes self.now.0) w.0) }
+        ensures of_reader { result.1.0 ≡ item_id (node_at (schema_nodes self.now.1) q.0) }
     {
         (items_of(self.writer, w), items_of(self.reader, q))
     }
 
     /// The nodes of the values of two nodes.
     pub(crate) fn values(&self, w: NodeId, q: NodeId) -> (NodeId, NodeId)
-        ensures of_writer { result.0.0 ≡ value_place (node_at (schema_nodes self.now.0) w.0) }
-        ensures of_reader { result.1.0 ≡ value_place (node_at (schema_nodes self.now.1) q.0) }
+        ensures of_writer { result.0.0 ≡ value_id (node_at (schema_nodes self.now.0) w.0) }
+        ensures of_reader { result.1.0 ≡ value_id (node_at (schema_nodes self.now.1) q.0) }
     {
         (values_of(self.writer, w), values_of(self.reader, q))
     }
 
     /// The node of a branch of a writer's node.
     pub(crate) fn branch(&self, w: NodeId, branch: u32) -> NodeId
-        ensures { result.0 ≡ branch_place (node_at (schema_nodes self.now.0) w.0) branch }
+        ensures { result.0 ≡ branch_id (node_at (schema_nodes self.now.0) w.0) branch }
     {
         branch_of(self.writer, w, branch)
     }

@@ -1,4 +1,4 @@
-use crate::ordering::places_of;
+use crate::ordering::ids_of;
 use crate::plan_ref::PlanRef;
 use crate::prepared::Prepared;
 use crate::walking::prepare_reached;
@@ -33,7 +33,7 @@ impl PlanTable {
         requires { ArePrepared (schema_nodes writer.now) (schema_nodes reader.now) pairs.items }
         ensures { IfOk result (λ table. IsTableOf (schema_nodes writer.now) (schema_nodes reader.now) table) }
     {
-        let (parts, root) = places_of(alloc, writer, reader, &pairs)?;
+        let (parts, root) = ids_of(alloc, writer, reader, &pairs)?;
         Ok(PlanTable { pairs, parts, root })
     }
 

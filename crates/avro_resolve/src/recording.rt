@@ -1,6 +1,6 @@
 ghost use Rattle.std.specs.Prelude.{◌≡◌, ◌++◌, ◌∷◌, [], ℕ, IfOk, List, OnOk, Some, length, slice_get};
 ghost use Rattle.avro_name.specs.Name.{Name};
-ghost use Rattle.avro_schema.specs.Node.{FieldNode, Node, field_places, node_at};
+ghost use Rattle.avro_schema.specs.Node.{FieldNode, Node, field_ids, node_at};
 ghost use Rattle.avro_schema.specs.Seen.{values_from};
 ghost use Rattle.avro_schema.specs.SeenSchema.{schema_nodes};
 ghost use Rattle.avro_schema.specs.Value.{Value};
@@ -89,7 +89,7 @@ pub fn fill_next<B: Build>(
     made: Made<B::Out>,
 ) -> Result<(), AllocError>
     ensures { (nodes : List Node) (fs : List FieldNode) (place : ℕ) (at : At) (vs : List Value) (v : Value) → FillsAs B.stands_for (schema_nodes plan.now.0) (schema_nodes plan.now.1) nodes fs at fields.old vs
-        → slice_get (field_places fs) (length vs) ≡ Some place → StandsAs B.stands_for (schema_nodes plan.now.0) (schema_nodes plan.now.1) nodes (node_at nodes place) fields.old.next.at made v
+        → slice_get (field_ids fs) (length vs) ≡ Some place → StandsAs B.stands_for (schema_nodes plan.now.0) (schema_nodes plan.now.1) nodes (node_at nodes place) fields.old.next.at made v
         → OnOk result (FillsAs B.stands_for (schema_nodes plan.now.0) (schema_nodes plan.now.1) nodes fs at fields.new (vs ++ v ∷ [])) }
 {
     put_field::<B>(&mut fields.slots, made)?;
@@ -100,7 +100,7 @@ pub fn fill_next<B: Build>(
 /// Adds what was made of a field behind those before.
 fn put_field<B: Build>(fields: &mut Slots<B::Out>, made: Made<B::Out>) -> Result<(), AllocError>
     ensures { (writer reader nodes : List Node) (fs : List FieldNode) (place : ℕ) (at : At) (vs : List Value) (v : Value) → FieldsStandAs B.stands_for writer reader nodes fs at fields.old vs
-        → slice_get (field_places fs) (length vs) ≡ Some place → StandsAs B.stands_for writer reader nodes (node_at nodes place) (next_field writer reader fields.old) made v
+        → slice_get (field_ids fs) (length vs) ≡ Some place → StandsAs B.stands_for writer reader nodes (node_at nodes place) (next_field writer reader fields.old) made v
         → OnOk result (FieldsStandAs B.stands_for writer reader nodes fs at fields.new (vs ++ v ∷ [])) }
 {
     match fields {

@@ -2,7 +2,7 @@ ghost use Rattle.std.specs.Prelude.{◌≡◌, List, Some, true, slice_get, unwr
 ghost use Rattle.std.specs.List.{flat_map};
 ghost use Rattle.avro_schema.specs.Distinct.{are_distinct};
 ghost use Rattle.avro_schema.specs.WellFormed.{field_names};
-ghost use Rattle.avro_schema.specs.Node.{FieldNode, node_at, field_places};
+ghost use Rattle.avro_schema.specs.Node.{FieldNode, node_at, field_ids};
 ghost use Rattle.avro_schema.specs.Seen.{seen_fields, field_of};
 ghost use Rattle.avro_schema.specs.SeenSchema.{schema_nodes};
 ghost use Rattle.avro_resolve.specs.Source.{field_place, is_place, source_of, missing_field};
@@ -87,7 +87,7 @@ pub fn fields_of(schema: &Schema, id: NodeId) -> &[Field]
 
 /// The node of the field at a place.
 pub fn node_of_field(fields: &[Field], place: usize) -> NodeId
-    ensures { result.0 ≡ unwrap_or (slice_get (field_places (seen_fields fields.now)) place) 0 }
+    ensures { result.0 ≡ unwrap_or (slice_get (field_ids (seen_fields fields.now)) place) 0 }
 {
     if place < fields.len() {
         fields[place].node

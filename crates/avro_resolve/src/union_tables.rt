@@ -2,7 +2,7 @@ ghost use Rattle.std.specs.Prelude.{◌≡◌, ◌≤◌, true, List, IfOk, is_s
 ghost use Rattle.std.specs.Option.{IfSome};
 ghost use Rattle.std.specs.List.{list_all, position_or_len};
 ghost use Rattle.avro_schema.specs.Node.{Node as SeenNode, node_at};
-ghost use Rattle.avro_schema.specs.Seen.{places_of};
+ghost use Rattle.avro_schema.specs.Seen.{ids_of};
 ghost use Rattle.avro_schema.specs.SeenSchema.{schema_nodes};
 ghost use Rattle.avro_schema.specs.WellFormed.{branch_kind};
 ghost use Rattle.avro_resolve.specs.NameTables.{AreUnionTables, FindsFirst, StartsAt, branches_at, passes, is_named};
@@ -48,8 +48,8 @@ fn union_table(
 
 /// The branches of a node, and none where it has none. No branch is a union.
 fn branches_of(schema: &Schema, id: NodeId) -> &[NodeId]
-    ensures places { places_of result.now ≡ branches_at (node_at (schema_nodes schema.now) id.0) }
-    ensures plain { list_all (λ place. is_some (branch_kind (node_at (schema_nodes schema.now) place))) (places_of result.now) ≡ true }
+    ensures places { ids_of result.now ≡ branches_at (node_at (schema_nodes schema.now) id.0) }
+    ensures plain { list_all (λ place. is_some (branch_kind (node_at (schema_nodes schema.now) place))) (ids_of result.now) ≡ true }
 {
     if (id.0 as usize) >= schema.len() {
         return &[];
@@ -109,8 +109,8 @@ fn first_named<'n>(
     branches: &[NodeId],
     named: &NamedType<'n>,
 ) -> usize
-    ensures { (reader : List SeenNode) → FindsFirst reader (places_of branches.now) first.now
-        → result ≤ position_or_len (passes reader (is_named named.now.kind named.now.name.simple)) (places_of branches.now) }
+    ensures { (reader : List SeenNode) → FindsFirst reader (ids_of branches.now) first.now
+        → result ≤ position_or_len (passes reader (is_named named.now.kind named.now.name.simple)) (ids_of branches.now) }
 {
     let found = first.get(&(named.kind, named.name.simple()));
     found.copied().unwrap_or(branches.len())

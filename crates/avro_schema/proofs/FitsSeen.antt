@@ -5,7 +5,7 @@ use Rattle.std.specs.Global.{Vec}
 use Rattle.std.specs.declared.alloc.Global.{Global}
 use Rattle.std.specs.List.{list_all}
 use Rattle.avro_schema.specs.Value.{Value, values_count, entries_count, keys_of}
-use Rattle.avro_schema.specs.Node.{Node, node_at, field_places}
+use Rattle.avro_schema.specs.Node.{Node, node_at, field_ids}
 use Rattle.avro_schema.specs.Fits.{fits, each_fits, entries_fit, fields_fit, is_count, is_text}
 use Rattle.avro_schema.specs.Distinct.{are_distinct}
 use Rattle.avro_schema.specs.Seen.{value_of, values_of, entries_of, seen_fields}
@@ -48,9 +48,9 @@ and-none false b h = refl
 and-none true b h = h
 
 pub fields_fit-uneven : (nodes : List Node) (fs : List Field) (ds : List Datum) → (length fs ≡ length ds → ⊥)
-    → false ≡ fields_fit nodes (field_places (seen_fields fs)) (values_of ds)
+    → false ≡ fields_fit nodes (field_ids (seen_fields fs)) (values_of ds)
 fields_fit-uneven nodes [] [] h = absurd (h refl)
 fields_fit-uneven nodes [] (d ∷ ds) h = refl
 fields_fit-uneven nodes (f ∷ fs) [] h = refl
 fields_fit-uneven nodes (f ∷ fs) (d ∷ ds) h =
-    and-none (fits nodes (node_at nodes f.node.0) (value_of d)) (fields_fit nodes (field_places (seen_fields fs)) (values_of ds)) (fields_fit-uneven nodes fs ds (λ e. h (ap suc e)))
+    and-none (fits nodes (node_at nodes f.node.0) (value_of d)) (fields_fit nodes (field_ids (seen_fields fs)) (values_of ds)) (fields_fit-uneven nodes fs ds (λ e. h (ap suc e)))

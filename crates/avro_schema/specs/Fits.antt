@@ -3,7 +3,7 @@ use Rattle.std.specs.Prelude.{ℕ, ◌-◌, ◌^◌, ℤ, pos, negsuc, Bool, tru
 use Rattle.std.specs.List.{list_all}
 use Rattle.std.specs.Str.{is_utf8}
 use Rattle.avro_schema.specs.Value.{Value, Values, Entries, no_values, value, no_entries, entry, size, depth, longest_blob, values_count, entries_count, keys_of}
-use Rattle.avro_schema.specs.Node.{Node, node_at, items_node, values_node, branches_of, fields_of, symbols_of, fixed_length, field_places}
+use Rattle.avro_schema.specs.Node.{Node, node_at, items_node, values_node, branches_of, fields_of, symbols_of, fixed_length, field_ids}
 use Rattle.avro_schema.specs.Distinct.{are_distinct}
 
 -- 32 and 64 bits
@@ -69,7 +69,7 @@ abbrev mutual
       && is_some_and (λ id. entries_fit nodes (node_at nodes id) es) (values_node n)
   fits nodes n (Value.union k v) =
       is_some_and (λ id. fits nodes (node_at nodes id) v) (option_and_then (λ ids. slice_get ids k) (branches_of n))
-  fits nodes n (Value.record_of vs) = is_some_and (λ fields. fields_fit nodes (field_places fields) vs) (fields_of n)
+  fits nodes n (Value.record_of vs) = is_some_and (λ fields. fields_fit nodes (field_ids fields) vs) (fields_of n)
   fits nodes n (Value.enum k) = is_some_and (λ symbols. nat_lt k (length symbols)) (symbols_of n)
   fits nodes n (Value.fixed b) = are_bytes b && is_some_and (λ count. length b == count) (fixed_length n)
 

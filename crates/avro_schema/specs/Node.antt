@@ -79,13 +79,13 @@ fixed_length (Node.fixed name aliases count) = Some count
 fixed_length _ = None
 
 -- the nodes of some fields
-abbrev pub field_places : List FieldNode → List ℕ
-field_places fields = map (λ f. f.node) fields
+abbrev pub field_ids : List FieldNode → List ℕ
+field_ids fields = map (λ f. f.node) fields
 
 -- the edges of a node
 abbrev pub edges_of : Node → List ℕ
 edges_of (Node.array id) = id ∷ []
 edges_of (Node.map_of id) = id ∷ []
 edges_of (Node.union ids) = ids
-edges_of (Node.record_of name aliases fields) = field_places fields
+edges_of (Node.record_of name aliases fields) = field_ids fields
 edges_of _ = []

@@ -52,8 +52,8 @@ abbrev pub texts_of : List (String Global) → List (List ℕ)
 texts_of ts = map (λ t. string_bytes t) ts
 
 -- the ids of some nodes
-abbrev pub places_of : List NodeId → List ℕ
-places_of ids = map (λ id. id.0) ids
+abbrev pub ids_of : List NodeId → List ℕ
+ids_of ids = map (λ id. id.0) ids
 
 abbrev pub default_of : Option Datum → Option Value
 default_of None = None
@@ -74,7 +74,7 @@ node_of KeptNode.Bytes = Node.bytes
 node_of KeptNode.Str = Node.string
 node_of (KeptNode.Array id) = Node.array id.0
 node_of (KeptNode.Map id) = Node.map_of id.0
-node_of (KeptNode.Union ids) = Node.union (places_of ids.items)
+node_of (KeptNode.Union ids) = Node.union (ids_of ids.items)
 node_of (KeptNode.Record r) = Node.record_of r.name r.aliases.items (seen_fields r.fields.items)
 node_of (KeptNode.Enum e) = Node.enum e.name e.aliases.items (texts_of e.symbols.items) e.default
 node_of (KeptNode.Fixed f) = Node.fixed f.name f.aliases.items f.size

@@ -4,7 +4,7 @@ ghost use Rattle.std.specs.Prelude.{◌≡◌, map, IfOk, option_map};
 ghost use Rattle.std.specs.Ordering.{eq_by_cmp, nat_cmp};
 ghost use Rattle.avro_schema.specs.Distinct.{are_distinct};
 ghost use Rattle.avro_schema.specs.Node.{node_at};
-ghost use Rattle.avro_schema.specs.Seen.{node_of, nodes_of, places_of};
+ghost use Rattle.avro_schema.specs.Seen.{node_of, nodes_of, ids_of};
 ghost use Rattle.avro_schema.specs.SeenKind.{kind_of, AreKinds};
 ghost use Rattle.avro_schema.specs.WellFormed.{branch_kind, is_union as is_good_union, same_kind};
 
@@ -64,7 +64,7 @@ fn kinds<'a>(
     nodes: &'a [Node],
     branches: &[NodeId],
 ) -> Result<Option<Vec<Kind<'a>>>, Memory>
-    ensures { IfOk result (λ found. AreKinds (nodes_of nodes.now) (places_of branches.now) found) }
+    ensures { IfOk result (λ found. AreKinds (nodes_of nodes.now) (ids_of branches.now) found) }
 {
     let mut kinds: Vec<Kind<'a>> = Vec::new(alloc);
     for branch in branches {
@@ -79,7 +79,7 @@ fn kinds<'a>(
 /// Whether no node stands twice. It looks at the numbers alone, so that long names that are used many
 /// times are not compared.
 fn are_unique_ids(alloc: Global, branches: &[NodeId]) -> Result<bool, Memory>
-    ensures { IfOk result (λ answer. answer ≡ are_distinct (eq_by_cmp nat_cmp) (places_of branches.now)) }
+    ensures { IfOk result (λ answer. answer ≡ are_distinct (eq_by_cmp nat_cmp) (ids_of branches.now)) }
 {
     let mut ids: Vec<u32> = Vec::new(alloc);
     for branch in branches {
@@ -90,7 +90,7 @@ fn are_unique_ids(alloc: Global, branches: &[NodeId]) -> Result<bool, Memory>
 
 /// Whether branches make a union.
 pub(crate) fn is_union(alloc: Global, nodes: &[Node], branches: &[NodeId]) -> Result<bool, Memory>
-    ensures { IfOk result (λ answer. answer ≡ is_good_union (nodes_of nodes.now) (places_of branches.now)) }
+    ensures { IfOk result (λ answer. answer ≡ is_good_union (nodes_of nodes.now) (ids_of branches.now)) }
 {
     if branches.is_empty() {
         return Ok(false);

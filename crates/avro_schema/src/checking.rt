@@ -3,8 +3,8 @@
 ghost use Rattle.std.specs.Prelude.{◌≡◌, ℕ, ◌<◌, true, length, IfOk, IfErr, OnOk};
 ghost use Rattle.std.specs.List.{list_all};
 ghost use Rattle.avro_schema.specs.Faulty.{IsRefused, IsRefusedAt, IsRefusedSomewhere};
-ghost use Rattle.avro_schema.specs.Node.{Node as SeenNode, node_at, field_places};
-ghost use Rattle.avro_schema.specs.Seen.{field_of, node_of, nodes_of, places_of, seen_fields};
+ghost use Rattle.avro_schema.specs.Node.{Node as SeenNode, node_at, field_ids};
+ghost use Rattle.avro_schema.specs.Seen.{field_of, node_of, nodes_of, ids_of, seen_fields};
 ghost use Rattle.avro_schema.specs.WellFormed.{is_edge as is_good_edge, is_good_node, are_good_nodes, is_schema, has_good_default as is_good_default};
 ghost use Rattle.avro_schema.specs.declared.schema.Node.TheVariants as kept;
 
@@ -86,7 +86,7 @@ fn is_edge(nodes: &[Node], from: usize, to: NodeId) -> bool
 
 /// Whether edges are good.
 fn are_edges(nodes: &[Node], from: usize, ids: &[NodeId]) -> bool
-    ensures { result ≡ list_all (is_good_edge (nodes_of nodes.now) from) (places_of ids.now) }
+    ensures { result ≡ list_all (is_good_edge (nodes_of nodes.now) from) (ids_of ids.now) }
 {
     for id in ids {
         if !is_edge(nodes, from, *id) {
@@ -98,7 +98,7 @@ fn are_edges(nodes: &[Node], from: usize, ids: &[NodeId]) -> bool
 
 /// Whether the edges of fields are good.
 fn are_field_edges(nodes: &[Node], from: usize, fields: &[Field]) -> bool
-    ensures { result ≡ list_all (is_good_edge (nodes_of nodes.now) from) (field_places (seen_fields fields.now)) }
+    ensures { result ≡ list_all (is_good_edge (nodes_of nodes.now) from) (field_ids (seen_fields fields.now)) }
 {
     for field in fields {
         if !is_edge(nodes, from, field.node) {
@@ -137,8 +137,8 @@ fn check_union(
     id: usize,
     branches: &[NodeId],
 ) -> Result<(), DraftError>
-    ensures good { OnOk result (is_good_node (nodes_of nodes.now) id (SeenNode.union (places_of branches.now)) ≡ true) }
-    ensures broken { IfErr result (IsRefusedAt (nodes_of nodes.now) id (SeenNode.union (places_of branches.now))) }
+    ensures good { OnOk result (is_good_node (nodes_of nodes.now) id (SeenNode.union (ids_of branches.now)) ≡ true) }
+    ensures broken { IfErr result (IsRefusedAt (nodes_of nodes.now) id (SeenNode.union (ids_of branches.now))) }
 {
     if !are_edges(nodes, id, branches) {
         return Err(DraftError::UnknownNode);

@@ -1,6 +1,6 @@
 ghost use Rattle.std.specs.Prelude.{◌≡◌, ◌<◌, List, length, map, IfOk, slice_get, option_map, option_and_then, string_bytes};
 ghost use Rattle.avro_schema.specs.Fits.{fits as value_fits, each_fits as values_fit, entries_fit as values_of_map_fit, fields_fit as values_fit_fields};
-ghost use Rattle.avro_schema.specs.Node.{Node as SeenNode, node_at, branches_of, field_places};
+ghost use Rattle.avro_schema.specs.Node.{Node as SeenNode, node_at, branches_of, field_ids};
 ghost use Rattle.avro_schema.specs.Seen.{value_of, values_of, entries_of, node_of, nodes_of, seen_fields};
 ghost use Rattle.avro_schema.specs.SeenSchema.{schema_nodes};
 ghost use Rattle.avro_schema.specs.Value.{Value, keys_of};
@@ -213,7 +213,7 @@ fn fields_fit(
     fields: &[Field],
     values: &[Datum],
 ) -> Result<bool, Memory>
-    ensures { IfOk result (λ answer. answer ≡ values_fit_fields (nodes_of nodes.now) (field_places (seen_fields fields.now)) (values_of values.now)) }
+    ensures { IfOk result (λ answer. answer ≡ values_fit_fields (nodes_of nodes.now) (field_ids (seen_fields fields.now)) (values_of values.now)) }
 {
     if fields.len() != values.len() {
         return Ok(false);

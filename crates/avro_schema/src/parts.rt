@@ -2,7 +2,7 @@
 
 ghost use Rattle.std.specs.Prelude.{◌≡◌, map, slice_get, option_map, option_and_then};
 ghost use Rattle.avro_schema.specs.Node.{node_name, items_node, values_node, branches_of, fields_of, symbols_of};
-ghost use Rattle.avro_schema.specs.Seen.{node_of, places_of, seen_fields, texts_of};
+ghost use Rattle.avro_schema.specs.Seen.{node_of, ids_of, seen_fields, texts_of};
 
 use crate::schema::{Field, Node, NodeId};
 use avro_name::FullName;
@@ -42,7 +42,7 @@ impl Node {
 
     /// The nodes of a union's branches.
     pub fn branches(&self) -> Option<&[NodeId]>
-        ensures { option_map (λ ids. places_of ids.now) result ≡ branches_of (node_of self.now) }
+        ensures { option_map (λ ids. ids_of ids.now) result ≡ branches_of (node_of self.now) }
     {
         match self {
             Node::Union(ids) => Some(ids),

@@ -10,7 +10,7 @@ use Rattle.std.proofs.lemmas.Bool.{and_parts}
 use Rattle.std.proofs.lemmas.Bool.Decides.{nat_tests}
 use Rattle.std.proofs.lemmas.Str.{IsUtf8-from_is_utf8, length-le-encodes, encodes-chars}
 use Rattle.avro_schema.specs.Value.{Value, Values, value, Entries, no_entries, entry, values_count, entries_count, keys_of}
-use Rattle.avro_schema.specs.Node.{Node, FieldNode, node_at, field_places}
+use Rattle.avro_schema.specs.Node.{Node, FieldNode, node_at, field_ids}
 use Rattle.avro_schema.specs.Fits.{fits, each_fits, entries_fit, fields_fit, is_int, is_long, is_count, is_text, are_bytes}
 use Rattle.avro_schema.specs.Distinct.{are_distinct}
 use Rattle.serde_json.specs.Data.{Num, Data, Items, no_items, item, Members, no_members, member}
@@ -170,12 +170,12 @@ abbrev AllFit : List Node → (List ℕ → Option (Node → Option Value)) → 
 AllFit nodes under = (key : List ℕ) (m : Node) (v : Value) → option_and_then (λ read. read m) (under key) ≡ Some v → fits nodes m v ≡ true
 
 fields-fit : (nodes : List Node) (under : List ℕ → Option (Node → Option Value)) (fields : List FieldNode) (vs : Values) → AllFit nodes under
-    → fields_default nodes under fields ≡ Some vs → fields_fit nodes (field_places fields) vs ≡ true
+    → fields_default nodes under fields ≡ Some vs → fields_fit nodes (field_ids fields) vs ≡ true
 fields-fit nodes under [] vs fit h = subst (λ ws. fields_fit nodes [] ws ≡ true) (some-injective h) refl
 fields-fit nodes under (f ∷ fields) vs fit h =
     let first = and_then-some (λ v. option_map (value v) (fields_default nodes under fields)) (option_and_then (λ read. read (node_at nodes f.node)) (under f.name)) vs h in
     let others = map-some (value first.0) (fields_default nodes under fields) vs first.2 in
-    subst (λ ws. fields_fit nodes (field_places (f ∷ fields)) ws ≡ true) others.2
+    subst (λ ws. fields_fit nodes (field_ids (f ∷ fields)) ws ≡ true) others.2
     (rw (fit f.name (node_at nodes f.node) first.0 first.1, fields-fit nodes under fields others.0 fit others.1) refl)
 
 items-fit : (nodes : List Node) (ds : Items) (n : Node) (v : Value) → is_count (items_count ds) ≡ true

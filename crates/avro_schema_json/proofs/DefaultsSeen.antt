@@ -4,7 +4,7 @@ use Rattle.std.specs.Prelude.{String, string_bytes}
 use Rattle.std.specs.declared.alloc.Global.{Global}
 use Rattle.std.proofs.lemmas.List.{drop_more}
 use Rattle.avro_schema.specs.Node.{Node, node_at, branches_of}
-use Rattle.avro_schema.specs.Seen.{value_of, values_of, entries_of, places_of}
+use Rattle.avro_schema.specs.Seen.{value_of, values_of, entries_of, ids_of}
 use Rattle.avro_schema.specs.Value.{Value, Values, no_values, value, Entries, no_entries, entry}
 use Rattle.avro_schema.specs.declared.datum.Datum.{Datum}
 use Rattle.avro_schema.specs.declared.schema.NodeId.{NodeId}
@@ -50,28 +50,28 @@ drop_past [] (suc i) h = refl
 drop_past (x ∷ xs) zero h = absurd (omega arith)
 drop_past (x ∷ xs) (suc i) h = drop_past xs i (omega arith)
 
-drop_places : (ids : List NodeId) (i : ℕ) (id : NodeId) → i < length ids → id ≡ get_or ids i id → places_of (drop i ids) ≡ id.0 ∷ places_of (drop (suc i) ids)
+drop_places : (ids : List NodeId) (i : ℕ) (id : NodeId) → i < length ids → id ≡ get_or ids i id → ids_of (drop i ids) ≡ id.0 ∷ ids_of (drop (suc i) ids)
 drop_places ids i id below at =
     let here : drop i ids ≡ id ∷ drop (i + 1) ids = drop_more ids i id below ∙ ap (λ y. y ∷ drop (i + 1) ids) (sym at) in
-    ap places_of (rw add-one at here)
+    ap ids_of (rw add-one at here)
 
 -- a branch that the JSON does not fit
 pub branch_next : (nodes : List Node) (d : Data) (ids : List NodeId) (i : ℕ) (id : NodeId) (all : Option Value) → i < length ids → id ≡ get_or ids i id
-    → first_fit nodes (own_default nodes d) i (places_of (drop i ids)) ≡ all → own_default nodes d (node_at nodes id.0) ≡ None
-    → first_fit nodes (own_default nodes d) (i + 1) (places_of (drop (i + 1) ids)) ≡ all
+    → first_fit nodes (own_default nodes d) i (ids_of (drop i ids)) ≡ all → own_default nodes d (node_at nodes id.0) ≡ None
+    → first_fit nodes (own_default nodes d) (i + 1) (ids_of (drop (i + 1) ids)) ≡ all
 branch_next nodes d ids i id all below at whole none =
     let w = rw (drop_places ids i id below at, none) at whole in
     rw add-one w
 
 -- the first branch that it fits
 pub branch_found : (nodes : List Node) (d : Data) (ids : List NodeId) (i : ℕ) (id : NodeId) (v : Value) (all : Option Value) → i < length ids
-    → id ≡ get_or ids i id → first_fit nodes (own_default nodes d) i (places_of (drop i ids)) ≡ all → own_default nodes d (node_at nodes id.0) ≡ Some v
+    → id ≡ get_or ids i id → first_fit nodes (own_default nodes d) i (ids_of (drop i ids)) ≡ all → own_default nodes d (node_at nodes id.0) ≡ Some v
     → Some (Value.union i v) ≡ all
 branch_found nodes d ids i id v all below at whole some = rw (drop_places ids i id below at, some) at whole
 
 -- no branch is left
 pub branches_end : (nodes : List Node) (d : Data) (ids : List NodeId) (i : ℕ) (all : Option Value) → length ids ≤ i
-    → first_fit nodes (own_default nodes d) i (places_of (drop i ids)) ≡ all → None ≡ all
+    → first_fit nodes (own_default nodes d) i (ids_of (drop i ids)) ≡ all → None ≡ all
 branches_end nodes d ids i all past whole = let none : drop i ids ≡ [] = drop_past ids i past in rw none at whole
 
 -- values behind others

@@ -12,7 +12,7 @@ use Rattle.std.proofs.lemmas.Map.Lookups.{exact_unsigned}
 use Rattle.std.proofs.lemmas.Slice.Eq.{bytes_eq-Decides}
 use denote.Ref.{Bor}
 use Rattle.avro_schema.specs.Node.{Node, FieldNode, node_at, branches_of}
-use Rattle.avro_schema.specs.Seen.{places_of}
+use Rattle.avro_schema.specs.Seen.{ids_of}
 use Rattle.avro_schema.specs.declared.schema.NodeId.{NodeId}
 use Rattle.avro_schema.specs.Value.{Value, Values, value, entry}
 use Rattle.serde_json.specs.Data.{Data, Items, Members, no_members, member}
@@ -176,13 +176,13 @@ field-missing_at nodes ms fields i name place got none =
 -- ---- each of some places
 
 pub each-stop : (places : BTreeSet ℕ) (ids : List NodeId) (i : ℕ) (id : NodeId) (here all : Bool) → i < length ids → here ≡ has_place places (get_or ids i id).0
-    → here ≡ false → all ≡ list_all (has_place places) (places_of (drop i ids)) → false ≡ all
+    → here ≡ false → all ≡ list_all (has_place places) (ids_of (drop i ids)) → false ≡ all
 each-stop places ids i id here all below is fails whole =
     let w = rw (drop_more ids i id below, ← is, fails) at whole in
     sym w
 
 pub each-next : (places : BTreeSet ℕ) (ids : List NodeId) (i : ℕ) (id : NodeId) (here all : Bool) → i < length ids → here ≡ has_place places (get_or ids i id).0
-    → here ≡ true → all ≡ list_all (has_place places) (places_of (drop i ids)) → all ≡ list_all (has_place places) (places_of (drop (i + 1) ids))
+    → here ≡ true → all ≡ list_all (has_place places) (ids_of (drop i ids)) → all ≡ list_all (has_place places) (ids_of (drop (i + 1) ids))
 each-next places ids i id here all below is holds whole = rw (drop_more ids i id below, ← is, holds) at whole
 
 -- ---- a branch that is known not to fit
@@ -194,6 +194,6 @@ same-again (y ∷ ys) (suc i) x = same-again ys i x
 
 pub branch-skip : (nodes : List Node) (d : Data) (ids : List NodeId) (i : ℕ) (id : NodeId) (places : BTreeSet ℕ) (here : Bool) (all : Option Value) → i < length ids
     → here ≡ has_place places (get_or ids i id).0 → here ≡ true → AreMisfits nodes d places
-    → first_fit nodes (own_default nodes d) i (places_of (drop i ids)) ≡ all → first_fit nodes (own_default nodes d) (i + 1) (places_of (drop (i + 1) ids)) ≡ all
+    → first_fit nodes (own_default nodes d) i (ids_of (drop i ids)) ≡ all → first_fit nodes (own_default nodes d) (i + 1) (ids_of (drop (i + 1) ids)) ≡ all
 branch-skip nodes d ids i id places here all below is holds good whole =
     branch_next nodes d ids i (get_or ids i id) all below (same-again ids i id) whole (good (get_or ids i id).0 (sym is ∙ holds))

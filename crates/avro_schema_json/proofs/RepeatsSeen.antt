@@ -11,7 +11,7 @@ use Rattle.std.proofs.lemmas.List.{length-map}
 use Rattle.avro_schema.specs.Distinct.{are_distinct}
 use Rattle.avro_schema.specs.Faulty.{invalid_union, breaks, IsThere}
 use Rattle.avro_schema.specs.Node.{Node, node_at, node_name, branches_of}
-use Rattle.avro_schema.specs.Seen.{places_of}
+use Rattle.avro_schema.specs.Seen.{ids_of}
 use Rattle.avro_schema.specs.declared.schema.NodeId.{NodeId}
 use Rattle.avro_schema.specs.SeenKind.{kind_at, has_kind}
 use Rattle.avro_schema.specs.WellFormed.{is_edge, is_union, BranchKind, unnamed, named, branch_kind, same_kind}
@@ -151,15 +151,15 @@ repeated-there nodes raws some =
 -- each code is that of a branch before this one
 abbrev pub AreCodes : List Node → List NodeId → BTreeSet ℕ → ℕ → Type 0
 AreCodes nodes ids codes i = (m : ℕ) → contains nat_cmp codes m ≡ true
-    → (j : ℕ) × (y : ℕ) × (j < i) × (slice_get (places_of ids) j ≡ Some y) × (code_by nodes y ≡ m)
+    → (j : ℕ) × (y : ℕ) × (j < i) × (slice_get (ids_of ids) j ≡ Some y) × (code_by nodes y ≡ m)
 
-place_at : (ids : List NodeId) (i : ℕ) (id : NodeId) → i < length ids → slice_get (places_of ids) i ≡ Some (get_or ids i id).0
+place_at : (ids : List NodeId) (i : ℕ) (id : NodeId) → i < length ids → slice_get (ids_of ids) i ≡ Some (get_or ids i id).0
 place_at [] i id below = absurd (omega (arith, below))
 place_at (x ∷ ids) zero id below = refl
 place_at (x ∷ ids) (suc i) id below = place_at ids i id (omega (arith, below))
 
 pub repeat-found : (nodes : List Node) (ids : List NodeId) (codes : BTreeSet ℕ) (i : ℕ) (id : NodeId) (code : ℕ) → i < length ids
-    → code ≡ code_by nodes (get_or ids i id).0 → contains nat_cmp codes code ≡ true → AreCodes nodes ids codes i → Repeats nodes (places_of ids)
+    → code ≡ code_by nodes (get_or ids i id).0 → contains nat_cmp codes code ≡ true → AreCodes nodes ids codes i → Repeats nodes (ids_of ids)
 repeat-found nodes ids codes i id code below is there are =
     let before = are code there in
     (i, before.0, (get_or ids i id).0, before.1, before.2, place_at ids i id below, before.3, sym is ∙ sym before.4)

@@ -2,7 +2,7 @@
 
 ghost use Rattle.std.specs.Prelude.{◌≡◌, true, length, Some, option_map, IfOk};
 ghost use Rattle.avro_schema.specs.Node.{node_at};
-ghost use Rattle.avro_schema.specs.Seen.{value_of, values_of, entries_of, node_of, places_of};
+ghost use Rattle.avro_schema.specs.Seen.{value_of, values_of, entries_of, node_of, ids_of};
 ghost use Rattle.avro_schema.specs.Value.{Value as SeenValue};
 ghost use Rattle.avro_schema_json.specs.DeclaredDefaults.{default_of as default_by, each_default, entries_default as each_entry, default_under, fields_default as each_field, object_default as default_of_object, items_default as default_of_items, member_keys, first_fit};
 ghost use Rattle.avro_schema_json.specs.Misfits.{AreMisfits};
@@ -57,7 +57,7 @@ fn branch_default(
 ) -> Result<Option<Datum>, Memory>
     requires { AreMisfits (bares_of raws.now) (view tree.now) misfits.now }
     ensures { IfOk result (λ datum. option_map value_of datum
-        ≡ first_fit (bares_of raws.now) (own_default_by (bares_of raws.now) (view tree.now)) 0 (places_of places.now)) }
+        ≡ first_fit (bares_of raws.now) (own_default_by (bares_of raws.now) (view tree.now)) 0 (ids_of places.now)) }
 {
     for i in 0..places.len() {
         let place = places[i];

@@ -4,7 +4,7 @@ ghost use Rattle.std.specs.Prelude.{◌≡◌, true, None, List, IfOk};
 ghost use Rattle.std.specs.List.{list_all};
 ghost use Rattle.avro_name.specs.Name.{Name};
 ghost use Rattle.avro_schema.specs.Node.{Node as SeenNode, FieldNode, node_at};
-ghost use Rattle.avro_schema.specs.Seen.{node_of, places_of};
+ghost use Rattle.avro_schema.specs.Seen.{node_of, ids_of};
 ghost use Rattle.avro_schema_json.specs.Misfits.{has_place, is_misfit as is_misfit_by, AreItemMisfits, AreMemberMisfits, IsMemberMisfit};
 ghost use Rattle.avro_schema_json.specs.OwnDefaults.{own_default as own_default_by, default_of_fields, fields_seen, bare_of, bares_of};
 ghost use Rattle.avro_schema_json.specs.DeclaredDefaults.{each_default, entries_default};
@@ -42,7 +42,7 @@ pub(crate) fn has(places: &BTreeSet<u32>, place: NodeId) -> bool
 
 /// Whether each of these places is among some.
 fn has_each(places: &BTreeSet<u32>, asked: &[NodeId]) -> bool
-    ensures { result ≡ list_all (has_place places.now) (places_of asked.now) }
+    ensures { result ≡ list_all (has_place places.now) (ids_of asked.now) }
 {
     for place in asked {
         if !has(places, *place) {

@@ -4,7 +4,7 @@
 ghost use Rattle.std.specs.Prelude.{◌≡◌, ◌⊎◌, ℕ, true, None, IfOk, OnOk};
 ghost use Rattle.std.specs.List.{list_all};
 ghost use Rattle.avro_schema.specs.Node.{node_at};
-ghost use Rattle.avro_schema.specs.Seen.{places_of};
+ghost use Rattle.avro_schema.specs.Seen.{ids_of};
 ghost use Rattle.avro_schema_json.specs.Misfits.{has_place, is_misfit as is_misfit_by, AreMisfits, AreItemMisfits, AreMemberMisfits};
 ghost use Rattle.avro_schema_json.specs.OwnDefaults.{own_default as own_default_by, bares_of};
 ghost use Rattle.serde_json.specs.Data.{Data, Items};

@@ -3,7 +3,7 @@
 ghost use Rattle.std.specs.Prelude.{◌≡◌, is_some, option_map};
 ghost use Rattle.std.specs.List.{list_all};
 ghost use Rattle.avro_schema.specs.Node.{Node as SeenNode, node_at, node_name, branches_of as branches_in};
-ghost use Rattle.avro_schema.specs.Seen.{node_of, places_of};
+ghost use Rattle.avro_schema.specs.Seen.{node_of, ids_of};
 ghost use Rattle.avro_schema.specs.WellFormed.{is_edge as is_good_edge};
 ghost use Rattle.avro_schema_json.specs.OwnDefaults.{bare_of, bares_of};
 
@@ -24,7 +24,7 @@ pub(crate) fn raw_at<'a>(
 
 /// The branches of a union.
 pub(crate) fn branches<'a>(node: &'a RawNode<'_>) -> Option<&'a [NodeId]>
-    ensures { option_map (λ ids. places_of ids.now) result ≡ branches_in (bare_of node.now) }
+    ensures { option_map (λ ids. ids_of ids.now) result ≡ branches_in (bare_of node.now) }
 {
     match node {
         RawNode::Plain(node) => match node {
@@ -68,7 +68,7 @@ fn is_edge(raws: &[RawNode], from: usize, to: NodeId) -> bool
 
 /// Whether the edges of a union are good.
 pub(crate) fn are_edges(raws: &[RawNode], from: usize, branches: &[NodeId]) -> bool
-    ensures { result ≡ list_all (is_good_edge (bares_of raws.now) from) (places_of branches.now) }
+    ensures { result ≡ list_all (is_good_edge (bares_of raws.now) from) (ids_of branches.now) }
 {
     for branch in branches {
         if !is_edge(raws, from, *branch) {

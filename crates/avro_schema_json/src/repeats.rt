@@ -4,7 +4,7 @@
 ghost use Rattle.std.specs.Prelude.{◌≡◌, ◌⊎◌, ℕ, true, IfOk, OnOk};
 ghost use Rattle.std.specs.Ordering.{nat_cmp};
 ghost use Rattle.std.specs.BTreeSet.{contains};
-ghost use Rattle.avro_schema.specs.Seen.{node_of, places_of};
+ghost use Rattle.avro_schema.specs.Seen.{node_of, ids_of};
 ghost use Rattle.avro_schema.specs.WellFormed.{branch_kind};
 ghost use Rattle.avro_schema_json.specs.OwnDefaults.{bares_of};
 ghost use Rattle.avro_schema_json.specs.Repeats.{kind_code, code_by, Repeats, SomeRepeats};
@@ -57,7 +57,7 @@ fn add(codes: &mut BTreeSet<u64>, code: u64) -> Result<(), Memory>
 
 /// Whether two branches have one code.
 fn repeats_branch(alloc: Global, raws: &[RawNode], branches: &[NodeId]) -> Result<bool, Memory>
-    ensures { IfOk result (λ answer. answer ≡ true → Repeats (bares_of raws.now) (places_of branches.now)) }
+    ensures { IfOk result (λ answer. answer ≡ true → Repeats (bares_of raws.now) (ids_of branches.now)) }
 {
     let mut codes: BTreeSet<u64> = BTreeSet::new(alloc);
     for branch in branches {

@@ -4,7 +4,7 @@ use Rattle.std.proofs.lemmas.Bool.{false≢true}
 use Rattle.std.specs.Prelude.{length, slice_get, option_and_then, nat_lt}
 use Rattle.std.specs.List.{list_any}
 use Rattle.avro_schema.specs.Value.{Value, Values, no_values, value, values_count}
-use Rattle.avro_schema.specs.Node.{Node, node_at, branches_of, items_node, values_node, fields_of, symbols_of, fixed_length, field_places}
+use Rattle.avro_schema.specs.Node.{Node, node_at, branches_of, items_node, values_node, fields_of, symbols_of, fixed_length, field_ids}
 use Rattle.avro_schema.specs.Fits.{fits, each_fits, entries_fit, fields_fit, is_some_and, is_count, is_text, are_bytes, is_int, is_long, is_null_node, is_boolean_node, is_int_node, is_long_node, is_bytes_node, is_string_node}
 use Rattle.avro_certificate.specs.Closed.{is_among, is_dead, is_dead_node}
 use Rattle.avro_certificate.proofs.public.Tests.{and_left, and_right, or_cases, all_among, all_at}
@@ -80,9 +80,9 @@ branch_is_dead dead test _ k h d = absurd (false≢true h)
 
 -- a field of a dead record is in the set
 fields_are_dead : (writer : List Node) (dead : List ℕ) (vs : Values) (n : Node)
-    → is_some_and (λ fields. fields_fit writer (field_places fields) vs) (fields_of n) ≡ true → is_dead_node dead n ≡ true
+    → is_some_and (λ fields. fields_fit writer (field_ids fields) vs) (fields_of n) ≡ true → is_dead_node dead n ≡ true
     → (places : List ℕ) × (list_any (is_among dead) places ≡ true) × (fields_fit writer places vs ≡ true)
-fields_are_dead writer dead vs (Node.record_of name aliases fields) h d = (field_places fields, d, h)
+fields_are_dead writer dead vs (Node.record_of name aliases fields) h d = (field_ids fields, d, h)
 fields_are_dead writer dead vs _ h d = absurd (false≢true h)
 
 -- by induction on the datum: none fits a node of the set

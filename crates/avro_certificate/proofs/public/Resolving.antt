@@ -5,7 +5,7 @@ use Rattle.std.proofs.lemmas.List.Folds.{list_all-map}
 use Rattle.std.specs.Prelude.{slice_get, unwrap_or, option_and_then, nat_lt}
 use Rattle.std.specs.List.{list_all}
 use Rattle.avro_schema.specs.Value.{Value, Values, Entries, no_values, value, no_entries, entry, values_count}
-use Rattle.avro_schema.specs.Node.{Node, FieldNode, node_at, branches_of, items_node, values_node, fields_of, symbols_of, field_places}
+use Rattle.avro_schema.specs.Node.{Node, FieldNode, node_at, branches_of, items_node, values_node, fields_of, symbols_of, field_ids}
 use Rattle.avro_schema.specs.Fits.{fits, each_fits, entries_fit, fields_fit, is_some_and, is_count, are_bytes, is_bytes_node}
 use Rattle.avro_schema.specs.WellFormed.{is_schema}
 use Rattle.avro_resolve.specs.Match.{match_within}
@@ -78,11 +78,11 @@ enum_into writer reader steps _ q k h plain m faultless = absurd (false≢true h
 
 -- a record's fields
 record_into : (writer reader : List Node) (dead : List ℕ) (pairs : List Pair) (vs : Values) (steps w r : ℕ) (n q : Node)
-    → is_some_and (λ fields. fields_fit writer (field_places fields) vs) (fields_of n) ≡ true
+    → is_some_and (λ fields. fields_fit writer (field_ids fields) vs) (fields_of n) ≡ true
     → branches_of q ≡ None → match_within steps writer reader n q ≡ true → has_fault_of_kind n q ≡ false
     → list_all (stands dead pairs) (children_of writer reader w r n q) ≡ true
     → ((fields theirs : List FieldNode) → list_all (stands dead pairs) (field_children fields theirs) ≡ true
-    → fields_fit writer (field_places fields) vs ≡ true → Succeeds (resolve_sources writer reader fields theirs 0 vs))
+    → fields_fit writer (field_ids fields) vs ≡ true → Succeeds (resolve_sources writer reader fields theirs 0 vs))
     → Succeeds (record_or_missing (fields_at n) (fields_at q) (missing_field (fields_at n) (fields_at q))
     (resolve_sources writer reader (fields_at n) (fields_at q) 0 vs))
 record_into writer reader dead pairs vs steps w r (Node.record_of a xs fields) (Node.union places) h plain m faultless s each = absurd (grind arith)
@@ -164,7 +164,7 @@ module _ (writer reader : List Node) (dead : List ℕ) (pairs : List Pair) (dead
         let way = way_of (Value.record_of vs) w r refl s h in
         way.gives _ (record_into writer reader dead pairs vs (length writer) w way.place (node_at writer w) (node_at reader way.place) h
         way.plain way.matches way.faultless way.children
-        (λ fields theirs t f. resolves_sources vs fields theirs 0 (field_places fields) refl t f))
+        (λ fields theirs t f. resolves_sources vs fields theirs 0 (field_ids fields) refl t f))
     resolves (Value.enum k) w r s h =
         let way = way_of (Value.enum k) w r refl s h in
         way.gives (enum_as (symbol_at (node_at writer w) k))
@@ -194,17 +194,17 @@ module _ (writer reader : List Node) (dead : List ℕ) (pairs : List Pair) (dead
         (resolves_entries es w r (suc place) s (and_right (fits writer (node_at writer w) v) (entries_fit writer (node_at writer w) es) h))
 
     -- the writer's fields from a place on
-    resolves_sources : (vs : Values) (fields theirs : List FieldNode) (place : ℕ) (places : List ℕ) → drop place (field_places fields) ≡ places
+    resolves_sources : (vs : Values) (fields theirs : List FieldNode) (place : ℕ) (places : List ℕ) → drop place (field_ids fields) ≡ places
         → list_all (stands dead pairs) (field_children fields theirs) ≡ true → fields_fit writer places vs ≡ true
         → Succeeds (resolve_sources writer reader fields theirs place vs)
     resolves_sources no_values fields theirs place places e s h = tt
     resolves_sources (value v vs) fields theirs place [] e s h = absurd (false≢true h)
     resolves_sources (value v vs) fields theirs place (p ∷ ps) e s h =
         succeeds_sourced (reader_field fields theirs place) place _ (resolve_sources writer reader fields theirs (suc place) vs)
-        (λ f here. resolves v (unwrap_or (slice_get (field_places fields) place) 0) f.node (source_child (stands dead pairs) fields theirs place f here s)
-        (subst (λ (o : Option ℕ). fits writer (node_at writer (unwrap_or o 0)) v ≡ true) (sym (slice_get_of_drop (field_places fields) ps place p e))
+        (λ f here. resolves v (unwrap_or (slice_get (field_ids fields) place) 0) f.node (source_child (stands dead pairs) fields theirs place f here s)
+        (subst (λ (o : Option ℕ). fits writer (node_at writer (unwrap_or o 0)) v ≡ true) (sym (slice_get_of_drop (field_ids fields) ps place p e))
         (and_left (fits writer (node_at writer p) v) (fields_fit writer ps vs) h)))
-        (resolves_sources vs fields theirs (suc place) ps (drop_more (field_places fields) ps place p e) s
+        (resolves_sources vs fields theirs (suc place) ps (drop_more (field_ids fields) ps place p e) s
         (and_right (fits writer (node_at writer p) v) (fields_fit writer ps vs) h))
 
 -- a closed set shows that each datum of the writer's is one of the reader's

@@ -4,7 +4,7 @@ use Rattle.std.proofs.lemmas.Bool.{true≢false, eqb-true}
 use Rattle.std.specs.Prelude.{is_none, slice_get, unwrap_or, nat_lt, ◌==◌}
 use Rattle.std.specs.List.{list_all}
 use Rattle.avro_schema.specs.Value.{Value}
-use Rattle.avro_schema.specs.Node.{Node, FieldNode, node_at, branches_of, field_places}
+use Rattle.avro_schema.specs.Node.{Node, FieldNode, node_at, branches_of, field_ids}
 use Rattle.avro_schema.specs.Fits.{fits}
 use Rattle.avro_schema.specs.WellFormed.{is_schema}
 use Rattle.avro_resolve.specs.Match.{is_match, first_match}
@@ -52,19 +52,19 @@ first_child test places source place g f rest found passes later = chosen (sourc
 
 -- the child of a reader's field whose source is at a place
 pub source_child : (test : Pair → Bool) (fields theirs : List FieldNode) (place : ℕ) (f : FieldNode) → reader_field fields theirs place ≡ Some f
-    → list_all test (field_children fields theirs) ≡ true → test (record { w = unwrap_or (slice_get (field_places fields) place) 0; r = f.node }) ≡ true
+    → list_all test (field_children fields theirs) ≡ true → test (record { w = unwrap_or (slice_get (field_ids fields) place) 0; r = f.node }) ≡ true
 source_child test fields [] place f here all = absurd (grind arith)
 source_child test fields (g ∷ gs) place f here all = step (source_of fields g) refl (source_child test fields gs place f)
   where
     step : (o : Option ℕ) → source_of fields g ≡ o
         → (reader_field fields gs place ≡ Some f → list_all test (field_children fields gs) ≡ true
-        → test (record { w = unwrap_or (slice_get (field_places fields) place) 0; r = f.node }) ≡ true)
-        → test (record { w = unwrap_or (slice_get (field_places fields) place) 0; r = f.node }) ≡ true
+        → test (record { w = unwrap_or (slice_get (field_ids fields) place) 0; r = f.node }) ≡ true)
+        → test (record { w = unwrap_or (slice_get (field_ids fields) place) 0; r = f.node }) ≡ true
     step None e later = later (rw e at here) (rw e at all)
     step (Some source) e later =
         let found = rw e at here in
         let tests = rw e at all in
-        first_child test (field_places fields) source place g f (reader_field fields gs place) found (and_left _ _ tests)
+        first_child test (field_ids fields) source place g f (reader_field fields gs place) found (and_left _ _ tests)
         (λ there. later there (and_right _ _ tests))
 
 module _ (writer reader : List Node) (dead : List ℕ) (pairs : List Pair) (dead_set : is_dead writer dead ≡ true)

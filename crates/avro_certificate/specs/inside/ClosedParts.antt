@@ -1,6 +1,6 @@
 -- What a pair of sets must hold for one pair of nodes, part by part.
 use Rattle.std.specs.Prelude.{ℕ, Bool, true, false, not, ◌&&◌, ◌||◌, List, [], ◌∷◌, Option, Some, None, slice_get, unwrap_or, is_some}
-use Rattle.avro_schema.specs.Node.{Node, FieldNode, field_places}
+use Rattle.avro_schema.specs.Node.{Node, FieldNode, field_ids}
 use Rattle.avro_resolve.specs.Source.{source_of}
 use Rattle.std.specs.List.{list_all}
 use Rattle.avro_certificate.specs.Closed.{Pair, children_of, has_local_fault, is_among, is_among_pairs, lacks_symbol}
@@ -12,7 +12,7 @@ stands dead pairs p = is_among dead p.w || is_among_pairs pairs p
 -- a reader's field with a source that is accounted for, or without one and with a default
 abbrev pub closed_from : List ℕ → List Pair → List FieldNode → FieldNode → Option ℕ → Bool
 closed_from dead pairs fields f None = is_some f.default
-closed_from dead pairs fields f (Some place) = stands dead pairs (record { w = unwrap_or (slice_get (field_places fields) place) 0; r = f.node })
+closed_from dead pairs fields f (Some place) = stands dead pairs (record { w = unwrap_or (slice_get (field_ids fields) place) 0; r = f.node })
 
 abbrev pub closed_source : List ℕ → List Pair → List FieldNode → FieldNode → Bool
 closed_source dead pairs fields f = closed_from dead pairs fields f (source_of fields f)

@@ -5,7 +5,7 @@ use Rattle.std.proofs.lemmas.List.Folds.{list_all-map}
 use Rattle.std.specs.Prelude.{max, slice_get, unwrap_or, is_some, is_none, bytes_eq}
 use Rattle.std.specs.List.{list_all, list_any, flat_map}
 use Rattle.avro_schema.specs.Value.{Value, Values, no_values, value, size, depth, values_size, values_depth, values_count}
-use Rattle.avro_schema.specs.Node.{Node, FieldNode, node_at, branches_of, field_places}
+use Rattle.avro_schema.specs.Node.{Node, FieldNode, node_at, branches_of, field_ids}
 use Rattle.avro_schema.specs.Fits.{fits, fields_fit, is_count, are_bytes}
 use Rattle.avro_schema.specs.Distinct.{are_distinct}
 use Rattle.avro_schema.specs.WellFormed.{is_schema, field_names, meets_its_rules, has_good_default}
@@ -106,8 +106,8 @@ dead_of_none writer limit table dead low covers p none =
     by_node (Node.union places) h =
         all_pass (λ p. is_none (table p)) (is_among dead) places covers (best_none table places (around_none limit (best_of table places) h))
     by_node (Node.record_of name aliases fields) h =
-        any_pass (λ p. is_none (table p)) (is_among dead) (field_places fields) covers
-        (all_none limit table (field_places fields) (around_none limit (all_of limit table (field_places fields)) h))
+        any_pass (λ p. is_none (table p)) (is_among dead) (field_ids fields) covers
+        (all_none limit table (field_ids fields) (around_none limit (all_of limit table (field_ids fields)) h))
     by_node _ h = absurd (grind arith)
 
 module _ (writer reader : List Node) (limit : ℕ) (table : LeastTable) (erring : ErringTable) (low : AreLow writer reader limit table erring)
@@ -125,14 +125,14 @@ module _ (writer reader : List Node) (limit : ℕ) (table : LeastTable) (erring 
   quiet_none w r h = or_from_right (is_none (table w)) (is_none (erring w r)) (is_none_of (erring w r) h)
 
   -- the fields of a record of which each has data
-  fields_quiet : (fields theirs : List FieldNode) (place : ℕ) (ps : List ℕ) (vs : Values) → drop place (field_places fields) ≡ ps → fields_fit writer ps vs ≡ true
+  fields_quiet : (fields theirs : List FieldNode) (place : ℕ) (ps : List ℕ) (vs : Values) → drop place (field_ids fields) ≡ ps → fields_fit writer ps vs ≡ true
       → err_of_fields limit table erring fields theirs place ps ≡ None → (k : ℕ) (f : FieldNode) → place ≤ k → k < place + length ps
-      → reader_field fields theirs k ≡ Some f → is_quiet (record { w = unwrap_or (slice_get (field_places fields) k) 0; r = f.node }) ≡ true
+      → reader_field fields theirs k ≡ Some f → is_quiet (record { w = unwrap_or (slice_get (field_ids fields) k) 0; r = f.node }) ≡ true
   fields_quiet fields theirs place [] vs e h none k f from to found = absurd (omega (arith, from, to))
   fields_quiet fields theirs place (p ∷ ps) no_values e h none k f from to found = absurd (false≢true h)
   fields_quiet fields theirs place (p ∷ ps) (value v vs) e h none k f from to found = elim (cases_eq place k) [
     | inl same ↦ first same
-    | inr apart ↦ fields_quiet fields theirs (suc place) ps vs (drop_more (field_places fields) ps place p e) later_fit
+    | inr apart ↦ fields_quiet fields theirs (suc place) ps vs (drop_more (field_ids fields) ps place p e) later_fit
         (right_none limit (table p) (err_of_fields limit table erring fields theirs (suc place) ps) both.1 live) k f (omega (arith, from, apart)) (omega (arith, to)) found
   ]
     where
@@ -153,19 +153,19 @@ module _ (writer reader : List Node) (limit : ℕ) (table : LeastTable) (erring 
       both = lesser_none (together limit (err_of_field erring p (reader_field fields theirs place)) (all_of limit table ps))
           (together limit (table p) (err_of_fields limit table erring fields theirs (suc place) ps)) none
 
-      first : place ≡ k → is_quiet (record { w = unwrap_or (slice_get (field_places fields) k) 0; r = f.node }) ≡ true
+      first : place ≡ k → is_quiet (record { w = unwrap_or (slice_get (field_ids fields) k) 0; r = f.node }) ≡ true
       first same =
           let there : reader_field fields theirs place ≡ Some f = subst (λ (j : ℕ). reader_field fields theirs j ≡ Some f) (sym same) found in
           let gone : erring p f.node ≡ None = left_none limit (erring p f.node) (all_of limit table ps)
           (subst (λ (o : Option FieldNode). together limit (err_of_field erring p o) (all_of limit table ps) ≡ None) there both.0) others in
-          subst (λ (j : ℕ). is_quiet (record { w = unwrap_or (slice_get (field_places fields) j) 0; r = f.node }) ≡ true) same
-          (subst (λ (o : Option ℕ). is_quiet (record { w = unwrap_or o 0; r = f.node }) ≡ true) (sym (slice_get_of_drop (field_places fields) ps place p e)) (quiet_none p f.node gone))
+          subst (λ (j : ℕ). is_quiet (record { w = unwrap_or (slice_get (field_ids fields) j) 0; r = f.node }) ≡ true) same
+          (subst (λ (o : Option ℕ). is_quiet (record { w = unwrap_or o 0; r = f.node }) ≡ true) (sym (slice_get_of_drop (field_ids fields) ps place p e)) (quiet_none p f.node gone))
 
   -- the sources of a record's fields
   children_quiet : (fields theirs gs : List FieldNode) → are_distinct bytes_eq (flat_map field_names theirs) ≡ true
       → ((g : FieldNode) → IsField g gs → IsField g theirs)
       → ((k : ℕ) (f : FieldNode) → k < length fields → reader_field fields theirs k ≡ Some f
-      → is_quiet (record { w = unwrap_or (slice_get (field_places fields) k) 0; r = f.node }) ≡ true)
+      → is_quiet (record { w = unwrap_or (slice_get (field_ids fields) k) 0; r = f.node }) ≡ true)
       → list_all is_quiet (field_children fields gs) ≡ true
   children_quiet fields theirs [] distinct all each = refl
   children_quiet fields theirs (g ∷ gs) distinct all each =
@@ -176,8 +176,8 @@ module _ (writer reader : List Node) (limit : ℕ) (table : LeastTable) (erring 
       of_source (Some k) e rest =
           let reads = reader_field-source fields theirs k g (all g here) distinct e in
           let named = first_place-named fields g (field_names g) k e in
-          rw e (and_from (is_quiet (record { w = unwrap_or (slice_get (field_places fields) k) 0; r = g.node })) (list_all is_quiet (field_children fields gs))
-          (subst (λ (r : ℕ). is_quiet (record { w = unwrap_or (slice_get (field_places fields) k) 0; r = r }) ≡ true) reads.2 (each k reads.0 named.0 reads.1)) rest)
+          rw e (and_from (is_quiet (record { w = unwrap_or (slice_get (field_ids fields) k) 0; r = g.node })) (list_all is_quiet (field_children fields gs))
+          (subst (λ (r : ℕ). is_quiet (record { w = unwrap_or (slice_get (field_ids fields) k) 0; r = r }) ≡ true) reads.2 (each k reads.0 named.0 reads.1)) rest)
 
   -- two plain nodes that match
   inside_quiet : (w r : ℕ) (n q : Node) (v : Value) → branches_of n ≡ None → branches_of q ≡ None → is_some (table w) ≡ true → fits writer n v ≡ true → meets_its_rules reader q ≡ true
@@ -190,18 +190,18 @@ module _ (writer reader : List Node) (limit : ℕ) (table : LeastTable) (erring 
       chosen false e m = (e, refl)
   inside_quiet w r (Node.record_of a xs fields) (Node.record_of b ys theirs) v plain their_plain live h rules none = chosen (is_some (missing_field fields theirs)) refl none
     where
-      quiet_fields : (v : Value) → fits writer (Node.record_of a xs fields) v ≡ true → err_of_fields limit table erring fields theirs 0 (field_places fields) ≡ None
+      quiet_fields : (v : Value) → fits writer (Node.record_of a xs fields) v ≡ true → err_of_fields limit table erring fields theirs 0 (field_ids fields) ≡ None
           → (k : ℕ) (f : FieldNode) → k < length fields → reader_field fields theirs k ≡ Some f
-          → is_quiet (record { w = unwrap_or (slice_get (field_places fields) k) 0; r = f.node }) ≡ true
+          → is_quiet (record { w = unwrap_or (slice_get (field_ids fields) k) 0; r = f.node }) ≡ true
       quiet_fields (Value.record_of vs) fit m k f within found =
-          fields_quiet fields theirs 0 (field_places fields) vs refl fit m k f (omega arith) (omega (arith, subst (λ (n : ℕ). k < n) (sym (length-map fields (λ g. g.node))) within)) found
+          fields_quiet fields theirs 0 (field_ids fields) vs refl fit m k f (omega arith) (omega (arith, subst (λ (n : ℕ). k < n) (sym (length-map fields (λ g. g.node))) within)) found
       quiet_fields (Value.array vs) fit m k f within found = absurd (false≢true (and_right (is_count (values_count vs)) false fit))
       quiet_fields (Value.map_of es) fit m k f within found = absurd (false≢true (and_right _ false fit))
       quiet_fields (Value.fixed c) fit m k f within found = absurd (false≢true (and_right (are_bytes c) false fit))
       quiet_fields _ fit m k f within found = absurd (false≢true fit)
 
       chosen : (t : Bool) → is_some (missing_field fields theirs) ≡ t
-          → cond t (table w) (around limit (err_of_fields limit table erring fields theirs 0 (field_places fields))) ≡ None
+          → cond t (table w) (around limit (err_of_fields limit table erring fields theirs 0 (field_ids fields))) ≡ None
           → (is_some (missing_field fields theirs) ≡ false) × (list_all is_quiet (field_children fields theirs) ≡ true)
       chosen true e m = absurd (false≢true (subst (λ (o : Option Least). is_some o ≡ true) m live))
       chosen false e m = (
@@ -209,7 +209,7 @@ module _ (writer reader : List Node) (limit : ℕ) (table : LeastTable) (erring 
         children_quiet fields theirs theirs
             (and_right (list_all is_simple_name (flat_map field_names theirs)) (are_distinct bytes_eq (flat_map field_names theirs))
             (and_left _ (list_all (has_good_default reader) theirs) rules)) (λ g is. is)
-            (quiet_fields v h (around_none limit (err_of_fields limit table erring fields theirs 0 (field_places fields)) m)),
+            (quiet_fields v h (around_none limit (err_of_fields limit table erring fields theirs 0 (field_ids fields)) m)),
       )
   inside_quiet w r (Node.array a) (Node.array b) v plain their_plain live h rules none = (refl, and_from (is_quiet (record { w = a; r = b })) true (quiet_none a b (around_none limit (erring a b) none)) refl)
   inside_quiet w r (Node.map_of a) (Node.map_of b) v plain their_plain live h rules none = (refl, and_from (is_quiet (record { w = a; r = b })) true (quiet_none a b (around_none limit (erring a b) none)) refl)

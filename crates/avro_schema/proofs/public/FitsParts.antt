@@ -6,7 +6,7 @@ use Rattle.std.proofs.lemmas.Bool.{and_parts, false≢true}
 use Rattle.std.proofs.lemmas.Bool.Decides.{nat_tests}
 use Rattle.avro_name.specs.Name.{Name}
 use Rattle.avro_schema.specs.Value.{Value, Values, Entries, values_count, entries_count, keys_of}
-use Rattle.avro_schema.specs.Node.{Node, FieldNode, node_at, items_node, values_node, branches_of, fields_of, field_places}
+use Rattle.avro_schema.specs.Node.{Node, FieldNode, node_at, items_node, values_node, branches_of, fields_of, field_ids}
 use Rattle.avro_schema.specs.Fits.{fits, each_fits, entries_fit, fields_fit, is_count, is_text, is_some_and}
 use Rattle.avro_schema.specs.Distinct.{are_distinct}
 
@@ -111,10 +111,10 @@ pub record RecordFits (nodes : List Node) (n : Node) (vs : Values) : Type 0 wher
   pub aliases : List Name
   pub fields : List FieldNode
   pub is_record : n ≡ Node.record_of name aliases fields
-  pub fitting : fields_fit nodes (field_places fields) vs ≡ true
+  pub fitting : fields_fit nodes (field_ids fields) vs ≡ true
 
 pub RecordFits-from_fits : (nodes : List Node) (n : Node) (vs : Values) → fits nodes n (Value.record_of vs) ≡ true → RecordFits nodes n vs
 RecordFits-from_fits nodes n vs h =
-    let found = is_some_and-some (λ (fields : List FieldNode). fields_fit nodes (field_places fields) vs) (fields_of n) h in
+    let found = is_some_and-some (λ (fields : List FieldNode). fields_fit nodes (field_ids fields) vs) (fields_of n) h in
     let is = record_of-from_fields_of n found.0 found.1 in
     record { name = is.0; aliases = is.1; fields = found.0; is_record = is.2; fitting = found.2 }

@@ -5,8 +5,8 @@ use Rattle.std.proofs.lemmas.Bool.{false≢true}
 use Rattle.avro_schema.specs.declared.schema.Field.{Field}
 use Rattle.std.proofs.lemmas.Result.{err_from_is_err_and}
 use Rattle.avro_schema.specs.Value.{Value}
-use Rattle.avro_schema.specs.Node.{Node, node_at, field_places}
-use Rattle.avro_schema.specs.Seen.{node_of, places_of, seen_fields, texts_of}
+use Rattle.avro_schema.specs.Node.{Node, node_at, field_ids}
+use Rattle.avro_schema.specs.Seen.{node_of, ids_of, seen_fields, texts_of}
 use Rattle.avro_schema.specs.SeenSchema.{schema_nodes}
 use Rattle.avro_binary.specs.Elements.{Finds, IsIndex}
 use Rattle.avro_binary.specs.Making.{Made}
@@ -26,7 +26,7 @@ not-below k n false h f = elim (nat_lt k n) as (λ x. nat_lt k n ≡ x → n ≤
 ] refl
 
 -- the id of a field
-field_id_at : (fields : List Field) (k : ℕ) (d : Field) → k < length fields → slice_get (field_places (seen_fields fields)) k ≡ Some (get_or fields k d).node.0
+field_id_at : (fields : List Field) (k : ℕ) (d : Field) → k < length fields → slice_get (field_ids (seen_fields fields)) k ≡ Some (get_or fields k d).node.0
 field_id_at [] k d h = absurd (omega arith)
 field_id_at (f ∷ fields) zero d h = refl
 field_id_at (f ∷ fields) (suc k) d h = field_id_at fields k d (omega arith)
@@ -371,12 +371,12 @@ maps::read_map-returns-in_err-out g t c =
 pub read_union-returns-in_err-enter : goal.read_union-returns-in_err-enter
 read_union-returns-in_err-enter g t c =
     let p = err_from_is_err_and c.from_residual.result c.from_residual.ensures.1 in
-    rw (p.1, p.2) (enter_refused (schema_nodes c.args.schema.now) (Node.union (places_of c.args.branches.now)) c.args.cursor.now c.enter.new.self c.in_err-enter.field-0.0 c.in_err-enter.ensures.refused)
+    rw (p.1, p.2) (enter_refused (schema_nodes c.args.schema.now) (Node.union (ids_of c.args.branches.now)) c.args.cursor.now c.enter.new.self c.in_err-enter.field-0.0 c.in_err-enter.ensures.refused)
 
 pub read_union-returns-in_err-out : goal.read_union-returns-in_err-out
 read_union-returns-in_err-out g t c =
     let p = err_from_is_err_and c.from_residual-in_err-out.result c.from_residual-in_err-out.ensures.1 in
-    rw (p.1, p.2) (node_refused (schema_nodes c.args.schema.now) (Node.union (places_of c.args.branches.now)) c.args.cursor.now c.enter.new.self c.read_branch.new.cursor c.read_branch.new.cursor
+    rw (p.1, p.2) (node_refused (schema_nodes c.args.schema.now) (Node.union (ids_of c.args.branches.now)) c.args.cursor.now c.enter.new.self c.read_branch.new.cursor c.read_branch.new.cursor
     c.in_err-out.field-0.0 c.in_ok-enter.ensures.entered c.in_err-out.ensures)
 
 pub read_record-returns-in_err-enter : goal.read_record-returns-in_err-enter
@@ -407,7 +407,7 @@ read_fields-returns-in_err-value g t c = λ name aliases.
     let p = err_from_is_err_and c.from_residual.result c.from_residual.ensures.1 in
     let nodes = schema_nodes c.args.schema.now in
     let fields = c.args.fields.now in
-    let ids = field_places (seen_fields fields) in
+    let ids = field_ids (seen_fields fields) in
     let i = c.loop-field.field-index in
     let so_far = c.loop-field.invariant in
     let field = c.field-item.result in
@@ -421,7 +421,7 @@ pub read_fields-loop-field-preserved : goal.read_fields-loop-field-preserved
 read_fields-loop-field-preserved g t c =
     let nodes = schema_nodes c.args.schema.now in
     let fields = c.args.fields.now in
-    let ids = field_places (seen_fields fields) in
+    let ids = field_ids (seen_fields fields) in
     let i = c.loop-field.field-index in
     let so_far = c.loop-field.invariant in
     let field = c.field-item.result in
@@ -470,7 +470,7 @@ read_branch-returns-in_err-value g t c =
     let branch = get_or branches k (record { 0 = 0 }) in
     let at = branch_at branches k (record { 0 = 0 }) found.1.0 in
     let p = err_from_is_err_and c.from_residual-in_err-value.result c.from_residual-in_err-value.ensures.1 in
-    rw (p.1, p.2) (branch_refused nodes (places_of branches) start mid k branch.0 at among after after c.in_err-value.field-0.0 c.in_err-value.ensures)
+    rw (p.1, p.2) (branch_refused nodes (ids_of branches) start mid k branch.0 at among after after c.in_err-value.field-0.0 c.in_err-value.ensures)
 
 pub read_branch-returns-in_Ok-out : goal.read_branch-returns-in_Ok-out
 read_branch-returns-in_Ok-out g t c =
@@ -488,11 +488,11 @@ read_branch-returns-in_Ok-out g t c =
     let made = c.read_at.new.maker in
     let step = λ (v : Value) (is : Made g.M.Make.keeps (λ m. g.M.Make.stands_for m nodes (node_at nodes branch.0) c.branch_at-part.result) maker made c.in_ok-value.value v).
     let part = c.branch_at-part.ensures ∙ g.met.M.Make.branch_at_kept maker made c.args.at k is.0 in
-    let whole : Made g.M.Make.keeps (λ m. g.M.Make.stands_for m nodes (Node.union (places_of branches)) c.args.at) maker c.branch-out.new.self c.in_Ok-out.out (Value.union k v) = (
+    let whole : Made g.M.Make.keeps (λ m. g.M.Make.stands_for m nodes (Node.union (ids_of branches)) c.args.at) maker c.branch-out.new.self c.in_Ok-out.out (Value.union k v) = (
       g.met.M.Make.keeps_on maker made c.branch-out.new.self is.0 c.in_Ok-out.ensures.kept,
-      c.in_Ok-out.ensures.stands nodes (places_of branches) branch.0 v at (subst (λ (a : g.row.M-At.Denot). g.M.Make.stands_for made nodes (node_at nodes branch.0) a c.in_ok-value.value v) part is.1),
+      c.in_Ok-out.ensures.stands nodes (ids_of branches) branch.0 v at (subst (λ (a : g.row.M-At.Denot). g.M.Make.stands_for made nodes (node_at nodes branch.0) a c.in_ok-value.value v) part is.1),
     ) in whole in
-    union_found nodes (places_of branches) start mid k branch.0 at among after c.in_ok-value.value c.in_Ok-out.out c.in_ok-value.ensures step
+    union_found nodes (ids_of branches) start mid k branch.0 at among after c.in_ok-value.value c.in_Ok-out.out c.in_ok-value.ensures step
 
 -- ---- Loops that start
 

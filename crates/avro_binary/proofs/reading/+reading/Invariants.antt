@@ -2,7 +2,7 @@ use Rattle.std.proofs.Common.{◌≡◌, ◌++◌, ◌+◌, ◌*◌, List, ℕ, 
 use Rattle.avro_schema.specs.Value.{Value}
 use Rattle.avro_schema.specs.Distinct.{are_distinct}
 use Rattle.avro_schema.specs.Fits.{LimitValues}
-use Rattle.avro_schema.specs.Node.{node_at, field_places}
+use Rattle.avro_schema.specs.Node.{node_at, field_ids}
 use Rattle.avro_schema.specs.Seen.{seen_fields}
 use Rattle.avro_schema.specs.SeenSchema.{schema_nodes}
 use Rattle.avro_binary.specs.CursorReads.{ValuesRun, EntriesRun, FindsRun}
@@ -80,5 +80,5 @@ invariant-maps::read_entries-loop-done g l =
 -- the values of the fields before one
 abbrev pub invariant-read_fields-loop-field : goal.invariant-read_fields-loop-field
 invariant-read_fields-loop-field g l =
-    (xs : List Value) × FieldsDone (schema_nodes l.schema) (take l.field-index (field_places (seen_fields l.fields))) l.initial.cursor l.cursor xs × (length xs ≡ l.field-index)
+    (xs : List Value) × FieldsDone (schema_nodes l.schema) (take l.field-index (field_ids (seen_fields l.fields))) l.initial.cursor l.cursor xs × (length xs ≡ l.field-index)
     × g.M.Make.keeps l.fn.maker l.maker × g.M.Make.fields_stand_for l.maker (schema_nodes l.schema) (seen_fields l.fields) l.fn.at l.values xs

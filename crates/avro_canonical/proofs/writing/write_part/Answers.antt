@@ -1,5 +1,5 @@
 use Rattle.std.proofs.Common.{◌++◌, ◌∷◌, string_bytes, codes}
-use Rattle.avro_schema.specs.Seen.{places_of, seen_fields}
+use Rattle.avro_schema.specs.Seen.{ids_of, seen_fields}
 use Rattle.avro_schema.specs.SeenSchema.{schema_nodes}
 use Rattle.avro_canonical.specs.Pending.{pendings_of, branches, fields, end, before_branch, next_branch, before_field, following_fields}
 use Rattle.avro_canonical.proofs.StepsTaken.{ok-step, ok-text, step-branches, step-fields, step-end}
@@ -10,7 +10,7 @@ returns-in-Branches c =
     let nodes = schema_nodes c.args.schema.now in
     let ps = pendings_of c.args.parts.now.items in
     let old = string_bytes c.args.out.now in
-    let qs = places_of c.in-Branches.branches.now in
+    let qs = ids_of c.in-Branches.branches.now in
     rw (c.in-Branches.is) (ok-step c.next_branch.result nodes c.args.marks.now c.args.marks.now (branches qs ∷ ps) (pendings_of c.next_branch.new.parts.items) (next_branch qs ++ ps) old
     (string_bytes c.next_branch.new.out) (old ++ before_branch qs) c.next_branch.ensures.text c.next_branch.ensures.left (step-branches nodes c.args.marks.now qs ps old))
 

@@ -1,11 +1,11 @@
 use Rattle.std.proofs.Common.{◌≡◌, drop, map}
 use Rattle.std.specs.List.{list_all}
-use Rattle.avro_schema.specs.Seen.{places_of}
+use Rattle.avro_schema.specs.Seen.{ids_of}
 use Rattle.avro_certificate.specs.SeenCertificate.{dead_of, pairs_in}
 use Rattle.avro_certificate.specs.inside.ClosedParts.{stands}
 use Rattle.avro_certificate.proofs.closing.has_branches.Given as goal
 
 abbrev pub invariant-loop-place : goal.invariant-loop-place
 invariant-loop-place l =
-    list_all (stands (dead_of l.certificate) (pairs_in l.certificate)) (map (λ place. record { w = place; r = l.r.0 }) (places_of (drop l.place-index l.places)))
-    ≡ list_all (stands (dead_of l.certificate) (pairs_in l.certificate)) (map (λ place. record { w = place; r = l.r.0 }) (places_of l.places))
+    list_all (stands (dead_of l.certificate) (pairs_in l.certificate)) (map (λ place. record { w = place; r = l.r.0 }) (ids_of (drop l.place-index l.places)))
+    ≡ list_all (stands (dead_of l.certificate) (pairs_in l.certificate)) (map (λ place. record { w = place; r = l.r.0 }) (ids_of l.places))

@@ -1,6 +1,6 @@
 use Rattle.std.proofs.Common.{◌≡◌, drop}
 use Rattle.std.specs.List.{list_any}
-use Rattle.avro_schema.specs.Node.{field_places}
+use Rattle.avro_schema.specs.Node.{field_ids}
 use Rattle.avro_schema.specs.Seen.{seen_fields}
 use Rattle.avro_certificate.specs.Closed.{is_among}
 use Rattle.avro_certificate.specs.SeenCertificate.{dead_of}
@@ -8,4 +8,4 @@ use Rattle.avro_certificate.proofs.closing.has_dead_field.Given as goal
 
 abbrev pub invariant-loop-field : goal.invariant-loop-field
 invariant-loop-field l =
-    list_any (is_among (dead_of l.certificate)) (field_places (seen_fields (drop l.field-index l.fields))) ≡ list_any (is_among (dead_of l.certificate)) (field_places (seen_fields l.fields))
+    list_any (is_among (dead_of l.certificate)) (field_ids (seen_fields (drop l.field-index l.fields))) ≡ list_any (is_among (dead_of l.certificate)) (field_ids (seen_fields l.fields))

@@ -1,7 +1,7 @@
 use Rattle.std.proofs.Common.{◌≡◌, ◌∙◌, ap, sym, subst, cond, is_some, is_none}
 use Rattle.std.specs.Prelude.{IfOk}
 use Rattle.std.specs.List.{list_any}
-use Rattle.avro_schema.specs.Node.{Node, field_places}
+use Rattle.avro_schema.specs.Node.{Node, field_ids}
 use Rattle.avro_schema.specs.Seen.{node_of, seen_fields, texts_of}
 use Rattle.avro_schema.specs.declared.schema.Node.{Node as KeptNode}
 use Rattle.avro_resolve.specs.Planned.{AreInside}
@@ -34,9 +34,9 @@ returns-in-Record-r c =
     let rs = seen_fields c.in-Record-r.field-0.fields.items in
     let inside : AreInside (node_of w) (node_of r) pair =
     subst (λ (n : KeptNode). AreInside (node_of w) (node_of n) pair) c.in-Record-r.is (subst (λ (n : KeptNode). AreInside (node_of n) (node_of c.args.r.now) pair) c.in-Record.is c.requires) in
-    let same = ap (λ fs. cond (is_some pair.missing) Asked.whole (Asked.fields (rows_by pair.fields.items 0 (field_places (seen_fields fs))))) c.deref.ensures.value
+    let same = ap (λ fs. cond (is_some pair.missing) Asked.whole (Asked.fields (rows_by pair.fields.items 0 (field_ids (seen_fields fs))))) c.deref.ensures.value
     ∙ ap (λ rows. cond (is_some pair.missing) Asked.whole (Asked.fields rows)) (rows_same ws rs pair.fields.items inside.fields inside.all_fields)
-    ∙ ap (λ o. cond (is_some o) Asked.whole (Asked.fields (rows_from ws rs 0 (field_places ws)))) inside.complete
+    ∙ ap (λ o. cond (is_some o) Asked.whole (Asked.fields (rows_from ws rs 0 (field_ids ws)))) inside.complete
     ∙ ap (λ (n : KeptNode). asked_inside (node_of w) (node_of n)) (sym c.in-Record-r.is)
     ∙ ap (λ (n : KeptNode). asked_inside (node_of n) (node_of c.args.r.now)) (sym c.in-Record.is) in
     subst (λ a. IfOk result (λ b. ask_of b ≡ a)) same c.ask_fields.ensures

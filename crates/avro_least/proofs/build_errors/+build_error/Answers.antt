@@ -3,7 +3,7 @@ use Rattle.std.proofs.lemmas.List.{take_more, map-append, length-map}
 use Rattle.std.specs.Prelude.{map, ◌==◌}
 use Rattle.indexmap.specs.IndexSet.{keys}
 use Rattle.avro_schema.specs.Value.{Value}
-use Rattle.avro_schema.specs.Seen.{places_of, value_of}
+use Rattle.avro_schema.specs.Seen.{ids_of, value_of}
 use Rattle.avro_schema.specs.SeenSchema.{schema_nodes}
 use Rattle.avro_schema.specs.Node.{Node as SeenNode, node_at}
 use Rattle.avro_schema.specs.declared.datum.Datum.{Datum}
@@ -46,7 +46,7 @@ build_asked-returns-in_ok-value-in-Part t c =
 pub build_asked-returns-in_ok-value-in-Branches : goal.build_asked-returns-in_ok-value-in-Branches
 build_asked-returns-in_ok-value-in-Branches t c =
     asked_is (schema_nodes c.args.writer.now) (schema_nodes c.args.reader.now) c.args.limit (table_of c.args.table.now) (erring_of c.args.count (table_of c.args.table.now) (keys c.args.reached.now.known) (seen_all c.args.entries.now)) c.args.left c.args.w.0 c.args.r.0 (Ask.Branches _) c.args.ask.now (value_of c.in_ok-value-in-Branches.value) c.in-Branches.is
-    (subst (λ (ids : List NodeId). BuildsAsked (schema_nodes c.args.writer.now) (schema_nodes c.args.reader.now) c.args.limit (table_of c.args.table.now) (erring_of c.args.count (table_of c.args.table.now) (keys c.args.reached.now.known) (seen_all c.args.entries.now)) c.args.left c.args.w.0 c.args.r.0 (Asked.branches (places_of ids)) (value_of c.in_ok-value-in-Branches.value)) c.deref.ensures.value
+    (subst (λ (ids : List NodeId). BuildsAsked (schema_nodes c.args.writer.now) (schema_nodes c.args.reader.now) c.args.limit (table_of c.args.table.now) (erring_of c.args.count (table_of c.args.table.now) (keys c.args.reached.now.known) (seen_all c.args.entries.now)) c.args.left c.args.w.0 c.args.r.0 (Asked.branches (ids_of ids)) (value_of c.in_ok-value-in-Branches.value)) c.deref.ensures.value
     (c.in_ok-value-in-Branches.ensures c.args.w.0 c.args.left (omega arith)))
 
 pub build_asked-returns-in_ok-value-in-Fields : goal.build_asked-returns-in_ok-value-in-Fields
@@ -66,7 +66,7 @@ build_error-returns t c = c.in_ok-value-in_default.ensures (other_ask c.in_ok-as
 
 pub build_branches-returns : goal.build_branches-returns
 build_branches-returns t c w more few =
-    branches_builds (schema_nodes c.args.writer.now) (schema_nodes c.args.reader.now) c.args.limit (table_of c.args.table.now) (erring_of c.args.count (table_of c.args.table.now) (keys c.args.reached.now.known) (seen_all c.args.entries.now)) more c.args.left w c.args.r.0 (places_of c.args.places.now) c.best_error_place-k.result (value_of c.in_ok-value.value) (value_of c.in_ok-whole.whole)
+    branches_builds (schema_nodes c.args.writer.now) (schema_nodes c.args.reader.now) c.args.limit (table_of c.args.table.now) (erring_of c.args.count (table_of c.args.table.now) (keys c.args.reached.now.known) (seen_all c.args.entries.now)) more c.args.left w c.args.r.0 (ids_of c.args.places.now) c.best_error_place-k.result (value_of c.in_ok-value.value) (value_of c.in_ok-whole.whole)
     (omega (arith, few)) c.in_ok-whole.ensures
     (λ h. let b = c.best_error_place-k.ensures h in
     (b.0, b.1, b.2, subst (λ (q : ℕ). BuildsError (schema_nodes c.args.writer.now) (schema_nodes c.args.reader.now) c.args.limit (table_of c.args.table.now) (erring_of c.args.count (table_of c.args.table.now) (keys c.args.reached.now.known) (seen_all c.args.entries.now)) c.args.left q c.args.r.0 (value_of c.in_ok-value.value)) (c.place_at.ensures b.0 b.1) c.in_ok-value.ensures))

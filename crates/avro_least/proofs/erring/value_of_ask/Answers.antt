@@ -1,6 +1,6 @@
 use Rattle.std.proofs.Common.{◌≡◌, List, sym, ◌∙◌, ap, subst}
 use Rattle.indexmap.specs.IndexSet.{keys}
-use Rattle.avro_schema.specs.Seen.{places_of}
+use Rattle.avro_schema.specs.Seen.{ids_of}
 use Rattle.avro_schema.specs.declared.schema.NodeId.{NodeId}
 use Rattle.avro_least.specs.Tables.{around, best_of, erring_of}
 use Rattle.avro_least.specs.SeenLeast.{seen, seen_all, table_of}
@@ -14,4 +14,4 @@ returns-in-Branches c =
     subst (λ (a : Ask). seen c.around-in-Branches.result ≡ asked_value c.args.limit (table_of c.args.table.now) (erring_of c.args.count (table_of c.args.table.now) (keys c.args.known.now) (seen_all c.args.entries.now)) c.args.w.0 c.args.r.0 (ask_of a))
     (sym c.in-Branches.is)
     (c.around-in-Branches.ensures ∙ ap (around c.args.limit) (c.best_branch.ensures
-    ∙ ap (λ (xs : List NodeId). best_of (λ p. erring_of c.args.count (table_of c.args.table.now) (keys c.args.known.now) (seen_all c.args.entries.now) p c.args.r.0) (places_of xs)) c.deref.ensures.value))
+    ∙ ap (λ (xs : List NodeId). best_of (λ p. erring_of c.args.count (table_of c.args.table.now) (keys c.args.known.now) (seen_all c.args.entries.now) p c.args.r.0) (ids_of xs)) c.deref.ensures.value))

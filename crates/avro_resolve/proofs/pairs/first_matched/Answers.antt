@@ -2,7 +2,7 @@ use Rattle.std.proofs.Common.{slice_index_or, refl, ap, sym, ◌∙◌}
 use Rattle.std.proofs.lemmas.Option.{slice_get-get_or}
 use Rattle.avro_schema.specs.Node.{node_at}
 use Rattle.avro_schema.specs.SeenSchema.{schema_nodes}
-use Rattle.avro_schema.specs.Seen.{places_of}
+use Rattle.avro_schema.specs.Seen.{ids_of}
 use Rattle.avro_resolve.specs.Match.{first_match_from}
 use Rattle.avro_resolve.proofs.Pairing.{places_from, seen_get, found_here, place_below}
 use Rattle.avro_resolve.proofs.pairs.first_matched.Goals as goal
@@ -11,7 +11,7 @@ pub loop-place-init : goal.loop-place-init
 loop-place-init c =
     let ws = schema_nodes c.args.writer.now in
     let rs = schema_nodes c.args.reader.now in
-    c.requires (places_of c.args.branches.now) refl ∙ ap (first_match_from c.args.start ws rs (node_at ws c.args.w.0)) (places_from c.args.start c.args.branches.now)
+    c.requires (ids_of c.args.branches.now) refl ∙ ap (first_match_from c.args.start ws rs (node_at ws c.args.w.0)) (places_from c.args.start c.args.branches.now)
 
 pub returns-then-matches : goal.returns-then-matches
 returns-then-matches c =

@@ -2,7 +2,7 @@ use Rattle.std.proofs.Common.{◌≡◌, ◌≤◌, List, ◌∙◌, ap, sym, su
 use Rattle.std.specs.Prelude.{position}
 use Rattle.std.specs.List.{position_or_len}
 use Rattle.std.specs.BTreeMap.{get}
-use Rattle.avro_schema.specs.Seen.{places_of}
+use Rattle.avro_schema.specs.Seen.{ids_of}
 use Rattle.avro_resolve.specs.NameTables.{NamedType, key_cmp, passes, is_named}
 use Rattle.avro_resolve.proofs.NamedStarts.{first_or_end}
 use Rattle.avro_resolve.proofs.Pairing.{places_count}
@@ -10,7 +10,7 @@ use Rattle.avro_resolve.proofs.union_tables.first_named.Goals as goal
 
 pub returns : goal.returns
 returns c = λ reader finds.
-    let places = places_of c.args.branches.now in
+    let places = ids_of c.args.branches.now in
     let named = c.args.named.now in
     let inside = c.named.inside in
     let is : c.copied.result ≡ get key_cmp c.args.first.now (inside.kind, c.simple.result) = search rules in

@@ -1,6 +1,6 @@
 use Rattle.std.proofs.Common.{◌≡◌, drop}
 use Rattle.avro_schema.specs.Fits.{each_fits, entries_fit, fields_fit}
-use Rattle.avro_schema.specs.Node.{node_at, field_places}
+use Rattle.avro_schema.specs.Node.{node_at, field_ids}
 use Rattle.avro_schema.specs.Seen.{values_of, entries_of, nodes_of, seen_fields}
 use Rattle.avro_schema.proofs.fitting.+fitting.Given as goal
 
@@ -16,5 +16,5 @@ invariant-entries_fit-loop-entry l =
 
 abbrev pub invariant-fields_fit-loop-i : goal.invariant-fields_fit-loop-i
 invariant-fields_fit-loop-i l =
-    fields_fit (nodes_of l.nodes) (field_places (seen_fields l.fields)) (values_of l.values)
-    ≡ fields_fit (nodes_of l.nodes) (field_places (seen_fields (drop l.i l.fields))) (values_of (drop l.i l.values))
+    fields_fit (nodes_of l.nodes) (field_ids (seen_fields l.fields)) (values_of l.values)
+    ≡ fields_fit (nodes_of l.nodes) (field_ids (seen_fields (drop l.i l.fields))) (values_of (drop l.i l.values))

@@ -1,6 +1,6 @@
 use Rattle.std.proofs.Common.{◌≡◌, Some, option_map, sym, ap, ◌∙◌, arith}
 use Rattle.avro_schema.specs.Node.{node_at, branches_of}
-use Rattle.avro_schema.specs.Seen.{value_of, places_of}
+use Rattle.avro_schema.specs.Seen.{value_of, ids_of}
 use Rattle.avro_schema.specs.Value.{Value}
 use Rattle.avro_schema.proofs.public.DatumViews.{value_of-Map}
 use Rattle.serde_json.specs.View.{view, items_view, members_view}
@@ -16,7 +16,7 @@ pub default_of-returns : goal.default_of-returns
 default_of-returns t c =
     let nodes = bares_of c.args.raws.now in
     let n = node_at nodes c.args.place.0 in
-    let places = places_of c.in-Some.places.now in
+    let places = ids_of c.in-Some.places.now in
     let here : branches_of n ≡ Some places = ap branches_of (sym c.raw_at-node.ensures) ∙ sym c.in-Some.ensures in
     rw (default-union nodes (view c.args.tree.now) n places here) c.branch_default.ensures
 

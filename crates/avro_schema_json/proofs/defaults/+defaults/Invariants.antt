@@ -1,6 +1,6 @@
 use Rattle.std.proofs.Common.{◌≡◌, ℕ, List, Option, drop, option_map}
 use Rattle.avro_schema.specs.Node.{Node, node_at}
-use Rattle.avro_schema.specs.Seen.{places_of}
+use Rattle.avro_schema.specs.Seen.{ids_of}
 use Rattle.avro_schema.specs.Value.{Value}
 use Rattle.avro_schema_json.specs.DeclaredDefaults.{first_fit, each_default, entries_default, fields_default, default_under}
 use Rattle.avro_schema_json.specs.OwnDefaults.{bares_of, fields_seen, own_default}
@@ -31,4 +31,4 @@ invariant-field_defaults-loop-i l =
 abbrev pub invariant-branch_default-loop-i : goal.invariant-branch_default-loop-i
 invariant-branch_default-loop-i l =
     let nodes = bares_of l.raws in
-    first_fit nodes (own_default nodes (view l.tree)) l.i (places_of (drop l.i l.places)) ≡ first_fit nodes (own_default nodes (view l.tree)) 0 (places_of l.places)
+    first_fit nodes (own_default nodes (view l.tree)) l.i (ids_of (drop l.i l.places)) ≡ first_fit nodes (own_default nodes (view l.tree)) 0 (ids_of l.places)

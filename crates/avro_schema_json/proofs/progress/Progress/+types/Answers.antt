@@ -2,7 +2,7 @@ use Rattle.std.proofs.Common.{ℕ, ◌∷◌, [], List, Option, IfOk, IfErr, cod
 use Rattle.std.proofs.lemmas.List.{map-append}
 use Rattle.std.proofs.lemmas.Result.{err_from_is_err_and}
 use Rattle.avro_schema.specs.Node.{Node}
-use Rattle.avro_schema.specs.Seen.{places_of}
+use Rattle.avro_schema.specs.Seen.{ids_of}
 use Rattle.serde_json.specs.View.{view, items_view, members_view}
 use Rattle.serde_json.proofs.Views.{view-Array, view-Object}
 use Rattle.avro_schema_json.specs.declared.error.SchemaError.{SchemaError}
@@ -211,7 +211,7 @@ read_union-returns-in_err-read_type-clause-refused t c =
     let added = c.in_ok-id.ensures.added in
     let refused = item-refused (λ v. meaning_of (view v)) branch_meanings next_branch refl
     (made_at (in_turn (branch_meanings items)) c.args.enclosing.now.namespace inside) c.args.enclosing.now.namespace inside
-    (state_of c.loop-branch.self) (places_of c.loop-branch.places.items) items c.loop-branch.branch-index c.branch-item.result c.in_err-read_type.field-0.0
+    (state_of c.loop-branch.self) (ids_of c.loop-branch.places.items) items c.loop-branch.branch-index c.branch-item.result c.in_err-read_type.field-0.0
     c.loop-branch-test.true c.branch-item.is c.loop-branch.invariant.1 c.in_err-read_type.ensures.refused in
     rw (p.1, p.2) (above-part (in_turn (branch_meanings items)) c.args.enclosing.now.namespace (state_of c.args.self.now) inside (RawNode.plain Node.null)
     (λ places. RawNode.plain (Node.union places)) [] (known_of c.args.self.now.names) c.in_err-read_type.field-0.0 added.nodes_are added.known_are refused)
@@ -223,8 +223,8 @@ read_union-returns-clause-read t c =
     let added = c.in_ok-id.ensures.added in
     let read = items-read (λ v. meaning_of (view v)) branch_meanings next_branch refl
     (made_at (in_turn (branch_meanings items)) c.args.enclosing.now.namespace inside) c.args.enclosing.now.namespace inside
-    (state_of c.loop-branch.self) (places_of c.loop-branch.places.items) items c.loop-branch.branch-index c.loop-branch-test.false c.loop-branch.invariant.1 in
+    (state_of c.loop-branch.self) (ids_of c.loop-branch.places.items) items c.loop-branch.branch-index c.loop-branch-test.false c.loop-branch.invariant.1 in
     above-read (in_turn (branch_meanings items)) c.args.enclosing.now.namespace (state_of c.args.self.now) inside (state_of c.loop-branch.self) (state_of c.put.new.self)
-    (RawNode.plain Node.null) (RawNode.plain (Node.union (places_of c.loop-branch.places.items))) (λ places. RawNode.plain (Node.union places)) []
-    (known_of c.args.self.now.names) (places_of c.loop-branch.places.items) c.in_ok-id.id.0
+    (RawNode.plain Node.null) (RawNode.plain (Node.union (ids_of c.loop-branch.places.items))) (λ places. RawNode.plain (Node.union places)) []
+    (known_of c.args.self.now.names) (ids_of c.loop-branch.places.items) c.in_ok-id.id.0
     added.place_is added.within refl added.nodes_are added.known_are read refl c.put.ensures.nodes c.put.ensures.names
