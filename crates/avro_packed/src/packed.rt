@@ -71,14 +71,14 @@ impl Build for Packed {
         joined(alloc, &[], content)
     }
 
-    fn symbol(&mut self, _alloc: Global, place: u32) -> Result<Pieces, AllocError> {
-        Ok(Pieces::Number(i64::from(place)))
+    fn symbol(&mut self, _alloc: Global, index: u32) -> Result<Pieces, AllocError> {
+        Ok(Pieces::Number(i64::from(index)))
     }
 
-    fn branch(&mut self, alloc: Global, place: u32, value: Pieces) -> Result<Pieces, AllocError> {
-        match behind_branch(place, &value) {
+    fn branch(&mut self, alloc: Global, index: u32, value: Pieces) -> Result<Pieces, AllocError> {
+        match behind_branch(index, &value) {
             Some(short) => Ok(Pieces::Short(short)),
-            None => Ok(Pieces::Branch(place, Box::new(alloc, value)?)),
+            None => Ok(Pieces::Branch(index, Box::new(alloc, value)?)),
         }
     }
 
@@ -207,11 +207,11 @@ fn joined(alloc: Global, first: &[u8], second: &[u8]) -> Result<Pieces, AllocErr
     Ok(Pieces::Long(bytes))
 }
 
-/// The position of a branch and the bytes of its value behind it, where these are few.
-fn behind_branch(place: u32, value: &Pieces) -> Option<Short>
-    ensures { IfSome result (λ short. short ≡ number_bytes (pos place) ++ bytes_of value.now) }
+/// The index of a branch and the bytes of its value behind it, where these are few.
+fn behind_branch(index: u32, value: &Pieces) -> Option<Short>
+    ensures { IfSome result (λ short. short ≡ number_bytes (pos index) ++ bytes_of value.now) }
 {
-    let (number, len) = spelling(i64::from(place));
+    let (number, len) = spelling(i64::from(index));
     let first = &number[..len];
     match value {
         Pieces::Nothing => Short::of(first, &[]),

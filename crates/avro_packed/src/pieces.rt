@@ -13,7 +13,7 @@ pub enum Pieces {
     Short(Short),
     /// Bytes.
     Long(Vec<u8>),
-    /// The position of a union's branch, and its value.
+    /// The index of a union's branch, and its value.
     Branch(u32, Box<Pieces>),
     /// Pieces one behind another.
     Whole(Vec<Pieces>),
