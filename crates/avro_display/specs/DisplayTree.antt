@@ -23,9 +23,9 @@ branch_key Node.int = codes "int"
 branch_key Node.long = codes "long"
 branch_key Node.bytes = codes "bytes"
 branch_key Node.string = codes "string"
-branch_key (Node.array place) = codes "array"
-branch_key (Node.map_of place) = codes "map"
-branch_key (Node.union places) = []
+branch_key (Node.array id) = codes "array"
+branch_key (Node.map_of id) = codes "map"
+branch_key (Node.union ids) = []
 branch_key (Node.record_of name aliases fields) = name_text name
 branch_key (Node.enum name aliases symbols default) = name_text name
 branch_key (Node.fixed name aliases count) = name_text name
@@ -35,17 +35,17 @@ abbrev pub branch_tree : Node → Data → Data
 branch_tree Node.null d = Data.null
 branch_tree n d = Data.object (member (branch_key n) d no_members)
 
--- the node at a place that a node has, if it has one
+-- the node of an id that a node has, if it has one
 abbrev pub part_at : List Node → Option ℕ → Node
-part_at nodes place = unwrap_or (option_map (node_at nodes) place) Node.null
+part_at nodes id = unwrap_or (option_map (node_at nodes) id) Node.null
 
 abbrev pub branch_at : List Node → Node → ℕ → Node
-branch_at nodes n k = part_at nodes (option_and_then (λ places. slice_get places k) (branches_of n))
+branch_at nodes n k = part_at nodes (option_and_then (λ ids. slice_get ids k) (branches_of n))
 
 abbrev pub record_fields : Node → List FieldNode
 record_fields n = unwrap_or (fields_of n) []
 
--- the text of the symbol at a place
+-- the text of the symbol at an index
 abbrev pub symbol_at : Node → ℕ → List ℕ
 symbol_at n k = unwrap_or (option_and_then (λ symbols. slice_get symbols k) (symbols_of n)) []
 

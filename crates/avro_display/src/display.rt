@@ -8,7 +8,7 @@ ghost use Rattle.serde_json.specs.Data.{array, object, no_members};
 ghost use Rattle.serde_json.specs.View.{view};
 
 use crate::labels::{bytes_text, copy_of_text, labelled, put_member, symbol_text};
-use crate::parts::{branch_id, items_place, node_fields, part, values_place};
+use crate::parts::{node_fields, part};
 use avro_schema::{Datum, Field, Memory, Node, NodeId, Schema};
 use serde_json::{Map, Value};
 use std::alloc::Global;
@@ -44,7 +44,7 @@ fn displayed(alloc: Global, schema: &Schema, node: &Node, datum: &Datum) -> Resu
             displayed_items(
                 alloc,
                 schema,
-                part(schema, &Node::Null, items_place(node)),
+                part(schema, &Node::Null, node.items()),
                 items,
             )
         }
@@ -52,7 +52,7 @@ fn displayed(alloc: Global, schema: &Schema, node: &Node, datum: &Datum) -> Resu
             displayed_entries(
                 alloc,
                 schema,
-                part(schema, &Node::Null, values_place(node)),
+                part(schema, &Node::Null, node.values()),
                 entries,
             )
         }
@@ -60,7 +60,7 @@ fn displayed(alloc: Global, schema: &Schema, node: &Node, datum: &Datum) -> Resu
             displayed_branch(
                 alloc,
                 schema,
-                part(schema, &Node::Null, branch_id(node, *branch)),
+                part(schema, &Node::Null, node.branch(*branch)),
                 value,
             )
         }

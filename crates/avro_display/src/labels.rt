@@ -28,12 +28,12 @@ pub(crate) fn bytes_text(alloc: Global, bytes: &[u8]) -> Result<String, Memory>
     Ok(text)
 }
 
-/// The symbol of an enum at a place, or the empty text where there is none.
-pub(crate) fn symbol_text(alloc: Global, node: &Node, place: u32) -> Result<String, Memory>
-    ensures { IfOk result (λ text. string_bytes text ≡ symbol_at (node_of node.now) place) }
+/// The symbol of an enum at an index, or the empty text where there is none.
+pub(crate) fn symbol_text(alloc: Global, node: &Node, index: u32) -> Result<String, Memory>
+    ensures { IfOk result (λ text. string_bytes text ≡ symbol_at (node_of node.now) index) }
 {
     match node {
-        Node::Enum(enumeration) => match enumeration.symbols.get(place as usize) {
+        Node::Enum(enumeration) => match enumeration.symbols.get(index as usize) {
             Some(symbol) => copy_of_text(alloc, symbol.as_str()),
             None => Ok(String::new(alloc)),
         },

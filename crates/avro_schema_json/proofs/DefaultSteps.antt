@@ -51,7 +51,7 @@ drop_at [] i f h = cc
 drop_at (g ∷ fields) zero f h = let same : g ≡ f = cc in rw same refl
 drop_at (g ∷ fields) (suc i) f h = drop_at fields i f h
 
--- the fields from a place on
+-- the fields from an index on
 abbrev pub fields_left : List Node → List Entry → List FieldNode → Option Values
 fields_left nodes es fields = fields_default nodes (λ key. default_under nodes key (members_view es)) fields
 
@@ -66,48 +66,48 @@ first_default-found nodes es f x h = rw (default_under-found nodes f.name (membe
 first_default-none : (nodes : List Node) (es : List Entry) (f : FieldNode) → get_member f.name (members_view es) ≡ None → first_default nodes es f ≡ None
 first_default-none nodes es f h = rw (default_under-found nodes f.name (members_view es), h) refl
 
--- a field at a place
-pub record IsFieldAt (fields : List FieldNode) (i : ℕ) (name : List ℕ) (place : ℕ) (f : FieldNode) : Type 0 where
+-- a field at an index
+pub record IsFieldAt (fields : List FieldNode) (i : ℕ) (name : List ℕ) (id : ℕ) (f : FieldNode) : Type 0 where
   pub at : slice_get fields i ≡ Some f
   pub named : f.name ≡ name
-  pub placed : f.node ≡ place
+  pub node_is : f.node ≡ id
 
-pub field_at-found : (fields : List FieldNode) (i : ℕ) (name : List ℕ) (place : ℕ) (found : Option FieldNode) → slice_get fields i ≡ found
-    → Some (name, place) ≡ option_map name_and_node found → (f : FieldNode) × IsFieldAt fields i name place f
-field_at-found fields i name place None is h = cc
-field_at-found fields i name place (Some f) is h =
-    let pair : (name, place) ≡ (f.name, f.node) = cc in
-    (f, record { at = is; named = sym (ap (λ (q : List ℕ × ℕ). q.0) pair); placed = sym (ap (λ (q : List ℕ × ℕ). q.1) pair) })
+pub field_at-found : (fields : List FieldNode) (i : ℕ) (name : List ℕ) (id : ℕ) (found : Option FieldNode) → slice_get fields i ≡ found
+    → Some (name, id) ≡ option_map name_and_node found → (f : FieldNode) × IsFieldAt fields i name id f
+field_at-found fields i name id None is h = cc
+field_at-found fields i name id (Some f) is h =
+    let pair : (name, id) ≡ (f.name, f.node) = cc in
+    (f, record { at = is; named = sym (ap (λ (q : List ℕ × ℕ). q.0) pair); node_is = sym (ap (λ (q : List ℕ × ℕ). q.1) pair) })
 
-pub field_next : (nodes : List Node) (es : List Entry) (fields : List FieldNode) (i : ℕ) (name : List ℕ) (place : ℕ) (x : Data) (all : Option Values)
+pub field_next : (nodes : List Node) (es : List Entry) (fields : List FieldNode) (i : ℕ) (name : List ℕ) (id : ℕ) (x : Data) (all : Option Values)
     (done : List Datum) (d : Datum)
-    → Some (name, place) ≡ option_map name_and_node (slice_get fields i) → Some x ≡ get_member name (members_view es)
-    → option_map (after_values done) (fields_left nodes es (drop i fields)) ≡ all → Some (value_of d) ≡ default_of nodes x (node_at nodes place)
+    → Some (name, id) ≡ option_map name_and_node (slice_get fields i) → Some x ≡ get_member name (members_view es)
+    → option_map (after_values done) (fields_left nodes es (drop i fields)) ≡ all → Some (value_of d) ≡ default_of nodes x (node_at nodes id)
     → option_map (after_values (done ++ d ∷ [])) (fields_left nodes es (drop (i + 1) fields)) ≡ all
-field_next nodes es fields i name place x all done d got member whole is =
-    let found = field_at-found fields i name place (slice_get fields i) refl got in
+field_next nodes es fields i name id x all done d got member whole is =
+    let found = field_at-found fields i name id (slice_get fields i) refl got in
     let f = found.0 in
     let here : drop i fields ≡ f ∷ drop (suc i) fields = drop_at fields i f found.1.at in
     let under : get_member f.name (members_view es) ≡ Some x = rw found.1.named (sym member) in
-    let first : Some (value_of d) ≡ first_default nodes es f = is ∙ ap (λ p. default_of nodes x (node_at nodes p)) (sym found.1.placed) ∙ sym (first_default-found nodes es f x under) in
+    let first : Some (value_of d) ≡ first_default nodes es f = is ∙ ap (λ p. default_of nodes x (node_at nodes p)) (sym found.1.node_is) ∙ sym (first_default-found nodes es f x under) in
     rw add-one (value_step all done d (first_default nodes es f) (fields_left nodes es (drop (suc i) fields)) (rw here at whole) first)
 
-pub field_stop : (nodes : List Node) (es : List Entry) (fields : List FieldNode) (i : ℕ) (name : List ℕ) (place : ℕ) (x : Data) (all : Option Values) (done : List Datum)
-    → Some (name, place) ≡ option_map name_and_node (slice_get fields i) → Some x ≡ get_member name (members_view es)
-    → option_map (after_values done) (fields_left nodes es (drop i fields)) ≡ all → None ≡ default_of nodes x (node_at nodes place) → None ≡ all
-field_stop nodes es fields i name place x all done got member whole is =
-    let found = field_at-found fields i name place (slice_get fields i) refl got in
+pub field_stop : (nodes : List Node) (es : List Entry) (fields : List FieldNode) (i : ℕ) (name : List ℕ) (id : ℕ) (x : Data) (all : Option Values) (done : List Datum)
+    → Some (name, id) ≡ option_map name_and_node (slice_get fields i) → Some x ≡ get_member name (members_view es)
+    → option_map (after_values done) (fields_left nodes es (drop i fields)) ≡ all → None ≡ default_of nodes x (node_at nodes id) → None ≡ all
+field_stop nodes es fields i name id x all done got member whole is =
+    let found = field_at-found fields i name id (slice_get fields i) refl got in
     let f = found.0 in
     let here : drop i fields ≡ f ∷ drop (suc i) fields = drop_at fields i f found.1.at in
     let under : get_member f.name (members_view es) ≡ Some x = rw found.1.named (sym member) in
-    let first : None ≡ first_default nodes es f = is ∙ ap (λ p. default_of nodes x (node_at nodes p)) (sym found.1.placed) ∙ sym (first_default-found nodes es f x under) in
+    let first : None ≡ first_default nodes es f = is ∙ ap (λ p. default_of nodes x (node_at nodes p)) (sym found.1.node_is) ∙ sym (first_default-found nodes es f x under) in
     value_stop all done (first_default nodes es f) (fields_left nodes es (drop (suc i) fields)) (rw here at whole) first
 
-pub field_missing : (nodes : List Node) (es : List Entry) (fields : List FieldNode) (i : ℕ) (name : List ℕ) (place : ℕ) (all : Option Values) (done : List Datum)
-    → Some (name, place) ≡ option_map name_and_node (slice_get fields i) → None ≡ get_member name (members_view es)
+pub field_missing : (nodes : List Node) (es : List Entry) (fields : List FieldNode) (i : ℕ) (name : List ℕ) (id : ℕ) (all : Option Values) (done : List Datum)
+    → Some (name, id) ≡ option_map name_and_node (slice_get fields i) → None ≡ get_member name (members_view es)
     → option_map (after_values done) (fields_left nodes es (drop i fields)) ≡ all → None ≡ all
-field_missing nodes es fields i name place all done got member whole =
-    let found = field_at-found fields i name place (slice_get fields i) refl got in
+field_missing nodes es fields i name id all done got member whole =
+    let found = field_at-found fields i name id (slice_get fields i) refl got in
     let f = found.0 in
     let here : drop i fields ≡ f ∷ drop (suc i) fields = drop_at fields i f found.1.at in
     let under : get_member f.name (members_view es) ≡ None = rw found.1.named (sym member) in
@@ -120,7 +120,7 @@ fields_end nodes es fields i all done past whole =
     let none : drop i fields ≡ [] = drop_past fields i past in
     values_end all done (fields_left nodes es (drop i fields)) whole (rw none refl)
 
--- there is a field at each place below their number
+-- there is a field at each index below their number
 pub field_absent : (fields : List FieldNode) (i : ℕ) → i < length fields → None ≡ option_map name_and_node (slice_get fields i) → ⊥
 field_absent [] i below h = omega arith
 field_absent (f ∷ fields) zero below h = cc

@@ -15,7 +15,7 @@ use Rattle.avro_schema.specs.Fits.{fits, each_fits, entries_fit, fields_fit, is_
 use Rattle.avro_schema.specs.Distinct.{are_distinct}
 use Rattle.serde_json.specs.Data.{Num, Data, Items, no_items, item, Members, no_members, member}
 use Rattle.serde_json.specs.Find.{as_i64}
-use Rattle.avro_schema_json.specs.DeclaredAttributes.{symbol_place}
+use Rattle.avro_schema_json.specs.DeclaredAttributes.{symbol_index}
 use Rattle.avro_schema_json.specs.DeclaredDefaults.{only_if, first_fit, by_first_fit, null_default, boolean_default, number_default, text_default, bytes_of_text, items_default, fields_default, object_default, names_only, member_keys, default_of, each_default, entries_default, default_under}
 use Rattle.avro_schema_json.specs.PlainTree.{items_count, is_plain_tree, are_plain_items, are_plain_members}
 
@@ -78,9 +78,9 @@ nat_lt-first n = grind (arith, nat_tests)
 nat_lt-next : (m n : ℕ) → nat_lt m n ≡ true → nat_lt (suc m) (suc n) ≡ true
 nat_lt-next m n h = grind (arith, nat_tests)
 
-symbol_place-below : (word : List ℕ) (symbols : List (List ℕ)) (k : ℕ) → symbol_place word symbols ≡ Some k → nat_lt k (length symbols) ≡ true
-symbol_place-below word [] k h = cc
-symbol_place-below word (symbol ∷ symbols) k h = by_test (bytes_eq word symbol) (symbol_place word symbols) (symbol_place-below word symbols) h
+symbol_index-below : (word : List ℕ) (symbols : List (List ℕ)) (k : ℕ) → symbol_index word symbols ≡ Some k → nat_lt k (length symbols) ≡ true
+symbol_index-below word [] k h = cc
+symbol_index-below word (symbol ∷ symbols) k h = by_test (bytes_eq word symbol) (symbol_index word symbols) (symbol_index-below word symbols) h
   where
     by_test : (b : Bool) (o : Option ℕ) → ((j : ℕ) → o ≡ Some j → nat_lt j (length symbols) ≡ true)
         → (if b then Some 0 else option_map suc o) ≡ Some k → nat_lt k (suc (length symbols)) ≡ true
@@ -98,49 +98,49 @@ text-fits nodes text (Node.fixed name aliases count) v p h =
     let sized = only_if-some (length found.0 == count) (Value.fixed found.0) v found.2 in
     subst (λ w. fits nodes (Node.fixed name aliases count) w ≡ true) sized.1 (rw (bytes-are_bytes text found.0 p found.1, sized.0) refl)
 text-fits nodes text (Node.enum name aliases symbols default) v p h =
-    let found = map-some Value.enum (symbol_place text symbols) v h in
-    subst (λ w. fits nodes (Node.enum name aliases symbols default) w ≡ true) found.2 (symbol_place-below text symbols found.0 found.1)
+    let found = map-some Value.enum (symbol_index text symbols) v h in
+    subst (λ w. fits nodes (Node.enum name aliases symbols default) w ≡ true) found.2 (symbol_index-below text symbols found.0 found.1)
 text-fits nodes text _ v p h = cc
 
 -- ---- branches
 
--- a branch with its number among the places, and its datum
+-- a branch with its number among the ids, and its datum
 abbrev IsBranchOf : List Node → (Node → Option Value) → ℕ → List ℕ → Value → Type 0
-IsBranchOf nodes read k places v =
-    (j : ℕ) × (place : ℕ) × (w : Value) × (Value.union (k + j) w ≡ v) × (slice_get places j ≡ Some place) × (read (node_at nodes place) ≡ Some w)
+IsBranchOf nodes read k ids v =
+    (j : ℕ) × (id : ℕ) × (w : Value) × (Value.union (k + j) w ≡ v) × (slice_get ids j ≡ Some id) × (read (node_at nodes id) ≡ Some w)
 
-branch_here : (nodes : List Node) (read : Node → Option Value) (k place : ℕ) (places : List ℕ) (o rest : Option Value) (v : Value)
-    → read (node_at nodes place) ≡ o → (rest ≡ Some v → IsBranchOf nodes read (suc k) places v)
-    → option_or (option_map (Value.union k) o) rest ≡ Some v → IsBranchOf nodes read k (place ∷ places) v
-branch_here nodes read k place places (Some w) rest v is later g = (0, place, w, ap (λ i. Value.union i w) (omega arith) ∙ some-injective g, refl, is)
-branch_here nodes read k place places None rest v is later g =
+branch_here : (nodes : List Node) (read : Node → Option Value) (k id : ℕ) (ids : List ℕ) (o rest : Option Value) (v : Value)
+    → read (node_at nodes id) ≡ o → (rest ≡ Some v → IsBranchOf nodes read (suc k) ids v)
+    → option_or (option_map (Value.union k) o) rest ≡ Some v → IsBranchOf nodes read k (id ∷ ids) v
+branch_here nodes read k id ids (Some w) rest v is later g = (0, id, w, ap (λ i. Value.union i w) (omega arith) ∙ some-injective g, refl, is)
+branch_here nodes read k id ids None rest v is later g =
     let found = later g in (suc found.0, found.1, found.2, ap (λ i. Value.union i found.2) (omega arith) ∙ found.3, found.4, found.5)
 
-first_fit-found : (nodes : List Node) (read : Node → Option Value) (k : ℕ) (places : List ℕ) (v : Value) → first_fit nodes read k places ≡ Some v
-    → IsBranchOf nodes read k places v
+first_fit-found : (nodes : List Node) (read : Node → Option Value) (k : ℕ) (ids : List ℕ) (v : Value) → first_fit nodes read k ids ≡ Some v
+    → IsBranchOf nodes read k ids v
 first_fit-found nodes read k [] v h = cc
-first_fit-found nodes read k (place ∷ places) v h =
-    branch_here nodes read k place places (read (node_at nodes place)) (first_fit nodes read (suc k) places) v refl
-    (λ g. first_fit-found nodes read (suc k) places v g) h
+first_fit-found nodes read k (id ∷ ids) v h =
+    branch_here nodes read k id ids (read (node_at nodes id)) (first_fit nodes read (suc k) ids) v refl
+    (λ g. first_fit-found nodes read (suc k) ids v g) h
 
-union-fits : (nodes : List Node) (places : List ℕ) (i j place : ℕ) (w : Value) → i ≡ j → slice_get places j ≡ Some place
-    → fits nodes (node_at nodes place) w ≡ true → fits nodes (Node.union places) (Value.union i w) ≡ true
-union-fits nodes places i j place w same is fit = rw (same, is) fit
+union-fits : (nodes : List Node) (ids : List ℕ) (i j id : ℕ) (w : Value) → i ≡ j → slice_get ids j ≡ Some id
+    → fits nodes (node_at nodes id) w ≡ true → fits nodes (Node.union ids) (Value.union i w) ≡ true
+union-fits nodes ids i j id w same is fit = rw (same, is) fit
 
 by_first_fit-fits : (nodes : List Node) (read : Node → Option Value) (n : Node) (v : Value) → ((m : Node) (w : Value) → read m ≡ Some w → fits nodes m w ≡ true)
     → by_first_fit nodes n read ≡ Some v → fits nodes n v ≡ true
-by_first_fit-fits nodes read (Node.union places) v fit h =
-    let found = first_fit-found nodes read 0 places v h in
-    subst (λ w. fits nodes (Node.union places) w ≡ true) found.3
-    (union-fits nodes places (0 + found.0) found.0 found.1 found.2 (omega arith) found.4 (fit (node_at nodes found.1) found.2 found.5))
+by_first_fit-fits nodes read (Node.union ids) v fit h =
+    let found = first_fit-found nodes read 0 ids v h in
+    subst (λ w. fits nodes (Node.union ids) w ≡ true) found.3
+    (union-fits nodes ids (0 + found.0) found.0 found.1 found.2 (omega arith) found.4 (fit (node_at nodes found.1) found.2 found.5))
 by_first_fit-fits nodes read Node.null v fit h = fit Node.null v h
 by_first_fit-fits nodes read Node.boolean v fit h = fit Node.boolean v h
 by_first_fit-fits nodes read Node.int v fit h = fit Node.int v h
 by_first_fit-fits nodes read Node.long v fit h = fit Node.long v h
 by_first_fit-fits nodes read Node.bytes v fit h = fit Node.bytes v h
 by_first_fit-fits nodes read Node.string v fit h = fit Node.string v h
-by_first_fit-fits nodes read (Node.array place) v fit h = fit (Node.array place) v h
-by_first_fit-fits nodes read (Node.map_of place) v fit h = fit (Node.map_of place) v h
+by_first_fit-fits nodes read (Node.array id) v fit h = fit (Node.array id) v h
+by_first_fit-fits nodes read (Node.map_of id) v fit h = fit (Node.map_of id) v h
 by_first_fit-fits nodes read (Node.record_of name aliases fields) v fit h = fit (Node.record_of name aliases fields) v h
 by_first_fit-fits nodes read (Node.enum name aliases symbols default) v fit h = fit (Node.enum name aliases symbols default) v h
 by_first_fit-fits nodes read (Node.fixed name aliases count) v fit h = fit (Node.fixed name aliases count) v h
@@ -181,10 +181,10 @@ fields-fit nodes under (f ∷ fields) vs fit h =
 items-fit : (nodes : List Node) (ds : Items) (n : Node) (v : Value) → is_count (items_count ds) ≡ true
     → ((m : Node) (vs : Values) → each_default nodes ds m ≡ Some vs → each_fits nodes m vs ≡ true)
     → items_default nodes (λ m. each_default nodes ds m) n ≡ Some v → fits nodes n v ≡ true
-items-fit nodes ds (Node.array place) v counted fit h =
-    let found = map-some Value.array (each_default nodes ds (node_at nodes place)) v h in
-    subst (λ w. fits nodes (Node.array place) w ≡ true) found.2
-    (rw (each-counted nodes ds (node_at nodes place) found.0 found.1, counted, fit (node_at nodes place) found.0 found.1) refl)
+items-fit nodes ds (Node.array id) v counted fit h =
+    let found = map-some Value.array (each_default nodes ds (node_at nodes id)) v h in
+    subst (λ w. fits nodes (Node.array id) w ≡ true) found.2
+    (rw (each-counted nodes ds (node_at nodes id) found.0 found.1, counted, fit (node_at nodes id) found.0 found.1) refl)
 items-fit nodes ds _ v counted fit h = cc
 
 object-fits : (nodes : List Node) (ms : Members) (n : Node) (v : Value) → is_count (length (member_keys ms)) ≡ true
@@ -192,10 +192,10 @@ object-fits : (nodes : List Node) (ms : Members) (n : Node) (v : Value) → is_c
     → ((m : Node) (es : Entries) → entries_default nodes ms m ≡ Some es → entries_fit nodes m es ≡ true)
     → AllFit nodes (λ key. default_under nodes key ms)
     → object_default nodes (λ m. entries_default nodes ms m) (λ key. default_under nodes key ms) (member_keys ms) n ≡ Some v → fits nodes n v ≡ true
-object-fits nodes ms (Node.map_of place) v counted texts distinct fit all h =
-    let found = map-some Value.map_of (entries_default nodes ms (node_at nodes place)) v h in
-    subst (λ w. fits nodes (Node.map_of place) w ≡ true) found.2
-    (rw (entries_count-keys found.0, entries-keyed nodes ms (node_at nodes place) found.0 found.1, counted, texts, distinct, fit (node_at nodes place) found.0 found.1) refl)
+object-fits nodes ms (Node.map_of id) v counted texts distinct fit all h =
+    let found = map-some Value.map_of (entries_default nodes ms (node_at nodes id)) v h in
+    subst (λ w. fits nodes (Node.map_of id) w ≡ true) found.2
+    (rw (entries_count-keys found.0, entries-keyed nodes ms (node_at nodes id) found.0 found.1, counted, texts, distinct, fit (node_at nodes id) found.0 found.1) refl)
 object-fits nodes ms (Node.record_of name aliases fields) v counted texts distinct fit all h =
     let under = λ (key : List ℕ). default_under nodes key ms in
     let found = and_then-some (λ vs. only_if (names_only (member_keys ms) fields) (Value.record_of vs)) (fields_default nodes under fields) v h in

@@ -10,10 +10,10 @@ use Rattle.avro_schema.specs.declared.datum.Datum.{Datum}
 use Rattle.avro_schema.specs.declared.schema.NodeId.{NodeId}
 use Rattle.serde_json.specs.Data.{Data}
 use Rattle.avro_schema_json.specs.DeclaredDefaults.{by_first_fit, first_fit, default_of}
-use Rattle.avro_schema_json.specs.OwnDefaults.{own_default, bare_of, bares_of}
+use Rattle.avro_schema_json.specs.inside.OwnDefaults.{own_default, bare_of, bares_of}
 use Rattle.avro_schema_json.specs.declared.raw.RawNode.{RawNode}
 
--- the node at a place
+-- the node of an id
 pub node_at-raws : (raws : List RawNode) (i : ℕ) (null : RawNode) → bare_of null ≡ Node.null → bare_of (get_or raws i null) ≡ node_at (bares_of raws) i
 node_at-raws [] i null h = h
 node_at-raws (r ∷ raws) zero null h = refl
@@ -31,16 +31,16 @@ default_of-own nodes (Data.object ms) n = refl
 pub default-no_union : (nodes : List Node) (d : Data) (n : Node) → branches_of n ≡ None → default_of nodes d n ≡ own_default nodes d n
 default-no_union nodes d n h = default_of-own nodes d n ∙ rw h refl
 
-pub default-union : (nodes : List Node) (d : Data) (n : Node) (places : List ℕ) → branches_of n ≡ Some places
-    → default_of nodes d n ≡ first_fit nodes (own_default nodes d) 0 places
-default-union nodes d n places h = default_of-own nodes d n ∙ rw h refl
+pub default-union : (nodes : List Node) (d : Data) (n : Node) (ids : List ℕ) → branches_of n ≡ Some ids
+    → default_of nodes d n ≡ first_fit nodes (own_default nodes d) 0 ids
+default-union nodes d n ids h = default_of-own nodes d n ∙ rw h refl
 
 -- the first branch, wherever the JSON is a default of it
-pub default-first_branch : (nodes : List Node) (d : Data) (n : Node) (place : ℕ) (others : List ℕ) (v : Value) → branches_of n ≡ Some (place ∷ others)
-    → branches_of (node_at nodes place) ≡ None → default_of nodes d (node_at nodes place) ≡ Some v → default_of nodes d n ≡ Some (Value.union 0 v)
-default-first_branch nodes d n place others v has plain is =
-    let own : own_default nodes d (node_at nodes place) ≡ Some v = sym (default-no_union nodes d (node_at nodes place) plain) ∙ is in
-    default-union nodes d n (place ∷ others) has ∙ rw own refl
+pub default-first_branch : (nodes : List Node) (d : Data) (n : Node) (id : ℕ) (others : List ℕ) (v : Value) → branches_of n ≡ Some (id ∷ others)
+    → branches_of (node_at nodes id) ≡ None → default_of nodes d (node_at nodes id) ≡ Some v → default_of nodes d n ≡ Some (Value.union 0 v)
+default-first_branch nodes d n id others v has plain is =
+    let own : own_default nodes d (node_at nodes id) ≡ Some v = sym (default-no_union nodes d (node_at nodes id) plain) ∙ is in
+    default-union nodes d n (id ∷ others) has ∙ rw own refl
 
 -- ---- branches in turn
 
@@ -50,8 +50,8 @@ drop_past [] (suc i) h = refl
 drop_past (x ∷ xs) zero h = absurd (omega arith)
 drop_past (x ∷ xs) (suc i) h = drop_past xs i (omega arith)
 
-drop_places : (ids : List NodeId) (i : ℕ) (id : NodeId) → i < length ids → id ≡ get_or ids i id → ids_of (drop i ids) ≡ id.0 ∷ ids_of (drop (suc i) ids)
-drop_places ids i id below at =
+drop_ids : (ids : List NodeId) (i : ℕ) (id : NodeId) → i < length ids → id ≡ get_or ids i id → ids_of (drop i ids) ≡ id.0 ∷ ids_of (drop (suc i) ids)
+drop_ids ids i id below at =
     let here : drop i ids ≡ id ∷ drop (i + 1) ids = drop_more ids i id below ∙ ap (λ y. y ∷ drop (i + 1) ids) (sym at) in
     ap ids_of (rw add-one at here)
 
@@ -60,14 +60,14 @@ pub branch_next : (nodes : List Node) (d : Data) (ids : List NodeId) (i : ℕ) (
     → first_fit nodes (own_default nodes d) i (ids_of (drop i ids)) ≡ all → own_default nodes d (node_at nodes id.0) ≡ None
     → first_fit nodes (own_default nodes d) (i + 1) (ids_of (drop (i + 1) ids)) ≡ all
 branch_next nodes d ids i id all below at whole none =
-    let w = rw (drop_places ids i id below at, none) at whole in
+    let w = rw (drop_ids ids i id below at, none) at whole in
     rw add-one w
 
 -- the first branch that it fits
 pub branch_found : (nodes : List Node) (d : Data) (ids : List NodeId) (i : ℕ) (id : NodeId) (v : Value) (all : Option Value) → i < length ids
     → id ≡ get_or ids i id → first_fit nodes (own_default nodes d) i (ids_of (drop i ids)) ≡ all → own_default nodes d (node_at nodes id.0) ≡ Some v
     → Some (Value.union i v) ≡ all
-branch_found nodes d ids i id v all below at whole some = rw (drop_places ids i id below at, some) at whole
+branch_found nodes d ids i id v all below at whole some = rw (drop_ids ids i id below at, some) at whole
 
 -- no branch is left
 pub branches_end : (nodes : List Node) (d : Data) (ids : List NodeId) (i : ℕ) (all : Option Value) → length ids ≤ i

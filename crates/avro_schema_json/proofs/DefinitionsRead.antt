@@ -8,7 +8,7 @@ use Rattle.serde_json.specs.Data.{Members}
 use Rattle.avro_schema_json.specs.declared.error.SchemaError.{SchemaError}
 use Rattle.avro_schema_json.specs.DeclaredAttributes.{name_in, aliases_in, symbols_in, size_in}
 use Rattle.avro_schema_json.specs.Declares.{RawNode, RawField, Known, Made, Meaning, alone, above, definition_of, enum_named, fixed_named, record_named, defining, name_faults}
-use Rattle.avro_schema_json.specs.Reading.{State, made_at, IsRead, Reads, IsRefusal, Refuses, IsAttribute, IsBegun, limit_faults, beginning_faults, fields_meaning}
+use Rattle.avro_schema_json.specs.inside.Reading.{State, made_at, IsRead, Reads, IsRefusal, Refuses, IsAttribute, IsBegun, limit_faults, beginning_faults, fields_meaning}
 use Rattle.avro_schema_json.proofs.TypesRead.{first-refused, second-refused, grown-refused, above-read, above-own, above-part}
 
 -- ---- definitions of all kinds
@@ -52,7 +52,7 @@ module _ (ms : Members) (fields : Option (List (Meaning RawField))) (enclosing :
       (fields_meaning fields name.namespace (defining name (length before.nodes) before.known) (suc (length before.nodes))).faults e
       (grown-refused (limit_faults before) (name_faults name before.known) (aliases_in name.namespace ms).faults e h)))
 
-  module _ (inside : State) (name : Name) (space : List ℕ) (place : ℕ) (begun : IsBegun enclosing ms before inside name place) (at : space ≡ name.namespace) where
+  module _ (inside : State) (name : Name) (space : List ℕ) (id : ℕ) (begun : IsBegun enclosing ms before inside name id) (at : space ≡ name.namespace) where
     begun-made : made_at (definition_of ms (record_named ms fields)) enclosing before
         ≡ above (length before.nodes) (RawNode.record_of name (aliases_in name.namespace ms).value)
         (name_faults name before.known ++ (aliases_in name.namespace ms).faults)
@@ -77,16 +77,16 @@ module _ (ms : Members) (fields : Option (List (Meaning RawField))) (enclosing :
 
     pub record-read : (after last : State) (aliases : List Name) (read_fields : List RawField) → IsAttribute (aliases_in space ms) aliases
         → Reads (fields_meaning fields) space inside after read_fields
-        → last.nodes ≡ slice_set after.nodes place (RawNode.record_of name aliases read_fields) → last.known ≡ after.known
-        → Reads (definition_of ms (record_named ms fields)) enclosing before last place
+        → last.nodes ≡ slice_set after.nodes id (RawNode.record_of name aliases read_fields) → last.known ≡ after.known
+        → Reads (definition_of ms (record_named ms fields)) enclosing before last id
     record-read after last aliases read_fields named read put kept =
         let h : IsAttribute (aliases_in name.namespace ms) aliases = subst (λ (s : List ℕ). IsAttribute (aliases_in s ms) aliases) at named in
         let r : Reads (fields_meaning fields) name.namespace inside after read_fields = subst (λ (s : List ℕ). Reads (fields_meaning fields) s inside after read_fields) at read in
         let clean : name_faults name before.known ++ (aliases_in name.namespace ms).faults ≡ [] = rw (begun.is_new, h.no_faults) refl in
-        subst (λ (made : Made ℕ). IsRead made before last place) (sym begun-made)
+        subst (λ (made : Made ℕ). IsRead made before last id) (sym begun-made)
         (above-read (fields_meaning fields) name.namespace before inside after last (RawNode.plain Node.null) (RawNode.record_of name aliases read_fields)
         (RawNode.record_of name (aliases_in name.namespace ms).value) (name_faults name before.known ++ (aliases_in name.namespace ms).faults)
-        (defining name (length before.nodes) before.known) read_fields place begun.place_is begun.within clean begun.nodes_are begun.known_are r
+        (defining name (length before.nodes) before.known) read_fields id begun.id_is begun.within clean begun.nodes_are begun.known_are r
         (ap (λ names. RawNode.record_of name names read_fields) (sym h.value_is)) put kept)
 
 -- ---- an enum
@@ -99,7 +99,7 @@ module _ (ms : Members) (enclosing : List ℕ) (before : State) where
       (grown-refused (limit_faults before) (name_faults name before.known ++ (aliases_in name.namespace ms).faults) (symbols_in ms).faults e
       (grown-refused (limit_faults before) (name_faults name before.known) (aliases_in name.namespace ms).faults e h)))
 
-  module _ (inside : State) (name : Name) (space : List ℕ) (place : ℕ) (begun : IsBegun enclosing ms before inside name place) (at : space ≡ name.namespace) where
+  module _ (inside : State) (name : Name) (space : List ℕ) (id : ℕ) (begun : IsBegun enclosing ms before inside name id) (at : space ≡ name.namespace) where
     pub enum-misnamed : (e : SchemaError) → IsRefusal (aliases_in space ms).faults e → Refuses (definition_of ms (enum_named ms)) enclosing before e
     enum-misnamed e refused =
         let h : IsRefusal (aliases_in name.namespace ms).faults e = subst (λ (s : List ℕ). IsRefusal (aliases_in s ms).faults e) at refused in
@@ -117,20 +117,20 @@ module _ (ms : Members) (enclosing : List ℕ) (before : State) where
         (second-refused (name_faults name before.known ++ (aliases_in name.namespace ms).faults) (symbols_in ms).faults e h)))
 
     pub enum-read : (last : State) (aliases : List Name) (symbols : List (List ℕ)) (default : Option ℕ) → IsAttribute (aliases_in space ms) aliases → IsAttribute (symbols_in ms) (symbols, default)
-        → last.nodes ≡ slice_set inside.nodes place (RawNode.plain (Node.enum name aliases symbols default)) → last.known ≡ inside.known
-        → Reads (definition_of ms (enum_named ms)) enclosing before last place
+        → last.nodes ≡ slice_set inside.nodes id (RawNode.plain (Node.enum name aliases symbols default)) → last.known ≡ inside.known
+        → Reads (definition_of ms (enum_named ms)) enclosing before last id
     enum-read last aliases symbols default named listed put kept =
         let h : IsAttribute (aliases_in name.namespace ms) aliases = subst (λ (s : List ℕ). IsAttribute (aliases_in s ms) aliases) at named in
         let clean : name_faults name before.known ++ (aliases_in name.namespace ms).faults ++ (symbols_in ms).faults ≡ [] =
         rw (begun.is_new, h.no_faults, listed.no_faults) refl in
         let node : RawNode.plain (Node.enum name aliases symbols default) ≡ RawNode.plain (Node.enum name (aliases_in name.namespace ms).value (symbols_in ms).value.0 (symbols_in ms).value.1) =
         rw (h.value_is, listed.value_is) refl in
-        subst (λ (made : Made ℕ). IsRead made before last place) (sym (definition-made ms (enum_named ms) enclosing before name begun.name_is))
+        subst (λ (made : Made ℕ). IsRead made before last id) (sym (definition-made ms (enum_named ms) enclosing before name begun.name_is))
         (above-read (λ space known next. alone known) name.namespace before inside inside last (RawNode.plain Node.null)
         (RawNode.plain (Node.enum name aliases symbols default))
         (λ none. RawNode.plain (Node.enum name (aliases_in name.namespace ms).value (symbols_in ms).value.0 (symbols_in ms).value.1))
         (name_faults name before.known ++ (aliases_in name.namespace ms).faults ++ (symbols_in ms).faults)
-        (defining name (length before.nodes) before.known) [] place begun.place_is begun.within clean begun.nodes_are begun.known_are
+        (defining name (length before.nodes) before.known) [] id begun.id_is begun.within clean begun.nodes_are begun.known_are
         (nothing-read name.namespace inside) node put kept)
 
 -- ---- a fixed
@@ -143,7 +143,7 @@ module _ (ms : Members) (enclosing : List ℕ) (before : State) where
       (grown-refused (limit_faults before) (name_faults name before.known ++ (aliases_in name.namespace ms).faults) (size_in ms).faults e
       (grown-refused (limit_faults before) (name_faults name before.known) (aliases_in name.namespace ms).faults e h)))
 
-  module _ (inside : State) (name : Name) (space : List ℕ) (place : ℕ) (begun : IsBegun enclosing ms before inside name place) (at : space ≡ name.namespace) where
+  module _ (inside : State) (name : Name) (space : List ℕ) (id : ℕ) (begun : IsBegun enclosing ms before inside name id) (at : space ≡ name.namespace) where
     pub fixed-misnamed : (e : SchemaError) → IsRefusal (aliases_in space ms).faults e → Refuses (definition_of ms (fixed_named ms)) enclosing before e
     fixed-misnamed e refused =
         let h : IsRefusal (aliases_in name.namespace ms).faults e = subst (λ (s : List ℕ). IsRefusal (aliases_in s ms).faults e) at refused in
@@ -161,18 +161,18 @@ module _ (ms : Members) (enclosing : List ℕ) (before : State) where
         (second-refused (name_faults name before.known ++ (aliases_in name.namespace ms).faults) (size_in ms).faults e h)))
 
     pub fixed-read : (last : State) (aliases : List Name) (size : ℕ) → IsAttribute (aliases_in space ms) aliases → IsAttribute (size_in ms) size
-        → last.nodes ≡ slice_set inside.nodes place (RawNode.plain (Node.fixed name aliases size)) → last.known ≡ inside.known
-        → Reads (definition_of ms (fixed_named ms)) enclosing before last place
+        → last.nodes ≡ slice_set inside.nodes id (RawNode.plain (Node.fixed name aliases size)) → last.known ≡ inside.known
+        → Reads (definition_of ms (fixed_named ms)) enclosing before last id
     fixed-read last aliases size named sized put kept =
         let h : IsAttribute (aliases_in name.namespace ms) aliases = subst (λ (s : List ℕ). IsAttribute (aliases_in s ms) aliases) at named in
         let clean : name_faults name before.known ++ (aliases_in name.namespace ms).faults ++ (size_in ms).faults ≡ [] =
         rw (begun.is_new, h.no_faults, sized.no_faults) refl in
         let node : RawNode.plain (Node.fixed name aliases size) ≡ RawNode.plain (Node.fixed name (aliases_in name.namespace ms).value (size_in ms).value) =
         rw (h.value_is, sized.value_is) refl in
-        subst (λ (made : Made ℕ). IsRead made before last place) (sym (definition-made ms (fixed_named ms) enclosing before name begun.name_is))
+        subst (λ (made : Made ℕ). IsRead made before last id) (sym (definition-made ms (fixed_named ms) enclosing before name begun.name_is))
         (above-read (λ space known next. alone known) name.namespace before inside inside last (RawNode.plain Node.null)
         (RawNode.plain (Node.fixed name aliases size))
         (λ none. RawNode.plain (Node.fixed name (aliases_in name.namespace ms).value (size_in ms).value))
         (name_faults name before.known ++ (aliases_in name.namespace ms).faults ++ (size_in ms).faults)
-        (defining name (length before.nodes) before.known) [] place begun.place_is begun.within clean begun.nodes_are begun.known_are
+        (defining name (length before.nodes) before.known) [] id begun.id_is begun.within clean begun.nodes_are begun.known_are
         (nothing-read name.namespace inside) node put kept)

@@ -1,4 +1,4 @@
--- The places of names and the numbers of namespaces, as one is added.
+-- The ids of names and the numbers of namespaces, as one is added.
 use Rattle.std.proofs.Common.{◌≡◌, ◌⊎◌, inl, inr, ⊎_elim, ℕ, ◌+◌, ◌≤◌, Bool, true, false, not, ◌&&◌, ◌==◌, cond, List, length, [], ◌∷◌, ◌++◌, Option, Some, None, refl, sym, ap, ◌∙◌, arith, ne_eqb}
 use Rattle.std.specs.Prelude.{bytes_eq, String, string_bytes, Result, Ok, Err, IfOk, OnOk, OnErr, is_some, if◌then◌else◌}
 use Rattle.std.specs.declared.alloc.Global.{Global}
@@ -16,8 +16,8 @@ use Rattle.std.proofs.lemmas.Map.Text.{is_eq-slice_cmp}
 use Rattle.std.proofs.lemmas.Slice.Eq.{bytes_eq-Decides}
 use Rattle.avro_name.specs.Name.{Name, same_name, name_of, split_name, has_dot, is_dotted_name, is_primitive_word}
 use Rattle.avro_schema_json.specs.Declares.{Known, place_of, defining}
-use Rattle.avro_schema_json.specs.KnownNames.{Key, key_cmp, number_of, IsIndexOf}
-use Rattle.avro_schema_json.specs.KnownSeen.{known_of, IsNumbered}
+use Rattle.avro_schema_json.specs.inside.KnownNames.{Key, key_cmp, number_of, IsIndexOf}
+use Rattle.avro_schema_json.specs.inside.KnownSeen.{known_of, IsNumbered}
 use Rattle.avro_schema_json.specs.declared.name_table.NameTable.{NameTable}
 use Rattle.avro_schema_json.specs.declared.name_table.Space.{Space}
 
@@ -65,14 +65,14 @@ later name known first absent = by (same_name name first.0) refl
     by true h = let found = rw h at absent in absurd cc
     by false h = rw h at absent
 
--- a name that is added is found at its place, and the others where they were
-pub found_after : (q name : Name) (place : ℕ) (known : Known) → place_of name known ≡ None
-    → place_of q (known ++ (name, place) ∷ []) ≡ cond (same_name q name) (Some place) (place_of q known)
-found_after q name place [] absent = refl
-found_after q name place (first ∷ known) absent = by (found_after q name place known (later name known first absent)) (same_name q first.0) refl
+-- a name that is added is found with its id, and the others as before
+pub found_after : (q name : Name) (id : ℕ) (known : Known) → place_of name known ≡ None
+    → place_of q (known ++ (name, id) ∷ []) ≡ cond (same_name q name) (Some id) (place_of q known)
+found_after q name id [] absent = refl
+found_after q name id (first ∷ known) absent = by (found_after q name id known (later name known first absent)) (same_name q first.0) refl
   where
-    by : place_of q (known ++ (name, place) ∷ []) ≡ cond (same_name q name) (Some place) (place_of q known) → (here : Bool) → same_name q first.0 ≡ here
-        → place_of q ((first ∷ known) ++ (name, place) ∷ []) ≡ cond (same_name q name) (Some place) (place_of q (first ∷ known))
+    by : place_of q (known ++ (name, id) ∷ []) ≡ cond (same_name q name) (Some id) (place_of q known) → (here : Bool) → same_name q first.0 ≡ here
+        → place_of q ((first ∷ known) ++ (name, id) ∷ []) ≡ cond (same_name q name) (Some id) (place_of q (first ∷ known))
     by rest true h = let other = taken q name known first h absent in rw (h, other) refl
     by rest false h = rw h rest
 
@@ -82,11 +82,11 @@ answers_so (Ok x) h f = f x h
 answers_so (Err e) h f = h
 
 -- a name is found by its namespace's number and its simple part
-pub found_in : (names : NameTable) (space : Space) (name : Name) (simple : List ℕ) (place : Option ℕ) (known : Known) → IsNumbered names space
+pub found_in : (names : NameTable) (space : Space) (name : Name) (simple : List ℕ) (id : Option ℕ) (known : Known) → IsNumbered names space
     → space.namespace ≡ name.namespace → simple ≡ name.simple → known_of names ≡ known
     → ((namespace : List ℕ) → number_of names.numbers namespace ≡ Some space.number
-    → place ≡ place_of (record { namespace = namespace; simple = simple }) (known_of names)) → place ≡ place_of name known
-found_in names space name simple place known numbered at spelled same answer =
+    → id ≡ place_of (record { namespace = namespace; simple = simple }) (known_of names)) → id ≡ place_of name known
+found_in names space name simple id known numbered at spelled same answer =
     answer name.namespace (ap (number_of names.numbers) (sym at) ∙ numbered)
     ∙ ap (λ t. place_of (record { namespace = name.namespace; simple = t }) (known_of names)) spelled ∙ ap (place_of name) same
 
@@ -135,7 +135,7 @@ is_eq-keys a b =
     is_eq-then (nat_cmp a.0 b.0) (string_cmp a.1 b.1)
     ∙ rw (is_eq-slice_cmp (string_bytes a.1) (string_bytes b.1)) (ap (λ t. t && bytes_eq (string_bytes a.1) (string_bytes b.1)) (unsigned_tied a.0 b.0))
 
-module _ (known : Known) (numbers : BTreeMap (List ℕ) ℕ) (places : BTreeMap Key ℕ) (index : IsIndexOf known numbers places) where
+module _ (known : Known) (numbers : BTreeMap (List ℕ) ℕ) (ids : BTreeMap Key ℕ) (index : IsIndexOf known numbers ids) where
   -- numbers are equal where the namespaces are
   one_number : (one other : List ℕ) (m n : ℕ) → number_of numbers one ≡ Some m → number_of numbers other ≡ Some n → (m == n) ≡ bytes_eq one other
   one_number one other m n h k =
@@ -145,9 +145,9 @@ module _ (known : Known) (numbers : BTreeMap (List ℕ) ℕ) (places : BTreeMap 
       (λ e. let same : Some m ≡ Some n = sym h ∙ ap (number_of numbers) (one_bytes one other e) ∙ k in
       let equal : m ≡ n = cc in (Decides-eqb m n).1 equal)
 
-  module _ (name : Name) (number place : ℕ) (simple : String Global) (later : BTreeMap Key ℕ) (numbered : number_of numbers name.namespace ≡ Some number)
+  module _ (name : Name) (number id : ℕ) (simple : String Global) (later : BTreeMap Key ℕ) (numbered : number_of numbers name.namespace ≡ Some number)
       (spelled : string_bytes simple ≡ name.simple) (new : place_of name known ≡ None)
-      (put : (q : Key) → get key_cmp later q ≡ cond (is_eq (key_cmp (number, simple) q)) (Some place) (get key_cmp places q)) where
+      (put : (q : Key) → get key_cmp later q ≡ cond (is_eq (key_cmp (number, simple) q)) (Some id) (get key_cmp ids q)) where
     -- the key of a name is the one that is put just where the name is the one that is added
     key_of : (namespace : List ℕ) (n : ℕ) (s : String Global) → number_of numbers namespace ≡ Some n
         → is_eq (key_cmp (number, simple) (n, s)) ≡ same_name (record { namespace = namespace; simple = string_bytes s }) name
@@ -163,22 +163,22 @@ module _ (known : Known) (numbers : BTreeMap (List ℕ) ℕ) (places : BTreeMap 
         let other : (number == n) ≡ false = ne_eqb number n (λ e. omega (arith, e, below, h)) in
         is_eq-keys (number, simple) (n, s) ∙ ap (λ b. b && bytes_eq (string_bytes simple) (string_bytes s)) other
 
-    pub named_after : IsIndexOf (defining name place known) numbers later
+    pub named_after : IsIndexOf (defining name id known) numbers later
     named_after = record {
       bounded = index.bounded;
       alone = index.alone;
       found = λ namespace n s h.
-          put (n, s) ∙ ap (λ b. cond b (Some place) (get key_cmp places (n, s))) (key_of namespace n s h)
-          ∙ ap (λ o. cond (same_name (record { namespace = namespace; simple = string_bytes s }) name) (Some place) o) (index.found namespace n s h)
-          ∙ sym (found_after (record { namespace = namespace; simple = string_bytes s }) name place known new);
+          put (n, s) ∙ ap (λ b. cond b (Some id) (get key_cmp ids (n, s))) (key_of namespace n s h)
+          ∙ ap (λ o. cond (same_name (record { namespace = namespace; simple = string_bytes s }) name) (Some id) o) (index.found namespace n s h)
+          ∙ sym (found_after (record { namespace = namespace; simple = string_bytes s }) name id known new);
       unnumbered = λ namespace t h.
           let q : Name = record { namespace = namespace; simple = t } in
           let other : same_name q name ≡ false = false_from_ne_true (same_name q name) (λ e.
           let same : namespace ≡ name.namespace = ap (λ (n : Name). n.namespace) (one_name q name e) in
           let found : None ≡ Some number = sym h ∙ ap (number_of numbers) same ∙ numbered in absurd (cc)) in
-          found_after q name place known new ∙ ap (λ b. cond b (Some place) (place_of q known)) other ∙ index.unnumbered namespace t h;
+          found_after q name id known new ∙ ap (λ b. cond b (Some id) (place_of q known)) other ∙ index.unnumbered namespace t h;
       unused = λ n s h.
-          put (n, s) ∙ ap (λ b. cond b (Some place) (get key_cmp places (n, s))) (past n s h) ∙ index.unused n s h;
+          put (n, s) ∙ ap (λ b. cond b (Some id) (get key_cmp ids (n, s))) (past n s h) ∙ index.unused n s h;
     }
 
   -- ---- one more namespace
@@ -210,7 +210,7 @@ module _ (known : Known) (numbers : BTreeMap (List ℕ) ℕ) (places : BTreeMap 
     pub number_put : number_of later namespace ≡ Some number
     number_put = put_text namespace ∙ ap (λ b. cond b (Some number) (number_of numbers namespace)) (same_bytes namespace)
 
-    pub numbered_after : IsIndexOf known later places
+    pub numbered_after : IsIndexOf known later ids
     numbered_after = record {
       bounded = λ q n h. ⊎_elim (λ here. omega (arith, here.1, next, longer)) (λ before. let below = index.bounded q n before in omega (arith, below, longer)) (numbered_as q n h);
       alone = λ q r n h k.
@@ -234,7 +234,7 @@ module _ (known : Known) (numbers : BTreeMap (List ℕ) ℕ) (places : BTreeMap 
         was_none q h (inr some) = let found : None ≡ Some some.0 = sym h ∙ numbers_kept q some.0 some.1 in absurd (cc)
 
   -- a map that is not changed
-  unchanged_after : (later : BTreeMap (List ℕ) ℕ) → later.entries ≡ numbers.entries → IsIndexOf known later places
+  unchanged_after : (later : BTreeMap (List ℕ) ℕ) → later.entries ≡ numbers.entries → IsIndexOf known later ids
   unchanged_after later unchanged = record {
     bounded = λ q n h. let below = index.bounded q n (sym (same q) ∙ h) in omega (arith, below, long);
     alone = λ q r n h k. index.alone q r n (sym (same q) ∙ h) (sym (same r) ∙ k);
@@ -254,7 +254,7 @@ module _ (known : Known) (numbers : BTreeMap (List ℕ) ℕ) (places : BTreeMap 
       → number ≡ btree_map_len numbers → IfOk r (λ old. old ≡ number_of numbers namespace)
       → OnOk r (Updates (slice_cmp nat_cmp) numbers later namespace (Some number))
       → IfOk r (λ old. btree_map_len later ≡ btree_map_len numbers + (if is_some old then 0 else 1)) → OnErr r (later.entries ≡ numbers.entries)
-      → IsIndexOf known later places
+      → IsIndexOf known later ids
   inserted_after (Ok old) namespace number later new next was updates longer unchanged =
       numbered_after namespace number later new next
       (longer ∙ ap (λ (o : Option ℕ). btree_map_len numbers + (if is_some o then 0 else 1)) (was ∙ new)) updates.0

@@ -4,7 +4,7 @@ mod RowsFaults
 pub mod DeclarationLaws
 pub mod RawSeen
 pub mod DefaultsSeen
-pub mod WholeSeen
+pub mod CompletedSeen
 pub mod DefaultSteps
 pub mod NamesSeen
 pub mod SymbolsFound

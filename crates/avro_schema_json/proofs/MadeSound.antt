@@ -13,7 +13,7 @@ use Rattle.avro_schema.specs.Faulty.{NodeFault, unknown_node, duplicate_name, in
 use Rattle.serde_json.specs.Data.{Data, Items, no_items, item, Members, no_members, member}
 use Rattle.serde_json.specs.Find.{get_member, as_str, as_number, as_u64}
 use Rattle.avro_schema_json.specs.declared.error.SchemaError.{SchemaError}
-use Rattle.avro_schema_json.specs.DeclaredAttributes.{unless, needed, text_in, as_texts, namespace_from, name_from, name_in, alias_texts_from, alias_texts_in, aliases_in, symbol_place, default_symbol_from, symbols_in, size_in}
+use Rattle.avro_schema_json.specs.DeclaredAttributes.{unless, needed, text_in, as_texts, namespace_from, name_from, name_in, alias_texts_from, alias_texts_in, aliases_in, symbol_index, default_symbol_from, symbols_in, size_in}
 use Rattle.serde_json.specs.Written.{has_float}
 use Rattle.avro_schema_json.specs.DeclaredFaults.{faults_of, refusals_of_nodes, or_else, HasFault}
 use Rattle.avro_schema_json.specs.DeclaredSchema.{whole_nodes, are_all_defaults_read}
@@ -95,7 +95,7 @@ default-of_tree symbols (Some d) = by_text (as_str d) refl
   where
     by_text : (text : Option (List ℕ)) → as_str d ≡ text → are_of_tree (default_symbol_from symbols (Some d)).faults ≡ true
     by_text None h = rw h refl
-    by_text (Some word) h = rw h (unless-of_tree (is_some (symbol_place word symbols)) SchemaError.InvalidSymbols refl)
+    by_text (Some word) h = rw h (unless-of_tree (is_some (symbol_index word symbols)) SchemaError.InvalidSymbols refl)
 
 symbols-of_tree : (ms : Members) → are_of_tree (symbols_in ms).faults ≡ true
 symbols-of_tree ms = by_texts (option_and_then as_texts (get_member (codes "symbols") ms)) refl
@@ -164,14 +164,14 @@ use-sound n = record { at = λ enclosing known next. above-sound next (λ none. 
 reference-sound : (word : List ℕ) → IsSoundMeaning (reference word)
 reference-sound word = record { at = λ enclosing known next. by_name enclosing known next (name_of word enclosing) refl }
   where
-    by_place : (enclosing : List ℕ) (known : Known) (next : ℕ) (name : Name) (place : Option ℕ) → name_of word enclosing ≡ Some name → place_of name known ≡ place
+    by_id : (enclosing : List ℕ) (known : Known) (next : ℕ) (name : Name) (id : Option ℕ) → name_of word enclosing ≡ Some name → place_of name known ≡ id
         → IsSound (reference word enclosing known next)
-    by_place enclosing known next name None h k = rw (h, k) (record { clean = refl })
-    by_place enclosing known next name (Some place) h k = rw (h, k) (record { clean = refl })
+    by_id enclosing known next name None h k = rw (h, k) (record { clean = refl })
+    by_id enclosing known next name (Some id) h k = rw (h, k) (record { clean = refl })
 
     by_name : (enclosing : List ℕ) (known : Known) (next : ℕ) (name : Option Name) → name_of word enclosing ≡ name → IsSound (reference word enclosing known next)
     by_name enclosing known next None h = rw h (record { clean = refl })
-    by_name enclosing known next (Some name) h = by_place enclosing known next name (place_of name known) h refl
+    by_name enclosing known next (Some name) h = by_id enclosing known next name (place_of name known) h refl
 
 word-sound : (word : List ℕ) → IsSoundMeaning (type_of_word word)
 word-sound word = by_word (word_of word) refl
@@ -189,7 +189,7 @@ word-sound word = by_word (word_of word) refl
 union-sound : (branches : List (Meaning ℕ)) → AreSound branches → IsSoundMeaning (union_of branches)
 union-sound branches s = record {
   at = λ enclosing known next.
-      above-sound next (λ places. RawNode.plain (Node.union places)) [] (in_turn branches enclosing known (suc next)) refl
+      above-sound next (λ ids. RawNode.plain (Node.union ids)) [] (in_turn branches enclosing known (suc next)) refl
       (in_turn-sound branches s enclosing known (suc next));
 }
 
@@ -197,7 +197,7 @@ container-sound : (node : ℕ → Node) (part : Option (Meaning ℕ)) → IfSoun
 container-sound node None s = faulty-sound 0 SchemaError.InvalidDeclaration refl
 container-sound node (Some part) s = record {
   at = λ enclosing known next.
-      above-sound next (λ place. RawNode.plain (node place)) [] (part enclosing known (suc next)) refl
+      above-sound next (λ id. RawNode.plain (node id)) [] (part enclosing known (suc next)) refl
       (s.at enclosing known (suc next));
 }
 

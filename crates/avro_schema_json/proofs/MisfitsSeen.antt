@@ -20,8 +20,8 @@ use Rattle.serde_json.specs.Find.{get_member}
 use Rattle.serde_json.specs.View.{view, items_view}
 use Rattle.serde_json.specs.declared.value.Value.{Value as Tree}
 use Rattle.avro_schema_json.specs.DeclaredDefaults.{default_of, default_under, each_default, entries_default, fields_default, first_fit, member_keys, names_only, only_if}
-use Rattle.avro_schema_json.specs.Misfits.{has_place, is_misfit, AreMisfits, AreItemMisfits, AreMemberMisfits, IsMemberMisfit}
-use Rattle.avro_schema_json.specs.OwnDefaults.{own_default, default_of_fields}
+use Rattle.avro_schema_json.specs.inside.Misfits.{has_id, is_misfit, AreMisfits, AreItemMisfits, AreMemberMisfits, IsMemberMisfit}
+use Rattle.avro_schema_json.specs.inside.OwnDefaults.{own_default, default_of_fields}
 use Rattle.avro_schema_json.proofs.DefaultsSeen.{default-no_union, default-union, branch_next}
 use Rattle.avro_schema_json.proofs.DefaultSteps.{field_at-found}
 use Rattle.avro_schema_json.proofs.RawSeen.{name_and_node}
@@ -29,33 +29,33 @@ use Rattle.avro_schema_json.proofs.DeclarationLaws.{default_under-found}
 
 -- ---- one set
 
-all_misfits : (nodes : List Node) (d : Data) (places : BTreeSet ℕ) (k : ℕ) (branches : List ℕ) → AreMisfits nodes d places
-    → list_all (has_place places) branches ≡ true → first_fit nodes (own_default nodes d) k branches ≡ None
-all_misfits nodes d places k [] good h = refl
-all_misfits nodes d places k (b ∷ bs) good h =
-    let two = and_parts (has_place places b) (list_all (has_place places) bs) h in
-    rw (good b two.0) (all_misfits nodes d places (suc k) bs good two.1)
+all_misfits : (nodes : List Node) (d : Data) (ids : BTreeSet ℕ) (k : ℕ) (branches : List ℕ) → AreMisfits nodes d ids
+    → list_all (has_id ids) branches ≡ true → first_fit nodes (own_default nodes d) k branches ≡ None
+all_misfits nodes d ids k [] good h = refl
+all_misfits nodes d ids k (b ∷ bs) good h =
+    let two = and_parts (has_id ids b) (list_all (has_id ids) bs) h in
+    rw (good b two.0) (all_misfits nodes d ids (suc k) bs good two.1)
 
-pub misfit-default : (nodes : List Node) (d : Data) (places : BTreeSet ℕ) (m : ℕ) → AreMisfits nodes d places → is_misfit nodes places m ≡ true
+pub misfit-default : (nodes : List Node) (d : Data) (ids : BTreeSet ℕ) (m : ℕ) → AreMisfits nodes d ids → is_misfit nodes ids m ≡ true
     → default_of nodes d (node_at nodes m) ≡ None
-misfit-default nodes d places m good h = by_branches (branches_of (node_at nodes m)) refl
+misfit-default nodes d ids m good h = by_branches (branches_of (node_at nodes m)) refl
   where
     by_branches : (found : Option (List ℕ)) → branches_of (node_at nodes m) ≡ found → default_of nodes d (node_at nodes m) ≡ None
     by_branches None e = let w = rw e at h in default-no_union nodes d (node_at nodes m) e ∙ good m w
-    by_branches (Some bs) e = let w = rw e at h in default-union nodes d (node_at nodes m) bs e ∙ all_misfits nodes d places 0 bs good w
+    by_branches (Some bs) e = let w = rw e at h in default-union nodes d (node_at nodes m) bs e ∙ all_misfits nodes d ids 0 bs good w
 
-pub added-place : (old new : BTreeSet ℕ) (p m : ℕ) → has_place new m ≡ cond (is_eq (nat_cmp p m)) true (has_place old m) → has_place new m ≡ true
-    → (has_place old m ≡ true) ⊎ (m ≡ p)
-added-place old new p m h there = by_order (nat_cmp p m) refl
+pub added-id : (old new : BTreeSet ℕ) (p m : ℕ) → has_id new m ≡ cond (is_eq (nat_cmp p m)) true (has_id old m) → has_id new m ≡ true
+    → (has_id old m ≡ true) ⊎ (m ≡ p)
+added-id old new p m h there = by_order (nat_cmp p m) refl
   where
-    by_order : (o : Ordering) → nat_cmp p m ≡ o → (has_place old m ≡ true) ⊎ (m ≡ p)
+    by_order : (o : Ordering) → nat_cmp p m ≡ o → (has_id old m ≡ true) ⊎ (m ≡ p)
     by_order Ordering.Equal e = inr (sym (exact_unsigned p m e))
     by_order Ordering.Less e = let w = rw e at h in inl (sym w ∙ there)
     by_order Ordering.Greater e = let w = rw e at h in inl (sym w ∙ there)
 
 -- one more node
 pub misfits-add : (nodes : List Node) (d : Data) (old new : BTreeSet ℕ) (p : ℕ) → AreMisfits nodes d old
-    → ((m : ℕ) → has_place new m ≡ true → (has_place old m ≡ true) ⊎ (m ≡ p)) → own_default nodes d (node_at nodes p) ≡ None → AreMisfits nodes d new
+    → ((m : ℕ) → has_id new m ≡ true → (has_id old m ≡ true) ⊎ (m ≡ p)) → own_default nodes d (node_at nodes p) ≡ None → AreMisfits nodes d new
 misfits-add nodes d old new p good added none = λ m there.
     elim (added m there) [
       | inl before ↦ good m before
@@ -75,10 +75,10 @@ item-misfit nodes (y ∷ ys) zero x n below at none = let w = rw at at none in r
 item-misfit nodes (y ∷ ys) (suc i) x n below at none =
     rw (item-misfit nodes ys i x n (omega arith) at none) (first-none (default_of nodes (view y) n))
 
-pub at_place : {A : Type 0} (xs : List A) (i : ℕ) (x : A) → i < length xs → x ≡ get_or xs i x → slice_get xs i ≡ Some x
-at_place [] i x below at = absurd (omega arith)
-at_place (y ∷ ys) zero x below at = ap Some (sym at)
-at_place (y ∷ ys) (suc i) x below at = at_place ys i x (omega arith) at
+pub at_index : {A : Type 0} (xs : List A) (i : ℕ) (x : A) → i < length xs → x ≡ get_or xs i x → slice_get xs i ≡ Some x
+at_index [] i x below at = absurd (omega arith)
+at_index (y ∷ ys) zero x below at = ap Some (sym at)
+at_index (y ∷ ys) (suc i) x below at = at_index ys i x (omega arith) at
 
 pushed : {A : Type 0} (xs : List A) (p : A) (i : ℕ) (q : A) → slice_get (xs ++ p ∷ []) i ≡ Some q → (slice_get xs i ≡ Some q) ⊎ (p ≡ q)
 pushed [] p zero q h = inr (cc)
@@ -161,29 +161,29 @@ members-put nodes ms old new key p good put last = λ other q at m there. by_key
         let same : p ≡ q = cc in
         subst (λ (k : List ℕ). IsMemberMisfit nodes ms k m) ((bytes_eq-Decides key other).0 e) (last m (rw same there))
 
-pub field-misfit_at : (nodes : List Node) (ms : Members) (fields : List FieldNode) (i : ℕ) (name : List ℕ) (place : ℕ)
-    → Some (name, place) ≡ option_map name_and_node (slice_get fields i) → IsMemberMisfit nodes ms name place → default_of_fields nodes ms fields ≡ None
-field-misfit_at nodes ms fields i name place got w =
-    let found = field_at-found fields i name place (slice_get fields i) refl got in
-    field-misfit nodes ms fields i found.0 found.1.at (rw (found.1.named, found.1.placed) w)
+pub field-misfit_at : (nodes : List Node) (ms : Members) (fields : List FieldNode) (i : ℕ) (name : List ℕ) (id : ℕ)
+    → Some (name, id) ≡ option_map name_and_node (slice_get fields i) → IsMemberMisfit nodes ms name id → default_of_fields nodes ms fields ≡ None
+field-misfit_at nodes ms fields i name id got w =
+    let found = field_at-found fields i name id (slice_get fields i) refl got in
+    field-misfit nodes ms fields i found.0 found.1.at (rw (found.1.named, found.1.node_is) w)
 
-pub field-missing_at : (nodes : List Node) (ms : Members) (fields : List FieldNode) (i : ℕ) (name : List ℕ) (place : ℕ)
-    → Some (name, place) ≡ option_map name_and_node (slice_get fields i) → None ≡ get_member name ms → default_of_fields nodes ms fields ≡ None
-field-missing_at nodes ms fields i name place got none =
-    let found = field_at-found fields i name place (slice_get fields i) refl got in
+pub field-missing_at : (nodes : List Node) (ms : Members) (fields : List FieldNode) (i : ℕ) (name : List ℕ) (id : ℕ)
+    → Some (name, id) ≡ option_map name_and_node (slice_get fields i) → None ≡ get_member name ms → default_of_fields nodes ms fields ≡ None
+field-missing_at nodes ms fields i name id got none =
+    let found = field_at-found fields i name id (slice_get fields i) refl got in
     field-missing nodes ms fields i found.0 found.1.at (rw found.1.named (sym none))
 
--- ---- each of some places
+-- ---- each of some ids
 
-pub each-stop : (places : BTreeSet ℕ) (ids : List NodeId) (i : ℕ) (id : NodeId) (here all : Bool) → i < length ids → here ≡ has_place places (get_or ids i id).0
-    → here ≡ false → all ≡ list_all (has_place places) (ids_of (drop i ids)) → false ≡ all
-each-stop places ids i id here all below is fails whole =
+pub each-stop : (misfits : BTreeSet ℕ) (ids : List NodeId) (i : ℕ) (id : NodeId) (here all : Bool) → i < length ids → here ≡ has_id misfits (get_or ids i id).0
+    → here ≡ false → all ≡ list_all (has_id misfits) (ids_of (drop i ids)) → false ≡ all
+each-stop misfits ids i id here all below is fails whole =
     let w = rw (drop_more ids i id below, ← is, fails) at whole in
     sym w
 
-pub each-next : (places : BTreeSet ℕ) (ids : List NodeId) (i : ℕ) (id : NodeId) (here all : Bool) → i < length ids → here ≡ has_place places (get_or ids i id).0
-    → here ≡ true → all ≡ list_all (has_place places) (ids_of (drop i ids)) → all ≡ list_all (has_place places) (ids_of (drop (i + 1) ids))
-each-next places ids i id here all below is holds whole = rw (drop_more ids i id below, ← is, holds) at whole
+pub each-next : (misfits : BTreeSet ℕ) (ids : List NodeId) (i : ℕ) (id : NodeId) (here all : Bool) → i < length ids → here ≡ has_id misfits (get_or ids i id).0
+    → here ≡ true → all ≡ list_all (has_id misfits) (ids_of (drop i ids)) → all ≡ list_all (has_id misfits) (ids_of (drop (i + 1) ids))
+each-next misfits ids i id here all below is holds whole = rw (drop_more ids i id below, ← is, holds) at whole
 
 -- ---- a branch that is known not to fit
 
@@ -192,8 +192,8 @@ same-again [] i x = refl
 same-again (y ∷ ys) zero x = refl
 same-again (y ∷ ys) (suc i) x = same-again ys i x
 
-pub branch-skip : (nodes : List Node) (d : Data) (ids : List NodeId) (i : ℕ) (id : NodeId) (places : BTreeSet ℕ) (here : Bool) (all : Option Value) → i < length ids
-    → here ≡ has_place places (get_or ids i id).0 → here ≡ true → AreMisfits nodes d places
+pub branch-skip : (nodes : List Node) (d : Data) (ids : List NodeId) (i : ℕ) (id : NodeId) (misfits : BTreeSet ℕ) (here : Bool) (all : Option Value) → i < length ids
+    → here ≡ has_id misfits (get_or ids i id).0 → here ≡ true → AreMisfits nodes d misfits
     → first_fit nodes (own_default nodes d) i (ids_of (drop i ids)) ≡ all → first_fit nodes (own_default nodes d) (i + 1) (ids_of (drop (i + 1) ids)) ≡ all
-branch-skip nodes d ids i id places here all below is holds good whole =
+branch-skip nodes d ids i id misfits here all below is holds good whole =
     branch_next nodes d ids i (get_or ids i id) all below (same-again ids i id) whole (good (get_or ids i id).0 (sym is ∙ holds))

@@ -35,11 +35,11 @@ gathered false before r = refl
 abbrev pub is_named : List ℕ → FieldNode → Bool
 is_named name f = bytes_eq name f.name
 
-pub name_next : (fields : List FieldNode) (i : ℕ) (key : List ℕ) (place : ℕ) (before after : Option (Unit {0})) (name : List ℕ) (all : Bool)
-    → Some (key, place) ≡ option_map name_and_node (slice_get fields i) → after ≡ cond (bytes_eq key name) (Some tt) before
+pub name_next : (fields : List FieldNode) (i : ℕ) (key : List ℕ) (id : ℕ) (before after : Option (Unit {0})) (name : List ℕ) (all : Bool)
+    → Some (key, id) ≡ option_map name_and_node (slice_get fields i) → after ≡ cond (bytes_eq key name) (Some tt) before
     → (is_some before || list_any (is_named name) (drop i fields)) ≡ all → (is_some after || list_any (is_named name) (drop (i + 1) fields)) ≡ all
-name_next fields i key place before after name all got put whole =
-    let found = field_at-found fields i key place (slice_get fields i) refl got in
+name_next fields i key id before after name all got put whole =
+    let found = field_at-found fields i key id (slice_get fields i) refl got in
     let f = found.0 in
     let here : drop i fields ≡ f ∷ drop (suc i) fields = drop_at fields i f found.1.at in
     let same : bytes_eq key name ≡ bytes_eq name f.name = bytes_eq-comm key name ∙ ap (bytes_eq name) (sym found.1.named) in

@@ -11,7 +11,7 @@ use Rattle.serde_json.proofs.Views.{view-lookup}
 use Rattle.avro_schema_json.specs.declared.error.SchemaError.{SchemaError}
 use Rattle.avro_schema_json.specs.DeclaredAttributes.{needed, text_in, alias_texts_in}
 use Rattle.avro_schema_json.specs.Declares.{RawField, Meaning, faulty, container_of, meaning_of, fields_under, fields_from, field_meaning, field_of, form_of, array_form, map_form}
-use Rattle.avro_schema_json.specs.Reading.{State, Reads, Refuses, IsRefusal, IsAttribute}
+use Rattle.avro_schema_json.specs.inside.Reading.{State, Reads, Refuses, IsRefusal, IsAttribute}
 use Rattle.avro_schema_json.proofs.DeclarationLaws.{meaning_under-found, fields_under-found}
 use Rattle.avro_schema_json.proofs.TypesRead.{first-refused, second-refused}
 

@@ -6,13 +6,13 @@ use Rattle.std.proofs.lemmas.List.Elements.{Contains-append_right}
 use Rattle.avro_name.specs.Name.{Name, name_of}
 use Rattle.avro_schema_json.specs.declared.error.SchemaError.{SchemaError}
 use Rattle.avro_schema_json.specs.Declares.{name_faults, Known, place_of, reference}
-use Rattle.avro_schema_json.specs.Reading.{State, made_at, IsRead, IsRefusal, limit_faults, beginning_faults}
+use Rattle.avro_schema_json.specs.inside.Reading.{State, made_at, IsRead, IsRefusal, limit_faults, beginning_faults}
 
 -- ---- references
 
-pub reference-read : (word enclosing : List ℕ) (s : State) (name : Name) (place : ℕ) → name_of word enclosing ≡ Some name
-    → place_of name s.known ≡ Some place → IsRead (made_at (reference word) enclosing s) s s place
-reference-read word enclosing s name place is known =
+pub reference-read : (word enclosing : List ℕ) (s : State) (name : Name) (id : ℕ) → name_of word enclosing ≡ Some name
+    → place_of name s.known ≡ Some id → IsRead (made_at (reference word) enclosing s) s s id
+reference-read word enclosing s name id is known =
     rw (is, known) (record { no_faults = refl; result_is = refl; nodes_are = sym (append-nil s.nodes); known_are = refl })
 
 pub reference-unknown : (word enclosing : List ℕ) (s : State) (name : Name) → name_of word enclosing ≡ Some name

@@ -4,7 +4,7 @@ use Rattle.std.specs.Prelude.{slice_get, string_bytes}
 use Rattle.std.proofs.lemmas.Option.{slice_get-map}
 use Rattle.avro_schema.specs.Node.{FieldNode}
 use Rattle.avro_schema_json.specs.DeclaredSchema.{bare_field}
-use Rattle.avro_schema_json.specs.SeenRaw.{raw_field_of, raw_fields_of}
+use Rattle.avro_schema_json.specs.inside.SeenRaw.{raw_field_of, raw_fields_of}
 use Rattle.avro_schema_json.specs.declared.raw.RawField.{RawField}
 
 -- the name and the node of a field

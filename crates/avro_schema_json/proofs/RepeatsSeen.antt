@@ -1,4 +1,4 @@
--- A union in which a branch stands twice is a fault of the whole nodes.
+-- A union in which a branch stands twice is a fault of the nodes with their defaults.
 use Rattle.std.proofs.Common.{◌≡◌, ℕ, zero, suc, ◌+◌, ◌<◌, true, false, not, ◌&&◌, List, [], ◌∷◌, length, map, filter_map, Option, Some, None, get_or, ◌⊎◌, inl, inr, refl, sym, ap, subst, ◌∙◌, arith, nat_lt}
 use Rattle.std.specs.Prelude.{slice_get, bytes_eq, is_some}
 use Rattle.std.specs.List.{list_all, list_any, cons_option}
@@ -18,9 +18,9 @@ use Rattle.avro_schema.specs.WellFormed.{is_edge, is_union, BranchKind, unnamed,
 use Rattle.avro_schema.proofs.public.NodeFaults.{broken-there}
 use Rattle.avro_schema_json.specs.Declares.{RawNode}
 use Rattle.avro_schema_json.specs.DeclaredSchema.{bare_node, whole_node}
-use Rattle.avro_schema_json.specs.OwnDefaults.{bare_of, bares_of}
+use Rattle.avro_schema_json.specs.inside.OwnDefaults.{bare_of, bares_of}
 use Rattle.avro_schema_json.specs.declared.raw.RawNode.{RawNode as KeptNode}
-use Rattle.avro_schema_json.specs.Repeats.{kind_code, code_by, Repeats, SomeRepeats}
+use Rattle.avro_schema_json.specs.inside.Repeats.{kind_code, code_by, Repeats, SomeRepeats}
 
 -- ---- one code, one kind
 
@@ -89,62 +89,62 @@ module _ (nodes : List Node) where
       distinct_codes zs i j x y parts.1 both.1 (omega (arith, below)) at_x at_y same
 
   -- where a branch stands twice there is no union
-  repeated_branch : (places : List ℕ) → Repeats nodes places → is_union nodes places ≡ false
-  repeated_branch places r =
-      false_from_ne_true (is_union nodes places) (λ h.
-      let all = and_parts (nat_lt 0 (length places) && list_all (has_kind nodes) places) (are_distinct same_kind (filter_map (kind_at nodes) places)) h in
-      let some = and_parts (nat_lt 0 (length places)) (list_all (has_kind nodes) places) all.0 in
-      distinct_codes places r.0 r.1 r.2 r.3 some.1 all.1 r.4 r.5 r.6 r.7)
+  repeated_branch : (ids : List ℕ) → Repeats nodes ids → is_union nodes ids ≡ false
+  repeated_branch ids r =
+      false_from_ne_true (is_union nodes ids) (λ h.
+      let all = and_parts (nat_lt 0 (length ids) && list_all (has_kind nodes) ids) (are_distinct same_kind (filter_map (kind_at nodes) ids)) h in
+      let some = and_parts (nat_lt 0 (length ids)) (list_all (has_kind nodes) ids) all.0 in
+      distinct_codes ids r.0 r.1 r.2 r.3 some.1 all.1 r.4 r.5 r.6 r.7)
 
--- ---- from the nodes without their defaults to the whole ones
+-- ---- from the nodes without their defaults to those with them
 
-whole_kind : (nodes : List Node) (raws : List RawNode) (m : ℕ) → branch_kind (node_at (map (whole_node nodes) raws) m) ≡ branch_kind (node_at (map bare_node raws) m)
-whole_kind nodes [] m = refl
-whole_kind nodes (RawNode.plain n ∷ raws) zero = refl
-whole_kind nodes (RawNode.record_of name aliases fields ∷ raws) zero = refl
-whole_kind nodes (RawNode.plain n ∷ raws) (suc m) = whole_kind nodes raws m
-whole_kind nodes (RawNode.record_of name aliases fields ∷ raws) (suc m) = whole_kind nodes raws m
+completed_kind : (nodes : List Node) (raws : List RawNode) (m : ℕ) → branch_kind (node_at (map (whole_node nodes) raws) m) ≡ branch_kind (node_at (map bare_node raws) m)
+completed_kind nodes [] m = refl
+completed_kind nodes (RawNode.plain n ∷ raws) zero = refl
+completed_kind nodes (RawNode.record_of name aliases fields ∷ raws) zero = refl
+completed_kind nodes (RawNode.plain n ∷ raws) (suc m) = completed_kind nodes raws m
+completed_kind nodes (RawNode.record_of name aliases fields ∷ raws) (suc m) = completed_kind nodes raws m
 
-whole_branches : (nodes : List Node) (raws : List RawNode) (m : ℕ) → branches_of (node_at (map (whole_node nodes) raws) m) ≡ branches_of (node_at (map bare_node raws) m)
-whole_branches nodes [] m = refl
-whole_branches nodes (RawNode.plain n ∷ raws) zero = refl
-whole_branches nodes (RawNode.record_of name aliases fields ∷ raws) zero = refl
-whole_branches nodes (RawNode.plain n ∷ raws) (suc m) = whole_branches nodes raws m
-whole_branches nodes (RawNode.record_of name aliases fields ∷ raws) (suc m) = whole_branches nodes raws m
+completed_branches : (nodes : List Node) (raws : List RawNode) (m : ℕ) → branches_of (node_at (map (whole_node nodes) raws) m) ≡ branches_of (node_at (map bare_node raws) m)
+completed_branches nodes [] m = refl
+completed_branches nodes (RawNode.plain n ∷ raws) zero = refl
+completed_branches nodes (RawNode.record_of name aliases fields ∷ raws) zero = refl
+completed_branches nodes (RawNode.plain n ∷ raws) (suc m) = completed_branches nodes raws m
+completed_branches nodes (RawNode.record_of name aliases fields ∷ raws) (suc m) = completed_branches nodes raws m
 
-whole_name : (nodes : List Node) (raws : List RawNode) (m : ℕ) → node_name (node_at (map (whole_node nodes) raws) m) ≡ node_name (node_at (map bare_node raws) m)
-whole_name nodes [] m = refl
-whole_name nodes (RawNode.plain n ∷ raws) zero = refl
-whole_name nodes (RawNode.record_of name aliases fields ∷ raws) zero = refl
-whole_name nodes (RawNode.plain n ∷ raws) (suc m) = whole_name nodes raws m
-whole_name nodes (RawNode.record_of name aliases fields ∷ raws) (suc m) = whole_name nodes raws m
+completed_name : (nodes : List Node) (raws : List RawNode) (m : ℕ) → node_name (node_at (map (whole_node nodes) raws) m) ≡ node_name (node_at (map bare_node raws) m)
+completed_name nodes [] m = refl
+completed_name nodes (RawNode.plain n ∷ raws) zero = refl
+completed_name nodes (RawNode.record_of name aliases fields ∷ raws) zero = refl
+completed_name nodes (RawNode.plain n ∷ raws) (suc m) = completed_name nodes raws m
+completed_name nodes (RawNode.record_of name aliases fields ∷ raws) (suc m) = completed_name nodes raws m
 
-whole_edge : (nodes : List Node) (raws : List RawNode) (m p : ℕ) → is_edge (map (whole_node nodes) raws) m p ≡ is_edge (map bare_node raws) m p
-whole_edge nodes raws m p =
+completed_edge : (nodes : List Node) (raws : List RawNode) (m p : ℕ) → is_edge (map (whole_node nodes) raws) m p ≡ is_edge (map bare_node raws) m p
+completed_edge nodes raws m p =
     let count : length (map (whole_node nodes) raws) ≡ length (map bare_node raws) = simp length-map in
-    rw (count, whole_name nodes raws p) refl
+    rw (count, completed_name nodes raws p) refl
 
-whole_edges : (nodes : List Node) (raws : List RawNode) (m : ℕ) (places : List ℕ)
-    → list_all (is_edge (map (whole_node nodes) raws) m) places ≡ list_all (is_edge (map bare_node raws) m) places
-whole_edges nodes raws m [] = refl
-whole_edges nodes raws m (p ∷ places) = rw (whole_edge nodes raws m p, whole_edges nodes raws m places) refl
+completed_edges : (nodes : List Node) (raws : List RawNode) (m : ℕ) (ids : List ℕ)
+    → list_all (is_edge (map (whole_node nodes) raws) m) ids ≡ list_all (is_edge (map bare_node raws) m) ids
+completed_edges nodes raws m [] = refl
+completed_edges nodes raws m (p ∷ ids) = rw (completed_edge nodes raws m p, completed_edges nodes raws m ids) refl
 
-no_union : (nodes : List Node) (place : ℕ) (n : Node) (places : List ℕ) → branches_of n ≡ Some places → list_all (is_edge nodes place) places ≡ true
-    → is_union nodes places ≡ false → breaks invalid_union nodes place n ≡ true
-no_union nodes place (Node.union found) places is edges h =
-    let same : found ≡ places = cc in
+no_union : (nodes : List Node) (id : ℕ) (n : Node) (ids : List ℕ) → branches_of n ≡ Some ids → list_all (is_edge nodes id) ids ≡ true
+    → is_union nodes ids ≡ false → breaks invalid_union nodes id n ≡ true
+no_union nodes id (Node.union found) ids is edges h =
+    let same : found ≡ ids = cc in
     rw (same, edges, h) refl
-no_union nodes place _ places is edges h = absurd cc
+no_union nodes id _ ids is edges h = absurd cc
 
 pub repeated-there : (nodes : List Node) (raws : List RawNode) → SomeRepeats (map bare_node raws) → IsThere invalid_union (map (whole_node nodes) raws)
 repeated-there nodes raws some =
     let r = some.5 in
-    let whole = map (whole_node nodes) raws in
-    let code : (p : ℕ) → code_by whole p ≡ code_by (map bare_node raws) p = λ p. ap (kind_code p) (whole_kind nodes raws p) in
-    let count : length whole ≡ length (map bare_node raws) = simp length-map in
-    let broken = repeated_branch whole some.1 (r.0, r.1, r.2, r.3, r.4, r.5, r.6, code r.2 ∙ r.7 ∙ sym (code r.3)) in
-    broken-there invalid_union whole some.0 (rw count some.2)
-    (no_union whole some.0 (node_at whole some.0) some.1 (whole_branches nodes raws some.0 ∙ some.3) (whole_edges nodes raws some.0 some.1 ∙ some.4) broken)
+    let completed = map (whole_node nodes) raws in
+    let code : (p : ℕ) → code_by completed p ≡ code_by (map bare_node raws) p = λ p. ap (kind_code p) (completed_kind nodes raws p) in
+    let count : length completed ≡ length (map bare_node raws) = simp length-map in
+    let broken = repeated_branch completed some.1 (r.0, r.1, r.2, r.3, r.4, r.5, r.6, code r.2 ∙ r.7 ∙ sym (code r.3)) in
+    broken-there invalid_union completed some.0 (rw count some.2)
+    (no_union completed some.0 (node_at completed some.0) some.1 (completed_branches nodes raws some.0 ∙ some.3) (completed_edges nodes raws some.0 some.1 ∙ some.4) broken)
 
 -- ---- as they are looked for
 
@@ -153,16 +153,16 @@ abbrev pub AreCodes : List Node → List NodeId → BTreeSet ℕ → ℕ → Typ
 AreCodes nodes ids codes i = (m : ℕ) → contains nat_cmp codes m ≡ true
     → (j : ℕ) × (y : ℕ) × (j < i) × (slice_get (ids_of ids) j ≡ Some y) × (code_by nodes y ≡ m)
 
-place_at : (ids : List NodeId) (i : ℕ) (id : NodeId) → i < length ids → slice_get (ids_of ids) i ≡ Some (get_or ids i id).0
-place_at [] i id below = absurd (omega (arith, below))
-place_at (x ∷ ids) zero id below = refl
-place_at (x ∷ ids) (suc i) id below = place_at ids i id (omega (arith, below))
+id_at : (ids : List NodeId) (i : ℕ) (id : NodeId) → i < length ids → slice_get (ids_of ids) i ≡ Some (get_or ids i id).0
+id_at [] i id below = absurd (omega (arith, below))
+id_at (x ∷ ids) zero id below = refl
+id_at (x ∷ ids) (suc i) id below = id_at ids i id (omega (arith, below))
 
 pub repeat-found : (nodes : List Node) (ids : List NodeId) (codes : BTreeSet ℕ) (i : ℕ) (id : NodeId) (code : ℕ) → i < length ids
     → code ≡ code_by nodes (get_or ids i id).0 → contains nat_cmp codes code ≡ true → AreCodes nodes ids codes i → Repeats nodes (ids_of ids)
 repeat-found nodes ids codes i id code below is there are =
     let before = are code there in
-    (i, before.0, (get_or ids i id).0, before.1, before.2, place_at ids i id below, before.3, sym is ∙ sym before.4)
+    (i, before.0, (get_or ids i id).0, before.1, before.2, id_at ids i id below, before.3, sym is ∙ sym before.4)
 
 pub repeat-next : (nodes : List Node) (ids : List NodeId) (old new : BTreeSet ℕ) (i : ℕ) (id : NodeId) (code : ℕ) → i < length ids
     → code ≡ code_by nodes (get_or ids i id).0 → ((m : ℕ) → contains nat_cmp new m ≡ true → (contains nat_cmp old m ≡ true) ⊎ (m ≡ code))
@@ -170,7 +170,7 @@ pub repeat-next : (nodes : List Node) (ids : List NodeId) (old new : BTreeSet �
 repeat-next nodes ids old new i id code below is added are = λ m there.
     elim (added m there) [
       | inl before ↦ (let found = are m before in (found.0, found.1, omega (arith, found.2), found.3, found.4))
-      | inr same ↦ (i, (get_or ids i id).0, omega arith, place_at ids i id below, sym is ∙ sym same)
+      | inr same ↦ (i, (get_or ids i id).0, omega arith, id_at ids i id below, sym is ∙ sym same)
     ]
 
 node_here : (raws : List KeptNode) (i : ℕ) (raw : KeptNode) → i < length raws → node_at (bares_of raws) i ≡ bare_of (get_or raws i raw)
@@ -182,9 +182,9 @@ as_many : (raws : List KeptNode) → length (bares_of raws) ≡ length raws
 as_many [] = refl
 as_many (x ∷ raws) = ap suc (as_many raws)
 
-pub some-repeats : (raws : List KeptNode) (i : ℕ) (raw : KeptNode) (places : List ℕ) → i < length raws → raw ≡ get_or raws i raw
-    → Some places ≡ branches_of (bare_of raw) → list_all (is_edge (bares_of raws) i) places ≡ true → Repeats (bares_of raws) places
+pub some-repeats : (raws : List KeptNode) (i : ℕ) (raw : KeptNode) (ids : List ℕ) → i < length raws → raw ≡ get_or raws i raw
+    → Some ids ≡ branches_of (bare_of raw) → list_all (is_edge (bares_of raws) i) ids ≡ true → Repeats (bares_of raws) ids
     → SomeRepeats (bares_of raws)
-some-repeats raws i raw places below at are edges repeats =
+some-repeats raws i raw ids below at are edges repeats =
     let here : node_at (bares_of raws) i ≡ bare_of raw = node_here raws i raw below ∙ ap bare_of (sym at) in
-    (i, places, omega (arith, as_many raws, below), ap branches_of here ∙ sym are, edges, repeats)
+    (i, ids, omega (arith, as_many raws, below), ap branches_of here ∙ sym are, edges, repeats)

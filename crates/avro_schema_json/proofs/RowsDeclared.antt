@@ -96,7 +96,7 @@ type_named_error : declared_by (codes "[\"null\",{\"type\":\"fixed\",\"name\":\"
 unfolding serde_json_on_literals
 type_named_error = refl
 
--- the default of an enum is the place of a symbol
+-- the default of an enum is the index of a symbol
 default_symbol : declared_by (codes "{\"type\":\"enum\",\"name\":\"E\",\"symbols\":[\"A\",\"B\"],\"default\":\"B\"}")
     ≡ Some (Node.enum (simply (codes "E")) [] (codes "A" ∷ codes "B" ∷ []) (Some 1) ∷ [])
 unfolding serde_json_on_literals

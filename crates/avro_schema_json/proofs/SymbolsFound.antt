@@ -1,45 +1,45 @@
--- The places of symbols, as they are gathered from the last.
+-- The indices of symbols, as they are gathered from the last.
 use Rattle.std.proofs.Common.{◌≡◌, ℕ, suc, ◌+◌, ◌<◌, Bool, true, false, cond, List, [], ◌∷◌, length, Option, Some, None, option_map, get_or, drop, drop-cons, refl, ap, sym, ◌∙◌, arith}
 use Rattle.std.specs.Prelude.{String, string_bytes, bytes_eq}
 use Rattle.std.specs.declared.alloc.Global.{Global}
 use Rattle.avro_schema.specs.Seen.{texts_of}
-use Rattle.avro_schema_json.specs.DeclaredAttributes.{symbol_place}
+use Rattle.avro_schema_json.specs.DeclaredAttributes.{symbol_index}
 use Rattle.avro_schema_json.proofs.NamesSeen.{bytes_eq-comm}
 
--- the first place of a word among the symbols from a place on
-abbrev pub place_from : List ℕ → List (String Global) → ℕ → Option ℕ
-place_from word symbols n = option_map (λ k. k + n) (symbol_place word (texts_of (drop n symbols)))
+-- the first index of a word among the symbols from an index on
+abbrev pub index_from : List ℕ → List (String Global) → ℕ → Option ℕ
+index_from word symbols n = option_map (λ k. k + n) (symbol_index word (texts_of (drop n symbols)))
 
 one_later : (o : Option ℕ) (n : ℕ) → option_map (λ k. k + n) (option_map suc o) ≡ option_map (λ k. k + suc n) o
 one_later None n = refl
-one_later (Some place) n = ap Some (omega arith)
+one_later (Some index) n = ap Some (omega arith)
 
 none_later : (o : Option ℕ) → option_map (λ k. k + 0) o ≡ o
 none_later None = refl
-none_later (Some place) = ap Some (omega arith)
+none_later (Some index) = ap Some (omega arith)
 
 next_here : (symbols : List (String Global)) (n : ℕ) (symbol : String Global) → n < length symbols → symbol ≡ get_or symbols n symbol
     → drop n symbols ≡ symbol ∷ drop (suc n) symbols
 next_here symbols n symbol within is = drop-cons symbols n symbol within ∙ ap (λ s. s ∷ drop (suc n) symbols) (sym is)
 
-pub places_start : (word : List ℕ) (symbols : List (String Global)) (n : ℕ) → n ≡ length symbols → None ≡ place_from word symbols n
-places_start word symbols n is = rw is (past symbols)
+pub indices_start : (word : List ℕ) (symbols : List (String Global)) (n : ℕ) → n ≡ length symbols → None ≡ index_from word symbols n
+indices_start word symbols n is = rw is (past symbols)
   where
-    past : (xs : List (String Global)) → None ≡ option_map (λ k. k + length symbols) (symbol_place word (texts_of (drop (length xs) xs)))
+    past : (xs : List (String Global)) → None ≡ option_map (λ k. k + length symbols) (symbol_index word (texts_of (drop (length xs) xs)))
     past [] = refl
     past (x ∷ xs) = past xs
 
-pub place_next : (symbols : List (String Global)) (n : ℕ) (symbol key : String Global) (place : ℕ) (word : List ℕ) (before after : Option ℕ)
-    → n < length symbols → symbol ≡ get_or symbols n symbol → string_bytes key ≡ string_bytes symbol → place ≡ n → before ≡ place_from word symbols (suc n)
-    → after ≡ cond (bytes_eq (string_bytes key) word) (Some place) before → after ≡ place_from word symbols n
-place_next symbols n symbol key place word before after within at copied placed known put =
-    put ∙ ap (λ p. cond (bytes_eq (string_bytes key) word) (Some p) before) placed ∙ ap (λ b. cond b (Some n) before) (ap (λ t. bytes_eq t word) copied ∙ bytes_eq-comm (string_bytes symbol) word) ∙ by (bytes_eq word (string_bytes symbol)) refl
+pub index_next : (symbols : List (String Global)) (n : ℕ) (symbol key : String Global) (index : ℕ) (word : List ℕ) (before after : Option ℕ)
+    → n < length symbols → symbol ≡ get_or symbols n symbol → string_bytes key ≡ string_bytes symbol → index ≡ n → before ≡ index_from word symbols (suc n)
+    → after ≡ cond (bytes_eq (string_bytes key) word) (Some index) before → after ≡ index_from word symbols n
+index_next symbols n symbol key index word before after within at copied indexed known put =
+    put ∙ ap (λ p. cond (bytes_eq (string_bytes key) word) (Some p) before) indexed ∙ ap (λ b. cond b (Some n) before) (ap (λ t. bytes_eq t word) copied ∙ bytes_eq-comm (string_bytes symbol) word) ∙ by (bytes_eq word (string_bytes symbol)) refl
   where
-    by : (same : Bool) → bytes_eq word (string_bytes symbol) ≡ same → cond (bytes_eq word (string_bytes symbol)) (Some n) before ≡ place_from word symbols n
+    by : (same : Bool) → bytes_eq word (string_bytes symbol) ≡ same → cond (bytes_eq word (string_bytes symbol)) (Some n) before ≡ index_from word symbols n
     by true h = rw (next_here symbols n symbol within at, h) (ap Some (omega arith))
-    by false h = rw (next_here symbols n symbol within at, h) (known ∙ sym (one_later (symbol_place word (texts_of (drop (suc n) symbols))) n))
+    by false h = rw (next_here symbols n symbol within at, h) (known ∙ sym (one_later (symbol_index word (texts_of (drop (suc n) symbols))) n))
 
-pub places_end : (word : List ℕ) (symbols : List (String Global)) (n : ℕ) (found : Option ℕ) → n ≡ 0 → found ≡ place_from word symbols n
-    → found ≡ symbol_place word (texts_of symbols)
-places_end word symbols n found is whole =
-    whole ∙ ap (place_from word symbols) is ∙ none_later (symbol_place word (texts_of symbols))
+pub indices_end : (word : List ℕ) (symbols : List (String Global)) (n : ℕ) (found : Option ℕ) → n ≡ 0 → found ≡ index_from word symbols n
+    → found ≡ symbol_index word (texts_of symbols)
+indices_end word symbols n found is whole =
+    whole ∙ ap (index_from word symbols) is ∙ none_later (symbol_index word (texts_of symbols))

@@ -10,7 +10,7 @@ use Rattle.serde_json.specs.View.{view, items_view}
 use Rattle.serde_json.specs.declared.value.Value.{Value}
 use Rattle.avro_schema_json.specs.declared.error.SchemaError.{SchemaError}
 use Rattle.avro_schema_json.specs.Declares.{RawNode, RawField, Known, Made, Meaning, above, in_turn, meaning_of, branches_of, field_meaning, field_meanings}
-use Rattle.avro_schema_json.specs.Reading.{State, made_at, IsRead, Reads, IsRefusal, Refuses, limit_faults}
+use Rattle.avro_schema_json.specs.inside.Reading.{State, made_at, IsRead, Reads, IsRefusal, Refuses, limit_faults}
 
 -- ---- refusals of a part are refusals of the whole
 
@@ -27,7 +27,7 @@ grown-refused xs ys zs e h = rw (← append_assoc xs ys zs) (first-refused (xs +
 
 -- ---- a node above its parts
 
--- what a part makes inside a node, of which the place is kept
+-- what a part makes inside a node, of which the id is kept
 inside-made : {A : Type 0} (part : Meaning A) (space : List ℕ) (before inside : State) (held : RawNode) (known : Known)
     → inside.nodes ≡ before.nodes ++ held ∷ [] → inside.known ≡ known
     → made_at part space inside ≡ part space known (suc (length before.nodes))
@@ -35,29 +35,29 @@ inside-made part space before inside held known nodes names =
     let next : length inside.nodes ≡ suc (length before.nodes) = ap length nodes ∙ length-append before.nodes (held ∷ []) ∙ omega arith in
     rw (names, next) refl
 
--- a node is put in the place that is kept for it
-put-node : (before parts inside after last : List RawNode) (held node : RawNode) (place : ℕ) → place ≡ length before
-    → inside ≡ before ++ held ∷ [] → after ≡ inside ++ parts → last ≡ slice_set after place node → last ≡ before ++ node ∷ parts
-put-node before parts inside after last held node place at kept added put =
+-- a node is put at the id that is kept for it
+put-node : (before parts inside after last : List RawNode) (held node : RawNode) (id : ℕ) → id ≡ length before
+    → inside ≡ before ++ held ∷ [] → after ≡ inside ++ parts → last ≡ slice_set after id node → last ≡ before ++ node ∷ parts
+put-node before parts inside after last held node id at kept added put =
     let whole : after ≡ before ++ held ∷ parts = added ∙ ap (λ xs. xs ++ parts) kept ∙ append_assoc before (held ∷ []) parts in
     put ∙ rw (whole, at) (set-append_seam before held parts node)
 
 pub above-read : {A : Type 0} (part : Meaning A) (space : List ℕ) (before inside after last : State) (held put : RawNode) (node : A → RawNode)
-    (faults : List SchemaError) (known : Known) (result : A) (place : ℕ)
-    → place ≡ length before.nodes → nat_lt (length before.nodes) max_nodes ≡ true → faults ≡ []
+    (faults : List SchemaError) (known : Known) (result : A) (id : ℕ)
+    → id ≡ length before.nodes → nat_lt (length before.nodes) max_nodes ≡ true → faults ≡ []
     → inside.nodes ≡ before.nodes ++ held ∷ [] → inside.known ≡ known → Reads part space inside after result
-    → put ≡ node result → last.nodes ≡ slice_set after.nodes place put → last.known ≡ after.known
-    → IsRead (above (length before.nodes) node faults (part space known (suc (length before.nodes)))) before last place
-above-read part space before inside after last held put node faults known result place at within clean kept names read is nodes last_names =
+    → put ≡ node result → last.nodes ≡ slice_set after.nodes id put → last.known ≡ after.known
+    → IsRead (above (length before.nodes) node faults (part space known (suc (length before.nodes)))) before last id
+above-read part space before inside after last held put node faults known result id at within clean kept names read is nodes last_names =
     let made = made_at part space inside in
     let same = inside-made part space before inside held known kept names in
     let put_is : put ≡ node made.result = is ∙ ap node (sym read.result_is) in
-    subst (λ parts. IsRead (above (length before.nodes) node faults parts) before last place) same
+    subst (λ parts. IsRead (above (length before.nodes) node faults parts) before last id) same
     (record {
       no_faults = rw (within, clean, read.no_faults) refl;
       result_is = sym at;
-      nodes_are = put-node before.nodes made.nodes inside.nodes after.nodes last.nodes held (node made.result) place at kept read.nodes_are
-          (nodes ∙ ap (λ n. slice_set after.nodes place n) put_is);
+      nodes_are = put-node before.nodes made.nodes inside.nodes after.nodes last.nodes held (node made.result) id at kept read.nodes_are
+          (nodes ∙ ap (λ n. slice_set after.nodes id n) put_is);
       known_are = last_names ∙ read.known_are;
     })
 

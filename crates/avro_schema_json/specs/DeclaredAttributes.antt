@@ -74,24 +74,24 @@ aliases_in namespace ms = aliases_from (alias_texts_in ms)
       faults = texts.faults ++ unless (list_all (λ text. is_some (name_of text namespace)) texts.value) SchemaError.InvalidName;
     }
 
--- the place of a symbol
-abbrev pub symbol_place : List ℕ → List (List ℕ) → Option ℕ
-symbol_place word [] = None
-symbol_place word (symbol ∷ symbols) = if bytes_eq word symbol then Some 0 else option_map suc (symbol_place word symbols)
+-- the index of a symbol
+abbrev pub symbol_index : List ℕ → List (List ℕ) → Option ℕ
+symbol_index word [] = None
+symbol_index word (symbol ∷ symbols) = if bytes_eq word symbol then Some 0 else option_map suc (symbol_index word symbols)
 
--- the place of the default among the symbols of an enum
+-- the index of the default among the symbols of an enum
 abbrev pub default_symbol_from : List (List ℕ) → Option Data → Attribute (Option ℕ)
 default_symbol_from symbols None = record { value = None; faults = [] }
 default_symbol_from symbols (Some d) = from_text (as_str d)
   where
-    from_place : Option ℕ → Attribute (Option ℕ)
-    from_place place = record { value = place; faults = unless (is_some place) SchemaError.InvalidSymbols }
+    from_index : Option ℕ → Attribute (Option ℕ)
+    from_index index = record { value = index; faults = unless (is_some index) SchemaError.InvalidSymbols }
 
     from_text : Option (List ℕ) → Attribute (Option ℕ)
     from_text None = record { value = None; faults = SchemaError.InvalidDeclaration ∷ [] }
-    from_text (Some word) = from_place (symbol_place word symbols)
+    from_text (Some word) = from_index (symbol_index word symbols)
 
--- the symbols of an enum, and the place of its default
+-- the symbols of an enum, and the index of its default
 abbrev pub symbols_in : Members → Attribute (List (List ℕ) × Option ℕ)
 symbols_in ms = symbols_from (option_and_then as_texts (get_member (codes "symbols") ms))
   where

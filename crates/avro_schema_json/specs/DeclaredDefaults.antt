@@ -10,7 +10,7 @@ use Rattle.avro_schema.specs.Node.{Node, FieldNode, node_at, items_node, branche
 use Rattle.avro_schema.specs.Fits.{is_int, is_long}
 use Rattle.serde_json.specs.Data.{Num, Data, Items, no_items, item, Members, no_members, member}
 use Rattle.serde_json.specs.Find.{as_i64}
-use Rattle.avro_schema_json.specs.DeclaredAttributes.{symbol_place}
+use Rattle.avro_schema_json.specs.DeclaredAttributes.{symbol_index}
 
 -- the value, where it passes
 abbrev pub only_if : {A : Type 0} → Bool → A → Option A
@@ -20,7 +20,7 @@ only_if false x = None
 -- Branches from number k on: the first of which there is a datum.
 abbrev pub first_fit : List Node → (Node → Option Value) → ℕ → List ℕ → Option Value
 first_fit nodes read k [] = None
-first_fit nodes read k (place ∷ places) = option_or (option_map (Value.union k) (read (node_at nodes place))) (first_fit nodes read (suc k) places)
+first_fit nodes read k (id ∷ ids) = option_or (option_map (Value.union k) (read (node_at nodes id))) (first_fit nodes read (suc k) ids)
 
 -- A default of a union is one of the first branch that the JSON fits.
 abbrev pub by_first_fit : List Node → Node → (Node → Option Value) → Option Value
@@ -28,7 +28,7 @@ by_first_fit nodes n read = by_branches (branches_of n)
   where
     by_branches : Option (List ℕ) → Option Value
     by_branches None = read n
-    by_branches (Some places) = first_fit nodes read 0 places
+    by_branches (Some ids) = first_fit nodes read 0 ids
 
 abbrev pub null_default : Node → Option Value
 null_default Node.null = Some Value.null
@@ -52,12 +52,12 @@ abbrev pub text_default : List ℕ → Node → Option Value
 text_default text Node.string = Some (Value.string text)
 text_default text Node.bytes = option_map Value.bytes (bytes_of_text text)
 text_default text (Node.fixed name aliases count) = option_and_then (λ b. only_if (length b == count) (Value.fixed b)) (bytes_of_text text)
-text_default text (Node.enum name aliases symbols default) = option_map Value.enum (symbol_place text symbols)
+text_default text (Node.enum name aliases symbols default) = option_map Value.enum (symbol_index text symbols)
 text_default text _ = None
 
 -- items, each a default of the items' node
 abbrev pub items_default : List Node → (Node → Option Values) → Node → Option Value
-items_default nodes read n = option_map Value.array (option_and_then (λ place. read (node_at nodes place)) (items_node n))
+items_default nodes read n = option_map Value.array (option_and_then (λ id. read (node_at nodes id)) (items_node n))
 
 -- the keys of an object
 abbrev pub member_keys : Members → List (List ℕ)
@@ -77,7 +77,7 @@ names_only keys fields = list_all (λ key. list_any (λ f. bytes_eq key f.name) 
 
 -- An object is a map by its entries, or a record by a member for each field and no other.
 abbrev pub object_default : List Node → (Node → Option Entries) → (List ℕ → Option (Node → Option Value)) → List (List ℕ) → Node → Option Value
-object_default nodes entries under keys (Node.map_of place) = option_map Value.map_of (entries (node_at nodes place))
+object_default nodes entries under keys (Node.map_of id) = option_map Value.map_of (entries (node_at nodes id))
 object_default nodes entries under keys (Node.record_of name aliases fields) =
     option_and_then (λ vs. only_if (names_only keys fields) (Value.record_of vs)) (fields_default nodes under fields)
 object_default nodes entries under keys _ = None

@@ -88,13 +88,13 @@ use_of node enclosing known next = above next (λ none. RawNode.plain node) [] (
 abbrev pub reference : List ℕ → Meaning ℕ
 reference word enclosing known next = by_name (name_of word enclosing)
   where
-    by_place : Option ℕ → Made ℕ
-    by_place None = faulty 0 SchemaError.UnknownName enclosing known next
-    by_place (Some place) = record { result = place; nodes = []; known = known; faults = [] }
+    by_id : Option ℕ → Made ℕ
+    by_id None = faulty 0 SchemaError.UnknownName enclosing known next
+    by_id (Some id) = record { result = id; nodes = []; known = known; faults = [] }
 
     by_name : Option Name → Made ℕ
     by_name None = faulty 0 SchemaError.InvalidName enclosing known next
-    by_name (Some name) = by_place (place_of name known)
+    by_name (Some name) = by_id (place_of name known)
 
 -- what a word names
 pub data Word : Type 0 where
@@ -137,16 +137,16 @@ type_of_word word = by_word (word_of word)
 -- a union of its branches in order
 abbrev pub union_of : List (Meaning ℕ) → Meaning ℕ
 union_of branches enclosing known next =
-    above next (λ places. RawNode.plain (Node.union places)) [] (in_turn branches enclosing known (suc next))
+    above next (λ ids. RawNode.plain (Node.union ids)) [] (in_turn branches enclosing known (suc next))
 
 -- an array or a map of the type under one key
 abbrev pub container_of : (ℕ → Node) → Option (Meaning ℕ) → Meaning ℕ
 container_of node None = faulty 0 SchemaError.InvalidDeclaration
-container_of node (Some part) = λ enclosing known next. above next (λ place. RawNode.plain (node place)) [] (part enclosing known (suc next))
+container_of node (Some part) = λ enclosing known next. above next (λ id. RawNode.plain (node id)) [] (part enclosing known (suc next))
 
 -- the names that are known from the start of a definition on
 abbrev pub defining : Name → ℕ → Known → Known
-defining name place known = known ++ (name, place) ∷ []
+defining name id known = known ++ (name, id) ∷ []
 
 -- no name is defined twice
 abbrev pub name_faults : Name → Known → List SchemaError

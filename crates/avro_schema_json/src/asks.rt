@@ -12,7 +12,7 @@ use std::collections::{BTreeMap, BTreeSet};
 /// Nodes that are asked of a value, each once.
 #[derive(Drop)]
 pub(crate) struct Asked {
-    pub places: Vec<NodeId>,
+    pub ids: Vec<NodeId>,
     known: BTreeSet<u32>,
 }
 
@@ -20,25 +20,25 @@ impl Asked {
     /// No nodes.
     fn new(alloc: Global) -> Asked {
         Asked {
-            places: Vec::new(alloc),
+            ids: Vec::new(alloc),
             known: BTreeSet::new(alloc),
         }
     }
 
     /// Asks of one more node.
-    fn add(&mut self, place: NodeId) -> Result<(), Memory> {
-        if self.known.contains(&place.0) {
+    fn add(&mut self, id: NodeId) -> Result<(), Memory> {
+        if self.known.contains(&id.0) {
             return Ok(());
         }
-        self.known.insert(place.0)?;
-        self.places.push(place)?;
+        self.known.insert(id.0)?;
+        self.ids.push(id)?;
         Ok(())
     }
 
     /// Asks of more nodes.
-    fn add_all(&mut self, places: &[NodeId]) -> Result<(), Memory> {
-        for place in places {
-            self.add(*place)?;
+    fn add_all(&mut self, ids: &[NodeId]) -> Result<(), Memory> {
+        for id in ids {
+            self.add(*id)?;
         }
         Ok(())
     }
@@ -47,13 +47,13 @@ impl Asked {
 /// Whether JSON is looked into for two or more of some branches, so that what one finds may be looked at
 /// again for another. Where no part has parts of its own, each branch is tried in place: that costs no more
 /// than its parts.
-pub(crate) fn may_repeat(raws: &[RawNode], tree: &Value, places: &[NodeId]) -> bool {
+pub(crate) fn may_repeat(raws: &[RawNode], tree: &Value, ids: &[NodeId]) -> bool {
     if is_flat(tree) {
         return false;
     }
     let mut is_one = false;
-    for place in places {
-        if may_enter(raws, tree, *place) {
+    for id in ids {
+        if may_enter(raws, tree, *id) {
             if is_one {
                 return true;
             }
@@ -94,10 +94,10 @@ fn has_parts(tree: &Value) -> bool {
     tree.is_array() || tree.is_object()
 }
 
-/// Whether JSON is looked into for the node at a place: an array for an array, an object for a map or a
+/// Whether JSON is looked into for the node of an id: an array for an array, an object for a map or a
 /// record.
-fn may_enter(raws: &[RawNode], tree: &Value, place: NodeId) -> bool {
-    match raws.get(place.0 as usize) {
+fn may_enter(raws: &[RawNode], tree: &Value, id: NodeId) -> bool {
+    match raws.get(id.0 as usize) {
         Some(RawNode::Plain(Node::Array(_))) => tree.is_array(),
         Some(RawNode::Plain(Node::Map(_))) => tree.is_object(),
         Some(RawNode::Record(_)) => tree.is_object(),
@@ -106,19 +106,19 @@ fn may_enter(raws: &[RawNode], tree: &Value, place: NodeId) -> bool {
 }
 
 /// The nodes that are asked, a union by its branches.
-pub(crate) fn own_places(
+pub(crate) fn own_ids(
     alloc: Global,
     raws: &[RawNode],
     asked: &[NodeId],
 ) -> Result<Vec<NodeId>, Memory> {
     let mut own = Asked::new(alloc);
-    for place in asked {
-        match raws.get(place.0 as usize) {
+    for id in asked {
+        match raws.get(id.0 as usize) {
             Some(RawNode::Plain(Node::Union(branches))) => own.add_all(branches)?,
-            _ => own.add(*place)?,
+            _ => own.add(*id)?,
         }
     }
-    Ok(own.places)
+    Ok(own.ids)
 }
 
 /// The nodes that arrays ask of their items.
@@ -128,25 +128,25 @@ pub(crate) fn asked_items(
     own: &[NodeId],
 ) -> Result<Vec<NodeId>, Memory> {
     let mut asked = Asked::new(alloc);
-    for place in own {
-        match raws.get(place.0 as usize) {
+    for id in own {
+        match raws.get(id.0 as usize) {
             Some(RawNode::Plain(Node::Array(items))) => asked.add(*items)?,
             _ => {}
         }
     }
-    Ok(asked.places)
+    Ok(asked.ids)
 }
 
 /// The nodes that maps ask of their values.
 fn asked_values(alloc: Global, raws: &[RawNode], own: &[NodeId]) -> Result<Vec<NodeId>, Memory> {
     let mut asked = Asked::new(alloc);
-    for place in own {
-        match raws.get(place.0 as usize) {
+    for id in own {
+        match raws.get(id.0 as usize) {
             Some(RawNode::Plain(Node::Map(values))) => asked.add(*values)?,
             _ => {}
         }
     }
-    Ok(asked.places)
+    Ok(asked.ids)
 }
 
 /// What is asked of each member: by maps, and by records that have a field of each key and no other.
@@ -158,8 +158,8 @@ pub(crate) fn asked_members<'a>(
 ) -> Result<BTreeMap<&'a str, Asked>, Memory> {
     let values = asked_values(alloc, raws, own)?;
     let mut asked = asked_of_each(alloc, members, &values)?;
-    for place in own {
-        match raws.get(place.0 as usize) {
+    for id in own {
+        match raws.get(id.0 as usize) {
             Some(RawNode::Record(record)) => {
                 let fields = Fields::Raw(&record.fields);
                 if fields.len() == members.len() && !lacks_field(members, fields) {
@@ -191,8 +191,8 @@ fn asked_of_each<'a>(
 fn ask_fields(asked: &mut BTreeMap<&str, Asked>, fields: Fields<'_>) -> Result<(), Memory> {
     for i in 0..fields.len() {
         match fields.get(i) {
-            Some((name, place)) => match asked.get_mut(name) {
-                Some(of_member) => of_member.add(place)?,
+            Some((name, id)) => match asked.get_mut(name) {
+                Some(of_member) => of_member.add(id)?,
                 None => {}
             },
             None => {}

@@ -6,13 +6,13 @@ ghost use Rattle.avro_name.specs.Name.{Name, has_dot, name_of};
 ghost use Rattle.avro_schema.specs.Seen.{texts_of};
 ghost use Rattle.avro_schema_json.specs.DeclaredAttributes.{text_in, needed, name_in, alias_texts_in, aliases_in, default_symbol_from, symbols_in, size_in, as_texts, texts_of as texts_in};
 ghost use Rattle.avro_schema_json.specs.Declares.{form_of as form_of_text};
-ghost use Rattle.avro_schema_json.specs.Reading.{IsAttribute, IsRefusal};
-ghost use Rattle.avro_schema_json.specs.ReadingSeen.{form_seen};
+ghost use Rattle.avro_schema_json.specs.inside.Reading.{IsAttribute, IsRefusal};
+ghost use Rattle.avro_schema_json.specs.inside.ReadingSeen.{form_seen};
 ghost use Rattle.serde_json.specs.Find.{get_member};
 ghost use Rattle.serde_json.specs.View.{view, items_view, members_view};
 
 use crate::error::SchemaError;
-use crate::symbol_places::symbol_places;
+use crate::symbol_indices::symbol_indices;
 use crate::words::{Form, form_of};
 use avro_name::{FullName, Namespace};
 use serde_json::{Map, Value};
@@ -179,7 +179,7 @@ pub(crate) fn field_name(alloc: Global, members: &Members) -> Result<String, Sch
     }
 }
 
-/// The symbols of an enum, and the place of its default.
+/// The symbols of an enum, and the index of its default.
 pub(crate) fn symbols(
     alloc: Global,
     members: &Members,
@@ -195,7 +195,7 @@ pub(crate) fn symbols(
     Ok((symbols, default))
 }
 
-/// The place of an enum's default among its symbols.
+/// The index of an enum's default among its symbols.
 fn default_symbol(
     alloc: Global,
     members: &Members,
@@ -208,9 +208,9 @@ fn default_symbol(
         return Ok(None);
     };
     match value.as_str() {
-        Some(word) => match symbol_places(alloc, symbols) {
-            Ok(places) => match places.get(word) {
-                Some(place) => Ok(Some(*place)),
+        Some(word) => match symbol_indices(alloc, symbols) {
+            Ok(indices) => match indices.get(word) {
+                Some(index) => Ok(Some(*index)),
                 None => Err(SchemaError::InvalidSymbols),
             },
             Err(_) => Err(SchemaError::OutOfMemory),

@@ -2,9 +2,9 @@
 
 ghost use Rattle.std.specs.Prelude.{◌≡◌, [], IfOk, IfErr, OnOk};
 ghost use Rattle.avro_schema_json.specs.Declares.{made_of, meaning_of, union_of, branches_of, fields_from, field_meaning};
-ghost use Rattle.avro_schema_json.specs.Reading.{IsRefusal, array_meaning, map_meaning, record_meaning, fields_meaning};
-ghost use Rattle.avro_schema_json.specs.ReadingSeen.{ReadsAt, ReadsNode, RefusesAt, IsEnclosed, Keeps};
-ghost use Rattle.avro_schema_json.specs.SeenRaw.{raw_nodes_of, raw_field_of, raw_fields_of};
+ghost use Rattle.avro_schema_json.specs.inside.Reading.{IsRefusal, array_meaning, map_meaning, record_meaning, fields_meaning};
+ghost use Rattle.avro_schema_json.specs.inside.ReadingSeen.{ReadsAt, ReadsNode, RefusesAt, IsEnclosed, Keeps};
+ghost use Rattle.avro_schema_json.specs.inside.SeenRaw.{raw_nodes_of, raw_field_of, raw_fields_of};
 ghost use Rattle.serde_json.specs.Data.{object};
 ghost use Rattle.serde_json.specs.View.{view, items_view, members_view};
 
@@ -57,11 +57,11 @@ impl<'a> Progress<'a> {
         ensures kept { OnOk result (Keeps self.old self.new) }
     {
         let id = self.reserve()?;
-        let mut places = Vec::new(alloc);
+        let mut ids = Vec::new(alloc);
         for branch in branches {
-            places.push(self.read_type(alloc, enclosing, branch)?)?;
+            ids.push(self.read_type(alloc, enclosing, branch)?)?;
         }
-        self.put(id, RawNode::Plain(Node::Union(places)));
+        self.put(id, RawNode::Plain(Node::Union(ids)));
         Ok(id)
     }
 
@@ -110,8 +110,8 @@ impl<'a> Progress<'a> {
         ensures kept { OnOk result (Keeps self.old self.new) }
     {
         let id = self.reserve()?;
-        let place = self.read_type(alloc, enclosing, items)?;
-        self.put(id, RawNode::Plain(Node::Array(place)));
+        let part = self.read_type(alloc, enclosing, items)?;
+        self.put(id, RawNode::Plain(Node::Array(part)));
         Ok(id)
     }
 
@@ -129,8 +129,8 @@ impl<'a> Progress<'a> {
         ensures kept { OnOk result (Keeps self.old self.new) }
     {
         let id = self.reserve()?;
-        let place = self.read_type(alloc, enclosing, values)?;
-        self.put(id, RawNode::Plain(Node::Map(place)));
+        let part = self.read_type(alloc, enclosing, values)?;
+        self.put(id, RawNode::Plain(Node::Map(part)));
         Ok(id)
     }
 

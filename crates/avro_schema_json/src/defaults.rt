@@ -5,8 +5,8 @@ ghost use Rattle.avro_schema.specs.Node.{node_at};
 ghost use Rattle.avro_schema.specs.Seen.{value_of, values_of, entries_of, node_of, ids_of};
 ghost use Rattle.avro_schema.specs.Value.{Value as SeenValue};
 ghost use Rattle.avro_schema_json.specs.DeclaredDefaults.{default_of as default_by, each_default, entries_default as each_entry, default_under, fields_default as each_field, object_default as default_of_object, items_default as default_of_items, member_keys, first_fit};
-ghost use Rattle.avro_schema_json.specs.Misfits.{AreMisfits};
-ghost use Rattle.avro_schema_json.specs.OwnDefaults.{own_default as own_default_by, default_of_fields, bare_of, bares_of, fields_seen};
+ghost use Rattle.avro_schema_json.specs.inside.Misfits.{AreMisfits};
+ghost use Rattle.avro_schema_json.specs.inside.OwnDefaults.{own_default as own_default_by, default_of_fields, bare_of, bares_of, fields_seen};
 ghost use Rattle.serde_json.specs.View.{view, items_view, members_view};
 
 use crate::fields::{Fields, names_fields};
@@ -23,24 +23,24 @@ use serde_json::{Map, Value};
 use std::alloc::Global;
 use std::collections::BTreeSet;
 
-/// The default that JSON is for the node at a place, or nothing where it is none. A union takes it
+/// The default that JSON is for the node of an id, or nothing where it is none. A union takes it
 /// as one of the first branch that it fits.
 #[cycle(defaults)]
 pub(crate) fn default_of(
     alloc: Global,
     raws: &[RawNode],
     tree: &Value,
-    place: NodeId,
+    id: NodeId,
 ) -> Result<Option<Datum>, Memory>
-    ensures { IfOk result (λ datum. option_map value_of datum ≡ default_by (bares_of raws.now) (view tree.now) (node_at (bares_of raws.now) place.0)) }
+    ensures { IfOk result (λ datum. option_map value_of datum ≡ default_by (bares_of raws.now) (view tree.now) (node_at (bares_of raws.now) id.0)) }
 {
     let null = RawNode::Plain(Node::Null);
-    let node = raw_at(&*raws, &null, place);
+    let node = raw_at(&*raws, &null, id);
     match branches(node) {
         None => own_default(alloc, raws, tree, node),
-        Some(places) => {
-            let misfits = skipped_branches(alloc, raws, tree, places)?;
-            branch_default(alloc, raws, tree, places, &misfits)
+        Some(ids) => {
+            let misfits = skipped_branches(alloc, raws, tree, ids)?;
+            branch_default(alloc, raws, tree, ids, &misfits)
         }
     }
 }
@@ -52,19 +52,19 @@ fn branch_default(
     alloc: Global,
     raws: &[RawNode],
     tree: &Value,
-    places: &[NodeId],
+    ids: &[NodeId],
     misfits: &BTreeSet<u32>,
 ) -> Result<Option<Datum>, Memory>
     requires { AreMisfits (bares_of raws.now) (view tree.now) misfits.now }
     ensures { IfOk result (λ datum. option_map value_of datum
-        ≡ first_fit (bares_of raws.now) (own_default_by (bares_of raws.now) (view tree.now)) 0 (ids_of places.now)) }
+        ≡ first_fit (bares_of raws.now) (own_default_by (bares_of raws.now) (view tree.now)) 0 (ids_of ids.now)) }
 {
-    for i in 0..places.len() {
-        let place = places[i];
-        if has(misfits, place) {
+    for i in 0..ids.len() {
+        let id = ids[i];
+        if has(misfits, id) {
             continue;
         }
-        match default_at(alloc, raws, tree, place)? {
+        match default_at(alloc, raws, tree, id)? {
             Some(datum) => return in_branch(alloc, i, datum),
             None => {}
         }
@@ -72,18 +72,18 @@ fn branch_default(
     Ok(None)
 }
 
-/// The default that JSON is for the node at a place itself.
+/// The default that JSON is for the node of an id itself.
 #[cycle(defaults)]
 fn default_at(
     alloc: Global,
     raws: &[RawNode],
     tree: &Value,
-    place: NodeId,
+    id: NodeId,
 ) -> Result<Option<Datum>, Memory>
-    ensures { IfOk result (λ datum. option_map value_of datum ≡ own_default_by (bares_of raws.now) (view tree.now) (node_at (bares_of raws.now) place.0)) }
+    ensures { IfOk result (λ datum. option_map value_of datum ≡ own_default_by (bares_of raws.now) (view tree.now) (node_at (bares_of raws.now) id.0)) }
 {
     let null = RawNode::Plain(Node::Null);
-    let node = raw_at(&*raws, &null, place);
+    let node = raw_at(&*raws, &null, id);
     own_default(alloc, raws, tree, node)
 }
 
@@ -152,7 +152,7 @@ fn items_default(
         ≡ default_of_items (bares_of raws.now) (λ m. each_default (bares_of raws.now) (items_view items.now.items) m) (node_of node.now)) }
 {
     match node {
-        Node::Array(place) => match item_defaults(alloc, raws, items, *place)? {
+        Node::Array(id) => match item_defaults(alloc, raws, items, *id)? {
             Some(values) => Ok(Some(Datum::Array(values))),
             None => Ok(None),
         },
@@ -160,20 +160,20 @@ fn items_default(
     }
 }
 
-/// The defaults that items are for the node at a place.
+/// The defaults that items are for the node of an id.
 #[cycle(defaults)]
 fn item_defaults(
     alloc: Global,
     raws: &[RawNode],
     items: &Vec<Value>,
-    place: NodeId,
+    id: NodeId,
 ) -> Result<Option<Vec<Datum>>, Memory>
     ensures { IfOk result (λ values. option_map (λ vs. values_of vs.items) values
-        ≡ each_default (bares_of raws.now) (items_view items.now.items) (node_at (bares_of raws.now) place.0)) }
+        ≡ each_default (bares_of raws.now) (items_view items.now.items) (node_at (bares_of raws.now) id.0)) }
 {
     let mut values: Vec<Datum> = Vec::new(alloc);
     for item in items {
-        let Some(value) = default_of(alloc, raws, item, place)? else {
+        let Some(value) = default_of(alloc, raws, item, id)? else {
             return Ok(None);
         };
         values.push(value)?;
@@ -194,31 +194,31 @@ fn object_default(
         (λ key. default_under (bares_of raws.now) key (members_view members.now.entries)) (member_keys (members_view members.now.entries)) (node_of node.now)) }
 {
     match node {
-        Node::Map(place) => match entry_defaults(alloc, raws, members, *place)? {
+        Node::Map(id) => match entry_defaults(alloc, raws, members, *id)? {
             Some(entries) => Ok(Some(Datum::Map(entries))),
             None => Ok(None),
         },
         Node::Record(record) => {
-            record_default(alloc, raws, members, Fields::Whole(&record.fields))
+            record_default(alloc, raws, members, Fields::Completed(&record.fields))
         }
         _ => Ok(None),
     }
 }
 
-/// The keys, each with the default that its value is for the node at a place.
+/// The keys, each with the default that its value is for the node of an id.
 #[cycle(defaults)]
 fn entry_defaults(
     alloc: Global,
     raws: &[RawNode],
     members: &Map<String, Value>,
-    place: NodeId,
+    id: NodeId,
 ) -> Result<Option<Vec<(String, Datum)>>, Memory>
     ensures { IfOk result (λ entries. option_map (λ es. entries_of es.items) entries
-        ≡ each_entry (bares_of raws.now) (members_view members.now.entries) (node_at (bares_of raws.now) place.0)) }
+        ≡ each_entry (bares_of raws.now) (members_view members.now.entries) (node_at (bares_of raws.now) id.0)) }
 {
     let mut entries: Vec<(String, Datum)> = Vec::new(alloc);
     for (key, tree) in members.iter() {
-        let Some(value) = default_of(alloc, raws, tree, place)? else {
+        let Some(value) = default_of(alloc, raws, tree, id)? else {
             return Ok(None);
         };
         entries.push((copy_of_text(alloc, key.as_str())?, value))?;
@@ -260,13 +260,13 @@ fn field_defaults(
 {
     let mut values: Vec<Datum> = Vec::new(alloc);
     for i in 0..fields.len() {
-        let Some((name, place)) = fields.get(i) else {
+        let Some((name, id)) = fields.get(i) else {
             return Ok(None);
         };
         let Some(tree) = members.get(name) else {
             return Ok(None);
         };
-        let Some(value) = default_of(alloc, raws, tree, place)? else {
+        let Some(value) = default_of(alloc, raws, tree, id)? else {
             return Ok(None);
         };
         values.push(value)?;

@@ -1,5 +1,5 @@
 ghost use Rattle.avro_schema_json.specs.Refusals.{refusal_of};
-ghost use Rattle.avro_schema_json.specs.NameRefusal.{refusal_of_name};
+ghost use Rattle.avro_schema_json.specs.inside.NameRefusal.{refusal_of_name};
 ghost use Rattle.avro_schema_json.specs.declared.error.SchemaError.TheVariants.{OutOfMemory};
 
 use avro_name::NameError;

@@ -1,6 +1,6 @@
 ghost use Rattle.std.specs.Prelude.{◌≡◌, ℕ, List, string_bytes, slice_get, option_map, IfOk};
 ghost use Rattle.avro_schema_json.specs.DeclaredDefaults.{member_keys, names_only};
-ghost use Rattle.avro_schema_json.specs.OwnDefaults.{fields_seen};
+ghost use Rattle.avro_schema_json.specs.inside.OwnDefaults.{fields_seen};
 ghost use Rattle.serde_json.specs.View.{members_view};
 
 use crate::raw::RawField;
@@ -12,35 +12,35 @@ use std::collections::BTreeMap;
 /// The fields of a record, whether their defaults are read or still JSON.
 #[derive(Clone, Copy)]
 pub(crate) enum Fields<'a> {
-    Whole(&'a [Field]),
+    Completed(&'a [Field]),
     Raw(&'a [RawField<'a>]),
 }
 
 impl<'a> Fields<'a> {
     ghost use Rattle.std.specs.Prelude.{◌≡◌, ℕ, List, length, slice_get, option_map, IfOk};
-    ghost use Rattle.avro_schema_json.specs.FieldNames.{HasNames};
-    ghost use Rattle.avro_schema_json.specs.OwnDefaults.{fields_seen};
+    ghost use Rattle.avro_schema_json.specs.inside.FieldNames.{HasNames};
+    ghost use Rattle.avro_schema_json.specs.inside.OwnDefaults.{fields_seen};
 
     /// The number of fields.
     pub(crate) fn len(self) -> usize
         ensures { result ≡ length (fields_seen self.entry) }
     {
         match self {
-            Fields::Whole(fields) => fields.len(),
+            Fields::Completed(fields) => fields.len(),
             Fields::Raw(fields) => fields.len(),
         }
     }
 
-    /// The name of the field at a place, and the place of its node.
-    pub(crate) fn get(self, place: usize) -> Option<(&'a str, NodeId)>
-        ensures { option_map {U = List ℕ × ℕ} (λ f. (f.0.now, f.1.0)) result ≡ option_map {U = List ℕ × ℕ} (λ f. (f.name, f.node)) (slice_get (fields_seen self.entry) place) }
+    /// The name of the field of an index, and the id of its node.
+    pub(crate) fn get(self, index: usize) -> Option<(&'a str, NodeId)>
+        ensures { option_map {U = List ℕ × ℕ} (λ f. (f.0.now, f.1.0)) result ≡ option_map {U = List ℕ × ℕ} (λ f. (f.name, f.node)) (slice_get (fields_seen self.entry) index) }
     {
         match self {
-            Fields::Whole(fields) => match fields.get(place) {
+            Fields::Completed(fields) => match fields.get(index) {
                 Some(field) => Some((field.name.as_str(), field.node)),
                 None => None,
             },
-            Fields::Raw(fields) => raw_get(fields, place),
+            Fields::Raw(fields) => raw_get(fields, index),
         }
     }
 
@@ -61,13 +61,13 @@ impl<'a> Fields<'a> {
     }
 }
 
-/// The name of the field at a place and the place of its node, of fields whose defaults are still
+/// The name of the field of an index and the id of its node, of fields whose defaults are still
 /// JSON.
-fn raw_get<'a>(fields: &'a [RawField<'a>], place: usize) -> Option<(&'a str, NodeId)>
+fn raw_get<'a>(fields: &'a [RawField<'a>], index: usize) -> Option<(&'a str, NodeId)>
     ensures { option_map {U = List ℕ × ℕ} (λ f. (f.0.now, f.1.0)) result
-        ≡ option_map {U = List ℕ × ℕ} (λ f. (string_bytes f.name, f.node.0)) (slice_get fields.now place) }
+        ≡ option_map {U = List ℕ × ℕ} (λ f. (string_bytes f.name, f.node.0)) (slice_get fields.now index) }
 {
-    match fields.get(place) {
+    match fields.get(index) {
         Some(field) => Some((field.name.as_str(), field.node)),
         None => None,
     }

@@ -39,8 +39,8 @@ pub fn schema_or_fault()
 
 /// A union's default is a datum of its first branch wherever the JSON is a default of that branch, which is no union.
 pub fn first_branch_is_taken()
-    ensures { (nodes : List Node) (tree : Data) (union : Node) (place : ℕ) (others : List ℕ) (v : Value) → branches_of union ≡ Some (place ∷ others)
-        → branches_of (node_at nodes place) ≡ None → default_of nodes tree (node_at nodes place) ≡ Some v
+    ensures { (nodes : List Node) (tree : Data) (union : Node) (id : ℕ) (others : List ℕ) (v : Value) → branches_of union ≡ Some (id ∷ others)
+        → branches_of (node_at nodes id) ≡ None → default_of nodes tree (node_at nodes id) ≡ Some v
         → default_of nodes tree union ≡ Some (Value.union 0 v) }
 {}
 

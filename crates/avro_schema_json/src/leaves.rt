@@ -2,8 +2,8 @@
 
 ghost use Rattle.std.specs.Prelude.{IfOk, IfErr, OnOk};
 ghost use Rattle.avro_schema_json.specs.Declares.{type_of_word};
-ghost use Rattle.avro_schema_json.specs.Reading.{enum_meaning, fixed_meaning};
-ghost use Rattle.avro_schema_json.specs.ReadingSeen.{ReadsNode, RefusesAt, IsEnclosed, Keeps};
+ghost use Rattle.avro_schema_json.specs.inside.Reading.{enum_meaning, fixed_meaning};
+ghost use Rattle.avro_schema_json.specs.inside.ReadingSeen.{ReadsNode, RefusesAt, IsEnclosed, Keeps};
 ghost use Rattle.serde_json.specs.View.{members_view};
 
 use crate::attributes::{Members, aliases, size, symbols};
@@ -11,7 +11,7 @@ use crate::error::SchemaError;
 use crate::name_table::Space;
 use crate::progress::{Definition, Progress};
 use crate::raw::{RawEnum, RawNode};
-use crate::symbol_places::symbol_places;
+use crate::symbol_indices::symbol_indices;
 use crate::words::{Word, word_of};
 use avro_schema::{EnumNode, FixedNode, Node, NodeId};
 use std::alloc::Global;
@@ -51,8 +51,8 @@ impl Progress<'_> {
         let Definition { id, name, space } = self.begin(alloc, enclosing, members)?;
         let aliases = aliases(alloc, &space.namespace, members)?;
         let (symbols, default) = symbols(alloc, members)?;
-        let places = match symbol_places(alloc, &symbols) {
-            Ok(places) => places,
+        let indices = match symbol_indices(alloc, &symbols) {
+            Ok(indices) => indices,
             Err(_) => return Err(SchemaError::OutOfMemory),
         };
         let node = EnumNode {
@@ -61,7 +61,7 @@ impl Progress<'_> {
             symbols,
             default,
         };
-        self.put(id, RawNode::Enum(RawEnum { node, places }));
+        self.put(id, RawNode::Enum(RawEnum { node, indices }));
         Ok(id)
     }
 

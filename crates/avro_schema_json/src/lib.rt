@@ -5,6 +5,7 @@
 
 mod asks;
 mod attributes;
+mod completed;
 mod declarations;
 mod defaults;
 mod error;
@@ -22,9 +23,8 @@ mod raw_nodes;
 mod read;
 mod reader_text;
 mod repeats;
-mod symbol_places;
+mod symbol_indices;
 mod texts;
-mod whole;
 mod words;
 
 pub use error::SchemaError;

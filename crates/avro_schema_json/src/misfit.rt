@@ -5,8 +5,8 @@ ghost use Rattle.std.specs.List.{list_all};
 ghost use Rattle.avro_name.specs.Name.{Name};
 ghost use Rattle.avro_schema.specs.Node.{Node as SeenNode, FieldNode, node_at};
 ghost use Rattle.avro_schema.specs.Seen.{node_of, ids_of};
-ghost use Rattle.avro_schema_json.specs.Misfits.{has_place, is_misfit as is_misfit_by, AreItemMisfits, AreMemberMisfits, IsMemberMisfit};
-ghost use Rattle.avro_schema_json.specs.OwnDefaults.{own_default as own_default_by, default_of_fields, fields_seen, bare_of, bares_of};
+ghost use Rattle.avro_schema_json.specs.inside.Misfits.{has_id, is_misfit as is_misfit_by, AreItemMisfits, AreMemberMisfits, IsMemberMisfit};
+ghost use Rattle.avro_schema_json.specs.inside.OwnDefaults.{own_default as own_default_by, default_of_fields, fields_seen, bare_of, bares_of};
 ghost use Rattle.avro_schema_json.specs.DeclaredDefaults.{each_default, entries_default};
 ghost use Rattle.serde_json.specs.Data.{Data, Items, Members};
 ghost use Rattle.serde_json.specs.View.{view, members_view};
@@ -22,47 +22,47 @@ use serde_json::{Map, Value};
 use std::alloc::Global;
 use std::collections::{BTreeMap, BTreeSet};
 
-/// Whether the node at a place is among some, or a union of such nodes.
-pub(crate) fn is_misfit(raws: &[RawNode], places: &BTreeSet<u32>, place: NodeId) -> bool
-    ensures { result ≡ is_misfit_by (bares_of raws.now) places.now place.0 }
+/// Whether the node of an id is among some, or a union of such nodes.
+pub(crate) fn is_misfit(raws: &[RawNode], ids: &BTreeSet<u32>, id: NodeId) -> bool
+    ensures { result ≡ is_misfit_by (bares_of raws.now) ids.now id.0 }
 {
     let null = RawNode::Plain(Node::Null);
-    match branches(raw_at(&*raws, &null, place)) {
-        None => has(places, place),
-        Some(branches) => has_each(places, branches),
+    match branches(raw_at(&*raws, &null, id)) {
+        None => has(ids, id),
+        Some(branches) => has_each(ids, branches),
     }
 }
 
-/// Whether a place is among some.
-pub(crate) fn has(places: &BTreeSet<u32>, place: NodeId) -> bool
-    ensures { result ≡ has_place places.now place.0 }
+/// Whether an id is among some.
+pub(crate) fn has(ids: &BTreeSet<u32>, id: NodeId) -> bool
+    ensures { result ≡ has_id ids.now id.0 }
 {
-    places.contains(&place.0)
+    ids.contains(&id.0)
 }
 
-/// Whether each of these places is among some.
-fn has_each(places: &BTreeSet<u32>, asked: &[NodeId]) -> bool
-    ensures { result ≡ list_all (has_place places.now) (ids_of asked.now) }
+/// Whether each of these ids is among some.
+fn has_each(ids: &BTreeSet<u32>, asked: &[NodeId]) -> bool
+    ensures { result ≡ list_all (has_id ids.now) (ids_of asked.now) }
 {
-    for place in asked {
-        if !has(places, *place) {
+    for id in asked {
+        if !has(ids, *id) {
             return false;
         }
     }
     true
 }
 
-/// Whether JSON without parts is no default of the node at a place.
+/// Whether JSON without parts is no default of the node of an id.
 pub(crate) fn is_leaf_misfit(
     alloc: Global,
     raws: &[RawNode],
     tree: &Value,
-    place: NodeId,
+    id: NodeId,
 ) -> Result<bool, Memory>
-    ensures { IfOk result (λ answer. answer ≡ true → own_default_by (bares_of raws.now) (view tree.now) (node_at (bares_of raws.now) place.0) ≡ None) }
+    ensures { IfOk result (λ answer. answer ≡ true → own_default_by (bares_of raws.now) (view tree.now) (node_at (bares_of raws.now) id.0) ≡ None) }
 {
     let null = RawNode::Plain(Node::Null);
-    match raw_at(&*raws, &null, place) {
+    match raw_at(&*raws, &null, id) {
         RawNode::Plain(node) => is_plain_misfit(alloc, tree, node),
         RawNode::Enum(raw) => Ok(enum_default(tree, raw).is_none()),
         RawNode::Record(_) => Ok(is_no_object(tree)),
@@ -98,13 +98,13 @@ fn is_plain_misfit(alloc: Global, tree: &Value, node: &Node) -> Result<bool, Mem
     }
 }
 
-/// Whether an array is no default of the node at a place, by the sets of its items.
-pub(crate) fn is_array_misfit(raws: &[RawNode], parts: &[BTreeSet<u32>], place: NodeId) -> bool
+/// Whether an array is no default of the node of an id, by the sets of its items.
+pub(crate) fn is_array_misfit(raws: &[RawNode], parts: &[BTreeSet<u32>], id: NodeId) -> bool
     ensures { result ≡ true → (ds : Items) → AreItemMisfits (bares_of raws.now) ds parts.now
-        → own_default_by (bares_of raws.now) (Data.array ds) (node_at (bares_of raws.now) place.0) ≡ None }
+        → own_default_by (bares_of raws.now) (Data.array ds) (node_at (bares_of raws.now) id.0) ≡ None }
 {
     let null = RawNode::Plain(Node::Null);
-    match raw_at(&*raws, &null, place) {
+    match raw_at(&*raws, &null, id) {
         RawNode::Plain(node) => match node {
             Node::Array(items) => is_one_misfit(raws, parts, *items),
             Node::Null | Node::Boolean | Node::Int | Node::Long | Node::Bytes | Node::Str => true,
@@ -116,32 +116,32 @@ pub(crate) fn is_array_misfit(raws: &[RawNode], parts: &[BTreeSet<u32>], place: 
     }
 }
 
-/// Whether one of the items is no default of the node at a place.
-fn is_one_misfit(raws: &[RawNode], parts: &[BTreeSet<u32>], place: NodeId) -> bool
+/// Whether one of the items is no default of the node of an id.
+fn is_one_misfit(raws: &[RawNode], parts: &[BTreeSet<u32>], id: NodeId) -> bool
     ensures { result ≡ true → (ds : Items) → AreItemMisfits (bares_of raws.now) ds parts.now
-        → each_default (bares_of raws.now) ds (node_at (bares_of raws.now) place.0) ≡ None }
+        → each_default (bares_of raws.now) ds (node_at (bares_of raws.now) id.0) ≡ None }
 {
     for part in parts {
-        if is_misfit(raws, part, place) {
+        if is_misfit(raws, part, id) {
             return true;
         }
     }
     false
 }
 
-/// Whether an object is no default of the node at a place, by the sets of its members.
+/// Whether an object is no default of the node of an id, by the sets of its members.
 pub(crate) fn is_object_misfit(
     alloc: Global,
     raws: &[RawNode],
     members: &Map<String, Value>,
     parts: &BTreeMap<&str, BTreeSet<u32>>,
-    place: NodeId,
+    id: NodeId,
 ) -> Result<bool, Memory>
     ensures { IfOk result (λ answer. answer ≡ true → AreMemberMisfits (bares_of raws.now) (members_view members.now.entries) parts.now
-        → own_default_by (bares_of raws.now) (Data.object (members_view members.now.entries)) (node_at (bares_of raws.now) place.0) ≡ None) }
+        → own_default_by (bares_of raws.now) (Data.object (members_view members.now.entries)) (node_at (bares_of raws.now) id.0) ≡ None) }
 {
     let null = RawNode::Plain(Node::Null);
-    match raw_at(&*raws, &null, place) {
+    match raw_at(&*raws, &null, id) {
         RawNode::Plain(node) => match node {
             Node::Map(values) => Ok(is_map_misfit(raws, members, parts, *values)),
             Node::Null | Node::Boolean | Node::Int | Node::Long | Node::Bytes | Node::Str => Ok(
@@ -157,35 +157,35 @@ pub(crate) fn is_object_misfit(
     }
 }
 
-/// Whether one of the members is no default of the node at a place.
+/// Whether one of the members is no default of the node of an id.
 fn is_map_misfit(
     raws: &[RawNode],
     members: &Map<String, Value>,
     parts: &BTreeMap<&str, BTreeSet<u32>>,
-    place: NodeId,
+    id: NodeId,
 ) -> bool
     ensures { result ≡ true → AreMemberMisfits (bares_of raws.now) (members_view members.now.entries) parts.now
-        → entries_default (bares_of raws.now) (members_view members.now.entries) (node_at (bares_of raws.now) place.0) ≡ None }
+        → entries_default (bares_of raws.now) (members_view members.now.entries) (node_at (bares_of raws.now) id.0) ≡ None }
 {
     for (key, _) in members.iter() {
-        if is_member_misfit(raws, parts, key.as_str(), place) {
+        if is_member_misfit(raws, parts, key.as_str(), id) {
             return true;
         }
     }
     false
 }
 
-/// Whether the member of a key is no default of the node at a place.
+/// Whether the member of a key is no default of the node of an id.
 fn is_member_misfit(
     raws: &[RawNode],
     parts: &BTreeMap<&str, BTreeSet<u32>>,
     key: &str,
-    place: NodeId,
+    id: NodeId,
 ) -> bool
-    ensures { result ≡ true → (ms : Members) → AreMemberMisfits (bares_of raws.now) ms parts.now → IsMemberMisfit (bares_of raws.now) ms key.now place.0 }
+    ensures { result ≡ true → (ms : Members) → AreMemberMisfits (bares_of raws.now) ms parts.now → IsMemberMisfit (bares_of raws.now) ms key.now id.0 }
 {
     match parts.get(key) {
-        Some(part) => is_misfit(raws, part, place),
+        Some(part) => is_misfit(raws, part, id),
         None => false,
     }
 }
@@ -215,10 +215,10 @@ pub(crate) fn lacks_field(members: &Map<String, Value>, fields: Fields<'_>) -> b
     ensures { result ≡ true → (nodes : List SeenNode) → default_of_fields nodes (members_view members.now.entries) (fields_seen fields.entry) ≡ None }
 {
     for i in 0..fields.len() {
-        let Some((name, place)) = fields.get(i) else {
+        let Some((name, id)) = fields.get(i) else {
             return false;
         };
-        let _ = place;
+        let _ = id;
         let Some(_) = members.get(name) else {
             return true;
         };
@@ -237,8 +237,8 @@ fn is_field_misfit(
 {
     for i in 0..fields.len() {
         match fields.get(i) {
-            Some((name, place)) => {
-                if is_member_misfit(raws, parts, name, place) {
+            Some((name, id)) => {
+                if is_member_misfit(raws, parts, name, id) {
                     return true;
                 }
             }

@@ -5,12 +5,12 @@ ghost use Rattle.std.specs.Prelude.{◌≡◌, ◌⊎◌, ℕ, true, None, IfOk,
 ghost use Rattle.std.specs.List.{list_all};
 ghost use Rattle.avro_schema.specs.Node.{node_at};
 ghost use Rattle.avro_schema.specs.Seen.{ids_of};
-ghost use Rattle.avro_schema_json.specs.Misfits.{has_place, is_misfit as is_misfit_by, AreMisfits, AreItemMisfits, AreMemberMisfits};
-ghost use Rattle.avro_schema_json.specs.OwnDefaults.{own_default as own_default_by, bares_of};
+ghost use Rattle.avro_schema_json.specs.inside.Misfits.{has_id, is_misfit as is_misfit_by, AreMisfits, AreItemMisfits, AreMemberMisfits};
+ghost use Rattle.avro_schema_json.specs.inside.OwnDefaults.{own_default as own_default_by, bares_of};
 ghost use Rattle.serde_json.specs.Data.{Data, Items};
 ghost use Rattle.serde_json.specs.View.{view, items_view, members_view};
 
-use crate::asks::{asked_items, asked_members, may_repeat, own_places};
+use crate::asks::{asked_items, asked_members, may_repeat, own_ids};
 use crate::misfit::{is_array_misfit, is_leaf_misfit, is_object_misfit};
 use crate::raw::RawNode;
 use avro_schema::{Memory, NodeId};
@@ -24,12 +24,12 @@ pub(crate) fn skipped_branches(
     alloc: Global,
     raws: &[RawNode],
     tree: &Value,
-    places: &[NodeId],
+    ids: &[NodeId],
 ) -> Result<BTreeSet<u32>, Memory>
     ensures { IfOk result (λ skipped. AreMisfits (bares_of raws.now) (view tree.now) skipped) }
 {
-    if may_repeat(raws, tree, places) {
-        return misfits_of(alloc, raws, tree, places);
+    if may_repeat(raws, tree, ids) {
+        return misfits_of(alloc, raws, tree, ids);
     }
     Ok(BTreeSet::new(alloc))
 }
@@ -42,9 +42,9 @@ fn misfits_of(
     tree: &Value,
     asked: &[NodeId],
 ) -> Result<BTreeSet<u32>, Memory>
-    ensures { IfOk result (λ places. AreMisfits (bares_of raws.now) (view tree.now) places) }
+    ensures { IfOk result (λ ids. AreMisfits (bares_of raws.now) (view tree.now) ids) }
 {
-    let own = own_places(alloc, raws, asked)?;
+    let own = own_ids(alloc, raws, asked)?;
     match tree {
         Value::Array(items) => {
             let parts = item_misfits(alloc, raws, items, &own)?;
@@ -94,7 +94,7 @@ fn member_misfits<'a>(
         match asked.get(key) {
             Some(of_member) => match members.get(key) {
                 Some(tree) => {
-                    let part = misfits_of(alloc, raws, tree, &of_member.places)?;
+                    let part = misfits_of(alloc, raws, tree, &of_member.ids)?;
                     parts.insert(key, part)?;
                 }
                 None => {}
@@ -105,11 +105,11 @@ fn member_misfits<'a>(
     Ok(parts)
 }
 
-/// Adds a place.
-fn add(places: &mut BTreeSet<u32>, place: NodeId) -> Result<(), Memory>
-    ensures { OnOk result ((m : ℕ) → has_place places.new m ≡ true → (has_place places.old m ≡ true) ⊎ (m ≡ place.0)) }
+/// Adds an id.
+fn add(ids: &mut BTreeSet<u32>, id: NodeId) -> Result<(), Memory>
+    ensures { OnOk result ((m : ℕ) → has_id ids.new m ≡ true → (has_id ids.old m ≡ true) ⊎ (m ≡ id.0)) }
 {
-    places.insert(place.0)?;
+    ids.insert(id.0)?;
     Ok(())
 }
 
@@ -120,15 +120,15 @@ fn leaf_misfits(
     tree: &Value,
     own: &[NodeId],
 ) -> Result<BTreeSet<u32>, Memory>
-    ensures { IfOk result (λ places. AreMisfits (bares_of raws.now) (view tree.now) places) }
+    ensures { IfOk result (λ ids. AreMisfits (bares_of raws.now) (view tree.now) ids) }
 {
-    let mut places: BTreeSet<u32> = BTreeSet::new(alloc);
-    for place in own {
-        if is_leaf_misfit(alloc, raws, tree, *place)? {
-            add(&mut places, *place)?;
+    let mut ids: BTreeSet<u32> = BTreeSet::new(alloc);
+    for id in own {
+        if is_leaf_misfit(alloc, raws, tree, *id)? {
+            add(&mut ids, *id)?;
         }
     }
-    Ok(places)
+    Ok(ids)
 }
 
 /// The nodes that an array is no default of, by the sets of its items.
@@ -139,16 +139,16 @@ fn array_misfits(
     parts: &[BTreeSet<u32>],
     own: &[NodeId],
 ) -> Result<BTreeSet<u32>, Memory>
-    ensures { IfOk result (λ places. AreItemMisfits (bares_of raws.now) (items_view _items.now.items) parts.now
-        → AreMisfits (bares_of raws.now) (Data.array (items_view _items.now.items)) places) }
+    ensures { IfOk result (λ ids. AreItemMisfits (bares_of raws.now) (items_view _items.now.items) parts.now
+        → AreMisfits (bares_of raws.now) (Data.array (items_view _items.now.items)) ids) }
 {
-    let mut places: BTreeSet<u32> = BTreeSet::new(alloc);
-    for place in own {
-        if is_array_misfit(raws, parts, *place) {
-            add(&mut places, *place)?;
+    let mut ids: BTreeSet<u32> = BTreeSet::new(alloc);
+    for id in own {
+        if is_array_misfit(raws, parts, *id) {
+            add(&mut ids, *id)?;
         }
     }
-    Ok(places)
+    Ok(ids)
 }
 
 /// The nodes that an object is no default of, by the sets of its members.
@@ -159,14 +159,14 @@ fn object_misfits(
     parts: &BTreeMap<&str, BTreeSet<u32>>,
     own: &[NodeId],
 ) -> Result<BTreeSet<u32>, Memory>
-    ensures { IfOk result (λ places. AreMemberMisfits (bares_of raws.now) (members_view members.now.entries) parts.now
-        → AreMisfits (bares_of raws.now) (Data.object (members_view members.now.entries)) places) }
+    ensures { IfOk result (λ ids. AreMemberMisfits (bares_of raws.now) (members_view members.now.entries) parts.now
+        → AreMisfits (bares_of raws.now) (Data.object (members_view members.now.entries)) ids) }
 {
-    let mut places: BTreeSet<u32> = BTreeSet::new(alloc);
-    for place in own {
-        if is_object_misfit(alloc, raws, members, parts, *place)? {
-            add(&mut places, *place)?;
+    let mut ids: BTreeSet<u32> = BTreeSet::new(alloc);
+    for id in own {
+        if is_object_misfit(alloc, raws, members, parts, *id)? {
+            add(&mut ids, *id)?;
         }
     }
-    Ok(places)
+    Ok(ids)
 }

@@ -1,6 +1,6 @@
 //! The names that are known.
 
-ghost use Rattle.avro_schema_json.specs.KnownNames.{IsIndexOf};
+ghost use Rattle.avro_schema_json.specs.inside.KnownNames.{IsIndexOf};
 
 use avro_name::{FullName, Namespace};
 use std::alloc::{AllocError, Global};
@@ -13,7 +13,7 @@ pub(crate) struct Space {
     pub number: u32,
 }
 
-/// The names of the definitions that have begun, in their order, with the places of their nodes.
+/// The names of the definitions that have begun, in their order, with the ids of their nodes.
 ///
 /// The namespaces are numbered, and a name is found by the number of its namespace and its simple part, so
 /// that a long namespace is not looked at for each name in it. Names are found by an order and by no hash,
@@ -22,15 +22,15 @@ pub(crate) struct Space {
 pub(crate) struct NameTable {
     order: Vec<(FullName, u32)>,
     numbers: BTreeMap<Namespace, u32>,
-    places: BTreeMap<(u32, String), u32>,
-    ghost agree: { IsIndexOf order.items numbers places },
+    ids: BTreeMap<(u32, String), u32>,
+    ghost agree: { IsIndexOf order.items numbers ids },
 }
 
 impl NameTable {
     ghost use Rattle.std.specs.Prelude.{◌≡◌, ℕ, List, [], None, Some, IfOk, OnOk};
     ghost use Rattle.avro_schema_json.specs.Declares.{place_of, defining};
-    ghost use Rattle.avro_schema_json.specs.KnownNames.{number_of};
-    ghost use Rattle.avro_schema_json.specs.KnownSeen.{known_of, IsNumbered, KeepsNumbers};
+    ghost use Rattle.avro_schema_json.specs.inside.KnownNames.{number_of};
+    ghost use Rattle.avro_schema_json.specs.inside.KnownSeen.{known_of, IsNumbered, KeepsNumbers};
 
     /// No names.
     pub fn new(alloc: Global) -> NameTable
@@ -39,7 +39,7 @@ impl NameTable {
         NameTable {
             order: Vec::new(alloc),
             numbers: BTreeMap::new(alloc),
-            places: BTreeMap::new(alloc),
+            ids: BTreeMap::new(alloc),
         }
     }
 
@@ -83,29 +83,24 @@ impl NameTable {
         }
     }
 
-    /// The place of the definition of a name.
-    pub fn place(&self, alloc: Global, name: &FullName) -> Result<Option<u32>, AllocError>
-        ensures { IfOk result (λ place. place ≡ place_of name.now (known_of self.now)) }
+    /// The id of the definition of a name.
+    pub fn id(&self, alloc: Global, name: &FullName) -> Result<Option<u32>, AllocError>
+        ensures { IfOk result (λ id. id ≡ place_of name.now (known_of self.now)) }
     {
         match self.numbers.get(name.space()) {
-            Some(number) => self.place_at(alloc, *number, name.simple()),
+            Some(number) => self.id_in(alloc, *number, name.simple()),
             None => Ok(None),
         }
     }
 
-    /// The place of the definition of a simple name in the namespace of this number.
-    pub fn place_at(
-        &self,
-        alloc: Global,
-        number: u32,
-        simple: &str,
-    ) -> Result<Option<u32>, AllocError>
-        ensures { IfOk result (λ place. (namespace : List ℕ) → number_of self.now.numbers namespace ≡ Some number
-            → place ≡ place_of (record { namespace = namespace; simple = simple.now }) (known_of self.now)) }
+    /// The id of the definition of a simple name in the namespace of this number.
+    pub fn id_in(&self, alloc: Global, number: u32, simple: &str) -> Result<Option<u32>, AllocError>
+        ensures { IfOk result (λ id. (namespace : List ℕ) → number_of self.now.numbers namespace ≡ Some number
+            → id ≡ place_of (record { namespace = namespace; simple = simple.now }) (known_of self.now)) }
     {
         let text = String::from_str(alloc, simple)?;
         let key = (number, text);
-        Ok(self.places.get(&key).copied())
+        Ok(self.ids.get(&key).copied())
     }
 
     /// Adds a name that is not known, in a numbered namespace.
@@ -114,16 +109,16 @@ impl NameTable {
         alloc: Global,
         space: &Space,
         name: &FullName,
-        place: u32,
+        id: u32,
     ) -> Result<(), AllocError>
         requires { IsNumbered self.old space.now × (space.now.namespace ≡ name.now.namespace) × (place_of name.now (known_of self.old) ≡ None) }
-        ensures added { OnOk result (known_of self.new ≡ defining name.now place (known_of self.old)) }
+        ensures added { OnOk result (known_of self.new ≡ defining name.now id (known_of self.old)) }
         ensures kept { KeepsNumbers self.old self.new }
     {
         let text = String::from_str(alloc, name.simple())?;
         let key = (space.number, text);
-        self.order.push((name.clone()?, place))?;
-        match self.places.insert(key, place) {
+        self.order.push((name.clone()?, id))?;
+        match self.ids.insert(key, id) {
             Ok(_) => Ok(()),
             Err(_) => {
                 let _ = self.order.pop();

@@ -8,12 +8,12 @@ ghost use Rattle.avro_schema.specs.Node.{Node as SeenNode};
 ghost use Rattle.avro_schema.specs.Seen.{value_of, node_of};
 ghost use Rattle.avro_schema.specs.Value.{Value};
 ghost use Rattle.avro_schema_json.specs.DeclaredDefaults.{null_default as default_of_null, boolean_default as default_of_boolean, number_default as default_of_number, text_default as default_of_text, bytes_of_text as bytes_in, only_if};
-ghost use Rattle.avro_schema_json.specs.OwnDefaults.{own_default as own_default_by};
-ghost use Rattle.avro_schema_json.specs.SeenRaw.{enum_of};
+ghost use Rattle.avro_schema_json.specs.inside.OwnDefaults.{own_default as own_default_by};
+ghost use Rattle.avro_schema_json.specs.inside.SeenRaw.{enum_of};
 ghost use Rattle.serde_json.specs.View.{number_view, view};
 
 use crate::raw::RawEnum;
-use crate::symbol_places::{symbol_default, symbol_places};
+use crate::symbol_indices::{symbol_default, symbol_indices};
 use crate::texts::copy_of_text;
 use avro_schema::{Datum, Memory, Node};
 use serde_json::{Number, Value as Json};
@@ -81,8 +81,8 @@ pub(crate) fn text_default(alloc: Global, text: &str, node: &Node) -> Result<Opt
             None => Ok(None),
         },
         Node::Enum(enumeration) => {
-            let places = symbol_places(alloc, &enumeration.symbols)?;
-            Ok(symbol_default(&places, text))
+            let indices = symbol_indices(alloc, &enumeration.symbols)?;
+            Ok(symbol_default(&indices, text))
         }
         _ => Ok(None),
     }
@@ -96,7 +96,7 @@ pub(crate) fn enum_default(tree: &Json, raw: &RawEnum) -> Option<Datum>
         Json::Null => None,
         Json::Bool(_) => None,
         Json::Number(_) => None,
-        Json::String(word) => symbol_default(&raw.places, word.as_str()),
+        Json::String(word) => symbol_default(&raw.indices, word.as_str()),
         Json::Array(_) => None,
         Json::Object(_) => None,
     }

@@ -4,9 +4,9 @@ ghost use Rattle.avro_schema.specs.Node.Node.{null as NullNode};
 ghost use Rattle.avro_schema_json.specs.DeclaredAttributes.{name_in};
 ghost use Rattle.avro_schema_json.specs.Declares.RawNode.{plain as plain_node};
 ghost use Rattle.avro_schema_json.specs.Declares.{reference, place_of};
-ghost use Rattle.avro_schema_json.specs.Reading.{State, made_at, IsRead, IsRefusal, IsAdded, IsBegun, limit_faults, beginning_faults};
-ghost use Rattle.avro_schema_json.specs.ReadingSeen.{state_of, IsEnclosed, Keeps};
-ghost use Rattle.avro_schema_json.specs.SeenRaw.{raw_node_of};
+ghost use Rattle.avro_schema_json.specs.inside.Reading.{State, made_at, IsRead, IsRefusal, IsAdded, IsBegun, limit_faults, beginning_faults};
+ghost use Rattle.avro_schema_json.specs.inside.ReadingSeen.{state_of, IsEnclosed, Keeps};
+ghost use Rattle.avro_schema_json.specs.inside.SeenRaw.{raw_node_of};
 ghost use Rattle.serde_json.specs.View.{members_view};
 
 use crate::attributes::{Members, full_name, has_dot, inherits, name};
@@ -54,15 +54,15 @@ impl<'a> Progress<'a> {
         ensures refused { IfErr result (IsRefusal (limit_faults (state_of self.old))) }
         ensures kept { Keeps self.old self.new }
     {
-        let place = self.nodes.len();
-        if place >= MAX_NODES {
+        let id = self.nodes.len();
+        if id >= MAX_NODES {
             return Err(SchemaError::LimitExceeded);
         }
         self.nodes.push(node)?;
-        Ok(NodeId(place as u32))
+        Ok(NodeId(id as u32))
     }
 
-    /// Keeps a place for a node whose parts come after it.
+    /// Keeps an id for a node whose parts come after it.
     pub fn reserve(&mut self) -> Result<NodeId, SchemaError>
         ensures added { IfOk result (λ id. IsAdded (state_of self.old) (state_of self.new) (plain_node NullNode) id.0) }
         ensures refused { IfErr result (IsRefusal (limit_faults (state_of self.old))) }
@@ -71,7 +71,7 @@ impl<'a> Progress<'a> {
         self.add(RawNode::Plain(Node::Null))
     }
 
-    /// Puts a node at its place.
+    /// Puts the node of an id.
     pub fn put(&mut self, id: NodeId, node: RawNode<'a>)
         requires { id.0 < length (state_of self.old).nodes }
         ensures nodes { (state_of self.new).nodes ≡ slice_set (state_of self.old).nodes id.0 (raw_node_of node.entry) }
@@ -89,15 +89,15 @@ impl<'a> Progress<'a> {
         ensures refused { IfErr result (IsRefusal (made_at (reference word.now) enclosing.now.namespace (state_of self.now)).faults) }
     {
         let name = full_name(alloc, word, &enclosing.namespace)?;
-        let place = self.place_of_word(alloc, enclosing, word, &name)?;
-        match place {
-            Some(place) => Ok(NodeId(place)),
+        let id = self.id_of_word(alloc, enclosing, word, &name)?;
+        match id {
+            Some(id) => Ok(NodeId(id)),
             None => Err(SchemaError::UnknownName),
         }
     }
 
-    /// The place of the definition that a word refers to, which means this name.
-    fn place_of_word(
+    /// The id of the definition that a word refers to, which means this name.
+    fn id_of_word(
         &self,
         alloc: Global,
         enclosing: &Space,
@@ -105,12 +105,12 @@ impl<'a> Progress<'a> {
         name: &FullName,
     ) -> Result<Option<u32>, AllocError>
         requires { IsEnclosed self.now enclosing.now × (name_of word.now enclosing.now.namespace ≡ Some name.now) }
-        ensures { IfOk result (λ place. place ≡ place_of name.now (state_of self.now).known) }
+        ensures { IfOk result (λ id. id ≡ place_of name.now (state_of self.now).known) }
     {
         if has_dot(word) {
-            return self.names.place(alloc, name);
+            return self.names.id(alloc, name);
         }
-        self.names.place_at(alloc, enclosing.number, name.simple())
+        self.names.id_in(alloc, enclosing.number, name.simple())
     }
 
     /// The numbered namespace of a definition's name.
@@ -135,7 +135,7 @@ impl<'a> Progress<'a> {
         self.names.space(name.space())
     }
 
-    /// Begins a definition: reads its name, which is known from now on, and keeps a place for it.
+    /// Begins a definition: reads its name, which is known from now on, and keeps an id for it.
     pub fn begin(
         &mut self,
         alloc: Global,
@@ -151,7 +151,7 @@ impl<'a> Progress<'a> {
     {
         let name = name(alloc, &enclosing.namespace, members)?;
         let space = self.space_of(enclosing, members, &name)?;
-        let known = self.names.place_at(alloc, space.number, name.simple())?;
+        let known = self.names.id_in(alloc, space.number, name.simple())?;
         if known.is_some() {
             return Err(SchemaError::DuplicateName);
         }

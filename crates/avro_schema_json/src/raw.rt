@@ -1,5 +1,5 @@
 ghost use Rattle.avro_schema.specs.Seen.{texts_of};
-ghost use Rattle.avro_schema_json.specs.SymbolPlaces.{FindsSymbols};
+ghost use Rattle.avro_schema_json.specs.inside.SymbolIndices.{FindsSymbols};
 
 use avro_name::FullName;
 use avro_schema::{EnumNode, Node, NodeId};
@@ -26,12 +26,12 @@ pub(crate) enum RawNode<'a> {
     Record(RawRecord<'a>),
 }
 
-/// An enum, and the first place of each of its symbols.
+/// An enum, and the first index of each of its symbols.
 #[derive(Drop)]
 pub(crate) struct RawEnum {
     pub node: EnumNode,
-    pub places: BTreeMap<String, u32>,
-    ghost agree: { FindsSymbols (texts_of node.symbols.items) places },
+    pub indices: BTreeMap<String, u32>,
+    ghost agree: { FindsSymbols (texts_of node.symbols.items) indices },
 }
 
 /// A record whose defaults are still JSON.

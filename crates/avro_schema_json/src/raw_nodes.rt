@@ -5,21 +5,21 @@ ghost use Rattle.std.specs.List.{list_all};
 ghost use Rattle.avro_schema.specs.Node.{Node as SeenNode, node_at, node_name, branches_of as branches_in};
 ghost use Rattle.avro_schema.specs.Seen.{node_of, ids_of};
 ghost use Rattle.avro_schema.specs.WellFormed.{is_edge as is_good_edge};
-ghost use Rattle.avro_schema_json.specs.OwnDefaults.{bare_of, bares_of};
+ghost use Rattle.avro_schema_json.specs.inside.OwnDefaults.{bare_of, bares_of};
 
 use crate::raw::RawNode;
 use avro_schema::{Node, NodeId};
 
-/// The node at a place, or the given node, that of null, where there is none.
+/// The node of an id, or the given node, that of null, where there is none.
 pub(crate) fn raw_at<'a>(
     raws: &'a [RawNode<'a>],
     null: &'a RawNode<'a>,
-    place: NodeId,
+    id: NodeId,
 ) -> &'a RawNode<'a>
     requires { bare_of null.now ≡ SeenNode.null }
-    ensures { bare_of result.now ≡ node_at (bares_of raws.now) place.0 }
+    ensures { bare_of result.now ≡ node_at (bares_of raws.now) id.0 }
 {
-    raws.get(place.0 as usize).unwrap_or(null)
+    raws.get(id.0 as usize).unwrap_or(null)
 }
 
 /// The branches of a union.
@@ -28,7 +28,7 @@ pub(crate) fn branches<'a>(node: &'a RawNode<'_>) -> Option<&'a [NodeId]>
 {
     match node {
         RawNode::Plain(node) => match node {
-            Node::Union(places) => Some(places),
+            Node::Union(ids) => Some(ids),
             _ => None,
         },
         RawNode::Enum(_) => None,
@@ -58,12 +58,12 @@ fn is_named(node: &Node) -> bool
 fn is_edge(raws: &[RawNode], from: usize, to: NodeId) -> bool
     ensures { result ≡ is_good_edge (bares_of raws.now) from to.0 }
 {
-    let place = to.0 as usize;
-    if place >= raws.len() {
+    let index = to.0 as usize;
+    if index >= raws.len() {
         return false;
     }
     let null = RawNode::Plain(Node::Null);
-    from < place || has_name(raw_at(&*raws, &null, to))
+    from < index || has_name(raw_at(&*raws, &null, to))
 }
 
 /// Whether the edges of a union are good.

@@ -11,10 +11,10 @@ ghost use Rattle.avro_schema_json.specs.declared.error.SchemaError.TheVariants.{
 ghost use Rattle.serde_json.specs.Data.{Data};
 ghost use Rattle.serde_json.specs.View.{view};
 
+use crate::completed::schema_of;
 use crate::declarations::declarations;
 use crate::error::SchemaError;
 use crate::floats::has_float;
-use crate::whole::schema_of;
 use avro_schema::Schema;
 use serde_json::Value;
 use std::alloc::Global;

@@ -6,8 +6,8 @@ ghost use Rattle.std.specs.Ordering.{nat_cmp};
 ghost use Rattle.std.specs.BTreeSet.{contains};
 ghost use Rattle.avro_schema.specs.Seen.{node_of, ids_of};
 ghost use Rattle.avro_schema.specs.WellFormed.{branch_kind};
-ghost use Rattle.avro_schema_json.specs.OwnDefaults.{bares_of};
-ghost use Rattle.avro_schema_json.specs.Repeats.{kind_code, code_by, Repeats, SomeRepeats};
+ghost use Rattle.avro_schema_json.specs.inside.OwnDefaults.{bares_of};
+ghost use Rattle.avro_schema_json.specs.inside.Repeats.{kind_code, code_by, Repeats, SomeRepeats};
 
 use crate::raw::RawNode;
 use crate::raw_nodes::{are_edges, branches, raw_at};

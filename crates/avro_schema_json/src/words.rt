@@ -1,6 +1,6 @@
 ghost use Rattle.std.specs.Prelude.{◌≡◌};
 ghost use Rattle.avro_schema_json.specs.Declares.{type_of_word, form_of_word};
-ghost use Rattle.avro_schema_json.specs.ReadingSeen.{meaning_of_word, form_seen};
+ghost use Rattle.avro_schema_json.specs.inside.ReadingSeen.{meaning_of_word, form_seen};
 
 use avro_schema::Node;
 

@@ -8,7 +8,7 @@ use Rattle.avro_display.proofs.display.+display.Goals as goal
 
 pub displayed-returns-in-Map : goal.displayed-returns-in-Map
 displayed-returns-in-Map t c =
-    rw (c.in-Map.is, value_of-Map c.in-Map.entries, ← c.deref-in-Map.ensures.value, ← c.values_place.ensures, ← c.part-in-Map.ensures) c.displayed_entries.ensures
+    rw (c.in-Map.is, value_of-Map c.in-Map.entries, ← c.deref-in-Map.ensures.value, ← c.values.ensures, ← c.part-in-Map.ensures) c.displayed_entries.ensures
 
 pub displayed_items-returns : goal.displayed_items-returns
 displayed_items-returns t c =

@@ -6,7 +6,7 @@ use Rattle.avro_schema.proofs.public.DatumViews.{value_of-Map}
 use Rattle.serde_json.specs.View.{view, items_view, members_view}
 use Rattle.serde_json.proofs.Views.{view-lookup}
 use Rattle.avro_schema_json.specs.DeclaredDefaults.{each_default, entries_default}
-use Rattle.avro_schema_json.specs.OwnDefaults.{bares_of, fields_seen}
+use Rattle.avro_schema_json.specs.inside.OwnDefaults.{bares_of, fields_seen}
 use Rattle.avro_schema_json.proofs.DefaultsSeen.{default-union, entries_end}
 use Rattle.avro_schema_json.proofs.DefaultSteps.{item_next, items_end, entry_next, fields_left, field_next, field_stop, field_missing, fields_end, field_absent}
 use Rattle.avro_schema_json.proofs.MisfitsSeen.{branch-skip}
@@ -15,21 +15,21 @@ use Rattle.avro_schema_json.proofs.defaults.+defaults.Goals as goal
 pub default_of-returns : goal.default_of-returns
 default_of-returns t c =
     let nodes = bares_of c.args.raws.now in
-    let n = node_at nodes c.args.place.0 in
-    let places = ids_of c.in-Some.places.now in
-    let here : branches_of n ≡ Some places = ap branches_of (sym c.raw_at-node.ensures) ∙ sym c.in-Some.ensures in
-    rw (default-union nodes (view c.args.tree.now) n places here) c.branch_default.ensures
+    let n = node_at nodes c.args.id.0 in
+    let ids = ids_of c.in-Some.ids.now in
+    let here : branches_of n ≡ Some ids = ap branches_of (sym c.raw_at-node.ensures) ∙ sym c.in-Some.ensures in
+    rw (default-union nodes (view c.args.tree.now) n ids here) c.branch_default.ensures
 
 pub branch_default-loop-i-preserved-then-has : goal.branch_default-loop-i-preserved-then-has
 branch_default-loop-i-preserved-then-has t c =
-    branch-skip (bares_of c.args.raws.now) (view c.args.tree.now) c.args.places.now c.loop-i.i _ c.args.misfits.now c.has.result _ c.loop-i-test.true
+    branch-skip (bares_of c.args.raws.now) (view c.args.tree.now) c.args.ids.now c.loop-i.i _ c.args.misfits.now c.has.result _ c.loop-i-test.true
     c.has.ensures c.if-has.true c.requires c.loop-i.invariant
 
 pub item_defaults-loop-item-preserved : goal.item_defaults-loop-item-preserved
 item_defaults-loop-item-preserved t c =
     let l = c.loop-item in
     let nodes = bares_of c.args.raws.now in
-    let n = node_at nodes c.args.place.0 in
+    let n = node_at nodes c.args.id.0 in
     let xs = c.deref-item-items.result.now in
     let read = ap (option_map value_of) (sym c.in-Some.is) ∙ c.in_ok-value.ensures in
     rw c.in_ok-push.ensures.items (item_next nodes n xs l.item-index c.item-item.result (each_default nodes (items_view xs) n) l.values.items c.in-Some.value
@@ -39,7 +39,7 @@ pub item_defaults-returns : goal.item_defaults-returns
 item_defaults-returns t c =
     let l = c.loop-item in
     let nodes = bares_of c.args.raws.now in
-    let n = node_at nodes c.args.place.0 in
+    let n = node_at nodes c.args.id.0 in
     let xs = c.deref-item-items.result.now in
     items_end nodes n xs l.item-index (each_default nodes (items_view xs) n) l.values.items c.loop-item-test.false l.invariant
     ∙ ap (λ ys. each_default nodes (items_view ys) n) c.deref-item-items.ensures.value
@@ -48,7 +48,7 @@ pub entry_defaults-loop-key-preserved : goal.entry_defaults-loop-key-preserved
 entry_defaults-loop-key-preserved t c =
     let l = c.loop-key in
     let nodes = bares_of c.args.raws.now in
-    let n = node_at nodes c.args.place.0 in
+    let n = node_at nodes c.args.id.0 in
     let read = ap (option_map value_of) (sym c.in-Some-2.is) ∙ c.in_ok-value.ensures in
     let same = c.in_ok-copy_of_text.ensures ∙ c.as_str.ensures.value in
     rw c.in_ok-push.ensures.items (entry_next nodes n l.key-iterator c.next.new.self c.in-Some.key.now c.in_ok-copy_of_text.field-0 c.in-Some.tree.now
@@ -58,7 +58,7 @@ pub entry_defaults-returns : goal.entry_defaults-returns
 entry_defaults-returns t c =
     let l = c.loop-key in
     let nodes = bares_of c.args.raws.now in
-    let n = node_at nodes c.args.place.0 in
+    let n = node_at nodes c.args.id.0 in
     entries_end (entries_default nodes (members_view c.args.members.now.entries) n) l.entries.items (entries_default nodes (members_view l.key-iterator) n)
     l.invariant (ap (λ es. entries_default nodes (members_view es) n) c.in-None.ensures.steps.0)
 
@@ -73,7 +73,7 @@ field_defaults-returns-in_default-get t c =
     let es = c.args.members.now.entries in
     let fields = fields_seen c.args.fields in
     let member = ap (option_map view) c.in_default-get.ensures.value ∙ view-lookup c.in-Some.name.now es in
-    field_missing nodes es fields l.i c.in-Some.name.now c.in-Some.place.0 (fields_left nodes es fields) l.values.items c.in-Some.ensures member l.invariant
+    field_missing nodes es fields l.i c.in-Some.name.now c.in-Some.id.0 (fields_left nodes es fields) l.values.items c.in-Some.ensures member l.invariant
 
 pub field_defaults-returns-in_default-2 : goal.field_defaults-returns-in_default-2
 field_defaults-returns-in_default-2 t c =
@@ -83,7 +83,7 @@ field_defaults-returns-in_default-2 t c =
     let fields = fields_seen c.args.fields in
     let member = ap (option_map view) c.in-Some-get.ensures.value ∙ view-lookup c.in-Some.name.now es in
     let none = ap (option_map value_of) (sym c.in_default-2.is) ∙ c.in_ok-value.ensures in
-    field_stop nodes es fields l.i c.in-Some.name.now c.in-Some.place.0 (view c.in-Some-get.tree.now) (fields_left nodes es fields) l.values.items
+    field_stop nodes es fields l.i c.in-Some.name.now c.in-Some.id.0 (view c.in-Some-get.tree.now) (fields_left nodes es fields) l.values.items
     c.in-Some.ensures member l.invariant none
 
 pub field_defaults-loop-i-preserved : goal.field_defaults-loop-i-preserved
@@ -94,7 +94,7 @@ field_defaults-loop-i-preserved t c =
     let fields = fields_seen c.args.fields in
     let member = ap (option_map view) c.in-Some-get.ensures.value ∙ view-lookup c.in-Some.name.now es in
     let read = ap (option_map value_of) (sym c.in-Some-2.is) ∙ c.in_ok-value.ensures in
-    rw c.in_ok-push.ensures.items (field_next nodes es fields l.i c.in-Some.name.now c.in-Some.place.0 (view c.in-Some-get.tree.now) (fields_left nodes es fields)
+    rw c.in_ok-push.ensures.items (field_next nodes es fields l.i c.in-Some.name.now c.in-Some.id.0 (view c.in-Some-get.tree.now) (fields_left nodes es fields)
     l.values.items c.in-Some-2.value c.in-Some.ensures member l.invariant read)
 
 pub field_defaults-returns : goal.field_defaults-returns

@@ -1,6 +1,6 @@
 use Rattle.std.proofs.Common.{◌≡◌}
 use Rattle.avro_schema_json.specs.DeclaredDefaults.{member_keys, names_only}
-use Rattle.avro_schema_json.specs.OwnDefaults.{fields_seen}
+use Rattle.avro_schema_json.specs.inside.OwnDefaults.{fields_seen}
 use Rattle.serde_json.specs.View.{members_view}
 use Rattle.avro_schema_json.proofs.fields.names_fields.Given as goal
 

@@ -3,10 +3,10 @@ use Rattle.avro_schema_json.proofs.misfit.has_each.Goals as goal
 
 pub returns-then-not-has : goal.returns-then-not-has
 returns-then-not-has c =
-    each-stop c.args.places.now c.args.asked.now c.loop-place.place-index _ c.has.result _ c.loop-place-test.true c.has.ensures c.if-not-has.true
-    c.loop-place.invariant
+    each-stop c.args.ids.now c.args.asked.now c.loop-id.id-index _ c.has.result _ c.loop-id-test.true c.has.ensures c.if-not-has.true
+    c.loop-id.invariant
 
-pub loop-place-preserved : goal.loop-place-preserved
-loop-place-preserved c =
-    each-next c.args.places.now c.args.asked.now c.loop-place.place-index _ c.has.result _ c.loop-place-test.true c.has.ensures c.if-not-has.false
-    c.loop-place.invariant
+pub loop-id-preserved : goal.loop-id-preserved
+loop-id-preserved c =
+    each-next c.args.ids.now c.args.asked.now c.loop-id.id-index _ c.has.result _ c.loop-id-test.true c.has.ensures c.if-not-has.false
+    c.loop-id.invariant

@@ -3,7 +3,7 @@ use Rattle.std.proofs.lemmas.Map.Text.{btree_map_updates_str}
 use Rattle.avro_schema.specs.Node.{node_at}
 use Rattle.serde_json.specs.View.{view, items_view, members_view}
 use Rattle.serde_json.proofs.Views.{view-lookup}
-use Rattle.avro_schema_json.specs.OwnDefaults.{bares_of}
+use Rattle.avro_schema_json.specs.inside.OwnDefaults.{bares_of}
 use Rattle.avro_schema_json.proofs.MisfitsSeen.{misfit-default, item-misfit, items-push, members-put}
 use Rattle.avro_schema_json.proofs.misfits.+misfits.Goals as goal
 

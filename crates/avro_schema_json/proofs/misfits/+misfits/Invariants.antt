@@ -1,5 +1,5 @@
-use Rattle.avro_schema_json.specs.Misfits.{AreItemMisfits, AreMemberMisfits}
-use Rattle.avro_schema_json.specs.OwnDefaults.{bares_of}
+use Rattle.avro_schema_json.specs.inside.Misfits.{AreItemMisfits, AreMemberMisfits}
+use Rattle.avro_schema_json.specs.inside.OwnDefaults.{bares_of}
 use Rattle.serde_json.specs.View.{items_view, members_view}
 use Rattle.avro_schema_json.proofs.misfits.+misfits.Given as goal
 

@@ -2,7 +2,7 @@ use Rattle.std.proofs.Common.{◌≡◌, drop}
 use Rattle.std.specs.List.{list_all}
 use Rattle.avro_schema.specs.Seen.{ids_of}
 use Rattle.avro_schema.specs.WellFormed.{is_edge}
-use Rattle.avro_schema_json.specs.OwnDefaults.{bares_of}
+use Rattle.avro_schema_json.specs.inside.OwnDefaults.{bares_of}
 use Rattle.avro_schema_json.proofs.raw_nodes.are_edges.Given as goal
 
 abbrev pub invariant-loop-branch : goal.invariant-loop-branch

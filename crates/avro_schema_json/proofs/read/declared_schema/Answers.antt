@@ -11,7 +11,7 @@ use Rattle.avro_schema_json.specs.Declares.{RawNode, made_of}
 use Rattle.avro_schema_json.specs.DeclaredAttributes.{unless}
 use Rattle.avro_schema_json.specs.DeclaredFaults.{refusals_of_nodes, or_else, HasFault}
 use Rattle.avro_schema_json.specs.DeclaredSchema.{whole_nodes, are_all_defaults_read, DeclaresSchema}
-use Rattle.avro_schema_json.specs.SeenRaw.{raw_nodes_of}
+use Rattle.avro_schema_json.specs.inside.SeenRaw.{raw_nodes_of}
 use Rattle.avro_schema_json.proofs.MadeSound.{made_fault, fault-other}
 use Rattle.avro_schema_json.proofs.ReadSeen.{declared-found, fault-found}
 use Rattle.avro_schema_json.proofs.read.declared_schema.Goals as goal

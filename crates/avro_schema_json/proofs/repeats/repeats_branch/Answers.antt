@@ -1,5 +1,5 @@
 use Rattle.std.proofs.Common.{sym, ◌∙◌}
-use Rattle.avro_schema_json.specs.OwnDefaults.{bares_of}
+use Rattle.avro_schema_json.specs.inside.OwnDefaults.{bares_of}
 use Rattle.avro_schema_json.proofs.RepeatsSeen.{repeat-found, repeat-next}
 use Rattle.avro_schema_json.proofs.repeats.repeats_branch.Goals as goal
 

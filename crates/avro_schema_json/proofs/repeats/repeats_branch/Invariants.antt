@@ -1,4 +1,4 @@
-use Rattle.avro_schema_json.specs.OwnDefaults.{bares_of}
+use Rattle.avro_schema_json.specs.inside.OwnDefaults.{bares_of}
 use Rattle.avro_schema_json.proofs.RepeatsSeen.{AreCodes}
 use Rattle.avro_schema_json.proofs.repeats.repeats_branch.Given as goal
 

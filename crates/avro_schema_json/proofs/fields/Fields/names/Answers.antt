@@ -5,7 +5,7 @@ use Rattle.std.specs.Ordering.{nat_cmp}
 use Rattle.std.specs.Cmp.Lexicographic.{slice_cmp}
 use Rattle.std.specs.BTreeMap.{get_by}
 use Rattle.std.proofs.lemmas.Map.Text.{btree_map_updates_str}
-use Rattle.avro_schema_json.specs.OwnDefaults.{fields_seen}
+use Rattle.avro_schema_json.specs.inside.OwnDefaults.{fields_seen}
 use Rattle.avro_schema_json.proofs.DefaultSteps.{field_absent}
 use Rattle.avro_schema_json.proofs.NamesSeen.{is_named, name_next, names_end}
 use Rattle.avro_schema_json.proofs.fields.Fields.names.Goals as goal

@@ -4,7 +4,7 @@ use Rattle.std.specs.List.{list_any}
 use Rattle.std.specs.Ordering.{nat_cmp}
 use Rattle.std.specs.Cmp.Lexicographic.{slice_cmp}
 use Rattle.std.specs.BTreeMap.{get_by}
-use Rattle.avro_schema_json.specs.OwnDefaults.{fields_seen}
+use Rattle.avro_schema_json.specs.inside.OwnDefaults.{fields_seen}
 use Rattle.avro_schema_json.proofs.NamesSeen.{is_named}
 use Rattle.avro_schema_json.proofs.fields.Fields.names.Given as goal
 

@@ -1,5 +1,5 @@
 use Rattle.std.proofs.Common.{ap, ◌∙◌}
-use Rattle.avro_schema_json.specs.KnownNames.{number_of}
+use Rattle.avro_schema_json.specs.inside.KnownNames.{number_of}
 use Rattle.avro_schema_json.proofs.KnownFound.{inserted_after}
 use Rattle.avro_schema_json.proofs.name_table.NameTable.add_number.Goals as goal
 
@@ -7,7 +7,7 @@ pub invariant_of-self : goal.invariant_of-self
 invariant_of-self c =
     let table = c.args.self.now in
     record {
-      agree = inserted_after table.order.items table.numbers table.places table.agree c.insert.result c.in_ok-key.key c.in-Ok.number c.insert.new.self
+      agree = inserted_after table.order.items table.numbers table.ids table.agree c.insert.result c.in_ok-key.key c.in-Ok.number c.insert.new.self
           (ap (number_of table.numbers) c.in_ok-key.ensures.cases ∙ c.requires) (c.in-Ok.ensures.1 ∙ c.len.ensures.len)
           c.insert.ensures.old c.insert.ensures.updates c.insert.ensures.len c.insert.ensures.err;
     }

@@ -7,44 +7,44 @@ use Rattle.serde_json.specs.View.{view, items_view, members_view}
 use Rattle.serde_json.proofs.Views.{view-Array, view-Object}
 use Rattle.avro_schema_json.specs.declared.error.SchemaError.{SchemaError}
 use Rattle.avro_schema_json.specs.Declares.{RawNode, RawField, Meaning, meaning_of, in_turn, field_meaning, field_meanings, fields_under}
-use Rattle.avro_schema_json.specs.KnownSeen.{known_of}
-use Rattle.avro_schema_json.specs.Reading.{made_at, Reads, Refuses, fields_meaning}
-use Rattle.avro_schema_json.specs.ReadingSeen.{state_of}
-use Rattle.avro_schema_json.specs.SeenRaw.{raw_field_of, raw_fields_of}
+use Rattle.avro_schema_json.specs.inside.KnownSeen.{known_of}
+use Rattle.avro_schema_json.specs.inside.Reading.{made_at, Reads, Refuses, fields_meaning}
+use Rattle.avro_schema_json.specs.inside.ReadingSeen.{state_of}
+use Rattle.avro_schema_json.specs.inside.SeenRaw.{raw_field_of, raw_fields_of}
 use Rattle.avro_schema_json.proofs.DefinitionsRead.{record-unbegun, record-misnamed, record-fields_refused, record-read}
 use Rattle.avro_schema_json.proofs.ObjectsRead.{member-found, member-missing, refuses-faulty, object-array, object-no_items, object-map, object-no_values, fields-found, fields-missing, field-unnamed, field-refused, field-untyped, field-read}
 use Rattle.avro_schema_json.proofs.TypesRead.{above-read, above-part, reading-begun, item-read, item-refused, items-read, branch_meanings, list_meanings, next_branch, next_field}
 use Rattle.avro_schema_json.proofs.progress.Progress.+types.Goals as goal
 
-pub read_array-returns-in_err-place-clause-refused : goal.read_array-returns-in_err-place-clause-refused
-read_array-returns-in_err-place-clause-refused t c =
-    let p = err_from_is_err_and c.from_residual-in_err-place.result c.from_residual-in_err-place.ensures.1 in
+pub read_array-returns-in_err-part-clause-refused : goal.read_array-returns-in_err-part-clause-refused
+read_array-returns-in_err-part-clause-refused t c =
+    let p = err_from_is_err_and c.from_residual-in_err-part.result c.from_residual-in_err-part.ensures.1 in
     let added = c.in_ok-id.ensures.added in
     rw (p.1, p.2) (above-part (meaning_of (view c.args.items.now)) c.args.enclosing.now.namespace (state_of c.args.self.now) (state_of c.reserve.new.self) (RawNode.plain Node.null)
-    (λ place. RawNode.plain (Node.array place)) [] (known_of c.args.self.now.names) c.in_err-place.field-0.0 added.nodes_are added.known_are c.in_err-place.ensures.refused)
+    (λ id. RawNode.plain (Node.array id)) [] (known_of c.args.self.now.names) c.in_err-part.field-0.0 added.nodes_are added.known_are c.in_err-part.ensures.refused)
 
 pub read_array-returns-clause-read : goal.read_array-returns-clause-read
 read_array-returns-clause-read t c =
     let added = c.in_ok-id.ensures.added in
     above-read (meaning_of (view c.args.items.now)) c.args.enclosing.now.namespace (state_of c.args.self.now) (state_of c.reserve.new.self)
-    (state_of c.read_type.new.self) (state_of c.put.new.self) (RawNode.plain Node.null) (RawNode.plain (Node.array c.in_ok-place.place.0))
-    (λ place. RawNode.plain (Node.array place)) [] (known_of c.args.self.now.names) c.in_ok-place.place.0 c.in_ok-id.id.0
-    added.place_is added.within refl added.nodes_are added.known_are c.in_ok-place.ensures.read refl c.put.ensures.nodes c.put.ensures.names
+    (state_of c.read_type.new.self) (state_of c.put.new.self) (RawNode.plain Node.null) (RawNode.plain (Node.array c.in_ok-part.part.0))
+    (λ id. RawNode.plain (Node.array id)) [] (known_of c.args.self.now.names) c.in_ok-part.part.0 c.in_ok-id.id.0
+    added.id_is added.within refl added.nodes_are added.known_are c.in_ok-part.ensures.read refl c.put.ensures.nodes c.put.ensures.names
 
-pub read_map-returns-in_err-place-clause-refused : goal.read_map-returns-in_err-place-clause-refused
-read_map-returns-in_err-place-clause-refused t c =
-    let p = err_from_is_err_and c.from_residual-in_err-place.result c.from_residual-in_err-place.ensures.1 in
+pub read_map-returns-in_err-part-clause-refused : goal.read_map-returns-in_err-part-clause-refused
+read_map-returns-in_err-part-clause-refused t c =
+    let p = err_from_is_err_and c.from_residual-in_err-part.result c.from_residual-in_err-part.ensures.1 in
     let added = c.in_ok-id.ensures.added in
     rw (p.1, p.2) (above-part (meaning_of (view c.args.values.now)) c.args.enclosing.now.namespace (state_of c.args.self.now) (state_of c.reserve.new.self) (RawNode.plain Node.null)
-    (λ place. RawNode.plain (Node.map_of place)) [] (known_of c.args.self.now.names) c.in_err-place.field-0.0 added.nodes_are added.known_are c.in_err-place.ensures.refused)
+    (λ id. RawNode.plain (Node.map_of id)) [] (known_of c.args.self.now.names) c.in_err-part.field-0.0 added.nodes_are added.known_are c.in_err-part.ensures.refused)
 
 pub read_map-returns-clause-read : goal.read_map-returns-clause-read
 read_map-returns-clause-read t c =
     let added = c.in_ok-id.ensures.added in
     above-read (meaning_of (view c.args.values.now)) c.args.enclosing.now.namespace (state_of c.args.self.now) (state_of c.reserve.new.self)
-    (state_of c.read_type.new.self) (state_of c.put.new.self) (RawNode.plain Node.null) (RawNode.plain (Node.map_of c.in_ok-place.place.0))
-    (λ place. RawNode.plain (Node.map_of place)) [] (known_of c.args.self.now.names) c.in_ok-place.place.0 c.in_ok-id.id.0
-    added.place_is added.within refl added.nodes_are added.known_are c.in_ok-place.ensures.read refl c.put.ensures.nodes c.put.ensures.names
+    (state_of c.read_type.new.self) (state_of c.put.new.self) (RawNode.plain Node.null) (RawNode.plain (Node.map_of c.in_ok-part.part.0))
+    (λ id. RawNode.plain (Node.map_of id)) [] (known_of c.args.self.now.names) c.in_ok-part.part.0 c.in_ok-id.id.0
+    added.id_is added.within refl added.nodes_are added.known_are c.in_ok-part.ensures.read refl c.put.ensures.nodes c.put.ensures.names
 
 pub read_field-returns-in_err-name-clause-refused : goal.read_field-returns-in_err-name-clause-refused
 read_field-returns-in_err-name-clause-refused t c =
@@ -211,10 +211,10 @@ read_union-returns-in_err-read_type-clause-refused t c =
     let added = c.in_ok-id.ensures.added in
     let refused = item-refused (λ v. meaning_of (view v)) branch_meanings next_branch refl
     (made_at (in_turn (branch_meanings items)) c.args.enclosing.now.namespace inside) c.args.enclosing.now.namespace inside
-    (state_of c.loop-branch.self) (ids_of c.loop-branch.places.items) items c.loop-branch.branch-index c.branch-item.result c.in_err-read_type.field-0.0
+    (state_of c.loop-branch.self) (ids_of c.loop-branch.ids.items) items c.loop-branch.branch-index c.branch-item.result c.in_err-read_type.field-0.0
     c.loop-branch-test.true c.branch-item.is c.loop-branch.invariant.1 c.in_err-read_type.ensures.refused in
     rw (p.1, p.2) (above-part (in_turn (branch_meanings items)) c.args.enclosing.now.namespace (state_of c.args.self.now) inside (RawNode.plain Node.null)
-    (λ places. RawNode.plain (Node.union places)) [] (known_of c.args.self.now.names) c.in_err-read_type.field-0.0 added.nodes_are added.known_are refused)
+    (λ ids. RawNode.plain (Node.union ids)) [] (known_of c.args.self.now.names) c.in_err-read_type.field-0.0 added.nodes_are added.known_are refused)
 
 pub read_union-returns-clause-read : goal.read_union-returns-clause-read
 read_union-returns-clause-read t c =
@@ -223,8 +223,8 @@ read_union-returns-clause-read t c =
     let added = c.in_ok-id.ensures.added in
     let read = items-read (λ v. meaning_of (view v)) branch_meanings next_branch refl
     (made_at (in_turn (branch_meanings items)) c.args.enclosing.now.namespace inside) c.args.enclosing.now.namespace inside
-    (state_of c.loop-branch.self) (ids_of c.loop-branch.places.items) items c.loop-branch.branch-index c.loop-branch-test.false c.loop-branch.invariant.1 in
+    (state_of c.loop-branch.self) (ids_of c.loop-branch.ids.items) items c.loop-branch.branch-index c.loop-branch-test.false c.loop-branch.invariant.1 in
     above-read (in_turn (branch_meanings items)) c.args.enclosing.now.namespace (state_of c.args.self.now) inside (state_of c.loop-branch.self) (state_of c.put.new.self)
-    (RawNode.plain Node.null) (RawNode.plain (Node.union (ids_of c.loop-branch.places.items))) (λ places. RawNode.plain (Node.union places)) []
-    (known_of c.args.self.now.names) (ids_of c.loop-branch.places.items) c.in_ok-id.id.0
-    added.place_is added.within refl added.nodes_are added.known_are read refl c.put.ensures.nodes c.put.ensures.names
+    (RawNode.plain Node.null) (RawNode.plain (Node.union (ids_of c.loop-branch.ids.items))) (λ ids. RawNode.plain (Node.union ids)) []
+    (known_of c.args.self.now.names) (ids_of c.loop-branch.ids.items) c.in_ok-id.id.0
+    added.id_is added.within refl added.nodes_are added.known_are read refl c.put.ensures.nodes c.put.ensures.names

@@ -4,8 +4,8 @@ use Rattle.avro_schema.specs.Node.{Node}
 use Rattle.avro_schema_json.specs.DeclaredAttributes.{name_in}
 use Rattle.std.specs.Prelude.{is_some}
 use Rattle.avro_schema_json.specs.Declares.{RawNode, defining, place_of}
-use Rattle.avro_schema_json.specs.Reading.{State, IsAdded}
-use Rattle.avro_schema_json.specs.ReadingSeen.{state_of}
+use Rattle.avro_schema_json.specs.inside.Reading.{State, IsAdded}
+use Rattle.avro_schema_json.specs.inside.ReadingSeen.{state_of}
 use Rattle.avro_schema_json.proofs.KnownFound.{found_in}
 use Rattle.avro_schema_json.proofs.PartsRead.{ok-or_memory, not_some, name_faults-new, beginning-known}
 use Rattle.avro_schema_json.proofs.progress.Progress.begin.Goals as goal
@@ -52,9 +52,9 @@ returns-clause-begun c =
     let absent = not_some (place_of name before.known) (ap is_some (sym is) ∙ sym c.is_some.ensures ∙ c.if-is_some.false) in
     record {
       name_is = ok-or_memory name _ c.in_ok-name.ensures;
-      place_is = added.place_is;
+      id_is = added.id_is;
       within = added.within;
       is_new = name_faults-new name before.known absent;
       nodes_are = added.nodes_are;
-      known_are = c.in_ok-add.ensures.added ∙ ap (λ known. defining name c.in_ok-id.id.0 known) added.known_are ∙ ap (λ place. defining name place before.known) added.place_is;
+      known_are = c.in_ok-add.ensures.added ∙ ap (λ known. defining name c.in_ok-id.id.0 known) added.known_are ∙ ap (λ id. defining name id before.known) added.id_is;
     }

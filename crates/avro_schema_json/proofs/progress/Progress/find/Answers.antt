@@ -1,12 +1,12 @@
 use Rattle.std.proofs.Common.{sym, ◌∙◌, inr}
 use Rattle.avro_name.specs.Name.{name_of}
-use Rattle.avro_schema_json.specs.ReadingSeen.{state_of}
+use Rattle.avro_schema_json.specs.inside.ReadingSeen.{state_of}
 use Rattle.avro_schema_json.specs.declared.error.SchemaError.{SchemaError}
 use Rattle.avro_schema_json.proofs.PartsRead.{reference-read, reference-unknown, ok-or_memory, some-from_ok_or}
 use Rattle.avro_schema_json.proofs.progress.Progress.find.Goals as goal
 
-pub place_of_word-requires : goal.place_of_word-requires
-place_of_word-requires c =
+pub id_of_word-requires : goal.id_of_word-requires
+id_of_word-requires c =
     let name = c.in_ok-name.name in (
       c.requires,
       some-from_ok_or (name_of c.args.word.now c.args.enclosing.now.namespace) name SchemaError.InvalidName (ok-or_memory name _ c.in_ok-name.ensures),
@@ -17,8 +17,8 @@ returns-in-Some-clause-found c =
     let name = c.in_ok-name.name in
     let s = state_of c.args.self.now in
     let named = some-from_ok_or (name_of c.args.word.now c.args.enclosing.now.namespace) name SchemaError.InvalidName (ok-or_memory name _ c.in_ok-name.ensures) in
-    reference-read c.args.word.now c.args.enclosing.now.namespace s name c.in-Some.place named
-    (sym c.in_ok-place.ensures ∙ c.in-Some.is)
+    reference-read c.args.word.now c.args.enclosing.now.namespace s name c.in-Some.id named
+    (sym c.in_ok-id.ensures ∙ c.in-Some.is)
 
 pub returns-clause-refused : goal.returns-clause-refused
 returns-clause-refused c =
@@ -26,4 +26,4 @@ returns-clause-refused c =
     let s = state_of c.args.self.now in
     let named = some-from_ok_or (name_of c.args.word.now c.args.enclosing.now.namespace) name SchemaError.InvalidName (ok-or_memory name _ c.in_ok-name.ensures) in
     inr (reference-unknown c.args.word.now c.args.enclosing.now.namespace s name named
-    (sym c.in_ok-place.ensures ∙ c.in-None.is))
+    (sym c.in_ok-id.ensures ∙ c.in-None.is))

@@ -1,5 +1,5 @@
 use Rattle.std.proofs.lemmas.List.{map-set}
-use Rattle.avro_schema_json.specs.SeenRaw.{raw_node_of}
+use Rattle.avro_schema_json.specs.inside.SeenRaw.{raw_node_of}
 use Rattle.avro_schema_json.proofs.progress.Progress.put.Goals as goal
 
 pub returns-clause-nodes : goal.returns-clause-nodes

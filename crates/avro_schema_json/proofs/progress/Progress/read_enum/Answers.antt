@@ -1,7 +1,7 @@
 use Rattle.std.proofs.lemmas.Result.{err_from_is_err_and}
 use Rattle.serde_json.specs.View.{members_view}
 use Rattle.avro_schema.specs.Seen.{texts_of}
-use Rattle.avro_schema_json.specs.ReadingSeen.{state_of}
+use Rattle.avro_schema_json.specs.inside.ReadingSeen.{state_of}
 use Rattle.avro_schema_json.proofs.DefinitionsRead.{enum-unbegun, enum-misnamed, enum-without_symbols, enum-read}
 use Rattle.avro_schema_json.proofs.progress.Progress.read_enum.Goals as goal
 

@@ -1,6 +1,6 @@
 use Rattle.std.proofs.lemmas.Result.{err_from_is_err_and}
 use Rattle.serde_json.specs.View.{members_view}
-use Rattle.avro_schema_json.specs.ReadingSeen.{state_of}
+use Rattle.avro_schema_json.specs.inside.ReadingSeen.{state_of}
 use Rattle.avro_schema_json.proofs.DefinitionsRead.{fixed-unbegun, fixed-misnamed, fixed-unsized, fixed-read}
 use Rattle.avro_schema_json.proofs.progress.Progress.read_fixed.Goals as goal
 

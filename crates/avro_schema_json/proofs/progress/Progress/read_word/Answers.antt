@@ -1,7 +1,7 @@
 use Rattle.std.proofs.Common.{ℕ, IfErr, subst}
 use Rattle.avro_schema_json.specs.Declares.{Meaning}
-use Rattle.avro_schema_json.specs.Reading.{Refuses}
-use Rattle.avro_schema_json.specs.ReadingSeen.{state_of}
+use Rattle.avro_schema_json.specs.inside.Reading.{Refuses}
+use Rattle.avro_schema_json.specs.inside.ReadingSeen.{state_of}
 use Rattle.avro_schema_json.proofs.progress.Progress.read_word.Goals as goal
 
 pub returns-in-TypeName-clause-refused : goal.returns-in-TypeName-clause-refused

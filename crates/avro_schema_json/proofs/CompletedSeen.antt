@@ -1,0 +1,57 @@
+-- Nodes filled with their defaults are the completed nodes, and what is said of those.
+use Rattle.std.proofs.Common.{◌≡◌, ℕ, zero, suc, ◌<◌, Bool, false, ◌&&◌, List, [], ◌∷◌, length, map, refl, sym, ap, ◌∙◌, arith, nat_le, nat_lt}
+use Rattle.std.specs.Prelude.{Contains, slice_index_or}
+use Rattle.std.proofs.lemmas.Bool.{and_parts, false≢true, false_from_ne_true}
+use Rattle.std.proofs.lemmas.Bool.Decides.{nat_tests}
+use Rattle.avro_schema.specs.Faulty.{NodeFault, limit_exceeded, faults_of_nodes, IsThere}
+use Rattle.avro_schema.specs.Node.{Node}
+use Rattle.avro_schema.specs.WellFormed.{max_nodes}
+use Rattle.avro_schema.proofs.public.NodeFaults.{there-contains}
+use Rattle.avro_schema_json.specs.declared.error.SchemaError.{SchemaError}
+use Rattle.avro_schema_json.specs.Declares.{RawField, RawNode}
+use Rattle.avro_schema_json.specs.DeclaredAttributes.{unless}
+use Rattle.avro_schema_json.specs.DeclaredFaults.{refusals_of_nodes, or_else}
+use Rattle.avro_schema_json.specs.DeclaredSchema.{field_default, whole_field, whole_node}
+use Rattle.avro_schema_json.specs.Refusals.{refusal_of_fault}
+use Rattle.avro_schema_json.specs.inside.SeenDefaults.{defaults_of_node, filled_fields, filled_nodes}
+
+filled-fields : (nodes : List Node) (fields : List RawField) → filled_fields fields (map (field_default nodes) fields) ≡ map (whole_field nodes) fields
+filled-fields nodes [] = refl
+filled-fields nodes (f ∷ fields) = ap (λ rest. whole_field nodes f ∷ rest) (filled-fields nodes fields)
+
+pub filled-completed : (nodes : List Node) (raws : List RawNode) → filled_nodes raws (map (defaults_of_node nodes) raws) ≡ map (whole_node nodes) raws
+filled-completed nodes [] = refl
+filled-completed nodes (RawNode.plain n ∷ raws) = ap (λ rest. n ∷ rest) (filled-completed nodes raws)
+filled-completed nodes (RawNode.record_of name aliases fields ∷ raws) = rw (filled-fields nodes fields, filled-completed nodes raws) refl
+
+-- a fault of the first list is one of both
+pub or_else-first : (xs ys : List SchemaError) (e : SchemaError) → Contains xs e → Contains (or_else xs ys) e
+or_else-first [] ys e c = absurd (omega (arith, c.1))
+or_else-first (x ∷ xs) ys e c = c
+
+-- a default that is no datum
+pub or_else-unread : (xs : List SchemaError) (r : Bool) (e : SchemaError) → xs ≡ [] → r ≡ false → Contains (or_else xs (unless r e)) e
+or_else-unread xs r e none unread = rw (none, unread) (0, omega arith, refl)
+
+-- too many nodes
+pub too_many-there : (nodes : List Node) → 4096 < length nodes → IsThere limit_exceeded nodes
+too_many-there nodes h =
+    let past : nat_le (length nodes) max_nodes ≡ false = grind (arith, nat_tests) in
+    let uncounted : (nat_lt 0 (length nodes) && nat_le (length nodes) max_nodes) ≡ false =
+    false_from_ne_true (nat_lt 0 (length nodes) && nat_le (length nodes) max_nodes)
+    (λ both. false≢true (sym past ∙ (and_parts (nat_lt 0 (length nodes)) (nat_le (length nodes) max_nodes) both).1)) in
+    rw uncounted refl
+
+-- the refusal that names a fault that is there
+named_at : (faults : List NodeFault) (fault : NodeFault) (k : ℕ) → k < length faults → slice_index_or faults k fault ≡ fault
+    → Contains (map refusal_of_fault faults) (refusal_of_fault fault)
+named_at [] fault k below at = absurd (omega (arith, below))
+named_at (f ∷ faults) fault zero below at = (0, omega arith, ap refusal_of_fault at)
+named_at (f ∷ faults) fault (suc k) below at =
+    let c = named_at faults fault k (omega (arith, below)) at in
+    (suc c.0, omega (arith, c.1), c.2)
+
+pub refusal-contains : (fault : NodeFault) (nodes : List Node) → IsThere fault nodes → Contains (refusals_of_nodes nodes) (refusal_of_fault fault)
+refusal-contains fault nodes there =
+    let c = there-contains fault nodes there in
+    named_at (faults_of_nodes nodes) fault c.0 c.1 c.2

@@ -1,0 +1,10 @@
+use Rattle.std.proofs.Common.{◌≡◌, ◌≤◌, ℕ, List, length}
+use Rattle.std.specs.BTreeMap.{get_by_text}
+use Rattle.avro_schema_json.proofs.SymbolsFound.{index_from}
+use Rattle.avro_schema_json.proofs.symbol_indices.symbol_indices.Given as goal
+
+abbrev pub invariant-loop-left : goal.invariant-loop-left
+invariant-loop-left l = (l.left ≤ length l.symbols) × ((word : List ℕ) → get_by_text l.indices word ≡ index_from word l.symbols l.left)
+
+abbrev pub decreases-loop-left : goal.decreases-loop-left
+decreases-loop-left l = l.left

@@ -1,9 +1,0 @@
--- How the places of symbols are looked up.
-use Rattle.std.specs.Prelude.{◌≡◌, ℕ, List, String}
-use Rattle.std.specs.declared.alloc.Global.{Global}
-use Rattle.std.specs.BTreeMap.{BTreeMap, get_by_text}
-use Rattle.avro_schema_json.specs.DeclaredAttributes.{symbol_place}
-
--- a map finds the first place of each symbol, and no other word
-abbrev pub FindsSymbols : List (List ℕ) → BTreeMap (String Global) ℕ → Type 0
-FindsSymbols symbols places = (word : List ℕ) → get_by_text places word ≡ symbol_place word symbols

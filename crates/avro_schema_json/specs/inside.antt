@@ -1,0 +1,13 @@
+-- What only proofs and private contracts need.
+pub mod Reading
+pub mod KnownNames
+pub mod KnownSeen
+pub mod ReadingSeen
+pub mod FieldNames
+pub mod Misfits
+pub mod NameRefusal
+pub mod OwnDefaults
+pub mod Repeats
+pub mod SymbolIndices
+pub mod SeenRaw
+pub mod SeenDefaults

@@ -1,0 +1,37 @@
+-- The default that JSON is for a node itself, where no branch of a union is taken.
+use Rattle.std.specs.Prelude.{List, Option, option_and_then, map}
+use Rattle.avro_schema.specs.Value.{Value}
+use Rattle.avro_schema.specs.Node.{Node, FieldNode}
+use Rattle.avro_schema.specs.Seen.{seen_fields}
+use Rattle.serde_json.specs.Data.{Data, Members}
+use Rattle.avro_schema_json.specs.DeclaredDefaults.{null_default, boolean_default, number_default, text_default, items_default, object_default, each_default, entries_default, default_under, fields_default, member_keys, names_only, only_if}
+use Rattle.avro_schema_json.specs.DeclaredSchema.{bare_field, bare_node, bare_nodes}
+use Rattle.avro_schema_json.specs.inside.SeenRaw.{raw_node_of, raw_nodes_of, raw_fields_of}
+use Rattle.avro_schema_json.specs.declared.raw.RawNode.{RawNode}
+use Rattle.avro_schema_json.specs.declared.fields.Fields.{Fields}
+use Rattle.avro_schema_json.specs.declared.fields.Fields.TheVariants.{Completed, Raw}
+
+abbrev pub own_default : List Node → Data → Node → Option Value
+own_default nodes Data.null n = null_default n
+own_default nodes (Data.boolean b) n = boolean_default b n
+own_default nodes (Data.number x) n = number_default x n
+own_default nodes (Data.string text) n = text_default text n
+own_default nodes (Data.array ds) n = items_default nodes (λ m. each_default nodes ds m) n
+own_default nodes (Data.object ms) n = object_default nodes (λ m. entries_default nodes ms m) (λ key. default_under nodes key ms) (member_keys ms) n
+
+-- the nodes without their defaults, of the program
+abbrev pub bare_of : RawNode → Node
+bare_of raw = bare_node (raw_node_of raw)
+
+abbrev pub bares_of : List RawNode → List Node
+bares_of raws = bare_nodes (raw_nodes_of raws)
+
+-- the fields of a record, whether their defaults are read or not
+abbrev pub fields_seen : Fields → List FieldNode
+fields_seen (Completed fields) = seen_fields fields.now
+fields_seen (Raw fields) = map bare_field (raw_fields_of fields.now)
+
+-- a record, by a member for each field and no other
+abbrev pub default_of_fields : List Node → Members → List FieldNode → Option Value
+default_of_fields nodes ms fields =
+    option_and_then (λ vs. only_if (names_only (member_keys ms) fields) (Value.record_of vs)) (fields_default nodes (λ key. default_under nodes key ms) fields)

@@ -1,0 +1,24 @@
+-- Unions in which a branch stands twice.
+use Rattle.std.specs.Prelude.{◌≡◌, ℕ, ◌+◌, ◌*◌, ◌<◌, true, List, length, Option, Some, None, slice_get}
+use Rattle.std.specs.List.{list_all}
+use Rattle.avro_schema.specs.Node.{Node, node_at, branches_of}
+use Rattle.avro_schema.specs.WellFormed.{BranchKind, unnamed, named, branch_kind, is_edge}
+
+-- an even number for each kind without a name, an odd one for each other node
+abbrev pub kind_code : ℕ → Option BranchKind → ℕ
+kind_code id (Some (unnamed k)) = k * 2
+kind_code id (Some (named name)) = id * 2 + 1
+kind_code id None = id * 2 + 1
+
+abbrev pub code_by : List Node → ℕ → ℕ
+code_by nodes id = kind_code id (branch_kind (node_at nodes id))
+
+-- two branches have one code
+abbrev pub Repeats : List Node → List ℕ → Type 0
+Repeats nodes ids = (i : ℕ) × (j : ℕ) × (x : ℕ) × (y : ℕ) × (j < i) × (slice_get ids i ≡ Some x) × (slice_get ids j ≡ Some y) × (code_by nodes x ≡ code_by nodes y)
+
+-- the same in a union whose edges are good
+abbrev pub SomeRepeats : List Node → Type 0
+SomeRepeats nodes =
+    (m : ℕ) × (ids : List ℕ) × (m < length nodes) × (branches_of (node_at nodes m) ≡ Some ids)
+    × (list_all (is_edge nodes m) ids ≡ true) × Repeats nodes ids

@@ -1,0 +1,234 @@
+//! Nodes with their defaults.
+
+ghost use Rattle.std.specs.Prelude.{◌≡◌, ◌⊎◌, ◌<◌, true, [], None, length, map, option_map, IfOk, IfErr, OnOk, Contains};
+ghost use Rattle.std.specs.List.{list_all};
+ghost use Rattle.std.specs.Vec.Iter.{into_iter_items};
+ghost use Rattle.avro_schema.specs.Seen.{value_of, node_of, seen_fields};
+ghost use Rattle.avro_schema.specs.SeenSchema.{schema_nodes, draft_nodes};
+ghost use Rattle.avro_schema.specs.WellFormed.{is_schema};
+ghost use Rattle.avro_schema.specs.declared.fault.DraftError.TheVariants.{LimitExceeded as DraftLimit, OutOfMemory as DraftMemory};
+ghost use Rattle.avro_schema_json.specs.DeclaredAttributes.{unless};
+ghost use Rattle.avro_schema_json.specs.DeclaredFaults.{refusals_of_nodes, or_else};
+ghost use Rattle.avro_schema_json.specs.DeclaredSchema.{field_default, is_default_read, are_defaults_read, are_all_defaults_read, whole_nodes};
+ghost use Rattle.avro_schema_json.specs.inside.OwnDefaults.{bares_of};
+ghost use Rattle.avro_schema_json.specs.inside.SeenDefaults.{data_seen, lists_seen, defaults_of_node as node_defaults_by, first_or, others_of, filled_fields, filled_node, filled_nodes};
+ghost use Rattle.avro_schema_json.specs.inside.SeenRaw.{raw_field_of, raw_fields_of, raw_node_of, raw_nodes_of};
+ghost use Rattle.avro_schema_json.specs.declared.error.SchemaError.TheVariants.{InvalidDefault, OutOfMemory};
+
+use crate::defaults::default_of;
+use crate::error::SchemaError;
+use crate::raw::{RawEnum, RawField, RawNode, RawRecord};
+use crate::repeats::has_repeated_branch;
+use avro_schema::{Datum, Draft, DraftError, Field, Memory, Node, RecordNode, Schema};
+use std::alloc::Global;
+use std::vec::IntoIter;
+
+/// The defaults of the fields of a node, and whether each that is there is a datum.
+#[derive(Drop)]
+struct NodeDefaults {
+    of_fields: Vec<Option<Datum>>,
+    are_read: bool,
+}
+
+/// The defaults of nodes, and whether each that is there is a datum.
+#[derive(Drop)]
+struct Defaults {
+    of_nodes: Vec<Vec<Option<Datum>>>,
+    are_read: bool,
+}
+
+/// The default of a field, where it is there and a datum.
+fn default_of_field(
+    alloc: Global,
+    raws: &[RawNode],
+    field: &RawField,
+) -> Result<Option<Datum>, Memory>
+    ensures { IfOk result (λ datum. option_map value_of datum ≡ field_default (bares_of raws.now) (raw_field_of field.now)) }
+{
+    match field.default {
+        Some(tree) => default_of(alloc, raws, tree, field.node),
+        None => Ok(None),
+    }
+}
+
+/// The defaults of fields.
+fn defaults_of_fields(
+    alloc: Global,
+    raws: &[RawNode],
+    fields: &[RawField],
+) -> Result<NodeDefaults, Memory>
+    ensures data { IfOk result (λ defaults. data_seen defaults.of_fields.items ≡ map (field_default (bares_of raws.now)) (raw_fields_of fields.now)) }
+    ensures read { IfOk result (λ defaults. defaults.are_read ≡ list_all (is_default_read (bares_of raws.now)) (raw_fields_of fields.now)) }
+{
+    let mut of_fields: Vec<Option<Datum>> = Vec::new(alloc);
+    let mut are_read = true;
+    for field in fields {
+        let default = default_of_field(alloc, raws, field)?;
+        are_read = are_read && (default.is_some() || !field.default.is_some());
+        of_fields.push(default)?;
+    }
+    Ok(NodeDefaults {
+        of_fields,
+        are_read,
+    })
+}
+
+/// The defaults of a node.
+fn defaults_of_node(alloc: Global, raws: &[RawNode], raw: &RawNode) -> Result<NodeDefaults, Memory>
+    ensures data { IfOk result (λ defaults. data_seen defaults.of_fields.items ≡ node_defaults_by (bares_of raws.now) (raw_node_of raw.now)) }
+    ensures read { IfOk result (λ defaults. defaults.are_read ≡ are_defaults_read (bares_of raws.now) (raw_node_of raw.now)) }
+{
+    match raw {
+        RawNode::Plain(_) => Ok(NodeDefaults {
+            of_fields: Vec::new(alloc),
+            are_read: true,
+        }),
+        RawNode::Enum(_) => Ok(NodeDefaults {
+            of_fields: Vec::new(alloc),
+            are_read: true,
+        }),
+        RawNode::Record(record) => defaults_of_fields(alloc, raws, &record.fields),
+    }
+}
+
+/// The defaults of all nodes.
+fn defaults_of_nodes(alloc: Global, raws: &[RawNode]) -> Result<Defaults, Memory>
+    ensures data { IfOk result (λ defaults. lists_seen defaults.of_nodes.items ≡ map (node_defaults_by (bares_of raws.now)) (raw_nodes_of raws.now)) }
+    ensures read { IfOk result (λ defaults. defaults.are_read ≡ are_all_defaults_read (raw_nodes_of raws.now)) }
+{
+    let mut of_nodes: Vec<Vec<Option<Datum>>> = Vec::new(alloc);
+    let mut are_read = true;
+    for raw in raws {
+        let NodeDefaults {
+            of_fields,
+            are_read: are_these_read,
+        } = defaults_of_node(alloc, raws, raw)?;
+        are_read = are_read && are_these_read;
+        of_nodes.push(of_fields)?;
+    }
+    Ok(Defaults { of_nodes, are_read })
+}
+
+/// The next default, or none where the list ends.
+fn next_default(defaults: &mut IntoIter<Option<Datum>>) -> Option<Datum>
+    ensures first { option_map value_of result ≡ first_or None (data_seen (into_iter_items defaults.old)) }
+    ensures others { data_seen (into_iter_items defaults.new) ≡ others_of (data_seen (into_iter_items defaults.old)) }
+{
+    match defaults.next() {
+        Some(default) => default,
+        None => None,
+    }
+}
+
+/// The next list of defaults, or an empty one where there is none.
+fn next_list(alloc: Global, defaults: &mut IntoIter<Vec<Option<Datum>>>) -> Vec<Option<Datum>>
+    ensures first { data_seen result.items ≡ first_or [] (lists_seen (into_iter_items defaults.old)) }
+    ensures others { lists_seen (into_iter_items defaults.new) ≡ others_of (lists_seen (into_iter_items defaults.old)) }
+{
+    match defaults.next() {
+        Some(list) => list,
+        None => Vec::new(alloc),
+    }
+}
+
+/// The fields with these defaults.
+fn complete_fields(
+    alloc: Global,
+    fields: Vec<RawField<'_>>,
+    defaults: Vec<Option<Datum>>,
+) -> Result<Vec<Field>, Memory>
+    ensures { IfOk result (λ completed. seen_fields completed.items ≡ filled_fields (raw_fields_of fields.entry.items) (data_seen defaults.items)) }
+{
+    let mut completed: Vec<Field> = Vec::new(alloc);
+    let mut rest = defaults.into_iter();
+    for field in fields {
+        let default = next_default(&mut rest);
+        completed.push(Field {
+            name: field.name,
+            aliases: field.aliases,
+            node: field.node,
+            default,
+        })?;
+    }
+    Ok(completed)
+}
+
+/// The node with these defaults.
+fn complete_node(
+    alloc: Global,
+    raw: RawNode<'_>,
+    defaults: Vec<Option<Datum>>,
+) -> Result<Node, Memory>
+    ensures { IfOk result (λ node. node_of node ≡ filled_node (raw_node_of raw.entry) (data_seen defaults.items)) }
+{
+    match raw {
+        RawNode::Plain(node) => Ok(node),
+        RawNode::Enum(RawEnum { node, indices: _ }) => Ok(Node::Enum(node)),
+        RawNode::Record(
+            RawRecord {
+                name,
+                aliases,
+                fields,
+            },
+        ) => {
+            let fields = complete_fields(alloc, fields, defaults)?;
+            Ok(Node::Record(RecordNode {
+                name,
+                aliases,
+                fields,
+            }))
+        }
+    }
+}
+
+/// A draft of the nodes with these defaults.
+fn draft_of(
+    alloc: Global,
+    raws: Vec<RawNode<'_>>,
+    defaults: Vec<Vec<Option<Datum>>>,
+) -> Result<Draft, DraftError>
+    ensures nodes { IfOk result (λ draft. draft_nodes draft ≡ filled_nodes (raw_nodes_of raws.entry.items) (lists_seen defaults.items)) }
+    ensures refused { IfErr result (λ e. (e ≡ DraftMemory) ⊎ ((e ≡ DraftLimit) × (4096 < length raws.entry.items))) }
+{
+    let mut draft = Draft::new(alloc);
+    let mut rest = defaults.into_iter();
+    for raw in raws {
+        let node = complete_node(alloc, raw, next_list(alloc, &mut rest))?;
+        match draft.add(node) {
+            Ok(_) => {}
+            Err(error) => return Err(error),
+        }
+    }
+    Ok(draft)
+}
+
+/// The schema of nodes. A default that is no datum is left out at first, so that another fault of the
+/// nodes is answered before it.
+pub(crate) fn schema_of(alloc: Global, raws: Vec<RawNode<'_>>) -> Result<Schema, SchemaError>
+    ensures found { IfOk result (λ schema. schema_nodes schema ≡ whole_nodes (raw_nodes_of raws.entry.items)) }
+    ensures formed { OnOk result (is_schema (whole_nodes (raw_nodes_of raws.entry.items)) ≡ true) }
+    ensures read { OnOk result (are_all_defaults_read (raw_nodes_of raws.entry.items) ≡ true) }
+    ensures refused { IfErr result (λ e. (e ≡ OutOfMemory)
+        ⊎ Contains (or_else (refusals_of_nodes (whole_nodes (raw_nodes_of raws.entry.items))) (unless (are_all_defaults_read (raw_nodes_of raws.entry.items)) InvalidDefault)) e) }
+{
+    if has_repeated_branch(alloc, &raws)? {
+        return Err(SchemaError::InvalidUnion);
+    }
+    let defaults = match defaults_of_nodes(alloc, &raws) {
+        Ok(defaults) => defaults,
+        Err(_) => return Err(SchemaError::OutOfMemory),
+    };
+    let Defaults { of_nodes, are_read } = defaults;
+    let draft = match draft_of(alloc, raws, of_nodes) {
+        Ok(draft) => draft,
+        Err(error) => return Err(SchemaError::from(error)),
+    };
+    match draft.finish() {
+        Ok(schema) => if are_read {
+            Ok(schema)
+        } else {
+            Err(SchemaError::InvalidDefault)
+        },
+        Err(error) => Err(SchemaError::from(error)),
+    }
+}

@@ -1,0 +1,44 @@
+//! The indices of symbols.
+
+ghost use Rattle.std.specs.Prelude.{◌≡◌, ℕ, List, option_map, IfOk};
+ghost use Rattle.avro_schema.specs.Seen.{texts_of, value_of};
+ghost use Rattle.avro_schema.specs.Value.{Value as SeenValue};
+ghost use Rattle.avro_schema_json.specs.DeclaredAttributes.{symbol_index};
+ghost use Rattle.avro_schema_json.specs.inside.SymbolIndices.{FindsSymbols};
+
+use crate::texts::copy_of_text;
+use avro_schema::{Datum, Memory};
+use std::alloc::Global;
+use std::collections::BTreeMap;
+
+/// The first index of each symbol, to look words up in. The symbols are gone through from the last, so
+/// that the first index of one that repeats stays.
+pub(crate) fn symbol_indices(
+    alloc: Global,
+    symbols: &[String],
+) -> Result<BTreeMap<String, u32>, Memory>
+    ensures { IfOk result (λ indices. FindsSymbols (texts_of symbols.now) indices) }
+{
+    let mut indices: BTreeMap<String, u32> = BTreeMap::new(alloc);
+    let mut left = symbols.len();
+    while left > 0 {
+        left -= 1;
+        let Ok(index) = u32::try_from(left) else {
+            return Err(Memory);
+        };
+        let symbol = copy_of_text(alloc, symbols[left].as_str())?;
+        indices.insert(symbol, index)?;
+    }
+    Ok(indices)
+}
+
+/// The default of an enum that a word is, by the indices of the enum's symbols.
+pub(crate) fn symbol_default(indices: &BTreeMap<String, u32>, word: &str) -> Option<Datum>
+    ensures { (symbols : List (List ℕ)) → FindsSymbols symbols indices.now
+        → option_map value_of result ≡ option_map SeenValue.enum (symbol_index word.now symbols) }
+{
+    match indices.get(word) {
+        Some(index) => Some(Datum::Enum(*index)),
+        None => None,
+    }
+}
