@@ -1,3 +1,7 @@
+ghost use Rattle.std.specs.Prelude.{◌≡◌};
+ghost use Rattle.avro_binary.specs.declared.error.ReadError.TheVariants.{OutOfMemory};
+
+use std::alloc::AllocError;
 use thiserror::Error;
 
 /// Why bytes begin with no encoding within limits. The place is the offset of the part that fails.
@@ -33,4 +37,12 @@ pub enum ReadError {
     /// Memory ran out.
     #[error("B10")]
     OutOfMemory,
+}
+
+impl From<AllocError> for ReadError {
+    ghost from_gives = { λ _ error. error ≡ OutOfMemory };
+
+    fn from(_error: AllocError) -> ReadError {
+        ReadError::OutOfMemory
+    }
 }

@@ -46,9 +46,6 @@ impl<'a> Keys<'a> {
         ensures added { OnOk result (self.new ≡ set.insert self.old key.now) }
         ensures unchanged { OnErr result (self.new ≡ self.old) }
     {
-        match self.keys.insert(key) {
-            Ok(is_new) => Ok(is_new),
-            Err(_) => Err(AllocError),
-        }
+        Ok(self.keys.insert(key)?)
     }
 }

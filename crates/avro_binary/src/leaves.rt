@@ -20,10 +20,7 @@ pub(crate) fn read_null<M: Make>(
     ensures { (nodes : List SeenNode) → ReadsNode (Made M.keeps (λ m. M.stands_for m nodes SeenNode.null at) maker.old maker.new) nodes SeenNode.null cursor.old cursor.new result }
 {
     cursor.count()?;
-    match maker.null(alloc, at) {
-        Ok(out) => Ok(out),
-        Err(_) => Err(ReadError::OutOfMemory),
-    }
+    Ok(maker.null(alloc, at)?)
 }
 
 /// Reads a boolean.
@@ -37,15 +34,8 @@ pub(crate) fn read_boolean<M: Make>(
     ensures { (nodes : List SeenNode) → ReadsNode (Made M.keeps (λ m. M.stands_for m nodes SeenNode.boolean at) maker.old maker.new) nodes SeenNode.boolean cursor.old cursor.new result }
 {
     cursor.count()?;
-    match cursor.boolean() {
-        Ok(value) => {
-            match maker.boolean(alloc, at, value) {
-                Ok(out) => Ok(out),
-                Err(_) => Err(ReadError::OutOfMemory),
-            }
-        }
-        Err(error) => Err(error),
-    }
+    let value = cursor.boolean()?;
+    Ok(maker.boolean(alloc, at, value)?)
 }
 
 /// Reads an int.
@@ -59,15 +49,8 @@ pub(crate) fn read_int<M: Make>(
     ensures { (nodes : List SeenNode) → ReadsNode (Made M.keeps (λ m. M.stands_for m nodes SeenNode.int at) maker.old maker.new) nodes SeenNode.int cursor.old cursor.new result }
 {
     cursor.count()?;
-    match cursor.int() {
-        Ok(value) => {
-            match maker.int(alloc, at, value) {
-                Ok(out) => Ok(out),
-                Err(_) => Err(ReadError::OutOfMemory),
-            }
-        }
-        Err(error) => Err(error),
-    }
+    let value = cursor.int()?;
+    Ok(maker.int(alloc, at, value)?)
 }
 
 /// Reads a long.
@@ -81,15 +64,8 @@ pub(crate) fn read_long<M: Make>(
     ensures { (nodes : List SeenNode) → ReadsNode (Made M.keeps (λ m. M.stands_for m nodes SeenNode.long at) maker.old maker.new) nodes SeenNode.long cursor.old cursor.new result }
 {
     cursor.count()?;
-    match cursor.long() {
-        Ok(value) => {
-            match maker.long(alloc, at, value) {
-                Ok(out) => Ok(out),
-                Err(_) => Err(ReadError::OutOfMemory),
-            }
-        }
-        Err(error) => Err(error),
-    }
+    let value = cursor.long()?;
+    Ok(maker.long(alloc, at, value)?)
 }
 
 /// Reads bytes.
@@ -103,16 +79,9 @@ pub(crate) fn read_bytes<M: Make>(
     ensures { (nodes : List SeenNode) → ReadsNode (Made M.keeps (λ m. M.stands_for m nodes SeenNode.bytes at) maker.old maker.new) nodes SeenNode.bytes cursor.old cursor.new result }
 {
     cursor.count()?;
-    match cursor.bytes() {
-        Ok(content) => {
-            drop_content(content);
-            match maker.bytes(alloc, at, content) {
-                Ok(out) => Ok(out),
-                Err(_) => Err(ReadError::OutOfMemory),
-            }
-        }
-        Err(error) => Err(error),
-    }
+    let content = cursor.bytes()?;
+    drop_content(content);
+    Ok(maker.bytes(alloc, at, content)?)
 }
 
 /// Reads a text.
@@ -126,15 +95,8 @@ pub(crate) fn read_text<M: Make>(
     ensures { (nodes : List SeenNode) → ReadsNode (Made M.keeps (λ m. M.stands_for m nodes SeenNode.string at) maker.old maker.new) nodes SeenNode.string cursor.old cursor.new result }
 {
     cursor.count()?;
-    match cursor.string() {
-        Ok(text) => {
-            match maker.string(alloc, at, text) {
-                Ok(out) => Ok(out),
-                Err(_) => Err(ReadError::OutOfMemory),
-            }
-        }
-        Err(error) => Err(error),
-    }
+    let text = cursor.string()?;
+    Ok(maker.string(alloc, at, text)?)
 }
 
 /// Reads the index of a symbol, below their count.
@@ -150,15 +112,8 @@ pub(crate) fn read_symbol<M: Make>(
         → ReadsNode (Made M.keeps (λ m. M.stands_for m nodes (SeenNode.enum name aliases texts default) at) maker.old maker.new) nodes (SeenNode.enum name aliases texts default) cursor.old cursor.new result }
 {
     cursor.count()?;
-    match cursor.index(symbols) {
-        Ok(symbol) => {
-            match maker.symbol(alloc, at, symbol as u32) {
-                Ok(out) => Ok(out),
-                Err(_) => Err(ReadError::OutOfMemory),
-            }
-        }
-        Err(error) => Err(error),
-    }
+    let index = cursor.index(symbols)?;
+    Ok(maker.symbol(alloc, at, index as u32)?)
 }
 
 /// Reads a fixed of this size.
@@ -173,16 +128,9 @@ pub(crate) fn read_fixed<M: Make>(
     ensures { (nodes : List SeenNode) (name : Name) (aliases : List Name) → ReadsNode (Made M.keeps (λ m. M.stands_for m nodes (SeenNode.fixed name aliases size) at) maker.old maker.new) nodes (SeenNode.fixed name aliases size) cursor.old cursor.new result }
 {
     cursor.count()?;
-    match cursor.fixed(size) {
-        Ok(content) => {
-            drop_content(content);
-            match maker.fixed(alloc, at, content) {
-                Ok(out) => Ok(out),
-                Err(_) => Err(ReadError::OutOfMemory),
-            }
-        }
-        Err(error) => Err(error),
-    }
+    let content = cursor.fixed(size)?;
+    drop_content(content);
+    Ok(maker.fixed(alloc, at, content)?)
 }
 
 /// Keeps nothing of a content: the type of its parameter is what says that each byte is below 256.

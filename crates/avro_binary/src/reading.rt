@@ -90,18 +90,12 @@ fn read_item_blocks<M: Make>(
 {
     // Its contract says that fewer than 2^32 nodes are left, so that no count of parts is too large.
     let _nodes = cursor.nodes();
-    let mut items = match maker.items(alloc, at) {
-        Ok(items) => items,
-        Err(_) => return Err(ReadError::OutOfMemory),
-    };
+    let mut items = maker.items(alloc, at)?;
     while let Some(block) = cursor.block()? {
         read_items(alloc, schema, id, block.count(), cursor, maker, &mut items)?;
         cursor.end_block(&block)?;
     }
-    match maker.array(alloc, items) {
-        Ok(out) => Ok(out),
-        Err(_) => Err(ReadError::OutOfMemory),
-    }
+    Ok(maker.array(alloc, items)?)
 }
 
 /// Reads a number of items, and adds them to those before.
@@ -122,10 +116,7 @@ fn read_items<M: Make>(
     for _done in 0..count {
         let at = maker.item_at(items);
         let value = read_at(alloc, schema, id, cursor, maker, at)?;
-        match maker.item(alloc, items, value) {
-            Ok(()) => {}
-            Err(_) => return Err(ReadError::OutOfMemory),
-        }
+        maker.item(alloc, items, value)?;
     }
     Ok(())
 }
@@ -162,13 +153,10 @@ fn read_branch<M: Make>(
 ) -> Result<M::Out, ReadError>
     ensures { ReadsNode (Made M.keeps (λ m. M.stands_for m (schema_nodes schema.now) (SeenNode.union (ids_of branches.now)) at) maker.old maker.new) (schema_nodes schema.now) (SeenNode.union (ids_of branches.now)) (outside cursor.old) (left_node cursor.new) result }
 {
-    let branch = cursor.index(branches.len())?;
-    let part = maker.branch_at(at, branch as u32);
-    let value = read_at(alloc, schema, branches[branch], cursor, maker, part)?;
-    match maker.branch(alloc, at, branch as u32, value) {
-        Ok(out) => Ok(out),
-        Err(_) => Err(ReadError::OutOfMemory),
-    }
+    let index = cursor.index(branches.len())?;
+    let part = maker.branch_at(at, index as u32);
+    let value = read_at(alloc, schema, branches[index], cursor, maker, part)?;
+    Ok(maker.branch(alloc, at, index as u32, value)?)
 }
 
 /// Reads a record.
@@ -203,20 +191,11 @@ fn read_fields<M: Make>(
 ) -> Result<M::Out, ReadError>
     ensures { (name : Name) (aliases : List Name) → ReadsNode (Made M.keeps (λ m. M.stands_for m (schema_nodes schema.now) (SeenNode.record_of name aliases (seen_fields fields.now)) at) maker.old maker.new) (schema_nodes schema.now) (SeenNode.record_of name aliases (seen_fields fields.now)) (outside cursor.old) (left_node cursor.new) result }
 {
-    let mut values = match maker.fields(alloc, at) {
-        Ok(values) => values,
-        Err(_) => return Err(ReadError::OutOfMemory),
-    };
+    let mut values = maker.fields(alloc, at)?;
     for field in fields {
         let part = maker.field_at(&values);
         let value = read_at(alloc, schema, field.node, cursor, maker, part)?;
-        match maker.field(alloc, &mut values, value) {
-            Ok(()) => {}
-            Err(_) => return Err(ReadError::OutOfMemory),
-        }
+        maker.field(alloc, &mut values, value)?;
     }
-    match maker.record(alloc, values) {
-        Ok(out) => Ok(out),
-        Err(_) => Err(ReadError::OutOfMemory),
-    }
+    Ok(maker.record(alloc, values)?)
 }

@@ -45,10 +45,8 @@ fn append_datum(datum: &Datum, out: &mut Vec<u8>) -> Result<(), EncodeError>
     ensures unchanged { OnErr result (out.new.items ≡ out.old.items) }
     ensures memory { IsOkUnless result EncodeError.OutOfMemory }
 {
-    match append_plain(datum, out) {
-        Ok(()) => Ok(()),
-        Err(_) => Err(EncodeError::OutOfMemory),
-    }
+    append_plain(datum, out)?;
+    Ok(())
 }
 
 /// Appends the plain encoding of a datum, whatever its type (Avro 1.11, "Binary Encoding").

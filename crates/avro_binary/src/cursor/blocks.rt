@@ -69,19 +69,15 @@ impl<'a> Cursor<'a> {
     pub fn block(&mut self) -> Result<Option<Block>, ReadError>
         ensures { ReadsHead self.old self.new result }
     {
-        match self.block_count() {
-            Ok((is_sized, count, len)) => {
-                if is_sized {
-                    return self.sized_block(count, len);
-                }
-                self.pass(len);
-                if count == 0 {
-                    return Ok(None);
-                }
-                Ok(Some(Block { count, size: None }))
-            }
-            Err(error) => Err(error),
+        let (is_sized, count, len) = self.block_count()?;
+        if is_sized {
+            return self.sized_block(count, len);
         }
+        self.pass(len);
+        if count == 0 {
+            return Ok(None);
+        }
+        Ok(Some(Block { count, size: None }))
     }
 
     /// Reads a block's head behind whose count, of `len` bytes, a size stands.
@@ -93,23 +89,19 @@ impl<'a> Cursor<'a> {
         requires spelled { SpellsLong (neg_ℤ (pos count)) (take len self.old.bytes) }
         ensures { ReadsHead self.old self.new result }
     {
-        match self.block_size(len) {
-            Ok((bytes, both)) => {
-                let offset = self.offset_behind(len);
-                let items = self.offset_behind(both);
-                self.pass(both);
-                let size = BlockSize {
-                    bytes,
-                    offset,
-                    items,
-                };
-                Ok(Some(Block {
-                    count,
-                    size: Some(size),
-                }))
-            }
-            Err(error) => Err(error),
-        }
+        let (bytes, both) = self.block_size(len)?;
+        let offset = self.offset_behind(len);
+        let items = self.offset_behind(both);
+        self.pass(both);
+        let size = BlockSize {
+            bytes,
+            offset,
+            items,
+        };
+        Ok(Some(Block {
+            count,
+            size: Some(size),
+        }))
     }
 
     /// Compares the size that a block's head gave, if any, with where the cursor is behind the

@@ -146,19 +146,15 @@ impl<'a> Cursor<'a> {
         ensures stands { IfOk result (λ r. ContentStands self.now.blob self.now.bytes r.0.now r.1) }
         ensures refused { (is_content : List ℕ → Bool) → IfErr result (Refuses (ContentBreaks is_content self.now.blob) self.now) }
     {
-        match self.content_length() {
-            Ok((count, len)) => {
-                let (_, behind) = self.rest().split_at(len);
-                if count > behind.len() {
-                    return Err(ReadError::EndOfInput {
-                        place: self.offset_behind(len),
-                    });
-                }
-                let (content, _) = behind.split_at(count);
-                Ok((content, len + count))
-            }
-            Err(error) => Err(error),
+        let (count, len) = self.content_length()?;
+        let (_, behind) = self.rest().split_at(len);
+        if count > behind.len() {
+            return Err(ReadError::EndOfInput {
+                place: self.offset_behind(len),
+            });
         }
+        let (content, _) = behind.split_at(count);
+        Ok((content, len + count))
     }
 
     /// The text at the front behind its length, and how many bytes the two are.
@@ -168,14 +164,12 @@ impl<'a> Cursor<'a> {
         ensures valid { IfOk result (λ r. is_utf8 r.0.now ≡ true) }
         ensures refused { IfErr result (Refuses (StringBreaks self.now.blob) self.now) }
     {
-        match self.content() {
-            Ok((content, len)) => match text_of(content) {
-                Some(text) => Ok((text, len)),
-                None => Err(ReadError::InvalidText {
-                    place: self.offset_behind(len - content.len()),
-                }),
-            },
-            Err(error) => Err(error),
+        let (content, len) = self.content()?;
+        match text_of(content) {
+            Some(text) => Ok((text, len)),
+            None => Err(ReadError::InvalidText {
+                place: self.offset_behind(len - content.len()),
+            }),
         }
     }
 
@@ -188,13 +182,9 @@ impl<'a> Cursor<'a> {
     pub fn bytes(&mut self) -> Result<&'a [u8], ReadError>
         ensures { ReadsElement (λ content. content.now) (IsBytes self.old.blob) (BytesBreaks self.old.blob) self.old self.new result }
     {
-        match self.content() {
-            Ok((content, len)) => {
-                self.pass(len);
-                Ok(content)
-            }
-            Err(error) => Err(error),
-        }
+        let (content, len) = self.content()?;
+        self.pass(len);
+        Ok(content)
     }
 
     /// Reads a string behind its length.
@@ -206,13 +196,9 @@ impl<'a> Cursor<'a> {
     pub fn string(&mut self) -> Result<&'a str, ReadError>
         ensures { ReadsElement (λ text. text.now) (IsString self.old.blob) (StringBreaks self.old.blob) self.old self.new result }
     {
-        match self.text() {
-            Ok((text, len)) => {
-                self.pass(len);
-                Ok(text)
-            }
-            Err(error) => Err(error),
-        }
+        let (text, len) = self.text()?;
+        self.pass(len);
+        Ok(text)
     }
 
     /// Reads a key that isn't among those before it in its map, and adds it to them.
@@ -224,19 +210,15 @@ impl<'a> Cursor<'a> {
         ensures depth { self.new.depth ≡ self.old.depth }
         ensures read { (keys : List (List ℕ)) → seen.old ≡ key_set keys → ReadsKey (λ text. text.now) keys self.old self.new seen.old seen.new result }
     {
-        match self.text() {
-            Ok((text, len)) => match seen.add(text.as_bytes()) {
-                Ok(true) => {
-                    self.pass(len);
-                    Ok(text)
-                }
-                Ok(false) => Err(ReadError::DuplicateKey {
-                    place: self.offset(),
-                }),
-                Err(_) => Err(ReadError::OutOfMemory),
-            },
-            Err(error) => Err(error),
+        let (text, len) = self.text()?;
+        let is_new = seen.add(text.as_bytes())?;
+        if !is_new {
+            return Err(ReadError::DuplicateKey {
+                place: self.offset(),
+            });
         }
+        self.pass(len);
+        Ok(text)
     }
 }
 
@@ -261,13 +243,7 @@ fn text_of(content: &[u8]) -> Option<&str>
     ensures none { IfNone result (is_utf8 content.now ≡ false) }
 {
     if content.len() < 64 {
-        return match std::str::from_utf8(content) {
-            Ok(text) => Some(text),
-            Err(_) => None,
-        };
+        return std::str::from_utf8(content).ok();
     }
-    match from_utf8(content) {
-        Ok(text) => Some(text),
-        Err(_) => None,
-    }
+    from_utf8(content).ok()
 }

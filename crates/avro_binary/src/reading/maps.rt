@@ -53,10 +53,7 @@ fn read_entry_blocks<M: Make>(
     // Its contract says that fewer than 2^32 nodes are left, so that no count of parts is too large.
     let _nodes = cursor.nodes();
     let mut keys = Keys::new(alloc);
-    let mut entries = match maker.entries(alloc, at) {
-        Ok(entries) => entries,
-        Err(_) => return Err(ReadError::OutOfMemory),
-    };
+    let mut entries = maker.entries(alloc, at)?;
     while let Some(head) = cursor.block()? {
         let count = head.count();
         read_entries(
@@ -71,10 +68,7 @@ fn read_entry_blocks<M: Make>(
         )?;
         cursor.end_block(&head)?;
     }
-    match maker.map(alloc, entries) {
-        Ok(out) => Ok(out),
-        Err(_) => Err(ReadError::OutOfMemory),
-    }
+    Ok(maker.map(alloc, entries)?)
 }
 
 /// Reads a number of entries, none of whose keys is among those before it, and adds them to those before.
@@ -99,10 +93,7 @@ fn read_entries<'a, M: Make>(
         let key = cursor.key(keys)?;
         let at = maker.entry_at(entries);
         let value = read_at(alloc, schema, id, cursor, maker, at)?;
-        match maker.entry(alloc, entries, key, value) {
-            Ok(()) => {}
-            Err(_) => return Err(ReadError::OutOfMemory),
-        }
+        maker.entry(alloc, entries, key, value)?;
     }
     Ok(())
 }

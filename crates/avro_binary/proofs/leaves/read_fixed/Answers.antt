@@ -12,13 +12,15 @@ returns-in_err-count g c = λ nodes name aliases.
     let p = err_from_is_err_and c.from_residual.result c.from_residual.ensures.1 in
     rw (p.1, p.2) (enter_refused nodes (Node.fixed name aliases c.args.size) c.args.cursor.now c.count.new.self c.in_err-count.field-0.0 c.in_err-count.ensures.refused)
 
-pub returns-in-Ok-fixed : goal.returns-in-Ok-fixed
-returns-in-Ok-fixed g c = λ nodes name aliases.
+pub returns : goal.returns
+returns g c = λ nodes name aliases.
     let counted = c.count.new.self in
     let after = c.fixed.new.self in
-    let found = c.in-Ok.ensures.found in
-    counted_found nodes (Node.fixed name aliases c.args.size) c.args.cursor.now counted after c.in-Ok-fixed.out c.in_ok-count.ensures.counted found.2.depth
-    (fixed_found nodes (inside_of counted) (inside_of after) c.in-Ok-fixed.out name aliases c.args.size c.in-Ok.content.now found.0 found.1 (passes_inside counted after found.0 found.2) (omega arith) c.drop_content.ensures (c.in-Ok-fixed.ensures.kept, c.in-Ok-fixed.ensures.stands nodes name aliases c.args.size))
+    let found = c.in_ok-content.ensures.found in
+    counted_found nodes (Node.fixed name aliases c.args.size) c.args.cursor.now counted after c.in_ok-fixed.field-0 c.in_ok-count.ensures.counted found.2.depth
+    (fixed_found nodes (inside_of counted) (inside_of after) c.in_ok-fixed.field-0 name aliases c.args.size c.in_ok-content.content.now found.0 found.1 (passes_inside counted after found.0 found.2) (omega arith) c.drop_content.ensures (c.in_ok-fixed.ensures.kept, c.in_ok-fixed.ensures.stands nodes name aliases c.args.size))
 
-pub returns-in-Err : goal.returns-in-Err
-returns-in-Err g c = λ nodes name aliases. counted_refused nodes (Node.fixed name aliases c.args.size) (FixedBreaks c.args.size c.count.new.self.blob) c.in_ok-count.ensures.counted (λ f b. b) c.in-Err.ensures.refused
+pub returns-in_err-content : goal.returns-in_err-content
+returns-in_err-content g c = λ nodes name aliases.
+    let p = err_from_is_err_and c.from_residual-in_err-content.result c.from_residual-in_err-content.ensures.1 in
+    rw (p.1, p.2) (counted_refused nodes (Node.fixed name aliases c.args.size) (FixedBreaks c.args.size c.count.new.self.blob) c.in_ok-count.ensures.counted (λ f b. b) c.in_err-content.ensures.refused)

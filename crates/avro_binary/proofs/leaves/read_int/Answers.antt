@@ -15,15 +15,17 @@ returns-in_err-count g c = λ nodes.
     let p = err_from_is_err_and c.from_residual.result c.from_residual.ensures.1 in
     rw (p.1, p.2) (enter_refused nodes (Node.int) c.args.cursor.now c.count.new.self c.in_err-count.field-0.0 c.in_err-count.ensures.refused)
 
-pub returns-in-Ok-int : goal.returns-in-Ok-int
-returns-in-Ok-int g c = λ nodes.
+pub returns : goal.returns
+returns g c = λ nodes.
     let counted = c.count.new.self in
     let after = c.int.new.self in
-    let found = c.in-Ok.ensures.found in
-    let fits : FitsSigned w32 c.in-Ok.value = search rules in
-    let stands = subst (λ (v : ℤ). g.M.Make.stands_for c.int-in-Ok.new.self nodes Node.int c.args.at c.in-Ok-int.out (Value.int v)) (to_z-of_z w32 c.in-Ok.value fits) (c.in-Ok-int.ensures.stands nodes) in
-    counted_found nodes (Node.int) c.args.cursor.now counted after c.in-Ok-int.out c.in_ok-count.ensures.counted found.2.depth
-    (int_found nodes (inside_of counted) (inside_of after) c.in-Ok-int.out c.in-Ok.value (finds_inside (λ (x : ℤ). x) IsInt counted after c.in-Ok.value found) (c.in-Ok-int.ensures.kept, stands))
+    let found = c.in_ok-value.ensures.found in
+    let fits : FitsSigned w32 c.in_ok-value.value = search rules in
+    let stands = subst (λ (v : ℤ). g.M.Make.stands_for c.int-2.new.self nodes Node.int c.args.at c.in_ok-int.field-0 (Value.int v)) (to_z-of_z w32 c.in_ok-value.value fits) (c.in_ok-int.ensures.stands nodes) in
+    counted_found nodes (Node.int) c.args.cursor.now counted after c.in_ok-int.field-0 c.in_ok-count.ensures.counted found.2.depth
+    (int_found nodes (inside_of counted) (inside_of after) c.in_ok-int.field-0 c.in_ok-value.value (finds_inside (λ (x : ℤ). x) IsInt counted after c.in_ok-value.value found) (c.in_ok-int.ensures.kept, stands))
 
-pub returns-in-Err : goal.returns-in-Err
-returns-in-Err g c = λ nodes. counted_refused nodes (Node.int) IntBreaks c.in_ok-count.ensures.counted (λ f b. b) c.in-Err.ensures.refused
+pub returns-in_err-value : goal.returns-in_err-value
+returns-in_err-value g c = λ nodes.
+    let p = err_from_is_err_and c.from_residual-in_err-value.result c.from_residual-in_err-value.ensures.1 in
+    rw (p.1, p.2) (counted_refused nodes (Node.int) IntBreaks c.in_ok-count.ensures.counted (λ f b. b) c.in_err-value.ensures.refused)

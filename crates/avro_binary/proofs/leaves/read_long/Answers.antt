@@ -15,15 +15,17 @@ returns-in_err-count g c = λ nodes.
     let p = err_from_is_err_and c.from_residual.result c.from_residual.ensures.1 in
     rw (p.1, p.2) (enter_refused nodes (Node.long) c.args.cursor.now c.count.new.self c.in_err-count.field-0.0 c.in_err-count.ensures.refused)
 
-pub returns-in-Ok-long : goal.returns-in-Ok-long
-returns-in-Ok-long g c = λ nodes.
+pub returns : goal.returns
+returns g c = λ nodes.
     let counted = c.count.new.self in
     let after = c.long.new.self in
-    let found = c.in-Ok.ensures.found in
-    let fits : FitsSigned w64 c.in-Ok.value = search rules in
-    let stands = subst (λ (v : ℤ). g.M.Make.stands_for c.long-in-Ok.new.self nodes Node.long c.args.at c.in-Ok-long.out (Value.long v)) (to_z-of_z w64 c.in-Ok.value fits) (c.in-Ok-long.ensures.stands nodes) in
-    counted_found nodes (Node.long) c.args.cursor.now counted after c.in-Ok-long.out c.in_ok-count.ensures.counted found.2.depth
-    (long_found nodes (inside_of counted) (inside_of after) c.in-Ok-long.out c.in-Ok.value (finds_inside (λ (x : ℤ). x) IsLong counted after c.in-Ok.value found) (c.in-Ok-long.ensures.kept, stands))
+    let found = c.in_ok-value.ensures.found in
+    let fits : FitsSigned w64 c.in_ok-value.value = search rules in
+    let stands = subst (λ (v : ℤ). g.M.Make.stands_for c.long-2.new.self nodes Node.long c.args.at c.in_ok-long.field-0 (Value.long v)) (to_z-of_z w64 c.in_ok-value.value fits) (c.in_ok-long.ensures.stands nodes) in
+    counted_found nodes (Node.long) c.args.cursor.now counted after c.in_ok-long.field-0 c.in_ok-count.ensures.counted found.2.depth
+    (long_found nodes (inside_of counted) (inside_of after) c.in_ok-long.field-0 c.in_ok-value.value (finds_inside (λ (x : ℤ). x) IsLong counted after c.in_ok-value.value found) (c.in_ok-long.ensures.kept, stands))
 
-pub returns-in-Err : goal.returns-in-Err
-returns-in-Err g c = λ nodes. counted_refused nodes (Node.long) LongBreaks c.in_ok-count.ensures.counted (λ f b. b) c.in-Err.ensures.refused
+pub returns-in_err-value : goal.returns-in_err-value
+returns-in_err-value g c = λ nodes.
+    let p = err_from_is_err_and c.from_residual-in_err-value.result c.from_residual-in_err-value.ensures.1 in
+    rw (p.1, p.2) (counted_refused nodes (Node.long) LongBreaks c.in_ok-count.ensures.counted (λ f b. b) c.in_err-value.ensures.refused)

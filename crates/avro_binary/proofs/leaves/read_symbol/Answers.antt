@@ -13,14 +13,16 @@ returns-in_err-count g c = λ nodes name aliases texts default same.
     let p = err_from_is_err_and c.from_residual.result c.from_residual.ensures.1 in
     rw (p.1, p.2) (enter_refused nodes (Node.enum name aliases texts default) c.args.cursor.now c.count.new.self c.in_err-count.field-0.0 c.in_err-count.ensures.refused)
 
-pub returns-in-Ok-symbol : goal.returns-in-Ok-symbol
-returns-in-Ok-symbol g c = λ nodes name aliases texts default same.
+pub returns : goal.returns
+returns g c = λ nodes name aliases texts default same.
     let counted = c.count.new.self in
     let after = c.index.new.self in
-    let found = c.in-Ok.ensures.found in
-    let below : c.in-Ok.symbol < length texts = let few = found.1.0 in omega arith in
-    counted_found nodes (Node.enum name aliases texts default) c.args.cursor.now counted after c.in-Ok-symbol.out c.in_ok-count.ensures.counted found.2.depth
-    (symbol_found nodes (inside_of counted) (inside_of after) c.in-Ok-symbol.out name aliases texts default c.args.symbols c.in-Ok.symbol same (finds_inside (λ (x : ℕ). x) (IsIndex c.args.symbols) counted after c.in-Ok.symbol found) (c.in-Ok-symbol.ensures.kept, c.in-Ok-symbol.ensures.stands nodes name aliases texts default below))
+    let found = c.in_ok-index.ensures.found in
+    let below : c.in_ok-index.index < length texts = let few = found.1.0 in omega arith in
+    counted_found nodes (Node.enum name aliases texts default) c.args.cursor.now counted after c.in_ok-symbol.field-0 c.in_ok-count.ensures.counted found.2.depth
+    (symbol_found nodes (inside_of counted) (inside_of after) c.in_ok-symbol.field-0 name aliases texts default c.args.symbols c.in_ok-index.index same (finds_inside (λ (x : ℕ). x) (IsIndex c.args.symbols) counted after c.in_ok-index.index found) (c.in_ok-symbol.ensures.kept, c.in_ok-symbol.ensures.stands nodes name aliases texts default below))
 
-pub returns-in-Err : goal.returns-in-Err
-returns-in-Err g c = λ nodes name aliases texts default same. counted_refused nodes (Node.enum name aliases texts default) (IndexBreaks c.args.symbols) c.in_ok-count.ensures.counted (λ f b. subst (λ (n : ℕ). IndexBreaks n c.count.new.self.bytes f) same b) c.in-Err.ensures.refused
+pub returns-in_err-index : goal.returns-in_err-index
+returns-in_err-index g c = λ nodes name aliases texts default same.
+    let p = err_from_is_err_and c.from_residual-in_err-index.result c.from_residual-in_err-index.ensures.1 in
+    rw (p.1, p.2) (counted_refused nodes (Node.enum name aliases texts default) (IndexBreaks c.args.symbols) c.in_ok-count.ensures.counted (λ f b. subst (λ (n : ℕ). IndexBreaks n c.count.new.self.bytes f) same b) c.in_err-index.ensures.refused)

@@ -36,11 +36,11 @@ field_id_at (f ∷ fields) (suc k) d h = field_id_at fields k d (omega arith)
 pub read_item_blocks-loop-items-init : goal.read_item_blocks-loop-items-init
 read_item_blocks-loop-items-init g t c =
     let nodes = schema_nodes c.args.schema.now in
-    ([], blocks_none (values_kind nodes (limits_at c.args.cursor.now) (node_at nodes c.args.id.0)) c.args.cursor.now tt, c.in-Ok.ensures.kept, c.in-Ok.ensures.stands nodes c.args.id.0)
+    ([], blocks_none (values_kind nodes (limits_at c.args.cursor.now) (node_at nodes c.args.id.0)) c.args.cursor.now tt, c.in_ok-items.ensures.kept, c.in_ok-items.ensures.stands nodes c.args.id.0)
 
 pub read_item_blocks-returns-in_err-block : goal.read_item_blocks-returns-in_err-block
 read_item_blocks-returns-in_err-block g t c =
-    let p = err_from_is_err_and c.from_residual.result c.from_residual.ensures.1 in
+    let p = err_from_is_err_and c.from_residual-in_err-block.result c.from_residual-in_err-block.ensures.1 in
     rw (p.1, p.2) (record { found = tt; refused = head_refused c.loop-items.invariant.1 c.in_err-block.field-0.0 c.in_err-block.ensures.refused })
 
 pub read_item_blocks-returns-in_err-read_items : goal.read_item_blocks-returns-in_err-read_items
@@ -84,31 +84,31 @@ read_item_blocks-returns-in_err-end_block g t c =
     let ends = c.in_err-end_block.ensures c.loop-items.cursor.offset (length (concat found.items)) head.head head.is_block (offset_is done head found counted) in
     rw (p.1, p.2) (record { found = tt; refused = size_refused done head found counted (Unit {0}) c.in_err-end_block.field-0.0 ends })
 
-pub read_item_blocks-returns-in-Ok-array : goal.read_item_blocks-returns-in-Ok-array
-read_item_blocks-returns-in-Ok-array g t c =
+pub read_item_blocks-returns : goal.read_item_blocks-returns
+read_item_blocks-returns g t c =
     let inv = c.loop-items.invariant in
     let nodes = schema_nodes c.args.schema.now in
     let end = end_read c.loop-items.cursor c.block.new.self (rw c.in_default.is at c.in_ok-block.ensures.found) in
-    array_found nodes c.args.id.0 inv.1 end c.in-Ok-array.out c.nodes-nodes.ensures.in_range (g.met.M.Make.keeps_on c.args.maker.now c.loop-items.maker c.array.new.self inv.2 c.in-Ok-array.ensures.kept, c.in-Ok-array.ensures.stands nodes c.args.id.0 c.args.at inv.0 inv.3)
+    array_found nodes c.args.id.0 inv.1 end c.in_ok-array.field-0 c.nodes-nodes.ensures.in_range (g.met.M.Make.keeps_on c.args.maker.now c.loop-items.maker c.array.new.self inv.2 c.in_ok-array.ensures.kept, c.in_ok-array.ensures.stands nodes c.args.id.0 c.args.at inv.0 inv.3)
 
 -- ---- Maps
 
 pub maps::read_entry_blocks-loop-entries-init : goal.maps::read_entry_blocks-loop-entries-init
 maps::read_entry_blocks-loop-entries-init g t c =
     let nodes = schema_nodes c.args.schema.now in
-    ([], [], c.new-keys.ensures, blocks_none (entries_kind nodes (limits_at c.args.cursor.now) (node_at nodes c.args.id.0)) c.args.cursor.now refl, c.in-Ok.ensures.kept, c.in-Ok.ensures.stands nodes c.args.id.0)
+    ([], [], c.new-keys.ensures, blocks_none (entries_kind nodes (limits_at c.args.cursor.now) (node_at nodes c.args.id.0)) c.args.cursor.now refl, c.in_ok-entries.ensures.kept, c.in_ok-entries.ensures.stands nodes c.args.id.0)
 
 pub maps::read_entry_blocks-returns-in_err-head : goal.maps::read_entry_blocks-returns-in_err-head
 maps::read_entry_blocks-returns-in_err-head g t c =
-    let p = err_from_is_err_and c.from_residual.result c.from_residual.ensures.1 in
+    let p = err_from_is_err_and c.from_residual-in_err-head.result c.from_residual-in_err-head.ensures.1 in
     rw (p.1, p.2) (record { found = tt; refused = head_refused c.loop-entries.invariant.3 c.in_err-head.field-0.0 c.in_err-head.ensures.refused })
 
-pub maps::read_entry_blocks-returns-in-Ok-map : goal.maps::read_entry_blocks-returns-in-Ok-map
-maps::read_entry_blocks-returns-in-Ok-map g t c =
+pub maps::read_entry_blocks-returns : goal.maps::read_entry_blocks-returns
+maps::read_entry_blocks-returns g t c =
     let inv = c.loop-entries.invariant in
     let nodes = schema_nodes c.args.schema.now in
     let end = end_read c.loop-entries.cursor c.block.new.self (rw c.in_default.is at c.in_ok-head.ensures.found) in
-    map_found nodes c.args.id.0 inv.3 end c.in-Ok-map.out c.nodes-nodes.ensures.in_range (g.met.M.Make.keeps_on c.args.maker.now c.loop-entries.maker c.map.new.self inv.4 c.in-Ok-map.ensures.kept, c.in-Ok-map.ensures.stands nodes c.args.id.0 c.args.at inv.0 inv.5)
+    map_found nodes c.args.id.0 inv.3 end c.in_ok-map.field-0 c.nodes-nodes.ensures.in_range (g.met.M.Make.keeps_on c.args.maker.now c.loop-entries.maker c.map.new.self inv.4 c.in_ok-map.ensures.kept, c.in_ok-map.ensures.stands nodes c.args.id.0 c.args.at inv.0 inv.5)
 
 pub maps::read_entry_blocks-returns-in_err-read_entries : goal.maps::read_entry_blocks-returns-in_err-read_entries
 maps::read_entry_blocks-returns-in_err-read_entries g t c =
@@ -223,10 +223,10 @@ maps::read_entries-loop-done-preserved g t c = (
       let made = c.read_at.new.maker in
       let entries = c.loop-done.entries in
       let is_for = subst (λ (a : g.row.M-At.Denot). g.M.Make.stands_for made nodes n a c.in_ok-value.value v) (c.entry_at-at.ensures ∙ g.met.M.Make.entry_at_kept maker made entries found.2.0) found.2.1 in
-      let kept = g.met.M.Make.keeps_on c.args.maker.now maker c.entry.new.self so_far.5 (g.met.M.Make.keeps_on maker made c.entry.new.self found.2.0 c.in-Ok.ensures.kept) in
+      let kept = g.met.M.Make.keeps_on c.args.maker.now maker c.entry.new.self so_far.5 (g.met.M.Make.keeps_on maker made c.entry.new.self found.2.0 c.in_ok-entry.ensures.kept) in
       let stand = λ (at : g.row.M-At.Denot) (fs : List (List ℕ × Value)) (h : g.M.Make.entries_stand_for c.args.maker.now nodes c.args.id.0 at c.args.entries.now fs).
       subst (λ (es : List (List ℕ × Value)). g.M.Make.entries_stand_for c.entry.new.self nodes c.args.id.0 at c.entry.new.entries es) (append_assoc fs xs ((key, v) ∷ []))
-      (c.in-Ok.ensures.stands nodes c.args.id.0 at (fs ++ xs) v (g.met.M.Make.entries_kept maker made nodes c.args.id.0 at entries (fs ++ xs) found.2.0 (so_far.6 at fs h)) is_for) in
+      (c.in_ok-entry.ensures.stands nodes c.args.id.0 at (fs ++ xs) v (g.met.M.Make.entries_kept maker made nodes c.args.id.0 at entries (fs ++ xs) found.2.0 (so_far.6 at fs h)) is_for) in
       (xs ++ (key, v) ∷ [], keys ++ key ∷ [], omega (arith, length-append xs ((key, v) ∷ [])), read.added, more, kept, stand),
 )
 
@@ -278,10 +278,10 @@ read_items-loop-done-preserved g t c =
           let made = c.read_at.new.maker in
           let items = c.loop-done.items in
           let is_for = subst (λ (a : g.row.M-At.Denot). g.M.Make.stands_for made nodes n a c.in_ok-value.value v) (c.item_at-at.ensures ∙ g.met.M.Make.item_at_kept maker made items found.2.0) found.2.1 in
-          let kept = g.met.M.Make.keeps_on c.args.maker.now maker c.item.new.self so_far.3 (g.met.M.Make.keeps_on maker made c.item.new.self found.2.0 c.in-Ok.ensures.kept) in
+          let kept = g.met.M.Make.keeps_on c.args.maker.now maker c.item.new.self so_far.3 (g.met.M.Make.keeps_on maker made c.item.new.self found.2.0 c.in_ok-item.ensures.kept) in
           let stand = λ (at : g.row.M-At.Denot) (us : List Value) (h : g.M.Make.items_stand_for c.args.maker.now nodes c.args.id.0 at c.args.items.now us).
           subst (λ (vs : List Value). g.M.Make.items_stand_for c.item.new.self nodes c.args.id.0 at c.item.new.items vs) (append_assoc us xs (v ∷ []))
-          (c.in-Ok.ensures.stands nodes c.args.id.0 at (us ++ xs) v (g.met.M.Make.items_kept maker made nodes c.args.id.0 at items (us ++ xs) found.2.0 (so_far.4 at us h)) is_for) in
+          (c.in_ok-item.ensures.stands nodes c.args.id.0 at (us ++ xs) v (g.met.M.Make.items_kept maker made nodes c.args.id.0 at items (us ++ xs) found.2.0 (so_far.4 at us h)) is_for) in
           (xs ++ v ∷ [], omega (arith, length-append xs (v ∷ [])), more, kept, stand),
     )
 
@@ -404,7 +404,7 @@ read_record-returns g t c = λ name aliases.
 
 pub read_fields-returns-in_err-value : goal.read_fields-returns-in_err-value
 read_fields-returns-in_err-value g t c = λ name aliases.
-    let p = err_from_is_err_and c.from_residual.result c.from_residual.ensures.1 in
+    let p = err_from_is_err_and c.from_residual-in_err-value.result c.from_residual-in_err-value.ensures.1 in
     let nodes = schema_nodes c.args.schema.now in
     let fields = c.args.fields.now in
     let ids = field_ids (seen_fields fields) in
@@ -439,21 +439,21 @@ read_fields-loop-field-preserved g t c =
       subst (λ (ps : List ℕ). FieldsDone nodes ps c.args.cursor.now c.read_at.new.cursor (so_far.0 ++ found.0 ∷ [])) are
           (fields_push nodes (take i ids) c.args.cursor.now c.loop-field.cursor so_far.0 so_far.1 field.node.0 c.read_at.new.cursor found.0 found.1),
       omega (arith, length-append so_far.0 (found.0 ∷ [])),
-      g.met.M.Make.keeps_on c.args.maker.now maker c.field.new.self so_far.3 (g.met.M.Make.keeps_on maker made c.field.new.self found.2.0 c.in-Ok-field.ensures.kept),
-      c.in-Ok-field.ensures.stands nodes (seen_fields fields) field.node.0 c.args.at so_far.0 found.0 (g.met.M.Make.fields_kept maker made nodes (seen_fields fields) c.args.at values so_far.0 found.2.0 so_far.4) at_field
+      g.met.M.Make.keeps_on c.args.maker.now maker c.field.new.self so_far.3 (g.met.M.Make.keeps_on maker made c.field.new.self found.2.0 c.in_ok-field.ensures.kept),
+      c.in_ok-field.ensures.stands nodes (seen_fields fields) field.node.0 c.args.at so_far.0 found.0 (g.met.M.Make.fields_kept maker made nodes (seen_fields fields) c.args.at values so_far.0 found.2.0 so_far.4) at_field
           (subst (λ (a : g.row.M-At.Denot). g.M.Make.stands_for made nodes (node_at nodes field.node.0) a c.in_ok-value.value found.0) (c.field_at-part.ensures ∙ g.met.M.Make.field_at_kept maker made values found.2.0) found.2.1),
     )
 
-pub read_fields-returns-in-Ok-record : goal.read_fields-returns-in-Ok-record
-read_fields-returns-in-Ok-record g t c = λ name aliases.
+pub read_fields-returns : goal.read_fields-returns
+read_fields-returns g t c = λ name aliases.
     let nodes = schema_nodes c.args.schema.now in
     let fields = c.args.fields.now in
     let i = c.loop-field.field-index in
     let so_far = c.loop-field.invariant in
     let past : length fields ≤ i = c.loop-field-test.false in
     let done = subst (λ (ps : List ℕ). FieldsDone nodes ps c.args.cursor.now c.loop-field.cursor so_far.0) (ids_all fields i past) so_far.1 in
-    record_found nodes name aliases (seen_fields fields) c.args.cursor.now c.loop-field.cursor so_far.0 c.in-Ok-record.out done
-    (g.met.M.Make.keeps_on c.args.maker.now c.loop-field.maker c.record.new.self so_far.3 c.in-Ok-record.ensures.kept, c.in-Ok-record.ensures.stands nodes name aliases (seen_fields fields) c.args.at so_far.0 so_far.4 done.fitting)
+    record_found nodes name aliases (seen_fields fields) c.args.cursor.now c.loop-field.cursor so_far.0 c.in_ok-record.field-0 done
+    (g.met.M.Make.keeps_on c.args.maker.now c.loop-field.maker c.record.new.self so_far.3 c.in_ok-record.ensures.kept, c.in_ok-record.ensures.stands nodes name aliases (seen_fields fields) c.args.at so_far.0 so_far.4 done.fitting)
 
 -- ---- Unions
 
@@ -464,23 +464,23 @@ read_branch-returns-in_err-value g t c =
     let start = c.args.cursor.now in
     let mid = c.index.new.self in
     let after = c.read_at.new.cursor in
-    let k = c.in_ok-branch.branch in
-    let found = c.in_ok-branch.ensures.found in
+    let k = c.in_ok-index.index in
+    let found = c.in_ok-index.ensures.found in
     let among = subst (λ (n : ℕ). Finds (λ (x : ℕ). x) (IsIndex n) start mid k) (sym (ids-length branches)) found in
     let branch = get_or branches k (record { 0 = 0 }) in
     let at = branch_at branches k (record { 0 = 0 }) found.1.0 in
     let p = err_from_is_err_and c.from_residual-in_err-value.result c.from_residual-in_err-value.ensures.1 in
     rw (p.1, p.2) (branch_refused nodes (ids_of branches) start mid k branch.0 at among after after c.in_err-value.field-0.0 c.in_err-value.ensures)
 
-pub read_branch-returns-in_Ok-out : goal.read_branch-returns-in_Ok-out
-read_branch-returns-in_Ok-out g t c =
+pub read_branch-returns : goal.read_branch-returns
+read_branch-returns g t c =
     let nodes = schema_nodes c.args.schema.now in
     let branches = c.args.branches.now in
     let start = c.args.cursor.now in
     let mid = c.index.new.self in
     let after = c.read_at.new.cursor in
-    let k = c.in_ok-branch.branch in
-    let found = c.in_ok-branch.ensures.found in
+    let k = c.in_ok-index.index in
+    let found = c.in_ok-index.ensures.found in
     let among = subst (λ (n : ℕ). Finds (λ (x : ℕ). x) (IsIndex n) start mid k) (sym (ids-length branches)) found in
     let branch = get_or branches k (record { 0 = 0 }) in
     let at = branch_at branches k (record { 0 = 0 }) found.1.0 in
@@ -488,11 +488,11 @@ read_branch-returns-in_Ok-out g t c =
     let made = c.read_at.new.maker in
     let step = λ (v : Value) (is : Made g.M.Make.keeps (λ m. g.M.Make.stands_for m nodes (node_at nodes branch.0) c.branch_at-part.result) maker made c.in_ok-value.value v).
     let part = c.branch_at-part.ensures ∙ g.met.M.Make.branch_at_kept maker made c.args.at k is.0 in
-    let whole : Made g.M.Make.keeps (λ m. g.M.Make.stands_for m nodes (Node.union (ids_of branches)) c.args.at) maker c.branch-out.new.self c.in_Ok-out.out (Value.union k v) = (
-      g.met.M.Make.keeps_on maker made c.branch-out.new.self is.0 c.in_Ok-out.ensures.kept,
-      c.in_Ok-out.ensures.stands nodes (ids_of branches) branch.0 v at (subst (λ (a : g.row.M-At.Denot). g.M.Make.stands_for made nodes (node_at nodes branch.0) a c.in_ok-value.value v) part is.1),
+    let whole : Made g.M.Make.keeps (λ m. g.M.Make.stands_for m nodes (Node.union (ids_of branches)) c.args.at) maker c.branch-maker.new.self c.in_ok-branch.field-0 (Value.union k v) = (
+      g.met.M.Make.keeps_on maker made c.branch-maker.new.self is.0 c.in_ok-branch.ensures.kept,
+      c.in_ok-branch.ensures.stands nodes (ids_of branches) branch.0 v at (subst (λ (a : g.row.M-At.Denot). g.M.Make.stands_for made nodes (node_at nodes branch.0) a c.in_ok-value.value v) part is.1),
     ) in whole in
-    union_found nodes (ids_of branches) start mid k branch.0 at among after c.in_ok-value.value c.in_Ok-out.out c.in_ok-value.ensures step
+    union_found nodes (ids_of branches) start mid k branch.0 at among after c.in_ok-value.value c.in_ok-branch.field-0 c.in_ok-value.ensures step
 
 -- ---- Loops that start
 
@@ -521,4 +521,4 @@ maps::read_entries-loop-done-init g t c = (
 
 pub read_fields-loop-field-init : goal.read_fields-loop-field-init
 read_fields-loop-field-init g t c =
-    ([], fields_none (schema_nodes c.args.schema.now) c.args.cursor.now, refl, c.in-Ok.ensures.kept, c.in-Ok.ensures.stands (schema_nodes c.args.schema.now) (seen_fields c.args.fields.now))
+    ([], fields_none (schema_nodes c.args.schema.now) c.args.cursor.now, refl, c.in_ok-values.ensures.kept, c.in_ok-values.ensures.stands (schema_nodes c.args.schema.now) (seen_fields c.args.fields.now))

@@ -1,20 +1,22 @@
 use Rattle.std.proofs.Common.{refl, take}
 use Rattle.std.specs.Str.{is_utf8}
+use Rattle.std.proofs.lemmas.Result.{err_from_is_err_and}
 use Rattle.avro_binary.specs.Breaks.{StringBreaks}
 use Rattle.avro_binary.specs.Elements.{IsString}
 use Rattle.avro_binary.proofs.ElementLaws.{element_found, element_refused, content_part}
 use Rattle.avro_binary.proofs.CursorSteps.{content_is}
 use Rattle.avro_binary.proofs.cursor.Cursor.string.Goals as goal
 
-pub returns-in-Ok : goal.returns-in-Ok
-returns-in-Ok c =
+pub returns : goal.returns
+returns c =
     let now = c.args.self.now in
-    element_found (λ text. text.now) (IsString now.blob) (StringBreaks now.blob) (content_part is_utf8 now.blob) now c.pass.new.self c.in-Ok.text
-    (take c.in-Ok.len now.bytes) (content_is is_utf8 now.blob now.bytes c.in-Ok.text.now c.in-Ok.len c.in-Ok.ensures.stands c.in-Ok.ensures.valid) c.pass.ensures.passed
+    element_found (λ text. text.now) (IsString now.blob) (StringBreaks now.blob) (content_part is_utf8 now.blob) now c.pass.new.self c.in_ok-text.text
+    (take c.in_ok-text.len now.bytes) (content_is is_utf8 now.blob now.bytes c.in_ok-text.text.now c.in_ok-text.len c.in_ok-text.ensures.stands c.in_ok-text.ensures.valid) c.pass.ensures.passed
 
-pub returns-in-Err : goal.returns-in-Err
-returns-in-Err c =
+pub returns-in_err-text : goal.returns-in_err-text
+returns-in_err-text c =
     let now = c.args.self.now in
-    let refused = c.in-Err.ensures.refused in
-    element_refused (λ text. text.now) (IsString now.blob) (StringBreaks now.blob) (content_part is_utf8 now.blob) now now c.in-Err.error
-    refused.0 refused.1 refused.2 refl
+    let p = err_from_is_err_and c.from_residual.result c.from_residual.ensures.1 in
+    let refused = c.in_err-text.ensures.refused in
+    rw (p.1, p.2) (element_refused (λ text. text.now) (IsString now.blob) (StringBreaks now.blob) (content_part is_utf8 now.blob) now now c.in_err-text.field-0.0
+    refused.0 refused.1 refused.2 refl)

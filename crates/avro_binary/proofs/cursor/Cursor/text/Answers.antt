@@ -9,5 +9,5 @@ returns-in-Some-clause-valid c = let text = c.in-Some.ensures.some in ap is_utf8
 pub returns-in-None-clause-refused : goal.returns-in-None-clause-refused
 returns-in-None-clause-refused c =
     let now = c.args.self.now in
-    content_invalid is_utf8 now.blob now.bytes c.in-Ok.content.now c.in-Ok.len now.offset c.offset_behind.result c.in-Ok.ensures.stands
+    content_invalid is_utf8 now.blob now.bytes c.in_ok-content.content.now c.in_ok-content.len now.offset c.offset_behind.result c.in_ok-content.ensures.stands
     c.in-None.ensures.none c.offset_behind.ensures
