@@ -77,24 +77,24 @@ fixed-at writer reader b {w = w} {q = q} m plain h =
     let parts = and_parts (are_bytes b) (is_some_and same (fixed_length w)) h in
     and_from (are_bytes b) (is_some_and same (fixed_length q)) parts.0 (fixed_length-kept writer reader same m plain parts.1)
 
-enum-placed : (reader : List Node) (name : Name) (aliases : List Name) (symbol : List ℕ) (symbols : List (List ℕ)) (default found : Option ℕ)
+enum-indexed : (reader : List Node) (name : Name) (aliases : List Name) (symbol : List ℕ) (symbols : List (List ℕ)) (default found : Option ℕ)
     → position (λ s. bytes_eq s symbol) symbols ≡ found → is_enum symbols default ≡ true
     → IfOk (enum_or_default found default) (FitsAt reader (Node.enum name aliases symbols default))
-enum-placed reader name aliases symbol symbols default (Some place) e good =
-    lt-ltb place (length symbols) (position-Some (λ s. bytes_eq s symbol) symbols place [] e).0
-enum-placed reader name aliases symbol symbols (Some place) None e good = grind arith
-enum-placed reader name aliases symbol symbols None None e good = tt
+enum-indexed reader name aliases symbol symbols default (Some index) e good =
+    lt-ltb index (length symbols) (position-Some (λ s. bytes_eq s symbol) symbols index [] e).0
+enum-indexed reader name aliases symbol symbols (Some index) None e good = grind arith
+enum-indexed reader name aliases symbol symbols None None e good = tt
 
--- a symbol's place, and that of a default, are the reader's
+-- a symbol's index, and that of a default, are the reader's
 pub enum-at : (reader : List Node) (symbol : List ℕ) (q : Node) → meets_its_rules reader q ≡ true → IfOk (enum_as symbol q) (FitsAt reader q)
 enum-at reader symbol (Node.enum name aliases symbols default) good =
-    enum-placed reader name aliases symbol symbols default (position (λ s. bytes_eq s symbol) symbols) refl good
+    enum-indexed reader name aliases symbol symbols default (position (λ s. bytes_eq s symbol) symbols) refl good
 enum-at reader symbol q good = tt
 
 -- a part that is there, as the part or as 0
 pub part-from : (test : ℕ → Bool) (part : Option ℕ) → is_some_and test part ≡ true → test (unwrap_or part 0) ≡ true
 part-from test None h = absurd (both_ways false refl h)
-part-from test (Some place) h = h
+part-from test (Some id) h = h
 
 -- an array matches an array alone, a map a map, and a record a record
 pub items-kept : (writer reader : List Node) (test other : ℕ → Bool) {w q : Node} → Matches writer reader w q → IsPlain q

@@ -2,13 +2,13 @@
 use Rattle.std.proofs.Common.{◌≡◌, ℕ, suc, ◌≤◌, List, [], ◌∷◌, ◌++◌, length, Option, Some, None, Result, Ok, Err, refl, sym, ap, ◌∙◌, subst, arith}
 use Rattle.std.specs.Prelude.{IfOk, slice_get, unwrap_or}
 use Rattle.std.specs.declared.alloc.AllocError.{AllocError}
-use Rattle.std.proofs.lemmas.List.{append_assoc}
+use Rattle.std.proofs.lemmas.List.{append-nil, append_assoc}
 use Rattle.avro_schema.specs.Value.{Value, size}
 use Rattle.avro_schema.specs.Node.{Node, node_at}
 use Rattle.avro_schema.specs.declared.schema.NodeId.{NodeId}
 use Rattle.avro_resolve.specs.Ends.{turned}
 use Rattle.avro_resolve.specs.Fault.{ResolutionFault, fault_in}
-use Rattle.avro_resolve.specs.Guided.{MadeAs, IsNothing, StandsAs, SoFar, IsSmall, branch_for}
+use Rattle.avro_resolve.specs.inside.Guided.{MadeAs, IsNothing, StandsAs, SoFar, IsSmall, branch_for}
 use Rattle.avro_resolve.specs.Pairs.{IsAim, wrapped, branch_id}
 use Rattle.avro_resolve.specs.Resolve.{Resolved, resolve, inside, result_map, through}
 use Rattle.avro_resolve.specs.declared.error.Fault.{Fault}
@@ -16,7 +16,6 @@ use Rattle.avro_resolve.specs.declared.guided.Aim.{Aim}
 use Rattle.avro_resolve.specs.declared.guided.At.{At}
 use Rattle.avro_resolve.specs.declared.guided.At.TheVariants.{Ignored, Pair}
 use Rattle.avro_resolve.specs.declared.guided.Made.{Made}
-use Rattle.avro_resolve.proofs.Slots.{append_none}
 
 abbrev pub as_fault : ResolutionFault → Resolved
 as_fault f = Err f
@@ -46,11 +45,11 @@ branch_good S out (Err f) h = absurd h
 pub smaller : (n m : ℕ) → n ≤ m → IsSmall m → IsSmall n
 smaller n m le small = omega (arith, le, small)
 
-pub branch_made : {O : Type 0} (S : O → Value → Type 0) (writer reader nodes : List Node) (places : List ℕ) (k p : ℕ) (v : Value) (at : At) (made outer : Made O) → slice_get places k ≡ Some p
+pub branch_made : {O : Type 0} (S : O → Value → Type 0) (writer reader nodes : List Node) (ids : List ℕ) (k p : ℕ) (v : Value) (at : At) (made outer : Made O) → slice_get ids k ≡ Some p
     → (IsNothing made → IsNothing outer) → ((q : Resolved) → MadeAs S made q → MadeAs S outer (inside 0 q))
-    → StandsAs S writer reader nodes (node_at nodes p) (branch_for writer at k) made v → StandsAs S writer reader nodes (Node.union places) at outer (Value.union k v)
-branch_made S writer reader nodes places k p v Ignored made outer e none step h = none h
-branch_made S writer reader nodes places k p v (Pair w r) made outer e none step h = λ are is small.
+    → StandsAs S writer reader nodes (node_at nodes p) (branch_for writer at k) made v → StandsAs S writer reader nodes (Node.union ids) at outer (Value.union k v)
+branch_made S writer reader nodes ids k p v Ignored made outer e none step h = none h
+branch_made S writer reader nodes ids k p v (Pair w r) made outer e none step h = λ are is small.
     let there : p ≡ branch_id (node_at writer w.0) k = sym (ap (λ (o : Option ℕ). unwrap_or o 0) e) ∙ ap (λ (n : Node). branch_id n k) is in
     let less : size v ≤ suc (size v) = omega arith in
     step (resolve writer reader (node_at writer (branch_id (node_at writer w.0) k)) (node_at reader r.0) v)
@@ -87,4 +86,4 @@ module _ {E A M : Type 0} (run : ℕ → List E → Result A ResolutionFault) (j
   so_far_fails xs x made f h bad more = ap (run 0) (append_assoc xs (x ∷ []) more) ∙ h (x ∷ more) ∙ ap (result_map (join made)) (bad more)
 
   pub so_far_whole : (xs : List E) (made : M) → SoFar run join xs made → run 0 xs ≡ result_map (join made) (run (length xs) [])
-  so_far_whole xs made h = ap (run 0) (sym (append_none xs)) ∙ h []
+  so_far_whole xs made h = ap (run 0) (sym (append-nil xs)) ∙ h []

@@ -2,6 +2,7 @@
 use Rattle.std.proofs.Common.{◌≡◌, ℕ, zero, suc, ◌+◌, ◌<◌, ◌≤◌, List, [], ◌∷◌, ◌++◌, drop, length, Result, Ok, Err, refl, sym, ap, ◌∙◌, subst, arith}
 use Rattle.std.specs.Prelude.{slice_index_or, map, String, string_bytes}
 use Rattle.std.specs.declared.alloc.Global.{Global}
+use Rattle.std.proofs.Math.ListN.{drop_of_length-le}
 use Rattle.avro_schema.specs.Value.{Value, Values, Entries, no_values, value, no_entries, entry}
 use Rattle.avro_schema.specs.Node.{Node, node_at}
 use Rattle.avro_schema.specs.Seen.{value_of, values_of, entries_of, values_from, entries_from, pair_of}
@@ -24,13 +25,7 @@ next_in xs i d low = subst (λ (j : ℕ). drop i xs ≡ slice_index_or xs i d �
     step (x ∷ xs) zero d low = refl
     step (x ∷ xs) (suc i) d low = step xs i d (omega (arith, low))
 
-pub none_from : {A : Type 0} (xs : List A) (i : ℕ) → length xs ≤ i → drop i xs ≡ []
-none_from [] zero high = refl
-none_from [] (suc i) high = refl
-none_from (x ∷ xs) zero high = absurd (omega (arith, high))
-none_from (x ∷ xs) (suc i) high = none_from xs i (omega (arith, high))
-
--- which one stands at a place is the same, whatever stands past the end
+-- which one stands at an index is the same, whatever stands past the end
 same_at : {A : Type 0} (xs : List A) (i : ℕ) (d e : A) → i < length xs → slice_index_or xs i d ≡ slice_index_or xs i e
 same_at [] i d e low = absurd (omega (arith, low))
 same_at (x ∷ xs) zero d e low = refl
@@ -88,7 +83,7 @@ module _ (writer reader : List Node) (w r : Node) where
 
   pub items_done : (items made : List Datum) (i : ℕ) → length items ≤ i → ItemsSoFar items i made → resolve_items writer reader w r 0 (values_of items) ≡ Ok (values_of made)
   items_done items made i high h =
-      h ∙ ap (λ (xs : List Datum). result_map (joined (map value_of made)) (resolve_items writer reader w r i (values_of xs))) (none_from items i high)
+      h ∙ ap (λ (xs : List Datum). result_map (joined (map value_of made)) (resolve_items writer reader w r i (values_of xs))) (drop_of_length-le items high)
       ∙ ap (λ (zs : Values). Ok zs) (joined-none (map value_of made))
 
 -- ---- Entries
@@ -146,7 +141,7 @@ module _ (writer reader : List Node) (w r : Node) where
   pub entries_done : (entries made : List (String Global × Datum)) (i : ℕ) → length entries ≤ i → EntriesSoFar entries i made
       → resolve_entries writer reader w r 0 (entries_of entries) ≡ Ok (entries_of made)
   entries_done entries made i high h =
-      h ∙ ap (λ (xs : List (String Global × Datum)). result_map (joined_entries (map pair_of made)) (resolve_entries writer reader w r i (entries_of xs))) (none_from entries i high)
+      h ∙ ap (λ (xs : List (String Global × Datum)). result_map (joined_entries (map pair_of made)) (resolve_entries writer reader w r i (entries_of xs))) (drop_of_length-le entries high)
       ∙ ap (λ (zs : Entries). Ok zs) (joined_entries-none (map pair_of made))
 
 pub fails_mapped : {A B : Type 0} (e : ResolveError) (f : A → B) (r : Result A ResolutionFault) → Fails e r → Fails e (result_map f r)

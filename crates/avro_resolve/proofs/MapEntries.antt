@@ -2,7 +2,7 @@
 use Rattle.std.proofs.Common.{◌≡◌, ℕ, suc, ◌+◌, ◌-◌, ◌≤◌, ◌^◌, List, [], ◌∷◌, ◌++◌, length, Option, Result, Ok, Err, refl, sym, ap, ◌∙◌, subst, arith}
 use Rattle.std.specs.Prelude.{IfOk, min}
 use Rattle.std.specs.declared.alloc.AllocError.{AllocError}
-use Rattle.std.proofs.lemmas.List.{append_assoc}
+use Rattle.std.proofs.lemmas.List.{append-nil, append_assoc}
 use Rattle.avro_schema.specs.Value.{Value, Entries, entry, size, entries_size}
 use Rattle.avro_schema.specs.Node.{Node, node_at, values_node}
 use Rattle.avro_schema.specs.Seen.{entries_from}
@@ -10,7 +10,7 @@ use Rattle.avro_schema.specs.declared.schema.NodeId.{NodeId}
 use Rattle.avro_schema.proofs.public.Parts.{size-positive}
 use Rattle.avro_resolve.specs.Ends.{turned, joined_entries}
 use Rattle.avro_resolve.specs.Fault.{ResolutionFault, fault_in}
-use Rattle.avro_resolve.specs.Guided.{MadeAs, StandsAs, IsSmall, EntriesGood, EntriesStandAs}
+use Rattle.avro_resolve.specs.inside.Guided.{MadeAs, StandsAs, IsSmall, EntriesGood, EntriesStandAs}
 use Rattle.avro_resolve.specs.Pairs.{wrapped, value_id}
 use Rattle.avro_resolve.specs.Resolve.{Resolved, resolve, resolve_entries, both, inside, result_map, part_at}
 use Rattle.avro_resolve.specs.declared.error.Fault.{Fault}
@@ -20,7 +20,6 @@ use Rattle.avro_resolve.specs.declared.guided.Made.{Made}
 use Rattle.avro_resolve.specs.declared.guided.Run.{Run}
 use Rattle.avro_resolve.proofs.Guiding.{as_fault, good_made, smaller, wrapped_fault, one_longer, so_far_more, so_far_fails, so_far_whole}
 use Rattle.avro_resolve.proofs.InOrder.{joined_entries-none, joined_entries-more}
-use Rattle.avro_resolve.proofs.Slots.{append_none}
 
 -- ---- Sizes
 
@@ -66,10 +65,10 @@ module _ {I : Type 0} (S : I → List (List ℕ × Value) → Type 0) (writer re
       ∙ ap (λ (i : ℕ). wrapped branch (result_map Value.map_of (resolve_entries writer reader (node_at writer i) (node_at reader (value_id (node_at reader good.to))) 0 (entries_from xs)))) (sym good.of_writer)
       ∙ ap (λ (i : ℕ). wrapped branch (result_map Value.map_of (resolve_entries writer reader (node_at writer a.0) (node_at reader i) 0 (entries_from xs)))) (sym good.of_reader)
 
-  node_there : (nodes : List Node) (place : ℕ) → nodes ≡ writer → Node.map_of place ≡ w → node_at nodes place ≡ node_at writer a.0
-  node_there nodes place are is =
-      let same : place ≡ a.0 = ap value_id is ∙ sym good.of_writer in
-      ap (λ (ns : List Node). node_at ns place) are ∙ ap (node_at writer) same
+  node_there : (nodes : List Node) (id : ℕ) → nodes ≡ writer → Node.map_of id ≡ w → node_at nodes id ≡ node_at writer a.0
+  node_there nodes id are is =
+      let same : id ≡ a.0 = ap value_id is ∙ sym good.of_writer in
+      ap (λ (ns : List Node). node_at ns id) are ∙ ap (node_at writer) same
 
   map_whole : resolve writer reader w r (Value.map_of (entries_from vs)) ≡ wrapped branch (Ok (Value.map_of (entries_from good.made)))
   map_whole =
@@ -86,18 +85,18 @@ module _ {I : Type 0} (S : I → List (List ℕ × Value) → Type 0) (writer re
 
 -- ---- Items of a run
 
-module _ {I O : Type 0} (S : I → List (List ℕ × Value) → Type 0) (SO : O → Value → Type 0) (writer reader nodes : List Node) (place : ℕ) (vs : List (List ℕ × Value)) (key : List ℕ) (v : Value) where
+module _ {I O : Type 0} (S : I → List (List ℕ × Value) → Type 0) (SO : O → Value → Type 0) (writer reader nodes : List Node) (id : ℕ) (vs : List (List ℕ × Value)) (key : List ℕ) (v : Value) where
   pub good_entry : (at : At) (old new : I) (count next : ℕ) (branch : Option ℕ) (a b : NodeId) (out : O) → ((us : List (List ℕ × Value)) (u : Value) → S old us → SO out u → S new (us ++ (key, u) ∷ []))
       → next ≡ min (count + 1) (2 ^ 64 - 1)
-      → EntriesStandAs S writer reader nodes place at (Run.Good old count branch a b) vs → StandsAs SO writer reader nodes (node_at nodes place) (Pair a b) (Made.Good out) v
-      → EntriesStandAs S writer reader nodes place at (Run.Good new next branch a b) (vs ++ (key, v) ∷ [])
+      → EntriesStandAs S writer reader nodes id at (Run.Good old count branch a b) vs → StandsAs SO writer reader nodes (node_at nodes id) (Pair a b) (Made.Good out) v
+      → EntriesStandAs S writer reader nodes id at (Run.Good new next branch a b) (vs ++ (key, v) ∷ [])
   good_entry Ignored old new count next branch a b out law up h stands = absurd h
   good_entry (Pair w r) old new count next branch a b out law up h stands = λ are is small.
       let wn = node_at writer w.0 in
       let rn = node_at reader r.0 in
       let good = h are is (smaller (entries_size (entries_from vs)) (entries_size (entries_from (vs ++ (key, v) ∷ []))) (size_front vs ((key, v) ∷ [])) small) in
       let made = good_made SO out (resolve writer reader (node_at writer a.0) (node_at reader b.0) v)
-      (stands are (node_there S writer reader wn rn old count branch a b vs good nodes place are is) (smaller (size v) (entries_size (entries_from (vs ++ (key, v) ∷ []))) (size_entry vs key v []) small)) in
+      (stands are (node_there S writer reader wn rn old count branch a b vs good nodes id are is) (smaller (size v) (entries_size (entries_from (vs ++ (key, v) ∷ []))) (size_entry vs key v []) small)) in
       record {
         to = good.to;
         leads = good.leads;
@@ -111,27 +110,27 @@ module _ {I O : Type 0} (S : I → List (List ℕ × Value) → Type 0) (SO : O 
       }
 
   pub faulty_entry : (at : At) (old : I) (count : ℕ) (branch : Option ℕ) (a b : NodeId) (fault outer : Fault) → turned outer ≡ fault_in count (turned fault)
-      → EntriesStandAs S writer reader nodes place at (Run.Good old count branch a b) vs → StandsAs SO writer reader nodes (node_at nodes place) (Pair a b) (Made.Faulty fault) v
-      → EntriesStandAs S writer reader nodes place at (Run.Faulty outer) (vs ++ (key, v) ∷ [])
+      → EntriesStandAs S writer reader nodes id at (Run.Good old count branch a b) vs → StandsAs SO writer reader nodes (node_at nodes id) (Pair a b) (Made.Faulty fault) v
+      → EntriesStandAs S writer reader nodes id at (Run.Faulty outer) (vs ++ (key, v) ∷ [])
   faulty_entry Ignored old count branch a b fault outer step h stands = absurd h
   faulty_entry (Pair w r) old count branch a b fault outer step h stands = λ are is more few.
       let wn = node_at writer w.0 in
       let rn = node_at reader r.0 in
       let small = smaller (entries_size (entries_from (vs ++ (key, v) ∷ []))) (entries_size (entries_from ((vs ++ (key, v) ∷ []) ++ more))) (size_front (vs ++ (key, v) ∷ []) more) few in
       let good = h are is (smaller (entries_size (entries_from vs)) (entries_size (entries_from (vs ++ (key, v) ∷ []))) (size_front vs ((key, v) ∷ [])) small) in
-      let bad = stands are (node_there S writer reader wn rn old count branch a b vs good nodes place are is) (smaller (size v) (entries_size (entries_from (vs ++ (key, v) ∷ []))) (size_entry vs key v []) small) in
+      let bad = stands are (node_there S writer reader wn rn old count branch a b vs good nodes id are is) (smaller (size v) (entries_size (entries_from (vs ++ (key, v) ∷ []))) (size_entry vs key v []) small) in
       map_fails S writer reader wn rn old count branch a b vs good key v (turned fault) bad more ∙ ap as_fault (sym step)
 
   pub no_entry : (at : At) (old : I) (count : ℕ) (branch : Option ℕ) (a b : NodeId)
-      → EntriesStandAs S writer reader nodes place at (Run.Good old count branch a b) vs → StandsAs SO writer reader nodes (node_at nodes place) (Pair a b) Made.Nothing v
-      → EntriesStandAs S writer reader nodes place at (Run.Good old count branch a b) (vs ++ (key, v) ∷ [])
+      → EntriesStandAs S writer reader nodes id at (Run.Good old count branch a b) vs → StandsAs SO writer reader nodes (node_at nodes id) (Pair a b) Made.Nothing v
+      → EntriesStandAs S writer reader nodes id at (Run.Good old count branch a b) (vs ++ (key, v) ∷ [])
   no_entry Ignored old count branch a b h stands = absurd h
   no_entry (Pair w r) old count branch a b h stands = λ are is small.
       let good = h are is (smaller (entries_size (entries_from vs)) (entries_size (entries_from (vs ++ (key, v) ∷ []))) (size_front vs ((key, v) ∷ [])) small) in
-      absurd (stands are (node_there S writer reader (node_at writer w.0) (node_at reader r.0) old count branch a b vs good nodes place are is)
+      absurd (stands are (node_there S writer reader (node_at writer w.0) (node_at reader r.0) old count branch a b vs good nodes id are is)
       (smaller (size v) (entries_size (entries_from (vs ++ (key, v) ∷ []))) (size_entry vs key v []) small))
 
-  pub entry_after_fault : (at : At) (fault : Fault) → EntriesStandAs S writer reader nodes place at (Run.Faulty fault) vs → EntriesStandAs S writer reader nodes place at (Run.Faulty fault) (vs ++ (key, v) ∷ [])
+  pub entry_after_fault : (at : At) (fault : Fault) → EntriesStandAs S writer reader nodes id at (Run.Faulty fault) vs → EntriesStandAs S writer reader nodes id at (Run.Faulty fault) (vs ++ (key, v) ∷ [])
   entry_after_fault Ignored fault h = absurd h
   entry_after_fault (Pair w r) fault h = λ are is more.
       subst (λ (xs : List (List ℕ × Value)). IsSmall (entries_size (entries_from xs)) → resolve writer reader (node_at writer w.0) (node_at reader r.0) (Value.map_of (entries_from xs)) ≡ Err (turned fault)) (sym (append_assoc vs ((key, v) ∷ []) more))
@@ -139,11 +138,11 @@ module _ {I O : Type 0} (S : I → List (List ℕ × Value) → Type 0) (SO : O 
 
 -- ---- Arrays
 
-module _ {I O : Type 0} (S : I → List (List ℕ × Value) → Type 0) (SO : O → Value → Type 0) (writer reader nodes : List Node) (place : ℕ) (vs : List (List ℕ × Value)) where
+module _ {I O : Type 0} (S : I → List (List ℕ × Value) → Type 0) (SO : O → Value → Type 0) (writer reader nodes : List Node) (id : ℕ) (vs : List (List ℕ × Value)) where
   pub good_map : (at : At) (kept : I) (count : ℕ) (branch : Option ℕ) (a b : NodeId) (out : O) (result : Result (Made O) AllocError)
       → ((us : List (List ℕ × Value)) → S kept us → SO out (Value.map_of (entries_from us)))
       → ((u : Value) → SO out u → IfOk result (λ made. MadeAs SO made (wrapped branch (Ok u))))
-      → EntriesStandAs S writer reader nodes place at (Run.Good kept count branch a b) vs → IfOk result (λ made. StandsAs SO writer reader nodes (Node.map_of place) at made (Value.map_of (entries_from vs)))
+      → EntriesStandAs S writer reader nodes id at (Run.Good kept count branch a b) vs → IfOk result (λ made. StandsAs SO writer reader nodes (Node.map_of id) at made (Value.map_of (entries_from vs)))
   good_map at kept count branch a b out (Err e) law wrap h = tt
   good_map Ignored kept count branch a b out (Ok made) law wrap h = absurd h
   good_map (Pair w r) kept count branch a b out (Ok made) law wrap h = λ are is small.
@@ -152,10 +151,10 @@ module _ {I O : Type 0} (S : I → List (List ℕ × Value) → Type 0) (SO : O 
       subst (MadeAs SO made) (sym (map_whole S writer reader (node_at writer w.0) (node_at reader r.0) kept count branch a b vs good))
       (wrap (Value.map_of (entries_from good.made)) (law good.made good.stands))
 
-  pub faulty_map : (at : At) (fault : Fault) → EntriesStandAs S writer reader nodes place at (Run.Faulty fault) vs
-      → StandsAs SO writer reader nodes (Node.map_of place) at (Made.Faulty fault) (Value.map_of (entries_from vs))
+  pub faulty_map : (at : At) (fault : Fault) → EntriesStandAs S writer reader nodes id at (Run.Faulty fault) vs
+      → StandsAs SO writer reader nodes (Node.map_of id) at (Made.Faulty fault) (Value.map_of (entries_from vs))
   faulty_map Ignored fault h = absurd h
   faulty_map (Pair w r) fault h = λ are is small.
       let less : entries_size (entries_from vs) ≤ suc (entries_size (entries_from vs)) = omega arith in
-      subst (λ (xs : List (List ℕ × Value)). IsSmall (entries_size (entries_from xs)) → resolve writer reader (node_at writer w.0) (node_at reader r.0) (Value.map_of (entries_from xs)) ≡ Err (turned fault)) (append_none vs) (h are is [])
+      subst (λ (xs : List (List ℕ × Value)). IsSmall (entries_size (entries_from xs)) → resolve writer reader (node_at writer w.0) (node_at reader r.0) (Value.map_of (entries_from xs)) ≡ Err (turned fault)) (append-nil vs) (h are is [])
       (smaller (entries_size (entries_from vs)) (suc (entries_size (entries_from vs))) less small)

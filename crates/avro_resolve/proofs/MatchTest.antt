@@ -14,8 +14,8 @@ fixed_pair writer reader a b a_aliases b_aliases n m h =
 
 -- nodes that pass the test match, however deep it looks
 pub match_within-sound : (steps : ℕ) (writer reader : List Node) (w r : Node) → match_within steps writer reader w r ≡ true → Matches writer reader w r
-match_within-sound steps writer reader (Node.union places) r h = writer_union
-match_within-sound steps writer reader w (Node.union places) h = reader_union
+match_within-sound steps writer reader (Node.union ids) r h = writer_union
+match_within-sound steps writer reader w (Node.union ids) h = reader_union
 match_within-sound steps writer reader Node.null Node.null h = nulls
 match_within-sound steps writer reader Node.boolean Node.boolean h = booleans
 match_within-sound steps writer reader Node.int Node.int h = ints

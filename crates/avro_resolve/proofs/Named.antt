@@ -1,6 +1,6 @@
--- The places of fields and of symbols, as they are gathered from the last.
-use Rattle.std.proofs.Common.{◌≡◌, ℕ, zero, suc, ◌+◌, ◌<◌, cond, List, [], ◌∷◌, length, Option, Some, None, Result, Ok, Err, drop, refl, ap, sym, subst, ◌∙◌, arith}
-use Rattle.std.specs.Prelude.{String, string_bytes, slice_get, slice_index_or, unwrap_or, option_and_then, bytes_eq, position, IfOk, IfSome}
+-- The indices of fields and of symbols, as they are gathered from the last.
+use Rattle.std.proofs.Common.{◌≡◌, ℕ, zero, suc, ◌+◌, ◌<◌, cond, List, [], ◌∷◌, length, Option, Some, None, drop, refl, ap, sym, subst, ◌∙◌, arith}
+use Rattle.std.specs.Prelude.{String, string_bytes, slice_get, slice_index_or, unwrap_or, option_and_then, bytes_eq, position, IfSome}
 use Rattle.std.specs.List.{position_from}
 use Rattle.std.specs.declared.alloc.Global.{Global}
 use Rattle.std.proofs.lemmas.List.Quantifiers.{position-Some}
@@ -8,12 +8,12 @@ use Rattle.avro_schema.specs.Node.{Node, FieldNode, symbols_of}
 use Rattle.avro_schema.specs.Seen.{seen_fields, field_of, texts_of}
 use Rattle.avro_schema.specs.declared.schema.Field.{Field}
 use Rattle.avro_resolve.specs.Pairs.{IsSymbol}
-use Rattle.avro_resolve.specs.Planned.{AreSymbols, AreTaken}
-use Rattle.avro_resolve.specs.Resolve.{Resolved, enum_as, enum_or_default, symbol_at}
+use Rattle.avro_resolve.specs.Planned.{AreSymbols}
+use Rattle.avro_resolve.specs.Resolve.{enum_as, symbol_at}
 use Rattle.avro_resolve.proofs.InOrder.{next_in}
 use Rattle.avro_resolve.proofs.Slots.{seen_next}
 
--- the first place of a name among the fields from a place on
+-- the first index of a name among the fields from an index on
 abbrev pub field_from : List ℕ → List Field → ℕ → Option ℕ
 field_from name fields n = position_from (λ f. bytes_eq f.name name) n (seen_fields (drop n fields))
 
@@ -23,7 +23,7 @@ field_next fields n f name before after low is known put =
     put ∙ ap (λ o. cond (bytes_eq (string_bytes f.name) name) (Some n) o) known
     ∙ sym (ap (λ (gs : List FieldNode). position_from (λ g. bytes_eq g.name name) n gs) (seen_next fields n f low ∙ ap (λ (g : Field). field_of g ∷ seen_fields (drop (n + 1) fields)) (sym is)))
 
--- the first place of a word among the symbols from a place on
+-- the first index of a word among the symbols from an index on
 abbrev pub symbol_from : List ℕ → List (String Global) → ℕ → Option ℕ
 symbol_from word symbols n = position_from (λ s. bytes_eq s word) n (texts_of (drop n symbols))
 
@@ -40,13 +40,13 @@ symbol_there [] i symbol low is = absurd (omega (arith, low))
 symbol_there (s ∷ ss) zero symbol low is = ap (λ (t : String Global). string_bytes t) (sym is)
 symbol_there (s ∷ ss) (suc i) symbol low is = symbol_there ss i symbol (omega (arith, low)) is
 
-pub place_within : (symbols : List (String Global)) (word : List ℕ) (o : Option ℕ) → o ≡ position (λ s. bytes_eq s word) (texts_of symbols) → IfSome o (λ k. k < length symbols)
-place_within symbols word None e = tt
-place_within symbols word (Some k) e = subst (λ (n : ℕ). k < n) (as_many symbols) (position-Some (λ s. bytes_eq s word) (texts_of symbols) k [] (sym e)).0
-  where
-    as_many : (ss : List (String Global)) → length (texts_of ss) ≡ length ss
-    as_many [] = refl
-    as_many (s ∷ ss) = ap suc (as_many ss)
+pub texts_count : (symbols : List (String Global)) → length (texts_of symbols) ≡ length symbols
+texts_count [] = refl
+texts_count (s ∷ ss) = ap suc (texts_count ss)
+
+pub index_within : (symbols : List (String Global)) (word : List ℕ) (o : Option ℕ) → o ≡ position (λ s. bytes_eq s word) (texts_of symbols) → IfSome o (λ k. k < length symbols)
+index_within symbols word None e = tt
+index_within symbols word (Some k) e = subst (λ (n : ℕ). k < n) (texts_count symbols) (position-Some (λ s. bytes_eq s word) (texts_of symbols) k [] (sym e)).0
 
 -- ---- Symbols of a reader's enum
 
@@ -57,14 +57,7 @@ symbol_text w k writes e = by (symbols_of w) ∙ ap (λ (ts : List (List ℕ)). 
     by None = refl
     by (Some symbols) = refl
 
-pub taken_symbols : (w q : Node) (writes : List (List ℕ)) (symbols : List (Option ℕ)) → writes ≡ unwrap_or (symbols_of w) [] → AreTaken writes q symbols → AreSymbols w q symbols
+pub taken_symbols : (w q : Node) (writes : List (List ℕ)) (symbols : List (Option ℕ)) → writes ≡ unwrap_or (symbols_of w) []
+    → ((k : ℕ) (s : Option ℕ) → slice_get symbols k ≡ Some s → IsSymbol (enum_as (unwrap_or (slice_get writes k) []) q) s) → AreSymbols w q symbols
 taken_symbols w q writes symbols e h = λ k s got.
     subst (λ (t : List ℕ). IsSymbol (enum_as t q) s) (sym (symbol_text w k writes e)) (h k s got)
-
-pub texts_count : (symbols : List (String Global)) → length (texts_of symbols) ≡ length symbols
-texts_count [] = refl
-texts_count (s ∷ ss) = ap suc (texts_count ss)
-
-pub if_ok : {A E : Type 0} {P Q : A → Type 0} (r : Result A E) → ((x : A) → P x → Q x) → IfOk r P → IfOk r Q
-if_ok (Ok x) f h = f x h
-if_ok (Err e) f h = tt

@@ -8,11 +8,12 @@ use Rattle.std.specs.Ordering.{is_eq, nat_cmp}
 use Rattle.std.specs.Cmp.Lexicographic.{slice_cmp}
 use Rattle.std.proofs.lemmas.Map.Text.{is_eq-slice_cmp}
 use Rattle.std.proofs.lemmas.Slice.Eq.{bytes_eq-Decides}
+use Rattle.std.proofs.Math.ListN.{drop_of_length-le}
 use Rattle.avro_name.specs.Name.{Name}
 use Rattle.avro_schema.specs.Seen.{ids_of}
 use Rattle.avro_schema.specs.declared.schema.NodeId.{NodeId}
-use Rattle.avro_resolve.specs.NameTables.{NameKey, key_cmp, has_simple}
-use Rattle.avro_resolve.proofs.InOrder.{next_in, none_from}
+use Rattle.avro_resolve.specs.inside.NameTables.{NameKey, key_cmp, has_simple}
+use Rattle.avro_resolve.proofs.InOrder.{next_in}
 
 -- ---- When two keys are the same
 
@@ -30,38 +31,38 @@ same_key a b =
 
 -- ---- One name more
 
-either_put : (here first more : Bool) (place : ℕ) (before : Option ℕ) → cond (here && first) (Some place) (cond (here && more) (Some place) before) ≡ cond (here && (first || more)) (Some place) before
-either_put false first more place before = refl
-either_put true true more place before = refl
-either_put true false more place before = refl
+either_put : (here first more : Bool) (branch : ℕ) (before : Option ℕ) → cond (here && first) (Some branch) (cond (here && more) (Some branch) before) ≡ cond (here && (first || more)) (Some branch) before
+either_put false first more branch before = refl
+either_put true true more branch before = refl
+either_put true false more branch before = refl
 
--- what a key finds once the names of a type of a kind are put in for a place
+-- what a key finds once the names of a type of a kind are put in for a branch
 abbrev pub named_at : ℕ → List Name → ℕ → NameKey → Option ℕ → Option ℕ
-named_at kind names place key old = cond (kind == key.0 && has_simple key.1.now names) (Some place) old
+named_at kind names branch key old = cond (kind == key.0 && has_simple key.1.now names) (Some branch) old
 
-name_first : (kind : ℕ) (name : Name) (names : List Name) (place : ℕ) (key : NameKey) (old before after : Option ℕ) → before ≡ named_at kind names place key old
-    → after ≡ cond (kind == key.0 && bytes_eq key.1.now name.simple) (Some place) before → after ≡ named_at kind (name ∷ names) place key old
-name_first kind name names place key old before after known put =
-    put ∙ ap (λ o. cond (kind == key.0 && bytes_eq key.1.now name.simple) (Some place) o) known
-    ∙ either_put (kind == key.0) (bytes_eq key.1.now name.simple) (has_simple key.1.now names) place old
+name_first : (kind : ℕ) (name : Name) (names : List Name) (branch : ℕ) (key : NameKey) (old before after : Option ℕ) → before ≡ named_at kind names branch key old
+    → after ≡ cond (kind == key.0 && bytes_eq key.1.now name.simple) (Some branch) before → after ≡ named_at kind (name ∷ names) branch key old
+name_first kind name names branch key old before after known put =
+    put ∙ ap (λ o. cond (kind == key.0 && bytes_eq key.1.now name.simple) (Some branch) o) known
+    ∙ either_put (kind == key.0) (bytes_eq key.1.now name.simple) (has_simple key.1.now names) branch old
 
-pub alias_next : (aliases : List Name) (n : ℕ) (alias : Name) (kind place : ℕ) (key : NameKey) (old before after : Option ℕ) → n < length aliases → alias ≡ slice_index_or aliases n alias
-    → before ≡ named_at kind (drop (n + 1) aliases) place key old
-    → after ≡ cond (kind == key.0 && bytes_eq key.1.now alias.simple) (Some place) before → after ≡ named_at kind (drop n aliases) place key old
-alias_next aliases n alias kind place key old before after low is known put =
+pub alias_next : (aliases : List Name) (n : ℕ) (alias : Name) (kind branch : ℕ) (key : NameKey) (old before after : Option ℕ) → n < length aliases → alias ≡ slice_index_or aliases n alias
+    → before ≡ named_at kind (drop (n + 1) aliases) branch key old
+    → after ≡ cond (kind == key.0 && bytes_eq key.1.now alias.simple) (Some branch) before → after ≡ named_at kind (drop n aliases) branch key old
+alias_next aliases n alias kind branch key old before after low is known put =
     let here : drop n aliases ≡ alias ∷ drop (n + 1) aliases = next_in aliases n alias low ∙ ap (λ (a : Name). a ∷ drop (n + 1) aliases) (sym is) in
-    name_first kind alias (drop (n + 1) aliases) place key old before after known put ∙ ap (λ (names : List Name). named_at kind names place key old) (sym here)
+    name_first kind alias (drop (n + 1) aliases) branch key old before after known put ∙ ap (λ (names : List Name). named_at kind names branch key old) (sym here)
 
-pub alias_none : (aliases : List Name) (n kind place : ℕ) (key : NameKey) (old : Option ℕ) → length aliases ≤ n → old ≡ named_at kind (drop n aliases) place key old
-alias_none aliases n kind place key old high = neither (kind == key.0) ∙ ap (λ (names : List Name). named_at kind names place key old) (sym (none_from aliases n high))
+pub alias_none : (aliases : List Name) (n kind branch : ℕ) (key : NameKey) (old : Option ℕ) → length aliases ≤ n → old ≡ named_at kind (drop n aliases) branch key old
+alias_none aliases n kind branch key old high = neither (kind == key.0) ∙ ap (λ (names : List Name). named_at kind names branch key old) (sym (drop_of_length-le aliases high))
   where
-    neither : (here : Bool) → old ≡ cond (here && false) (Some place) old
+    neither : (here : Bool) → old ≡ cond (here && false) (Some branch) old
     neither true = refl
     neither false = refl
 
 -- ---- One branch more
 
--- the first of the branches from a place on that passes
+-- the first of the branches from an index on that passes
 abbrev pub branch_from : (ℕ → Bool) → List NodeId → ℕ → Option ℕ
 branch_from test branches n = position_from test n (ids_of (drop n branches))
 
@@ -72,7 +73,7 @@ branch_next test branches n d before after low known put =
     ∙ sym (ap (λ (bs : List NodeId). position_from test n (ids_of bs)) (next_in branches n d low))
 
 pub branch_none : (test : ℕ → Bool) (branches : List NodeId) (n : ℕ) → length branches ≤ n → None ≡ branch_from test branches n
-branch_none test branches n high = ap (λ (bs : List NodeId). position_from test n (ids_of bs)) (sym (none_from branches n high))
+branch_none test branches n high = ap (λ (bs : List NodeId). position_from test n (ids_of bs)) (sym (drop_of_length-le branches high))
 
 pub branch_first : (test : ℕ → Bool) (branches : List NodeId) (n : ℕ) (found : Option ℕ) → n ≡ 0 → found ≡ branch_from test branches n → found ≡ position test (ids_of branches)
 branch_first test branches n found none known = known ∙ ap (branch_from test branches) none ∙ sym (position_from-zero test (ids_of branches))

@@ -8,7 +8,7 @@ use Rattle.avro_schema.specs.Node.{Node, node_at}
 use Rattle.avro_schema.specs.Fits.{is_some_and}
 use Rattle.avro_schema.specs.WellFormed.{branch_kind, is_schema, is_union, meets_its_rules}
 use Rattle.avro_resolve.specs.Match.{are_alike, match_within, is_match, first_match, first_match_from}
-use Rattle.avro_resolve.specs.NameTables.{NamedType, named_type, passes, has_simple, is_named, branches_at, StartsAt}
+use Rattle.avro_resolve.specs.inside.NameTables.{NamedType, named_type, passes, has_simple, is_named, branches_at, StartsAt}
 use Rattle.avro_resolve.proofs.Planning.{same_some}
 use Rattle.avro_resolve.proofs.Rules.{MeetRules-from_is_schema}
 
@@ -56,15 +56,15 @@ module _ (writer reader : List Node) (steps : ℕ) where
       neither_alike a b others (other _ refl)
   not_alike (Node.fixed a aliases n) (Node.fixed b others m) is plain other =
       not_of_size n m a b others (other _ refl)
-  not_alike w (Node.union places) is plain other = absurd (both_ways false refl plain)
+  not_alike w (Node.union ids) is plain other = absurd (both_ways false refl plain)
   not_alike (Node.record_of a aliases fields) b is plain other = refl
   not_alike (Node.enum a aliases symbols default) b is plain other = refl
   not_alike (Node.fixed a aliases n) b is plain other = refl
   not_alike w b is plain other = absurd (both_ways false refl is)
 
--- ---- The places before the first that passes
+-- ---- The branches before the first that passes
 
--- of the places up to the first that passes the first does not, and the others are up to it
+-- of the branches up to the first that passes the first does not, and the others are up to it
 passed : (test : ℕ → Bool) (x : ℕ) (xs : List ℕ) (n : ℕ) → suc n ≤ position_or_len test (x ∷ xs) → (test x ≡ false) × (n ≤ position_or_len test xs)
 passed test x xs n low = by (test x) refl
   where
@@ -76,7 +76,7 @@ passed test x xs n low = by (test x) refl
         let more : position_or_len test (x ∷ xs) ≡ 1 + position_or_len test xs = ap (λ t. cond (not t) (1 + position_or_len test xs) 0) e in
         (e, omega (arith, low, more))
 
--- what a table finds, or the end, is the first place
+-- what a table finds, or the end, is the first position
 pub first_or_end : (test : ℕ → Bool) (xs : List ℕ) (found : Option ℕ) (all : ℕ) → found ≡ position test xs → all ≡ length xs → unwrap_or found all ≤ position_or_len test xs
 first_or_end test xs found all is counted = by (nat_lt (position_or_len test xs) (length xs)) refl
   where
@@ -100,32 +100,32 @@ module _ (writer reader : List Node) (w : Node) (t : NamedType) (is : named_type
   others b h u e = subst (λ (v : NamedType). IsOther v (node_at reader b)) (same_some is e) h
 
   -- so many branches do not match where none of them is named so
-  skipped : (n place : ℕ) (places : List ℕ) → list_all (λ place. is_some (branch_kind (node_at reader place))) places ≡ true → n ≤ position_or_len named places
-      → first_match_from place writer reader w places ≡ first_match_from (place + n) writer reader w (drop n places)
-  skipped zero place places plain h = ap (λ (p : ℕ). first_match_from p writer reader w places) (omega arith)
-  skipped (suc n) place [] plain h = absurd (omega (arith, h))
-  skipped (suc n) place (b ∷ places) plain h =
-      let one = passed named b places n h in
-      let kinds = and_parts (is_some (branch_kind (node_at reader b))) (list_all (λ place. is_some (branch_kind (node_at reader place))) places) plain in
+  skipped : (n index : ℕ) (ids : List ℕ) → list_all (λ id. is_some (branch_kind (node_at reader id))) ids ≡ true → n ≤ position_or_len named ids
+      → first_match_from index writer reader w ids ≡ first_match_from (index + n) writer reader w (drop n ids)
+  skipped zero index ids plain h = ap (λ (p : ℕ). first_match_from p writer reader w ids) (omega arith)
+  skipped (suc n) index [] plain h = absurd (omega (arith, h))
+  skipped (suc n) index (b ∷ ids) plain h =
+      let one = passed named b ids n h in
+      let kinds = and_parts (is_some (branch_kind (node_at reader b))) (list_all (λ id. is_some (branch_kind (node_at reader id))) ids) plain in
       let apart : is_match writer reader w (node_at reader b) ≡ false = not_alike writer reader (length writer) w (node_at reader b) (ap is_some is) kinds.0 (others b one.0) in
-      let next : suc place + n ≡ place + suc n = omega arith in
-      cond-false (is_match writer reader w (node_at reader b)) (Some place) (first_match_from (suc place) writer reader w places) apart
-      ∙ skipped n (suc place) places kinds.1 one.1 ∙ ap (λ (p : ℕ). first_match_from p writer reader w (drop n places)) next
+      let next : suc index + n ≡ index + suc n = omega arith in
+      cond-false (is_match writer reader w (node_at reader b)) (Some index) (first_match_from (suc index) writer reader w ids) apart
+      ∙ skipped n (suc index) ids kinds.1 one.1 ∙ ap (λ (p : ℕ). first_match_from p writer reader w (drop n ids)) next
 
 -- a union's branches are no unions
-pub all_plain : (reader : List Node) (r : ℕ) → is_schema reader ≡ true → list_all (λ place. is_some (branch_kind (node_at reader place))) (branches_at (node_at reader r)) ≡ true
+pub all_plain : (reader : List Node) (r : ℕ) → is_schema reader ≡ true → list_all (λ id. is_some (branch_kind (node_at reader id))) (branches_at (node_at reader r)) ≡ true
 all_plain reader r formed = by (node_at reader r) (MeetRules-from_is_schema reader formed r)
   where
-    of_union : (places : List ℕ) → is_union reader places ≡ true → list_all (λ place. is_some (branch_kind (node_at reader place))) places ≡ true
-    of_union places is = grind arith
+    of_union : (ids : List ℕ) → is_union reader ids ≡ true → list_all (λ id. is_some (branch_kind (node_at reader id))) ids ≡ true
+    of_union ids is = grind arith
 
-    by : (n : Node) → meets_its_rules reader n ≡ true → list_all (λ place. is_some (branch_kind (node_at reader place))) (branches_at n) ≡ true
-    by (Node.union places) rules = of_union places rules
+    by : (n : Node) → meets_its_rules reader n ≡ true → list_all (λ id. is_some (branch_kind (node_at reader id))) (branches_at n) ≡ true
+    by (Node.union ids) rules = of_union ids rules
     by _ rules = refl
 
-pub starts_at : (writer reader : List Node) (w r : Node) (t : NamedType) (n : ℕ) (places : List ℕ) → places ≡ branches_at r
-    → list_all (λ place. is_some (branch_kind (node_at reader place))) places ≡ true → named_type w ≡ Some t → n ≤ position_or_len (passes reader (is_named t.kind t.name.simple)) places
+pub starts_at : (writer reader : List Node) (w r : Node) (t : NamedType) (n : ℕ) (ids : List ℕ) → ids ≡ branches_at r
+    → list_all (λ id. is_some (branch_kind (node_at reader id))) ids ≡ true → named_type w ≡ Some t → n ≤ position_or_len (passes reader (is_named t.kind t.name.simple)) ids
     → StartsAt writer reader w r n
-starts_at writer reader w r t n places same plain is h = λ found branches.
+starts_at writer reader w r t n ids same plain is h = λ found branches.
     subst (λ (ps : List ℕ). first_match writer reader w ps ≡ first_match_from n writer reader w (drop n ps)) (same ∙ ap (λ o. unwrap_or o []) branches)
-    (skipped writer reader w t is n 0 places plain h ∙ ap (λ (p : ℕ). first_match_from p writer reader w (drop n places)) (omega arith))
+    (skipped writer reader w t is n 0 ids plain h ∙ ap (λ (p : ℕ). first_match_from p writer reader w (drop n ids)) (omega arith))

@@ -2,7 +2,7 @@
 use Rattle.std.proofs.Common.{◌≡◌, ℕ, List, length, Option, Some, None, refl, subst, sym}
 use Rattle.std.specs.Option.{IfSome}
 use Rattle.avro_schema.specs.declared.schema.NodeId.{NodeId}
-use Rattle.avro_resolve.specs.ByNode.{HasTable, EachTable, with_table}
+use Rattle.avro_resolve.specs.inside.ByNode.{HasTable, EachTable, with_table}
 use Rattle.avro_resolve.proofs.Planning.{holds_push}
 
 pub table_is : {T : Type 0} (is : ℕ → T → Type 0) (tables : List (NodeId × T)) (id : ℕ) (t : T) → EachTable is tables → HasTable tables id t → is id t

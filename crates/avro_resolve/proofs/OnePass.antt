@@ -11,7 +11,7 @@ use Rattle.avro_binary.specs.Reading.{BuildsExactly}
 use Rattle.avro_binary.specs.Seen.{read_fault, UnlessOutOfMemory as UnlessMemory}
 use Rattle.avro_binary.specs.declared.error.ReadError.{ReadError}
 use Rattle.avro_resolve.specs.Ends.{turned, IsSeen}
-use Rattle.avro_resolve.specs.Guided.{MadeAs, StandsAs, IsSmall}
+use Rattle.avro_resolve.specs.inside.Guided.{MadeAs, StandsAs, IsSmall}
 use Rattle.avro_resolve.specs.Reading.{ReadsAs, BuildsResolved, ReadsResolved}
 use Rattle.avro_resolve.specs.Resolve.{Resolved, resolve, resolve_root}
 use Rattle.avro_resolve.specs.Seen.{fault_of, UnlessOutOfMemory}

@@ -11,7 +11,7 @@ use Rattle.avro_resolve.specs.Match.{Matches, reader_union, nulls, match_within,
 use Rattle.avro_resolve.proofs.EnoughSteps.{is_match-Matches}
 use Rattle.avro_resolve.proofs.MatchTest.{match_within-sound}
 
--- a place past the end is null's
+-- an id past the end is null's
 pub node_past : (nodes : List Node) (k : ℕ) → (k < length nodes → ⊥) → node_at nodes k ≡ Node.null
 node_past [] k past = refl
 node_past (n ∷ ns) zero past = absurd (past (omega arith))
@@ -46,10 +46,10 @@ seen_get [] i b e = absurd cc
 seen_get (x ∷ ids) zero b e = let same : x ≡ b = cc in ap (λ (y : NodeId). Some y.0) same
 seen_get (x ∷ ids) (suc i) b e = seen_get ids i b e
 
-pub places_from : (n : ℕ) (ids : List NodeId) → drop n (ids_of ids) ≡ ids_of (drop n ids)
-places_from zero ids = refl
-places_from (suc n) [] = refl
-places_from (suc n) (x ∷ ids) = places_from n ids
+pub ids_from : (n : ℕ) (ids : List NodeId) → drop n (ids_of ids) ≡ ids_of (drop n ids)
+ids_from zero ids = refl
+ids_from (suc n) [] = refl
+ids_from (suc n) (x ∷ ids) = ids_from n ids
 
 module _ (writer reader : List Node) (w : Node) where
   pub found_here : (k i : ℕ) (ids : List NodeId) (b : NodeId) → slice_get ids i ≡ Some b → is_match writer reader w (node_at reader b.0) ≡ true
@@ -92,12 +92,12 @@ test_is_relation writer reader i r answer formed e = (
     outside : node_at writer i ≡ Node.null → Matches writer reader (node_at writer i) r → is_match writer reader (node_at writer i) r ≡ true
     outside none m = rw none (null_passes writer reader r (subst (λ (n : Node). Matches writer reader n r) none m))
 
-pub places_count : (ids : List NodeId) → length (ids_of ids) ≡ length ids
-places_count [] = refl
-places_count (x ∷ ids) = ap suc (places_count ids)
+pub ids_count : (ids : List NodeId) → length (ids_of ids) ≡ length ids
+ids_count [] = refl
+ids_count (x ∷ ids) = ap suc (ids_count ids)
 
-pub place_below : (ids : List NodeId) (i : ℕ) → i < length ids → i < length (ids_of ids)
-place_below ids i low = omega (arith, low, places_count ids)
+pub id_below : (ids : List NodeId) (i : ℕ) → i < length ids → i < length (ids_of ids)
+id_below ids i low = omega (arith, low, ids_count ids)
 
 pub node_high : (nodes : List Node) (k count : ℕ) → count ≡ length nodes → count ≤ k → node_at nodes k ≡ Node.null
 node_high nodes k count e high = node_past nodes k (λ low. omega (low, high, e, arith))

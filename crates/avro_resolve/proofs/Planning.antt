@@ -19,11 +19,11 @@ pub sources_by : {ws xs rs ys : List FieldNode} (sources : List (Option ℕ)) �
 sources_by {ws = ws} {ys = ys} sources e f h =
     subst (λ (fs : List FieldNode). AreSources ws fs sources) (sym f) (subst (λ (fs : List FieldNode). AreSources fs ys sources) (sym e) h)
 
--- what is kept at a place, which a call may reckon
-pub kept_here : (kept : List (Option ℕ)) (place at : ℕ) → at ≡ place → place < length kept → slice_get kept place ≡ Some (slice_index_or kept at None)
-kept_here kept place at same low = subst (λ (k : ℕ). slice_get kept place ≡ Some (slice_index_or kept k None)) (sym same) (slice_get-get_or kept place None low)
+-- what is kept at an index, which a call may reckon
+pub kept_here : (kept : List (Option ℕ)) (index at : ℕ) → at ≡ index → index < length kept → slice_get kept index ≡ Some (slice_index_or kept at None)
+kept_here kept index at same low = subst (λ (k : ℕ). slice_get kept index ≡ Some (slice_index_or kept k None)) (sym same) (slice_get-get_or kept index None low)
 
--- ---- What holds of each in its place
+-- ---- What holds of each at its index
 
 abbrev pub Holds : {A : Type 0} → (ℕ → A → Type 0) → List A → Type 0
 Holds {A = A} P xs = (k : ℕ) (x : A) → slice_get xs k ≡ Some x → P k x
@@ -60,15 +60,15 @@ holds_push {A = A} P xs new x m pushed h last =
 
 -- ---- The reader's fields in order
 
-module _ (ws : List FieldNode) (reads : List Field) (i place : ℕ) (f : Field) (low : i < length reads) (is : f ≡ slice_index_or reads i f) where
-  step : reader_field ws (seen_fields (drop i reads)) place ≡ cond (is_place (source_of ws (field_of f)) place) (Some (field_of f)) (reader_field ws (seen_fields (drop (i + 1) reads)) place)
-  step = ap (λ (fs : List FieldNode). reader_field ws fs place) (seen_next reads i f low ∙ ap (λ (g : Field). field_of g ∷ seen_fields (drop (i + 1) reads)) (sym is))
+module _ (ws : List FieldNode) (reads : List Field) (i index : ℕ) (f : Field) (low : i < length reads) (is : f ≡ slice_index_or reads i f) where
+  step : reader_field ws (seen_fields (drop i reads)) index ≡ cond (is_place (source_of ws (field_of f)) index) (Some (field_of f)) (reader_field ws (seen_fields (drop (i + 1) reads)) index)
+  step = ap (λ (fs : List FieldNode). reader_field ws fs index) (seen_next reads i f low ∙ ap (λ (g : Field). field_of g ∷ seen_fields (drop (i + 1) reads)) (sym is))
 
-  pub reader_past : is_place (source_of ws (field_of f)) place ≡ false → reader_field ws (seen_fields (drop i reads)) place ≡ reader_field ws (seen_fields (drop (i + 1) reads)) place
-  reader_past e = step ∙ cond-false (is_place (source_of ws (field_of f)) place) (Some (field_of f)) (reader_field ws (seen_fields (drop (i + 1) reads)) place) e
+  pub reader_past : is_place (source_of ws (field_of f)) index ≡ false → reader_field ws (seen_fields (drop i reads)) index ≡ reader_field ws (seen_fields (drop (i + 1) reads)) index
+  reader_past e = step ∙ cond-false (is_place (source_of ws (field_of f)) index) (Some (field_of f)) (reader_field ws (seen_fields (drop (i + 1) reads)) index) e
 
-  pub part_found : is_place (source_of ws (field_of f)) place ≡ true → (all : Option FieldNode) → all ≡ reader_field ws (seen_fields (drop i reads)) place → (node : NodeId) (j : ℕ) → node.0 ≡ j
+  pub part_found : is_place (source_of ws (field_of f)) index ≡ true → (all : Option FieldNode) → all ≡ reader_field ws (seen_fields (drop i reads)) index → (node : NodeId) (j : ℕ) → node.0 ≡ j
       → Pair node f.node ≡ part_to j all
   part_found e all left node j at =
-      let here = step ∙ cond-true (is_place (source_of ws (field_of f)) place) (Some (field_of f)) (reader_field ws (seen_fields (drop (i + 1) reads)) place) e in
+      let here = step ∙ cond-true (is_place (source_of ws (field_of f)) index) (Some (field_of f)) (reader_field ws (seen_fields (drop (i + 1) reads)) index) e in
       ap (λ (m : ℕ). part_to m (Some (field_of f))) at ∙ ap (part_to j) (sym (left ∙ here))

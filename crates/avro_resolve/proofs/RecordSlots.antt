@@ -3,7 +3,7 @@ use Rattle.std.proofs.Common.{◌≡◌, ℕ, suc, ◌+◌, ◌≤◌, List, [],
 use Rattle.std.specs.Prelude.{IfOk, slice_get, unwrap_or}
 use Rattle.std.specs.Global.{Vec}
 use Rattle.std.specs.declared.alloc.AllocError.{AllocError}
-use Rattle.std.proofs.lemmas.List.{append_assoc}
+use Rattle.std.proofs.lemmas.List.{append-nil, append_assoc}
 use Rattle.avro_name.specs.Name.{Name}
 use Rattle.avro_schema.specs.Value.{Value, size, values_size}
 use Rattle.avro_schema.specs.Node.{Node, FieldNode, node_at, field_ids}
@@ -11,7 +11,7 @@ use Rattle.avro_schema.specs.Seen.{values_from}
 use Rattle.avro_schema.specs.declared.schema.NodeId.{NodeId}
 use Rattle.avro_resolve.specs.Ends.{turned, before, AllBelow, SlotsAre}
 use Rattle.avro_resolve.specs.Fault.{ResolutionFault, fault_in}
-use Rattle.avro_resolve.specs.Guided.{MadeAs, StandsAs, IsSmall, Leads, FieldsGood, FieldsStandAs}
+use Rattle.avro_resolve.specs.inside.Guided.{MadeAs, StandsAs, IsSmall, Leads, FieldsGood, FieldsStandAs}
 use Rattle.avro_resolve.specs.Pairs.{wrapped, part_to, field_for}
 use Rattle.avro_resolve.specs.Resolve.{Resolved, Sourced, resolve, resolve_sources, with_sourced, both, inside, result_map, field_values, fields_at, record_or_missing}
 use Rattle.avro_resolve.specs.Source.{missing_field, reader_field}
@@ -22,17 +22,17 @@ use Rattle.avro_resolve.specs.declared.guided.Made.{Made}
 use Rattle.avro_resolve.specs.declared.guided.Slots.{Slots}
 use Rattle.avro_resolve.proofs.ArrayItems.{size_front, size_item}
 use Rattle.avro_resolve.proofs.Guiding.{as_fault, good_made, smaller, wrapped_fault, one_longer, so_far_none, so_far_more, so_far_fails, so_far_whole}
-use Rattle.avro_resolve.proofs.Slots.{append_none, below_more, below_last, slots_none, slots_some}
+use Rattle.avro_resolve.proofs.Slots.{below_more, below_last, slots_none, slots_some}
 
 -- ---- Steps over the writer's fields
 
 module _ (writer reader : List Node) (ws rs : List FieldNode) (k : ℕ) (v : Value) (more : List Value) where
   -- the node of the writer's field, and the fields that follow
-  abbrev place_here : ℕ
-  place_here = unwrap_or (slice_get (field_ids ws) k) 0
+  abbrev id_here : ℕ
+  id_here = unwrap_or (slice_get (field_ids ws) k) 0
 
   abbrev value_for : FieldNode → Resolved
-  value_for f = resolve writer reader (node_at writer place_here) (node_at reader f.node) v
+  value_for f = resolve writer reader (node_at writer id_here) (node_at reader f.node) v
 
   abbrev sources_after : Result Sourced ResolutionFault
   sources_after = resolve_sources writer reader ws rs (suc k) (values_from more)
@@ -91,7 +91,7 @@ module _ {O : Type 0} (S : O → Value → Type 0) (writer reader : List Node) (
   record_whole : resolve writer reader w r (Value.record_of (values_from vs)) ≡ wrapped branch (Ok (Value.record_of (field_values writes good.found reads)))
   record_whole =
       record_leads vs ∙ ap (λ (x : Result Sourced ResolutionFault). wrapped branch (result_map (λ found. Value.record_of (field_values writes found reads)) x)) (so_far_whole fields_run before vs good.found good.so_far)
-      ∙ ap (λ (found : Sourced). wrapped branch (Ok (Value.record_of (field_values writes found reads)))) (append_none good.found)
+      ∙ ap (λ (found : Sourced). wrapped branch (Ok (Value.record_of (field_values writes found reads)))) (append-nil good.found)
 
   record_fails : (v : Value) (f : FieldNode) (g : ResolutionFault) → reader_field writes reads (length vs) ≡ Some f
       → resolve writer reader (node_at writer (unwrap_or (slice_get (field_ids writes) (length vs)) 0)) (node_at reader f.node) v ≡ Err g
@@ -103,13 +103,13 @@ module _ {O : Type 0} (S : O → Value → Type 0) (writer reader : List Node) (
       ∙ wrapped_fault branch (fault_in (length vs) g) ∙ ap (λ (k : ℕ). as_fault (fault_in k g)) (sym good.counted)
 
   -- the node that is read is the writer's field's
-  field_there : (nodes : List Node) (fs : List FieldNode) (place : ℕ) → nodes ≡ writer → fields_at w ≡ fs → slice_get (field_ids fs) (length vs) ≡ Some place
-      → node_at nodes place ≡ node_at writer (unwrap_or (slice_get (field_ids writes) (length vs)) 0)
-  field_there nodes fs place are of_record is =
+  field_there : (nodes : List Node) (fs : List FieldNode) (id : ℕ) → nodes ≡ writer → fields_at w ≡ fs → slice_get (field_ids fs) (length vs) ≡ Some id
+      → node_at nodes id ≡ node_at writer (unwrap_or (slice_get (field_ids writes) (length vs)) 0)
+  field_there nodes fs id are of_record is =
       let same : writes ≡ fs = ap fields_at good.of_writer ∙ of_record in
-      let there : place ≡ unwrap_or (slice_get (field_ids writes) (length vs)) 0 =
+      let there : id ≡ unwrap_or (slice_get (field_ids writes) (length vs)) 0 =
       sym (ap (λ (gs : List FieldNode). unwrap_or (slice_get (field_ids gs) (length vs)) 0) same ∙ ap (λ (o : Option ℕ). unwrap_or o 0) is) in
-      ap (λ (ns : List Node). node_at ns place) are ∙ ap (node_at writer) there
+      ap (λ (ns : List Node). node_at ns id) are ∙ ap (node_at writer) there
 
   counted_more : (o : Option O) (v : Value) → length (slots ++ o ∷ []) ≡ length (vs ++ v ∷ [])
   counted_more o v = one_longer slots o ∙ ap suc good.counted ∙ sym (one_longer vs v)
@@ -135,9 +135,9 @@ module _ {O : Type 0} (S : O → Value → Type 0) (writer reader nodes : List N
 
 -- ---- Fields of a run
 
-module _ {O : Type 0} (S : O → Value → Type 0) (writer reader nodes : List Node) (fs : List FieldNode) (place : ℕ) (vs : List Value) (v : Value) (is_field : slice_get (field_ids fs) (length vs) ≡ Some place) where
+module _ {O : Type 0} (S : O → Value → Type 0) (writer reader nodes : List Node) (fs : List FieldNode) (id : ℕ) (vs : List Value) (v : Value) (is_field : slice_get (field_ids fs) (length vs) ≡ Some id) where
   abbrev stands_at : NodeId → NodeId → ℕ → Made O → Type 0
-  stands_at a b k made = StandsAs S writer reader nodes (node_at nodes place) (field_for (fields_at (node_at writer a.0)) (fields_at (node_at reader b.0)) k) made v
+  stands_at a b k made = StandsAs S writer reader nodes (node_at nodes id) (field_for (fields_at (node_at writer a.0)) (fields_at (node_at reader b.0)) k) made v
 
   front_small : IsSmall (values_size (values_from (vs ++ v ∷ []))) → IsSmall (values_size (values_from vs))
   front_small small = smaller (values_size (values_from vs)) (values_size (values_from (vs ++ v ∷ []))) (size_front vs (v ∷ [])) small
@@ -158,8 +158,8 @@ module _ {O : Type 0} (S : O → Value → Type 0) (writer reader nodes : List N
       let ws = fields_at (node_at writer a.0) in
       let rs = fields_at (node_at reader b.0) in
       let good = h are of_record (front_small small) in
-      let got = sourced_good S writer reader nodes (node_at nodes place) (unwrap_or (slice_get (field_ids ws) (length vs)) 0) v are
-      (field_there S writer reader wn rn slots.items branch a b vs good nodes fs place are of_record is_field) (field_small small)
+      let got = sourced_good S writer reader nodes (node_at nodes id) (unwrap_or (slice_get (field_ids ws) (length vs)) 0) v are
+      (field_there S writer reader wn rn slots.items branch a b vs good nodes fs id are of_record is_field) (field_small small)
       (reader_field ws rs (length vs)) out (at_count a b (Made.Good out) (length slots.items) good.counted stands) in
       let found = good.found ++ (length vs, got.1) ∷ [] in
       let one : length vs + 1 ≡ length (vs ++ v ∷ []) = omega (arith, one_longer vs v) in
@@ -186,8 +186,8 @@ module _ {O : Type 0} (S : O → Value → Type 0) (writer reader nodes : List N
       let ws = fields_at (node_at writer a.0) in
       let rs = fields_at (node_at reader b.0) in
       let good = h are of_record (front_small small) in
-      let none = sourced_none S writer reader nodes (node_at nodes place) (unwrap_or (slice_get (field_ids ws) (length vs)) 0) v are
-      (field_there S writer reader wn rn slots.items branch a b vs good nodes fs place are of_record is_field) (field_small small)
+      let none = sourced_none S writer reader nodes (node_at nodes id) (unwrap_or (slice_get (field_ids ws) (length vs)) 0) v are
+      (field_there S writer reader wn rn slots.items branch a b vs good nodes fs id are of_record is_field) (field_small small)
       (reader_field ws rs (length vs)) (at_count a b Made.Nothing (length slots.items) good.counted stands) in
       let one : length vs + 1 ≡ length (vs ++ v ∷ []) = omega (arith, one_longer vs v) in
       subst (λ (xs : List (Option O)). FieldsGood S writer reader wn rn xs branch a b (vs ++ v ∷ [])) (sym pushed)
@@ -214,8 +214,8 @@ module _ {O : Type 0} (S : O → Value → Type 0) (writer reader nodes : List N
       let rs = fields_at (node_at reader b.0) in
       let small = smaller (values_size (values_from (vs ++ v ∷ []))) (values_size (values_from ((vs ++ v ∷ []) ++ more))) (size_front (vs ++ v ∷ []) more) few in
       let good = h are of_record (front_small small) in
-      let got = sourced_bad S writer reader nodes (node_at nodes place) (unwrap_or (slice_get (field_ids ws) (length vs)) 0) v are
-      (field_there S writer reader wn rn slots.items branch a b vs good nodes fs place are of_record is_field) (field_small small)
+      let got = sourced_bad S writer reader nodes (node_at nodes id) (unwrap_or (slice_get (field_ids ws) (length vs)) 0) v are
+      (field_there S writer reader wn rn slots.items branch a b vs good nodes fs id are of_record is_field) (field_small small)
       (reader_field ws rs (length vs)) fault (at_count a b (Made.Faulty fault) (length slots.items) good.counted stands) in
       record_fails S writer reader wn rn slots.items branch a b vs good v got.0 (turned fault) got.1 got.2 more ∙ ap as_fault (sym step)
 
@@ -245,5 +245,5 @@ module _ {O : Type 0} (S : O → Value → Type 0) (writer reader nodes : List N
   faulty_record Ignored fault h = absurd h
   faulty_record (Pair w r) fault h = λ are is small.
       let less : values_size (values_from vs) ≤ suc (values_size (values_from vs)) = omega arith in
-      subst (λ (xs : List Value). IsSmall (values_size (values_from xs)) → resolve writer reader (node_at writer w.0) (node_at reader r.0) (Value.record_of (values_from xs)) ≡ Err (turned fault)) (append_none vs)
+      subst (λ (xs : List Value). IsSmall (values_size (values_from xs)) → resolve writer reader (node_at writer w.0) (node_at reader r.0) (Value.record_of (values_from xs)) ≡ Err (turned fault)) (append-nil vs)
       (h are (sym (ap fields_at is)) []) (smaller (values_size (values_from vs)) (suc (values_size (values_from vs))) less small)

@@ -18,12 +18,12 @@ use Rattle.avro_resolve.proofs.Outcomes.{IfOk-inside, IfOk-result_map, IfOk-both
 use Rattle.avro_resolve.proofs.AtMatch.{FitsAt, IsPlain, null-at, boolean-at, int-at, long-at, bytes-at, string-at, fixed-at, enum-at, part-from, items-kept, values-kept, fields-kept, fields-from}
 use Rattle.avro_resolve.proofs.Rules.{MeetRules, MeetRules-from_is_schema}
 use Rattle.avro_resolve.proofs.Branches.{through-fits}
-use Rattle.avro_resolve.proofs.RecordFields.{AreSourced, with_sourced-fits, place_at, field_values-fit}
+use Rattle.avro_resolve.proofs.RecordFields.{AreSourced, with_sourced-fits, id_at, field_values-fit}
 
 -- a union's value fits its branch
 branch-fit : (writer : List Node) (w : Node) (k : ℕ) (v : Value) → FitsAt writer w (Value.union k v)
     → FitsAt writer (branch_node writer (unwrap_or (branches_of w) []) k) v
-branch-fit writer (Node.union places) k v h = part-from (λ place. fits writer (node_at writer place) v) (slice_get places k) h
+branch-fit writer (Node.union ids) k v h = part-from (λ id. fits writer (node_at writer id) v) (slice_get ids k) h
 branch-fit writer _ k v h = absurd (both_ways false refl h)
 
 -- as many items as there were, each of which fits
@@ -37,14 +37,14 @@ EntriesFit reader r es ds = (entries_count ds ≡ entries_count es) × (keys_of 
 -- the items of a writer's array fit its items' node
 array-items : (writer : List Node) (w : Node) (vs : Values) → FitsAt writer w (Value.array vs) → each_fits writer (part_at writer (items_node w)) vs ≡ true
 array-items writer w vs h =
-    let test = λ (place : ℕ). each_fits writer (node_at writer place) vs in
+    let test = λ (id : ℕ). each_fits writer (node_at writer id) vs in
     part-from test (items_node w) (and_parts (is_count (values_count vs)) (is_some_and test (items_node w)) h).1
 
 array-at : (writer reader : List Node) (vs us : Values) {w q : Node} → Matches writer reader w q → IsPlain q → FitsAt writer w (Value.array vs)
     → ItemsFit reader (part_at reader (items_node q)) vs us → FitsAt reader q (Value.array us)
 array-at writer reader vs us {w = w} {q = q} m plain h items =
-    let test = λ (place : ℕ). each_fits writer (node_at writer place) vs in
-    let other = λ (place : ℕ). each_fits reader (node_at reader place) us in
+    let test = λ (id : ℕ). each_fits writer (node_at writer id) vs in
+    let other = λ (id : ℕ). each_fits reader (node_at reader id) us in
     let parts = and_parts (is_count (values_count vs)) (is_some_and test (items_node w)) h in
     and_from (is_count (values_count us)) (is_some_and other (items_node q))
     (subst (λ (n : ℕ). is_count n ≡ true) (sym items.0) parts.0)
@@ -55,15 +55,15 @@ abbrev MapParts : Node → (ℕ → Bool) → Entries → Type 0
 MapParts n test es =
     (is_count (entries_count es) ≡ true) × (list_all is_text (keys_of es) ≡ true) × (are_distinct bytes_eq (keys_of es) ≡ true) × (is_some_and test (values_node n) ≡ true)
 
-map-parts : (writer : List Node) (w : Node) (es : Entries) → FitsAt writer w (Value.map_of es) → MapParts w (λ place. entries_fit writer (node_at writer place) es) es
-map-parts writer w es h = four (is_count (entries_count es)) (list_all is_text (keys_of es)) (are_distinct bytes_eq (keys_of es)) (is_some_and (λ place. entries_fit writer (node_at writer place) es) (values_node w)) h
+map-parts : (writer : List Node) (w : Node) (es : Entries) → FitsAt writer w (Value.map_of es) → MapParts w (λ id. entries_fit writer (node_at writer id) es) es
+map-parts writer w es h = four (is_count (entries_count es)) (list_all is_text (keys_of es)) (are_distinct bytes_eq (keys_of es)) (is_some_and (λ id. entries_fit writer (node_at writer id) es) (values_node w)) h
   where
     four : (a b c d : Bool) → (a && b && c && d) ≡ true → (a ≡ true) × (b ≡ true) × (c ≡ true) × (d ≡ true)
     four true true true true e = (refl, refl, refl, refl)
     four _ _ _ _ e = absurd (both_ways false refl e)
 
-map-from : (reader : List Node) (q : Node) (es : Entries) → MapParts q (λ place. entries_fit reader (node_at reader place) es) es → FitsAt reader q (Value.map_of es)
-map-from reader q es h = four (is_count (entries_count es)) (list_all is_text (keys_of es)) (are_distinct bytes_eq (keys_of es)) (is_some_and (λ place. entries_fit reader (node_at reader place) es) (values_node q)) h.0 h.1 h.2 h.3
+map-from : (reader : List Node) (q : Node) (es : Entries) → MapParts q (λ id. entries_fit reader (node_at reader id) es) es → FitsAt reader q (Value.map_of es)
+map-from reader q es h = four (is_count (entries_count es)) (list_all is_text (keys_of es)) (are_distinct bytes_eq (keys_of es)) (is_some_and (λ id. entries_fit reader (node_at reader id) es) (values_node q)) h.0 h.1 h.2 h.3
   where
     four : (a b c d : Bool) → a ≡ true → b ≡ true → c ≡ true → d ≡ true → (a && b && c && d) ≡ true
     four a b c d e f g h = grind arith
@@ -76,11 +76,11 @@ map-at writer reader es ds {w = w} {q = q} m plain h entries =
       subst (λ (n : ℕ). is_count n ≡ true) (sym entries.0) parts.0,
       subst (λ (keys : List (List ℕ)). list_all is_text keys ≡ true) (sym entries.1) parts.1,
       subst (λ (keys : List (List ℕ)). are_distinct bytes_eq keys ≡ true) (sym entries.1) parts.2,
-      values-kept writer reader (λ place. entries_fit writer (node_at writer place) es) (λ place. entries_fit reader (node_at reader place) ds) m plain parts.3 entries.2,
+      values-kept writer reader (λ id. entries_fit writer (node_at writer id) es) (λ id. entries_fit reader (node_at reader id) ds) m plain parts.3 entries.2,
     )
 
 map-values : (writer : List Node) (w : Node) (es : Entries) → FitsAt writer w (Value.map_of es) → entries_fit writer (part_at writer (values_node w)) es ≡ true
-map-values writer w es h = part-from (λ place. entries_fit writer (node_at writer place) es) (values_node w) (map-parts writer w es h).3
+map-values writer w es h = part-from (λ id. entries_fit writer (node_at writer id) es) (values_node w) (map-parts writer w es h).3
 
 -- the fields of a node
 pub good-fields : (reader : List Node) (q : Node) → meets_its_rules reader q ≡ true → are_fields reader (fields_at q) ≡ true
@@ -92,7 +92,7 @@ record-at : (writer reader : List Node) (vs : Values) (w q : Node) → Matches w
     → IfOk sourced (AreSourced reader (fields_at w) (fields_at q) 0 (length (fields_at w)))
     → (missing : Option ℕ) → missing_field (fields_at w) (fields_at q) ≡ missing
     → IfOk (record_or_missing (fields_at w) (fields_at q) missing sourced) (FitsAt reader q)
-record-at writer reader vs w q m plain good h sourced all (Some place) e = tt
+record-at writer reader vs w q m plain good h sourced all (Some id) e = tt
 record-at writer reader vs w q m plain good h sourced all None e =
     IfOk-result_map (AreSourced reader (fields_at w) (fields_at q) 0 (length (fields_at w))) (FitsAt reader q)
     (λ found. Value.record_of (field_values (fields_at w) found (fields_at q))) sourced all
@@ -151,42 +151,42 @@ mutual
   resolve-fits writer reader rules w r (Value.fixed b) good h =
       through-fits writer reader w r (λ q. Ok (Value.fixed b)) rules good (λ q m plain meets. fixed-at writer reader b m plain h)
 
-  items-fit : (writer reader : List Node) (rules : MeetRules reader) (w r : Node) (place : ℕ) (vs : Values) → meets_its_rules reader r ≡ true
-      → each_fits writer w vs ≡ true → IfOk (resolve_items writer reader w r place vs) (ItemsFit reader r vs)
-  items-fit writer reader rules w r place no_values good h = (refl, refl)
-  items-fit writer reader rules w r place (value v vs) good h =
+  items-fit : (writer reader : List Node) (rules : MeetRules reader) (w r : Node) (index : ℕ) (vs : Values) → meets_its_rules reader r ≡ true
+      → each_fits writer w vs ≡ true → IfOk (resolve_items writer reader w r index vs) (ItemsFit reader r vs)
+  items-fit writer reader rules w r index no_values good h = (refl, refl)
+  items-fit writer reader rules w r index (value v vs) good h =
       IfOk-both (FitsAt reader r) (ItemsFit reader r vs) (ItemsFit reader r (value v vs)) value
-      (inside place (resolve writer reader w r v)) (resolve_items writer reader w r (suc place) vs)
-      (IfOk-inside (FitsAt reader r) place (resolve writer reader w r v)
+      (inside index (resolve writer reader w r v)) (resolve_items writer reader w r (suc index) vs)
+      (IfOk-inside (FitsAt reader r) index (resolve writer reader w r v)
       (resolve-fits writer reader rules w r v good (and_parts (fits writer w v) (each_fits writer w vs) h).0))
-      (items-fit writer reader rules w r (suc place) vs good (and_parts (fits writer w v) (each_fits writer w vs) h).1)
+      (items-fit writer reader rules w r (suc index) vs good (and_parts (fits writer w v) (each_fits writer w vs) h).1)
       (λ u us one more. (ap suc more.0, and_from (fits reader r u) (each_fits reader r us) one more.1))
 
-  entries-fit : (writer reader : List Node) (rules : MeetRules reader) (w r : Node) (place : ℕ) (es : Entries) → meets_its_rules reader r ≡ true
-      → entries_fit writer w es ≡ true → IfOk (resolve_entries writer reader w r place es) (EntriesFit reader r es)
-  entries-fit writer reader rules w r place no_entries good h = (refl, refl, refl)
-  entries-fit writer reader rules w r place (entry k v es) good h =
+  entries-fit : (writer reader : List Node) (rules : MeetRules reader) (w r : Node) (index : ℕ) (es : Entries) → meets_its_rules reader r ≡ true
+      → entries_fit writer w es ≡ true → IfOk (resolve_entries writer reader w r index es) (EntriesFit reader r es)
+  entries-fit writer reader rules w r index no_entries good h = (refl, refl, refl)
+  entries-fit writer reader rules w r index (entry k v es) good h =
       IfOk-both (FitsAt reader r) (EntriesFit reader r es) (EntriesFit reader r (entry k v es)) (entry k)
-      (inside place (resolve writer reader w r v)) (resolve_entries writer reader w r (suc place) es)
-      (IfOk-inside (FitsAt reader r) place (resolve writer reader w r v)
+      (inside index (resolve writer reader w r v)) (resolve_entries writer reader w r (suc index) es)
+      (IfOk-inside (FitsAt reader r) index (resolve writer reader w r v)
       (resolve-fits writer reader rules w r v good (and_parts (fits writer w v) (entries_fit writer w es) h).0))
-      (entries-fit writer reader rules w r (suc place) es good (and_parts (fits writer w v) (entries_fit writer w es) h).1)
+      (entries-fit writer reader rules w r (suc index) es good (and_parts (fits writer w v) (entries_fit writer w es) h).1)
       (λ u ds one more. (ap suc more.0, ap (λ (keys : List (List ℕ)). k ∷ keys) more.1, and_from (fits reader r u) (entries_fit reader r ds) one more.2))
 
-  sources-fit : (writer reader : List Node) (rules : MeetRules reader) (ws rs : List FieldNode) (place to : ℕ) (ps : List ℕ) (vs : Values)
-      → drop place (field_ids ws) ≡ ps → to ≡ place + length ps → fields_fit writer ps vs ≡ true
-      → IfOk (resolve_sources writer reader ws rs place vs) (AreSourced reader ws rs place to)
-  sources-fit writer reader rules ws rs place to [] no_values e n h = λ k f low high is. absurd (omega arith)
-  sources-fit writer reader rules ws rs place to (p ∷ ps) no_values e n h = absurd (both_ways false refl h)
-  sources-fit writer reader rules ws rs place to [] (value v vs) e n h = absurd (both_ways false refl h)
-  sources-fit writer reader rules ws rs place to (p ∷ ps) (value v vs) e n h =
-      with_sourced-fits reader ws rs place to (reader_field ws rs place)
-      (λ f. resolve writer reader (node_at writer (unwrap_or (slice_get (map (λ g. g.node) ws) place) 0)) (node_at reader f.node) v)
-      (resolve_sources writer reader ws rs (suc place) vs) refl
-      (λ f. resolve-fits writer reader rules (node_at writer (unwrap_or (slice_get (map (λ g. g.node) ws) place) 0)) (node_at reader f.node) v (rules f.node)
-      (subst (λ (i : ℕ). FitsAt writer (node_at writer i) v) (sym (place_at (field_ids ws) place p ps e).0)
+  sources-fit : (writer reader : List Node) (rules : MeetRules reader) (ws rs : List FieldNode) (index to : ℕ) (ps : List ℕ) (vs : Values)
+      → drop index (field_ids ws) ≡ ps → to ≡ index + length ps → fields_fit writer ps vs ≡ true
+      → IfOk (resolve_sources writer reader ws rs index vs) (AreSourced reader ws rs index to)
+  sources-fit writer reader rules ws rs index to [] no_values e n h = λ k f low high is. absurd (omega arith)
+  sources-fit writer reader rules ws rs index to (p ∷ ps) no_values e n h = absurd (both_ways false refl h)
+  sources-fit writer reader rules ws rs index to [] (value v vs) e n h = absurd (both_ways false refl h)
+  sources-fit writer reader rules ws rs index to (p ∷ ps) (value v vs) e n h =
+      with_sourced-fits reader ws rs index to (reader_field ws rs index)
+      (λ f. resolve writer reader (node_at writer (unwrap_or (slice_get (map (λ g. g.node) ws) index) 0)) (node_at reader f.node) v)
+      (resolve_sources writer reader ws rs (suc index) vs) refl
+      (λ f. resolve-fits writer reader rules (node_at writer (unwrap_or (slice_get (map (λ g. g.node) ws) index) 0)) (node_at reader f.node) v (rules f.node)
+      (subst (λ (i : ℕ). FitsAt writer (node_at writer i) v) (sym (id_at (field_ids ws) index p ps e).0)
       (and_parts (fits writer (node_at writer p) v) (fields_fit writer ps vs) h).0))
-      (sources-fit writer reader rules ws rs (suc place) to ps vs (place_at (field_ids ws) place p ps e).1 (omega arith)
+      (sources-fit writer reader rules ws rs (suc index) to ps vs (id_at (field_ids ws) index p ps e).1 (omega arith)
       (and_parts (fits writer (node_at writer p) v) (fields_fit writer ps vs) h).1)
 
 -- at the roots

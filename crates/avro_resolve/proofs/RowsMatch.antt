@@ -3,7 +3,7 @@ use Rattle.std.proofs.Common.{◌≡◌, refl, ℕ, zero, suc, Bool, true, false
 use Rattle.avro_schema.specs.Node.{Node, root_of}
 use Rattle.avro_schema.proofs.public.RowsSchemas.{simply, within, array_of_long, array_of_int, array_of_string, array_of_int_union, map_of_int, long_or_int, one_of_int, two_of_one_simple_name, before_renaming, after_renaming}
 use Rattle.avro_resolve.specs.Match.{Matches, int_to_long, writer_union, reader_union, arrays, records, is_match, first_match}
-use Rattle.avro_resolve.specs.NameTables.{passes, is_named}
+use Rattle.avro_resolve.specs.inside.NameTables.{passes, is_named}
 
 -- whether the roots match
 abbrev roots_match : List Node → List Node → Bool
@@ -14,8 +14,8 @@ abbrev nested : ℕ → Node → List Node
 nested deep n = from 1 deep
   where
     from : ℕ → ℕ → List Node
-    from place zero = n ∷ []
-    from place (suc more) = Node.array place ∷ from (suc place) more
+    from id zero = n ∷ []
+    from id (suc more) = Node.array id ∷ from (suc id) more
 
 -- primitive types
 int_for_long : roots_match (Node.int ∷ []) (Node.long ∷ []) ≡ true

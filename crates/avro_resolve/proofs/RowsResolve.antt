@@ -124,7 +124,7 @@ no_branch_for_value : Refutes map_of_int map_of_string_union
 unfolding is_utf8 chars encode
 no_branch_for_value = record { fitting = refl; counted = refl; faulty = refl }
 
--- the places of symbols, and a symbol that the reader lacks
+-- the indices of symbols, and a symbol that the reader lacks
 symbol_is_kept : Becomes three_symbols (two_symbols None)
     (Value.enum 2)
     (Value.enum 1)

@@ -8,7 +8,7 @@ use Rattle.avro_schema.specs.WellFormed.{is_schema, is_edge, is_good_node, are_g
 
 -- each node of a list meets the rules of its kind
 abbrev pub MeetRules : List Node → Type 0
-MeetRules nodes = (place : ℕ) → meets_its_rules nodes (node_at nodes place) ≡ true
+MeetRules nodes = (id : ℕ) → meets_its_rules nodes (node_at nodes id) ≡ true
 
 rules-at : (nodes : List Node) (from : ℕ) (ns : List Node) (k : ℕ) → are_good_nodes nodes from ns ≡ true → meets_its_rules nodes (unwrap_or (slice_get ns k) Node.null) ≡ true
 rules-at nodes from [] k h = refl
@@ -20,17 +20,17 @@ good-all nodes h = grind arith
 
 -- so do those of a schema
 pub MeetRules-from_is_schema : (nodes : List Node) → is_schema nodes ≡ true → MeetRules nodes
-MeetRules-from_is_schema nodes h place = rules-at nodes 0 nodes place (good-all nodes h)
+MeetRules-from_is_schema nodes h id = rules-at nodes 0 nodes id (good-all nodes h)
 
-edges-from : (nodes : List Node) (from place : ℕ) (ns : List Node) (k : ℕ) → are_good_nodes nodes from ns ≡ true → place ≡ from + k
-    → list_all (is_edge nodes place) (edges_of (unwrap_or (slice_get ns k) Node.null)) ≡ true
-edges-from nodes from place [] k h e = refl
-edges-from nodes from place (n ∷ ns) zero h e =
-    let same : from ≡ place = omega arith in
+edges-from : (nodes : List Node) (from id : ℕ) (ns : List Node) (k : ℕ) → are_good_nodes nodes from ns ≡ true → id ≡ from + k
+    → list_all (is_edge nodes id) (edges_of (unwrap_or (slice_get ns k) Node.null)) ≡ true
+edges-from nodes from id [] k h e = refl
+edges-from nodes from id (n ∷ ns) zero h e =
+    let same : from ≡ id = omega arith in
     subst (λ (i : ℕ). list_all (is_edge nodes i) (edges_of n) ≡ true) same (grind arith)
-edges-from nodes from place (n ∷ ns) (suc k) h e =
-    edges-from nodes (suc from) place ns k (and_parts (is_good_node nodes from n) (are_good_nodes nodes (suc from) ns) h).1 (omega arith)
+edges-from nodes from id (n ∷ ns) (suc k) h e =
+    edges-from nodes (suc from) id ns k (and_parts (is_good_node nodes from n) (are_good_nodes nodes (suc from) ns) h).1 (omega arith)
 
--- the edges of a schema's node are edges from its place
-pub edges-at : (nodes : List Node) (place : ℕ) → is_schema nodes ≡ true → list_all (is_edge nodes place) (edges_of (node_at nodes place)) ≡ true
-edges-at nodes place h = edges-from nodes 0 place nodes place (good-all nodes h) (omega arith)
+-- the edges of a schema's node are edges from its id
+pub edges-at : (nodes : List Node) (id : ℕ) → is_schema nodes ≡ true → list_all (is_edge nodes id) (edges_of (node_at nodes id)) ≡ true
+edges-at nodes id h = edges-from nodes 0 id nodes id (good-all nodes h) (omega arith)

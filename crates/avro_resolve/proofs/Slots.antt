@@ -4,7 +4,8 @@ use Rattle.std.specs.Prelude.{slice_index_or, slice_get, unwrap_or, map, bytes_e
 use Rattle.std.specs.List.{AllZip, flat_map}
 use Rattle.std.specs.Global.{Vec}
 use Rattle.std.proofs.lemmas.Bool.{cases_lt, cases_eq, cond-true, cond-false, eq-eqb, ne_eqb}
-use Rattle.std.proofs.lemmas.List.{append_assoc}
+use Rattle.std.proofs.lemmas.List.{append-nil, append_assoc, length_push}
+use Rattle.std.proofs.Math.ListN.{drop_of_length-le}
 use Rattle.avro_schema.specs.Distinct.{are_distinct}
 use Rattle.avro_schema.specs.WellFormed.{is_schema, field_names, are_fields}
 use Rattle.avro_schema.specs.Value.{Value, value}
@@ -18,14 +19,14 @@ use Rattle.avro_resolve.specs.Source.{source_of}
 use Rattle.avro_resolve.specs.Resolve.{Sourced, sourced_at, resolve_sources, result_map, field_value, field_values, fields_at}
 use Rattle.avro_resolve.specs.Ends.{Slotted, SlotsAre, SlotsFor, IsField, here, later, IsSeen, slot_out, EndsSlot, EndsFound, field_step, Fails, AllBelow, before}
 use Rattle.avro_resolve.specs.declared.error.ResolveError.{ResolveError}
-use Rattle.avro_resolve.proofs.InOrder.{next_in, none_from, fails_mapped}
+use Rattle.avro_resolve.proofs.InOrder.{next_in, fails_mapped}
 use Rattle.avro_resolve.proofs.Resolved.{good-fields}
 use Rattle.avro_resolve.proofs.Rules.{MeetRules-from_is_schema}
 use Rattle.avro_resolve.proofs.public.Sources.{is_place-same, two_readers, are_distinct-back}
 
 -- names of a node's fields are distinct
-pub distinct_fields : (nodes : List Node) (place : ℕ) → is_schema nodes ≡ true → are_distinct bytes_eq (flat_map field_names (fields_at (node_at nodes place))) ≡ true
-distinct_fields nodes place formed = of_fields (fields_at (node_at nodes place)) (good-fields nodes (node_at nodes place) (MeetRules-from_is_schema nodes formed place))
+pub distinct_fields : (nodes : List Node) (id : ℕ) → is_schema nodes ≡ true → are_distinct bytes_eq (flat_map field_names (fields_at (node_at nodes id))) ≡ true
+distinct_fields nodes id formed = of_fields (fields_at (node_at nodes id)) (good-fields nodes (node_at nodes id) (MeetRules-from_is_schema nodes formed id))
   where
     of_fields : (fs : List FieldNode) → are_fields nodes fs ≡ true → are_distinct bytes_eq (flat_map field_names fs) ≡ true
     of_fields fs h = grind arith
@@ -43,32 +44,32 @@ slotted_none S (Some None) v e h = h
 slotted_none S None v e h = h
 
 module _ {O : Type 0} (S : O → Value → Type 0) (ws : List FieldNode) (found : Sourced) (f : FieldNode) (rest : List FieldNode) where
-  pub rest_kept : (place : ℕ) (old new : List (Option O)) → source_of ws f ≡ Some place → are_distinct bytes_eq (field_names f ++ flat_map field_names rest) ≡ true
-      → ((k : ℕ) → (k ≡ place → ⊥) → slice_get new k ≡ slice_get old k) → SlotsFor S ws (f ∷ rest) found old → SlotsFor S ws rest found new
-  rest_kept place old new e distinct others h = λ g is k src.
+  pub rest_kept : (index : ℕ) (old new : List (Option O)) → source_of ws f ≡ Some index → are_distinct bytes_eq (field_names f ++ flat_map field_names rest) ≡ true
+      → ((k : ℕ) → (k ≡ index → ⊥) → slice_get new k ≡ slice_get old k) → SlotsFor S ws (f ∷ rest) found old → SlotsFor S ws rest found new
+  rest_kept index old new e distinct others h = λ g is k src.
       subst (λ (o : Option (Option O)). Slotted S o (sourced_at found k)) (sym (others k (apart g is k src))) (h g (later is) k src)
     where
-      apart : (g : FieldNode) → IsField g rest → (k : ℕ) → source_of ws g ≡ Some k → k ≡ place → ⊥
+      apart : (g : FieldNode) → IsField g rest → (k : ℕ) → source_of ws g ≡ Some k → k ≡ index → ⊥
       apart g is k src same =
           two_readers ws rest k f g is distinct src (is_place-same (source_of ws f) k (subst (λ (j : ℕ). source_of ws f ≡ Some j) (sym same) e))
 
   pub rest_same : (slots : List (Option O)) → SlotsFor S ws (f ∷ rest) found slots → SlotsFor S ws rest found slots
   rest_same slots h = λ g is k src. h g (later is) k src
 
-  value_sourced : (place : ℕ) → source_of ws f ≡ Some place → field_value ws found f ≡ sourced_at found place
-  value_sourced place e = rw e refl
+  value_sourced : (index : ℕ) → source_of ws f ≡ Some index → field_value ws found f ≡ sourced_at found index
+  value_sourced index e = rw e refl
 
   pub value_default : (d : Option Value) → source_of ws f ≡ None → f.default ≡ d → field_value ws found f ≡ unwrap_or d Value.null
   value_default d e is = rw (e, is) refl
 
-  pub value_held : (place : ℕ) (slots : List (Option O)) (out : O) → source_of ws f ≡ Some place → slot_out (slice_get slots place) ≡ Some out
+  pub value_held : (index : ℕ) (slots : List (Option O)) (out : O) → source_of ws f ≡ Some index → slot_out (slice_get slots index) ≡ Some out
       → SlotsFor S ws (f ∷ rest) found slots → S out (field_value ws found f)
-  value_held place slots out e held h =
-      subst (S out) (sym (value_sourced place e)) (slotted_out S (slice_get slots place) out (sourced_at found place) held (h f here place e))
+  value_held index slots out e held h =
+      subst (S out) (sym (value_sourced index e)) (slotted_out S (slice_get slots index) out (sourced_at found index) held (h f here index e))
 
-  pub value_missing : (place : ℕ) (slots : List (Option O)) → source_of ws f ≡ Some place → slot_out (slice_get slots place) ≡ None
+  pub value_missing : (index : ℕ) (slots : List (Option O)) → source_of ws f ≡ Some index → slot_out (slice_get slots index) ≡ None
       → SlotsFor S ws (f ∷ rest) found slots → field_value ws found f ≡ Value.null
-  value_missing place slots e held h = value_sourced place e ∙ slotted_none S (slice_get slots place) (sourced_at found place) held (h f here place e)
+  value_missing index slots e held h = value_sourced index e ∙ slotted_none S (slice_get slots index) (sourced_at found index) held (h f here index e)
 
 -- ---- The reader's fields in order
 
@@ -86,10 +87,6 @@ all_slots S ws rs found slots h = λ g is k src. h k
 pub values_seen : (ws rs : List FieldNode) (found : Sourced) → field_values ws found rs ≡ values_from (map (field_value ws found) rs)
 values_seen ws [] found = refl
 values_seen ws (f ∷ fs) found = ap (value (field_value ws found f)) (values_seen ws fs found)
-
-pub append_none : {A : Type 0} (xs : List A) → xs ++ [] ≡ xs
-append_none [] = refl
-append_none {A = A} (x ∷ xs) = ap (λ (ys : List A). x ∷ ys) (append_none xs)
 
 -- what was made of the fields so far, before those that are left
 abbrev pub ValuesSoFar : {O : Type 0} → (O → Value → Type 0) → List FieldNode → Sourced → List Field → List O → List FieldNode → Type 0
@@ -127,30 +124,23 @@ module _ {O : Type 0} (S : O → Value → Type 0) (ws : List FieldNode) (found 
   pub values_all : (i : ℕ) (made : List O) → length reads ≤ i → ValuesSoFar S ws found reads made (seen_fields (drop i reads)) → AllZip S made (map (field_value ws found) (seen_fields reads))
   values_all i made high h =
       subst (AllZip S made)
-      (sym (append_none h.0) ∙ ap (λ (fs : List Field). h.0 ++ map (field_value ws found) (seen_fields fs)) (sym (none_from reads i high)) ∙ h.2) h.1
+      (sym (append-nil h.0) ∙ ap (λ (fs : List Field). h.0 ++ map (field_value ws found) (seen_fields fs)) (sym (drop_of_length-le reads high)) ∙ h.2) h.1
 
 pub data_filled : (ws : List FieldNode) (found : Sourced) (rs : List FieldNode) (made : List Datum) → AllZip IsSeen made (map (field_value ws found) rs) → values_of made ≡ field_values ws found rs
 data_filled ws found rs made h = ap values_from (zipped-map value_of made (map (field_value ws found) rs) h) ∙ sym (values_seen ws rs found)
 
 -- ---- Slots that are kept in the writer's order
 
-length-snoc : {A : Type 0} (xs : List A) (x : A) → length (xs ++ x ∷ []) ≡ length xs + 1
-length-snoc [] x = omega arith
-length-snoc (y ∷ xs) x = omega (arith, length-snoc xs x)
+raised : (m k : ℕ) → k < m → k < m + 1
+raised m k low = omega (arith, low)
 
 pub below_more : (m : ℕ) (found : Sourced) → AllBelow m found → AllBelow (m + 1) found
 below_more m [] h = tt
-below_more m (s ∷ ss) h = (raised s.0 h.0, below_more m ss h.1)
-  where
-    raised : (k : ℕ) → k < m → k < m + 1
-    raised k low = omega (arith, low)
+below_more m (s ∷ ss) h = (raised m s.0 h.0, below_more m ss h.1)
 
 pub below_last : (m : ℕ) (found : Sourced) (u : Value) → AllBelow m found → AllBelow (m + 1) (found ++ (m, u) ∷ [])
 below_last m [] u h = (omega arith, tt)
-below_last m (s ∷ ss) u h = (raised s.0 h.0, below_last m ss u h.1)
-  where
-    raised : (k : ℕ) → k < m → k < m + 1
-    raised k low = omega (arith, low)
+below_last m (s ∷ ss) u h = (raised m s.0 h.0, below_last m ss u h.1)
 
 pub none_above : (m k : ℕ) (found : Sourced) → AllBelow m found → m ≤ k → sourced_at found k ≡ Value.null
 none_above m k [] h high = refl
@@ -186,8 +176,8 @@ get_past (y ∷ xs) x zero high = absurd (omega (arith, high))
 get_past (y ∷ xs) x (suc k) high = get_past xs x k (omega (arith, high))
 
 module _ {O : Type 0} (S : O → Value → Type 0) (found : Sourced) (slots : List (Option O)) (m : ℕ) (count : length slots ≡ m) (below : AllBelow m found) (so_far : SlotsAre S found slots) where
-  by_place : (found' : Sourced) (o : Option O) → ((k : ℕ) → (k ≡ m → ⊥) → sourced_at found' k ≡ sourced_at found k) → Slotted S (Some o) (sourced_at found' m) → SlotsAre S found' (slots ++ o ∷ [])
-  by_place found' o others this k =
+  by_index : (found' : Sourced) (o : Option O) → ((k : ℕ) → (k ≡ m → ⊥) → sourced_at found' k ≡ sourced_at found k) → Slotted S (Some o) (sourced_at found' m) → SlotsAre S found' (slots ++ o ∷ [])
+  by_index found' o others this k =
       ⊎_elim
       (λ low. subst (Slotted S (slice_get (slots ++ o ∷ []) k)) (sym (others k (λ e. omega (arith, low, e, count))))
       (subst (λ (q : Option (Option O)). Slotted S q (sourced_at found k)) (sym (get_before slots o k low)) (so_far k)))
@@ -205,10 +195,10 @@ module _ {O : Type 0} (S : O → Value → Type 0) (found : Sourced) (slots : Li
           (others k apart ∙ none_above m k found below (omega (arith, high, count)))
 
   pub slots_none : SlotsAre S found (slots ++ None ∷ [])
-  slots_none = by_place found None (λ k apart. refl) (none_above m m found below (omega arith))
+  slots_none = by_index found None (λ k apart. refl) (none_above m m found below (omega arith))
 
   pub slots_some : (out : O) (u : Value) → S out u → SlotsAre S (found ++ (m, u) ∷ []) (slots ++ Some out ∷ [])
-  slots_some out u h = by_place (found ++ (m, u) ∷ []) (Some out) (λ k apart. others_same found k m u apart) (subst (S out) (sym (last_is found m u below)) h)
+  slots_some out u h = by_index (found ++ (m, u) ∷ []) (Some out) (λ k apart. others_same found k m u apart) (subst (S out) (sym (last_is found m u below)) h)
 
 -- ---- The writer's fields one by one
 
@@ -263,7 +253,7 @@ module _ (writer reader : List Node) (ws rs : List FieldNode) (values : List Dat
   }
     where
       counted : length (slots ++ None ∷ []) ≡ i + 1
-      counted = omega (arith, length-snoc slots None, h.count)
+      counted = omega (arith, length_push slots None, h.count)
   field_done i d slots (Some out) low step h = record {
     found = h.found ++ (i, value_of out) ∷ [];
     count = counted;
@@ -274,7 +264,7 @@ module _ (writer reader : List Node) (ws rs : List FieldNode) (values : List Dat
   }
     where
       counted : length (slots ++ Some out ∷ []) ≡ i + 1
-      counted = omega (arith, length-snoc slots (Some out), h.count)
+      counted = omega (arith, length_push slots (Some out), h.count)
 
       moved : (r : Result Sourced ResolutionFault) → result_map (before h.found) (result_map (λ found. (i, value_of out) ∷ found) r) ≡ result_map (before (h.found ++ (i, value_of out) ∷ [])) r
       moved (Ok more) = ap (λ (zs : Sourced). Ok zs) (sym (append_assoc h.found ((i, value_of out) ∷ []) more))
@@ -290,4 +280,4 @@ module _ (writer reader : List Node) (ws rs : List FieldNode) (values : List Dat
   pub fields_done : (i : ℕ) (slots : Vec (Option Datum)) → length values ≤ i → FieldsSoFar writer reader ws rs values i slots.items
       → EndsFound (Ok slots) (resolve_sources writer reader ws rs 0 (values_of values))
   fields_done i slots high h =
-      (h.found, h.left ∙ ap (λ (xs : List Datum). result_map (before h.found) (resolve_sources writer reader ws rs i (values_of xs))) (none_from values i high) ∙ ap (λ (zs : Sourced). Ok zs) (append_none h.found), h.stand)
+      (h.found, h.left ∙ ap (λ (xs : List Datum). result_map (before h.found) (resolve_sources writer reader ws rs i (values_of xs))) (drop_of_length-le values high) ∙ ap (λ (zs : Sourced). Ok zs) (append-nil h.found), h.stand)

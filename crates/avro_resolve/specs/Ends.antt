@@ -55,7 +55,7 @@ Slotted S (Some (Some out)) v = S out v
 Slotted S (Some None) v = v ≡ Value.null
 Slotted S None v = v ≡ Value.null
 
--- each slot holds what was found for its place
+-- each slot holds what was found for its index
 abbrev pub SlotsAre : {O : Type 0} → (O → Value → Type 0) → Sourced → List (Option O) → Type 0
 SlotsAre S found slots = (k : ℕ) → Slotted S (slice_get slots k) (sourced_at found k)
 
@@ -82,17 +82,17 @@ abbrev pub EndsFound : Result (Vec (Option Datum)) ResolveError → Result Sourc
 EndsFound (Ok slots) resolved = (found : Sourced) × (resolved ≡ Ok found) × SlotsAre IsSeen found slots.items
 EndsFound (Err e) resolved = Fails e resolved
 
--- the field at a place before those that follow it
+-- the field at an index before those that follow it
 abbrev pub field_step : List Node → List Node → List FieldNode → List FieldNode → ℕ → Value → Result Sourced ResolutionFault → Result Sourced ResolutionFault
-field_step writer reader ws rs place v others =
-    with_sourced (reader_field ws rs place) place
-    (λ f. resolve writer reader (node_at writer (unwrap_or (slice_get (map (λ g. g.node) ws) place) 0)) (node_at reader f.node) v) others
+field_step writer reader ws rs index v others =
+    with_sourced (reader_field ws rs index) index
+    (λ f. resolve writer reader (node_at writer (unwrap_or (slice_get (map (λ g. g.node) ws) index) 0)) (node_at reader f.node) v) others
 
--- a slot holds what the field at a place puts before those that follow
+-- a slot holds what the field at an index puts before those that follow
 abbrev pub EndsSlot : ℕ → Result (Option Datum) ResolveError → (Result Sourced ResolutionFault → Result Sourced ResolutionFault) → Type 0
-EndsSlot place (Ok None) step = (others : Result Sourced ResolutionFault) → step others ≡ others
-EndsSlot place (Ok (Some d)) step = (others : Result Sourced ResolutionFault) → step others ≡ result_map (λ found. (place, value_of d) ∷ found) others
-EndsSlot place (Err e) step = (others : Result Sourced ResolutionFault) → Fails e (step others)
+EndsSlot index (Ok None) step = (others : Result Sourced ResolutionFault) → step others ≡ others
+EndsSlot index (Ok (Some d)) step = (others : Result Sourced ResolutionFault) → step others ≡ result_map (λ found. (index, value_of d) ∷ found) others
+EndsSlot index (Err e) step = (others : Result Sourced ResolutionFault) → Fails e (step others)
 
 -- some data before others, and some entries, and what was found so far before the rest
 abbrev pub joined : List Value → Values → Values
@@ -106,7 +106,7 @@ joined_entries (u ∷ us) es = entry u.0 u.1 (joined_entries us es)
 abbrev pub before : Sourced → Sourced → Sourced
 before found more = found ++ more
 
--- what was found is of places below one
+-- what was found is of indices below one
 abbrev pub AllBelow : ℕ → Sourced → Type 0
 AllBelow m [] = Unit {0}
 AllBelow m (s ∷ ss) = (s.0 < m) × AllBelow m ss

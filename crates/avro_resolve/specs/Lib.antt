@@ -6,9 +6,6 @@ pub mod Seen
 pub mod Reading
 pub mod Pairs
 pub mod Ends
-pub mod Guided
 pub mod Planned
-pub mod Noting
 pub mod Tables
-pub mod NameTables
-pub mod ByNode
+pub mod inside

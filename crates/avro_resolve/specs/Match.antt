@@ -11,8 +11,8 @@ are_alike writer reader aliases = bytes_eq writer.simple reader.simple || list_a
 
 -- the two nodes match
 pub data Matches (writer reader : List Node) : Node → Node → Type 0 where
-  writer_union : {places : List ℕ} {r : Node} → Matches writer reader (Node.union places) r
-  reader_union : {w : Node} {places : List ℕ} → Matches writer reader w (Node.union places)
+  writer_union : {ids : List ℕ} {r : Node} → Matches writer reader (Node.union ids) r
+  reader_union : {w : Node} {ids : List ℕ} → Matches writer reader w (Node.union ids)
   nulls : Matches writer reader Node.null Node.null
   booleans : Matches writer reader Node.boolean Node.boolean
   ints : Matches writer reader Node.int Node.int
@@ -34,8 +34,8 @@ pub data Matches (writer reader : List Node) : Node → Node → Type 0 where
 -- whether they do, where arrays and maps are looked into at most so deep: a well-formed schema has fewer of them in a row
 -- than nodes
 abbrev pub match_within : ℕ → List Node → List Node → Node → Node → Bool
-match_within steps writer reader (Node.union places) r = true
-match_within steps writer reader w (Node.union places) = true
+match_within steps writer reader (Node.union ids) r = true
+match_within steps writer reader w (Node.union ids) = true
 match_within steps writer reader Node.null Node.null = true
 match_within steps writer reader Node.boolean Node.boolean = true
 match_within steps writer reader Node.int Node.int = true
@@ -55,14 +55,14 @@ match_within steps writer reader w r = false
 abbrev pub is_match : List Node → List Node → Node → Node → Bool
 is_match writer reader w r = match_within (length writer) writer reader w r
 
--- the first of some reader's branches that matches, by its place among them
+-- the first of some reader's branches that matches, by its index among them
 abbrev pub first_match_from : ℕ → List Node → List Node → Node → List ℕ → Option ℕ
-first_match_from place writer reader w [] = None
-first_match_from place writer reader w (b ∷ bs) =
-    cond (is_match writer reader w (node_at reader b)) (Some place) (first_match_from (suc place) writer reader w bs)
+first_match_from index writer reader w [] = None
+first_match_from index writer reader w (b ∷ bs) =
+    cond (is_match writer reader w (node_at reader b)) (Some index) (first_match_from (suc index) writer reader w bs)
 
 abbrev pub first_match : List Node → List Node → Node → List ℕ → Option ℕ
-first_match writer reader w places = first_match_from 0 writer reader w places
+first_match writer reader w ids = first_match_from 0 writer reader w ids
 
 -- the same of a reader's node; only a union has branches
 abbrev pub first_match_at : List Node → List Node → Node → Node → Option ℕ

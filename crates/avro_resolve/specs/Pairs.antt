@@ -24,10 +24,10 @@ IsStep writer reader n m (Step.Parts a b) =
 
 -- the first branch that matches, with its node
 abbrev pub IsFirst : List Node → List Node → Node → List ℕ → Option (ℕ × NodeId) → Type 0
-IsFirst writer reader w places None = first_match writer reader w places ≡ None
-IsFirst writer reader w places (Some found) =
-    (first_match writer reader w places ≡ Some found.0) × (slice_get places found.0 ≡ Some found.1.0)
-    × (is_match writer reader w (node_at reader found.1.0) ≡ true) × (found.0 < length places)
+IsFirst writer reader w ids None = first_match writer reader w ids ≡ None
+IsFirst writer reader w ids (Some found) =
+    (first_match writer reader w ids ≡ Some found.0) × (slice_get ids found.0 ≡ Some found.1.0)
+    × (is_match writer reader w (node_at reader found.1.0) ≡ true) × (found.0 < length ids)
 
 -- into a branch, where there is one
 abbrev pub wrapped : Option ℕ → Resolved → Resolved
@@ -41,14 +41,14 @@ aimed reader (Aim.To branch q) resolve = wrapped branch (resolve (node_at reader
 -- Where a pair of nodes leads, of which the writer's is no union: by the first branch of a reader's union that matches, or else to the
 -- reader's node itself where the two match.
 abbrev pub branch_aim : List ℕ → Option ℕ → Aim
-branch_aim places None = Fault NoBranch
-branch_aim places (Some k) = To (Some k) (record { 0 = unwrap_or (slice_get places k) 0 })
+branch_aim ids None = Fault NoBranch
+branch_aim ids (Some k) = To (Some k) (record { 0 = unwrap_or (slice_get ids k) 0 })
 
 abbrev pub aim_of : List Node → List Node → Node → NodeId → Node → Aim
-aim_of writer reader n r (Node.union places) = branch_aim places (first_match writer reader n places)
+aim_of writer reader n r (Node.union ids) = branch_aim ids (first_match writer reader n ids)
 aim_of writer reader n r q = cond (is_match writer reader n q) (To None r) (Fault NoMatch)
 
--- the same at the places of two nodes
+-- the same of the nodes of two ids
 abbrev pub aim_at : List Node → List Node → NodeId → NodeId → Aim
 aim_at writer reader w r = aim_of writer reader (node_at writer w.0) r (node_at reader r.0)
 
@@ -56,7 +56,7 @@ aim_at writer reader w r = aim_of writer reader (node_at writer w.0) r (node_at 
 abbrev pub IsAim : List Node → List Node → Node → Node → Aim → Type 0
 IsAim writer reader w r aim = (resolve : Node → Resolved) → through writer reader w r resolve ≡ aimed reader aim resolve
 
--- the places of the parts of a node that has them
+-- the ids of the parts of a node that has them
 abbrev pub item_id : Node → ℕ
 item_id n = unwrap_or (items_node n) 0
 
@@ -68,10 +68,10 @@ branch_id n k = unwrap_or (slice_get (unwrap_or (branches_of n) []) k) 0
 
 -- the reader's symbol, or that there is none
 abbrev pub IsSymbol : Resolved → Option ℕ → Type 0
-IsSymbol resolved (Some place) = resolved ≡ Ok (Value.enum place)
+IsSymbol resolved (Some symbol) = resolved ≡ Ok (Value.enum symbol)
 IsSymbol resolved None = resolved ≡ Err (fault_here no_symbol)
 
--- what the writer's field at a place is for
+-- what the writer's field at an index is for
 abbrev pub part_to : ℕ → Option FieldNode → At
 part_to j None = Ignored
 part_to j (Some f) = Pair (record { 0 = j }) (record { 0 = f.node })

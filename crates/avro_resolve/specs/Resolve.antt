@@ -29,19 +29,19 @@ both f (Err e) b = Err e
 abbrev pub matched : List Node → List Node → Node → Node → (Node → Resolved) → Resolved
 matched writer reader w r resolve = cond (is_match writer reader w r) (resolve r) (Err (fault_here no_match))
 
--- the branch of a union that is at a place among its branches
+-- the branch of a union that is at an index among its branches
 abbrev pub branch_node : List Node → List ℕ → ℕ → Node
-branch_node nodes places k = node_at nodes (unwrap_or (slice_get places k) 0)
+branch_node nodes ids k = node_at nodes (unwrap_or (slice_get ids k) 0)
 
 -- the first branch that matches takes the value
 abbrev pub into_branch : List Node → List Node → Node → List ℕ → Option ℕ → (Node → Resolved) → Resolved
-into_branch writer reader w places None resolve = Err (fault_here no_branch)
-into_branch writer reader w places (Some k) resolve =
-    result_map (Value.union k) (matched writer reader w (branch_node reader places k) resolve)
+into_branch writer reader w ids None resolve = Err (fault_here no_branch)
+into_branch writer reader w ids (Some k) resolve =
+    result_map (Value.union k) (matched writer reader w (branch_node reader ids k) resolve)
 
 -- A writer's node that is no union, against any reader's node.
 abbrev pub through : List Node → List Node → Node → Node → (Node → Resolved) → Resolved
-through writer reader w (Node.union places) resolve = into_branch writer reader w places (first_match writer reader w places) resolve
+through writer reader w (Node.union ids) resolve = into_branch writer reader w ids (first_match writer reader w ids) resolve
 through writer reader w r resolve = matched writer reader w r resolve
 
 -- an int is kept, and becomes a long where the reader has one
@@ -59,9 +59,9 @@ abbrev pub string_as : List ℕ → Node → Resolved
 string_as t Node.bytes = Ok (Value.bytes t)
 string_as t r = Ok (Value.string t)
 
--- the reader's place of the writer's symbol, else its default
+-- the index that the reader gives the writer's symbol, else its default
 abbrev pub enum_or_default : Option ℕ → Option ℕ → Resolved
-enum_or_default (Some place) default = Ok (Value.enum place)
+enum_or_default (Some symbol) default = Ok (Value.enum symbol)
 enum_or_default None (Some default) = Ok (Value.enum default)
 enum_or_default None None = Err (fault_here no_symbol)
 
@@ -71,7 +71,7 @@ enum_as symbol r = Err (fault_here no_symbol)
 
 -- a node's part, of a node that has one
 abbrev pub part_at : List Node → Option ℕ → Node
-part_at nodes place = node_at nodes (unwrap_or place 0)
+part_at nodes id = node_at nodes (unwrap_or id 0)
 
 abbrev pub symbol_at : Node → ℕ → List ℕ
 symbol_at w k = unwrap_or (option_and_then (λ symbols. slice_get symbols k) (symbols_of w)) []
@@ -79,20 +79,20 @@ symbol_at w k = unwrap_or (option_and_then (λ symbols. slice_get symbols k) (sy
 abbrev pub fields_at : Node → List FieldNode
 fields_at n = unwrap_or (fields_of n) []
 
--- what the writer's fields that are some reader's source resolve to, by their places
+-- what the writer's fields that are some reader's source resolve to, by their indices
 abbrev pub Sourced : Type 0
 Sourced = List (ℕ × Value)
 
 abbrev pub sourced_at : Sourced → ℕ → Value
-sourced_at [] place = Value.null
-sourced_at (s ∷ ss) place = cond (s.0 == place) s.1 (sourced_at ss place)
+sourced_at [] index = Value.null
+sourced_at (s ∷ ss) index = cond (s.0 == index) s.1 (sourced_at ss index)
 
 -- a reader's field takes what its source resolved to, or its default
 abbrev pub field_value : List FieldNode → Sourced → FieldNode → Value
 field_value writer sourced f = from (source_of writer f) f.default
   where
     from : Option ℕ → Option Value → Value
-    from (Some place) default = sourced_at sourced place
+    from (Some index) default = sourced_at sourced index
     from None default = unwrap_or default Value.null
 
 abbrev pub field_values : List FieldNode → Sourced → List FieldNode → Values
@@ -101,13 +101,13 @@ field_values writer sourced (f ∷ fs) = value (field_value writer sourced f) (f
 
 -- a reader's field without a source and a default is a fault before all others
 abbrev pub record_or_missing : List FieldNode → List FieldNode → Option ℕ → Result Sourced ResolutionFault → Resolved
-record_or_missing writer reader (Some place) sourced = Err (fault_here (missing_field_at place))
+record_or_missing writer reader (Some index) sourced = Err (fault_here (missing_field_at index))
 record_or_missing writer reader None sourced = result_map (λ found. Value.record_of (field_values writer found reader)) sourced
 
 -- where the writer's field is some reader's source, its result stands before the later ones
 abbrev pub with_sourced : Option FieldNode → ℕ → (FieldNode → Resolved) → Result Sourced ResolutionFault → Result Sourced ResolutionFault
-with_sourced None place resolve later = later
-with_sourced (Some f) place resolve later = both (λ v found. (place, v) ∷ found) (inside place (resolve f)) later
+with_sourced None index resolve later = later
+with_sourced (Some f) index resolve later = both (λ v found. (index, v) ∷ found) (inside index (resolve f)) later
 
 -- by induction on the datum, which fits the writer's node
 abbrev mutual
@@ -129,25 +129,25 @@ abbrev mutual
   resolve writer reader w r (Value.enum k) = through writer reader w r (enum_as (symbol_at w k))
   resolve writer reader w r (Value.fixed b) = through writer reader w r (λ q. Ok (Value.fixed b))
 
-  -- the items, from a place on, in order
+  -- the items, from an index on, in order
   pub resolve_items : List Node → List Node → Node → Node → ℕ → Values → Result Values ResolutionFault
-  resolve_items writer reader w r place no_values = Ok no_values
-  resolve_items writer reader w r place (value v vs) =
-      both value (inside place (resolve writer reader w r v)) (resolve_items writer reader w r (suc place) vs)
+  resolve_items writer reader w r index no_values = Ok no_values
+  resolve_items writer reader w r index (value v vs) =
+      both value (inside index (resolve writer reader w r v)) (resolve_items writer reader w r (suc index) vs)
 
   -- the entries, whose keys are kept
   pub resolve_entries : List Node → List Node → Node → Node → ℕ → Entries → Result Entries ResolutionFault
-  resolve_entries writer reader w r place no_entries = Ok no_entries
-  resolve_entries writer reader w r place (entry k v es) =
-      both (entry k) (inside place (resolve writer reader w r v)) (resolve_entries writer reader w r (suc place) es)
+  resolve_entries writer reader w r index no_entries = Ok no_entries
+  resolve_entries writer reader w r index (entry k v es) =
+      both (entry k) (inside index (resolve writer reader w r v)) (resolve_entries writer reader w r (suc index) es)
 
-  -- the writer's fields, from a place on, that are some reader's source, in the writer's order; others are ignored
+  -- the writer's fields, from an index on, that are some reader's source, in the writer's order; others are ignored
   pub resolve_sources : List Node → List Node → List FieldNode → List FieldNode → ℕ → Values → Result Sourced ResolutionFault
-  resolve_sources writer reader ws rs place no_values = Ok []
-  resolve_sources writer reader ws rs place (value v vs) =
-      with_sourced (reader_field ws rs place) place
-      (λ f. resolve writer reader (node_at writer (unwrap_or (slice_get (map (λ g. g.node) ws) place) 0)) (node_at reader f.node) v)
-      (resolve_sources writer reader ws rs (suc place) vs)
+  resolve_sources writer reader ws rs index no_values = Ok []
+  resolve_sources writer reader ws rs index (value v vs) =
+      with_sourced (reader_field ws rs index) index
+      (λ f. resolve writer reader (node_at writer (unwrap_or (slice_get (map (λ g. g.node) ws) index) 0)) (node_at reader f.node) v)
+      (resolve_sources writer reader ws rs (suc index) vs)
 
 -- at the roots
 abbrev pub resolve_root : List Node → List Node → Value → Resolved

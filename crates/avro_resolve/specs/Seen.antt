@@ -15,7 +15,7 @@ use Rattle.avro_resolve.specs.declared.error.ReadResolveError.{ReadResolveError}
 abbrev pub cause_of : FaultKind → FaultCause
 cause_of FaultKind.NoMatch = no_match
 cause_of FaultKind.NoBranch = no_branch
-cause_of (FaultKind.MissingField place) = missing_field_at place
+cause_of (FaultKind.MissingField index) = missing_field_at index
 cause_of FaultKind.NoSymbol = no_symbol
 cause_of FaultKind.NotUtf8 = not_utf8
 

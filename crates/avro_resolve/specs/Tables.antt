@@ -1,9 +1,9 @@
 -- What a plan keeps, without its schemas.
 use Rattle.std.specs.Prelude.{List}
 use Rattle.avro_schema.specs.Node.{Node}
-use Rattle.avro_resolve.specs.Planned.{ArePrepared}
+use Rattle.avro_resolve.specs.Planned.{AreComparisons}
 use Rattle.avro_resolve.specs.declared.plan_table.PlanTable.{PlanTable}
 
 -- what is kept of each pair is what the nodes are to each other in these schemas
 abbrev pub IsTableOf : List Node → List Node → PlanTable → Type 0
-IsTableOf writer reader table = ArePrepared writer reader table.pairs.items
+IsTableOf writer reader table = AreComparisons writer reader table.pairs.items

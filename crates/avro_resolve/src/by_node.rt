@@ -1,6 +1,6 @@
 ghost use Rattle.std.specs.Prelude.{◌≡◌, OnOk};
 ghost use Rattle.std.specs.Option.{IfSome};
-ghost use Rattle.avro_resolve.specs.ByNode.{HasTable, with_table};
+ghost use Rattle.avro_resolve.specs.inside.ByNode.{HasTable, with_table};
 
 use avro_schema::NodeId;
 use std::alloc::AllocError;

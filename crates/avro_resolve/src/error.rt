@@ -11,7 +11,7 @@ pub enum FaultKind {
     /// No branch of the reader's union matches.
     #[error("NoBranch")]
     NoBranch,
-    /// The reader's field at this position has no source in the writer's record, and no default.
+    /// The reader's field at this index has no source in the writer's record, and no default.
     #[error("MissingField {0}")]
     MissingField(usize),
     /// The reader's enum has no such symbol, and no default.
@@ -22,12 +22,12 @@ pub enum FaultKind {
     NotUtf8,
 }
 
-/// A fault of resolution, and its place in the writer's datum.
+/// A fault of resolution, and where it is in the writer's datum.
 #[derive(Debug, PartialEq, Eq, Drop)]
 pub struct Fault {
     /// What is wrong.
     pub kind: FaultKind,
-    /// The way down the datum: positions of fields, items and entries, and 0 for a union's value.
+    /// The way down the datum: indices of fields, items and entries, and 0 for a union's value.
     pub path: Vec<usize>,
 }
 

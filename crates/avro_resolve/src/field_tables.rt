@@ -3,7 +3,7 @@ ghost use Rattle.std.specs.Option.{IfSome};
 ghost use Rattle.avro_schema.specs.Node.{node_at};
 ghost use Rattle.avro_schema.specs.Seen.{field_of};
 ghost use Rattle.avro_schema.specs.SeenSchema.{schema_nodes};
-ghost use Rattle.avro_resolve.specs.NameTables.{AreFieldTables};
+ghost use Rattle.avro_resolve.specs.inside.NameTables.{AreFieldTables};
 ghost use Rattle.avro_resolve.specs.Planned.{FindsFields};
 ghost use Rattle.avro_resolve.specs.Resolve.{fields_at};
 ghost use Rattle.avro_resolve.specs.Source.{source_of};
@@ -15,7 +15,7 @@ use avro_schema::{Field, NodeId, Schema};
 use std::alloc::{AllocError, Global};
 use std::collections::BTreeMap;
 
-/// The places of the fields of a writer's records, by their names. They rise by the records' nodes.
+/// The indices of the fields of a writer's records, by their names. They rise by the records' nodes.
 pub fn field_tables(
     alloc: Global,
     writer: &Schema,
@@ -24,7 +24,7 @@ pub fn field_tables(
 {
     let mut tables = Vec::new(alloc);
     let mut number = 0u32;
-    for _place in 0..writer.len() {
+    for _round in 0..writer.len() {
         let id = NodeId(number);
         add_table(&mut tables, id, field_table(alloc, writer, id)?)?;
         number = number.saturating_add(1);
@@ -32,7 +32,7 @@ pub fn field_tables(
     Ok(tables)
 }
 
-/// The places of the fields of a record of many.
+/// The indices of the fields of a record of many.
 fn field_table(
     alloc: Global,
     writer: &Schema,
@@ -47,7 +47,7 @@ fn field_table(
     Ok(Some(field_names(alloc, fields)?))
 }
 
-/// The place of the field of a writer's record that a reader's field takes its value from.
+/// The index of the field of a writer's record that a reader's field takes its value from.
 pub fn source_by(
     tables: &[(NodeId, BTreeMap<&str, usize>)],
     writer: &Schema,

@@ -47,9 +47,9 @@ pub fn fill<B: Build>(
 {
     let mut slots = slots;
     let mut values = Vec::new(alloc);
-    for place in 0..reads.len() {
-        let f = &reads[place];
-        let source = source_kept(writes, sources, place, f);
+    for index in 0..reads.len() {
+        let f = &reads[index];
+        let source = source_kept(writes, sources, index, f);
         let value = value_of_field(alloc, builder, source, f, &mut slots)?;
         values.push(value)?;
     }
@@ -71,7 +71,7 @@ fn value_of_field<B: Build>(
         × IfOk result (λ out. B.stands_for out (field_value ws found (field_of f.now))) }
 {
     match source {
-        Some(place) => match taken(slots, place) {
+        Some(index) => match taken(slots, index) {
             Some(out) => Ok(out),
             None => builder.null(alloc),
         },
@@ -83,12 +83,12 @@ fn value_of_field<B: Build>(
 }
 
 /// What a slot holds, which is empty then.
-fn taken<O: Drop>(slots: &mut Vec<Option<O>>, place: usize) -> Option<O>
-    ensures this { result ≡ slot_out (slice_get slots.old.items place) }
-    ensures others { (k : ℕ) → (k ≡ place → ⊥) → slice_get slots.new.items k ≡ slice_get slots.old.items k }
+fn taken<O: Drop>(slots: &mut Vec<Option<O>>, index: usize) -> Option<O>
+    ensures this { result ≡ slot_out (slice_get slots.old.items index) }
+    ensures others { (k : ℕ) → (k ≡ index → ⊥) → slice_get slots.new.items k ≡ slice_get slots.old.items k }
 {
-    if place < slots.len() {
-        slots[place].take()
+    if index < slots.len() {
+        slots[index].take()
     } else {
         None
     }

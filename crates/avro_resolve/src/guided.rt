@@ -15,8 +15,8 @@ pub enum At {
 pub struct Part {
     /// What it is for.
     pub at: At,
-    /// The place of its pair, or of the pair of the union that it is a branch of.
-    pub place: u32,
+    /// The index of its pair, or of the pair of the union that it is a branch of.
+    pub index: u32,
     /// Its branch, where it is one.
     pub branch: Option<u32>,
 }
@@ -81,7 +81,7 @@ pub struct Filling<O> {
     /// What was made.
     pub slots: Slots<O>,
     /// Where a plan may keep the pair of the record.
-    pub place: u32,
+    pub index: u32,
     /// What the next field is for.
     pub next: Part,
 }

@@ -2,26 +2,26 @@ ghost use Rattle.std.specs.Prelude.{◌≡◌, List, IfSome};
 ghost use Rattle.avro_schema.specs.Node.{Node, node_at};
 ghost use Rattle.avro_schema.specs.SeenSchema.{schema_nodes};
 ghost use Rattle.avro_resolve.specs.Pairs.{IsAim, IsSymbol, field_for};
-ghost use Rattle.avro_resolve.specs.Planned.{AreInside, ArePrepared, AreSources, IsPrepared};
+ghost use Rattle.avro_resolve.specs.Planned.{AreInside, AreComparisons, AreSources, IsComparison};
 ghost use Rattle.avro_resolve.specs.Resolve.{enum_as, fields_at, symbol_at};
 ghost use Rattle.avro_resolve.specs.Source.{missing_field};
 
 use crate::guided::{Aim, At};
 use crate::pairs::aim;
-use crate::prepared::Prepared;
+use crate::comparison::Comparison;
 use crate::sourcing::{fields_of, missing, part_for};
 use crate::symbols::symbol_for;
 use avro_schema::{NodeId, Schema};
 
-/// What is kept at a place, if it is of these two nodes.
-fn pair_of(pairs: &[Prepared], place: u32, w: NodeId, r: NodeId) -> Option<&Prepared>
-    ensures { (writer reader : List Node) → ArePrepared writer reader pairs.now
-        → IfSome result (λ p. IsPrepared writer reader p.now × (p.now.w ≡ w) × (p.now.r ≡ r)) }
+/// What is kept at an index, if it is of these two nodes.
+fn pair_of(pairs: &[Comparison], index: u32, w: NodeId, r: NodeId) -> Option<&Comparison>
+    ensures { (writer reader : List Node) → AreComparisons writer reader pairs.now
+        → IfSome result (λ p. IsComparison writer reader p.now × (p.now.w ≡ w) × (p.now.r ≡ r)) }
 {
-    if (place as usize) >= pairs.len() {
+    if (index as usize) >= pairs.len() {
         return None;
     }
-    let pair = &pairs[place as usize];
+    let pair = &pairs[index as usize];
     if pair.w == w && pair.r == r {
         Some(pair)
     } else {
@@ -29,12 +29,12 @@ fn pair_of(pairs: &[Prepared], place: u32, w: NodeId, r: NodeId) -> Option<&Prep
     }
 }
 
-/// What is kept at a place, if it is of these two nodes and is kept inside them.
-fn inside_of(pairs: &[Prepared], place: u32, w: NodeId, q: NodeId) -> Option<&Prepared>
-    ensures { (writer reader : List Node) → ArePrepared writer reader pairs.now
+/// What is kept at an index, if it is of these two nodes and is kept inside them.
+fn inside_of(pairs: &[Comparison], index: u32, w: NodeId, q: NodeId) -> Option<&Comparison>
+    ensures { (writer reader : List Node) → AreComparisons writer reader pairs.now
         → IfSome result (λ p. AreInside (node_at writer w.0) (node_at reader q.0) p.now) }
 {
-    match pair_of(pairs, place, w, q) {
+    match pair_of(pairs, index, w, q) {
         Some(pair) => match pair.aim {
             Aim::To(None, _) => Some(pair),
             Aim::To(Some(_), _) => None,
@@ -44,57 +44,57 @@ fn inside_of(pairs: &[Prepared], place: u32, w: NodeId, q: NodeId) -> Option<&Pr
     }
 }
 
-/// Where a pair of nodes leads, as it is kept at a place or else by name.
+/// Where a pair of nodes leads, as it is kept at an index or else by name.
 pub fn aim_kept(
-    pairs: &[Prepared],
-    place: u32,
+    pairs: &[Comparison],
+    index: u32,
     writer: &Schema,
     w: NodeId,
     reader: &Schema,
     r: NodeId,
 ) -> Aim
-    requires { ArePrepared (schema_nodes writer.now) (schema_nodes reader.now) pairs.now }
+    requires { AreComparisons (schema_nodes writer.now) (schema_nodes reader.now) pairs.now }
     ensures { IsAim (schema_nodes writer.now) (schema_nodes reader.now)
         (node_at (schema_nodes writer.now) w.0) (node_at (schema_nodes reader.now) r.0) result }
 {
-    match pair_of(pairs, place, w, r) {
+    match pair_of(pairs, index, w, r) {
         Some(pair) => pair.aim,
         None => aim(writer, w, reader, r),
     }
 }
 
-/// The reader's first field without a source and a default, as it is kept at a place or else by name.
+/// The reader's first field without a source and a default, as it is kept at an index or else by name.
 pub fn missing_kept(
-    pairs: &[Prepared],
-    place: u32,
+    pairs: &[Comparison],
+    index: u32,
     writer: &Schema,
     w: NodeId,
     reader: &Schema,
     q: NodeId,
 ) -> Option<usize>
-    requires { ArePrepared (schema_nodes writer.now) (schema_nodes reader.now) pairs.now }
+    requires { AreComparisons (schema_nodes writer.now) (schema_nodes reader.now) pairs.now }
     ensures { result ≡ missing_field (fields_at (node_at (schema_nodes writer.now) w.0)) (fields_at (node_at (schema_nodes reader.now) q.0)) }
 {
-    match inside_of(pairs, place, w, q) {
+    match inside_of(pairs, index, w, q) {
         Some(pair) => pair.missing,
         None => missing(fields_of(writer, w), fields_of(reader, q)),
     }
 }
 
-/// What the writer's field at a place of its record is for, as it is kept or else by name.
+/// What a writer's field, by its index in its record, is for, as it is kept or else by name.
 pub fn field_kept(
-    pairs: &[Prepared],
-    place: u32,
+    pairs: &[Comparison],
+    index: u32,
     writer: &Schema,
     w: NodeId,
     reader: &Schema,
     q: NodeId,
     field: usize,
 ) -> At
-    requires { ArePrepared (schema_nodes writer.now) (schema_nodes reader.now) pairs.now }
+    requires { AreComparisons (schema_nodes writer.now) (schema_nodes reader.now) pairs.now }
     ensures { result ≡ field_for (fields_at (node_at (schema_nodes writer.now) w.0)) (fields_at (node_at (schema_nodes reader.now) q.0)) field }
 {
-    match inside_of(pairs, place, w, q) {
+    match inside_of(pairs, index, w, q) {
         Some(pair) => {
             if field < pair.fields.len() {
                 return pair.fields[field];
@@ -105,38 +105,38 @@ pub fn field_kept(
     part_for(fields_of(writer, w), fields_of(reader, q), field)
 }
 
-/// The sources of the reader's fields, as far as they are kept at a place.
+/// The sources of the reader's fields, as far as they are kept at an index.
 pub fn sources_kept<'p>(
-    pairs: &'p [Prepared],
-    place: u32,
+    pairs: &'p [Comparison],
+    index: u32,
     writer: &Schema,
     w: NodeId,
     reader: &Schema,
     q: NodeId,
 ) -> &'p [Option<usize>]
-    requires { ArePrepared (schema_nodes writer.now) (schema_nodes reader.now) pairs.now }
+    requires { AreComparisons (schema_nodes writer.now) (schema_nodes reader.now) pairs.now }
     ensures { AreSources (fields_at (node_at (schema_nodes writer.now) w.0)) (fields_at (node_at (schema_nodes reader.now) q.0)) result.now }
 {
-    match inside_of(pairs, place, w, q) {
+    match inside_of(pairs, index, w, q) {
         Some(pair) => &pair.sources,
         None => &[],
     }
 }
 
-/// The reader's symbol for a writer's, as it is kept at a place or else by name.
+/// The reader's symbol for a writer's, as it is kept at an index or else by name.
 pub fn symbol_kept(
-    pairs: &[Prepared],
-    place: u32,
+    pairs: &[Comparison],
+    index: u32,
     writer: &Schema,
     w: NodeId,
     symbol: u32,
     reader: &Schema,
     q: NodeId,
 ) -> Option<u32>
-    requires { ArePrepared (schema_nodes writer.now) (schema_nodes reader.now) pairs.now }
+    requires { AreComparisons (schema_nodes writer.now) (schema_nodes reader.now) pairs.now }
     ensures { IsSymbol (enum_as (symbol_at (node_at (schema_nodes writer.now) w.0) symbol) (node_at (schema_nodes reader.now) q.0)) result }
 {
-    match inside_of(pairs, place, w, q) {
+    match inside_of(pairs, index, w, q) {
         Some(pair) => {
             if (symbol as usize) < pair.symbols.len() {
                 return pair.symbols[symbol as usize];

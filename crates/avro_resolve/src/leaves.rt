@@ -29,7 +29,7 @@ pub fn leaf(
         Datum::Bytes(bytes) => bytes_as(alloc, reader, q, bytes),
         Datum::Str(text) => string_as(alloc, reader, q, text),
         Datum::Enum(symbol) => match symbol_for(writer, w, *symbol, reader, q) {
-            Some(place) => Ok(Datum::Enum(place)),
+            Some(symbol) => Ok(Datum::Enum(symbol)),
             None => Err(fault_here(alloc, FaultKind::NoSymbol)),
         },
         Datum::Null
@@ -154,8 +154,8 @@ pub fn wrapped(
     };
     match branch {
         None => Ok(datum),
-        Some(place) => match Box::new(alloc, datum) {
-            Ok(value) => Ok(Datum::Union(place, value)),
+        Some(branch) => match Box::new(alloc, datum) {
+            Ok(value) => Ok(Datum::Union(branch, value)),
             Err(_) => Err(ResolveError::Memory),
         },
     }

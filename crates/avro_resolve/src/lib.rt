@@ -5,7 +5,7 @@
 //! read once: a builder gets each part as it is for the reader, and no writer's datum is made.
 //! [`decode_resolved`] is the same with the datum as the answer.
 //!
-//! [`prepare`] finds what two nodes are to each other, by [`Names`], the tables of names of two schemas. A
+//! [`compare`] finds what two nodes are to each other, by [`Names`], the tables of names of two schemas. A
 //! [`PlanTable`] keeps what was found of some pairs of nodes: of those that it is given, or of those that the
 //! roots lead to. A [`Plan`] reads as [`read_resolved`] does, by such a table beside its schemas; a [`PlanRef`]
 //! borrows both.
@@ -33,8 +33,8 @@ mod parts;
 mod plan;
 mod plan_ref;
 mod plan_table;
-mod prepared;
-mod preparing;
+mod comparing;
+mod comparison;
 mod read;
 mod recording;
 mod resolution;
@@ -55,8 +55,8 @@ pub use pairs::first_match;
 pub use plan::Plan;
 pub use plan_ref::PlanRef;
 pub use plan_table::PlanTable;
-pub use prepared::Prepared;
-pub use preparing::prepare;
+pub use comparing::compare;
+pub use comparison::Comparison;
 pub use read::{decode_resolved, read_resolved};
 pub use resolution::resolve;
 pub use sourcing::source;

@@ -2,7 +2,7 @@ ghost use Rattle.std.specs.Prelude.{IfOk, Ok};
 ghost use Rattle.avro_schema.specs.Node.{node_at};
 ghost use Rattle.avro_schema.specs.SeenSchema.{schema_nodes};
 ghost use Rattle.avro_schema.specs.Value.{Value};
-ghost use Rattle.avro_resolve.specs.Guided.{MadeAs};
+ghost use Rattle.avro_resolve.specs.inside.Guided.{MadeAs};
 ghost use Rattle.avro_resolve.specs.Pairs.{IsSymbol, wrapped as in_branch};
 ghost use Rattle.avro_resolve.specs.Resolve.{Resolved, bytes_as as kept_bytes, int_as as kept_int, string_as as kept_string};
 
@@ -26,7 +26,7 @@ pub fn wrap<B: Build>(
 {
     match branch {
         None => Ok(Made::Good(out)),
-        Some(place) => Ok(Made::Good(builder.branch(alloc, place, out)?)),
+        Some(branch) => Ok(Made::Good(builder.branch(alloc, branch, out)?)),
     }
 }
 
@@ -104,8 +104,8 @@ pub fn make_symbol<B: Build>(
     ensures { (resolved : Resolved) → IsSymbol resolved symbol → IfOk result (λ made. MadeAs B.stands_for made (in_branch branch resolved)) }
 {
     match symbol {
-        Some(place) => {
-            let out = builder.symbol(alloc, place)?;
+        Some(symbol) => {
+            let out = builder.symbol(alloc, symbol)?;
             wrap(alloc, builder, branch, out)
         }
         None => Ok(Made::Faulty(faulty(alloc, FaultKind::NoSymbol))),

@@ -11,7 +11,7 @@ use avro_schema::{Node, NodeId, Schema};
 
 /// Whether a writer's node and a reader's match (Avro 1.11, "Schema Resolution"): whether data of the
 /// one may resolve into the other, as far as the two nodes and the items or values under them say.
-/// A place without a node is that of null.
+/// An id without a node is that of null.
 pub fn matches(writer: &Schema, w: NodeId, reader: &Schema, r: NodeId) -> bool
     ensures test { result ≡ is_match (schema_nodes writer.now) (schema_nodes reader.now)
         (node_at (schema_nodes writer.now) w.0) (node_at (schema_nodes reader.now) r.0) }
@@ -43,7 +43,7 @@ fn match_within(steps: usize, writer: &Schema, w: NodeId, reader: &Schema, r: No
     }
 }
 
-/// What two nodes at places say of their match.
+/// What the nodes of two ids say of their match.
 fn step(writer: &Schema, w: NodeId, reader: &Schema, r: NodeId) -> Step
     ensures { IsStep (schema_nodes writer.now) (schema_nodes reader.now)
         (node_at (schema_nodes writer.now) w.0) (node_at (schema_nodes reader.now) r.0) result }
@@ -55,7 +55,7 @@ fn step(writer: &Schema, w: NodeId, reader: &Schema, r: NodeId) -> Step
     }
 }
 
-/// What a node and one at a place say of their match.
+/// What a node and that of an id say of their match.
 fn step_to(a: &Node, reader: &Schema, r: NodeId) -> Step
     ensures { (writer : List SeenNode) → IsStep writer (schema_nodes reader.now)
         (node_of a.now) (node_at (schema_nodes reader.now) r.0) result }

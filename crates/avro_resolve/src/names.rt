@@ -28,7 +28,7 @@ impl<'a> Model for Names<'a> {
     ghost use Rattle.avro_schema.specs.contracts.datum.Datum as datum;
     ghost use Rattle.avro_schema.specs.declared.schema.Schema.{Schema};
     ghost use Rattle.avro_schema.specs.SeenSchema.{schema_nodes};
-    ghost use Rattle.avro_resolve.specs.NameTables.{AreUnionTables, AreFieldTables, AreSymbolTables};
+    ghost use Rattle.avro_resolve.specs.inside.NameTables.{AreUnionTables, AreFieldTables, AreSymbolTables};
 
     ghost Value = { Schema × Schema };
 
@@ -47,7 +47,7 @@ impl<'a> Names<'a> {
     ghost use Rattle.avro_schema.specs.Seen.{field_of};
     ghost use Rattle.avro_schema.specs.SeenSchema.{schema_nodes};
     ghost use Rattle.avro_resolve.specs.Match.{first_match_at};
-    ghost use Rattle.avro_resolve.specs.NameTables.{StartsAt};
+    ghost use Rattle.avro_resolve.specs.inside.NameTables.{StartsAt};
     ghost use Rattle.avro_resolve.specs.Pairs.{IsSymbol, aim_at};
     ghost use Rattle.avro_resolve.specs.Resolve.{enum_as, fields_at};
     ghost use Rattle.avro_resolve.specs.Source.{source_of};
@@ -85,7 +85,7 @@ impl<'a> Names<'a> {
         }
     }
 
-    /// The first branch of a reader's union that matches a writer's node, by its place among the branches, as
+    /// The first branch of a reader's union that matches a writer's node, by its index among the branches, as
     /// [`first_match`](crate::first_match) answers it.
     pub fn first_match(&self, w: NodeId, r: NodeId) -> Option<usize>
         ensures { result ≡ first_match_at (schema_nodes self.now.0) (schema_nodes self.now.1)
@@ -95,7 +95,7 @@ impl<'a> Names<'a> {
         first_match_after(self.writer, w, self.reader, r, start)
     }
 
-    /// The place of the field of a writer's record that a reader's field takes its value from, as
+    /// The index of the field of a writer's record that a reader's field takes its value from, as
     /// [`source`](crate::source) answers it; none at another writer's node.
     pub fn source(&self, w: NodeId, field: &Field) -> Option<usize>
         ensures { result ≡ source_of (fields_at (node_at (schema_nodes self.now.0) w.0)) (field_of field.now) }
@@ -103,7 +103,7 @@ impl<'a> Names<'a> {
         source_by(&self.fields, self.writer, w, field)
     }
 
-    /// The place of a symbol of a reader's enum, or of its default; none at another reader's node.
+    /// The index of a symbol of a reader's enum, or of its default; none at another reader's node.
     pub fn symbol(&self, symbol: &str, q: NodeId) -> Option<u32>
         ensures { IsSymbol (enum_as symbol.now (node_at (schema_nodes self.now.1) q.0)) result }
     {
@@ -132,7 +132,7 @@ impl<'a> Names<'a> {
         self.reader
     }
 
-    /// A place of a reader's union before which no branch matches a writer's node.
+    /// An index in a reader's union before which no branch matches a writer's node.
     fn start(&self, w: NodeId, r: NodeId) -> usize
         ensures { StartsAt (schema_nodes self.now.0) (schema_nodes self.now.1)
             (node_at (schema_nodes self.now.0) w.0) (node_at (schema_nodes self.now.1) r.0) result }

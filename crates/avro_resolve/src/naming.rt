@@ -2,14 +2,14 @@ ghost use Rattle.std.specs.Prelude.{◌≡◌, List, IfOk};
 ghost use Rattle.avro_schema.specs.Node.{FieldNode};
 ghost use Rattle.avro_schema.specs.Seen.{field_of, seen_fields, texts_of};
 ghost use Rattle.avro_resolve.specs.Planned.{FindsFields, FindsSymbols};
-ghost use Rattle.avro_resolve.specs.Source.{field_place, source_of};
+ghost use Rattle.avro_resolve.specs.Source.{field_index, source_of};
 
 use avro_schema::Field;
 use std::alloc::{AllocError, Global};
 use std::collections::BTreeMap;
 
-/// The place of each field, to look names up in. Fields are gone through from the last, so that the first
-/// place of a name stays.
+/// The index of each field, to look names up in. Fields are gone through from the last, so that the first
+/// index of a name stays.
 ///
 /// # Errors
 ///
@@ -24,15 +24,12 @@ pub fn field_names<'f>(
     let mut left = fields.len();
     while left > 0 {
         left -= 1;
-        match names.insert(fields[left].name.as_str(), left) {
-            Ok(_) => {}
-            Err(_) => return Err(AllocError),
-        }
+        names.insert(fields[left].name.as_str(), left)?;
     }
     Ok(names)
 }
 
-/// The place of each symbol, to look symbols up in.
+/// The index of each symbol, to look symbols up in.
 ///
 /// # Errors
 ///
@@ -47,33 +44,30 @@ pub fn symbol_names<'s>(
     let mut left = symbols.len();
     while left > 0 {
         left -= 1;
-        match names.insert(symbols[left].as_str(), left) {
-            Ok(_) => {}
-            Err(_) => return Err(AllocError),
-        }
+        names.insert(symbols[left].as_str(), left)?;
     }
     Ok(names)
 }
 
-/// The place of the field of a name, by the names of the fields.
-fn place_in(names: &BTreeMap<&str, usize>, name: &str) -> Option<usize>
-    ensures { (fields : List FieldNode) → FindsFields fields names.now → result ≡ field_place fields name.now }
+/// The index of the field of a name, by the names of the fields.
+fn index_in(names: &BTreeMap<&str, usize>, name: &str) -> Option<usize>
+    ensures { (fields : List FieldNode) → FindsFields fields names.now → result ≡ field_index fields name.now }
 {
     names.get(name).copied()
 }
 
-/// The place of the field that a reader's field takes its value from, by the names of the writer's fields.
+/// The index of the field that a reader's field takes its value from, by the names of the writer's fields.
 pub fn source_in(names: &BTreeMap<&str, usize>, writes: &[Field], f: &Field) -> Option<usize>
     requires { FindsFields (seen_fields writes.now) names.now }
     ensures { result ≡ source_of (seen_fields writes.now) (field_of f.now) }
 {
-    match place_in(names, f.name.as_str()) {
-        Some(place) => return Some(place),
+    match index_in(names, f.name.as_str()) {
+        Some(index) => return Some(index),
         None => {}
     }
     for alias in &f.aliases {
-        match place_in(names, alias.as_str()) {
-            Some(place) => return Some(place),
+        match index_in(names, alias.as_str()) {
+            Some(index) => return Some(index),
             None => {}
         }
     }

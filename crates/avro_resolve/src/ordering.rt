@@ -1,27 +1,27 @@
 use crate::guided::{Aim, At};
 use crate::parts::{items_of, values_of};
-use crate::prepared::Prepared;
+use crate::comparison::Comparison;
 use avro_schema::{Memory, Node, NodeId, Schema};
 use std::alloc::Global;
 
-/// A pair of nodes, and its place among those of a plan.
-pub type PlacedPair = (NodeId, NodeId, u32);
+/// A pair of nodes, and its index among those of a plan.
+pub type IndexedPair = (NodeId, NodeId, u32);
 
-/// The pairs that are kept, in order, each with its place.
-fn in_order(alloc: Global, pairs: &[Prepared]) -> Result<Vec<PlacedPair>, Memory> {
+/// The pairs that are kept, in order, each with its index.
+fn in_order(alloc: Global, pairs: &[Comparison]) -> Result<Vec<IndexedPair>, Memory> {
     let mut order = Vec::new(alloc);
-    let mut place = 0u32;
+    let mut index = 0u32;
     for pair in pairs {
-        order.push((pair.w, pair.r, place))?;
-        place = place.saturating_add(1);
+        order.push((pair.w, pair.r, index))?;
+        index = index.saturating_add(1);
     }
     order.sort_unstable();
     Ok(order)
 }
 
-/// The place of a pair, and 0 where it is not among them. What is kept at a place says itself which pair
+/// The index of a pair, and 0 where it is not among them. What is kept at an index says itself which pair
 /// it is of.
-fn place_in(order: &[PlacedPair], w: NodeId, r: NodeId) -> u32 {
+fn index_in(order: &[IndexedPair], w: NodeId, r: NodeId) -> u32 {
     let at = match order.binary_search(&(w, r, 0)) {
         Ok(at) => at,
         Err(at) => at,
@@ -39,7 +39,7 @@ fn place_in(order: &[PlacedPair], w: NodeId, r: NodeId) -> u32 {
 }
 
 /// How many parts a pair of nodes has: none where nothing is made of them.
-pub fn count_of_parts(writer: &Schema, pair: &Prepared) -> usize {
+pub fn count_of_parts(writer: &Schema, pair: &Comparison) -> usize {
     if !writer.has(pair.w) {
         return 0;
     }
@@ -54,7 +54,7 @@ pub fn count_of_parts(writer: &Schema, pair: &Prepared) -> usize {
 }
 
 /// The same of a pair that leads to the reader's node itself.
-fn count_inside(node: &Node, pair: &Prepared) -> usize {
+fn count_inside(node: &Node, pair: &Comparison) -> usize {
     if pair.missing.is_some() {
         return 0;
     }
@@ -68,7 +68,7 @@ fn count_inside(node: &Node, pair: &Prepared) -> usize {
 
 /// What a part of a pair of nodes is for: its items, its values, one of its branches or one of its fields,
 /// or the branch of the reader's that the pair leads to.
-pub fn part_at(writer: &Schema, reader: &Schema, pair: &Prepared, part: usize) -> At {
+pub fn part_at(writer: &Schema, reader: &Schema, pair: &Comparison, part: usize) -> At {
     if !writer.has(pair.w) {
         return At::Ignored;
     }
@@ -86,7 +86,7 @@ pub fn part_at(writer: &Schema, reader: &Schema, pair: &Prepared, part: usize) -
 }
 
 /// The same of a pair that leads to the reader's node itself.
-fn part_inside(node: &Node, reader: &Schema, pair: &Prepared, part: usize) -> At {
+fn part_inside(node: &Node, reader: &Schema, pair: &Comparison, part: usize) -> At {
     match node {
         Node::Array(items) => At::Pair(*items, items_of(reader, pair.r)),
         Node::Map(values) => At::Pair(*values, values_of(reader, pair.r)),
@@ -98,37 +98,37 @@ fn part_inside(node: &Node, reader: &Schema, pair: &Prepared, part: usize) -> At
     }
 }
 
-/// The places of the pairs of the parts of each pair, and the place of the roots' pair.
-pub fn ids_of(
+/// The indices of the pairs of the parts of each pair, and the index of the roots' pair.
+pub fn indices_of(
     alloc: Global,
     writer: &Schema,
     reader: &Schema,
-    pairs: &[Prepared],
+    pairs: &[Comparison],
 ) -> Result<(Vec<Vec<u32>>, u32), Memory> {
     let order = in_order(alloc, pairs)?;
-    let root = place_in(&order, writer.root(), reader.root());
-    let mut places = Vec::new(alloc);
+    let root = index_in(&order, writer.root(), reader.root());
+    let mut indices = Vec::new(alloc);
     for pair in pairs {
-        places.push(places_of_parts(alloc, writer, reader, pair, &order)?)?;
+        indices.push(indices_of_parts(alloc, writer, reader, pair, &order)?)?;
     }
-    Ok((places, root))
+    Ok((indices, root))
 }
 
-/// The places of the pairs of the parts of a pair.
-fn places_of_parts(
+/// The indices of the pairs of the parts of a pair.
+fn indices_of_parts(
     alloc: Global,
     writer: &Schema,
     reader: &Schema,
-    pair: &Prepared,
-    order: &[PlacedPair],
+    pair: &Comparison,
+    order: &[IndexedPair],
 ) -> Result<Vec<u32>, Memory> {
     let mut parts = Vec::new(alloc);
     for part in 0..count_of_parts(writer, pair) {
-        let place = match part_at(writer, reader, pair, part) {
+        let index = match part_at(writer, reader, pair, part) {
             At::Ignored => 0,
-            At::Pair(w, r) => place_in(order, w, r),
+            At::Pair(w, r) => index_in(order, w, r),
         };
-        parts.push(place)?;
+        parts.push(index)?;
     }
     Ok(parts)
 }

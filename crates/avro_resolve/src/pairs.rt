@@ -3,7 +3,7 @@ ghost use Rattle.avro_schema.specs.Node.{Node as SeenNode, node_at};
 ghost use Rattle.avro_schema.specs.Seen.{node_of, ids_of};
 ghost use Rattle.avro_schema.specs.SeenSchema.{schema_nodes};
 ghost use Rattle.avro_resolve.specs.Match.{first_match_at};
-ghost use Rattle.avro_resolve.specs.NameTables.{StartsAt};
+ghost use Rattle.avro_resolve.specs.inside.NameTables.{StartsAt};
 ghost use Rattle.avro_resolve.specs.Pairs.{IsAim, IsFirst, aim_at};
 ghost use Rattle.avro_binary.proofs.public.Choices.{HasFewChoices};
 
@@ -12,7 +12,7 @@ use crate::guided::Aim;
 use crate::matching::matches;
 use avro_schema::{Node, NodeId, Schema};
 
-/// The first branch of a reader's union that matches a writer's node, by its place among the
+/// The first branch of a reader's union that matches a writer's node, by its index among the
 /// branches; none at another reader's node.
 pub fn first_match(writer: &Schema, w: NodeId, reader: &Schema, r: NodeId) -> Option<usize>
     ensures { result ≡ first_match_at (schema_nodes writer.now) (schema_nodes reader.now)
@@ -21,7 +21,7 @@ pub fn first_match(writer: &Schema, w: NodeId, reader: &Schema, r: NodeId) -> Op
     first_match_after(writer, w, reader, r, 0)
 }
 
-/// The same, where no branch before a place matches.
+/// The same, where no branch before an index matches.
 pub fn first_match_after(
     writer: &Schema,
     w: NodeId,
@@ -46,7 +46,7 @@ pub fn first_match_after(
     }
 }
 
-/// The first of a reader's branches that matches a writer's node, with its node. No branch before a place
+/// The first of a reader's branches that matches a writer's node, with its node. No branch before an index
 /// matches.
 fn first_matched(
     writer: &Schema,
@@ -60,10 +60,10 @@ fn first_matched(
     ensures { IsFirst (schema_nodes writer.now) (schema_nodes reader.now)
         (node_at (schema_nodes writer.now) w.0) (ids_of branches.now) result }
 {
-    for place in start..branches.len() {
-        let branch = branches[place];
+    for index in start..branches.len() {
+        let branch = branches[index];
         if matches(writer, w, reader, branch) {
-            return Some((place, branch));
+            return Some((index, branch));
         }
     }
     None
@@ -77,7 +77,7 @@ pub fn aim(writer: &Schema, w: NodeId, reader: &Schema, r: NodeId) -> Aim
     aim_after(writer, w, reader, r, 0)
 }
 
-/// The same, where no branch before a place matches.
+/// The same, where no branch before an index matches.
 pub fn aim_after(writer: &Schema, w: NodeId, reader: &Schema, r: NodeId, start: usize) -> Aim
     requires { StartsAt (schema_nodes writer.now) (schema_nodes reader.now)
         (node_at (schema_nodes writer.now) w.0) (node_at (schema_nodes reader.now) r.0) start }

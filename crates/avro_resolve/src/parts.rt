@@ -40,7 +40,7 @@ pub fn branch_of(schema: &Schema, id: NodeId, branch: u32) -> NodeId
     }
     match schema.node(id) {
         Node::Union(branches) => match branches.get(branch as usize) {
-            Some(place) => *place,
+            Some(part) => *part,
             None => NodeId(0),
         },
         _ => NodeId(0),

@@ -1,7 +1,7 @@
 use crate::error::ReadResolveError;
 use crate::plan_ref::PlanRef;
 use crate::plan_table::PlanTable;
-use crate::preparing::prepare_all;
+use crate::comparing::compare_all;
 use avro_binary::Build;
 use avro_schema::{Limits, Memory, NodeId, Schema};
 use std::alloc::Global;
@@ -52,7 +52,7 @@ impl<'a> Plan<'a> {
     ) -> Result<Plan<'a>, Memory>
         ensures { IfOk result (λ plan. plan ≡ (writer.now, reader.now)) }
     {
-        let kept = prepare_all(alloc, writer, reader, pairs)?;
+        let kept = compare_all(alloc, writer, reader, pairs)?;
         let table = PlanTable::of(alloc, writer, reader, kept)?;
         Ok(Plan::of(writer, reader, table))
     }

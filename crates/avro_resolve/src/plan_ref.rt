@@ -2,7 +2,7 @@ use crate::error::ReadResolveError;
 use crate::guided::{Aim, At, Part};
 use crate::keeping::{aim_kept, field_kept, missing_kept, sources_kept, symbol_kept};
 use crate::parts::{branch_of, items_of, values_of};
-use crate::prepared::Prepared;
+use crate::comparison::Comparison;
 use crate::read::read_planned;
 use avro_binary::Build;
 use avro_schema::{Limits, NodeId, Schema};
@@ -14,7 +14,7 @@ use std::marker::Model;
 pub struct PlanRef<'a> {
     writer: &'a Schema,
     reader: &'a Schema,
-    pairs: &'a [Prepared],
+    pairs: &'a [Comparison],
     parts: &'a [Vec<u32>],
     root: u32,
 }
@@ -24,7 +24,7 @@ impl<'a> Model for PlanRef<'a> {
     ghost use Rattle.avro_schema.specs.contracts.datum.Datum as datum;
     ghost use Rattle.avro_schema.specs.declared.schema.Schema.{Schema};
     ghost use Rattle.avro_schema.specs.SeenSchema.{schema_nodes};
-    ghost use Rattle.avro_resolve.specs.Planned.{ArePrepared};
+    ghost use Rattle.avro_resolve.specs.Planned.{AreComparisons};
 
     ghost Value = { Schema × Schema };
 
@@ -32,29 +32,30 @@ impl<'a> Model for PlanRef<'a> {
 
     ghost view = { λ p. (p.writer.now, p.reader.now) };
 
-    ghost invariant = { λ p. ArePrepared (schema_nodes p.writer.now) (schema_nodes p.reader.now) p.pairs.now };
+    ghost invariant = { λ p. AreComparisons (schema_nodes p.writer.now) (schema_nodes p.reader.now) p.pairs.now };
 }
 
 impl<'a> PlanRef<'a> {
     ghost use Rattle.std.specs.Prelude.{◌≡◌, IfOk};
     ghost use Rattle.avro_schema.specs.Node.{node_at};
     ghost use Rattle.avro_schema.specs.SeenSchema.{schema_nodes};
+    ghost use Rattle.avro_resolve.specs.inside.Guided.{branch_part};
     ghost use Rattle.avro_resolve.specs.Pairs.{IsAim, IsSymbol, field_for, item_id, value_id, branch_id};
-    ghost use Rattle.avro_resolve.specs.Planned.{ArePrepared, AreSources};
+    ghost use Rattle.avro_resolve.specs.Planned.{AreComparisons, AreSources};
     ghost use Rattle.avro_resolve.specs.Reading.{BuildsResolved};
     ghost use Rattle.avro_resolve.specs.Resolve.{enum_as, fields_at, symbol_at};
     ghost use Rattle.avro_resolve.specs.Source.{missing_field};
 
-    /// The plan of two schemas that keeps these pairs, with the places of the pairs of their parts, and the
-    /// roots' at a place if at all.
+    /// The plan of two schemas that keeps these pairs, with the indices of the pairs of their parts, and the
+    /// roots' at an index if at all.
     pub(crate) fn new(
         writer: &'a Schema,
         reader: &'a Schema,
-        pairs: &'a [Prepared],
+        pairs: &'a [Comparison],
         parts: &'a [Vec<u32>],
         root: u32,
     ) -> PlanRef<'a>
-        requires { ArePrepared (schema_nodes writer.now) (schema_nodes reader.now) pairs.now }
+        requires { AreComparisons (schema_nodes writer.now) (schema_nodes reader.now) pairs.now }
         ensures { result ≡ (writer.now, reader.now) }
     {
         PlanRef {
@@ -103,16 +104,16 @@ impl<'a> PlanRef<'a> {
     }
 
     /// Where the pair of a part may be kept.
-    pub(crate) fn place_of(&self, part: Part) -> u32 {
+    pub(crate) fn index_of(&self, part: Part) -> u32 {
         match part.branch {
-            Some(branch) => self.place_below(part.place, branch as usize),
-            None => part.place,
+            Some(branch) => self.index_below(part.index, branch as usize),
+            None => part.index,
         }
     }
 
-    /// Where the pair of a part of the pair at a place may be kept.
-    pub(crate) fn place_below(&self, place: u32, part: usize) -> u32 {
-        match self.parts.get(place as usize) {
+    /// Where the pair of a part of the pair at an index may be kept.
+    pub(crate) fn index_below(&self, index: u32, part: usize) -> u32 {
+        match self.parts.get(index as usize) {
             Some(parts) => match parts.get(part) {
                 Some(below) => *below,
                 None => 0,
@@ -121,20 +122,20 @@ impl<'a> PlanRef<'a> {
         }
     }
 
-    /// Where the pair may be kept that the pair at a place leads to, by a branch of the reader's where there is one.
-    pub(crate) fn place_to(&self, place: u32, branch: Option<u32>) -> u32 {
+    /// Where the pair may be kept that the pair at an index leads to, by a branch of the reader's where there is one.
+    pub(crate) fn index_to(&self, index: u32, branch: Option<u32>) -> u32 {
         match branch {
-            Some(_) => self.place_below(place, 0),
-            None => place,
+            Some(_) => self.index_below(index, 0),
+            None => index,
         }
     }
 
     /// Where a pair of nodes leads.
-    pub(crate) fn aim(&self, place: u32, w: NodeId, r: NodeId) -> Aim
+    pub(crate) fn aim(&self, index: u32, w: NodeId, r: NodeId) -> Aim
         ensures { IsAim (schema_nodes self.now.0) (schema_nodes self.now.1)
             (node_at (schema_nodes self.now.0) w.0) (node_at (schema_nodes self.now.1) r.0) result }
     {
-        aim_kept(self.pairs, place, self.writer, w, self.reader, r)
+        aim_kept(self.pairs, index, self.writer, w, self.reader, r)
     }
 
     /// The nodes of the items of two nodes.
@@ -160,31 +161,46 @@ impl<'a> PlanRef<'a> {
         branch_of(self.writer, w, branch)
     }
 
-    /// The reader's first field without a source and a default.
-    pub(crate) fn missing(&self, place: u32, w: NodeId, q: NodeId) -> Option<usize>
-        ensures { result ≡ missing_field (fields_at (node_at (schema_nodes self.now.0) w.0)) (fields_at (node_at (schema_nodes self.now.1) q.0)) }
+    /// What the value of a branch of a part is for.
+    pub(crate) fn part_of_branch(&self, part: Part, branch: u32) -> Part
+        ensures { result ≡ branch_part (schema_nodes self.now.0) part branch }
     {
-        missing_kept(self.pairs, place, self.writer, w, self.reader, q)
+        let at = match part.at {
+            At::Ignored => At::Ignored,
+            At::Pair(w, r) => At::Pair(self.branch(w, branch), r),
+        };
+        Part {
+            at,
+            index: part.index,
+            branch: Some(branch),
+        }
     }
 
-    /// What the writer's field at a place is for.
-    pub(crate) fn field(&self, place: u32, w: NodeId, q: NodeId, field: usize) -> At
+    /// The reader's first field without a source and a default.
+    pub(crate) fn missing(&self, index: u32, w: NodeId, q: NodeId) -> Option<usize>
+        ensures { result ≡ missing_field (fields_at (node_at (schema_nodes self.now.0) w.0)) (fields_at (node_at (schema_nodes self.now.1) q.0)) }
+    {
+        missing_kept(self.pairs, index, self.writer, w, self.reader, q)
+    }
+
+    /// What the writer's field at an index is for.
+    pub(crate) fn field(&self, index: u32, w: NodeId, q: NodeId, field: usize) -> At
         ensures { result ≡ field_for (fields_at (node_at (schema_nodes self.now.0) w.0)) (fields_at (node_at (schema_nodes self.now.1) q.0)) field }
     {
-        field_kept(self.pairs, place, self.writer, w, self.reader, q, field)
+        field_kept(self.pairs, index, self.writer, w, self.reader, q, field)
     }
 
     /// The sources of the reader's fields, as far as they are kept.
-    pub(crate) fn sources(&self, place: u32, w: NodeId, q: NodeId) -> &[Option<usize>]
+    pub(crate) fn sources(&self, index: u32, w: NodeId, q: NodeId) -> &[Option<usize>]
         ensures { AreSources (fields_at (node_at (schema_nodes self.now.0) w.0)) (fields_at (node_at (schema_nodes self.now.1) q.0)) result.now }
     {
-        sources_kept(self.pairs, place, self.writer, w, self.reader, q)
+        sources_kept(self.pairs, index, self.writer, w, self.reader, q)
     }
 
     /// The reader's symbol for a writer's.
-    pub(crate) fn symbol(&self, place: u32, w: NodeId, symbol: u32, q: NodeId) -> Option<u32>
+    pub(crate) fn symbol(&self, index: u32, w: NodeId, symbol: u32, q: NodeId) -> Option<u32>
         ensures { IsSymbol (enum_as (symbol_at (node_at (schema_nodes self.now.0) w.0) symbol) (node_at (schema_nodes self.now.1) q.0)) result }
     {
-        symbol_kept(self.pairs, place, self.writer, w, symbol, self.reader, q)
+        symbol_kept(self.pairs, index, self.writer, w, symbol, self.reader, q)
     }
 }

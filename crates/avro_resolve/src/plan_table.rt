@@ -1,14 +1,14 @@
-use crate::ordering::ids_of;
+use crate::ordering::indices_of;
 use crate::plan_ref::PlanRef;
-use crate::prepared::Prepared;
-use crate::walking::prepare_reached;
+use crate::comparison::Comparison;
+use crate::walking::compare_reached;
 use avro_schema::{Memory, Schema};
 use std::alloc::Global;
 
 /// What a plan keeps of pairs of nodes of two schemas, without the schemas.
 #[derive(Debug, Drop)]
 pub struct PlanTable {
-    pub(crate) pairs: Vec<Prepared>,
+    pub(crate) pairs: Vec<Comparison>,
     parts: Vec<Vec<u32>>,
     root: u32,
 }
@@ -16,10 +16,10 @@ pub struct PlanTable {
 impl PlanTable {
     ghost use Rattle.std.specs.Prelude.{◌≡◌, IfOk};
     ghost use Rattle.avro_schema.specs.SeenSchema.{schema_nodes};
-    ghost use Rattle.avro_resolve.specs.Planned.{ArePrepared};
+    ghost use Rattle.avro_resolve.specs.Planned.{AreComparisons};
     ghost use Rattle.avro_resolve.specs.Tables.{IsTableOf};
 
-    /// What a plan keeps of these pairs of nodes, each as [`prepare`](crate::prepare) found it.
+    /// What a plan keeps of these pairs of nodes, each as [`compare`](crate::compare) found it.
     ///
     /// # Errors
     ///
@@ -28,12 +28,12 @@ impl PlanTable {
         alloc: Global,
         writer: &Schema,
         reader: &Schema,
-        pairs: Vec<Prepared>,
+        pairs: Vec<Comparison>,
     ) -> Result<PlanTable, Memory>
-        requires { ArePrepared (schema_nodes writer.now) (schema_nodes reader.now) pairs.items }
+        requires { AreComparisons (schema_nodes writer.now) (schema_nodes reader.now) pairs.items }
         ensures { IfOk result (λ table. IsTableOf (schema_nodes writer.now) (schema_nodes reader.now) table) }
     {
-        let (parts, root) = ids_of(alloc, writer, reader, &pairs)?;
+        let (parts, root) = indices_of(alloc, writer, reader, &pairs)?;
         Ok(PlanTable { pairs, parts, root })
     }
 
@@ -45,7 +45,7 @@ impl PlanTable {
     pub fn reached(alloc: Global, writer: &Schema, reader: &Schema) -> Result<PlanTable, Memory>
         ensures { IfOk result (λ table. IsTableOf (schema_nodes writer.now) (schema_nodes reader.now) table) }
     {
-        let (pairs, parts) = prepare_reached(alloc, writer, reader)?;
+        let (pairs, parts) = compare_reached(alloc, writer, reader)?;
         Ok(PlanTable {
             pairs,
             parts,

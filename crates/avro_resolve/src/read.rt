@@ -68,7 +68,7 @@ pub(crate) fn read_planned<B: Build>(
     let w = writer.root();
     let part = Part {
         at: At::Pair(w, plan.reader().root()),
-        place: plan.root(),
+        index: plan.root(),
         branch: None,
     };
     let mut maker = Resolving::new(plan, builder);

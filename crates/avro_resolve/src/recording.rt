@@ -4,7 +4,7 @@ ghost use Rattle.avro_schema.specs.Node.{FieldNode, Node, field_ids, node_at};
 ghost use Rattle.avro_schema.specs.Seen.{values_from};
 ghost use Rattle.avro_schema.specs.SeenSchema.{schema_nodes};
 ghost use Rattle.avro_schema.specs.Value.{Value};
-ghost use Rattle.avro_resolve.specs.Guided.{FieldsStandAs, FillsAs, StandsAs, next_field};
+ghost use Rattle.avro_resolve.specs.inside.Guided.{FieldsStandAs, FillsAs, StandsAs, next_field};
 
 use crate::error::FaultKind;
 use crate::failing::{faulty, step_out};
@@ -20,23 +20,23 @@ use std::alloc::{AllocError, Global};
 pub fn start_filling<B: Build>(alloc: Global, plan: &PlanRef<'_>, part: Part) -> Filling<B::Out>
     ensures { (nodes : List Node) (fs : List FieldNode) → FillsAs B.stands_for (schema_nodes plan.now.0) (schema_nodes plan.now.1) nodes fs part.at result [] }
 {
-    let start = plan.place_of(part);
+    let start = plan.index_of(part);
     let slots = start_fields::<B>(alloc, plan, start, part.at);
-    let place = place_of_records(plan, start, &slots);
-    let next = next_field_part(plan, place, &slots);
-    Filling { slots, place, next }
+    let index = index_of_records(plan, start, &slots);
+    let next = next_field_part(plan, index, &slots);
+    Filling { slots, index, next }
 }
 
 /// What was made of no fields: where a pair of nodes leads to a fault, or a reader's field is missing, that
 /// fault.
-fn start_fields<B: Build>(alloc: Global, plan: &PlanRef<'_>, place: u32, at: At) -> Slots<B::Out>
+fn start_fields<B: Build>(alloc: Global, plan: &PlanRef<'_>, index: u32, at: At) -> Slots<B::Out>
     ensures { (nodes : List Node) (fs : List FieldNode) → FieldsStandAs B.stands_for (schema_nodes plan.now.0) (schema_nodes plan.now.1) nodes fs at result [] }
 {
     match at {
         At::Ignored => Slots::Nothing,
-        At::Pair(w, r) => match plan.aim(place, w, r) {
+        At::Pair(w, r) => match plan.aim(index, w, r) {
             Aim::Fault(kind) => Slots::Faulty(faulty(alloc, kind)),
-            Aim::To(branch, q) => match plan.missing(plan.place_to(place, branch), w, q) {
+            Aim::To(branch, q) => match plan.missing(plan.index_to(index, branch), w, q) {
                 Some(field) => Slots::Faulty(faulty(alloc, FaultKind::MissingField(field))),
                 None => Slots::Good(Vec::new(alloc), branch, w, q),
             },
@@ -44,25 +44,25 @@ fn start_fields<B: Build>(alloc: Global, plan: &PlanRef<'_>, place: u32, at: At)
     }
 }
 
-/// Where the pair of the records may be kept, by the place of the pair that leads to it.
-fn place_of_records<O>(plan: &PlanRef<'_>, place: u32, slots: &Slots<O>) -> u32 {
+/// Where the pair of the records may be kept, by the index of the pair that leads to it.
+fn index_of_records<O>(plan: &PlanRef<'_>, index: u32, slots: &Slots<O>) -> u32 {
     match slots {
-        Slots::Good(_, branch, _, _) => plan.place_to(place, *branch),
+        Slots::Good(_, branch, _, _) => plan.index_to(index, *branch),
         Slots::Faulty(_) => 0,
         Slots::Nothing => 0,
     }
 }
 
 /// What the next field is for.
-fn next_field_part<O>(plan: &PlanRef<'_>, place: u32, fields: &Slots<O>) -> Part
+fn next_field_part<O>(plan: &PlanRef<'_>, index: u32, fields: &Slots<O>) -> Part
     ensures { result.at ≡ next_field (schema_nodes plan.now.0) (schema_nodes plan.now.1) fields.now }
 {
     match fields {
         Slots::Good(slots, _, w, q) => {
             let field = slots.len();
             Part {
-                at: plan.field(place, *w, *q, field),
-                place: plan.place_below(place, field),
+                at: plan.field(index, *w, *q, field),
+                index: plan.index_below(index, field),
                 branch: None,
             }
         }
@@ -77,7 +77,7 @@ fn ignored() -> Part
 {
     Part {
         at: At::Ignored,
-        place: 0,
+        index: 0,
         branch: None,
     }
 }
@@ -88,19 +88,19 @@ pub fn fill_next<B: Build>(
     fields: &mut Filling<B::Out>,
     made: Made<B::Out>,
 ) -> Result<(), AllocError>
-    ensures { (nodes : List Node) (fs : List FieldNode) (place : ℕ) (at : At) (vs : List Value) (v : Value) → FillsAs B.stands_for (schema_nodes plan.now.0) (schema_nodes plan.now.1) nodes fs at fields.old vs
-        → slice_get (field_ids fs) (length vs) ≡ Some place → StandsAs B.stands_for (schema_nodes plan.now.0) (schema_nodes plan.now.1) nodes (node_at nodes place) fields.old.next.at made v
+    ensures { (nodes : List Node) (fs : List FieldNode) (id : ℕ) (at : At) (vs : List Value) (v : Value) → FillsAs B.stands_for (schema_nodes plan.now.0) (schema_nodes plan.now.1) nodes fs at fields.old vs
+        → slice_get (field_ids fs) (length vs) ≡ Some id → StandsAs B.stands_for (schema_nodes plan.now.0) (schema_nodes plan.now.1) nodes (node_at nodes id) fields.old.next.at made v
         → OnOk result (FillsAs B.stands_for (schema_nodes plan.now.0) (schema_nodes plan.now.1) nodes fs at fields.new (vs ++ v ∷ [])) }
 {
     put_field::<B>(&mut fields.slots, made)?;
-    fields.next = next_field_part(plan, fields.place, &fields.slots);
+    fields.next = next_field_part(plan, fields.index, &fields.slots);
     Ok(())
 }
 
 /// Adds what was made of a field behind those before.
 fn put_field<B: Build>(fields: &mut Slots<B::Out>, made: Made<B::Out>) -> Result<(), AllocError>
-    ensures { (writer reader nodes : List Node) (fs : List FieldNode) (place : ℕ) (at : At) (vs : List Value) (v : Value) → FieldsStandAs B.stands_for writer reader nodes fs at fields.old vs
-        → slice_get (field_ids fs) (length vs) ≡ Some place → StandsAs B.stands_for writer reader nodes (node_at nodes place) (next_field writer reader fields.old) made v
+    ensures { (writer reader nodes : List Node) (fs : List FieldNode) (id : ℕ) (at : At) (vs : List Value) (v : Value) → FieldsStandAs B.stands_for writer reader nodes fs at fields.old vs
+        → slice_get (field_ids fs) (length vs) ≡ Some id → StandsAs B.stands_for writer reader nodes (node_at nodes id) (next_field writer reader fields.old) made v
         → OnOk result (FieldsStandAs B.stands_for writer reader nodes fs at fields.new (vs ++ v ∷ [])) }
 {
     match fields {
@@ -129,7 +129,7 @@ pub fn make_record<B: Build>(
     alloc: Global,
     builder: &mut B,
     plan: &PlanRef<'_>,
-    place: u32,
+    index: u32,
     fields: Slots<B::Out>,
 ) -> Result<Made<B::Out>, AllocError>
     ensures { (nodes : List Node) (name : Name) (aliases : List Name) (fs : List FieldNode) (at : At) (vs : List Value) → FieldsStandAs B.stands_for (schema_nodes plan.now.0) (schema_nodes plan.now.1) nodes fs at fields vs
@@ -139,7 +139,7 @@ pub fn make_record<B: Build>(
         Slots::Good(slots, branch, w, q) => {
             let writes = fields_of(plan.writer(), w);
             let reads = fields_of(plan.reader(), q);
-            let sources = plan.sources(place, w, q);
+            let sources = plan.sources(index, w, q);
             let values = fill(alloc, builder, writes, reads, sources, slots)?;
             let out = builder.fields(alloc, values)?;
             wrap(alloc, builder, branch, out)

@@ -23,7 +23,7 @@ use std::alloc::{AllocError, Global};
 ///
 /// # Errors
 ///
-/// The first fault, with its place in the datum; or memory ran out.
+/// The first fault, with its path in the datum; or memory ran out.
 pub fn resolve(
     alloc: Global,
     writer: &Schema,
@@ -158,13 +158,13 @@ fn resolve_each(
         (node_at (schema_nodes writer.now) w.0) (node_at (schema_nodes reader.now) r.0) 0 (values_seen items.now)) }
 {
     let mut resolved = Vec::new(alloc);
-    for place in 0..items.len() {
-        match resolve_at(alloc, writer, w, reader, r, &items[place]) {
+    for index in 0..items.len() {
+        match resolve_at(alloc, writer, w, reader, r, &items[index]) {
             Ok(item) => match resolved.push(item) {
                 Ok(()) => {}
                 Err(_) => return Err(ResolveError::Memory),
             },
-            Err(error) => return Err(fault_in(place, error)),
+            Err(error) => return Err(fault_in(index, error)),
         }
     }
     Ok(resolved)
@@ -184,13 +184,13 @@ fn resolve_values(
         (node_at (schema_nodes writer.now) w.0) (node_at (schema_nodes reader.now) r.0) 0 (entries_seen entries.now)) }
 {
     let mut resolved = Vec::new(alloc);
-    for place in 0..entries.len() {
-        match resolve_at(alloc, writer, w, reader, r, &entries[place].1) {
-            Ok(value) => match keep(&mut resolved, &entries[place].0, value) {
+    for index in 0..entries.len() {
+        match resolve_at(alloc, writer, w, reader, r, &entries[index].1) {
+            Ok(value) => match keep(&mut resolved, &entries[index].0, value) {
                 Ok(()) => {}
                 Err(_) => return Err(ResolveError::Memory),
             },
-            Err(error) => return Err(fault_in(place, error)),
+            Err(error) => return Err(fault_in(index, error)),
         }
     }
     Ok(resolved)
@@ -220,7 +220,7 @@ fn resolve_record(
     let writes = fields_of(writer, w);
     let reads = fields_of(reader, q);
     match missing(writes, reads) {
-        Some(place) => Err(fault_here(alloc, FaultKind::MissingField(place))),
+        Some(field) => Err(fault_here(alloc, FaultKind::MissingField(field))),
         None => match resolve_fields(alloc, writer, writes, reader, reads, values) {
             Ok(slots) => match fill_data(alloc, writes, reads, slots) {
                 Ok(filled) => Ok(Datum::Record(filled)),
@@ -231,7 +231,7 @@ fn resolve_record(
     }
 }
 
-/// What the values of the writer's fields are for the reader's fields, each in the slot of its place.
+/// What the values of the writer's fields are for the reader's fields, each in the slot of its index.
 /// The slot of an ignored field is empty.
 #[cycle(resolution)]
 fn resolve_fields(
@@ -246,8 +246,8 @@ fn resolve_fields(
         (seen_fields writes.now) (seen_fields reads.now) 0 (values_seen values.now)) }
 {
     let mut slots = Vec::new(alloc);
-    for place in 0..values.len() {
-        match resolve_field(alloc, writer, writes, reader, reads, place, &values[place]) {
+    for index in 0..values.len() {
+        match resolve_field(alloc, writer, writes, reader, reads, index, &values[index]) {
             Ok(slot) => match slots.push(slot) {
                 Ok(()) => {}
                 Err(_) => return Err(ResolveError::Memory),
@@ -258,7 +258,7 @@ fn resolve_fields(
     Ok(slots)
 }
 
-/// What the value of the writer's field at a place is for the reader's field whose source it is, where
+/// What the value of the writer's field at an index is for the reader's field whose source it is, where
 /// there is one.
 #[cycle(resolution)]
 fn resolve_field(
@@ -267,17 +267,17 @@ fn resolve_field(
     writes: &[Field],
     reader: &Schema,
     reads: &[Field],
-    place: usize,
+    index: usize,
     value: &Datum,
 ) -> Result<Option<Datum>, ResolveError>
-    ensures { EndsSlot place result (field_step (schema_nodes writer.now) (schema_nodes reader.now)
-        (seen_fields writes.now) (seen_fields reads.now) place (value_of value.now)) }
+    ensures { EndsSlot index result (field_step (schema_nodes writer.now) (schema_nodes reader.now)
+        (seen_fields writes.now) (seen_fields reads.now) index (value_of value.now)) }
 {
-    match part_for(writes, reads, place) {
+    match part_for(writes, reads, index) {
         At::Ignored => Ok(None),
         At::Pair(a, b) => match resolve_at(alloc, writer, a, reader, b, value) {
             Ok(resolved) => Ok(Some(resolved)),
-            Err(error) => Err(fault_in(place, error)),
+            Err(error) => Err(fault_in(index, error)),
         },
     }
 }

@@ -34,7 +34,7 @@ impl<'p, 'a, 'b, B: Build> Make for Resolving<'p, 'a, 'b, B> {
     ghost use Rattle.avro_schema.specs.Node.{Node, FieldNode};
     ghost use Rattle.avro_schema.specs.SeenSchema.{schema_nodes};
     ghost use Rattle.avro_schema.specs.Value.{Value};
-    ghost use Rattle.avro_resolve.specs.Guided.{StandsAs, ItemsStandAs, EntriesStandAs, FillsAs, branch_part, part_below, next_at};
+    ghost use Rattle.avro_resolve.specs.inside.Guided.{StandsAs, ItemsStandAs, EntriesStandAs, FillsAs, branch_part, part_below, next_at};
 
     type At = Part;
 
@@ -50,9 +50,9 @@ impl<'p, 'a, 'b, B: Build> Make for Resolving<'p, 'a, 'b, B> {
 
     ghost stands_for = { λ m nodes n at out v. StandsAs B.stands_for (schema_nodes m.plan.now.0) (schema_nodes m.plan.now.1) nodes n at.at out v };
 
-    ghost items_stand_for = { λ m nodes place at items vs. ItemsStandAs B.items_stand_for (schema_nodes m.plan.now.0) (schema_nodes m.plan.now.1) nodes place at.at items.0 vs };
+    ghost items_stand_for = { λ m nodes id at items vs. ItemsStandAs B.items_stand_for (schema_nodes m.plan.now.0) (schema_nodes m.plan.now.1) nodes id at.at items.0 vs };
 
-    ghost entries_stand_for = { λ m nodes place at entries es. EntriesStandAs B.entries_stand_for (schema_nodes m.plan.now.0) (schema_nodes m.plan.now.1) nodes place at.at entries.0 es };
+    ghost entries_stand_for = { λ m nodes id at entries es. EntriesStandAs B.entries_stand_for (schema_nodes m.plan.now.0) (schema_nodes m.plan.now.1) nodes id at.at entries.0 es };
 
     ghost fields_stand_for = { λ m nodes fs at fields vs. FillsAs B.stands_for (schema_nodes m.plan.now.0) (schema_nodes m.plan.now.1) nodes fs at.at fields vs };
 
@@ -68,9 +68,9 @@ impl<'p, 'a, 'b, B: Build> Make for Resolving<'p, 'a, 'b, B> {
 
     ghost keeps_on = { λ s t u before after. before ∙ after };
 
-    ghost items_kept = { λ s t nodes place at items vs kept stand. subst (λ (g : List Node × List Node). ItemsStandAs B.items_stand_for g.0 g.1 nodes place at.at items.0 vs) kept stand };
+    ghost items_kept = { λ s t nodes id at items vs kept stand. subst (λ (g : List Node × List Node). ItemsStandAs B.items_stand_for g.0 g.1 nodes id at.at items.0 vs) kept stand };
 
-    ghost entries_kept = { λ s t nodes place at entries es kept stand. subst (λ (g : List Node × List Node). EntriesStandAs B.entries_stand_for g.0 g.1 nodes place at.at entries.0 es) kept stand };
+    ghost entries_kept = { λ s t nodes id at entries es kept stand. subst (λ (g : List Node × List Node). EntriesStandAs B.entries_stand_for g.0 g.1 nodes id at.at entries.0 es) kept stand };
 
     ghost fields_kept = { λ s t nodes fs at fields vs kept stand. subst (λ (g : List Node × List Node). FillsAs B.stands_for g.0 g.1 nodes fs at.at fields vs) kept stand };
 
@@ -85,7 +85,7 @@ impl<'p, 'a, 'b, B: Build> Make for Resolving<'p, 'a, 'b, B> {
     fn null(&mut self, alloc: Global, at: Part) -> Result<Made<B::Out>, AllocError> {
         match at.at {
             At::Ignored => Ok(Made::Nothing),
-            At::Pair(w, r) => match self.plan.aim(self.plan.place_of(at), w, r) {
+            At::Pair(w, r) => match self.plan.aim(self.plan.index_of(at), w, r) {
                 Aim::Fault(kind) => Ok(Made::Faulty(faulty(alloc, kind))),
                 Aim::To(branch, _) => {
                     let out = self.builder.null(alloc)?;
@@ -103,7 +103,7 @@ impl<'p, 'a, 'b, B: Build> Make for Resolving<'p, 'a, 'b, B> {
     ) -> Result<Made<B::Out>, AllocError> {
         match at.at {
             At::Ignored => Ok(Made::Nothing),
-            At::Pair(w, r) => match self.plan.aim(self.plan.place_of(at), w, r) {
+            At::Pair(w, r) => match self.plan.aim(self.plan.index_of(at), w, r) {
                 Aim::Fault(kind) => Ok(Made::Faulty(faulty(alloc, kind))),
                 Aim::To(branch, _) => {
                     let out = self.builder.boolean(alloc, value)?;
@@ -116,7 +116,7 @@ impl<'p, 'a, 'b, B: Build> Make for Resolving<'p, 'a, 'b, B> {
     fn int(&mut self, alloc: Global, at: Part, value: i32) -> Result<Made<B::Out>, AllocError> {
         match at.at {
             At::Ignored => Ok(Made::Nothing),
-            At::Pair(w, r) => match self.plan.aim(self.plan.place_of(at), w, r) {
+            At::Pair(w, r) => match self.plan.aim(self.plan.index_of(at), w, r) {
                 Aim::Fault(kind) => Ok(Made::Faulty(faulty(alloc, kind))),
                 Aim::To(branch, q) => {
                     make_int(alloc, self.builder, self.plan.reader(), branch, q, value)
@@ -128,7 +128,7 @@ impl<'p, 'a, 'b, B: Build> Make for Resolving<'p, 'a, 'b, B> {
     fn long(&mut self, alloc: Global, at: Part, value: i64) -> Result<Made<B::Out>, AllocError> {
         match at.at {
             At::Ignored => Ok(Made::Nothing),
-            At::Pair(w, r) => match self.plan.aim(self.plan.place_of(at), w, r) {
+            At::Pair(w, r) => match self.plan.aim(self.plan.index_of(at), w, r) {
                 Aim::Fault(kind) => Ok(Made::Faulty(faulty(alloc, kind))),
                 Aim::To(branch, _) => {
                     let out = self.builder.long(alloc, value)?;
@@ -146,7 +146,7 @@ impl<'p, 'a, 'b, B: Build> Make for Resolving<'p, 'a, 'b, B> {
     ) -> Result<Made<B::Out>, AllocError> {
         match at.at {
             At::Ignored => Ok(Made::Nothing),
-            At::Pair(w, r) => match self.plan.aim(self.plan.place_of(at), w, r) {
+            At::Pair(w, r) => match self.plan.aim(self.plan.index_of(at), w, r) {
                 Aim::Fault(kind) => Ok(Made::Faulty(faulty(alloc, kind))),
                 Aim::To(branch, q) => {
                     make_bytes(alloc, self.builder, self.plan.reader(), branch, q, content)
@@ -158,7 +158,7 @@ impl<'p, 'a, 'b, B: Build> Make for Resolving<'p, 'a, 'b, B> {
     fn string(&mut self, alloc: Global, at: Part, text: &str) -> Result<Made<B::Out>, AllocError> {
         match at.at {
             At::Ignored => Ok(Made::Nothing),
-            At::Pair(w, r) => match self.plan.aim(self.plan.place_of(at), w, r) {
+            At::Pair(w, r) => match self.plan.aim(self.plan.index_of(at), w, r) {
                 Aim::Fault(kind) => Ok(Made::Faulty(faulty(alloc, kind))),
                 Aim::To(branch, q) => {
                     make_string(alloc, self.builder, self.plan.reader(), branch, q, text)
@@ -175,7 +175,7 @@ impl<'p, 'a, 'b, B: Build> Make for Resolving<'p, 'a, 'b, B> {
     ) -> Result<Made<B::Out>, AllocError> {
         match at.at {
             At::Ignored => Ok(Made::Nothing),
-            At::Pair(w, r) => match self.plan.aim(self.plan.place_of(at), w, r) {
+            At::Pair(w, r) => match self.plan.aim(self.plan.index_of(at), w, r) {
                 Aim::Fault(kind) => Ok(Made::Faulty(faulty(alloc, kind))),
                 Aim::To(branch, _) => {
                     let out = self.builder.fixed(alloc, content)?;
@@ -185,14 +185,14 @@ impl<'p, 'a, 'b, B: Build> Make for Resolving<'p, 'a, 'b, B> {
         }
     }
 
-    fn symbol(&mut self, alloc: Global, at: Part, place: u32) -> Result<Made<B::Out>, AllocError> {
+    fn symbol(&mut self, alloc: Global, at: Part, symbol: u32) -> Result<Made<B::Out>, AllocError> {
         match at.at {
             At::Ignored => Ok(Made::Nothing),
-            At::Pair(w, r) => match self.plan.aim(self.plan.place_of(at), w, r) {
+            At::Pair(w, r) => match self.plan.aim(self.plan.index_of(at), w, r) {
                 Aim::Fault(kind) => Ok(Made::Faulty(faulty(alloc, kind))),
                 Aim::To(branch, q) => {
-                    let kept = self.plan.place_to(self.plan.place_of(at), branch);
-                    let symbol = self.plan.symbol(kept, w, place, q);
+                    let kept = self.plan.index_to(self.plan.index_of(at), branch);
+                    let symbol = self.plan.symbol(kept, w, symbol, q);
                     make_symbol(alloc, self.builder, symbol, branch)
                 }
             },
@@ -200,15 +200,7 @@ impl<'p, 'a, 'b, B: Build> Make for Resolving<'p, 'a, 'b, B> {
     }
 
     fn branch_at(&self, at: Part, branch: u32) -> Part {
-        let below = match at.at {
-            At::Ignored => At::Ignored,
-            At::Pair(w, r) => At::Pair(self.plan.branch(w, branch), r),
-        };
-        Part {
-            at: below,
-            place: at.place,
-            branch: Some(branch),
-        }
+        self.plan.part_of_branch(at, branch)
     }
 
     fn branch(
@@ -301,6 +293,6 @@ impl<'p, 'a, 'b, B: Build> Make for Resolving<'p, 'a, 'b, B> {
         alloc: Global,
         fields: Filling<B::Out>,
     ) -> Result<Made<B::Out>, AllocError> {
-        make_record(alloc, self.builder, self.plan, fields.place, fields.slots)
+        make_record(alloc, self.builder, self.plan, fields.index, fields.slots)
     }
 }

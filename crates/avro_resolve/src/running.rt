@@ -3,7 +3,7 @@ ghost use Rattle.avro_schema.specs.Node.{Node, node_at};
 ghost use Rattle.avro_schema.specs.Seen.{entries_from, values_from};
 ghost use Rattle.avro_schema.specs.SeenSchema.{schema_nodes};
 ghost use Rattle.avro_schema.specs.Value.{Value};
-ghost use Rattle.avro_resolve.specs.Guided.{EntriesStandAs, ItemsStandAs, StandsAs, next_at, part_below};
+ghost use Rattle.avro_resolve.specs.inside.Guided.{EntriesStandAs, ItemsStandAs, StandsAs, next_at, part_below};
 
 use crate::failing::{faulty, step_out};
 use crate::guided::{Aim, At, Made, Part, Run};
@@ -12,9 +12,9 @@ use crate::plan_ref::PlanRef;
 use avro_binary::Build;
 use std::alloc::{AllocError, Global};
 
-/// What the next item or entry is for, whose pair may be kept at a place.
-pub fn next_part<I>(run: &Run<I>, place: u32) -> Part
-    ensures { result ≡ part_below (next_at run.now) place }
+/// What the next item or entry is for, whose pair may be kept at an index.
+pub fn next_part<I>(run: &Run<I>, index: u32) -> Part
+    ensures { result ≡ part_below (next_at run.now) index }
 {
     let at = match run {
         Run::Good(_, _, _, a, b) => At::Pair(*a, *b),
@@ -23,7 +23,7 @@ pub fn next_part<I>(run: &Run<I>, place: u32) -> Part
     };
     Part {
         at,
-        place,
+        index,
         branch: None,
     }
 }
@@ -35,17 +35,17 @@ pub fn start_items<B: Build>(
     plan: &PlanRef<'_>,
     part: Part,
 ) -> Result<(Run<B::Items>, u32), AllocError>
-    ensures { (nodes : List Node) (place : ℕ) → IfOk result (λ run. ItemsStandAs B.items_stand_for (schema_nodes plan.now.0) (schema_nodes plan.now.1) nodes place part.at run.0 []) }
+    ensures { (nodes : List Node) (id : ℕ) → IfOk result (λ run. ItemsStandAs B.items_stand_for (schema_nodes plan.now.0) (schema_nodes plan.now.1) nodes id part.at run.0 []) }
 {
-    let place = plan.place_of(part);
+    let index = plan.index_of(part);
     match part.at {
         At::Ignored => Ok((Run::Nothing, 0)),
-        At::Pair(w, r) => match plan.aim(place, w, r) {
+        At::Pair(w, r) => match plan.aim(index, w, r) {
             Aim::Fault(kind) => Ok((Run::Faulty(faulty(alloc, kind)), 0)),
             Aim::To(branch, q) => {
                 let (a, b) = plan.items(w, q);
                 let kept = builder.items(alloc)?;
-                let below = plan.place_below(plan.place_to(place, branch), 0);
+                let below = plan.index_below(plan.index_to(index, branch), 0);
                 Ok((Run::Good(kept, 0, branch, a, b), below))
             }
         },
@@ -59,9 +59,9 @@ pub fn put_item<B: Build>(
     items: &mut Run<B::Items>,
     made: Made<B::Out>,
 ) -> Result<(), AllocError>
-    ensures { (writer reader nodes : List Node) (place : ℕ) (at : At) (vs : List Value) (v : Value) → ItemsStandAs B.items_stand_for writer reader nodes place at items.old vs
-        → StandsAs B.stands_for writer reader nodes (node_at nodes place) (next_at items.old) made v
-        → OnOk result (ItemsStandAs B.items_stand_for writer reader nodes place at items.new (vs ++ v ∷ [])) }
+    ensures { (writer reader nodes : List Node) (id : ℕ) (at : At) (vs : List Value) (v : Value) → ItemsStandAs B.items_stand_for writer reader nodes id at items.old vs
+        → StandsAs B.stands_for writer reader nodes (node_at nodes id) (next_at items.old) made v
+        → OnOk result (ItemsStandAs B.items_stand_for writer reader nodes id at items.new (vs ++ v ∷ [])) }
 {
     match items {
         Run::Good(kept, count, _, _, _) => match made {
@@ -88,8 +88,8 @@ pub fn make_array<B: Build>(
     builder: &mut B,
     items: Run<B::Items>,
 ) -> Result<Made<B::Out>, AllocError>
-    ensures { (writer reader nodes : List Node) (place : ℕ) (at : At) (vs : List Value) → ItemsStandAs B.items_stand_for writer reader nodes place at items vs
-        → IfOk result (λ made. StandsAs B.stands_for writer reader nodes (Node.array place) at made (Value.array (values_from vs))) }
+    ensures { (writer reader nodes : List Node) (id : ℕ) (at : At) (vs : List Value) → ItemsStandAs B.items_stand_for writer reader nodes id at items vs
+        → IfOk result (λ made. StandsAs B.stands_for writer reader nodes (Node.array id) at made (Value.array (values_from vs))) }
 {
     match items {
         Run::Good(kept, _, branch, _, _) => {
@@ -108,17 +108,17 @@ pub fn start_entries<B: Build>(
     plan: &PlanRef<'_>,
     part: Part,
 ) -> Result<(Run<B::Entries>, u32), AllocError>
-    ensures { (nodes : List Node) (place : ℕ) → IfOk result (λ run. EntriesStandAs B.entries_stand_for (schema_nodes plan.now.0) (schema_nodes plan.now.1) nodes place part.at run.0 []) }
+    ensures { (nodes : List Node) (id : ℕ) → IfOk result (λ run. EntriesStandAs B.entries_stand_for (schema_nodes plan.now.0) (schema_nodes plan.now.1) nodes id part.at run.0 []) }
 {
-    let place = plan.place_of(part);
+    let index = plan.index_of(part);
     match part.at {
         At::Ignored => Ok((Run::Nothing, 0)),
-        At::Pair(w, r) => match plan.aim(place, w, r) {
+        At::Pair(w, r) => match plan.aim(index, w, r) {
             Aim::Fault(kind) => Ok((Run::Faulty(faulty(alloc, kind)), 0)),
             Aim::To(branch, q) => {
                 let (a, b) = plan.values(w, q);
                 let kept = builder.entries(alloc)?;
-                let below = plan.place_below(plan.place_to(place, branch), 0);
+                let below = plan.index_below(plan.index_to(index, branch), 0);
                 Ok((Run::Good(kept, 0, branch, a, b), below))
             }
         },
@@ -133,9 +133,9 @@ pub fn put_entry<B: Build>(
     key: &str,
     made: Made<B::Out>,
 ) -> Result<(), AllocError>
-    ensures { (writer reader nodes : List Node) (place : ℕ) (at : At) (es : List (List ℕ × Value)) (v : Value) → EntriesStandAs B.entries_stand_for writer reader nodes place at entries.old es
-        → StandsAs B.stands_for writer reader nodes (node_at nodes place) (next_at entries.old) made v
-        → OnOk result (EntriesStandAs B.entries_stand_for writer reader nodes place at entries.new (es ++ (key.now, v) ∷ [])) }
+    ensures { (writer reader nodes : List Node) (id : ℕ) (at : At) (es : List (List ℕ × Value)) (v : Value) → EntriesStandAs B.entries_stand_for writer reader nodes id at entries.old es
+        → StandsAs B.stands_for writer reader nodes (node_at nodes id) (next_at entries.old) made v
+        → OnOk result (EntriesStandAs B.entries_stand_for writer reader nodes id at entries.new (es ++ (key.now, v) ∷ [])) }
 {
     match entries {
         Run::Good(kept, count, _, _, _) => match made {
@@ -162,8 +162,8 @@ pub fn make_map<B: Build>(
     builder: &mut B,
     entries: Run<B::Entries>,
 ) -> Result<Made<B::Out>, AllocError>
-    ensures { (writer reader nodes : List Node) (place : ℕ) (at : At) (es : List (List ℕ × Value)) → EntriesStandAs B.entries_stand_for writer reader nodes place at entries es
-        → IfOk result (λ made. StandsAs B.stands_for writer reader nodes (Node.map_of place) at made (Value.map_of (entries_from es))) }
+    ensures { (writer reader nodes : List Node) (id : ℕ) (at : At) (es : List (List ℕ × Value)) → EntriesStandAs B.entries_stand_for writer reader nodes id at entries es
+        → IfOk result (λ made. StandsAs B.stands_for writer reader nodes (Node.map_of id) at made (Value.map_of (entries_from es))) }
 {
     match entries {
         Run::Good(kept, _, branch, _, _) => {

@@ -5,7 +5,7 @@ ghost use Rattle.avro_schema.specs.WellFormed.{field_names};
 ghost use Rattle.avro_schema.specs.Node.{FieldNode, node_at, field_ids};
 ghost use Rattle.avro_schema.specs.Seen.{seen_fields, field_of};
 ghost use Rattle.avro_schema.specs.SeenSchema.{schema_nodes};
-ghost use Rattle.avro_resolve.specs.Source.{field_place, is_place, source_of, missing_field};
+ghost use Rattle.avro_resolve.specs.Source.{field_index, is_place, source_of, missing_field};
 ghost use Rattle.avro_resolve.specs.Resolve.{fields_at};
 ghost use Rattle.avro_resolve.specs.Pairs.{field_for};
 ghost use Rattle.avro_resolve.specs.Planned.{AreSources};
@@ -13,19 +13,19 @@ ghost use Rattle.avro_resolve.specs.Planned.{AreSources};
 use crate::guided::At;
 use avro_schema::{Field, Node, NodeId, RecordNode, Schema};
 
-/// The first place of a field of a name.
-fn place_named(fields: &[Field], name: &str) -> Option<usize>
-    ensures { result ≡ field_place (seen_fields fields.now) name.now }
+/// The first index of a field of a name.
+fn index_named(fields: &[Field], name: &str) -> Option<usize>
+    ensures { result ≡ field_index (seen_fields fields.now) name.now }
 {
-    for place in 0..fields.len() {
-        if fields[place].name.as_str() == name {
-            return Some(place);
+    for index in 0..fields.len() {
+        if fields[index].name.as_str() == name {
+            return Some(index);
         }
     }
     None
 }
 
-/// The place of the field of a writer's record that a reader's field takes its value from: the one of
+/// The index of the field of a writer's record that a reader's field takes its value from: the one of
 /// its name, else that of its first alias that names one (Avro 1.11, "Schema Resolution", "Aliases").
 pub fn source(writer: &RecordNode, field: &Field) -> Option<usize>
     ensures { result ≡ source_of (seen_fields writer.now.fields.items) (field_of field.now) }
@@ -37,13 +37,13 @@ pub fn source(writer: &RecordNode, field: &Field) -> Option<usize>
 pub fn source_among(fields: &[Field], f: &Field) -> Option<usize>
     ensures { result ≡ source_of (seen_fields fields.now) (field_of f.now) }
 {
-    match place_named(fields, f.name.as_str()) {
-        Some(place) => return Some(place),
+    match index_named(fields, f.name.as_str()) {
+        Some(index) => return Some(index),
         None => {}
     }
     for alias in &f.aliases {
-        match place_named(fields, alias.as_str()) {
-            Some(place) => return Some(place),
+        match index_named(fields, alias.as_str()) {
+            Some(index) => return Some(index),
             None => {}
         }
     }
@@ -62,10 +62,10 @@ pub fn missing_among(writer: &[Field], reader: &[Field], sources: &[Option<usize
     requires { AreSources (seen_fields writer.now) (seen_fields reader.now) sources.now }
     ensures { result ≡ missing_field (seen_fields writer.now) (seen_fields reader.now) }
 {
-    for place in 0..reader.len() {
-        let field = &reader[place];
-        if source_at(writer, reader, sources, place, field).is_none() && field.default.is_none() {
-            return Some(place);
+    for index in 0..reader.len() {
+        let field = &reader[index];
+        if source_at(writer, reader, sources, index, field).is_none() && field.default.is_none() {
+            return Some(index);
         }
     }
     None
@@ -85,78 +85,78 @@ pub fn fields_of(schema: &Schema, id: NodeId) -> &[Field]
     }
 }
 
-/// The node of the field at a place.
-pub fn node_of_field(fields: &[Field], place: usize) -> NodeId
-    ensures { result.0 ≡ unwrap_or (slice_get (field_ids (seen_fields fields.now)) place) 0 }
+/// The node of the field at an index.
+pub fn node_of_field(fields: &[Field], index: usize) -> NodeId
+    ensures { result.0 ≡ unwrap_or (slice_get (field_ids (seen_fields fields.now)) index) 0 }
 {
-    if place < fields.len() {
-        fields[place].node
+    if index < fields.len() {
+        fields[index].node
     } else {
         NodeId(0)
     }
 }
 
-/// The source of the reader's field at a place, as it is kept or else by name.
+/// The source of the reader's field at an index, as it is kept or else by name.
 pub fn source_kept(
     writes: &[Field],
     sources: &[Option<usize>],
-    place: usize,
+    index: usize,
     f: &Field,
 ) -> Option<usize>
-    ensures { (rs : List FieldNode) → AreSources (seen_fields writes.now) rs sources.now → slice_get rs place ≡ Some (field_of f.now)
+    ensures { (rs : List FieldNode) → AreSources (seen_fields writes.now) rs sources.now → slice_get rs index ≡ Some (field_of f.now)
         → result ≡ source_of (seen_fields writes.now) (field_of f.now) }
 {
-    if place < sources.len() {
-        sources[place]
+    if index < sources.len() {
+        sources[index]
     } else {
         source_among(writes, f)
     }
 }
 
-/// The same of a reader's field that stands at its place.
+/// The same of a reader's field that stands at its index.
 fn source_at(
     writer: &[Field],
     reader: &[Field],
     sources: &[Option<usize>],
-    place: usize,
+    index: usize,
     f: &Field,
 ) -> Option<usize>
     requires sources { AreSources (seen_fields writer.now) (seen_fields reader.now) sources.now }
-    requires there { slice_get (seen_fields reader.now) place ≡ Some (field_of f.now) }
+    requires there { slice_get (seen_fields reader.now) index ≡ Some (field_of f.now) }
     ensures { result ≡ source_of (seen_fields writer.now) (field_of f.now) }
 {
-    source_kept(writer, sources, place, f)
+    source_kept(writer, sources, index, f)
 }
 
-/// What the writer's field at a place is for.
-pub fn part_for(writer: &[Field], reader: &[Field], place: usize) -> At
-    ensures { result ≡ field_for (seen_fields writer.now) (seen_fields reader.now) place }
+/// What a writer's field, by its index, is for.
+pub fn part_for(writer: &[Field], reader: &[Field], field: usize) -> At
+    ensures { result ≡ field_for (seen_fields writer.now) (seen_fields reader.now) field }
 {
-    part_among(writer, reader, &[], place)
+    part_among(writer, reader, &[], field)
 }
 
 /// The same, by the sources of the reader's fields as far as they are kept.
-pub fn part_among(writer: &[Field], reader: &[Field], sources: &[Option<usize>], place: usize) -> At
+pub fn part_among(writer: &[Field], reader: &[Field], sources: &[Option<usize>], field: usize) -> At
     requires { AreSources (seen_fields writer.now) (seen_fields reader.now) sources.now }
-    ensures { result ≡ field_for (seen_fields writer.now) (seen_fields reader.now) place }
+    ensures { result ≡ field_for (seen_fields writer.now) (seen_fields reader.now) field }
 {
-    let node = node_of_field(writer, place);
+    let node = node_of_field(writer, field);
     for index in 0..reader.len() {
         let f = &reader[index];
-        if takes(writer, sources, index, f, place) {
+        if takes(writer, sources, index, f, field) {
             return At::Pair(node, f.node);
         }
     }
     At::Ignored
 }
 
-/// Whether the writer's field at a place is the source of a reader's field, which is the one at an index.
-fn takes(writer: &[Field], sources: &[Option<usize>], index: usize, f: &Field, place: usize) -> bool
+/// Whether a writer's field, by its index, is the source of a reader's field, which is the one at an index.
+fn takes(writer: &[Field], sources: &[Option<usize>], index: usize, f: &Field, field: usize) -> bool
     ensures { (rs : List FieldNode) → AreSources (seen_fields writer.now) rs sources.now → slice_get rs index ≡ Some (field_of f.now)
-        → result ≡ is_place (source_of (seen_fields writer.now) (field_of f.now)) place }
+        → result ≡ is_place (source_of (seen_fields writer.now) (field_of f.now)) field }
 {
     match source_kept(writer, sources, index, f) {
-        Some(k) => k == place,
+        Some(k) => k == field,
         None => false,
     }
 }

@@ -4,19 +4,19 @@ ghost use Rattle.avro_schema.specs.Node.{node_at};
 ghost use Rattle.avro_schema.specs.Seen.{node_of};
 ghost use Rattle.avro_schema.specs.SeenSchema.{schema_nodes};
 ghost use Rattle.avro_binary.proofs.public.Choices.{HasFewChoices};
-ghost use Rattle.avro_resolve.specs.NameTables.{AreSymbolTables, symbols_at};
+ghost use Rattle.avro_resolve.specs.inside.NameTables.{AreSymbolTables, symbols_at};
 ghost use Rattle.avro_resolve.specs.Pairs.{IsSymbol};
 ghost use Rattle.avro_resolve.specs.Planned.{FindsSymbols};
 ghost use Rattle.avro_resolve.specs.Resolve.{enum_as};
 
 use crate::by_node::{FEWEST, add_table, table_of};
 use crate::naming::symbol_names;
-use crate::symbols::{symbol_at_place, symbol_by_name, symbols_of};
+use crate::symbols::{symbol_by_name, symbol_of_id, symbols_of};
 use avro_schema::{Node, NodeId, Schema};
 use std::alloc::{AllocError, Global};
 use std::collections::BTreeMap;
 
-/// The places of the symbols of a reader's enums. They rise by the enums' nodes.
+/// The indices of the symbols of a reader's enums. They rise by the enums' nodes.
 pub fn symbol_tables(
     alloc: Global,
     reader: &Schema,
@@ -25,7 +25,7 @@ pub fn symbol_tables(
 {
     let mut tables = Vec::new(alloc);
     let mut number = 0u32;
-    for _place in 0..reader.len() {
+    for _round in 0..reader.len() {
         let id = NodeId(number);
         add_table(&mut tables, id, symbol_table(alloc, reader, id)?)?;
         number = number.saturating_add(1);
@@ -33,7 +33,7 @@ pub fn symbol_tables(
     Ok(tables)
 }
 
-/// The places of the symbols of an enum of many.
+/// The indices of the symbols of an enum of many.
 fn symbol_table(
     alloc: Global,
     reader: &Schema,
@@ -48,7 +48,7 @@ fn symbol_table(
     Ok(Some(symbol_names(alloc, symbols)?))
 }
 
-/// The place of a symbol of a reader's enum, or of its default.
+/// The index of a symbol of a reader's enum, or of its default.
 pub fn symbol_by(
     tables: &[(NodeId, BTreeMap<&str, usize>)],
     reader: &Schema,
@@ -60,7 +60,7 @@ pub fn symbol_by(
 {
     match table_of(tables, q) {
         Some(names) => symbol_of_table(names, reader, q, symbol),
-        None => symbol_at_place(reader, q, symbol),
+        None => symbol_of_id(reader, q, symbol),
     }
 }
 

@@ -10,45 +10,45 @@ ghost use Rattle.avro_resolve.specs.Planned.{FindsSymbols};
 use avro_schema::{Node, NodeId, Schema};
 use std::collections::BTreeMap;
 
-/// The first place of a symbol.
-fn place_of(symbols: &[String], symbol: &str) -> Option<usize>
-    ensures place { result ≡ position (λ s. bytes_eq s symbol.now) (texts_of symbols.now) }
+/// The first index of a symbol.
+fn index_of(symbols: &[String], symbol: &str) -> Option<usize>
+    ensures index { result ≡ position (λ s. bytes_eq s symbol.now) (texts_of symbols.now) }
     ensures below { IfSome result (λ k. k < length symbols.now) }
 {
-    for place in 0..symbols.len() {
-        if symbols[place].as_str() == symbol {
-            return Some(place);
+    for index in 0..symbols.len() {
+        if symbols[index].as_str() == symbol {
+            return Some(index);
         }
     }
     None
 }
 
-/// A place, else the default.
-fn or_default(place: Option<usize>, default: Option<u32>) -> Option<u32>
-    requires { IfSome place (λ k. k < 2 ^ 32) }
-    ensures { IsSymbol (enum_or_default place default) result }
+/// An index, else the default.
+fn or_default(index: Option<usize>, default: Option<u32>) -> Option<u32>
+    requires { IfSome index (λ k. k < 2 ^ 32) }
+    ensures { IsSymbol (enum_or_default index default) result }
 {
-    match place {
-        Some(place) => Some(place as u32),
+    match index {
+        Some(index) => Some(index as u32),
         None => default,
     }
 }
 
-/// The place of a symbol of a reader's node, or of its default.
+/// The index of a symbol of a reader's node, or of its default.
 fn symbol_in(node: &Node, symbol: &str) -> Option<u32>
     requires few { HasFewChoices (node_of node.now) }
     ensures { IsSymbol (enum_as symbol.now (node_of node.now)) result }
 {
     match node {
         Node::Enum(enumeration) => {
-            or_default(place_of(&enumeration.symbols, symbol), enumeration.default)
+            or_default(index_of(&enumeration.symbols, symbol), enumeration.default)
         }
         _ => None,
     }
 }
 
-/// The same of the node at a place.
-pub fn symbol_at_place(reader: &Schema, q: NodeId, symbol: &str) -> Option<u32>
+/// The same of the node of an id.
+pub fn symbol_of_id(reader: &Schema, q: NodeId, symbol: &str) -> Option<u32>
     ensures { IsSymbol (enum_as symbol.now (node_at (schema_nodes reader.now) q.0)) result }
 {
     if (q.0 as usize) < reader.len() {
@@ -59,11 +59,11 @@ pub fn symbol_at_place(reader: &Schema, q: NodeId, symbol: &str) -> Option<u32>
 }
 
 /// The text of a writer's symbol, and none where there is none.
-fn text_at(node: &Node, place: u32) -> &str
-    ensures { result.now ≡ symbol_at (node_of node.now) place }
+fn text_at(node: &Node, symbol: u32) -> &str
+    ensures { result.now ≡ symbol_at (node_of node.now) symbol }
 {
     match node {
-        Node::Enum(enumeration) => match enumeration.symbols.get(place as usize) {
+        Node::Enum(enumeration) => match enumeration.symbols.get(symbol as usize) {
             Some(text) => text.as_str(),
             None => "",
         },
@@ -71,14 +71,20 @@ fn text_at(node: &Node, place: u32) -> &str
     }
 }
 
-/// The place of a reader's symbol for a writer's.
-pub fn symbol_for(writer: &Schema, w: NodeId, place: u32, reader: &Schema, q: NodeId) -> Option<u32>
-    ensures { IsSymbol (enum_as (symbol_at (node_at (schema_nodes writer.now) w.0) place) (node_at (schema_nodes reader.now) q.0)) result }
+/// The reader's symbol for a writer's.
+pub fn symbol_for(
+    writer: &Schema,
+    w: NodeId,
+    symbol: u32,
+    reader: &Schema,
+    q: NodeId,
+) -> Option<u32>
+    ensures { IsSymbol (enum_as (symbol_at (node_at (schema_nodes writer.now) w.0) symbol) (node_at (schema_nodes reader.now) q.0)) result }
 {
     if writer.has(w) {
-        symbol_at_place(reader, q, text_at(writer.node(w), place))
+        symbol_of_id(reader, q, text_at(writer.node(w), symbol))
     } else {
-        symbol_at_place(reader, q, "")
+        symbol_of_id(reader, q, "")
     }
 }
 
@@ -95,7 +101,7 @@ pub fn symbols_of(schema: &Schema, id: NodeId) -> &[String]
     }
 }
 
-/// The place of a reader's symbol, or its default, by the names of the reader's symbols.
+/// The index of a reader's symbol, or its default, by the names of the reader's symbols.
 pub fn symbol_by_name(
     names: &BTreeMap<&str, usize>,
     reads: &[String],
@@ -106,13 +112,13 @@ pub fn symbol_by_name(
     requires names { FindsSymbols (texts_of reads.now) names.now }
     ensures { IsSymbol (enum_or_default (position (λ s. bytes_eq s symbol.now) (texts_of reads.now)) default) result }
 {
-    or_default(place_by_name(names, reads, symbol), default)
+    or_default(index_by_name(names, reads, symbol), default)
 }
 
-/// The first place of a symbol, by the names of the symbols.
-fn place_by_name(names: &BTreeMap<&str, usize>, symbols: &[String], symbol: &str) -> Option<usize>
+/// The first index of a symbol, by the names of the symbols.
+fn index_by_name(names: &BTreeMap<&str, usize>, symbols: &[String], symbol: &str) -> Option<usize>
     requires { FindsSymbols (texts_of symbols.now) names.now }
-    ensures place { result ≡ position (λ s. bytes_eq s symbol.now) (texts_of symbols.now) }
+    ensures index { result ≡ position (λ s. bytes_eq s symbol.now) (texts_of symbols.now) }
     ensures below { IfSome result (λ k. k < length symbols.now) }
 {
     names.get(symbol).copied()

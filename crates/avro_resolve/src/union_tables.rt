@@ -5,7 +5,7 @@ ghost use Rattle.avro_schema.specs.Node.{Node as SeenNode, node_at};
 ghost use Rattle.avro_schema.specs.Seen.{ids_of};
 ghost use Rattle.avro_schema.specs.SeenSchema.{schema_nodes};
 ghost use Rattle.avro_schema.specs.WellFormed.{branch_kind};
-ghost use Rattle.avro_resolve.specs.NameTables.{AreUnionTables, FindsFirst, StartsAt, branches_at, passes, is_named};
+ghost use Rattle.avro_resolve.specs.inside.NameTables.{AreUnionTables, FindsFirst, StartsAt, branches_at, passes, is_named};
 
 use crate::by_node::{FEWEST, add_table, table_of};
 use crate::first_branches::{first_branches, type_at};
@@ -23,7 +23,7 @@ pub fn union_tables(
 {
     let mut tables = Vec::new(alloc);
     let mut number = 0u32;
-    for _place in 0..reader.len() {
+    for _round in 0..reader.len() {
         let id = NodeId(number);
         add_table(&mut tables, id, union_table(alloc, reader, id)?)?;
         number = number.saturating_add(1);
@@ -48,8 +48,8 @@ fn union_table(
 
 /// The branches of a node, and none where it has none. No branch is a union.
 fn branches_of(schema: &Schema, id: NodeId) -> &[NodeId]
-    ensures places { ids_of result.now ≡ branches_at (node_at (schema_nodes schema.now) id.0) }
-    ensures plain { list_all (λ place. is_some (branch_kind (node_at (schema_nodes schema.now) place))) (ids_of result.now) ≡ true }
+    ensures ids { ids_of result.now ≡ branches_at (node_at (schema_nodes schema.now) id.0) }
+    ensures plain { list_all (λ branch. is_some (branch_kind (node_at (schema_nodes schema.now) branch))) (ids_of result.now) ≡ true }
 {
     if (id.0 as usize) >= schema.len() {
         return &[];
@@ -82,7 +82,7 @@ fn alias_count(reader: &Schema, id: NodeId) -> usize {
     }
 }
 
-/// A place of a reader's union before which no branch matches a writer's node.
+/// An index in a reader's union before which no branch matches a writer's node.
 pub fn start_by<'n>(
     tables: &[(NodeId, BTreeMap<(u64, &'n str), usize>)],
     writer: &'n Schema,

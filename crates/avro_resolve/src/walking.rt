@@ -1,36 +1,36 @@
 ghost use Rattle.std.specs.Prelude.{◌≡◌, IfOk};
 ghost use Rattle.avro_schema.specs.SeenSchema.{schema_nodes};
-ghost use Rattle.avro_resolve.specs.Planned.{ArePrepared};
+ghost use Rattle.avro_resolve.specs.Planned.{AreComparisons};
 
 use crate::found::Found;
 use crate::guided::At;
 use crate::names::Names;
 use crate::ordering::{count_of_parts, part_at};
-use crate::prepared::Prepared;
-use crate::preparing::prepare;
+use crate::comparison::Comparison;
+use crate::comparing::compare;
 use avro_schema::{Memory, NodeId, Schema};
 use std::alloc::Global;
 
-/// What a plan keeps of the pairs of nodes that the roots lead to, and the places of the pairs of their parts.
+/// What a plan keeps of the pairs of nodes that the roots lead to, and the indices of the pairs of their parts.
 /// The roots' pair is the first.
-pub fn prepare_reached(
+pub fn compare_reached(
     alloc: Global,
     writer: &Schema,
     reader: &Schema,
-) -> Result<(Vec<Prepared>, Vec<Vec<u32>>), Memory>
-    ensures { IfOk result (λ r. ArePrepared (schema_nodes writer.now) (schema_nodes reader.now) r.0.items) }
+) -> Result<(Vec<Comparison>, Vec<Vec<u32>>), Memory>
+    ensures { IfOk result (λ r. AreComparisons (schema_nodes writer.now) (schema_nodes reader.now) r.0.items) }
 {
     let names = Names::new(alloc, writer, reader)?;
     let mut found = Found::new(alloc);
-    found.place_of(writer.root(), reader.root())?;
+    found.index_of(writer.root(), reader.root())?;
     let mut kept = Vec::new(alloc);
     let mut parts = Vec::new(alloc);
     for _round in 0..most_pairs(writer, reader) {
         match found.pair(kept.len()) {
             Some((w, r)) => {
-                let prepared = prepare(alloc, &names, w, r)?;
-                parts.push(find_parts(alloc, writer, reader, &prepared, &mut found)?)?;
-                kept.push(prepared)?;
+                let comparison = compare(alloc, &names, w, r)?;
+                parts.push(find_parts(alloc, writer, reader, &comparison, &mut found)?)?;
+                kept.push(comparison)?;
             }
             None => return Ok((kept, parts)),
         }
@@ -43,21 +43,21 @@ fn most_pairs(writer: &Schema, reader: &Schema) -> usize {
     writer.len().saturating_mul(reader.len())
 }
 
-/// The places of the pairs of the parts of a pair, which are found with it.
+/// The indices of the pairs of the parts of a pair, which are found with it.
 fn find_parts(
     alloc: Global,
     writer: &Schema,
     reader: &Schema,
-    pair: &Prepared,
+    pair: &Comparison,
     found: &mut Found,
 ) -> Result<Vec<u32>, Memory> {
     let mut parts = Vec::new(alloc);
     for part in 0..count_of_parts(writer, pair) {
-        let place = match part_at(writer, reader, pair, part) {
+        let index = match part_at(writer, reader, pair, part) {
             At::Ignored => 0,
-            At::Pair(w, r) => found.place_of(w, r)?,
+            At::Pair(w, r) => found.index_of(w, r)?,
         };
-        parts.push(place)?;
+        parts.push(index)?;
     }
     Ok(parts)
 }

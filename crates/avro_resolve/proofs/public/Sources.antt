@@ -10,30 +10,30 @@ use Rattle.avro_schema.specs.Node.{FieldNode}
 use Rattle.avro_schema.specs.Distinct.{are_distinct}
 use Rattle.avro_schema.specs.WellFormed.{field_names}
 use Rattle.avro_resolve.specs.Ends.{IsField, here, later}
-use Rattle.avro_resolve.specs.Source.{field_place, or_else, first_place, source_of, is_place, reader_field}
+use Rattle.avro_resolve.specs.Source.{field_index, or_else, first_index, source_of, is_place, reader_field}
 
--- the place is that of a field, whose name is one of the names
+-- the index is that of a field, whose name is one of the names
 abbrev pub IsNamed : List FieldNode → FieldNode → List (List ℕ) → ℕ → Type 0
 IsNamed ws d names k = (k < length ws) × (list_any (bytes_eq (get_or ws k d).name) names ≡ true)
 
 named_later : (ws : List FieldNode) (d : FieldNode) (name : List ℕ) (names : List (List ℕ)) (k : ℕ) → IsNamed ws d names k → IsNamed ws d (name ∷ names) k
 named_later ws d name names k h = (h.0, or_right (bytes_eq (get_or ws k d).name name) (list_any (bytes_eq (get_or ws k d).name) names) h.1)
 
-named_here : (ws : List FieldNode) (d : FieldNode) (name : List ℕ) (names : List (List ℕ)) (k : ℕ) → field_place ws name ≡ Some k → IsNamed ws d (name ∷ names) k
+named_here : (ws : List FieldNode) (d : FieldNode) (name : List ℕ) (names : List (List ℕ)) (k : ℕ) → field_index ws name ≡ Some k → IsNamed ws d (name ∷ names) k
 named_here ws d name names k e =
     let p = position-Some (λ f. bytes_eq f.name name) ws k d e in
     (p.0, or_left (bytes_eq (get_or ws k d).name name) (list_any (bytes_eq (get_or ws k d).name) names) p.1)
 
 named_either : (ws : List FieldNode) (d : FieldNode) (name : List ℕ) (names : List (List ℕ)) (k : ℕ) (first rest : Option ℕ)
-    → field_place ws name ≡ first → (rest ≡ Some k → IsNamed ws d names k) → or_else first rest ≡ Some k → IsNamed ws d (name ∷ names) k
+    → field_index ws name ≡ first → (rest ≡ Some k → IsNamed ws d names k) → or_else first rest ≡ Some k → IsNamed ws d (name ∷ names) k
 named_either ws d name names k None rest is more e = named_later ws d name names k (more e)
 named_either ws d name names k (Some j) rest is more e = named_here ws d name names k (is ∙ e)
 
--- the first place among some names is that of a field with one of them
-pub first_place-named : (ws : List FieldNode) (d : FieldNode) (names : List (List ℕ)) (k : ℕ) → first_place ws names ≡ Some k → IsNamed ws d names k
+-- the first index among some names is that of a field with one of them
+pub first_place-named : (ws : List FieldNode) (d : FieldNode) (names : List (List ℕ)) (k : ℕ) → first_index ws names ≡ Some k → IsNamed ws d names k
 first_place-named ws d [] k e = absurd (cc)
 first_place-named ws d (name ∷ names) k e =
-    named_either ws d name names k (field_place ws name) (first_place ws names) refl (first_place-named ws d names k) e
+    named_either ws d name names k (field_index ws name) (first_index ws names) refl (first_place-named ws d names k) e
 
 -- of two lists together distinct the second is distinct
 pub are_distinct-back : (xs ys : List (List ℕ)) → are_distinct bytes_eq (xs ++ ys) ≡ true → are_distinct bytes_eq ys ≡ true
@@ -94,7 +94,7 @@ two_readers ws fs k f g is distinct e same =
     are_distinct-apart (get_or ws k f).name (field_names f) (flat_map field_names fs) distinct a.1
     (field_name-among (get_or ws k f).name g fs is b.1)
 
--- the reader's field that a place is the source of is that of any field that has the source
+-- the reader's field that an index is the source of is that of any field that has the source
 pub reader_field-source : (ws rs : List FieldNode) (k : ℕ) (g : FieldNode) → IsField g rs → are_distinct bytes_eq (flat_map field_names rs) ≡ true
     → source_of ws g ≡ Some k → TakesSource ws rs k g
 reader_field-source ws rs k g (here {fs = fs}) distinct e = read_first ws fs k g e

@@ -9,9 +9,9 @@ use Rattle.avro_resolve.specs.Ends.{SlotsAre, SlotsFor}
 use Rattle.avro_resolve.proofs.Slots.{ValuesSoFar}
 use Rattle.avro_resolve.proofs.filling.fill.Given as goal
 
-abbrev pub invariant-loop-place : goal.invariant-loop-place
-invariant-loop-place g l =
-    (are_distinct bytes_eq (flat_map field_names (seen_fields (drop l.place l.reads))) ≡ true)
+abbrev pub invariant-loop-index : goal.invariant-loop-index
+invariant-loop-index g l =
+    (are_distinct bytes_eq (flat_map field_names (seen_fields (drop l.index l.reads))) ≡ true)
     × ((found : Sourced) → SlotsAre g.B.Build.stands_for found l.fn.slots.items
-    → SlotsFor g.B.Build.stands_for (seen_fields l.writes) (seen_fields (drop l.place l.reads)) found l.slots.items
-    × ValuesSoFar g.B.Build.stands_for (seen_fields l.writes) found l.reads l.values.items (seen_fields (drop l.place l.reads)))
+    → SlotsFor g.B.Build.stands_for (seen_fields l.writes) (seen_fields (drop l.index l.reads)) found l.slots.items
+    × ValuesSoFar g.B.Build.stands_for (seen_fields l.writes) found l.reads l.values.items (seen_fields (drop l.index l.reads)))

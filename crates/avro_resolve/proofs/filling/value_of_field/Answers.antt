@@ -9,8 +9,8 @@ returns-in-Some-taken g c = λ ws found rest src distinct h.
     let S = g.B.Build.stands_for in
     let f = field_of c.args.f.now in
     let e = sym src ∙ c.in-Some.is in (
-      rest_kept S ws found f rest c.in-Some.place _ _ e distinct c.taken.ensures.others h,
-      value_held S ws found f rest c.in-Some.place _ c.in-Some-taken.out e (sym c.in-Some-taken.ensures.this) h,
+      rest_kept S ws found f rest c.in-Some.index _ _ e distinct c.taken.ensures.others h,
+      value_held S ws found f rest c.in-Some.index _ c.in-Some-taken.out e (sym c.in-Some-taken.ensures.this) h,
     )
 
 pub returns-in-None-taken : goal.returns-in-None-taken
@@ -18,8 +18,8 @@ returns-in-None-taken g c = λ ws found rest src distinct h.
     let S = g.B.Build.stands_for in
     let f = field_of c.args.f.now in
     let e = sym src ∙ c.in-Some.is in (
-      rest_kept S ws found f rest c.in-Some.place _ _ e distinct c.taken.ensures.others h,
-      subst (λ v. IfOk c.null.result (λ out. S out v)) (sym (value_missing S ws found f rest c.in-Some.place _ e (sym c.in-None-taken.ensures.this) h)) c.null.ensures,
+      rest_kept S ws found f rest c.in-Some.index _ _ e distinct c.taken.ensures.others h,
+      subst (λ v. IfOk c.null.result (λ out. S out v)) (sym (value_missing S ws found f rest c.in-Some.index _ e (sym c.in-None-taken.ensures.this) h)) c.null.ensures,
     )
 
 pub returns-in-None-default : goal.returns-in-None-default

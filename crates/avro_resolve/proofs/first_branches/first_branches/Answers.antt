@@ -2,7 +2,7 @@ use Rattle.std.proofs.Common.{◌≡◌, ◌+◌, ◌-◌, ◌∙◌, ap, length
 use Rattle.std.specs.BTreeMap.{get, is_at}
 use Rattle.std.specs.Map.{lookup}
 use Rattle.avro_schema.specs.SeenSchema.{schema_nodes}
-use Rattle.avro_resolve.specs.NameTables.{key_cmp, passes, is_named}
+use Rattle.avro_resolve.specs.inside.NameTables.{key_cmp, passes, is_named}
 use Rattle.avro_resolve.proofs.NamedKeys.{branch_from, branch_next, branch_none, branch_first}
 use Rattle.avro_resolve.proofs.first_branches.first_branches.Goals as goal
 

@@ -1,7 +1,7 @@
 use Rattle.std.proofs.Common.{◌≡◌, ◌≤◌, length}
 use Rattle.std.specs.BTreeMap.{get}
 use Rattle.avro_schema.specs.SeenSchema.{schema_nodes}
-use Rattle.avro_resolve.specs.NameTables.{NameKey, key_cmp, passes, is_named}
+use Rattle.avro_resolve.specs.inside.NameTables.{NameKey, key_cmp, passes, is_named}
 use Rattle.avro_resolve.proofs.NamedKeys.{branch_from}
 use Rattle.avro_resolve.proofs.first_branches.first_branches.Given as goal
 

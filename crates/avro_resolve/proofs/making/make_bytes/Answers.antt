@@ -5,7 +5,7 @@ use Rattle.avro_schema.specs.Node.{node_at}
 use Rattle.avro_schema.specs.SeenSchema.{schema_nodes}
 use Rattle.avro_schema.specs.Value.{Value}
 use Rattle.avro_resolve.specs.Fault.{fault_here, not_utf8}
-use Rattle.avro_resolve.specs.Guided.{MadeAs}
+use Rattle.avro_resolve.specs.inside.Guided.{MadeAs}
 use Rattle.avro_resolve.specs.Pairs.{wrapped}
 use Rattle.avro_resolve.proofs.Guiding.{as_fault, wrapped_fault}
 use Rattle.avro_resolve.proofs.TextRead.{text_taken, text_bad}

@@ -20,7 +20,7 @@ loop-left-preserved c =
           field_next fields (l.left - 1) c.index-fields-left.result name before (get_by (λ k. slice_cmp nat_cmp name k.now) c.insert.new.self)
           (omega (arith, c.loop-left-test.true, l.invariant.0)) c.index-fields-left.is
           (l.invariant.1 name ∙ ap (field_from name fields) one)
-          (btree_map_updates_str c.as_str.result.now l.names c.insert.new.self _ c.in-Ok.ensures.updates name
+          (btree_map_updates_str c.as_str.result.now l.names c.insert.new.self _ c.in_ok-insert.ensures.updates name
           ∙ ap (λ t. cond (bytes_eq t name) (Some (l.left - 1)) before) (c.as_str.ensures.value ∙ ap (λ f. string_bytes f.name) (sym c.index-fields-left.is))),
     )
 

@@ -20,7 +20,7 @@ loop-left-preserved c =
           symbol_next symbols (l.left - 1) c.index-symbols-left.result word before (get_by (λ k. slice_cmp nat_cmp word k.now) c.insert.new.self)
           (omega (arith, c.loop-left-test.true, l.invariant.0)) c.index-symbols-left.is
           (l.invariant.1 word ∙ ap (symbol_from word symbols) one)
-          (btree_map_updates_str c.as_str.result.now l.names c.insert.new.self _ c.in-Ok.ensures.updates word
+          (btree_map_updates_str c.as_str.result.now l.names c.insert.new.self _ c.in_ok-insert.ensures.updates word
           ∙ ap (λ t. cond (bytes_eq t word) (Some (l.left - 1)) before) c.as_str.ensures.value),
     )
 

@@ -4,25 +4,25 @@ use Rattle.avro_schema.specs.Node.{node_at}
 use Rattle.avro_schema.specs.SeenSchema.{schema_nodes}
 use Rattle.avro_schema.specs.Seen.{ids_of}
 use Rattle.avro_resolve.specs.Match.{first_match_from}
-use Rattle.avro_resolve.proofs.Pairing.{places_from, seen_get, found_here, place_below}
+use Rattle.avro_resolve.proofs.Pairing.{ids_from, seen_get, found_here, id_below}
 use Rattle.avro_resolve.proofs.pairs.first_matched.Goals as goal
 
-pub loop-place-init : goal.loop-place-init
-loop-place-init c =
+pub loop-index-init : goal.loop-index-init
+loop-index-init c =
     let ws = schema_nodes c.args.writer.now in
     let rs = schema_nodes c.args.reader.now in
-    c.requires (ids_of c.args.branches.now) refl ∙ ap (first_match_from c.args.start ws rs (node_at ws c.args.w.0)) (places_from c.args.start c.args.branches.now)
+    c.requires (ids_of c.args.branches.now) refl ∙ ap (first_match_from c.args.start ws rs (node_at ws c.args.w.0)) (ids_from c.args.start c.args.branches.now)
 
 pub returns-then-matches : goal.returns-then-matches
 returns-then-matches c =
     let ws = schema_nodes c.args.writer.now in
     let rs = schema_nodes c.args.reader.now in
     let ids = c.args.branches.now in
-    let i = c.loop-place.place in
-    let got = slice_get-get_or ids i (record { 0 = 0 }) c.loop-place-test.true in
+    let i = c.loop-index.index in
+    let got = slice_get-get_or ids i (record { 0 = 0 }) c.loop-index-test.true in
     let yes = sym c.matches.ensures.test ∙ c.if-matches.true in (
-      c.loop-place.invariant ∙ found_here ws rs (node_at ws c.args.w.0) i i ids (slice_index_or ids i (record { 0 = 0 })) got yes,
+      c.loop-index.invariant ∙ found_here ws rs (node_at ws c.args.w.0) i i ids (slice_index_or ids i (record { 0 = 0 })) got yes,
       seen_get ids i (slice_index_or ids i (record { 0 = 0 })) got,
       yes,
-      place_below ids i c.loop-place-test.true,
+      id_below ids i c.loop-index-test.true,
     )

@@ -5,7 +5,7 @@ use Rattle.avro_schema.specs.SeenSchema.{schema_nodes}
 use Rattle.avro_resolve.specs.Match.{first_match, first_match_from}
 use Rattle.avro_resolve.proofs.pairs.first_matched.Given as goal
 
-abbrev pub invariant-loop-place : goal.invariant-loop-place
-invariant-loop-place l =
+abbrev pub invariant-loop-index : goal.invariant-loop-index
+invariant-loop-index l =
     first_match (schema_nodes l.writer) (schema_nodes l.reader) (node_at (schema_nodes l.writer) l.w.0) (ids_of l.branches)
-    ≡ first_match_from l.place (schema_nodes l.writer) (schema_nodes l.reader) (node_at (schema_nodes l.writer) l.w.0) (ids_of (drop l.place l.branches))
+    ≡ first_match_from l.index (schema_nodes l.writer) (schema_nodes l.reader) (node_at (schema_nodes l.writer) l.w.0) (ids_of (drop l.index l.branches))

@@ -1,13 +1,13 @@
 use Rattle.std.proofs.Common.{subst}
 use Rattle.avro_schema.specs.Node.{node_at}
 use Rattle.avro_schema.specs.SeenSchema.{schema_nodes}
-use Rattle.avro_resolve.specs.Guided.{StandsAs}
+use Rattle.avro_resolve.specs.inside.Guided.{StandsAs}
 use Rattle.avro_resolve.proofs.recording.fill_next.Goals as goal
 
 pub returns : goal.returns
-returns g c = λ nodes fs place at vs v h is stands.
+returns g c = λ nodes fs id at vs v h is stands.
     let writer = schema_nodes c.args.plan.now.0 in
     let reader = schema_nodes c.args.plan.now.1 in (
-      c.in_ok-put_field.ensures writer reader nodes fs place at vs v h.0 is (subst (λ x. StandsAs g.B.Build.stands_for writer reader nodes (node_at nodes place) x c.args.made v) h.1 stands),
+      c.in_ok-put_field.ensures writer reader nodes fs id at vs v h.0 is (subst (λ x. StandsAs g.B.Build.stands_for writer reader nodes (node_at nodes id) x c.args.made v) h.1 stands),
       c.next_field_part-fields.ensures,
     )

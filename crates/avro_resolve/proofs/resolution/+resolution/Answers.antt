@@ -10,21 +10,21 @@ use Rattle.avro_resolve.proofs.InOrder.{ItemsSoFar, item_done, items_done, entry
 use Rattle.avro_resolve.proofs.Slots.{FieldsSoFar, field_done, field_fails}
 use Rattle.avro_resolve.proofs.resolution.+resolution.Goals as goal
 
-pub resolve_each-loop-place-preserved : goal.resolve_each-loop-place-preserved
-resolve_each-loop-place-preserved t c =
+pub resolve_each-loop-index-preserved : goal.resolve_each-loop-index-preserved
+resolve_each-loop-index-preserved t c =
     let writer = schema_nodes c.args.writer.now in
     let reader = schema_nodes c.args.reader.now in
     let w = node_at writer c.args.w.0 in
     let r = node_at reader c.args.r.0 in
-    subst (λ made. ItemsSoFar writer reader w r c.args.items.now (c.loop-place.place + 1) made) (sym c.in-Ok-push.ensures.items)
-    (item_done writer reader w r c.args.items.now c.loop-place.resolved.items c.loop-place.place c.index-items-place.result c.in-Ok.item c.loop-place-test.true
-    (ap (λ d. resolve_value writer reader w r (value_of d)) (sym c.index-items-place.is) ∙ c.in-Ok.ensures) c.loop-place.invariant)
+    subst (λ made. ItemsSoFar writer reader w r c.args.items.now (c.loop-index.index + 1) made) (sym c.in-Ok-push.ensures.items)
+    (item_done writer reader w r c.args.items.now c.loop-index.resolved.items c.loop-index.index c.index-items-index.result c.in-Ok.item c.loop-index-test.true
+    (ap (λ d. resolve_value writer reader w r (value_of d)) (sym c.index-items-index.is) ∙ c.in-Ok.ensures) c.loop-index.invariant)
 
 pub resolve_each-returns : goal.resolve_each-returns
 resolve_each-returns t c =
     let writer = schema_nodes c.args.writer.now in
     let reader = schema_nodes c.args.reader.now in
-    items_done writer reader (node_at writer c.args.w.0) (node_at reader c.args.r.0) c.args.items.now c.loop-place.resolved.items c.loop-place.place c.loop-place-test.false c.loop-place.invariant
+    items_done writer reader (node_at writer c.args.w.0) (node_at reader c.args.r.0) c.args.items.now c.loop-index.resolved.items c.loop-index.index c.loop-index-test.false c.loop-index.invariant
 
 pub resolve_fields-returns-in-Err : goal.resolve_fields-returns-in-Err
 resolve_fields-returns-in-Err t c =
@@ -32,36 +32,36 @@ resolve_fields-returns-in-Err t c =
     let reader = schema_nodes c.args.reader.now in
     let ws = seen_fields c.args.writes.now in
     let rs = seen_fields c.args.reads.now in
-    let i = c.loop-place.place in
-    field_fails writer reader ws rs c.args.values.now i c.index-values-place.result c.loop-place.slots.items c.in-Err.error c.loop-place-test.true
-    (subst (λ d. EndsSlot i (Err c.in-Err.error) (field_step writer reader ws rs i (value_of d))) c.index-values-place.is c.in-Err.ensures) c.loop-place.invariant
+    let i = c.loop-index.index in
+    field_fails writer reader ws rs c.args.values.now i c.index-values-index.result c.loop-index.slots.items c.in-Err.error c.loop-index-test.true
+    (subst (λ d. EndsSlot i (Err c.in-Err.error) (field_step writer reader ws rs i (value_of d))) c.index-values-index.is c.in-Err.ensures) c.loop-index.invariant
 
-pub resolve_fields-loop-place-preserved : goal.resolve_fields-loop-place-preserved
-resolve_fields-loop-place-preserved t c =
+pub resolve_fields-loop-index-preserved : goal.resolve_fields-loop-index-preserved
+resolve_fields-loop-index-preserved t c =
     let writer = schema_nodes c.args.writer.now in
     let reader = schema_nodes c.args.reader.now in
     let ws = seen_fields c.args.writes.now in
     let rs = seen_fields c.args.reads.now in
-    let i = c.loop-place.place in
+    let i = c.loop-index.index in
     subst (FieldsSoFar writer reader ws rs c.args.values.now (i + 1)) (sym c.in-Ok-push.ensures.items)
-    (field_done writer reader ws rs c.args.values.now i c.index-values-place.result c.loop-place.slots.items c.in-Ok.slot c.loop-place-test.true
-    (subst (λ d. EndsSlot i (Ok c.in-Ok.slot) (field_step writer reader ws rs i (value_of d))) c.index-values-place.is c.in-Ok.ensures) c.loop-place.invariant)
+    (field_done writer reader ws rs c.args.values.now i c.index-values-index.result c.loop-index.slots.items c.in-Ok.slot c.loop-index-test.true
+    (subst (λ d. EndsSlot i (Ok c.in-Ok.slot) (field_step writer reader ws rs i (value_of d))) c.index-values-index.is c.in-Ok.ensures) c.loop-index.invariant)
 
-pub resolve_values-loop-place-preserved : goal.resolve_values-loop-place-preserved
-resolve_values-loop-place-preserved t c =
+pub resolve_values-loop-index-preserved : goal.resolve_values-loop-index-preserved
+resolve_values-loop-index-preserved t c =
     let writer = schema_nodes c.args.writer.now in
     let reader = schema_nodes c.args.reader.now in
     let w = node_at writer c.args.w.0 in
     let r = node_at reader c.args.r.0 in
-    let i = c.loop-place.place in
-    entry_done writer reader w r c.args.entries.now c.loop-place.resolved.items c.keep.new.entries.items i c.index-entries-place.result c.index-entries-place-in-Ok.result c.in-Ok.value c.loop-place-test.true
-    c.in-Ok.ensures c.in-Ok-keep.ensures c.loop-place.invariant
+    let i = c.loop-index.index in
+    entry_done writer reader w r c.args.entries.now c.loop-index.resolved.items c.keep.new.entries.items i c.index-entries-index.result c.index-entries-index-in-Ok.result c.in-Ok.value c.loop-index-test.true
+    c.in-Ok.ensures c.in-Ok-keep.ensures c.loop-index.invariant
 
 pub resolve_values-returns : goal.resolve_values-returns
 resolve_values-returns t c =
     let writer = schema_nodes c.args.writer.now in
     let reader = schema_nodes c.args.reader.now in
-    entries_done writer reader (node_at writer c.args.w.0) (node_at reader c.args.r.0) c.args.entries.now c.loop-place.resolved.items c.loop-place.place c.loop-place-test.false c.loop-place.invariant
+    entries_done writer reader (node_at writer c.args.w.0) (node_at reader c.args.r.0) c.args.entries.now c.loop-index.resolved.items c.loop-index.index c.loop-index-test.false c.loop-index.invariant
 
 pub take-returns-in-Ok-resolve_values : goal.take-returns-in-Ok-resolve_values
 take-returns-in-Ok-resolve_values t c =

@@ -5,14 +5,14 @@ use Rattle.avro_resolve.proofs.InOrder.{ItemsSoFar, EntriesSoFar}
 use Rattle.avro_resolve.proofs.Slots.{FieldsSoFar}
 use Rattle.avro_resolve.proofs.resolution.+resolution.Given as goal
 
-abbrev pub invariant-resolve_each-loop-place : goal.invariant-resolve_each-loop-place
-invariant-resolve_each-loop-place l =
-    ItemsSoFar (schema_nodes l.writer) (schema_nodes l.reader) (node_at (schema_nodes l.writer) l.w.0) (node_at (schema_nodes l.reader) l.r.0) l.items l.place l.resolved.items
+abbrev pub invariant-resolve_each-loop-index : goal.invariant-resolve_each-loop-index
+invariant-resolve_each-loop-index l =
+    ItemsSoFar (schema_nodes l.writer) (schema_nodes l.reader) (node_at (schema_nodes l.writer) l.w.0) (node_at (schema_nodes l.reader) l.r.0) l.items l.index l.resolved.items
 
-abbrev pub invariant-resolve_fields-loop-place : goal.invariant-resolve_fields-loop-place
-invariant-resolve_fields-loop-place l =
-    FieldsSoFar (schema_nodes l.writer) (schema_nodes l.reader) (seen_fields l.writes) (seen_fields l.reads) l.values l.place l.slots.items
+abbrev pub invariant-resolve_fields-loop-index : goal.invariant-resolve_fields-loop-index
+invariant-resolve_fields-loop-index l =
+    FieldsSoFar (schema_nodes l.writer) (schema_nodes l.reader) (seen_fields l.writes) (seen_fields l.reads) l.values l.index l.slots.items
 
-abbrev pub invariant-resolve_values-loop-place : goal.invariant-resolve_values-loop-place
-invariant-resolve_values-loop-place l =
-    EntriesSoFar (schema_nodes l.writer) (schema_nodes l.reader) (node_at (schema_nodes l.writer) l.w.0) (node_at (schema_nodes l.reader) l.r.0) l.entries l.place l.resolved.items
+abbrev pub invariant-resolve_values-loop-index : goal.invariant-resolve_values-loop-index
+invariant-resolve_values-loop-index l =
+    EntriesSoFar (schema_nodes l.writer) (schema_nodes l.reader) (node_at (schema_nodes l.writer) l.w.0) (node_at (schema_nodes l.reader) l.r.0) l.entries l.index l.resolved.items

@@ -2,4 +2,4 @@ use Rattle.avro_resolve.proofs.Slots.{seen_at}
 use Rattle.avro_resolve.proofs.sourcing.missing_among.Goals as goal
 
 pub source_at-requires-clause-there : goal.source_at-requires-clause-there
-source_at-requires-clause-there c = seen_at c.args.reader.now c.loop-place.place c.index-reader-place.result c.loop-place-test.true c.index-reader-place.is
+source_at-requires-clause-there c = seen_at c.args.reader.now c.loop-index.index c.index-reader-index.result c.loop-index-test.true c.index-reader-index.is

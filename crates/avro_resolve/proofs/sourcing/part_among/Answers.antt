@@ -11,7 +11,7 @@ loop-index-preserved c =
     let f = c.index-reader-index.result in
     let low = c.loop-index-test.true in
     let is = c.index-reader-index.is in
-    c.loop-index.invariant ∙ reader_past (seen_fields c.args.writer.now) reads i c.args.place f low is (sym (c.takes.ensures (seen_fields reads) c.requires (seen_at reads i f low is)) ∙ c.if-takes.false)
+    c.loop-index.invariant ∙ reader_past (seen_fields c.args.writer.now) reads i c.args.field f low is (sym (c.takes.ensures (seen_fields reads) c.requires (seen_at reads i f low is)) ∙ c.if-takes.false)
 
 pub returns-then-takes : goal.returns-then-takes
 returns-then-takes c =
@@ -20,5 +20,5 @@ returns-then-takes c =
     let f = c.index-reader-index.result in
     let low = c.loop-index-test.true in
     let is = c.index-reader-index.is in
-    part_found (seen_fields c.args.writer.now) reads i c.args.place f low is (sym (c.takes.ensures (seen_fields reads) c.requires (seen_at reads i f low is)) ∙ c.if-takes.true)
+    part_found (seen_fields c.args.writer.now) reads i c.args.field f low is (sym (c.takes.ensures (seen_fields reads) c.requires (seen_at reads i f low is)) ∙ c.if-takes.true)
     _ c.loop-index.invariant c.node_of_field-node.result _ c.node_of_field-node.ensures

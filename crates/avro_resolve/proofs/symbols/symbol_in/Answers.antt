@@ -8,4 +8,4 @@ pub returns-in-Enum : goal.returns-in-Enum
 returns-in-Enum c =
     subst (λ n. IsSymbol (enum_as c.args.symbol.now (node_of n)) c.or_default.result) (sym c.in-Enum.is)
     (subst (λ o. IsSymbol (enum_or_default o c.in-Enum.enumeration.default) c.or_default.result)
-    (c.place_of.ensures.place ∙ ap (λ ss. position (λ s. bytes_eq s c.args.symbol.now) (texts_of ss)) c.deref.ensures.value) c.or_default.ensures)
+    (c.index_of.ensures.index ∙ ap (λ ss. position (λ s. bytes_eq s c.args.symbol.now) (texts_of ss)) c.deref.ensures.value) c.or_default.ensures)

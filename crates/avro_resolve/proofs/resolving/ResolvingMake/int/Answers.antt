@@ -4,7 +4,7 @@ use Rattle.std.proofs.lemmas.Int.{to_z-of_z}
 use Rattle.avro_schema.specs.Node.{Node, node_at}
 use Rattle.avro_schema.specs.SeenSchema.{schema_nodes}
 use Rattle.avro_schema.specs.Value.{Value}
-use Rattle.avro_resolve.specs.Guided.{MadeAs}
+use Rattle.avro_resolve.specs.inside.Guided.{MadeAs}
 use Rattle.avro_resolve.specs.Pairs.{wrapped}
 use Rattle.avro_resolve.specs.Resolve.{int_as}
 use Rattle.avro_resolve.proofs.Guiding.{leaf_made}

@@ -1,0 +1,159 @@
+-- What reading with resolution makes of a writer's datum, part by part.
+use Rattle.std.specs.Prelude.{◌≡◌, ◌<◌, ◌^◌, ℕ, ◌++◌, List, Option, Some, None, length, Result, Ok, Err}
+use Rattle.avro_schema.specs.Value.{Value, size, values_size, entries_size}
+use Rattle.avro_schema.specs.Node.{Node, FieldNode, node_at}
+use Rattle.avro_schema.specs.Seen.{values_from, entries_from}
+use Rattle.avro_schema.specs.declared.schema.NodeId.{NodeId}
+use Rattle.avro_resolve.specs.Fault.{ResolutionFault}
+use Rattle.avro_resolve.specs.Ends.{turned, SlotsAre, AllBelow, joined, joined_entries, before}
+use Rattle.avro_resolve.specs.Pairs.{wrapped, item_id, value_id, branch_id, field_for}
+use Rattle.avro_resolve.specs.Resolve.{Resolved, Sourced, resolve, resolve_items, resolve_entries, resolve_sources, fields_at, result_map, through}
+use Rattle.avro_resolve.specs.Source.{missing_field}
+use Rattle.avro_resolve.specs.declared.guided.At.{At}
+use Rattle.avro_resolve.specs.declared.guided.At.TheVariants.{Ignored, Pair}
+use Rattle.avro_resolve.specs.declared.guided.Made.{Made}
+use Rattle.avro_resolve.specs.declared.guided.Run.{Run}
+use Rattle.avro_resolve.specs.declared.guided.Slots.{Slots}
+use Rattle.avro_resolve.specs.declared.guided.Part.{Part}
+use Rattle.avro_resolve.specs.declared.guided.Filling.{Filling}
+
+-- what was made is what resolution gives
+abbrev pub MadeAs : {O : Type 0} → (O → Value → Type 0) → Made O → Resolved → Type 0
+MadeAs S (Made.Good out) (Ok v) = S out v
+MadeAs S (Made.Good out) (Err f) = ⊥
+MadeAs S (Made.Faulty fault) resolved = resolved ≡ Err (turned fault)
+MadeAs S Made.Nothing resolved = ⊥
+
+-- nothing was made, since nothing was asked
+abbrev pub IsNothing : {O : Type 0} → Made O → Type 0
+IsNothing Made.Nothing = Unit {0}
+IsNothing made = ⊥
+
+-- a datum of a run of items whose indices are numbers of the machine
+abbrev pub IsSmall : ℕ → Type 0
+IsSmall n = n < 2 ^ 64
+
+-- What a part at a pair of nodes is made of is what resolution gives of it; of an ignored part nothing is made.
+abbrev pub StandsAs : {O : Type 0} → (O → Value → Type 0) → List Node → List Node → List Node → Node → At → Made O → Value → Type 0
+StandsAs S writer reader nodes n Ignored out v = IsNothing out
+StandsAs S writer reader nodes n (Pair w r) out v =
+    nodes ≡ writer → n ≡ node_at writer w.0 → IsSmall (size v) → MadeAs S out (resolve writer reader (node_at writer w.0) (node_at reader r.0) v)
+
+abbrev pub branch_for : List Node → At → ℕ → At
+branch_for writer Ignored k = Ignored
+branch_for writer (Pair w r) k = Pair (record { 0 = branch_id (node_at writer w.0) k }) r
+
+-- a pair leads to a node, by a branch where there is one
+abbrev pub Leads : List Node → List Node → Node → Node → Option ℕ → ℕ → Type 0
+Leads writer reader w r branch q = (resolve : Node → Resolved) → through writer reader w r resolve ≡ wrapped branch (resolve (node_at reader q))
+
+-- Of some parts, whatever follows them: resolution goes on behind them, and what it gave of them is put before the rest.
+abbrev pub SoFar : {E A M : Type 0} → (ℕ → List E → Result A ResolutionFault) → (M → A → A) → List E → M → Type 0
+SoFar {E = E} run join xs made = (more : List E) → run 0 (xs ++ more) ≡ result_map (join made) (run (length xs) more)
+
+-- ---- Items
+
+-- items that were made so far, none of which has a fault
+pub record ItemsGood {I : Type 0} (S : I → List Value → Type 0) (writer reader : List Node) (w r : Node) (items : I) (count : ℕ) (branch : Option ℕ) (a b : NodeId) (vs : List Value) : Type 0 where
+  pub to : ℕ
+  pub leads : Leads writer reader w r branch to
+  pub of_writer : a.0 ≡ item_id w
+  pub of_reader : b.0 ≡ item_id (node_at reader to)
+  pub counted : count ≡ length vs
+  pub made : List Value
+  pub so_far : SoFar (λ k us. resolve_items writer reader (node_at writer a.0) (node_at reader b.0) k (values_from us)) joined vs made
+  pub stands : S items made
+
+-- a run is good so far, or one of its items has a fault, whatever follows
+abbrev pub RunAs : {I : Type 0} → (I → List Value → Type 0) → List Node → List Node → Node → Node → Run I → List Value → Type 0
+RunAs S writer reader w r (Run.Good items count branch a b) vs = IsSmall (values_size (values_from vs)) → ItemsGood S writer reader w r items count branch a b vs
+RunAs S writer reader w r (Run.Faulty fault) vs =
+    (more : List Value) → IsSmall (values_size (values_from (vs ++ more))) → resolve writer reader w r (Value.array (values_from (vs ++ more))) ≡ Err (turned fault)
+RunAs S writer reader w r Run.Nothing vs = ⊥
+
+abbrev pub IsNoRun : {I : Type 0} → Run I → Type 0
+IsNoRun Run.Nothing = Unit {0}
+IsNoRun run = ⊥
+
+abbrev pub ItemsStandAs : {I : Type 0} → (I → List Value → Type 0) → List Node → List Node → List Node → ℕ → At → Run I → List Value → Type 0
+ItemsStandAs S writer reader nodes id Ignored items vs = IsNoRun items
+ItemsStandAs S writer reader nodes id (Pair w r) items vs =
+    nodes ≡ writer → Node.array id ≡ node_at writer w.0 → RunAs S writer reader (node_at writer w.0) (node_at reader r.0) items vs
+
+-- ---- Entries
+
+-- the same of entries
+pub record EntriesGood {I : Type 0} (S : I → List (List ℕ × Value) → Type 0) (writer reader : List Node) (w r : Node) (items : I) (count : ℕ) (branch : Option ℕ) (a b : NodeId) (vs : List (List ℕ × Value)) : Type 0 where
+  pub to : ℕ
+  pub leads : Leads writer reader w r branch to
+  pub of_writer : a.0 ≡ value_id w
+  pub of_reader : b.0 ≡ value_id (node_at reader to)
+  pub counted : count ≡ length vs
+  pub made : List (List ℕ × Value)
+  pub so_far : SoFar (λ k us. resolve_entries writer reader (node_at writer a.0) (node_at reader b.0) k (entries_from us)) joined_entries vs made
+  pub stands : S items made
+
+abbrev pub MapRunAs : {I : Type 0} → (I → List (List ℕ × Value) → Type 0) → List Node → List Node → Node → Node → Run I → List (List ℕ × Value) → Type 0
+MapRunAs S writer reader w r (Run.Good items count branch a b) vs = IsSmall (entries_size (entries_from vs)) → EntriesGood S writer reader w r items count branch a b vs
+MapRunAs S writer reader w r (Run.Faulty fault) vs =
+    (more : List (List ℕ × Value)) → IsSmall (entries_size (entries_from (vs ++ more))) → resolve writer reader w r (Value.map_of (entries_from (vs ++ more))) ≡ Err (turned fault)
+MapRunAs S writer reader w r Run.Nothing vs = ⊥
+
+abbrev pub EntriesStandAs : {I : Type 0} → (I → List (List ℕ × Value) → Type 0) → List Node → List Node → List Node → ℕ → At → Run I → List (List ℕ × Value) → Type 0
+EntriesStandAs S writer reader nodes id Ignored items vs = IsNoRun items
+EntriesStandAs S writer reader nodes id (Pair w r) items vs =
+    nodes ≡ writer → Node.map_of id ≡ node_at writer w.0 → MapRunAs S writer reader (node_at writer w.0) (node_at reader r.0) items vs
+
+-- what the next item or entry is for
+abbrev pub next_at : {I : Type 0} → Run I → At
+next_at (Run.Good items count branch a b) = Pair a b
+next_at (Run.Faulty fault) = Ignored
+next_at Run.Nothing = Ignored
+
+-- ---- Fields
+
+-- fields that were made so far, none of which has a fault
+pub record FieldsGood {O : Type 0} (S : O → Value → Type 0) (writer reader : List Node) (w r : Node) (slots : List (Option O)) (branch : Option ℕ) (a b : NodeId) (vs : List Value) : Type 0 where
+  pub leads : Leads writer reader w r branch b.0
+  pub of_writer : node_at writer a.0 ≡ w
+  pub complete : missing_field (fields_at w) (fields_at (node_at reader b.0)) ≡ None
+  pub counted : length slots ≡ length vs
+  pub found : Sourced
+  pub below : AllBelow (length vs) found
+  pub so_far : SoFar (λ k us. resolve_sources writer reader (fields_at (node_at writer a.0)) (fields_at (node_at reader b.0)) k (values_from us)) before vs found
+  pub stands : SlotsAre S found slots
+
+abbrev pub SlotsStand : {O : Type 0} → (O → Value → Type 0) → List Node → List Node → Node → Node → Slots O → List Value → Type 0
+SlotsStand S writer reader w r (Slots.Good slots branch a b) vs = IsSmall (values_size (values_from vs)) → FieldsGood S writer reader w r slots.items branch a b vs
+SlotsStand S writer reader w r (Slots.Faulty fault) vs =
+    (more : List Value) → IsSmall (values_size (values_from (vs ++ more))) → resolve writer reader w r (Value.record_of (values_from (vs ++ more))) ≡ Err (turned fault)
+SlotsStand S writer reader w r Slots.Nothing vs = ⊥
+
+abbrev pub AreNoSlots : {O : Type 0} → Slots O → Type 0
+AreNoSlots Slots.Nothing = Unit {0}
+AreNoSlots slots = ⊥
+
+abbrev pub FieldsStandAs : {O : Type 0} → (O → Value → Type 0) → List Node → List Node → List Node → List FieldNode → At → Slots O → List Value → Type 0
+FieldsStandAs S writer reader nodes fs Ignored slots vs = AreNoSlots slots
+FieldsStandAs S writer reader nodes fs (Pair w r) slots vs =
+    nodes ≡ writer → fields_at (node_at writer w.0) ≡ fs → SlotsStand S writer reader (node_at writer w.0) (node_at reader r.0) slots vs
+
+-- what the next field is for
+abbrev pub next_field : {O : Type 0} → List Node → List Node → Slots O → At
+next_field writer reader (Slots.Good slots branch a b) = field_for (fields_at (node_at writer a.0)) (fields_at (node_at reader b.0)) (length slots.items)
+next_field writer reader (Slots.Faulty fault) = Ignored
+next_field writer reader Slots.Nothing = Ignored
+
+-- ---- What the code asks a plan by
+
+-- the value of a branch
+abbrev pub branch_part : List Node → Part → ℕ → Part
+branch_part writer part k = record { at = branch_for writer part.at k; index = part.index; branch = Some k }
+
+-- a part that is no branch
+abbrev pub part_below : At → ℕ → Part
+part_below at index = record { at = at; index = index; branch = None }
+
+-- fields that were made so far, with what the next is for
+abbrev pub FillsAs : {O : Type 0} → (O → Value → Type 0) → List Node → List Node → List Node → List FieldNode → At → Filling O → List Value → Type 0
+FillsAs S writer reader nodes fs at fields vs = FieldsStandAs S writer reader nodes fs at fields.slots vs × (fields.next.at ≡ next_field writer reader fields.slots)

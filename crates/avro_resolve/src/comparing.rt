@@ -1,0 +1,178 @@
+ghost use Rattle.std.specs.Prelude.{◌≡◌, IfOk, length, suc};
+ghost use Rattle.avro_schema.specs.Node.{node_at};
+ghost use Rattle.avro_schema.specs.Seen.{seen_fields};
+ghost use Rattle.avro_resolve.specs.Resolve.{fields_at};
+ghost use Rattle.avro_schema.specs.SeenSchema.{schema_nodes};
+ghost use Rattle.avro_resolve.specs.inside.NameTables.{symbols_at};
+ghost use Rattle.avro_resolve.specs.inside.Noting.{AreIgnored, noted};
+ghost use Rattle.avro_resolve.specs.Planned.{AreFor, AreInside, AreComparisons, AreSources, AreSymbols, IsComparison};
+
+use crate::guided::{Aim, At};
+use crate::names::Names;
+use crate::comparison::Comparison;
+use crate::sourcing::{fields_of, missing_among, node_of_field, source_kept};
+use crate::symbols::symbols_of;
+use avro_schema::{Field, Memory, NodeId, Schema};
+use std::alloc::Global;
+
+/// What a plan keeps of some pairs of nodes.
+pub fn compare_all(
+    alloc: Global,
+    writer: &Schema,
+    reader: &Schema,
+    pairs: &[(NodeId, NodeId)],
+) -> Result<Vec<Comparison>, Memory>
+    ensures { IfOk result (λ kept. AreComparisons (schema_nodes writer.now) (schema_nodes reader.now) kept.items) }
+{
+    let names = Names::new(alloc, writer, reader)?;
+    let mut kept = Vec::new(alloc);
+    for pair in pairs {
+        let comparison = compare(alloc, &names, pair.0, pair.1)?;
+        kept.push(comparison)?;
+    }
+    Ok(kept)
+}
+
+/// What a plan keeps of a pair of nodes. Their names are compared here, and nowhere else of those who read
+/// or judge by it.
+///
+/// # Errors
+///
+/// Memory ran out.
+pub fn compare(alloc: Global, names: &Names, w: NodeId, r: NodeId) -> Result<Comparison, Memory>
+    ensures { IfOk result (λ p. IsComparison (schema_nodes names.now.0) (schema_nodes names.now.1) p × (p.w ≡ w) × (p.r ≡ r)) }
+{
+    let aim = names.aim(w, r);
+    match aim {
+        Aim::Fault(_) => Ok(outside(alloc, w, r, aim)),
+        Aim::To(Some(_), _) => Ok(outside(alloc, w, r, aim)),
+        Aim::To(None, _) => compare_inside(alloc, names, w, r, aim),
+    }
+}
+
+/// A pair of nodes that leads elsewhere, of which nothing is kept inside.
+fn outside(alloc: Global, w: NodeId, r: NodeId, aim: Aim) -> Comparison
+    ensures { (result.aim ≡ aim) × (result.w ≡ w) × (result.r ≡ r) }
+{
+    Comparison {
+        w,
+        r,
+        aim,
+        missing: None,
+        fields: Vec::new(alloc),
+        sources: Vec::new(alloc),
+        symbols: Vec::new(alloc),
+    }
+}
+
+/// What a plan keeps of a pair of nodes that leads to the reader's node itself.
+fn compare_inside(
+    alloc: Global,
+    names: &Names,
+    w: NodeId,
+    r: NodeId,
+    aim: Aim,
+) -> Result<Comparison, Memory>
+    ensures { IfOk result (λ p. AreInside (node_at (schema_nodes names.now.0) w.0) (node_at (schema_nodes names.now.1) r.0) p
+        × (p.aim ≡ aim) × (p.w ≡ w) × (p.r ≡ r)) }
+{
+    let writes = fields_of(names.writer(), w);
+    let reads = fields_of(names.reader(), r);
+    let sources = find_sources(alloc, names, w, reads)?;
+    let fields = find_fields(alloc, writes, reads, &sources)?;
+    let symbols = find_symbols(alloc, names, w, r)?;
+    Ok(Comparison {
+        w,
+        r,
+        aim,
+        missing: missing_among(writes, reads, &sources),
+        fields,
+        sources,
+        symbols,
+    })
+}
+
+/// The sources of a reader's fields.
+fn find_sources(
+    alloc: Global,
+    names: &Names,
+    w: NodeId,
+    reads: &[Field],
+) -> Result<Vec<Option<usize>>, Memory>
+    ensures each { IfOk result (λ found. AreSources (fields_at (node_at (schema_nodes names.now.0) w.0)) (seen_fields reads.now) found.items) }
+    ensures all { IfOk result (λ found. length found.items ≡ length reads.now) }
+{
+    let mut found = Vec::new(alloc);
+    for index in 0..reads.len() {
+        found.push(names.source(w, &reads[index]))?;
+    }
+    Ok(found)
+}
+
+/// What the writer's fields are for, by the sources of the reader's, and nothing behind the last, where
+/// reading asks too. The reader's fields are gone through from the last, so that the first stays.
+fn find_fields(
+    alloc: Global,
+    writes: &[Field],
+    reads: &[Field],
+    sources: &[Option<usize>],
+) -> Result<Vec<At>, Memory>
+    requires { AreSources (seen_fields writes.now) (seen_fields reads.now) sources.now }
+    ensures each { IfOk result (λ found. AreFor (seen_fields writes.now) (seen_fields reads.now) found.items) }
+    ensures all { IfOk result (λ found. length found.items ≡ suc (length (seen_fields writes.now))) }
+{
+    let mut found = all_ignored(alloc, writes.len() + 1)?;
+    let mut left = reads.len();
+    while left > 0 {
+        left -= 1;
+        let f = &reads[left];
+        match source_kept(writes, sources, left, f) {
+            Some(index) => note(
+                &mut found,
+                index,
+                At::Pair(node_of_field(writes, index), f.node),
+            ),
+            None => {}
+        }
+    }
+    Ok(found)
+}
+
+/// So many parts that are for nothing.
+fn all_ignored(alloc: Global, count: usize) -> Result<Vec<At>, Memory>
+    ensures ignored { IfOk result (λ found. AreIgnored found.items) }
+    ensures all { IfOk result (λ found. length found.items ≡ count) }
+{
+    let mut found = Vec::new(alloc);
+    for _part in 0..count {
+        found.push(At::Ignored)?;
+    }
+    Ok(found)
+}
+
+/// Notes what the part at an index is for.
+fn note(found: &mut Vec<At>, index: usize, at: At)
+    ensures { found.new.items ≡ noted found.old.items index at }
+{
+    if index < found.len() {
+        found[index] = at;
+    }
+}
+
+/// The reader's symbols for a writer's.
+fn find_symbols(
+    alloc: Global,
+    names: &Names,
+    w: NodeId,
+    r: NodeId,
+) -> Result<Vec<Option<u32>>, Memory>
+    ensures each { IfOk result (λ found. AreSymbols (node_at (schema_nodes names.now.0) w.0) (node_at (schema_nodes names.now.1) r.0) found.items) }
+    ensures all { IfOk result (λ found. length found.items ≡ length (symbols_at (node_at (schema_nodes names.now.0) w.0))) }
+{
+    let writes = symbols_of(names.writer(), w);
+    let mut found = Vec::new(alloc);
+    for index in 0..writes.len() {
+        found.push(names.symbol(writes[index].as_str(), r))?;
+    }
+    Ok(found)
+}
