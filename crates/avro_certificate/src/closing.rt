@@ -6,7 +6,7 @@ ghost use Rattle.std.specs.List.{list_all, list_any};
 ghost use Rattle.avro_schema.specs.Node.{node_at, field_ids};
 ghost use Rattle.avro_schema.specs.Seen.{node_of, ids_of, seen_fields, field_of};
 ghost use Rattle.avro_schema.specs.SeenSchema.{schema_nodes};
-ghost use Rattle.avro_resolve.specs.Planned.{AreInside, ArePrepared, AreSources, IsPrepared};
+ghost use Rattle.avro_resolve.specs.Planned.{AreInside, AreComparisons, AreSources, IsComparison};
 ghost use Rattle.avro_resolve.specs.Source.{source_of};
 ghost use Rattle.avro_certificate.specs.Closed.{is_among, is_dead, is_dead_node, is_closed, is_closed_at};
 ghost use Rattle.avro_certificate.specs.inside.ClosedParts.{stands, closed_inside, closed_fields, closed_live, closed_source};
@@ -15,7 +15,7 @@ ghost use Rattle.avro_certificate.specs.SeenPair.{pair_of};
 
 use crate::kept::Certificate;
 use crate::lookup::{has, has_dead};
-use avro_resolve::{Aim, Names, Prepared, prepare};
+use avro_resolve::{Aim, Names, Comparison, compare};
 use avro_schema::{Field, Memory, Node, NodeId, Schema};
 use std::alloc::Global;
 
@@ -31,9 +31,9 @@ pub fn find_closed(
     writer: &Schema,
     reader: &Schema,
     certificate: &Certificate,
-) -> Result<Option<Vec<Prepared>>, Memory>
+) -> Result<Option<Vec<Comparison>>, Memory>
     ensures closed { IfOk result (λ o. is_some o ≡ is_closed (schema_nodes writer.now) (schema_nodes reader.now) (dead_of certificate.now) (pairs_in certificate.now)) }
-    ensures found { IfOk result (λ o. IfSome o (λ found. ArePrepared (schema_nodes writer.now) (schema_nodes reader.now) found.items)) }
+    ensures found { IfOk result (λ o. IfSome o (λ found. AreComparisons (schema_nodes writer.now) (schema_nodes reader.now) found.items)) }
 {
     if is_dead(writer, certificate) && has(certificate, 0, 0) {
         find_pairs(alloc, writer, reader, certificate)
@@ -96,9 +96,9 @@ fn find_pairs(
     writer: &Schema,
     reader: &Schema,
     certificate: &Certificate,
-) -> Result<Option<Vec<Prepared>>, Memory>
+) -> Result<Option<Vec<Comparison>>, Memory>
     ensures closed { IfOk result (λ o. is_some o ≡ list_all (is_closed_at (schema_nodes writer.now) (schema_nodes reader.now) (dead_of certificate.now) (pairs_in certificate.now)) (pairs_in certificate.now)) }
-    ensures found { IfOk result (λ o. IfSome o (λ found. ArePrepared (schema_nodes writer.now) (schema_nodes reader.now) found.items)) }
+    ensures found { IfOk result (λ o. IfSome o (λ found. AreComparisons (schema_nodes writer.now) (schema_nodes reader.now) found.items)) }
 {
     let names = Names::new(alloc, writer, reader)?;
     let pairs = certificate.pairs();
@@ -128,12 +128,12 @@ fn is_closed_at(
     names: &Names,
     certificate: &Certificate,
     pair: (u32, u32),
-    found: &mut Vec<Prepared>,
+    found: &mut Vec<Comparison>,
 ) -> Result<bool, Memory>
     requires { names.now ≡ (writer.now, reader.now) }
     ensures closed { IfOk result (λ b. b ≡ is_closed_at (schema_nodes writer.now) (schema_nodes reader.now) (dead_of certificate.now) (pairs_in certificate.now) (pair_of pair)) }
-    ensures found { OnOk result (ArePrepared (schema_nodes writer.now) (schema_nodes reader.now) found.old.items
-        → ArePrepared (schema_nodes writer.now) (schema_nodes reader.now) found.new.items) }
+    ensures found { OnOk result (AreComparisons (schema_nodes writer.now) (schema_nodes reader.now) found.old.items
+        → AreComparisons (schema_nodes writer.now) (schema_nodes reader.now) found.new.items) }
 {
     let w = NodeId(pair.0);
     let r = NodeId(pair.1);
@@ -143,7 +143,7 @@ fn is_closed_at(
     if has_dead(certificate, w.0) {
         return Ok(true);
     }
-    let kept = prepare(alloc, names, w, r)?;
+    let kept = compare(alloc, names, w, r)?;
     let n = writer.node(w);
     let q = reader.node(r);
     let closed = is_closed_live(certificate, writer, reader, n, q, &kept);
@@ -152,7 +152,7 @@ fn is_closed_at(
 }
 
 /// Adds what was found of a pair.
-fn push_pair(found: &mut Vec<Prepared>, pair: Prepared) -> Result<(), Memory>
+fn push_pair(found: &mut Vec<Comparison>, pair: Comparison) -> Result<(), Memory>
     ensures { OnOk result (found.new.items ≡ found.old.items ++ pair ∷ []) }
 {
     found.push(pair)?;
@@ -166,9 +166,9 @@ fn is_closed_live(
     reader: &Schema,
     n: &Node,
     q: &Node,
-    pair: &Prepared,
+    pair: &Comparison,
 ) -> bool
-    requires pair { IsPrepared (schema_nodes writer.now) (schema_nodes reader.now) pair.now }
+    requires pair { IsComparison (schema_nodes writer.now) (schema_nodes reader.now) pair.now }
     requires from { node_of n.now ≡ node_at (schema_nodes writer.now) pair.now.w.0 }
     requires to { node_of q.now ≡ node_at (schema_nodes reader.now) pair.now.r.0 }
     ensures { result ≡ closed_live (schema_nodes writer.now) (schema_nodes reader.now) (dead_of certificate.now) (pairs_in certificate.now) pair.now.w.0 pair.now.r.0 (node_of n.now) (node_of q.now) }
@@ -197,7 +197,7 @@ fn has_branches(certificate: &Certificate, places: &[NodeId], r: NodeId) -> bool
 
 /// Whether two nodes that match, and are no unions, have no fault of their own and their parts are
 /// accounted for.
-fn is_closed_inside(certificate: &Certificate, n: &Node, q: &Node, pair: &Prepared) -> bool
+fn is_closed_inside(certificate: &Certificate, n: &Node, q: &Node, pair: &Comparison) -> bool
     requires { AreInside (node_of n.now) (node_of q.now) pair.now }
     ensures { result ≡ closed_inside (dead_of certificate.now) (pairs_in certificate.now) (node_of n.now) (node_of q.now) }
 {

@@ -1,7 +1,7 @@
 use crate::deciding::certify;
 use avro_binary::{Build, ReadError};
 use avro_certificate::Certificate;
-use avro_resolve::{Plan, PlanTable, Prepared, ReadResolveError};
+use avro_resolve::{Plan, PlanTable, Comparison, ReadResolveError};
 use avro_schema::{Limits, Memory, Schema};
 use std::alloc::Global;
 use std::marker::Model;
@@ -48,7 +48,7 @@ impl<'a> Approved<'a> {
     ghost use Rattle.avro_binary.specs.Encoding.{Encodes};
     ghost use Rattle.avro_binary.specs.Fault.{ReadFault};
     ghost use Rattle.avro_binary.specs.Seen.{read_fault, UnlessOutOfMemory, Reports};
-    ghost use Rattle.avro_resolve.specs.Planned.{ArePrepared};
+    ghost use Rattle.avro_resolve.specs.Planned.{AreComparisons};
     ghost use Rattle.avro_resolve.specs.Reading.{ReadsAs};
     ghost use Rattle.avro_resolve.specs.Resolve.{resolve_root};
     ghost use Rattle.avro_certificate.specs.Closed.{is_closed};
@@ -67,11 +67,11 @@ impl<'a> Approved<'a> {
         alloc: Global,
         writer: &'a Schema,
         reader: &'a Schema,
-        found: Vec<Prepared>,
+        found: Vec<Comparison>,
         certificate: Option<Certificate>,
     ) -> Result<Approved<'a>, Memory>
         requires compatible { AreCompatible (schema_nodes writer.now) (schema_nodes reader.now) }
-        requires found { ArePrepared (schema_nodes writer.now) (schema_nodes reader.now) found.items }
+        requires found { AreComparisons (schema_nodes writer.now) (schema_nodes reader.now) found.items }
         requires certified { IfSome certificate (IsCertificateOf (schema_nodes writer.now) (schema_nodes reader.now)) }
         ensures { IfOk result (λ a. a ≡ (writer.now, reader.now)) }
     {

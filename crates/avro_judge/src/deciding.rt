@@ -7,7 +7,7 @@ ghost use Rattle.avro_schema.specs.SeenSchema.{schema_nodes};
 ghost use Rattle.avro_least.specs.Asked.{ArePairsShown, steps_at};
 ghost use Rattle.avro_certificate.specs.Compatible.{AreCompatible};
 ghost use Rattle.avro_judge.specs.inside.Judged.{IsCertificateOf, IsJudged};
-ghost use Rattle.avro_resolve.specs.Planned.{ArePrepared};
+ghost use Rattle.avro_resolve.specs.Planned.{AreComparisons};
 ghost use Rattle.avro_least.specs.Tables.{AreDataShown, AreLow, erring_of};
 ghost use Rattle.avro_least.specs.Reached.{AreFollowed, IsSteppedTo, is_key};
 ghost use Rattle.avro_least.specs.SeenLeast.{seen_all, table_of};
@@ -15,7 +15,7 @@ ghost use Rattle.avro_least.specs.SeenLeast.{seen_all, table_of};
 use crate::certifying::certificate_of;
 use avro_certificate::Certificate;
 use avro_least::{Least, Reached, build_error, count, least_data, least_errors, pair_entry, reach};
-use avro_resolve::Prepared;
+use avro_resolve::Comparison;
 use avro_schema::{Datum, Memory, NodeId, Schema};
 use std::alloc::Global;
 
@@ -54,7 +54,7 @@ fn judge_roots(
     requires closed { AreFollowed (steps_at (schema_nodes writer.now) (schema_nodes reader.now) (table_of table.now)) (keys reached.now.known) (length (keys reached.now.known)) }
     requires stepped { (k : ℕ) → is_key (keys reached.now.known) k ≡ true
         → IsSteppedTo (steps_at (schema_nodes writer.now) (schema_nodes reader.now) (table_of table.now)) k }
-    requires found { ArePrepared (schema_nodes writer.now) (schema_nodes reader.now) reached.now.found.items }
+    requires found { AreComparisons (schema_nodes writer.now) (schema_nodes reader.now) reached.now.found.items }
     ensures { IfOk result (λ j. IsJudged (schema_nodes writer.now) (schema_nodes reader.now) limit deepest j) }
 {
     let _ = count(writer);
@@ -98,10 +98,10 @@ pub(crate) fn decide(
     reader: &Schema,
     limit: u32,
     deepest: u32,
-) -> Result<(Judged, Vec<Prepared>), Memory>
+) -> Result<(Judged, Vec<Comparison>), Memory>
     requires range { limit ≤ 16777216 }
     ensures judged { IfOk result (λ r. IsJudged (schema_nodes writer.now) (schema_nodes reader.now) limit deepest r.0) }
-    ensures found { IfOk result (λ r. ArePrepared (schema_nodes writer.now) (schema_nodes reader.now) r.1.items) }
+    ensures found { IfOk result (λ r. AreComparisons (schema_nodes writer.now) (schema_nodes reader.now) r.1.items) }
 {
     let table = least_data(alloc, writer, limit)?;
     let reached = reach(alloc, writer, reader, &table)?;

@@ -5,11 +5,11 @@ ghost use Rattle.std.specs.List.{list_any};
 ghost use Rattle.avro_schema.specs.Node.{Node as SeenNode, node_at, field_ids};
 ghost use Rattle.avro_schema.specs.Seen.{node_of, seen_fields};
 ghost use Rattle.avro_schema.specs.SeenSchema.{schema_nodes};
-ghost use Rattle.avro_resolve.specs.Planned.{AreInside, IsPrepared};
+ghost use Rattle.avro_resolve.specs.Planned.{AreInside, IsComparison};
 ghost use Rattle.avro_least.specs.Asked.{Asked, asked, asked_inside};
 ghost use Rattle.avro_least.specs.SeenAsk.{ask_of, rows_by, rows_of, theirs_at};
 
-use avro_resolve::{Aim, At, Prepared};
+use avro_resolve::{Aim, At, Comparison};
 use avro_schema::{Field, Memory, Node, NodeId, Schema};
 use std::alloc::Global;
 
@@ -82,7 +82,7 @@ fn rows(alloc: Global, writer: &[Field], parts: &[At]) -> Result<Vec<FieldAsk>, 
 }
 
 /// What two records ask for.
-fn ask_fields(alloc: Global, writer: &[Field], pair: &Prepared) -> Result<Ask, Memory>
+fn ask_fields(alloc: Global, writer: &[Field], pair: &Comparison) -> Result<Ask, Memory>
     ensures { IfOk result (λ a. ask_of a ≡ cond (is_some pair.now.missing) Asked.whole
         (Asked.fields (rows_by pair.now.fields.items 0 (field_ids (seen_fields writer.now))))) }
 {
@@ -93,7 +93,7 @@ fn ask_fields(alloc: Global, writer: &[Field], pair: &Prepared) -> Result<Ask, M
 }
 
 /// What two enums ask for.
-fn ask_symbols(pair: &Prepared) -> Ask
+fn ask_symbols(pair: &Comparison) -> Ask
     ensures { ask_of result ≡ cond (list_any is_none pair.now.symbols.items) Asked.lone Asked.quiet }
 {
     if pair.lacks_symbol() {
@@ -104,7 +104,7 @@ fn ask_symbols(pair: &Prepared) -> Ask
 }
 
 /// What two nodes ask for that match and are no unions.
-fn ask_inside(alloc: Global, w: &Node, r: &Node, pair: &Prepared) -> Result<Ask, Memory>
+fn ask_inside(alloc: Global, w: &Node, r: &Node, pair: &Comparison) -> Result<Ask, Memory>
     requires { AreInside (node_of w.now) (node_of r.now) pair.now }
     ensures { IfOk result (λ a. ask_of a ≡ asked_inside (node_of w.now) (node_of r.now)) }
 {
@@ -152,9 +152,9 @@ pub(crate) fn ask_of_pair(
     alloc: Global,
     writer: &Schema,
     reader: &Schema,
-    pair: &Prepared,
+    pair: &Comparison,
 ) -> Result<Ask, Memory>
-    requires { IsPrepared (schema_nodes writer.now) (schema_nodes reader.now) pair.now }
+    requires { IsComparison (schema_nodes writer.now) (schema_nodes reader.now) pair.now }
     ensures { IfOk result (λ a. ask_of a ≡ asked (schema_nodes writer.now) (schema_nodes reader.now) (node_at (schema_nodes writer.now) pair.now.w.0) (node_at (schema_nodes reader.now) pair.now.r.0)) }
 {
     let null = Node::Null;
@@ -170,9 +170,9 @@ fn ask_nodes(
     reader: &Schema,
     from: &Node,
     to: &Node,
-    pair: &Prepared,
+    pair: &Comparison,
 ) -> Result<Ask, Memory>
-    requires pair { IsPrepared (schema_nodes writer.now) (schema_nodes reader.now) pair.now }
+    requires pair { IsComparison (schema_nodes writer.now) (schema_nodes reader.now) pair.now }
     requires from { node_of from.now ≡ node_at (schema_nodes writer.now) pair.now.w.0 }
     requires to { node_of to.now ≡ node_at (schema_nodes reader.now) pair.now.r.0 }
     ensures { IfOk result (λ a. ask_of a ≡ asked (schema_nodes writer.now) (schema_nodes reader.now) (node_of from.now) (node_of to.now)) }

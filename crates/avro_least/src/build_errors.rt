@@ -4,7 +4,7 @@ ghost use Rattle.std.specs.Prelude.{◌≡◌, ◌+◌, ◌≤◌, ℕ, IfOk};
 ghost use Rattle.indexmap.specs.IndexSet.{keys};
 ghost use Rattle.avro_schema.specs.Seen.{ids_of, value_of};
 ghost use Rattle.avro_schema.specs.SeenSchema.{schema_nodes};
-ghost use Rattle.avro_resolve.specs.Planned.{ArePrepared};
+ghost use Rattle.avro_resolve.specs.Planned.{AreComparisons};
 ghost use Rattle.avro_least.specs.Asked.{Asked};
 ghost use Rattle.avro_least.specs.BuiltErrors.{BuildsAsked, BuildsError, BuildsRow};
 ghost use Rattle.avro_least.specs.SeenAsk.{ask_of, row_of, rows_of};
@@ -40,7 +40,7 @@ pub fn build_error(
     left: u32,
 ) -> Result<Datum, Memory>
     requires few { limit ≤ 16777216 }
-    requires found { ArePrepared (schema_nodes writer.now) (schema_nodes reader.now) reached.now.found.items }
+    requires found { AreComparisons (schema_nodes writer.now) (schema_nodes reader.now) reached.now.found.items }
     ensures { IfOk result (λ d. BuildsError (schema_nodes writer.now) (schema_nodes reader.now) limit (table_of table.now) (erring_of count (table_of table.now) (keys reached.now.known) (seen_all entries.now)) left w.0 r.0 (value_of d)) }
 {
     let ask = ask_for(alloc, writer, reader, count, reached, w, r)?;
@@ -78,7 +78,7 @@ fn build_asked(
     left: u32,
 ) -> Result<Datum, Memory>
     requires few { limit ≤ 16777216 }
-    requires found { ArePrepared (schema_nodes writer.now) (schema_nodes reader.now) reached.now.found.items }
+    requires found { AreComparisons (schema_nodes writer.now) (schema_nodes reader.now) reached.now.found.items }
     ensures { IfOk result (λ d. BuildsAsked (schema_nodes writer.now) (schema_nodes reader.now) limit (table_of table.now) (erring_of count (table_of table.now) (keys reached.now.known) (seen_all entries.now)) left w.0 r.0 (ask_of ask.now) (value_of d)) }
 {
     if left == 0 {
@@ -162,7 +162,7 @@ fn build_branches(
     left: u32,
 ) -> Result<Datum, Memory>
     requires few { limit ≤ 16777216 }
-    requires found { ArePrepared (schema_nodes writer.now) (schema_nodes reader.now) reached.now.found.items }
+    requires found { AreComparisons (schema_nodes writer.now) (schema_nodes reader.now) reached.now.found.items }
     ensures { IfOk result (λ d. (w more : ℕ) → more ≤ left + 1 → BuildsAsked (schema_nodes writer.now) (schema_nodes reader.now) limit (table_of table.now) (erring_of count (table_of table.now) (keys reached.now.known) (seen_all entries.now)) more w r.0 (Asked.branches (ids_of places.now)) (value_of d)) }
 {
     let k = best_error_place(table, count, reached, entries, places, r);
@@ -198,7 +198,7 @@ fn build_rows(
     left: u32,
 ) -> Result<Datum, Memory>
     requires few { limit ≤ 16777216 }
-    requires found { ArePrepared (schema_nodes writer.now) (schema_nodes reader.now) reached.now.found.items }
+    requires found { AreComparisons (schema_nodes writer.now) (schema_nodes reader.now) reached.now.found.items }
     ensures { IfOk result (λ d. (w r more : ℕ) → more ≤ left + 1 → BuildsAsked (schema_nodes writer.now) (schema_nodes reader.now) limit (table_of table.now) (erring_of count (table_of table.now) (keys reached.now.known) (seen_all entries.now)) more w r (Asked.fields (rows_of rows.now)) (value_of d)) }
 {
     let k = best_row(limit, table, count, reached, entries, rows);
@@ -238,7 +238,7 @@ fn build_row(
     left: u32,
 ) -> Result<Datum, Memory>
     requires few { limit ≤ 16777216 }
-    requires found { ArePrepared (schema_nodes writer.now) (schema_nodes reader.now) reached.now.found.items }
+    requires found { AreComparisons (schema_nodes writer.now) (schema_nodes reader.now) reached.now.found.items }
     ensures { IfOk result (λ d. BuildsRow (schema_nodes writer.now) (schema_nodes reader.now) limit (table_of table.now) (erring_of count (table_of table.now) (keys reached.now.known) (seen_all entries.now)) left chosen (row_of row) (value_of d)) }
 {
     if chosen {

@@ -5,7 +5,7 @@ ghost use Rattle.std.specs.List.{list_all};
 ghost use Rattle.indexmap.specs.IndexSet.{keys, index_set_len, IsUnique};
 ghost use Rattle.avro_schema.specs.Node.{Node as SeenNode, node_at};
 ghost use Rattle.avro_schema.specs.SeenSchema.{schema_nodes};
-ghost use Rattle.avro_resolve.specs.Planned.{ArePrepared, IsPrepared};
+ghost use Rattle.avro_resolve.specs.Planned.{AreComparisons, IsComparison};
 ghost use Rattle.avro_certificate.specs.Closed.{Pair};
 ghost use Rattle.avro_least.specs.Tables.{pair_number};
 ghost use Rattle.avro_least.specs.SeenLeast.{table_of};
@@ -16,7 +16,7 @@ ghost use Rattle.avro_least.specs.SeenAsk.{ask_of, asks_of};
 use crate::asking::{Ask, ask_of_pair};
 use crate::kept::Least;
 use crate::least::{count, entry};
-use avro_resolve::{Names, Prepared, prepare};
+use avro_resolve::{Names, Comparison, compare};
 use avro_schema::{Memory, NodeId, Schema};
 use indexmap::IndexSet;
 use std::alloc::Global;
@@ -27,7 +27,7 @@ pub struct Reached {
     /// The number of each pair, in order of discovery.
     pub known: IndexSet<u64>,
     /// What was found of the pair at each place.
-    pub found: Vec<Prepared>,
+    pub found: Vec<Comparison>,
     /// What the pair at each place asks for.
     pub asks: Vec<Ask>,
 }
@@ -134,24 +134,24 @@ fn ask_at(
     writer: &Schema,
     reader: &Schema,
     key: u64,
-    found: &mut Vec<Prepared>,
+    found: &mut Vec<Comparison>,
 ) -> Result<Ask, Memory>
     requires of_these { names.now ≡ (writer.now, reader.now) }
     requires within { key < length (schema_nodes writer.now) * length (schema_nodes reader.now) }
     ensures asked { IfOk result (λ a. ask_of a ≡ asked_at (schema_nodes writer.now) (schema_nodes reader.now) key) }
-    ensures found { OnOk result (ArePrepared (schema_nodes writer.now) (schema_nodes reader.now) found.old.items
-        → ArePrepared (schema_nodes writer.now) (schema_nodes reader.now) found.new.items) }
+    ensures found { OnOk result (AreComparisons (schema_nodes writer.now) (schema_nodes reader.now) found.old.items
+        → AreComparisons (schema_nodes writer.now) (schema_nodes reader.now) found.new.items) }
 {
     let w = writers(writer, reader, key);
     let r = readers(reader, key);
-    let pair = prepare(alloc, names, w, r)?;
+    let pair = compare(alloc, names, w, r)?;
     let ask = ask_of_pair(alloc, writer, reader, &pair)?;
     push_pair(found, pair)?;
     Ok(ask)
 }
 
 /// Adds what was found of a pair.
-fn push_pair(found: &mut Vec<Prepared>, pair: Prepared) -> Result<(), Memory>
+fn push_pair(found: &mut Vec<Comparison>, pair: Comparison) -> Result<(), Memory>
     ensures { OnOk result (found.new.items ≡ found.old.items ++ pair ∷ []) }
 {
     if found.push(pair).is_err() {
@@ -211,7 +211,7 @@ pub fn reach(
         → IsSteppedTo (steps_at (schema_nodes writer.now) (schema_nodes reader.now) (table_of table.now)) k) }
     ensures one_each { IfOk result (λ p. length p.asks.items ≡ length (keys p.known)) }
     ensures asked { IfOk result (λ p. AreAsked (schema_nodes writer.now) (schema_nodes reader.now) (keys p.known) (asks_of p.asks.items)) }
-    ensures found { IfOk result (λ p. ArePrepared (schema_nodes writer.now) (schema_nodes reader.now) p.found.items) }
+    ensures found { IfOk result (λ p. AreComparisons (schema_nodes writer.now) (schema_nodes reader.now) p.found.items) }
 {
     let _ = count(writer);
     let _ = count(reader);
@@ -238,9 +238,9 @@ pub fn reach(
 }
 
 /// What was found of a pair, if it is one that was reached.
-fn found_of(reached: &Reached, count: u32, w: NodeId, r: NodeId) -> Option<&Prepared>
-    ensures { (writer reader : List SeenNode) → ArePrepared writer reader reached.now.found.items
-        → IfSome result (λ p. IsPrepared writer reader p.now × (p.now.w ≡ w) × (p.now.r ≡ r)) }
+fn found_of(reached: &Reached, count: u32, w: NodeId, r: NodeId) -> Option<&Comparison>
+    ensures { (writer reader : List SeenNode) → AreComparisons writer reader reached.now.found.items
+        → IfSome result (λ p. IsComparison writer reader p.now × (p.now.w ≡ w) × (p.now.r ≡ r)) }
 {
     let place = match reached.known.get_index_of(&number(count, w, r)) {
         Some(place) => place,
@@ -267,14 +267,14 @@ pub(crate) fn ask_for(
     w: NodeId,
     r: NodeId,
 ) -> Result<Ask, Memory>
-    requires { ArePrepared (schema_nodes writer.now) (schema_nodes reader.now) reached.now.found.items }
+    requires { AreComparisons (schema_nodes writer.now) (schema_nodes reader.now) reached.now.found.items }
     ensures { IfOk result (λ a. ask_of a ≡ asked (schema_nodes writer.now) (schema_nodes reader.now) (node_at (schema_nodes writer.now) w.0) (node_at (schema_nodes reader.now) r.0)) }
 {
     match found_of(reached, count, w, r) {
         Some(pair) => ask_of_pair(alloc, writer, reader, pair),
         None => {
             let names = Names::none(alloc, writer, reader);
-            let pair = prepare(alloc, &names, w, r)?;
+            let pair = compare(alloc, &names, w, r)?;
             ask_of_pair(alloc, writer, reader, &pair)
         }
     }

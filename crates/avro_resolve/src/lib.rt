@@ -12,6 +12,8 @@
 #![tactic(auto)]
 
 mod by_node;
+mod comparing;
+mod comparison;
 mod error;
 mod failing;
 mod field_tables;
@@ -33,8 +35,6 @@ mod parts;
 mod plan;
 mod plan_ref;
 mod plan_table;
-mod comparing;
-mod comparison;
 mod read;
 mod recording;
 mod resolution;
@@ -46,6 +46,8 @@ mod symbols;
 mod union_tables;
 mod walking;
 
+pub use comparing::compare;
+pub use comparison::Comparison;
 pub use error::{Fault, FaultKind, ReadResolveError, ResolveError};
 pub use guided::{Aim, At};
 pub use matching::matches;
@@ -55,8 +57,6 @@ pub use pairs::first_match;
 pub use plan::Plan;
 pub use plan_ref::PlanRef;
 pub use plan_table::PlanTable;
-pub use comparing::compare;
-pub use comparison::Comparison;
 pub use read::{decode_resolved, read_resolved};
 pub use resolution::resolve;
 pub use sourcing::source;

@@ -1,6 +1,6 @@
 use Rattle.std.proofs.Common.{sym, subst}
 use Rattle.avro_schema.specs.SeenSchema.{schema_nodes}
-use Rattle.avro_resolve.specs.Planned.{ArePrepared, IsPrepared}
+use Rattle.avro_resolve.specs.Planned.{AreComparisons, IsComparison}
 use Rattle.avro_certificate.proofs.public.Tests.{each_more}
 use Rattle.avro_certificate.proofs.closing.is_closed_at.Goals as goal
 
@@ -9,5 +9,5 @@ returns-clause-found c = λ before.
     let writer = schema_nodes c.args.writer.now in
     let reader = schema_nodes c.args.reader.now in
     let pair = c.in_ok-kept.kept in
-    let own = subst (λ s. IsPrepared (schema_nodes s.0) (schema_nodes s.1) pair) c.requires c.in_ok-kept.ensures.0 in
-    subst (λ ps. ArePrepared writer reader ps) (sym c.in_ok-push_pair.ensures) (each_more (IsPrepared writer reader) c.args.found.now.items pair before own)
+    let own = subst (λ s. IsComparison (schema_nodes s.0) (schema_nodes s.1) pair) c.requires c.in_ok-kept.ensures.0 in
+    subst (λ ps. AreComparisons writer reader ps) (sym c.in_ok-push_pair.ensures) (each_more (IsComparison writer reader) c.args.found.now.items pair before own)

@@ -6,8 +6,8 @@ use Rattle.std.specs.List.{list_all}
 use Rattle.indexmap.specs.IndexSet.{keys}
 use Rattle.avro_schema.specs.SeenSchema.{schema_nodes}
 use Rattle.avro_schema.specs.Node.{Node}
-use Rattle.avro_resolve.specs.Planned.{ArePrepared}
-use Rattle.avro_resolve.specs.declared.prepared.Prepared.{Prepared}
+use Rattle.avro_resolve.specs.Planned.{AreComparisons}
+use Rattle.avro_resolve.specs.declared.comparison.Comparison.{Comparison}
 use Rattle.avro_least.specs.SeenLeast.{table_of}
 use Rattle.avro_least.specs.Reached.{is_key, AreFollowed, IsSteppedTo, from_first, one_step}
 use Rattle.avro_least.specs.Asked.{Asked, asked_at, steps_at, AreAsked}
@@ -21,8 +21,8 @@ use Rattle.avro_least.proofs.reaching.reach.Goals as goal
 none_asked : (writer reader : List Node) (ks : List ℕ) (asks : List Ask) → asks ≡ [] → AreAsked writer reader ks (asks_of asks)
 none_asked writer reader ks asks e i k found within = absurd (omega (arith, ltb-true i (length (asks_of asks)) within, length-map asks ask_of, ap length e))
 
-none_found : (writer reader : List Node) (found : List Prepared) → found ≡ [] → ArePrepared writer reader found
-none_found writer reader found e = subst (λ (ps : List Prepared). ArePrepared writer reader ps) (sym e) (λ k p got. absurd cc)
+none_found : (writer reader : List Node) (found : List Comparison) → found ≡ [] → AreComparisons writer reader found
+none_found writer reader found e = subst (λ (ps : List Comparison). AreComparisons writer reader ps) (sym e) (λ k p got. absurd cc)
 
 -- the first key alone
 first_stepped : (steps : ℕ → List ℕ) (none : List ℕ) (k : ℕ) → length none ≡ 0 → (is_key none k || is_key (0 ∷ []) k) ≡ true → IsSteppedTo steps k

@@ -3,7 +3,7 @@ use Rattle.std.specs.Prelude.{nat_lt}
 use Rattle.std.specs.List.{list_all}
 use Rattle.indexmap.specs.IndexSet.{keys}
 use Rattle.avro_schema.specs.SeenSchema.{schema_nodes}
-use Rattle.avro_resolve.specs.Planned.{ArePrepared}
+use Rattle.avro_resolve.specs.Planned.{AreComparisons}
 use Rattle.avro_least.specs.SeenLeast.{table_of}
 use Rattle.avro_least.specs.Reached.{is_key, AreFollowed, IsSteppedTo}
 use Rattle.avro_least.specs.Asked.{steps_at, AreAsked}
@@ -19,7 +19,7 @@ invariant-loop-next l = (is_key (keys l.known) 0 ≡ true)
     × AreAsked (schema_nodes l.writer) (schema_nodes l.reader) (keys l.known) (asks_of l.asks.items)
     × ((P : ℕ → Bool) → P 0 ≡ true → ((k : ℕ) → P k ≡ true → list_all P (steps_at (schema_nodes l.writer) (schema_nodes l.reader) (table_of l.table) k) ≡ true) → list_all P (keys l.known) ≡ true)
     × ((k : ℕ) → is_key (keys l.known) k ≡ true → IsSteppedTo (steps_at (schema_nodes l.writer) (schema_nodes l.reader) (table_of l.table)) k)
-    × ArePrepared (schema_nodes l.writer) (schema_nodes l.reader) l.found.items
+    × AreComparisons (schema_nodes l.writer) (schema_nodes l.reader) l.found.items
 
 abbrev pub decreases-loop-next : goal.decreases-loop-next
 decreases-loop-next l = length (schema_nodes l.writer) * length (schema_nodes l.reader) - l.next
