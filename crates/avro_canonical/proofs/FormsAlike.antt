@@ -10,7 +10,7 @@ use Rattle.avro_canonical.specs.Form.{Form, Forms, FieldForms, no_forms, form, n
 use Rattle.avro_canonical.specs.Canonical.{IsForm, AreForms, AreFieldForms, primitive_word, is_among, no_branch, branch, no_field, next_field}
 use Rattle.avro_canonical.proofs.Words.{by_word}
 use Rattle.avro_canonical.proofs.FormsWellMade.{word_node}
-use Rattle.avro_canonical.proofs.SameFits.{neither, both, Each, no_places, places, none_each, each, Matching, Closed, same_fit}
+use Rattle.avro_canonical.proofs.SameFits.{neither, both, Each, no_pairs, pairs, none_each, each, Matching, Closed, same_fit}
 use Rattle.avro_canonical.proofs.OneNamed.{one_named}
 
 -- each of the names is among all of them
@@ -136,9 +136,9 @@ matching {a = a} {b = b} {all = all} (IsForm.union ds) (IsForm.union es) none wi
   where
     each_branch : {w : List Name} {ps qs : List ℕ} {fs : Forms} → AreForms a w ps fs → AreForms b w qs fs → AreAmong (written_after_all w fs) all
         → Each (λ p q. Alike a b all (node_at a p) (node_at b q)) ps qs
-    each_branch no_branch no_branch within = no_places
+    each_branch no_branch no_branch within = no_pairs
     each_branch {w = w} (branch {f = f} {fs = fs} d ds) (branch e es) within =
-        places (record { written = w; form = f; first = d; second = e; within = λ name h. within name (grows_all name (written_after w f) fs h) }) (each_branch ds es within)
+        pairs (record { written = w; form = f; first = d; second = e; within = λ name h. within name (grows_all name (written_after w f) fs h) }) (each_branch ds es within)
 matching {a = a} {b = b} {all = all} (IsForm.record_of h ds) (IsForm.record_of k es) none within = record {
   null = refl;
   boolean = refl;
@@ -156,9 +156,9 @@ matching {a = a} {b = b} {all = all} (IsForm.record_of h ds) (IsForm.record_of k
   where
     each_field : {w : List Name} {xs ys : List FieldNode} {fs : FieldForms} → AreFieldForms a w xs fs → AreFieldForms b w ys fs → AreAmong (written_after_fields w fs) all
         → Each (λ p q. Alike a b all (node_at a p) (node_at b q)) (field_ids xs) (field_ids ys)
-    each_field no_field no_field within = no_places
+    each_field no_field no_field within = no_pairs
     each_field {w = w} (next_field {f = f} {fs = fs} d ds) (next_field e es) within =
-        places (record { written = w; form = f; first = d; second = e; within = λ name h. within name (grows_fields name (written_after w f) fs h) }) (each_field ds es within)
+        pairs (record { written = w; form = f; first = d; second = e; within = λ name h. within name (grows_fields name (written_after w f) fs h) }) (each_field ds es within)
 matching (IsForm.enum h) (IsForm.enum k) none within = record {
   null = refl;
   boolean = refl;
@@ -207,8 +207,8 @@ mutual
   find : {a b : List Node} {all w : List Name} {m n : Node} {f : Form} (p q : ℕ) (name : Name) → IsForm a w m f → IsForm b w n f → AreAmong (written_after w f) all
       → m ≡ node_at a p → n ≡ node_at b q → is_among name (written_after w f) ≡ true → (is_among name w ≡ true) ⊎ Defined a b all name
   find p q name (IsForm.primitive h) (IsForm.primitive k) within here there old = inl old
-  find p q name (IsForm.array {place = x} d) (IsForm.array {place = y} e) within here there old = find x y name d e within refl refl old
-  find p q name (IsForm.map_of {place = x} d) (IsForm.map_of {place = y} e) within here there old = find x y name d e within refl refl old
+  find p q name (IsForm.array {id = x} d) (IsForm.array {id = y} e) within here there old = find x y name d e within refl refl old
+  find p q name (IsForm.map_of {id = x} d) (IsForm.map_of {id = y} e) within here there old = find x y name d e within refl refl old
   find p q name (IsForm.union ds) (IsForm.union es) within here there old = find_all name ds es within old
   find {w = w} p q name (IsForm.record_of {name = own} h ds) (IsForm.record_of k es) within here there old =
       ⊎_elim (λ written. ⊎_elim (λ same. inr (defined p q own name (IsForm.record_of h ds) (IsForm.record_of k es) within refl here there refl refl same)) (λ before. inl before)
@@ -225,7 +225,7 @@ mutual
   find_all : {a b : List Node} {all w : List Name} {ps qs : List ℕ} {fs : Forms} (name : Name) → AreForms a w ps fs → AreForms b w qs fs → AreAmong (written_after_all w fs) all
       → is_among name (written_after_all w fs) ≡ true → (is_among name w ≡ true) ⊎ Defined a b all name
   find_all name no_branch no_branch within old = inl old
-  find_all {w = w} name (branch {place = x} {f = f} {fs = fs} d ds) (branch {place = y} e es) within old =
+  find_all {w = w} name (branch {id = x} {f = f} {fs = fs} d ds) (branch {id = y} e es) within old =
       ⊎_elim (λ before. find x y name d e (λ it h. within it (grows_all it (written_after w f) fs h)) refl refl before) (λ found. inr found) (find_all name ds es within old)
 
   find_fields : {a b : List Node} {all w : List Name} {xs ys : List FieldNode} {fs : FieldForms} (name : Name) → AreFieldForms a w xs fs → AreFieldForms b w ys fs

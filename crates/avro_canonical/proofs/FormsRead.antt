@@ -11,7 +11,7 @@ use Rattle.avro_canonical.specs.Form.{Form, Forms, FieldForms, no_forms, form, n
 use Rattle.avro_canonical.specs.Canonical.{is_among}
 use Rattle.avro_canonical.specs.CanonicalTree.{text_items, form_tree, form_trees, field_trees, nodes_in, nodes_in_all, nodes_in_fields, is_kept, keeps_names, all_keep_names, fields_keep_names}
 use Rattle.avro_canonical.specs.inside.WellMade.{WellMade, AreWellMade, FieldsWellMade}
-use Rattle.avro_canonical.specs.inside.Laid.{known_after, known_after_all, known_after_fields, laid_places, laid_fields, laid, laid_all, laid_in_fields, raw_field, raw_node}
+use Rattle.avro_canonical.specs.inside.Laid.{known_after, known_after_all, known_after_fields, laid_ids, laid_fields, laid, laid_all, laid_in_fields, raw_field, raw_node}
 use Rattle.avro_canonical.proofs.LaidRead.{raw_count, IsKnown, known_more, known_then, made, made_all, made_fields, above_clean, word_read, reference_read, name_given}
 
 texts_given : (texts : List (List ℕ)) → texts_of (text_items texts) ≡ Some texts
@@ -30,7 +30,7 @@ next_made first f fs known next rest one others =
     ap (λ it. followed_by it (λ m. rest m.known (next + length m.nodes))) one
     ∙ ap (λ n. joined (made known next f) (rest later (next + n))) (raw_count known next f)
     ∙ ap (λ r. joined (made known next f) r) others
-    ∙ ap (λ nodes. record { result = laid_places known next (form f fs); nodes = nodes; known = known_after_all known next (form f fs); faults = [] })
+    ∙ ap (λ nodes. record { result = laid_ids known next (form f fs); nodes = nodes; known = known_after_all known next (form f fs); faults = [] })
     (sym (map-append raw_node (laid known next f) (laid_all later (next + nodes_in f) fs)))
 
 -- a field, from its type
@@ -88,14 +88,14 @@ mutual
       → keeps_names enclosing f ≡ true → next + nodes_in f ≤ max_nodes → meaning_of (form_tree f) enclosing known next ≡ made known next f
   form_read (Form.primitive word) written known next enclosing good is kept few = word_read word known next enclosing good (room_one next few)
   form_read (Form.array f) written known next enclosing good is kept few =
-      ap (above next (λ place. RawNode.plain (Node.array place)) []) (form_read f written known (suc next) enclosing good is kept (room_inside next (nodes_in f) few))
-      ∙ above_clean next (λ place. RawNode.plain (Node.array place)) [] (made known (suc next) f) (room_here next (nodes_in f) few) refl refl
+      ap (above next (λ id. RawNode.plain (Node.array id)) []) (form_read f written known (suc next) enclosing good is kept (room_inside next (nodes_in f) few))
+      ∙ above_clean next (λ id. RawNode.plain (Node.array id)) [] (made known (suc next) f) (room_here next (nodes_in f) few) refl refl
   form_read (Form.map_of f) written known next enclosing good is kept few =
-      ap (above next (λ place. RawNode.plain (Node.map_of place)) []) (form_read f written known (suc next) enclosing good is kept (room_inside next (nodes_in f) few))
-      ∙ above_clean next (λ place. RawNode.plain (Node.map_of place)) [] (made known (suc next) f) (room_here next (nodes_in f) few) refl refl
+      ap (above next (λ id. RawNode.plain (Node.map_of id)) []) (form_read f written known (suc next) enclosing good is kept (room_inside next (nodes_in f) few))
+      ∙ above_clean next (λ id. RawNode.plain (Node.map_of id)) [] (made known (suc next) f) (room_here next (nodes_in f) few) refl refl
   form_read (Form.union fs) written known next enclosing good is kept few =
-      ap (above next (λ places. RawNode.plain (Node.union places)) []) (forms_read fs written known (suc next) enclosing good.1 is kept (room_inside next (nodes_in_all fs) few))
-      ∙ above_clean next (λ places. RawNode.plain (Node.union places)) [] (made_all known (suc next) fs) (room_here next (nodes_in_all fs) few) refl refl
+      ap (above next (λ ids. RawNode.plain (Node.union ids)) []) (forms_read fs written known (suc next) enclosing good.1 is kept (room_inside next (nodes_in_all fs) few))
+      ∙ above_clean next (λ ids. RawNode.plain (Node.union ids)) [] (made_all known (suc next) fs) (room_here next (nodes_in_all fs) few) refl refl
   form_read (Form.record_of name fs) written known next enclosing good is kept few =
       let both = and_parts (is_kept enclosing name) (fields_keep_names name.namespace fs) kept in
       record_read name fs known next enclosing good.1 both.0 (fresh_name written known name is good.0) (room_here next (nodes_in_fields fs) few)

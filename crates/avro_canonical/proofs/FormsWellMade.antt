@@ -32,21 +32,21 @@ kind_same (IsForm.fixed h) = refl
 kind_same {n = n} (IsForm.again {name = name} h old) = named_kind n name h
 
 abbrev pub kinds_at : List Node → List ℕ → List (Option BranchKind)
-kinds_at nodes places = map (λ place. branch_kind (node_at nodes place)) places
+kinds_at nodes ids = map (λ id. branch_kind (node_at nodes id)) ids
 
-pub kinds_same : {nodes : List Node} {written : List Name} {places : List ℕ} {fs : Forms} → AreForms nodes written places fs → kinds_at nodes places ≡ form_kinds fs
+pub kinds_same : {nodes : List Node} {written : List Name} {ids : List ℕ} {fs : Forms} → AreForms nodes written ids fs → kinds_at nodes ids ≡ form_kinds fs
 kinds_same no_branch = refl
-kinds_same {nodes = nodes} (branch {places = places} {f = f} d ds) = ap (λ kind. kind ∷ kinds_at nodes places) (kind_same d) ∙ ap (λ kinds. form_kind f ∷ kinds) (kinds_same ds)
+kinds_same {nodes = nodes} (branch {ids = ids} {f = f} d ds) = ap (λ kind. kind ∷ kinds_at nodes ids) (kind_same d) ∙ ap (λ kinds. form_kind f ∷ kinds) (kinds_same ds)
 
 filter_seen : {A B : Type 0} (f : A → Option B) (xs : List A) → filter_map f xs ≡ filter_map (λ o. o) (map f xs)
 filter_seen f [] = refl
 filter_seen f (x ∷ xs) = rw (filter_seen f xs) refl
 
--- whether places are the branches of a union is said by their kinds
-pub union_seen : (nodes : List Node) (places : List ℕ) → is_union nodes places ≡ are_branches (kinds_at nodes places)
-union_seen nodes places =
-    let kind : ℕ → Option BranchKind = λ place. branch_kind (node_at nodes place) in
-    rw (length-map places kind, list_all-map is_some kind places, filter_seen kind places) refl
+-- whether ids are the branches of a union is said by their kinds
+pub union_seen : (nodes : List Node) (ids : List ℕ) → is_union nodes ids ≡ are_branches (kinds_at nodes ids)
+union_seen nodes ids =
+    let kind : ℕ → Option BranchKind = λ id. branch_kind (node_at nodes id) in
+    rw (length-map ids kind, list_all-map is_some kind ids, filter_seen kind ids) refl
 
 -- the names of fields, without their aliases
 all_names : (p : List ℕ → Bool) (xs : List FieldNode) → list_all p (flat_map field_names xs) ≡ true → list_all p (map (λ x. x.name) xs) ≡ true
@@ -126,10 +126,10 @@ without_default symbols default h =
 mutual
   pub well_made : {nodes : List Node} {written : List Name} {n : Node} {f : Form} → is_schema nodes ≡ true → IsGood nodes n → IsForm nodes written n f → WellMade written f
   well_made {n = n} formed good (IsForm.primitive {word = word} h) = ap primitive_word (word_node n word h) ∙ h
-  well_made {nodes = nodes} formed good (IsForm.array {place = place} d) = well_made formed (good_at nodes formed place) d
-  well_made {nodes = nodes} formed good (IsForm.map_of {place = place} d) = well_made formed (good_at nodes formed place) d
-  well_made {nodes = nodes} formed good (IsForm.union {places = places} ds) =
-      (ap are_branches (sym (kinds_same ds)) ∙ sym (union_seen nodes places) ∙ good.ruled, all_well_made formed ds)
+  well_made {nodes = nodes} formed good (IsForm.array {id = id} d) = well_made formed (good_at nodes formed id) d
+  well_made {nodes = nodes} formed good (IsForm.map_of {id = id} d) = well_made formed (good_at nodes formed id) d
+  well_made {nodes = nodes} formed good (IsForm.union {ids = ids} ds) =
+      (ap are_branches (sym (kinds_same ds)) ∙ sym (union_seen nodes ids) ∙ good.ruled, all_well_made formed ds)
   well_made {nodes = nodes} formed good (IsForm.record_of {name = name} {aliases = aliases} {fields = xs} new ds) =
       (new, full_of name (list_all is_full_name aliases) good.named, ap are_names (sym (names_seen ds)) ∙ good_names nodes xs good.ruled, fields_well_made formed ds)
   well_made formed good (IsForm.enum {name = name} {aliases = aliases} {symbols = symbols} {default = default} new) =
@@ -137,9 +137,9 @@ mutual
   well_made formed good (IsForm.fixed {name = name} {aliases = aliases} new) = (new, full_of name (list_all is_full_name aliases) good.named, good.ruled)
   well_made {n = n} formed good (IsForm.again {name = name} h old) = (old, full_named n name h good.named)
 
-  all_well_made : {nodes : List Node} {written : List Name} {places : List ℕ} {fs : Forms} → is_schema nodes ≡ true → AreForms nodes written places fs → AreWellMade written fs
+  all_well_made : {nodes : List Node} {written : List Name} {ids : List ℕ} {fs : Forms} → is_schema nodes ≡ true → AreForms nodes written ids fs → AreWellMade written fs
   all_well_made formed no_branch = tt
-  all_well_made {nodes = nodes} formed (branch {place = place} d ds) = (well_made formed (good_at nodes formed place) d, all_well_made formed ds)
+  all_well_made {nodes = nodes} formed (branch {id = id} d ds) = (well_made formed (good_at nodes formed id) d, all_well_made formed ds)
 
   fields_well_made : {nodes : List Node} {written : List Name} {xs : List FieldNode} {fs : FieldForms} → is_schema nodes ≡ true → AreFieldForms nodes written xs fs → FieldsWellMade written fs
   fields_well_made formed no_field = tt

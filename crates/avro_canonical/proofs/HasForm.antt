@@ -123,10 +123,10 @@ good_edges nodes k (n ∷ ns) zero h =
     let good = (and_parts (is_good_node nodes k n) (are_good_nodes nodes (suc k) ns) h).0 in
     let first = (and_parts (list_all (is_edge nodes k) (edges_of n) && has_good_names n) (meets_its_rules nodes n) good).0 in
     let at : k ≡ k + 0 = omega arith in
-    subst (λ place. list_all (is_edge nodes place) (edges_of n) ≡ true) at (and_parts (list_all (is_edge nodes k) (edges_of n)) (has_good_names n) first).0
+    subst (λ id. list_all (is_edge nodes id) (edges_of n) ≡ true) at (and_parts (list_all (is_edge nodes k) (edges_of n)) (has_good_names n) first).0
 good_edges nodes k (n ∷ ns) (suc p) h =
     let at : suc k + p ≡ k + suc p = omega arith in
-    subst (λ place. list_all (is_edge nodes place) (edges_of (unwrap_or (slice_get ns p) Node.null)) ≡ true) at
+    subst (λ id. list_all (is_edge nodes id) (edges_of (unwrap_or (slice_get ns p) Node.null)) ≡ true) at
     (good_edges nodes (suc k) ns p (and_parts (is_good_node nodes k n) (are_good_nodes nodes (suc k) ns) h).1)
 
 some_name : (o : Option Name) → is_some o ≡ true → (name : Name) × (o ≡ Some name)
@@ -164,20 +164,20 @@ by_node nodes k deeper p each written (Node.enum name aliases symbols default) h
 by_node nodes k deeper p each written (Node.fixed name aliases count) here good few =
     subst (λ n. HasForm nodes written n) (sym here) (named_form nodes k deeper written p name few (ap node_name (sym here)))
 
-by_place : (nodes : List Node) → is_schema nodes ≡ true → (k : ℕ) → Deeper nodes k → (j p : ℕ) (written : List Name) → length nodes ≤ p + j → left nodes written ≤ k
+by_id : (nodes : List Node) → is_schema nodes ≡ true → (k : ℕ) → Deeper nodes k → (j p : ℕ) (written : List Name) → length nodes ≤ p + j → left nodes written ≤ k
     → HasForm nodes written (node_at nodes p)
-by_place nodes formed k deeper zero p written past few =
+by_id nodes formed k deeper zero p written past few =
     subst (λ n. HasForm nodes written n) (sym (ap (λ o. unwrap_or o Node.null) (slice_get_past nodes p (omega (arith, past))))) (_, IsForm.primitive refl)
-by_place nodes formed k deeper (suc j) p written past few =
-    by_node nodes k deeper p (by_edge nodes k deeper p (λ w q after le. by_place nodes formed k deeper j q w (omega (arith, past, after)) le)) written (node_at nodes p) refl
+by_id nodes formed k deeper (suc j) p written past few =
+    by_node nodes k deeper p (by_edge nodes k deeper p (λ w q after le. by_id nodes formed k deeper j q w (omega (arith, past, after)) le)) written (node_at nodes p) refl
     (let at : 0 + p ≡ p = omega arith in
-    subst (λ place. list_all (is_edge nodes place) (edges_of (node_at nodes p)) ≡ true) at (good_edges nodes 0 nodes p (good_nodes nodes formed))) few
+    subst (λ id. list_all (is_edge nodes id) (edges_of (node_at nodes p)) ≡ true) at (good_edges nodes 0 nodes p (good_nodes nodes formed))) few
 
 all_forms : (nodes : List Node) → is_schema nodes ≡ true → (k : ℕ) (written : List Name) (p : ℕ) → left nodes written ≤ k → HasForm nodes written (node_at nodes p)
 all_forms nodes formed zero written p few =
-    by_place nodes formed zero (λ w q h. absurd (omega (arith, h))) (length nodes) p written (omega arith) few
+    by_id nodes formed zero (λ w q h. absurd (omega (arith, h))) (length nodes) p written (omega arith) few
 all_forms nodes formed (suc k) written p few =
-    by_place nodes formed (suc k) (λ w q h. all_forms nodes formed k w q (omega (arith, h))) (length nodes) p written (omega arith) few
+    by_id nodes formed (suc k) (λ w q h. all_forms nodes formed k w q (omega (arith, h))) (length nodes) p written (omega arith) few
 
 pub has_text : (nodes : List Node) → is_schema nodes ≡ true → (text : List ℕ) × IsCanonical nodes text
 has_text nodes formed =

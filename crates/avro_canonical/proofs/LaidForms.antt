@@ -8,12 +8,12 @@ use Rattle.avro_canonical.specs.Form.{Form, Forms, FieldForms, no_forms, form, n
 use Rattle.avro_canonical.specs.Canonical.{IsForm, AreForms, AreFieldForms, is_among, no_branch, branch, no_field, next_field}
 use Rattle.avro_canonical.specs.CanonicalTree.{nodes_in}
 use Rattle.avro_canonical.specs.inside.WellMade.{WellMade, AreWellMade, FieldsWellMade}
-use Rattle.avro_canonical.specs.inside.Laid.{known_after, known_after_all, known_after_fields, laid_place, laid_places, laid_fields, laid, laid_all, laid_in_fields}
+use Rattle.avro_canonical.specs.inside.Laid.{known_after, known_after_all, known_after_fields, laid_id, laid_ids, laid_fields, laid, laid_all, laid_in_fields}
 use Rattle.avro_canonical.proofs.Words.{some-is}
 use Rattle.avro_canonical.proofs.OneNamed.{name_is}
-use Rattle.avro_canonical.proofs.LaidRead.{IsKnown, known_more, known_then, laid_count, place_is}
+use Rattle.avro_canonical.proofs.LaidRead.{IsKnown, known_more, known_then, laid_count, id_is}
 
--- some nodes stand in a list from a place on, and others behind them
+-- some nodes stand in a list from an id on, and others behind them
 abbrev pub Stand : List Node → ℕ → List Node → List Node → Type 0
 Stand nodes next ns others = drop next nodes ≡ ns ++ others
 
@@ -45,27 +45,27 @@ stand_cut nodes next xs ys others n count e =
     let first : drop next nodes ≡ xs ++ (ys ++ others) = e ∙ append_assoc xs ys others in
     (first, subst (λ k. drop (next + k) nodes ≡ ys ++ others) count (stand_behind nodes next xs (ys ++ others) first))
 
--- each name that is known is that of the node at its place
+-- each name that is known is that of the node of its id
 abbrev pub KnownStand : List Node → Known → Type 0
 KnownStand nodes known = (name : Name) (p : ℕ) → place_of name known ≡ Some p → node_name (node_at nodes p) ≡ Some name
 
-last_place : (x name : Name) (p q : ℕ) (known : Known) → place_of x (known ++ (name, p) ∷ []) ≡ Some q → (place_of x known ≡ Some q) ⊎ ((same_name x name ≡ true) × (p ≡ q))
-last_place x name p q [] e =
+last_id : (x name : Name) (p q : ℕ) (known : Known) → place_of x (known ++ (name, p) ∷ []) ≡ Some q → (place_of x known ≡ Some q) ⊎ ((same_name x name ≡ true) × (p ≡ q))
+last_id x name p q [] e =
     (elim (same_name x name) as (λ b. cond b (Some p) None ≡ Some q → (None ≡ Some q) ⊎ ((b ≡ true) × (p ≡ q))) [
       | true ↦ λ h. inr (refl, some-is h)
       | false ↦ λ h. inl h
     ]) e
-last_place x name p q (d ∷ known) e =
+last_id x name p q (d ∷ known) e =
     (elim (same_name x d.0) as (λ b. cond b (Some d.1) (place_of x (known ++ (name, p) ∷ [])) ≡ Some q → (cond b (Some d.1) (place_of x known) ≡ Some q) ⊎ ((same_name x name ≡ true) × (p ≡ q))) [
       | true ↦ λ h. inl h
-      | false ↦ λ h. last_place x name p q known h
+      | false ↦ λ h. last_id x name p q known h
     ]) e
 
 pub stand_defining : (nodes : List Node) (known : Known) (name : Name) (next : ℕ) → KnownStand nodes known → node_name (node_at nodes next) ≡ Some name
     → KnownStand nodes (defining name next known)
 stand_defining nodes known name next stands named x p at =
     ⊎_elim (λ before. stands x p before) (λ now. subst (λ q. node_name (node_at nodes q) ≡ Some x) now.1 (named ∙ ap (λ it. Some it) (sym (name_is x name now.0))))
-    (last_place x name next p known at)
+    (last_id x name next p known at)
 
 mutual
   pub known_stand : (nodes : List Node) (f : Form) (known : Known) (next : ℕ) (others : List Node) → KnownStand nodes known → Stand nodes next (laid known next f) others
@@ -98,11 +98,11 @@ mutual
 -- a reference goes to its definition
 pub named_there : (nodes : List Node) (written : List Name) (known : Known) (name : Name) → IsKnown written known → KnownStand nodes known → is_among name written ≡ true
     → node_name (node_at nodes (unwrap_or (place_of name known) 0)) ≡ Some name
-named_there nodes written known name is stands old = stands name (unwrap_or (place_of name known) 0) (place_is (place_of name known) (is name ∙ old))
+named_there nodes written known name is stands old = stands name (unwrap_or (place_of name known) 0) (id_is (place_of name known) (is name ∙ old))
 
 mutual
   pub laid_form : (nodes : List Node) (f : Form) (written : List Name) (known : Known) (next : ℕ) (others : List Node) → WellMade written f → IsKnown written known
-      → KnownStand nodes known → Stand nodes next (laid known next f) others → IsForm nodes written (node_at nodes (laid_place known next f)) f
+      → KnownStand nodes known → Stand nodes next (laid known next f) others → IsForm nodes written (node_at nodes (laid_id known next f)) f
   laid_form nodes (Form.primitive word) written known next others good is stands e =
       subst (λ n. IsForm nodes written n (Form.primitive word)) (sym (stand_first nodes next _ _ e).0) (IsForm.primitive good)
   laid_form nodes (Form.array f) written known next others good is stands e =
@@ -126,7 +126,7 @@ mutual
   laid_form nodes (Form.reference name) written known next others good is stands e = IsForm.again (named_there nodes written known name is stands good.0) good.0
 
   pub laid_forms : (nodes : List Node) (fs : Forms) (written : List Name) (known : Known) (next : ℕ) (others : List Node) → AreWellMade written fs → IsKnown written known
-      → KnownStand nodes known → Stand nodes next (laid_all known next fs) others → AreForms nodes written (laid_places known next fs) fs
+      → KnownStand nodes known → Stand nodes next (laid_all known next fs) others → AreForms nodes written (laid_ids known next fs) fs
   laid_forms nodes no_forms written known next others good is stands e = no_branch
   laid_forms nodes (form f fs) written known next others good is stands e =
       let cut = stand_cut nodes next (laid known next f) (laid_all (known_after known next f) (next + nodes_in f) fs) others (nodes_in f) (laid_count known next f) e in

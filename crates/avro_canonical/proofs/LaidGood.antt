@@ -12,7 +12,7 @@ use Rattle.avro_canonical.specs.Form.{Form, Forms, FieldForms, no_forms, form, n
 use Rattle.avro_canonical.specs.Canonical.{primitive_word}
 use Rattle.avro_canonical.specs.CanonicalTree.{nodes_in}
 use Rattle.avro_canonical.specs.inside.WellMade.{node_of_word, are_branches, names_of, are_names, WellMade, AreWellMade, FieldsWellMade}
-use Rattle.avro_canonical.specs.inside.Laid.{known_after, laid_place, laid_places, laid_fields, laid, laid_all, laid_in_fields}
+use Rattle.avro_canonical.specs.inside.Laid.{known_after, laid_id, laid_ids, laid_fields, laid, laid_all, laid_in_fields}
 use Rattle.avro_canonical.proofs.FormsWellMade.{kinds_same, union_seen}
 use Rattle.avro_canonical.proofs.FormsAlike.{or_later}
 use Rattle.avro_canonical.proofs.LaidRead.{IsKnown, known_more, known_then, laid_count}
@@ -39,7 +39,7 @@ edge_named nodes from p name named =
         below p (length nodes) (λ past. none_apart (ap (λ o. node_name (unwrap_or o Node.null)) (sym (slice_get_past nodes p past)) ∙ named))
 
 edge_laid : (nodes : List Node) (f : Form) (written : List Name) (known : Known) (next from : ℕ) (others : List Node) → from < next → WellMade written f → IsKnown written known
-    → KnownStand nodes known → Stand nodes next (laid known next f) others → is_edge nodes from (laid_place known next f) ≡ true
+    → KnownStand nodes known → Stand nodes next (laid known next f) others → is_edge nodes from (laid_id known next f) ≡ true
 edge_laid nodes (Form.primitive word) written known next from others after good is stands e = edge_later nodes from next after (stand_within nodes next _ _ e)
 edge_laid nodes (Form.array f) written known next from others after good is stands e = edge_later nodes from next after (stand_within nodes next _ _ e)
 edge_laid nodes (Form.map_of f) written known next from others after good is stands e = edge_later nodes from next after (stand_within nodes next _ _ e)
@@ -48,10 +48,10 @@ edge_laid nodes (Form.record_of name fs) written known next from others after go
 edge_laid nodes (Form.enum name symbols) written known next from others after good is stands e = edge_later nodes from next after (stand_within nodes next _ _ e)
 edge_laid nodes (Form.fixed name count) written known next from others after good is stands e = edge_later nodes from next after (stand_within nodes next _ _ e)
 edge_laid nodes (Form.reference name) written known next from others after good is stands e =
-    edge_named nodes from (laid_place known next (Form.reference name)) name (named_there nodes written known name is stands good.0)
+    edge_named nodes from (laid_id known next (Form.reference name)) name (named_there nodes written known name is stands good.0)
 
 edges_laid : (nodes : List Node) (fs : Forms) (written : List Name) (known : Known) (next from : ℕ) (others : List Node) → from < next → AreWellMade written fs → IsKnown written known
-    → KnownStand nodes known → Stand nodes next (laid_all known next fs) others → list_all (is_edge nodes from) (laid_places known next fs) ≡ true
+    → KnownStand nodes known → Stand nodes next (laid_all known next fs) others → list_all (is_edge nodes from) (laid_ids known next fs) ≡ true
 edges_laid nodes no_forms written known next from others after good is stands e = refl
 edges_laid nodes (form f fs) written known next from others after good is stands e =
     let cut = stand_cut nodes next (laid known next f) (laid_all (known_after known next f) (next + nodes_in f) fs) others (nodes_in f) (laid_count known next f) e in
@@ -108,8 +108,8 @@ mutual
   good_laid nodes (Form.union fs) written known next others good is stands e =
       let here = stand_first nodes next _ _ e in
       let edges = edges_laid nodes fs written known (suc next) next others (omega arith) good.1 is stands here.1 in
-      let ruled : is_union nodes (laid_places known (suc next) fs) ≡ true =
-      union_seen nodes (laid_places known (suc next) fs) ∙ ap are_branches (kinds_same (laid_forms nodes fs written known (suc next) others good.1 is stands here.1)) ∙ good.0 in
+      let ruled : is_union nodes (laid_ids known (suc next) fs) ≡ true =
+      union_seen nodes (laid_ids known (suc next) fs) ∙ ap are_branches (kinds_same (laid_forms nodes fs written known (suc next) others good.1 is stands here.1)) ∙ good.0 in
       and_from _ _ (rw (edges, ruled) refl) (good_laid_all nodes fs written known (suc next) others good.1 is stands here.1)
   good_laid nodes (Form.record_of name fs) written known next others good is stands e =
       let here = stand_first nodes next _ _ e in

@@ -15,7 +15,7 @@ use Rattle.avro_canonical.specs.Form.{Form, Forms, FieldForms, no_forms, form, n
 use Rattle.avro_canonical.specs.Canonical.{primitive_word, is_among}
 use Rattle.avro_canonical.specs.CanonicalTree.{nodes_in, nodes_in_all, nodes_in_fields, is_kept}
 use Rattle.avro_canonical.specs.inside.WellMade.{node_of_word}
-use Rattle.avro_canonical.specs.inside.Laid.{known_after, known_after_all, known_after_fields, laid_place, laid_places, laid_fields, laid, laid_all, laid_in_fields, raw_field, raw_node, raw_nodes}
+use Rattle.avro_canonical.specs.inside.Laid.{known_after, known_after_all, known_after_fields, laid_id, laid_ids, laid_fields, laid, laid_all, laid_in_fields, raw_field, raw_node, raw_nodes}
 use Rattle.avro_canonical.proofs.NamesRead.{name_read}
 use Rattle.avro_canonical.proofs.Words.{by_word, none_apart}
 
@@ -57,15 +57,15 @@ or_turned true false = refl
 or_turned false true = refl
 or_turned false false = refl
 
-place_of_last : (x name : Name) (p : ℕ) (known : Known) → is_some (place_of x (known ++ (name, p) ∷ [])) ≡ (is_some (place_of x known) || same_name x name)
-place_of_last x name p [] = elim (same_name x name) as (λ b. is_some (cond b (Some p) None) ≡ b) [ true ↦ refl | false ↦ refl ]
-place_of_last x name p (d ∷ known) =
+id_of_last : (x name : Name) (p : ℕ) (known : Known) → is_some (place_of x (known ++ (name, p) ∷ [])) ≡ (is_some (place_of x known) || same_name x name)
+id_of_last x name p [] = elim (same_name x name) as (λ b. is_some (cond b (Some p) None) ≡ b) [ true ↦ refl | false ↦ refl ]
+id_of_last x name p (d ∷ known) =
     elim (same_name x d.0) as (λ b. is_some (cond b (Some d.1) (place_of x (known ++ (name, p) ∷ []))) ≡ (is_some (cond b (Some d.1) (place_of x known)) || same_name x name))
-    [ true ↦ refl | false ↦ place_of_last x name p known ]
+    [ true ↦ refl | false ↦ id_of_last x name p known ]
 
 pub known_more : (written : List Name) (known : Known) (name : Name) (next : ℕ) → IsKnown written known → IsKnown (name ∷ written) (defining name next known)
 known_more written known name next is x =
-    place_of_last x name next known ∙ ap (λ b. b || same_name x name) (is x) ∙ or_turned (is_among x written) (same_name x name)
+    id_of_last x name next known ∙ ap (λ b. b || same_name x name) (is x) ∙ or_turned (is_among x written) (same_name x name)
 
 mutual
   pub known_then : (written : List Name) (known : Known) (next : ℕ) (f : Form) → IsKnown written known → IsKnown (written_after written f) (known_after known next f)
@@ -87,10 +87,10 @@ mutual
   known_then_fields written known next (field name f fs) is = known_then_fields (written_after written f) (known_after known next f) (next + nodes_in f) fs (known_then written known next f is)
 
 abbrev pub made : Known → ℕ → Form → Made ℕ
-made known next f = record { result = laid_place known next f; nodes = raw_nodes (laid known next f); known = known_after known next f; faults = [] }
+made known next f = record { result = laid_id known next f; nodes = raw_nodes (laid known next f); known = known_after known next f; faults = [] }
 
 abbrev pub made_all : Known → ℕ → Forms → Made (List ℕ)
-made_all known next fs = record { result = laid_places known next fs; nodes = raw_nodes (laid_all known next fs); known = known_after_all known next fs; faults = [] }
+made_all known next fs = record { result = laid_ids known next fs; nodes = raw_nodes (laid_all known next fs); known = known_after_all known next fs; faults = [] }
 
 abbrev pub made_fields : Known → ℕ → FieldForms → Made (List RawField)
 made_fields known next fs = record { result = map raw_field (laid_fields known next fs); nodes = raw_nodes (laid_in_fields known next fs); known = known_after_fields known next fs; faults = [] }
@@ -137,14 +137,14 @@ kept_is : (enclosing : List ℕ) (name : Name) → is_kept enclosing name ≡ tr
 kept_is [] name kept null = refl
 kept_is (c ∷ cs) name kept null = absurd (false≢true (sym (ap (λ text. not (is_empty_text text)) null) ∙ kept))
 
-pub place_is : (o : Option ℕ) → is_some o ≡ true → o ≡ Some (unwrap_or o 0)
-place_is None h = absurd (false≢true h)
-place_is (Some p) h = refl
+pub id_is : (o : Option ℕ) → is_some o ≡ true → o ≡ Some (unwrap_or o 0)
+id_is None h = absurd (false≢true h)
+id_is (Some p) h = refl
 
 pub reference_read : (name : Name) (known : Known) (next : ℕ) (enclosing : List ℕ) → is_full_name name ≡ true → is_kept enclosing name ≡ true → is_some (place_of name known) ≡ true
     → meaning_of (Data.string (name_text name)) enclosing known next ≡ made known next (Form.reference name)
 reference_read name known next enclosing full kept some =
-    rw (name_no_word name full, name_read name enclosing full (kept_is enclosing name kept)) (rw (place_is (place_of name known) some) refl)
+    rw (name_no_word name full, name_read name enclosing full (kept_is enclosing name kept)) (rw (id_is (place_of name known) some) refl)
 
 pub name_given : (name : Name) (enclosing : List ℕ) → is_full_name name ≡ true → is_kept enclosing name ≡ true → name_from enclosing None (Some (name_text name)) ≡ Ok name
 name_given name enclosing full kept =

@@ -76,17 +76,17 @@ free_at q (c ∷ cs) (suc k) h within = free_at q cs k (and_parts (not (c == q))
 
 after_at : (q : ℕ) (front text : List ℕ) (k : ℕ) → is_free_of q text ≡ true → length front + 1 ≤ k → k < length (front ++ q ∷ text) → not (get_or (front ++ q ∷ text) k 0 == q) ≡ true
 after_at q front text k free above below =
-    let place : (j : ℕ) × (k - length front ≡ suc j) = (k - length front - 1, omega arith) in
-    let there : get_or (front ++ q ∷ text) k 0 ≡ get_or text place.0 0 =
-    get_or-append_right front (q ∷ text) (length front) k 0 refl (omega arith) ∙ ap (λ i. get_or (q ∷ text) i 0) place.1 in
-    subst (λ c. not (c == q) ≡ true) (sym there) (free_at q text place.0 free (omega (arith, length-append front (q ∷ text), place.1)))
+    let index : (j : ℕ) × (k - length front ≡ suc j) = (k - length front - 1, omega arith) in
+    let there : get_or (front ++ q ∷ text) k 0 ≡ get_or text index.0 0 =
+    get_or-append_right front (q ∷ text) (length front) k 0 refl (omega arith) ∙ ap (λ i. get_or (q ∷ text) i 0) index.1 in
+    subst (λ c. not (c == q) ≡ true) (sym there) (free_at q text index.0 free (omega (arith, length-append front (q ∷ text), index.1)))
 
 tail_length : (q : ℕ) (front text : List ℕ) → is_free_of q text ≡ true → suffix_len (λ c. not (c == q)) (front ++ q ∷ text) ≡ length text
 tail_length q front text free =
     let tail = suffix_len_is (λ c. not (c == q)) (front ++ q ∷ text) (length front + 1) 0 (omega (arith, length-append front (q ∷ text)))
     (λ k above below. after_at q front text k free above below)
-    (λ _. let place : length front ≡ length front + 1 - 1 = omega arith in
-    not_from_true _ (eq-eqb _ q (ap (λ k. get_or (front ++ q ∷ text) k 0) (sym place) ∙ get_or-append_seam front q text 0))) in
+    (λ _. let same : length front ≡ length front + 1 - 1 = omega arith in
+    not_from_true _ (eq-eqb _ q (ap (λ k. get_or (front ++ q ∷ text) k 0) (sym same) ∙ get_or-append_seam front q text 0))) in
     omega (arith, tail, length-append front (q ∷ text))
 
 -- a text is cut at its last dot

@@ -80,7 +80,7 @@ marks-apart name written (Some other ∷ os) apart =
     let later = or-right (same_name name other) (list_any (same_name name) (filter_map (λ o. o) os)) apart in
     rw (named_or name written other this) (ap (λ marks. is_among other written ∷ marks) (marks-apart name written os later))
 
--- a name that stands at a place is another than one that is apart from all
+-- a name that stands at an index is another than one that is apart from all
 pub apart-at : (name : Name) (os : List (Option Name)) (p : ℕ) (other : Name) → list_any (same_name name) (filter_map (λ o. o) os) ≡ false
     → slice_get os p ≡ Some (Some other) → same_name name other ≡ false
 apart-at name [] p other apart at = absurd (no_none (sym at))

@@ -54,11 +54,11 @@ mutual
   one-form (IsForm.again h old) (IsForm.enum k) = absurd (not-both _ _ _ k h old)
   one-form (IsForm.again h old) (IsForm.fixed k) = absurd (not-both _ _ _ k h old)
 
-  one-form_all : {nodes : List Node} {written : List Name} {places : List ℕ} {fs gs : Forms} → AreForms nodes written places fs → AreForms nodes written places gs → fs ≡ gs
+  one-form_all : {nodes : List Node} {written : List Name} {ids : List ℕ} {fs gs : Forms} → AreForms nodes written ids fs → AreForms nodes written ids gs → fs ≡ gs
   one-form_all no_branch no_branch = refl
-  one-form_all {nodes = nodes} {written = written} (branch {places = places} {f = f} {fs = fs} d ds) (branch {f = g} {fs = gs} e es) =
+  one-form_all {nodes = nodes} {written = written} (branch {ids = ids} {f = f} {fs = fs} d ds) (branch {f = g} {fs = gs} e es) =
       let first : f ≡ g = one-form d e in
-      let there : AreForms nodes (written_after written f) places gs = subst (λ it. AreForms nodes (written_after written it) places gs) (sym first) es in
+      let there : AreForms nodes (written_after written f) ids gs = subst (λ it. AreForms nodes (written_after written it) ids gs) (sym first) es in
       ap (λ it. form it fs) first ∙ ap (λ rest. form g rest) (one-form_all ds there)
 
   one-form_fields : {nodes : List Node} {written : List Name} {xs : List FieldNode} {fs gs : FieldForms} → AreFieldForms nodes written xs fs → AreFieldForms nodes written xs gs → fs ≡ gs

@@ -15,7 +15,7 @@ use Rattle.avro_canonical.specs.Form.{Form, Forms, FieldForms, no_forms, form, n
 use Rattle.avro_canonical.specs.Canonical.{IsForm, IsCanonical, primitive_word}
 use Rattle.avro_canonical.specs.CanonicalTree.{text_items, form_tree, form_trees, field_trees, nodes_in, keeps_names}
 use Rattle.avro_canonical.specs.inside.WellMade.{node_of_word, WellMade, AreWellMade, FieldsWellMade}
-use Rattle.avro_canonical.specs.inside.Laid.{known_after, laid_place, laid_fields, laid, laid_all, laid_in_fields, raw_field, raw_node, raw_nodes}
+use Rattle.avro_canonical.specs.inside.Laid.{known_after, laid_id, laid_fields, laid, laid_all, laid_in_fields, raw_field, raw_node, raw_nodes}
 use Rattle.avro_canonical.proofs.FormsWellMade.{good_at, well_made}
 use Rattle.avro_canonical.proofs.LaidRead.{made, laid_count}
 use Rattle.avro_canonical.proofs.FormsRead.{form_read}
@@ -58,7 +58,7 @@ word_whole bare =
 fields_whole : (bare : List Node) (known : Known) (next : ℕ) (fs : FieldForms) → map (whole_field bare) (map raw_field (laid_fields known next fs)) ≡ laid_fields known next fs
 fields_whole bare known next no_fields = refl
 fields_whole bare known next (field name f fs) =
-    ap (λ xs. record { name = name; aliases = []; node = laid_place known next f; default = None } ∷ xs) (fields_whole bare (known_after known next f) (next + nodes_in f) fs)
+    ap (λ xs. record { name = name; aliases = []; node = laid_id known next f; default = None } ∷ xs) (fields_whole bare (known_after known next f) (next + nodes_in f) fs)
 
 fields_read_whole : (bare : List Node) (known : Known) (next : ℕ) (fs : FieldForms) → list_all (is_default_read bare) (map raw_field (laid_fields known next fs)) ≡ true
 fields_read_whole bare known next no_fields = refl
@@ -117,15 +117,15 @@ some_nodes (Form.enum name symbols) good = omega arith
 some_nodes (Form.fixed name count) good = omega arith
 some_nodes (Form.reference name) good = absurd (false≢true good.0)
 
-root_place : (f : Form) → laid_place [] 0 f ≡ 0
-root_place (Form.primitive word) = refl
-root_place (Form.array f) = refl
-root_place (Form.map_of f) = refl
-root_place (Form.union fs) = refl
-root_place (Form.record_of name fs) = refl
-root_place (Form.enum name symbols) = refl
-root_place (Form.fixed name count) = refl
-root_place (Form.reference name) = refl
+root_id : (f : Form) → laid_id [] 0 f ≡ 0
+root_id (Form.primitive word) = refl
+root_id (Form.array f) = refl
+root_id (Form.map_of f) = refl
+root_id (Form.union fs) = refl
+root_id (Form.record_of name fs) = refl
+root_id (Form.enum name symbols) = refl
+root_id (Form.fixed name count) = refl
+root_id (Form.reference name) = refl
 
 laid_schema : (f : Form) → WellMade [] f → nodes_in f ≤ max_nodes → is_schema (laid [] 0 f) ≡ true
 laid_schema f good few =
@@ -147,7 +147,7 @@ laid_text f text good spelled =
     let again = laid [] 0 f in
     record {
       form = f;
-      formed = subst (λ p. IsForm again [] (node_at again p) f) (root_place f)
+      formed = subst (λ p. IsForm again [] (node_at again p) f) (root_id f)
           (laid_form again f [] [] 0 [] good (λ name. refl) (λ name p e. absurd (none_apart e)) (sym (append-nil again)));
       spelled = spelled;
     }

@@ -6,14 +6,14 @@ use Rattle.avro_schema.specs.Node.{Node, FieldNode, node_at, items_node, values_
 use Rattle.avro_schema.specs.Fits.{fits, each_fits, entries_fit, fields_fit, is_some_and, is_count, is_text, is_int, is_long, are_bytes, is_null_node, is_boolean_node, is_int_node, is_long_node, is_bytes_node, is_string_node}
 use Rattle.avro_schema.specs.Distinct.{are_distinct}
 
--- two places, or none
+-- two ids, or none
 pub data BothAt (P : ℕ → ℕ → Type 0) : Option ℕ → Option ℕ → Type 0 where
   neither : BothAt P None None
   both : {p q : ℕ} → P p q → BothAt P (Some p) (Some q)
 
 pub data Each (P : ℕ → ℕ → Type 0) : List ℕ → List ℕ → Type 0 where
-  no_places : Each P [] []
-  places : {p q : ℕ} {ps qs : List ℕ} → P p q → Each P ps qs → Each P (p ∷ ps) (q ∷ qs)
+  no_pairs : Each P [] []
+  pairs : {p q : ℕ} {ps qs : List ℕ} → P p q → Each P ps qs → Each P (p ∷ ps) (q ∷ qs)
 
 pub data EachAt {A : Type 0} (P : ℕ → ℕ → Type 0) (seen : A → List ℕ) : Option A → Option A → Type 0 where
   none_each : EachAt P seen None None
@@ -38,23 +38,23 @@ pub by_both : {P : ℕ → ℕ → Type 0} {o u : Option ℕ} (f g : ℕ → Boo
 by_both f g same neither = refl
 by_both f g same (both {p = p} {q = q} r) = same p q r
 
-pub by_place : {P : ℕ → ℕ → Type 0} {ps qs : List ℕ} (f g : ℕ → Bool) → ((p q : ℕ) → P p q → f p ≡ g q) → (k : ℕ) → Each P ps qs
+pub by_id : {P : ℕ → ℕ → Type 0} {ps qs : List ℕ} (f g : ℕ → Bool) → ((p q : ℕ) → P p q → f p ≡ g q) → (k : ℕ) → Each P ps qs
     → is_some_and f (slice_get ps k) ≡ is_some_and g (slice_get qs k)
-by_place f g same k no_places = refl
-by_place f g same zero (places {p = p} {q = q} r rs) = same p q r
-by_place f g same (suc k) (places r rs) = by_place f g same k rs
+by_id f g same k no_pairs = refl
+by_id f g same zero (pairs {p = p} {q = q} r rs) = same p q r
+by_id f g same (suc k) (pairs r rs) = by_id f g same k rs
 
 pub by_branch : {P : ℕ → ℕ → Type 0} {o u : Option (List ℕ)} (f g : ℕ → Bool) → ((p q : ℕ) → P p q → f p ≡ g q) → (k : ℕ) → EachAt P (λ ps. ps) o u
     → is_some_and f (option_and_then (λ ps. slice_get ps k) o) ≡ is_some_and g (option_and_then (λ ps. slice_get ps k) u)
 by_branch f g same k none_each = refl
-by_branch f g same k (each rs) = by_place f g same k rs
+by_branch f g same k (each rs) = by_id f g same k rs
 
 pub by_fields : {P : ℕ → ℕ → Type 0} {o u : Option (List FieldNode)} (f g : List ℕ → Bool) → ((ps qs : List ℕ) → Each P ps qs → f ps ≡ g qs) → EachAt P field_ids o u
     → is_some_and (λ xs. f (field_ids xs)) o ≡ is_some_and (λ xs. g (field_ids xs)) u
 by_fields f g same none_each = refl
 by_fields f g same (each {x = x} {y = y} rs) = same (field_ids x) (field_ids y) rs
 
--- a relation of places whose parts are related again
+-- a relation of ids whose parts are related again
 abbrev pub Closed : List Node → List Node → (ℕ → ℕ → Type 0) → Type 0
 Closed a b P = (p q : ℕ) → P p q → Matching P (node_at a p) (node_at b q)
 
@@ -68,12 +68,12 @@ mutual
   same_fit a b closed (Value.string text) p q r = ap (λ t. t && is_text text) (closed p q r).string
   same_fit a b closed (Value.array vs) p q r =
       ap (λ t. is_count (values_count vs) && t)
-      (by_both (λ place. each_fits a (node_at a place) vs) (λ place. each_fits b (node_at b place) vs) (λ x y s. same_each a b closed vs x y s) (closed p q r).items)
+      (by_both (λ id. each_fits a (node_at a id) vs) (λ id. each_fits b (node_at b id) vs) (λ x y s. same_each a b closed vs x y s) (closed p q r).items)
   same_fit a b closed (Value.map_of es) p q r =
       ap (λ t. is_count (entries_count es) && list_all is_text (keys_of es) && are_distinct bytes_eq (keys_of es) && t)
-      (by_both (λ place. entries_fit a (node_at a place) es) (λ place. entries_fit b (node_at b place) es) (λ x y s. same_entries a b closed es x y s) (closed p q r).values)
+      (by_both (λ id. entries_fit a (node_at a id) es) (λ id. entries_fit b (node_at b id) es) (λ x y s. same_entries a b closed es x y s) (closed p q r).values)
   same_fit a b closed (Value.union k v) p q r =
-      by_branch (λ place. fits a (node_at a place) v) (λ place. fits b (node_at b place) v) (λ x y s. same_fit a b closed v x y s) k (closed p q r).branches
+      by_branch (λ id. fits a (node_at a id) v) (λ id. fits b (node_at b id) v) (λ x y s. same_fit a b closed v x y s) k (closed p q r).branches
   same_fit a b closed (Value.record_of vs) p q r =
       by_fields (λ ps. fields_fit a ps vs) (λ ps. fields_fit b ps vs) (λ xs ys s. same_fields a b closed vs xs ys s) (closed p q r).fields
   same_fit a b closed (Value.enum k) p q r = ap (λ o. is_some_and (λ symbols. nat_lt k (length symbols)) o) (closed p q r).symbols
@@ -90,12 +90,12 @@ mutual
       ap (λ t. t && entries_fit a (node_at a p) es) (same_fit a b closed v p q r) ∙ ap (λ t. fits b (node_at b q) v && t) (same_entries a b closed es p q r)
 
   same_fields : (a b : List Node) {P : ℕ → ℕ → Type 0} → Closed a b P → (vs : Values) (ps qs : List ℕ) → Each P ps qs → fields_fit a ps vs ≡ fields_fit b qs vs
-  same_fields a b closed no_values [] [] no_places = refl
-  same_fields a b closed no_values (p ∷ ps) (q ∷ qs) (places r rs) = refl
+  same_fields a b closed no_values [] [] no_pairs = refl
+  same_fields a b closed no_values (p ∷ ps) (q ∷ qs) (pairs r rs) = refl
   same_fields a b closed no_values [] (q ∷ qs) r = elim r [ ]
   same_fields a b closed no_values (p ∷ ps) [] r = elim r [ ]
   same_fields a b closed (value v vs) [] (q ∷ qs) r = elim r [ ]
   same_fields a b closed (value v vs) (p ∷ ps) [] r = elim r [ ]
-  same_fields a b closed (value v vs) [] [] no_places = refl
-  same_fields a b closed (value v vs) (p ∷ ps) (q ∷ qs) (places r rs) =
+  same_fields a b closed (value v vs) [] [] no_pairs = refl
+  same_fields a b closed (value v vs) (p ∷ ps) (q ∷ qs) (pairs r rs) =
       ap (λ t. t && fields_fit a ps vs) (same_fit a b closed v p q r) ∙ ap (λ t. fits b (node_at b q) v && t) (same_fields a b closed vs ps qs rs)

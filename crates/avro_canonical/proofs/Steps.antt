@@ -4,7 +4,7 @@ use Rattle.avro_name.specs.Name.{Name}
 use Rattle.avro_schema.specs.Node.{Node, FieldNode, node_name}
 use Rattle.avro_canonical.specs.Form.{Form, no_forms, form, no_fields, field, full_text, quoted, form_text, form_texts, field_texts, after_commas, with_commas, written_after}
 use Rattle.avro_canonical.specs.Canonical.{IsForm, is_among, no_branch, branch, no_field, next_field}
-use Rattle.avro_canonical.specs.Pending.{Pending, place, branches, fields, end, IsLeft, is_written, opening_of, opening_of_first, parts_of, first_field, first_branch}
+use Rattle.avro_canonical.specs.Pending.{Pending, of_node, branches, fields, end, IsLeft, is_written, opening_of, opening_of_first, parts_of, first_field, first_branch}
 use Rattle.std.proofs.lemmas.List.{append_assoc, append-nil}
 
 around : (a t c last rest r : List ℕ) → rest ≡ t ++ r → r ≡ c ++ last → a ++ rest ≡ (a ++ t ++ c) ++ last
@@ -44,12 +44,12 @@ Opened nodes written n ps rest =
     × (opening_of n ++ rest ≡ form_text f ++ later)
 
 opened_array : (nodes : List Node) (written : List Name) (p : ℕ) (ps : List Pending) (rest : List ℕ)
-    → IsLeft nodes written (place p ∷ end ∷ ps) rest → Opened nodes written (Node.array p) ps rest
+    → IsLeft nodes written (of_node p ∷ end ∷ ps) rest → Opened nodes written (Node.array p) ps rest
 opened_array nodes written p ps rest (f, r, formed, (last, left, ended), spelled) =
     (Form.array f, last, IsForm.array formed, left, around (opening_of (Node.array p)) (form_text f) (codes "}") last rest r spelled ended)
 
 opened_map : (nodes : List Node) (written : List Name) (p : ℕ) (ps : List Pending) (rest : List ℕ)
-    → IsLeft nodes written (place p ∷ end ∷ ps) rest → Opened nodes written (Node.map_of p) ps rest
+    → IsLeft nodes written (of_node p ∷ end ∷ ps) rest → Opened nodes written (Node.map_of p) ps rest
 opened_map nodes written p ps rest (f, r, formed, (last, left, ended), spelled) =
     (Form.map_of f, last, IsForm.map_of formed, left, around (opening_of (Node.map_of p)) (form_text f) (codes "}") last rest r spelled ended)
 
@@ -127,7 +127,7 @@ pub passed_branches : (nodes : List Node) (written : List Name) (ps : List Pendi
 passed_branches nodes written ps rest left = (no_forms, rest, no_branch, left, refl)
 
 pub passed_branch : (nodes : List Node) (written : List Name) (q : ℕ) (qs : List ℕ) (ps : List Pending) (rest : List ℕ)
-    → IsLeft nodes written (place q ∷ branches qs ∷ ps) rest → IsLeft nodes written (branches (q ∷ qs) ∷ ps) (codes "," ++ rest)
+    → IsLeft nodes written (of_node q ∷ branches qs ∷ ps) rest → IsLeft nodes written (branches (q ∷ qs) ∷ ps) (codes "," ++ rest)
 passed_branch nodes written q qs ps rest (f, r, formed, (fs, later, others, left, closed), spelled) = (
   form f fs,
   later,
@@ -141,7 +141,7 @@ pub passed_fields : (nodes : List Node) (written : List Name) (ps : List Pending
 passed_fields nodes written ps rest left = (no_fields, rest, no_field, left, refl)
 
 pub passed_field : (nodes : List Node) (written : List Name) (x : FieldNode) (xs : List FieldNode) (ps : List Pending) (rest : List ℕ)
-    → IsLeft nodes written (place x.node ∷ end ∷ fields xs ∷ ps) rest
+    → IsLeft nodes written (of_node x.node ∷ end ∷ fields xs ∷ ps) rest
     → IsLeft nodes written (fields (x ∷ xs) ∷ ps) (codes "," ++ opening_of_first (x ∷ xs) ++ rest)
 passed_field nodes written x xs ps rest (f, r, formed, (s, (fs, later, others, left, closed), ended), spelled) = (
   field x.name f fs,

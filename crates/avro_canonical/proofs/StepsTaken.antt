@@ -10,7 +10,7 @@ use Rattle.avro_schema.specs.Distinct.{are_distinct}
 use Rattle.avro_schema.specs.WellFormed.{is_schema, are_good_nodes, max_nodes}
 use Rattle.avro_canonical.specs.Form.{Form, full_text, form_text}
 use Rattle.avro_canonical.specs.Canonical.{IsForm, IsCanonical, is_among}
-use Rattle.avro_canonical.specs.Pending.{Pending, place, branches, fields, end, IsLeft, IsStep, is_name_written, marks_of, opening_of, parts_of, before_branch, next_branch, before_field, following_fields}
+use Rattle.avro_canonical.specs.Pending.{Pending, of_node, branches, fields, end, IsLeft, IsStep, is_name_written, marks_of, opening_of, parts_of, before_branch, next_branch, before_field, following_fields}
 use Rattle.avro_canonical.proofs.NamesWritten.{marked, marks-seen, named-at}
 use Rattle.avro_canonical.proofs.Steps.{begun_name, opened, passed_end, passed_branches, passed_branch, passed_fields, passed_field}
 
@@ -21,7 +21,7 @@ mark-at written nodes p name at =
     rw (marks-seen written nodes, slice_get-map (is_name_written written) (map node_name nodes) p, at) refl
 
 pub step-out : (nodes : List Node) (marks : List Bool) (p : ℕ) (ps : List Pending) (old : List ℕ) → slice_get nodes p ≡ None
-    → IsStep nodes marks (place p ∷ ps) old marks ps (old ++ codes "\"null\"")
+    → IsStep nodes marks (of_node p ∷ ps) old marks ps (old ++ codes "\"null\"")
 step-out nodes marks p ps old past written seen = (
   written,
   seen,
@@ -33,7 +33,7 @@ step-out nodes marks p ps old past written seen = (
 )
 
 pub step-unnamed : (nodes : List Node) (marks : List Bool) (p : ℕ) (n : Node) (ps : List Pending) (old : List ℕ) → n ≡ node_at nodes p → node_name n ≡ None
-    → IsStep nodes marks (place p ∷ ps) old marks (parts_of n ++ ps) (old ++ opening_of n)
+    → IsStep nodes marks (of_node p ∷ ps) old marks (parts_of n ++ ps) (old ++ opening_of n)
 step-unnamed nodes marks p n ps old here none written seen = (
   written,
   seen,
@@ -43,7 +43,7 @@ step-unnamed nodes marks p n ps old here none written seen = (
 )
 
 pub step-again : (nodes : List Node) (marks : List Bool) (p : ℕ) (n : Node) (name : Name) (ps : List Pending) (old : List ℕ) → n ≡ node_at nodes p → node_name n ≡ Some name
-    → unwrap_or (slice_get marks p) false ≡ true → IsStep nodes marks (place p ∷ ps) old marks ps (old ++ full_text name)
+    → unwrap_or (slice_get marks p) false ≡ true → IsStep nodes marks (of_node p ∷ ps) old marks ps (old ++ full_text name)
 step-again nodes marks p n name ps old here named set written seen =
     let there : node_name (node_at nodes p) ≡ Some name = subst (λ m. node_name m ≡ Some name) here named in
     let among : is_among name written ≡ true = sym (mark-at written nodes p name (named-at nodes p name there)) ∙ subst (λ ms. unwrap_or (slice_get ms p) false ≡ true) seen set in
@@ -54,7 +54,7 @@ distinct-names nodes h =
     (and_parts (nat_lt 0 (length nodes) && nat_le (length nodes) max_nodes && are_good_nodes nodes 0 nodes) (are_distinct same_name (filter_map node_name nodes)) h).1
 
 pub step-new : (nodes : List Node) (marks : List Bool) (p : ℕ) (n : Node) (name : Name) (ps : List Pending) (old : List ℕ) → is_schema nodes ≡ true → n ≡ node_at nodes p
-    → node_name n ≡ Some name → unwrap_or (slice_get marks p) false ≡ false → IsStep nodes marks (place p ∷ ps) old (slice_set marks p true) (parts_of n ++ ps) (old ++ opening_of n)
+    → node_name n ≡ Some name → unwrap_or (slice_get marks p) false ≡ false → IsStep nodes marks (of_node p ∷ ps) old (slice_set marks p true) (parts_of n ++ ps) (old ++ opening_of n)
 step-new nodes marks p n name ps old formed here named clear written seen =
     let there : node_name (node_at nodes p) ≡ Some name = subst (λ m. node_name m ≡ Some name) here named in
     let at : slice_get (map node_name nodes) p ≡ Some (Some name) = named-at nodes p name there in
@@ -89,7 +89,7 @@ abbrev pub Begins : List Node → List Bool → List Pending → List ℕ → Ty
 Begins nodes marks ps text =
     (written : List Name) × (marks ≡ marks_of written nodes) × ((rest : List ℕ) → IsLeft nodes written ps rest → IsCanonical nodes (text ++ rest))
 
-pub begins_first : (nodes : List Node) (marks : List Bool) → marks ≡ marks_of [] nodes → Begins nodes marks (place 0 ∷ []) []
+pub begins_first : (nodes : List Node) (marks : List Bool) → marks ≡ marks_of [] nodes → Begins nodes marks (of_node 0 ∷ []) []
 begins_first nodes marks seen = (
   [],
   seen,

@@ -23,12 +23,12 @@ is_among name names = list_any (same_name name) names
 mutual
   pub data IsForm (nodes : List Node) : List Name → Node → Form → Type 0 where
     primitive : {written : List Name} {n : Node} {word : List ℕ} → primitive_word n ≡ Some word → IsForm nodes written n (Form.primitive word)
-    array : {written : List Name} {place : ℕ} {f : Form} → IsForm nodes written (node_at nodes place) f
-        → IsForm nodes written (Node.array place) (Form.array f)
-    map_of : {written : List Name} {place : ℕ} {f : Form} → IsForm nodes written (node_at nodes place) f
-        → IsForm nodes written (Node.map_of place) (Form.map_of f)
-    union : {written : List Name} {places : List ℕ} {fs : Forms} → AreForms nodes written places fs
-        → IsForm nodes written (Node.union places) (Form.union fs)
+    array : {written : List Name} {id : ℕ} {f : Form} → IsForm nodes written (node_at nodes id) f
+        → IsForm nodes written (Node.array id) (Form.array f)
+    map_of : {written : List Name} {id : ℕ} {f : Form} → IsForm nodes written (node_at nodes id) f
+        → IsForm nodes written (Node.map_of id) (Form.map_of f)
+    union : {written : List Name} {ids : List ℕ} {fs : Forms} → AreForms nodes written ids fs
+        → IsForm nodes written (Node.union ids) (Form.union fs)
     record_of : {written : List Name} {name : Name} {aliases : List Name} {fields : List FieldNode} {fs : FieldForms}
         → is_among name written ≡ false → AreFieldForms nodes (name ∷ written) fields fs
         → IsForm nodes written (Node.record_of name aliases fields) (Form.record_of name fs)
@@ -42,8 +42,8 @@ mutual
   -- the forms of a union's branches, from left to right
   pub data AreForms (nodes : List Node) : List Name → List ℕ → Forms → Type 0 where
     no_branch : {written : List Name} → AreForms nodes written [] no_forms
-    branch : {written : List Name} {place : ℕ} {places : List ℕ} {f : Form} {fs : Forms} → IsForm nodes written (node_at nodes place) f
-        → AreForms nodes (written_after written f) places fs → AreForms nodes written (place ∷ places) (form f fs)
+    branch : {written : List Name} {id : ℕ} {ids : List ℕ} {f : Form} {fs : Forms} → IsForm nodes written (node_at nodes id) f
+        → AreForms nodes (written_after written f) ids fs → AreForms nodes written (id ∷ ids) (form f fs)
 
   -- the forms of a record's fields, from left to right
   pub data AreFieldForms (nodes : List Node) : List Name → List FieldNode → FieldForms → Type 0 where

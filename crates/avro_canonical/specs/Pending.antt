@@ -9,7 +9,7 @@ use Rattle.avro_canonical.specs.declared.part.Part.{Part}
 
 pub data Pending : Type 0 where
   -- a node
-  place : ℕ → Pending
+  of_node : ℕ → Pending
   -- branches behind another one, and the end of their union
   branches : List ℕ → Pending
   -- fields behind another one, and the end of their record
@@ -18,7 +18,7 @@ pub data Pending : Type 0 where
   end : Pending
 
 abbrev pub pending_of : Part → Pending
-pending_of (Part.Place id) = place id.0
+pending_of (Part.Node id) = of_node id.0
 pending_of (Part.Branches ids) = branches (ids_of ids.now)
 pending_of (Part.Fields fs) = fields (seen_fields fs.now)
 pending_of Part.End = end
@@ -30,11 +30,11 @@ pendings_of parts = reverse (map pending_of parts)
 -- the text of what is left, where some names are written
 abbrev pub IsLeft : List Node → List Name → List Pending → List ℕ → Type 0
 IsLeft nodes written [] text = text ≡ []
-IsLeft nodes written (place p ∷ ps) text =
+IsLeft nodes written (of_node p ∷ ps) text =
     (f : Form) × (rest : List ℕ) × IsForm nodes written (node_at nodes p) f × IsLeft nodes (written_after written f) ps rest
     × (text ≡ form_text f ++ rest)
-IsLeft nodes written (branches places ∷ ps) text =
-    (fs : Forms) × (rest : List ℕ) × AreForms nodes written places fs × IsLeft nodes (written_after_all written fs) ps rest
+IsLeft nodes written (branches ids ∷ ps) text =
+    (fs : Forms) × (rest : List ℕ) × AreForms nodes written ids fs × IsLeft nodes (written_after_all written fs) ps rest
     × (text ≡ after_commas (form_texts fs) ++ codes "]" ++ rest)
 IsLeft nodes written (fields xs ∷ ps) text =
     (fs : FieldForms) × (rest : List ℕ) × AreFieldForms nodes written xs fs × IsLeft nodes (written_after_fields written fs) ps rest
@@ -60,11 +60,11 @@ opening_of_first (x ∷ xs) = codes "{\"name\":" ++ quoted x.name ++ codes ",\"t
 
 abbrev pub first_field : List FieldNode → List Pending
 first_field [] = fields [] ∷ []
-first_field (x ∷ xs) = place x.node ∷ end ∷ fields xs ∷ []
+first_field (x ∷ xs) = of_node x.node ∷ end ∷ fields xs ∷ []
 
 abbrev pub first_branch : List ℕ → List Pending
 first_branch [] = branches [] ∷ []
-first_branch (p ∷ ps) = place p ∷ branches ps ∷ []
+first_branch (p ∷ ps) = of_node p ∷ branches ps ∷ []
 
 -- the head of a definition, with the word of its type
 abbrev pub head_text : Name → List ℕ → List ℕ
@@ -106,8 +106,8 @@ opening_of (Node.fixed name aliases count) = head_text name (codes "fixed") ++ c
 
 -- and what is left of it then
 abbrev pub parts_of : Node → List Pending
-parts_of (Node.array p) = place p ∷ end ∷ []
-parts_of (Node.map_of p) = place p ∷ end ∷ []
+parts_of (Node.array p) = of_node p ∷ end ∷ []
+parts_of (Node.map_of p) = of_node p ∷ end ∷ []
 parts_of (Node.union ps) = first_branch ps
 parts_of (Node.record_of name aliases xs) = first_field xs
 parts_of _ = []

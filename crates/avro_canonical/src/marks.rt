@@ -1,31 +1,16 @@
-ghost use Rattle.std.specs.Prelude.{◌≡◌, true, false, slice_get, slice_set, unwrap_or, IfOk, MatchOption, None, Some, []};
-ghost use Rattle.avro_schema.specs.Node.{node_name};
-ghost use Rattle.avro_schema.specs.Seen.{node_of};
+ghost use Rattle.std.specs.Prelude.{◌≡◌, true, false, slice_get, slice_set, unwrap_or, IfOk, []};
 ghost use Rattle.avro_schema.specs.SeenSchema.{schema_nodes};
 ghost use Rattle.avro_canonical.specs.Pending.{marks_of};
 
-use avro_name::FullName;
-use avro_schema::{Memory, Node, NodeId, Schema};
+use avro_schema::{Memory, NodeId, Schema};
 use std::alloc::Global;
-
-/// The name of a record, an enum or a fixed.
-pub(crate) fn name_of(node: &Node) -> Option<&FullName>
-    ensures { MatchOption result (node_name (node_of node.now) ≡ None) (λ name. node_name (node_of node.now) ≡ Some name.now) }
-{
-    match node {
-        Node::Record(record) => Some(&record.name),
-        Node::Enum(enumeration) => Some(&enumeration.name),
-        Node::Fixed(fixed) => Some(&fixed.name),
-        _ => None,
-    }
-}
 
 /// A mark for each node of a schema, none of which is set.
 pub(crate) fn no_marks(alloc: Global, schema: &Schema) -> Result<Vec<bool>, Memory>
     ensures { IfOk result (λ marks. marks.items ≡ marks_of [] (schema_nodes schema.now)) }
 {
     let mut marks: Vec<bool> = Vec::new(alloc);
-    for place in 0..schema.len() {
+    for id in 0..schema.len() {
         marks.push(false)?;
     }
     Ok(marks)

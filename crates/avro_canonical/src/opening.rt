@@ -1,6 +1,6 @@
 ghost use Rattle.std.specs.Prelude.{◌≡◌, ◌++◌, ◌∷◌, [], OnOk, string_bytes, codes};
 ghost use Rattle.avro_schema.specs.Seen.{node_of, seen_fields, field_of, ids_of};
-ghost use Rattle.avro_canonical.specs.Pending.{pendings_of, place, branches, fields as fields_left, end, head_text, opening_of, opening_of_first, parts_of, first_field, first_branch};
+ghost use Rattle.avro_canonical.specs.Pending.{pendings_of, of_node, branches, fields as fields_left, end, head_text, opening_of, opening_of_first, parts_of, first_field, first_branch};
 
 use crate::part::Part;
 use crate::parts::put_part;
@@ -26,7 +26,7 @@ pub(crate) fn open_fields<'a>(
             put(out, ",\"type\":")?;
             put_part(parts, Part::Fields(others))?;
             put_part(parts, Part::End)?;
-            put_part(parts, Part::Place(first.node))
+            put_part(parts, Part::Node(first.node))
         }
     }
 }
@@ -42,17 +42,17 @@ pub(crate) fn open_branches<'a>(
         None => put_part(parts, Part::Branches(branches)),
         Some((first, others)) => {
             put_part(parts, Part::Branches(others))?;
-            put_part(parts, Part::Place(*first))
+            put_part(parts, Part::Node(*first))
         }
     }
 }
 
 /// Leaves the node of items or values, and the end of its array or map.
 fn open_part<'a>(parts: &mut Vec<Part<'a>>, id: NodeId) -> Result<(), Memory>
-    ensures { OnOk result (pendings_of parts.new.items ≡ place id.0 ∷ end ∷ pendings_of parts.old.items) }
+    ensures { OnOk result (pendings_of parts.new.items ≡ of_node id.0 ∷ end ∷ pendings_of parts.old.items) }
 {
     put_part(parts, Part::End)?;
-    put_part(parts, Part::Place(id))
+    put_part(parts, Part::Node(id))
 }
 
 /// Writes what the definition of a record begins with, and leaves its fields.

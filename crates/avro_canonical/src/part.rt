@@ -8,7 +8,7 @@ use avro_schema::{Field, Memory, NodeId};
 #[derive(Clone, Copy)]
 pub(crate) enum Part<'a> {
     /// A node.
-    Place(NodeId),
+    Node(NodeId),
     /// Branches of a union behind another one, and the end of the union.
     Branches(&'a [NodeId]),
     /// Fields of a record behind another one, and the end of the record.

@@ -23,7 +23,7 @@ pub fn canonical(alloc: Global, schema: &Schema) -> Result<String, Memory>
     let mut text = String::new(alloc);
     let mut marks = no_marks(alloc, schema)?;
     let mut parts: Vec<Part> = Vec::new(alloc);
-    put_part(&mut parts, Part::Place(schema.root()))?;
+    put_part(&mut parts, Part::Node(schema.root()))?;
     // Each step writes a character, so that a text of more steps is longer than any memory.
     for _ in 0..u64::MAX {
         match next_part(&mut parts) {

@@ -2,9 +2,9 @@ ghost use Rattle.std.specs.Prelude.{◌≡◌, ◌++◌, ◌∷◌, true, OnOk, 
 ghost use Rattle.avro_schema.specs.Seen.{seen_fields, ids_of};
 ghost use Rattle.avro_schema.specs.SeenSchema.{schema_nodes};
 ghost use Rattle.avro_schema.specs.WellFormed.{is_schema};
-ghost use Rattle.avro_canonical.specs.Pending.{pending_of, pendings_of, place, before_branch, next_branch as branches_next, before_field, following_fields, IsStep};
+ghost use Rattle.avro_canonical.specs.Pending.{pending_of, pendings_of, of_node, before_branch, next_branch as branches_next, before_field, following_fields, IsStep};
 
-use crate::marks::{is_marked, mark, name_of};
+use crate::marks::{is_marked, mark};
 use crate::opening::{open_branches, open_fields, open_node};
 use crate::part::Part;
 use crate::spelling::{put, put_name};
@@ -12,7 +12,7 @@ use avro_schema::{Field, Memory, NodeId, Schema};
 use std::alloc::Global;
 
 /// Writes a node's form: its name alone where that is written, else what it begins with.
-fn write_place<'a>(
+fn write_node<'a>(
     alloc: Global,
     schema: &'a Schema,
     id: NodeId,
@@ -21,14 +21,14 @@ fn write_place<'a>(
     marks: &mut [bool],
 ) -> Result<(), Memory>
     requires { is_schema (schema_nodes schema.now) ≡ true }
-    ensures { OnOk result (IsStep (schema_nodes schema.now) marks.old (place id.0 ∷ pendings_of parts.old.items) (string_bytes out.old)
+    ensures { OnOk result (IsStep (schema_nodes schema.now) marks.old (of_node id.0 ∷ pendings_of parts.old.items) (string_bytes out.old)
         marks.new (pendings_of parts.new.items) (string_bytes out.new)) }
 {
     if !schema.has(id) {
         return put(out, "\"null\"");
     }
     let node = schema.node(id);
-    match name_of(node) {
+    match node.name() {
         None => open_node(alloc, out, parts, node),
         Some(name) => {
             if is_marked(marks, id) {
@@ -86,7 +86,7 @@ pub(crate) fn write_part<'a>(
         marks.new (pendings_of parts.new.items) (string_bytes out.new)) }
 {
     match part {
-        Part::Place(id) => write_place(alloc, schema, id, out, parts, marks),
+        Part::Node(id) => write_node(alloc, schema, id, out, parts, marks),
         Part::Branches(branches) => next_branch(out, parts, branches),
         Part::Fields(fields) => next_field(out, parts, fields),
         Part::End => put(out, "}"),

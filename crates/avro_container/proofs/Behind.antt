@@ -11,7 +11,7 @@ use Rattle.avro_container.specs.declared.part_error.PartError.{PartError}
 use Rattle.avro_container.specs.declared.error.CopyError.{CopyError}
 use Rattle.avro_container.specs.FileFault.{FileFault, in_header, invalid_metadata}
 use Rattle.avro_container.specs.FileSeen.{file_fault, header_part_fault}
-use Rattle.avro_container.specs.Filled.{GrowsBy, TakesAtMost, UnlessDevice}
+use Rattle.avro_container.specs.inside.Filled.{GrowsBy, TakesAtMost, UnlessDevice}
 use Rattle.avro_container.specs.Named.{IsNamed}
 use Rattle.avro_container.specs.HeaderFails.{ContentWants}
 use Rattle.avro_container.specs.inside.HeaderParts.{Takes, Refused, PartStops, LengthBreaks, LengthWants, ContentFrom}
@@ -110,18 +110,18 @@ pub stops-whole : (limit at from : ℕ) (ended : Type 0) (bytes front : List ℕ
     → ((rest : List ℕ) (g : ReadFault) → P rest g → P' (front ++ rest) (behind (length front) g))
     → ((rest : List ℕ) (g : ReadFault) → Q rest g → Q' (front ++ rest) (behind (length front) g))
     → PartStops limit from ended bytes P Q f → PartStops limit at ended bytes P' Q' f
-stops-whole limit at from ended bytes front P Q P' Q' f place split up wup (PartStops.broken g b none is) =
+stops-whole limit at from ended bytes front P Q P' Q' f offset split up wup (PartStops.broken g b none is) =
     PartStops.broken (behind (length front) g) (subst (λ (r : List ℕ). P' r (behind (length front) g)) (sym split) (up (drop from bytes) g b))
     (still_no_end (length front) g none)
-    (is ∙ ap (λ (n : ℕ). in_header (invalid_metadata (behind n g))) place ∙ ap (λ (h : ReadFault). in_header (invalid_metadata h)) (behind-add at (length front) g))
-stops-whole limit at from ended bytes front P Q P' Q' _ place split up wup (PartStops.too_long there w over) =
+    (is ∙ ap (λ (n : ℕ). in_header (invalid_metadata (behind n g))) offset ∙ ap (λ (h : ReadFault). in_header (invalid_metadata h)) (behind-add at (length front) g))
+stops-whole limit at from ended bytes front P Q P' Q' _ offset split up wup (PartStops.too_long there w over) =
     PartStops.too_long (length front + there) (subst (λ (r : List ℕ). Q' r (end_of_input (length front + there))) (sym split) (wup (drop from bytes) (end_of_input there) w))
-    (omega (arith, over, place))
-stops-whole limit at from ended bytes front P Q P' Q' _ place split up wup (PartStops.is_cut there w fits told) =
+    (omega (arith, over, offset))
+stops-whole limit at from ended bytes front P Q P' Q' _ offset split up wup (PartStops.is_cut there w fits told) =
     PartStops.is_cut (length front + there) (subst (λ (r : List ℕ). Q' r (end_of_input (length front + there))) (sym split) (wup (drop from bytes) (end_of_input there) w))
-    (omega (arith, fits, place)) told
+    (omega (arith, fits, offset)) told
 
--- the same place
+-- the same offset
 pub stops-as : (limit at : ℕ) (ended : Type 0) (bytes : List ℕ) (P Q P' Q' : List ℕ → ReadFault → Type 0) (f : FileFault)
     → ((g : ReadFault) → P (drop at bytes) g → P' (drop at bytes) g) → ((g : ReadFault) → Q (drop at bytes) g → Q' (drop at bytes) g)
     → PartStops limit at ended bytes P Q f → PartStops limit at ended bytes P' Q' f

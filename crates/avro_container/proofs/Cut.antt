@@ -6,7 +6,7 @@ use Rattle.avro_zigzag.specs.NumberFault.{NumberFails, LongFails}
 use Rattle.avro_zigzag.specs.declared.VarError.TheVariants.{EndOfInput, NotShortest, OutOfRange}
 use Rattle.avro_zigzag.specs.declared.VarError.{VarError}
 use Rattle.avro_zigzag.proofs.public.Faults.{groups-longer}
-use Rattle.avro_container.specs.Filled.{GrowsBy}
+use Rattle.avro_container.specs.inside.Filled.{GrowsBy}
 
 pub cut-short : (bytes : List ℕ) → LongFails bytes EndOfInput → length bytes < 10
 cut-short bytes (NumberFails.ends go short) = short
@@ -39,7 +39,7 @@ grown-none gives a b old new p short =
     let long : length new ≡ length old + length p.bytes = ap length p.grown ∙ length-append old p.bytes in
     p.grown ∙ ap (λ more. old ++ more) (no_bytes p.bytes (omega (arith, long, short))) ∙ append-nil old
 
--- what stands behind a place goes on in what has grown
+-- what stands behind an offset goes on in what has grown
 pub grown-behind : {I : Type 0} (gives : I → List ℕ → I → Type 0) (a b : I) (old new : List ℕ) (at : ℕ) (p : GrowsBy gives a b old new) → at ≤ length old
     → drop at new ≡ drop at old ++ p.bytes
 grown-behind gives a b old new at p inside = ap (drop at) p.grown ∙ drop-append-le at old p.bytes inside

@@ -23,7 +23,7 @@ use Rattle.avro_resolve.specs.declared.error.ReadResolveError.{ReadResolveError}
 use Rattle.avro_container.specs.BlockFails.{BlockReading, DataAreWhole, DataFail, IsNotTooMuch, datum_fault, each_within, DatumStands}
 use Rattle.avro_container.specs.Copied.{EachResolved}
 use Rattle.avro_container.specs.DataRead.{IsDataFault, StandForData}
-use Rattle.avro_container.specs.DatumRead.{MakesOf, PlaceFits, ReadsDatum, error_fault, place_in}
+use Rattle.avro_container.specs.inside.DatumRead.{MakesOf, PlaceFits, ReadsDatum, error_fault, place_in}
 use Rattle.avro_container.specs.FileFault.{FileFault, in_block, bytes_left, unresolved_datum}
 use Rattle.avro_container.proofs.Places.{breaks_inside}
 

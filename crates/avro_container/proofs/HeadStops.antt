@@ -10,7 +10,7 @@ use Rattle.avro_binary.specs.Fault.{ReadFault, end_of_input, invalid_length, beh
 use Rattle.avro_binary.specs.Breaks.{StartsWithLong, HeadBreaks, LongBreaks}
 use Rattle.avro_container.specs.FileFault.{FileFault, in_header, invalid_metadata}
 use Rattle.avro_container.specs.inside.HeaderParts.{PartStops, LengthBreaks, LengthWants, Stretch}
-use Rattle.avro_container.specs.Filled.{GrowsBy}
+use Rattle.avro_container.specs.inside.Filled.{GrowsBy}
 use Rattle.avro_container.specs.inside.MetadataParts.{TakesHead}
 use Rattle.avro_container.specs.declared.properties_head.PropertiesHead.{PropertiesHead}
 use Rattle.avro_container.proofs.PropertyRuns.{stretch_join, stretch_grown}
@@ -30,7 +30,7 @@ pub size_stops : (limit at middle nodes count : ℕ) (ended : Type 0) (bytes fro
     → 0 < count → count < 2 ^ 63 → 2 ^ 63 ≤ nodes → PartStops limit middle ended bytes LengthBreaks LengthWants f → PartStops limit at ended bytes (HeadBreaks nodes) (HeadBreaks nodes) f
 size_stops limit at middle nodes zero ended bytes front f stretch spelled some small many stops = absurd (omega (arith, some))
 size_stops limit at middle nodes (suc n) ended bytes front f stretch spelled some small many stops =
-    stops-whole limit at middle ended bytes front LengthBreaks LengthWants (HeadBreaks nodes) (HeadBreaks nodes) f stretch.place stretch.split breaks wants stops
+    stops-whole limit at middle ended bytes front LengthBreaks LengthWants (HeadBreaks nodes) (HeadBreaks nodes) f stretch.offset stretch.split breaks wants stops
   where
     few : n < nodes
     few = omega (arith, small, many)
@@ -57,7 +57,7 @@ least_stops limit at nodes ended bytes v front rest f least starts is =
 pub starts_stretch : (at len : ℕ) (v : ℤ) (bytes : List ℕ) → at + len ≤ length bytes → StartsWithLong v (drop at bytes) (take len (drop at bytes)) (drop len (drop at bytes))
     → Stretch at (take len (drop at bytes)) (at + len) bytes
 starts_stretch at len v bytes inside s = record {
-  place = let long = length-take-le len (drop at bytes) (omega (arith, length-drop at bytes, inside)) in omega (arith, long);
+  offset = let long = length-take-le len (drop at bytes) (omega (arith, length-drop at bytes, inside)) in omega (arith, long);
   split = s.split ∙ ap (λ (r : List ℕ). take len (drop at bytes) ++ r) (drop-drop len at bytes);
   inside = inside;
 }
@@ -74,10 +74,10 @@ head_plain at len (suc n) bytes h same start plain small inside s =
 
 -- a head with a size
 pub head_sized : {I : Type 0} (gives : I → List ℕ → I → Type 0) (a b : I) (mid new : List ℕ) (at len more count size : ℕ) (h : PropertiesHead) → GrowsBy gives a b mid new
-    → h.count ≡ count → h.start ≡ at + len + more → h.is_sized ≡ true → h.size ≡ size → h.place ≡ at + len → 0 < count → count < 2 ^ 63 → size < 2 ^ 63 → at + len ≤ length mid
+    → h.count ≡ count → h.start ≡ at + len + more → h.is_sized ≡ true → h.size ≡ size → h.offset ≡ at + len → 0 < count → count < 2 ^ 63 → size < 2 ^ 63 → at + len ≤ length mid
     → StartsWithLong (signed_count true count) (drop at mid) (take len (drop at mid)) (drop len (drop at mid))
     → at + len + more ≤ length new → StartsWithLong (pos size) (drop (at + len) new) (take more (drop (at + len) new)) (drop more (drop (at + len) new)) → TakesHead at new h
-head_sized gives a b mid new at len more count size h grown same start is_sized size_is place some small short inside s all z =
+head_sized gives a b mid new at len more count size h grown same start is_sized size_is offset some small short inside s all z =
     let front = take len (drop at mid) in
     let first = starts_stretch at len (neg_ℤ (pos count)) mid inside s in
     let behind = stretch_join at (at + len) (at + len + more) front (take more (drop (at + len) new)) new (stretch_grown gives a b mid new at (at + len) front grown first)
@@ -86,4 +86,4 @@ head_sized gives a b mid new at len more count size h grown same start is_sized 
     (subst (λ (n : ℕ). Stretch at (front ++ take more (drop (at + len) new)) n new) (sym start) behind)
     (subst (λ (n : ℕ). SpellsLong (neg_ℤ (pos n)) front) (sym same) s.spelled)
     (subst (λ (n : ℕ). SpellsLong (pos n) (take more (drop (at + len) new))) (sym size_is) z.spelled)
-    (omega (arith, size_is, short)) (place ∙ first.place)
+    (omega (arith, size_is, short)) (offset ∙ first.offset)

@@ -7,7 +7,7 @@ use Rattle.avro_schema.specs.Node.{Node}
 use Rattle.avro_container.specs.File.{Property, property, is_plain_codec, IsHeader, magic}
 use Rattle.avro_container.specs.FileFault.{FileFault, in_header, no_magic, no_schema, refused_schema, unknown_codec, long_header, cut_header}
 use Rattle.avro_container.specs.FileSeen.{file_fault, header_part_fault}
-use Rattle.avro_container.specs.Filled.{GrowsBy}
+use Rattle.avro_container.specs.inside.Filled.{GrowsBy}
 use Rattle.avro_container.specs.inside.HeaderEnds.{BeginsHeader, MarkerStops, FrameStands, SaySchema, IsNoSchema, SayNone}
 use Rattle.avro_container.specs.HeaderFails.{HeaderFails, EndsIn, MetadataStands, IsWholeWithin}
 use Rattle.avro_container.specs.HeaderTaken.{IsHeaderFault, TakesHeaderFault}
@@ -65,14 +65,14 @@ metadata_stands bytes end ps begins m = record {
 pub marker_stops : (limit end : ℕ) (ended : Type 0) (bytes : List ℕ) (ps : List Property) (f : FileFault) → BeginsHeader limit bytes → MetadataEnds end bytes ps
     → MarkerStops limit end ended bytes f → IsHeaderFault limit ended bytes f
 marker_stops limit end ended bytes ps _ b m (MarkerStops.too_long short over) =
-    let place = m.stretch.place in
+    let offset = m.stretch.offset in
     let ends : EndsIn bytes (end + 16) =
-    EndsIn.in_marker ps m.metadata (drop end bytes) (metadata_stands bytes end ps b.begins m) (omega (arith, length-drop end bytes, short)) (omega (arith, place)) in
+    EndsIn.in_marker ps m.metadata (drop end bytes) (metadata_stands bytes end ps b.begins m) (omega (arith, length-drop end bytes, short)) (omega (arith, offset)) in
     (long_header, refl, HeaderFails.too_long (end + 16) (subst (λ (r : List ℕ). EndsIn r (end + 16)) (sym (take_all limit bytes b.fits)) ends) over)
 marker_stops limit end ended bytes ps _ b m (MarkerStops.is_cut short near told) =
-    let place = m.stretch.place in
+    let offset = m.stretch.offset in
     let ends : EndsIn bytes (end + 16) =
-    EndsIn.in_marker ps m.metadata (drop end bytes) (metadata_stands bytes end ps b.begins m) (omega (arith, length-drop end bytes, short)) (omega (arith, place)) in
+    EndsIn.in_marker ps m.metadata (drop end bytes) (metadata_stands bytes end ps b.begins m) (omega (arith, length-drop end bytes, short)) (omega (arith, offset)) in
     (cut_header, refl, HeaderFails.cut (end + 16) told ends near)
 
 -- why the bytes to where it would end are not there
@@ -94,23 +94,23 @@ pub frame_stands : (limit end : ℕ) (bytes sync : List ℕ) (ps : List Property
     → sync ≡ take 16 (drop end bytes) → FrameStands limit bytes ps sync (end + 16)
 frame_stands limit end bytes sync ps b m inside is =
     let fits = b.fits in
-    let place = m.stretch.place in
+    let offset = m.stretch.offset in
     let behind : drop end bytes ≡ sync ++ drop (end + 16) bytes =
     sym (take-append-drop 16 (drop end bytes)) ∙ ap (λ (front : List ℕ). front ++ drop 16 (drop end bytes)) (sym is) ∙ ap (λ (rest : List ℕ). sync ++ rest) (drop-drop 16 end bytes) in
     record {
       metadata = m.metadata;
       stands = subst (λ (rest : List ℕ). MetadataStands ps bytes m.metadata rest) behind (metadata_stands bytes end ps b.begins m);
       marker = ap length is ∙ length-take-le 16 (drop end bytes) (omega (arith, length-drop end bytes, inside));
-      place = omega (arith, place);
+      offset = omega (arith, offset);
       inside = inside;
       within = omega (arith, inside, fits);
     }
 
 whole_within : (limit end : ℕ) (bytes sync : List ℕ) (ps : List Property) → FrameStands limit bytes ps sync end → IsWholeWithin limit ps bytes
 whole_within limit end bytes sync ps s =
-    let place = s.place in
+    let offset = s.offset in
     let within = s.within in
-    record { metadata = s.metadata; sync = sync; rest = drop end bytes; stands = s.stands; marker = s.marker; within = omega (arith, place, within) }
+    record { metadata = s.metadata; sync = sync; rest = drop end bytes; stands = s.stands; marker = s.marker; within = omega (arith, offset, within) }
 
 -- the text is no schema
 pub schema_stops : {T : Type 0} (r : Result T CopyError) (text : List ℕ) (ps : List Property) → property (codes "avro.schema") ps ≡ Some text
@@ -134,10 +134,10 @@ says_none limit end ended bytes sync ps _ s (SayNone.schema_fails text e some pl
 pub frame_header : (limit end : ℕ) (bytes sync : List ℕ) (ps : List Property) (nodes : List Node) → FrameStands limit bytes ps sync end → SaySchema ps nodes
     → IsHeader (record { nodes = nodes; properties = ps; sync = sync }) (take end bytes)
 frame_header limit end bytes sync ps nodes s says =
-    let place = s.place in
+    let offset = s.offset in
     let marker = s.marker in
     let whole = magic ++ s.metadata ++ sync in
-    let long : length whole ≡ end = length-append magic (s.metadata ++ sync) ∙ omega (arith, place, marker, length-append s.metadata sync) in
+    let long : length whole ≡ end = length-append magic (s.metadata ++ sync) ∙ omega (arith, offset, marker, length-append s.metadata sync) in
     let split : bytes ≡ whole ++ drop end bytes = s.stands.split ∙ ap (λ (r : List ℕ). magic ++ r) (sym (append_assoc s.metadata sync (drop end bytes))) ∙ sym (append_assoc magic (s.metadata ++ sync) (drop end bytes)) in
     let front : take end (whole ++ drop end bytes) ≡ whole = take-append-le end whole (drop end bytes) (omega (arith, long)) ∙ take_all end whole (omega (arith, long)) in
     record {

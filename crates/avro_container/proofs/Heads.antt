@@ -6,7 +6,7 @@ use Rattle.avro_binary.specs.Breaks.{StartsWithLong}
 use Rattle.avro_container.specs.declared.error.CopyError.{CopyError}
 use Rattle.avro_container.specs.FileFault.{FileFault, in_block, limit_passed}
 use Rattle.avro_container.specs.FileSeen.{file_fault}
-use Rattle.avro_container.specs.Filled.{GrowsBy}
+use Rattle.avro_container.specs.inside.Filled.{GrowsBy}
 use Rattle.avro_container.specs.BlockFails.{FileLimitValues, BlockBegins, BlockFails, max_blocks}
 use Rattle.avro_container.specs.BlockStands.{IsBlockFault}
 use Rattle.avro_container.proofs.Cut.{grown-behind}

@@ -8,7 +8,7 @@ use Rattle.avro_binary.specs.Breaks.{Left, all_left, Head, counted, sized, head_
 use Rattle.avro_binary.proofs.public.Behind.{behind-append}
 use Rattle.avro_container.specs.File.{Property}
 use Rattle.avro_container.specs.FileFault.{FileFault, in_header, invalid_metadata}
-use Rattle.avro_container.specs.Filled.{GrowsBy}
+use Rattle.avro_container.specs.inside.Filled.{GrowsBy}
 use Rattle.avro_container.specs.HeaderFails.{PropertyWants, entry_limits}
 use Rattle.avro_container.specs.inside.HeaderParts.{Stretch, AreNames, names_of, left_after, PropertyBreaks, RunStops, PartStops, TakesProperties}
 use Rattle.avro_container.specs.inside.MetadataParts.{Blocks, BlockRun, MetadataRun, MetadataSoFar, MetadataEnds, TakesHead, metadata_left}
@@ -34,7 +34,7 @@ head_as left at bytes h many some (TakesHead.counted front positive small plain 
   stretch = stretch;
   has_size = λ n same. tt;
 }
-head_as left at bytes h many some (TakesHead.sized front size positive small is_sized stretch spelled sizes short place) = record {
+head_as left at bytes h many some (TakesHead.sized front size positive small is_sized stretch spelled sizes short offset) = record {
   head = sized h.count h.size front size;
   is_head = (positive, small, omega (arith, small, many), short, spelled, sizes);
   count = refl;
@@ -50,7 +50,7 @@ next_head_stops gives s t old new limit at ended names ps f grown m stops =
     let nodes = (metadata_left ps).nodes in
     let stretch = stretch_grown gives s t old new 4 at m.front grown m.stretch in
     stops-whole limit 4 at ended new m.front (HeadBreaks nodes) (HeadBreaks nodes) (Blocks PropertyBreaks (all_left entry_limits)) (Blocks PropertyWants (all_left entry_limits)) f
-    stretch.place stretch.split (λ rest g b. m.run.breaks rest g (BlocksBreak.head_breaks b)) (λ rest g b. m.run.wants rest g (BlocksBreak.head_breaks b)) stops
+    stretch.offset stretch.split (λ rest g b. m.run.breaks rest g (BlocksBreak.head_breaks b)) (λ rest g b. m.run.wants rest g (BlocksBreak.head_breaks b)) stops
 
 -- a property of a block is stopped
 in_block : (item : Left → List ℕ → ReadFault → Type 0) (left : Left) (head : Head) (count : ℕ) → IsHead left.nodes head → head_count head ≡ count
@@ -75,7 +75,7 @@ metadata_ended gives s t old new at names ps h grown m (TakesHead.at_end front n
   spelled = metadata_whole ps m.front front m.run spelled few;
 }
 metadata_ended gives s t old new at names ps h grown m (TakesHead.counted front positive small plain stretch spelled) is few = absurd (omega (arith, positive, is))
-metadata_ended gives s t old new at names ps h grown m (TakesHead.sized front size positive small is_sized stretch spelled sizes short place) is few = absurd (omega (arith, positive, is))
+metadata_ended gives s t old new at names ps h grown m (TakesHead.sized front size positive small is_sized stretch spelled sizes short offset) is few = absurd (omega (arith, positive, is))
 
 -- a property of the next block is stopped
 pub next_run_stops : {I : Type 0} (gives : I → List ℕ → I → Type 0) (s t u : I) (old mid new : List ℕ) (limit at : ℕ) (ended : Type 0) (names : BTreeSet (String Global)) (ps : List Property)
@@ -90,7 +90,7 @@ next_run_stops gives s t u old mid new limit at ended names ps h f first second 
     let stretch = stretch_grown gives t u mid new 4 h.start (m.front ++ bytes) second
     (stretch_join 4 at h.start m.front bytes mid (stretch_grown gives s t old mid 4 at m.front first m.stretch) a.stretch) in
     stops-whole limit 4 h.start ended new (m.front ++ bytes) (RunStops PropertyBreaks left h.count) (RunStops PropertyWants left h.count)
-    (Blocks PropertyBreaks (all_left entry_limits)) (Blocks PropertyWants (all_left entry_limits)) f stretch.place stretch.split
+    (Blocks PropertyBreaks (all_left entry_limits)) (Blocks PropertyWants (all_left entry_limits)) f stretch.offset stretch.split
     (λ rest g r. lifted PropertyBreaks m.front bytes rest g m.run.breaks (in_block PropertyBreaks left a.head h.count a.is_head a.count rest g r))
     (λ rest g r. lifted PropertyWants m.front bytes rest g m.run.wants (in_block PropertyWants left a.head h.count a.is_head a.count rest g r))
     stops
@@ -117,7 +117,7 @@ block_pushed gives s t u old mid new at end names then_names before after h firs
       is_head = a.is_head;
       counted = p.counted ∙ sym a.count;
       run = p.run;
-      has_size = a.has_size (length p.front) (λ is. sizes is ∙ (let place = p.stretch.place in omega (arith, place)));
+      has_size = a.has_size (length p.front) (λ is. sizes is ∙ (let offset = p.stretch.offset in omega (arith, offset)));
     } in
     let head_stretch = stretch_grown gives t u mid new 4 h.start (m.front ++ head_bytes a.head) second
     (stretch_join 4 at h.start m.front (head_bytes a.head) mid (stretch_grown gives s t old mid 4 at m.front first m.stretch) a.stretch) in
@@ -133,7 +133,7 @@ block_pushed gives s t u old mid new at end names then_names before after h firs
 pub size_stops : {I : Type 0} (gives : I → List ℕ → I → Type 0) (s t u : I) (old mid new : List ℕ) (limit at end : ℕ) (ended : Type 0) (names then_names : BTreeSet (String Global))
     (before after : List Property) (h : PropertiesHead) (f : FileFault) → GrowsBy gives s t old mid → GrowsBy gives t u mid new → MetadataSoFar at old names before → TakesHead at mid h
     → 0 < h.count → h.is_sized ≡ true → 2 ^ 63 ≤ (metadata_left before).nodes → TakesProperties (metadata_left before) then_names h.count h.start end new before after
-    → end - h.start ≢ h.size → f ≡ in_header (invalid_metadata (wrong_block_size h.place))
+    → end - h.start ≢ h.size → f ≡ in_header (invalid_metadata (wrong_block_size h.offset))
     → PartStops limit 4 ended new (Blocks PropertyBreaks (all_left entry_limits)) (Blocks PropertyWants (all_left entry_limits)) f
 size_stops gives s t u old mid new limit at end ended names then_names before after h f first second m (TakesHead.at_end front none stretch spelled) some is many p other told =
     absurd (omega (arith, some, none))
@@ -142,11 +142,11 @@ size_stops gives s t u old mid new limit at end ended names then_names before af
   where
     clash : false ≡ true → ⊥
     clash e = cc
-size_stops gives s t u old mid new limit at end ended names then_names before after h f first second m (TakesHead.sized front size positive small is_sized stretch spelled sizes short place) some is many p other told =
+size_stops gives s t u old mid new limit at end ended names then_names before after h f first second m (TakesHead.sized front size positive small is_sized stretch spelled sizes short offset) some is many p other told =
     let left = metadata_left before in
     let head : Head = sized h.count h.size front size in
     let whole = block_whole left head p.properties p.front p.run p.counted (omega (arith, small, many)) in
-    let body : end - h.start ≡ length p.front = (let q = p.stretch.place in omega (arith, q)) in
+    let body : end - h.start ≡ length p.front = (let q = p.stretch.offset in omega (arith, q)) in
     let later = stretch_grown gives t u mid new 4 h.start (m.front ++ (front ++ size)) second
     (stretch_join 4 at h.start m.front (front ++ size) mid (stretch_grown gives s t old mid 4 at m.front first m.stretch) stretch) in
     let block : Blocks PropertyBreaks left ((front ++ size) ++ (p.front ++ drop end new)) (wrong_block_size (length front)) =
@@ -154,34 +154,34 @@ size_stops gives s t u old mid new limit at end ended names then_names before af
     (positive, small, omega (arith, small, many), short, spelled, sizes) whole (sym (append_assoc (front ++ size) p.front (drop end new))) (λ e. other (body ∙ sym e)) in
     let split : drop 4 new ≡ m.front ++ ((front ++ size) ++ (p.front ++ drop end new)) =
     later.split ∙ append_assoc m.front (front ++ size) (drop h.start new) ∙ ap (λ (r : List ℕ). m.front ++ ((front ++ size) ++ r)) p.stretch.split in
-    let at_is = m.stretch.place in
+    let at_is = m.stretch.offset in
     PartStops.broken (behind (length m.front) (wrong_block_size (length front)))
     (subst (λ (r : List ℕ). Blocks PropertyBreaks (all_left entry_limits) r (behind (length m.front) (wrong_block_size (length front)))) (sym split)
     (m.run.breaks ((front ++ size) ++ (p.front ++ drop end new)) (wrong_block_size (length front)) block))
-    (λ q e. cc) (told ∙ ap (λ (n : ℕ). in_header (invalid_metadata (wrong_block_size n))) (omega (arith, place, at_is)))
+    (λ q e. cc) (told ∙ ap (λ (n : ℕ). in_header (invalid_metadata (wrong_block_size n))) (omega (arith, offset, at_is)))
 
 -- many nodes are left, whatever fits the limit
 pub many_left : (limit at : ℕ) (bytes : List ℕ) (names : BTreeSet (String Global)) (ps : List Property) → MetadataSoFar at bytes names ps → length bytes ≤ limit → limit < 2 ^ 62
     → 2 ^ 63 ≤ (metadata_left ps).nodes
 many_left limit at bytes names ps m fits small =
     let few = m.run.few in
-    let place = m.stretch.place in
+    let offset = m.stretch.offset in
     let inside = m.stretch.inside in
-    omega (arith, few, place, inside, fits, small)
+    omega (arith, few, offset, inside, fits, small)
 
 -- a head has a byte at least
 pub head_further : (at : ℕ) (bytes : List ℕ) (h : PropertiesHead) → TakesHead at bytes h → (at < h.start) × (h.start ≤ length bytes)
 head_further at bytes h (TakesHead.at_end front none stretch spelled) =
     let some = groups-some 10 _ front spelled in
-    let place = stretch.place in
-    (omega (arith, some, place), stretch.inside)
+    let offset = stretch.offset in
+    (omega (arith, some, offset), stretch.inside)
 head_further at bytes h (TakesHead.counted front positive small plain stretch spelled) =
     let some = groups-some 10 _ front spelled in
-    let place = stretch.place in
-    (omega (arith, some, place), stretch.inside)
-head_further at bytes h (TakesHead.sized front size positive small is_sized stretch spelled sizes short place) =
+    let offset = stretch.offset in
+    (omega (arith, some, offset), stretch.inside)
+head_further at bytes h (TakesHead.sized front size positive small is_sized stretch spelled sizes short offset) =
     let some = groups-some 10 _ front spelled in
-    let to = stretch.place in
+    let to = stretch.offset in
     (omega (arith, some, to, length-append front size), stretch.inside)
 
 -- few properties fit the limit
@@ -189,14 +189,14 @@ pub few_so_far : (limit at : ℕ) (bytes : List ℕ) (names : BTreeSet (String G
     → length ps < 2 ^ 63
 few_so_far limit at bytes names ps m fits small =
     let few = m.run.few in
-    let place = m.stretch.place in
+    let offset = m.stretch.offset in
     let inside = m.stretch.inside in
-    omega (arith, few, place, inside, fits, small)
+    omega (arith, few, offset, inside, fits, small)
 
 pub head_small : (at : ℕ) (bytes : List ℕ) (h : PropertiesHead) → TakesHead at bytes h → h.count < 2 ^ 63
 head_small at bytes h (TakesHead.at_end front none stretch spelled) = omega (arith, none)
 head_small at bytes h (TakesHead.counted front positive small plain stretch spelled) = small
-head_small at bytes h (TakesHead.sized front size positive small is_sized stretch spelled sizes short place) = small
+head_small at bytes h (TakesHead.sized front size positive small is_sized stretch spelled sizes short offset) = small
 
 -- nothing behind the magic yet
 pub metadata_start : (bytes : List ℕ) (names : BTreeSet (String Global)) (ps : List Property) → 4 ≤ length bytes → ((word : List ℕ) → contains_text names word ≡ false) → ps ≡ []

@@ -7,7 +7,7 @@ use Rattle.avro_binary.specs.Encoding.{plain, plain_values}
 use Rattle.avro_container.specs.BlockFails.{BlockReading, DataAreWhole, DataFail}
 use Rattle.avro_container.specs.inside.DataPacked.{PacksData}
 use Rattle.avro_container.specs.DataRead.{IsDataFault}
-use Rattle.avro_container.specs.DatumRead.{MakesOf}
+use Rattle.avro_container.specs.inside.DatumRead.{MakesOf}
 use Rattle.avro_container.specs.FileFault.{FileFault, in_block, limit_passed}
 use Rattle.avro_container.proofs.Data.{add, whole-more, whole-none, datum_stands}
 

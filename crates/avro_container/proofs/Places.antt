@@ -6,7 +6,7 @@ use Rattle.avro_schema.specs.Node.{Node, node_at}
 use Rattle.avro_schema.specs.Fits.{LimitValues}
 use Rattle.avro_binary.specs.Fault.{ReadFault, end_of_input, invalid_number, invalid_boolean, invalid_text, unknown_index, invalid_length, wrong_block_size, duplicate_key, limit_exceeded, behind}
 use Rattle.avro_binary.specs.Breaks.{number_fault, IntBreaks, LongBreaks, BooleanBreaks, FixedBreaks, ContentBreaks, IndexBreaks, KeyBreaks, EntryBreaks, HeadBreaks, BlocksBreak, BreaksAfter, BranchBreaks, ChildBreaks, Left, head_bytes, NodeBreaks, BreaksWithin, Breaks, ItemsAreWhole, EntriesAreWhole, all_left}
-use Rattle.avro_container.specs.DatumRead.{place_in}
+use Rattle.avro_container.specs.inside.DatumRead.{place_in}
 
 -- the faults of a part are among its bytes
 abbrev AreInside : (List ℕ → ReadFault → Type 0) → Type 0
@@ -104,10 +104,10 @@ entry_inside limits child n inside left bytes f (EntryBreaks.key_breaks b) = key
 entry_inside limits child n inside left bytes f (EntryBreaks.value_breaks key front spelled text short new b) =
     after_inside (child left.nodes n) front (inside left.nodes n) bytes f b
 
-union_inside : (nodes : List Node) (left : LimitValues) (child : ChildBreaks) (places bytes : List ℕ) (f : ReadFault) → ChildrenInside child
-    → IndexBreaks (length places) bytes f ⊎ BranchBreaks nodes left child places bytes f → place_in f ≤ length bytes
-union_inside nodes left child places bytes f inside (inl b) = index_inside (length places) bytes f b
-union_inside nodes left child places bytes f inside (inr b) =
+union_inside : (nodes : List Node) (left : LimitValues) (child : ChildBreaks) (ids bytes : List ℕ) (f : ReadFault) → ChildrenInside child
+    → IndexBreaks (length ids) bytes f ⊎ BranchBreaks nodes left child ids bytes f → place_in f ≤ length bytes
+union_inside nodes left child ids bytes f inside (inl b) = index_inside (length ids) bytes f b
+union_inside nodes left child ids bytes f inside (inr b) =
     after_inside (child left.nodes (node_at nodes b.branch)) b.number (inside left.nodes (node_at nodes b.branch)) bytes f b.breaks
 
 node_inside : (nodes : List Node) (left : LimitValues) (child : ChildBreaks) → ChildrenInside child → (n : Node) → AreInside (NodeBreaks nodes left child n)
@@ -117,13 +117,13 @@ node_inside nodes left child inside Node.int bytes f b = int_inside bytes f b
 node_inside nodes left child inside Node.long bytes f b = long_inside bytes f b
 node_inside nodes left child inside Node.bytes bytes f b = content_inside _ left.blob bytes f b
 node_inside nodes left child inside Node.string bytes f b = content_inside _ left.blob bytes f b
-node_inside nodes left child inside (Node.array place) bytes f b =
-    blocks_inside (ItemsAreWhole nodes left (node_at nodes place)) (λ state. child state.nodes (node_at nodes place))
-    (λ state. inside state.nodes (node_at nodes place)) (all_left left) bytes f b
-node_inside nodes left child inside (Node.map_of place) bytes f b =
-    blocks_inside (EntriesAreWhole nodes left (node_at nodes place)) (EntryBreaks left child (node_at nodes place))
-    (entry_inside left child (node_at nodes place) inside) (all_left left) bytes f b
-node_inside nodes left child inside (Node.union places) bytes f b = union_inside nodes left child places bytes f inside b
+node_inside nodes left child inside (Node.array id) bytes f b =
+    blocks_inside (ItemsAreWhole nodes left (node_at nodes id)) (λ state. child state.nodes (node_at nodes id))
+    (λ state. inside state.nodes (node_at nodes id)) (all_left left) bytes f b
+node_inside nodes left child inside (Node.map_of id) bytes f b =
+    blocks_inside (EntriesAreWhole nodes left (node_at nodes id)) (EntryBreaks left child (node_at nodes id))
+    (entry_inside left child (node_at nodes id) inside) (all_left left) bytes f b
+node_inside nodes left child inside (Node.union ids) bytes f b = union_inside nodes left child ids bytes f inside b
 node_inside nodes left child inside (Node.record_of name aliases fields) bytes f b =
     after_inside _ _ (inside _ _) bytes f b.breaks
 node_inside nodes left child inside (Node.enum name aliases symbols default) bytes f b = index_inside (length symbols) bytes f b

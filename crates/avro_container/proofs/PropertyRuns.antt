@@ -12,7 +12,7 @@ use Rattle.avro_binary.specs.Encoding.{EntriesSpelled}
 use Rattle.avro_binary.specs.Breaks.{Left, EntriesAreWhole}
 use Rattle.avro_binary.proofs.public.Distinct.{distinct-push}
 use Rattle.avro_container.specs.File.{Property, property_entries, metadata_nodes}
-use Rattle.avro_container.specs.Filled.{GrowsBy}
+use Rattle.avro_container.specs.inside.Filled.{GrowsBy}
 use Rattle.avro_container.specs.HeaderFails.{entry_limits}
 use Rattle.avro_container.specs.inside.HeaderParts.{Stretch, names_of, IsProperty, EachProperty, PropertiesRun, left_after}
 use Rattle.avro_container.proofs.Cut.{grown-behind}
@@ -20,11 +20,11 @@ use Rattle.avro_container.proofs.Cut.{grown-behind}
 -- ---- Stretches
 
 pub stretch_none : (at : ℕ) (bytes : List ℕ) → at ≤ length bytes → Stretch at [] at bytes
-stretch_none at bytes inside = record { place = omega arith; split = refl; inside = inside }
+stretch_none at bytes inside = record { offset = omega arith; split = refl; inside = inside }
 
 pub stretch_join : (a b c : ℕ) (front back bytes : List ℕ) → Stretch a front b bytes → Stretch b back c bytes → Stretch a (front ++ back) c bytes
 stretch_join a b c front back bytes p q = record {
-  place = omega (arith, p.place, q.place, length-append front back);
+  offset = omega (arith, p.offset, q.offset, length-append front back);
   split = p.split ∙ ap (λ (r : List ℕ). front ++ r) q.split ∙ sym (append_assoc front back (drop c bytes));
   inside = q.inside;
 }
@@ -34,8 +34,8 @@ pub stretch_grown : {I : Type 0} (gives : I → List ℕ → I → Type 0) (s t 
 stretch_grown gives s t old new a b front p q =
     let long : length new ≡ length old + length p.bytes = ap length p.grown ∙ length-append old p.bytes in
     record {
-      place = q.place;
-      split = grown-behind gives s t old new a p (omega (arith, q.place, q.inside)) ∙ ap (λ (r : List ℕ). r ++ p.bytes) q.split
+      offset = q.offset;
+      split = grown-behind gives s t old new a p (omega (arith, q.offset, q.inside)) ∙ ap (λ (r : List ℕ). r ++ p.bytes) q.split
           ∙ append_assoc front (drop b old) p.bytes ∙ ap (λ (r : List ℕ). front ++ r) (sym (grown-behind gives s t old new b p q.inside));
       inside = omega (arith, long, q.inside);
     }

@@ -20,13 +20,13 @@ use Rattle.avro_binary.specs.Breaks.{Left, ContentBreaks, KeyBreaks, EntryBreaks
 use Rattle.avro_binary.proofs.public.Ranges.{is_count-from_below, bytes-below}
 use Rattle.avro_container.specs.File.{Property, metadata_nodes}
 use Rattle.avro_container.specs.FileFault.{FileFault, in_header, invalid_metadata}
-use Rattle.avro_container.specs.Filled.{GrowsBy}
+use Rattle.avro_container.specs.inside.Filled.{GrowsBy}
 use Rattle.avro_container.specs.HeaderFails.{ContentWants, PropertyWants}
 use Rattle.avro_container.specs.inside.HeaderParts.{Stretch, ContentFrom, AreNames, NameStands, names_of, left_after, PropertyBreaks, RunStops, PartStops, TakesName, TakesProperty, TakesProperties}
 use Rattle.avro_container.proofs.Behind.{stops-whole, stops-as}
 use Rattle.avro_container.proofs.PropertyRuns.{stretch_none, stretch_join, stretch_grown, names-append, run_none, run_push}
 
--- the content between two places, and the stretch of it with its length
+-- the content between two offsets, and the stretch of it with its length
 pub content_stretch : (at start end : ℕ) (bytes : List ℕ) → ContentFrom at start end bytes
     → Stretch at (take (start - at) (drop at bytes) ++ take (end - start) (drop start bytes)) end bytes
 content_stretch at start end bytes c =
@@ -38,7 +38,7 @@ content_stretch at start end bytes c =
     let behind : drop start bytes ≡ content ++ drop end bytes =
     sym (take-append-drop (end - start) (drop start bytes)) ∙ ap (λ (r : List ℕ). content ++ r) (drop-drop (end - start) start bytes ∙ ap (λ (n : ℕ). drop n bytes) sum) in
     record {
-      place = omega (arith, long, size, c.begins, c.ordered, length-append number content);
+      offset = omega (arith, long, size, c.begins, c.ordered, length-append number content);
       split = c.starts.split ∙ ap (λ (r : List ℕ). number ++ r) behind ∙ sym (append_assoc number content (drop end bytes));
       inside = c.inside;
     }
@@ -95,11 +95,11 @@ pub no_text_stops : (limit at start end : ℕ) (ended : Type 0) (bytes content :
 no_text_stops limit at start end ended bytes content keys f c small is invalid told =
     let number = take (start - at) (drop at bytes) in
     let long : length number ≡ start - at = length-take-le (start - at) (drop at bytes) (omega (arith, length-drop at bytes, c.begins, c.ordered, c.inside)) in
-    let place : start ≡ at + length number = omega (arith, long, c.begins) in
+    let offset : start ≡ at + length number = omega (arith, long, c.begins) in
     PartStops.broken (invalid_text (length number))
     (KeyBreaks.string_breaks (ContentBreaks.invalid (end - start) number (drop start bytes) c.starts (omega (arith, c.inside, small)) (omega (arith, length-drop start bytes, c.ordered, c.inside))
     (subst (λ (t : List ℕ). is_utf8 t ≡ false) is invalid)))
-    (λ p q. cc) (told ∙ ap (λ (n : ℕ). in_header (invalid_metadata (invalid_text n))) place)
+    (λ p q. cc) (told ∙ ap (λ (n : ℕ). in_header (invalid_metadata (invalid_text n))) offset)
 
 pub twice_stops : (limit at start end : ℕ) (ended : Type 0) (bytes content : List ℕ) (names : BTreeSet (String Global)) (keys : List (List ℕ)) (f : FileFault)
     → ContentFrom at start end bytes → length bytes < 2 ^ 62 → content ≡ take (end - start) (drop start bytes) → is_utf8 content ≡ true → contains_text names content ≡ true
@@ -131,7 +131,7 @@ pub value_stops : (limit at middle : ℕ) (ended : Type 0) (bytes name front : L
     → PartStops limit middle ended bytes (ContentBreaks (λ content. true) (2 ^ 63)) ContentWants f → PartStops limit at ended bytes (PropertyBreaks left) (PropertyWants left) f
 value_stops limit at middle ended bytes name front left f stretch stands new some stops =
     let short : length name < 2 ^ 63 = is_count-below (length name) (and_parts (is_count (length name)) _ stands.text).0 in
-    stops-whole limit at middle ended bytes front (ContentBreaks (λ content. true) (2 ^ 63)) ContentWants (PropertyBreaks left) (PropertyWants left) f stretch.place stretch.split
+    stops-whole limit at middle ended bytes front (ContentBreaks (λ content. true) (2 ^ 63)) ContentWants (PropertyBreaks left) (PropertyWants left) f stretch.offset stretch.split
     (λ rest g b. EntryBreaks.value_breaks name front stands.spelled stands.text (omega (arith, short)) new
     (record { rest = rest; fault = g; split = refl; breaks = node_breaks left.nodes rest g some b; moved = refl }))
     (λ rest g w. PropertyWants.in_value name front stands.spelled stands.text new (record { rest = rest; fault = g; split = refl; breaks = w; moved = refl }))
@@ -178,7 +178,7 @@ next_stops gives s t old new limit ended left names count done at middle first b
     let stretch = stretch_grown gives s t old new at middle r.front grown r.stretch in
     let fewer : length r.properties < count = omega (arith, r.counted, few) in
     stops-whole limit at middle ended new r.front (PropertyBreaks (left_after left r.properties)) (PropertyWants (left_after left r.properties))
-    (RunStops PropertyBreaks left count) (RunStops PropertyWants left count) f stretch.place stretch.split
+    (RunStops PropertyBreaks left count) (RunStops PropertyWants left count) f stretch.offset stretch.split
     (λ rest g b. record { properties = r.properties; front = r.front; few = fewer; run = r.run; next = record { rest = rest; fault = g; split = refl; breaks = b; moved = refl } })
     (λ rest g b. record { properties = r.properties; front = r.front; few = fewer; run = r.run; next = record { rest = rest; fault = g; split = refl; breaks = b; moved = refl } })
     stops

@@ -48,10 +48,10 @@ part_fault number PartError.Ended = Some (in_block number cut_block)
 part_fault number PartError.Device = None
 part_fault number PartError.OutOfMemory = None
 
--- the fault that a header has where a part of its metadata is not taken, whose number stands at a place
+-- the fault that a header has where a part of its metadata is not taken, whose number stands at an offset
 abbrev pub header_part_fault : ℕ → PartError → Option FileFault
-header_part_fault place PartError.OutOfRange = Some (in_header (invalid_metadata (invalid_number place)))
-header_part_fault place PartError.Limit = Some (in_header long_header)
-header_part_fault place PartError.Ended = Some (in_header cut_header)
-header_part_fault place PartError.Device = None
-header_part_fault place PartError.OutOfMemory = None
+header_part_fault offset PartError.OutOfRange = Some (in_header (invalid_metadata (invalid_number offset)))
+header_part_fault offset PartError.Limit = Some (in_header long_header)
+header_part_fault offset PartError.Ended = Some (in_header cut_header)
+header_part_fault offset PartError.Device = None
+header_part_fault offset PartError.OutOfMemory = None

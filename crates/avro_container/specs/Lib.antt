@@ -1,5 +1,3 @@
-pub mod DeviceLaws
-pub mod Filled
 pub mod File
 pub mod Copied
 pub mod FileFault
@@ -11,13 +9,11 @@ pub mod FileSeen
 pub mod Named
 pub mod BlockStands
 pub mod BlockTaken
-pub mod DatumRead
 pub mod DataRead
 pub mod Parts
 pub mod HeaderTaken
 pub mod CopierSeen
 pub mod Copying
-pub mod Moved
 pub mod Steps
 pub mod TaskSeen
 pub mod inside

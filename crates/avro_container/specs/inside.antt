@@ -5,3 +5,7 @@ pub mod HeaderCopied
 pub mod HeaderEnds
 pub mod HeaderParts
 pub mod MetadataParts
+pub mod Filled
+pub mod Moved
+pub mod DatumRead
+pub mod DeviceLaws

@@ -6,7 +6,7 @@ ghost use Rattle.avro_container.specs.BlockFails.{BlockBegins, FileLimitValues, 
 ghost use Rattle.avro_container.specs.BlockStands.{IsBlockFault};
 ghost use Rattle.avro_container.specs.FileFault.{FileFault};
 ghost use Rattle.avro_container.specs.FileSeen.{file_fault};
-ghost use Rattle.avro_container.specs.Filled.{GrowsBy, TakesAtMost, UnlessFailed};
+ghost use Rattle.avro_container.specs.inside.Filled.{GrowsBy, TakesAtMost, UnlessFailed};
 ghost use Rattle.avro_container.specs.Held.{held};
 ghost use Rattle.avro_container.specs.Named.{IsNamed};
 

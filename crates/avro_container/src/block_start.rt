@@ -3,7 +3,7 @@
 ghost use Rattle.std.specs.Prelude.{◌≡◌, ◌≢◌, ◌+◌, ◌-◌, ◌^◌, ◌<◌, ◌≤◌, max, true, false, List, [], None, length, OnOk, OnErr, IfOk, Err};
 ghost use Rattle.std.specs.Result.{IfErr};
 ghost use Rattle.avro_container.specs.FileSeen.{file_fault};
-ghost use Rattle.avro_container.specs.Filled.{GrowsBy, TakesAtMost, UnlessFailed};
+ghost use Rattle.avro_container.specs.inside.Filled.{GrowsBy, TakesAtMost, UnlessFailed};
 ghost use Rattle.avro_container.specs.Held.{held};
 ghost use Rattle.avro_container.specs.Named.{IsNamed};
 

@@ -107,7 +107,7 @@ impl<'a> Blocks<'a> {
         ensures before { self.old.failed ≡ true → (result ≡ Err CopyError.FailedBefore) × (input.new ≡ input.old) }
         ensures over { self.old.failed ≡ false → self.old.ended ≡ true → (result ≡ Ok None) × (input.new ≡ input.old) }
         ensures found { IfOk result (λ found. IfSome found (λ block. TakesBlock I.gives input.old input.new self.old.limits self.old.header.now.sync block.count block.body.items)) }
-        ensures place { IfOk result (λ found. IfSome found (λ block. self.old.number ≡ block.number)) }
+        ensures numbered { IfOk result (λ found. IfSome found (λ block. self.old.number ≡ block.number)) }
         ensures counted { IfOk result (λ found. IfSome found (λ block. self.new.number ≡ self.old.number + 1)) }
         ensures none { self.old.ended ≡ false → IfOk result (λ found. IfNone found (I.gives input.old [] input.new)) }
         ensures told { self.old.ended ≡ false → IfOk result (λ found. IfNone found (I.ended input.new)) }

@@ -1,7 +1,7 @@
 //! What was taken of an input and is not done with.
 
 ghost use Rattle.std.specs.Prelude.{◌≡◌, ◌≢◌, ◌+◌, ◌-◌, ◌^◌, ◌<◌, ◌≤◌, [], length, drop, IfOk, OnOk, OnErr, Err};
-ghost use Rattle.avro_container.specs.Filled.{GrowsBy, TakesAtMost};
+ghost use Rattle.avro_container.specs.inside.Filled.{GrowsBy, TakesAtMost};
 
 use crate::device::Input;
 use std::alloc::{AllocError, Global};

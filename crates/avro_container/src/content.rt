@@ -19,8 +19,8 @@ use crate::part_error::PartError;
 use avro_binary::ReadError;
 
 /// The error of a part of the metadata that is not taken, whose number stands behind so many bytes.
-pub(crate) fn metadata_error(error: PartError, place: usize) -> CopyError
-    ensures fault { file_fault result ≡ header_part_fault place error }
+pub(crate) fn metadata_error(error: PartError, offset: usize) -> CopyError
+    ensures fault { file_fault result ≡ header_part_fault offset error }
     ensures device { result ≡ CopyError.InputFailed → error ≡ PartError.Device }
     ensures failed { error ≡ PartError.Device → result ≡ CopyError.InputFailed }
     ensures no_output { result ≢ CopyError.OutputFailed }
@@ -28,7 +28,9 @@ pub(crate) fn metadata_error(error: PartError, place: usize) -> CopyError
     ensures named { IsNamed result }
 {
     match error {
-        PartError::OutOfRange => CopyError::InvalidMetadata(ReadError::InvalidNumber { place }),
+        PartError::OutOfRange => CopyError::InvalidMetadata(ReadError::InvalidNumber {
+            place: offset,
+        }),
         PartError::Limit => CopyError::LimitExceeded(LimitPlace::Header),
         PartError::Ended => CopyError::CutHeader,
         PartError::Device => CopyError::InputFailed,

@@ -3,7 +3,7 @@
 ghost use Rattle.std.specs.Prelude.{◌≡◌, option_map, None};
 ghost use Rattle.avro_binary.specs.Fault.{behind};
 ghost use Rattle.avro_binary.specs.Seen.{read_fault};
-ghost use Rattle.avro_container.specs.DatumRead.{FitsBehind, PlaceFits, error_fault};
+ghost use Rattle.avro_container.specs.inside.DatumRead.{FitsBehind, PlaceFits, error_fault};
 ghost use Rattle.avro_container.specs.FileSeen.{file_fault};
 
 use crate::error::{CopyError, LimitPlace};

@@ -4,7 +4,7 @@ ghost use Rattle.std.specs.Prelude.{◌≡◌, ◌≢◌, ◌⊎◌, None, OnOk,
 ghost use Rattle.std.specs.Result.{IfErr};
 ghost use Rattle.avro_container.specs.Copied.{copied_header, copied_property, or_else};
 ghost use Rattle.avro_container.specs.FileSeen.{file_fault};
-ghost use Rattle.avro_container.specs.Filled.{PutsFrontOf};
+ghost use Rattle.avro_container.specs.inside.Filled.{PutsFrontOf};
 ghost use Rattle.avro_container.specs.Named.{IsNamed};
 ghost use Rattle.avro_container.specs.Parts.{properties_of, property_of};
 ghost use Rattle.avro_container.specs.HeaderTaken.{header_value};

@@ -70,7 +70,7 @@ fn take_metadata_block<I: Input>(
         Err(error) => return Err(error),
     };
     if is_other_size(head, (end - start) as u64) {
-        return Err(CopyError::InvalidMetadata(ReadError::WrongBlockSize { place: head.place }));
+        return Err(CopyError::InvalidMetadata(ReadError::WrongBlockSize { place: head.offset }));
     }
     Ok((true, end))
 }

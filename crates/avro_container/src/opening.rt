@@ -6,12 +6,12 @@ ghost use Rattle.std.specs.Result.{IfErr};
 ghost use Rattle.avro_container.specs.inside.BlockCopied.{RefusesWithin};
 ghost use Rattle.avro_container.specs.Copied.{copied_header};
 ghost use Rattle.avro_container.specs.FileSeen.{file_fault};
-ghost use Rattle.avro_container.specs.Filled.{PutsFrontOf};
+ghost use Rattle.avro_container.specs.inside.Filled.{PutsFrontOf};
 ghost use Rattle.avro_container.specs.inside.HeaderCopied.{CopiesHeader};
 ghost use Rattle.avro_container.specs.HeaderTaken.{header_value};
 ghost use Rattle.avro_container.specs.Held.{held};
 ghost use Rattle.avro_container.specs.Named.{IsNamed};
-ghost use Rattle.avro_container.specs.Moved.{Moved};
+ghost use Rattle.avro_container.specs.inside.Moved.{Moved};
 ghost use Rattle.avro_container.specs.Steps.{Stored};
 ghost use Rattle.avro_container.specs.TaskSeen.{job_of};
 

@@ -8,7 +8,7 @@ ghost use Rattle.avro_container.specs.BlockFails.{max_blocks};
 ghost use Rattle.avro_container.specs.inside.DataPacked.{IsCopyFault, PacksBlock};
 ghost use Rattle.avro_container.specs.FileFault.{FileFault};
 ghost use Rattle.avro_container.specs.FileSeen.{file_fault};
-ghost use Rattle.avro_container.specs.Filled.{GrowsBy, TakesAtMost, UnlessFailed};
+ghost use Rattle.avro_container.specs.inside.Filled.{GrowsBy, TakesAtMost, UnlessFailed};
 ghost use Rattle.avro_container.specs.Held.{held};
 ghost use Rattle.avro_container.specs.Named.{IsNamed};
 ghost use Rattle.avro_container.specs.HeaderTaken.{header_value};

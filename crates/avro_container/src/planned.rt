@@ -4,7 +4,7 @@ ghost use Rattle.std.specs.Prelude.{◌≡◌, option_map};
 ghost use Rattle.std.specs.Option.{IfSome};
 ghost use Rattle.avro_schema.specs.SeenSchema.{schema_nodes};
 ghost use Rattle.avro_container.specs.DataRead.{resolution};
-ghost use Rattle.avro_container.specs.DatumRead.{ReadsDatum};
+ghost use Rattle.avro_container.specs.inside.DatumRead.{ReadsDatum};
 
 use avro_binary::{Build, read_own};
 use avro_resolve::{PlanRef, ReadResolveError};

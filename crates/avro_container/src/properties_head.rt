@@ -18,7 +18,7 @@ use crate::filling::Reach;
 use crate::numbers::take_long;
 use avro_binary::ReadError;
 
-/// How many properties a block of the metadata has, where they begin, and the size that it gives them, if any, with its place.
+/// How many properties a block of the metadata has, where they begin, and the size that it gives them, if any, with its offset.
 /// Without properties it ends the metadata.
 #[derive(Clone, Copy, Debug)]
 pub(crate) struct PropertiesHead {
@@ -26,7 +26,7 @@ pub(crate) struct PropertiesHead {
     pub(crate) start: usize,
     pub(crate) is_sized: bool,
     pub(crate) size: u64,
-    pub(crate) place: usize,
+    pub(crate) offset: usize,
 }
 
 /// Takes the count of a block that begins behind so many bytes: whether it is negative, its magnitude, and how many bytes it takes.
@@ -88,23 +88,23 @@ pub(crate) fn take_properties_head<I: Input>(
         Ok(found) => found,
         Err(error) => return Err(error),
     };
-    let place = at + len;
+    let offset = at + len;
     if !is_sized {
         return Ok(PropertiesHead {
             count,
-            start: place,
+            start: offset,
             is_sized,
             size: 0,
-            place,
+            offset,
         });
     }
-    match take_length(input, buffer, place, reach) {
+    match take_length(input, buffer, offset, reach) {
         Ok((size, more)) => Ok(PropertiesHead {
             count,
-            start: place + more,
+            start: offset + more,
             is_sized,
             size,
-            place,
+            offset,
         }),
         Err(error) => Err(error),
     }

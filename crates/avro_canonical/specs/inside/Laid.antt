@@ -27,31 +27,31 @@ abbrev mutual
   known_after_fields known next (field name f fs) = known_after_fields (known_after known next f) (next + nodes_in f) fs
 
 -- the node that an edge to it goes to
-abbrev pub laid_place : Known → ℕ → Form → ℕ
-laid_place known next (Form.primitive word) = next
-laid_place known next (Form.array f) = next
-laid_place known next (Form.map_of f) = next
-laid_place known next (Form.union fs) = next
-laid_place known next (Form.record_of name fs) = next
-laid_place known next (Form.enum name symbols) = next
-laid_place known next (Form.fixed name count) = next
-laid_place known next (Form.reference name) = unwrap_or (place_of name known) 0
+abbrev pub laid_id : Known → ℕ → Form → ℕ
+laid_id known next (Form.primitive word) = next
+laid_id known next (Form.array f) = next
+laid_id known next (Form.map_of f) = next
+laid_id known next (Form.union fs) = next
+laid_id known next (Form.record_of name fs) = next
+laid_id known next (Form.enum name symbols) = next
+laid_id known next (Form.fixed name count) = next
+laid_id known next (Form.reference name) = unwrap_or (place_of name known) 0
 
-abbrev pub laid_places : Known → ℕ → Forms → List ℕ
-laid_places known next no_forms = []
-laid_places known next (form f fs) = laid_place known next f ∷ laid_places (known_after known next f) (next + nodes_in f) fs
+abbrev pub laid_ids : Known → ℕ → Forms → List ℕ
+laid_ids known next no_forms = []
+laid_ids known next (form f fs) = laid_id known next f ∷ laid_ids (known_after known next f) (next + nodes_in f) fs
 
 abbrev pub laid_fields : Known → ℕ → FieldForms → List FieldNode
 laid_fields known next no_fields = []
 laid_fields known next (field name f fs) =
-    record { name = name; aliases = []; node = laid_place known next f; default = None } ∷ laid_fields (known_after known next f) (next + nodes_in f) fs
+    record { name = name; aliases = []; node = laid_id known next f; default = None } ∷ laid_fields (known_after known next f) (next + nodes_in f) fs
 
 abbrev mutual
   pub laid : Known → ℕ → Form → List Node
   laid known next (Form.primitive word) = node_of_word word ∷ []
-  laid known next (Form.array f) = Node.array (laid_place known (suc next) f) ∷ laid known (suc next) f
-  laid known next (Form.map_of f) = Node.map_of (laid_place known (suc next) f) ∷ laid known (suc next) f
-  laid known next (Form.union fs) = Node.union (laid_places known (suc next) fs) ∷ laid_all known (suc next) fs
+  laid known next (Form.array f) = Node.array (laid_id known (suc next) f) ∷ laid known (suc next) f
+  laid known next (Form.map_of f) = Node.map_of (laid_id known (suc next) f) ∷ laid known (suc next) f
+  laid known next (Form.union fs) = Node.union (laid_ids known (suc next) fs) ∷ laid_all known (suc next) fs
   laid known next (Form.record_of name fs) =
       Node.record_of name [] (laid_fields (defining name next known) (suc next) fs) ∷ laid_in_fields (defining name next known) (suc next) fs
   laid known next (Form.enum name symbols) = Node.enum name [] symbols None ∷ []

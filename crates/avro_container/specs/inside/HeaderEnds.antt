@@ -23,7 +23,7 @@ pub record FrameStands (limit : ℕ) (bytes : List ℕ) (properties : List Prope
   pub metadata : List ℕ
   pub stands : MetadataStands properties bytes metadata (sync ++ drop end bytes)
   pub marker : length sync ≡ 16
-  pub place : end ≡ 4 + length metadata + 16
+  pub offset : end ≡ 4 + length metadata + 16
   pub inside : end ≤ length bytes
   pub within : end ≤ limit
 

@@ -15,7 +15,7 @@ use Rattle.avro_schema.specs.Node.{Node}
 use Rattle.avro_container.specs.File.{Property, metadata_nodes}
 use Rattle.avro_container.specs.HeaderFails.{entry_limits}
 use Rattle.avro_container.specs.FileFault.{FileFault, in_header, invalid_metadata, long_header, cut_header}
-use Rattle.avro_container.specs.Filled.{GrowsBy, TakesAtMost}
+use Rattle.avro_container.specs.inside.Filled.{GrowsBy, TakesAtMost}
 use Rattle.avro_container.specs.Named.{IsNamed}
 use Rattle.avro_container.specs.declared.error.CopyError.{CopyError}
 
@@ -54,9 +54,9 @@ pub data LengthBreaks (bytes : List ℕ) : ReadFault → Type 0 where
 pub data LengthWants (bytes : List ℕ) : ReadFault → Type 0 where
   in_number : LongFails bytes EndOfInput → LengthWants bytes (end_of_input 0)
 
--- These bytes stand between two places.
+-- These bytes stand between two offsets.
 pub record Stretch (from : ℕ) (front : List ℕ) (to : ℕ) (bytes : List ℕ) : Type 0 where
-  pub place : to ≡ from + length front
+  pub offset : to ≡ from + length front
   pub split : drop from bytes ≡ front ++ drop to bytes
   pub inside : to ≤ length bytes
 

@@ -48,7 +48,7 @@ pub data TakesHead (at : ℕ) (bytes : List ℕ) : PropertiesHead → Type 0 whe
   counted : {h : PropertiesHead} (front : List ℕ) → 0 < h.count → h.count < 2 ^ 63 → h.is_sized ≡ false → Stretch at front h.start bytes
       → SpellsLong (pos h.count) front → TakesHead at bytes h
   sized : {h : PropertiesHead} (front size : List ℕ) → 0 < h.count → h.count < 2 ^ 63 → h.is_sized ≡ true → Stretch at (front ++ size) h.start bytes
-      → SpellsLong (neg_ℤ (pos h.count)) front → SpellsLong (pos h.size) size → h.size < 2 ^ 63 → h.place ≡ at + length front → TakesHead at bytes h
+      → SpellsLong (neg_ℤ (pos h.count)) front → SpellsLong (pos h.size) size → h.size < 2 ^ 63 → h.offset ≡ at + length front → TakesHead at bytes h
 
 -- The blocks so far stand behind the magic.
 pub record MetadataSoFar (at : ℕ) (bytes : List ℕ) (names : BTreeSet (String Global)) (ps : List Property) : Type 0 where

@@ -1,7 +1,7 @@
 -- Why the data of a block are not taken.
 use Rattle.std.proofs.Common.{◌≡◌, ◌+◌, ◌≤◌, Err, length, take, drop, ap, sym, ◌∙◌, arith}
 use Rattle.std.proofs.lemmas.Bool.{false≢true}
-use Rattle.avro_container.specs.Filled.{GrowsBy}
+use Rattle.avro_container.specs.inside.Filled.{GrowsBy}
 use Rattle.avro_container.specs.Held.{held}
 use Rattle.avro_container.proofs.Taking.{unless_failed}
 use Rattle.avro_container.proofs.Heads.{err_inj}

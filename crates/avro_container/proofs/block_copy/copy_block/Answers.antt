@@ -1,7 +1,7 @@
 -- A block is taken, packed and put.
 use Rattle.std.proofs.Common.{◌+◌, ◌<◌, List, ℕ, sym, subst}
 use Rattle.avro_container.specs.BlockFails.{max_blocks}
-use Rattle.avro_container.specs.Filled.{PutsFrontOf}
+use Rattle.avro_container.specs.inside.Filled.{PutsFrontOf}
 use Rattle.avro_container.specs.Held.{held}
 use Rattle.avro_container.specs.HeaderTaken.{header_value}
 use Rattle.avro_container.specs.Parts.{block_part}

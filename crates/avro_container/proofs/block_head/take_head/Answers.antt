@@ -1,6 +1,6 @@
 -- A count and a size, the second behind the first.
 use Rattle.std.proofs.Common.{◌+◌, pos, inl, inr, Err, take, drop, ap, sym, ◌∙◌, arith, rules}
-use Rattle.avro_container.specs.Filled.{GrowsBy}
+use Rattle.avro_container.specs.inside.Filled.{GrowsBy}
 use Rattle.avro_container.specs.Held.{held}
 use Rattle.avro_container.proofs.Taking.{GrowsBy-chain, TakesAtMost-later, TakesAtMost-from_grown}
 use Rattle.avro_container.proofs.Stopping.{count_fault_first, size_fault_next}

@@ -67,5 +67,5 @@ returns-in-Ok-take_marker-clause-within g c =
     let first = c.in-Ok.ensures.within in
     let second = c.in-Ok-take_metadata.ensures.within in
     let third = c.in-Ok-take_marker.ensures.within in
-    let place = c.in-Ok-take_metadata.ensures.found.stretch.place in
-    omega (arith, first, second, third, place)
+    let offset = c.in-Ok-take_metadata.ensures.found.stretch.offset in
+    omega (arith, first, second, third, offset)

@@ -3,7 +3,7 @@ use Rattle.std.proofs.Common.{◌≡◌, ◌+◌, List, ℕ, take, drop, ap, sym
 use Rattle.avro_container.specs.BlockStands.{BlockStands}
 use Rattle.avro_container.specs.inside.DataPacked.{PacksData}
 use Rattle.avro_container.specs.DataRead.{IsDataFault}
-use Rattle.avro_container.specs.Filled.{GrowsBy}
+use Rattle.avro_container.specs.inside.Filled.{GrowsBy}
 use Rattle.avro_container.specs.HeaderTaken.{header_value}
 use Rattle.avro_container.specs.Held.{held}
 use Rattle.avro_container.specs.Steps.{reading_of}

@@ -13,7 +13,7 @@ use Rattle.avro_packed.specs.declared.pieces.Pieces.{Pieces}
 use Rattle.avro_container.specs.BlockFails.{BlockReading, DataAreWhole}
 use Rattle.avro_container.specs.inside.DataPacked.{PacksData}
 use Rattle.avro_container.specs.DataRead.{resolution}
-use Rattle.avro_container.specs.DatumRead.{MakesOf, ReadsDatum}
+use Rattle.avro_container.specs.inside.DatumRead.{MakesOf, ReadsDatum}
 use Rattle.avro_container.specs.Steps.{reading_of}
 use Rattle.avro_container.specs.HeaderTaken.{header_value}
 use Rattle.avro_container.specs.TaskSeen.{job_of}

@@ -1,4 +1,4 @@
--- The data so far are packed, which are the bytes before the place.
+-- The data so far are packed, which are the bytes before the offset.
 use Rattle.std.proofs.Common.{◌-◌, ◌≤◌, length, take}
 use Rattle.avro_container.specs.inside.DataPacked.{PacksData}
 use Rattle.avro_container.specs.Steps.{reading_of}

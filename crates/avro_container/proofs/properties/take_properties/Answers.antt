@@ -26,9 +26,9 @@ loop-done-preserved g c =
       takes_then g.I.Input.gives g.I.Input.failures g.met.I.Input.chain c.args.reach.limit _ _ _ (held c.args.buffer.now) old new inv.0 took,
       omega (arith, c.loop-done-test.true),
       found.stretch.inside,
-      omega (arith, inv.3, c.in-Ok.ensures.within, found.stretch.place),
+      omega (arith, inv.3, c.in-Ok.ensures.within, found.stretch.offset),
       λ left few are distinct. properties_push g.I.Input.gives _ _ old new left _ _ c.loop-done.done c.args.at c.loop-done.end c.in-Ok.next _ _ _ took.grown (inv.4 left few are distinct) found,
-      omega (arith, inv.5, found.stretch.place),
+      omega (arith, inv.5, found.stretch.offset),
     )
 
 pub returns-in-Err-clause-lost : goal.returns-in-Err-clause-lost

@@ -3,7 +3,7 @@ use Rattle.std.proofs.Common.{◌≡◌, ◌+◌, Bool, pos, true, false, take, 
 use Rattle.std.specs.Prelude.{neg_ℤ}
 use Rattle.avro_binary.specs.BlockHeads.{signed_count}
 use Rattle.avro_binary.specs.Breaks.{StartsWithLong}
-use Rattle.avro_container.specs.Filled.{GrowsBy}
+use Rattle.avro_container.specs.inside.Filled.{GrowsBy}
 use Rattle.avro_container.specs.Held.{held}
 use Rattle.avro_container.proofs.Behind.{then_refused, takes_then, reports_not_failed}
 use Rattle.avro_container.proofs.PropertyRuns.{stretch_grown}

@@ -1,4 +1,4 @@
--- The data so far stand whole, as the bytes before the place.
+-- The data so far stand whole, as the bytes before the offset.
 use Rattle.std.proofs.Common.{◌-◌, ◌≤◌, length, take}
 use Rattle.std.specs.Prelude.{option_map}
 use Rattle.avro_schema.specs.SeenSchema.{schema_nodes}
