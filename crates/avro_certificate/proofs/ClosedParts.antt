@@ -26,21 +26,21 @@ and_true true = refl
 and_true false = refl
 
 -- a union is no plain node
-no_union : (places : List ℕ) → branches_of (Node.union places) ≡ None → ⊥
-no_union places h = grind arith
+no_union : (ids : List ℕ) → branches_of (Node.union ids) ≡ None → ⊥
+no_union ids h = grind arith
 
 module _ (dead : List ℕ) (pairs : List Pair) where
-  step : (f : FieldNode) (fields theirs : List FieldNode) (place : ℕ) (o : Option ℕ) → source_of fields f ≡ o
-      → closed_fields dead pairs fields theirs ≡ (not (is_some (missing_field_from (suc place) fields theirs)) && list_all (stands dead pairs) (field_children fields theirs))
-      → closed_fields dead pairs fields (f ∷ theirs) ≡ (not (is_some (missing_field_from place fields (f ∷ theirs))) && list_all (stands dead pairs) (field_children fields (f ∷ theirs)))
-  step f fields theirs place None e rest = rw e (default (is_some f.default) rest)
+  step : (f : FieldNode) (fields theirs : List FieldNode) (index : ℕ) (o : Option ℕ) → source_of fields f ≡ o
+      → closed_fields dead pairs fields theirs ≡ (not (is_some (missing_field_from (suc index) fields theirs)) && list_all (stands dead pairs) (field_children fields theirs))
+      → closed_fields dead pairs fields (f ∷ theirs) ≡ (not (is_some (missing_field_from index fields (f ∷ theirs))) && list_all (stands dead pairs) (field_children fields (f ∷ theirs)))
+  step f fields theirs index None e rest = rw e (default (is_some f.default) rest)
     where
       default : (b : Bool)
-          → closed_fields dead pairs fields theirs ≡ (not (is_some (missing_field_from (suc place) fields theirs)) && list_all (stands dead pairs) (field_children fields theirs))
-          → (b && closed_fields dead pairs fields theirs) ≡ (not (is_some (cond b (missing_field_from (suc place) fields theirs) (Some place))) && list_all (stands dead pairs) (field_children fields theirs))
+          → closed_fields dead pairs fields theirs ≡ (not (is_some (missing_field_from (suc index) fields theirs)) && list_all (stands dead pairs) (field_children fields theirs))
+          → (b && closed_fields dead pairs fields theirs) ≡ (not (is_some (cond b (missing_field_from (suc index) fields theirs) (Some index))) && list_all (stands dead pairs) (field_children fields theirs))
       default true h = h
       default false h = refl
-  step f fields theirs place (Some source) e rest =
+  step f fields theirs index (Some source) e rest =
       rw e (swapped (stands dead pairs (record { w = unwrap_or (slice_get (field_ids fields) source) 0; r = f.node })) _ _ _ rest)
     where
       swapped : (s c m k : Bool) → c ≡ (m && k) → (s && c) ≡ (m && (s && k))
@@ -48,10 +48,10 @@ module _ (dead : List ℕ) (pairs : List Pair) where
       swapped false c true k h = refl
       swapped false c false k h = refl
 
-  fields_are : (fields theirs : List FieldNode) (place : ℕ)
-      → closed_fields dead pairs fields theirs ≡ (not (is_some (missing_field_from place fields theirs)) && list_all (stands dead pairs) (field_children fields theirs))
-  fields_are fields [] place = refl
-  fields_are fields (f ∷ theirs) place = step f fields theirs place (source_of fields f) refl (fields_are fields theirs (suc place))
+  fields_are : (fields theirs : List FieldNode) (index : ℕ)
+      → closed_fields dead pairs fields theirs ≡ (not (is_some (missing_field_from index fields theirs)) && list_all (stands dead pairs) (field_children fields theirs))
+  fields_are fields [] index = refl
+  fields_are fields (f ∷ theirs) index = step f fields theirs index (source_of fields f) refl (fields_are fields theirs (suc index))
 
   -- two plain nodes that match
   inside_is : (writer reader : List Node) (w r : ℕ) (n q : Node) → branches_of n ≡ None → branches_of q ≡ None
@@ -91,11 +91,11 @@ module _ (writer reader : List Node) (dead : List ℕ) (pairs : List Pair) (w : 
   closed_led own (To (Some k) q) = stands dead pairs (record { w = w; r = q.0 })
   closed_led own (To None q) = own
 
-  led_union : (n : Node) (places : List ℕ) (own : Bool) → branches_of n ≡ None → (o : Option ℕ) → first_match writer reader n places ≡ o
-      → closed_led own (branch_aim places (first_match writer reader n places)) ≡ closed_live writer reader dead pairs w r.0 n (Node.union places)
-  led_union (Node.union ps) places own plain o e = absurd (no_union ps plain)
-  led_union n places own plain None e = rw e refl
-  led_union n places own plain (Some k) e = rw e (and_true _)
+  led_union : (n : Node) (ids : List ℕ) (own : Bool) → branches_of n ≡ None → (o : Option ℕ) → first_match writer reader n ids ≡ o
+      → closed_led own (branch_aim ids (first_match writer reader n ids)) ≡ closed_live writer reader dead pairs w r.0 n (Node.union ids)
+  led_union (Node.union ps) ids own plain o e = absurd (no_union ps plain)
+  led_union n ids own plain None e = rw e refl
+  led_union n ids own plain (Some k) e = rw e (and_true _)
 
   led_plain : (n q : Node) → branches_of n ≡ None → branches_of q ≡ None → (t : Bool) → is_match writer reader n q ≡ t
       → closed_led (closed_inside dead pairs n q) (cond t (To None r) (Fault NoMatch)) ≡ closed_live writer reader dead pairs w r.0 n q
@@ -105,7 +105,7 @@ module _ (writer reader : List Node) (dead : List ℕ) (pairs : List Pair) (w : 
       ∙ ap (λ b. not (not b || has_fault_of_kind n q) && list_all (stands dead pairs) (children_of writer reader w r.0 n q)) m)
 
   led_is : (n q : Node) → branches_of n ≡ None → closed_led (closed_inside dead pairs n q) (aim_of writer reader n r q) ≡ closed_live writer reader dead pairs w r.0 n q
-  led_is n (Node.union places) h = led_union n places (closed_inside dead pairs n (Node.union places)) h (first_match writer reader n places) refl
+  led_is n (Node.union ids) h = led_union n ids (closed_inside dead pairs n (Node.union ids)) h (first_match writer reader n ids) refl
   led_is n q h = led_plain n q h refl (is_match writer reader n q) refl
 
   pub led_fault : (n q : Node) (aim : Aim) (kind : FaultKind) → branches_of n ≡ None → aim ≡ aim_of writer reader n r q → aim ≡ Fault kind
@@ -137,7 +137,7 @@ live_pair writer reader dead pairs w r n q b n_is q_is e in_writer in_reader liv
     ∙ ap (closed_live writer reader dead pairs w r (node_at writer w)) q_is
     ∙ three (nat_lt w (length writer)) (nat_lt r (length reader)) (is_among dead w) _ in_writer in_reader live
 
--- the fields of a reader's record from a place on
+-- the fields of a reader's record from an index on
 pub seen_there : (fs : List Field) (i : ℕ) (d : Field) → i < length fs → slice_get (seen_fields fs) i ≡ Some (field_of (get_or fs i d))
 seen_there [] i d low = absurd (omega (arith, low))
 seen_there (f ∷ fs) zero d low = refl

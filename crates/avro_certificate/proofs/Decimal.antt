@@ -6,7 +6,7 @@ use Rattle.std.proofs.lemmas.Grind.{common_steps}
 use Rattle.std.specs.Prelude.{◌==◌, min}
 use Rattle.std.specs.Int.Digits.{digits_of, AllBelowBase}
 use Rattle.avro_certificate.specs.CertificateText.{decimal}
-use Rattle.avro_certificate.specs.CertificateLines.{bounded}
+use Rattle.avro_certificate.specs.inside.CertificateLines.{bounded}
 
 not_zero : (n : ℕ) → 0 < n → (n == 0) ≡ false
 not_zero n h = decided (n == 0) refl

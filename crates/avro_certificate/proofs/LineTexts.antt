@@ -8,7 +8,7 @@ use Rattle.std.specs.Prelude.{codes, MatchOption, ◌==◌}
 use Rattle.std.specs.Int.Digits.{digits_of}
 use Rattle.avro_certificate.specs.Closed.{Pair}
 use Rattle.avro_certificate.specs.CertificateText.{decimal, dead_line, pair_line, certificate_text}
-use Rattle.avro_certificate.specs.CertificateLines.{NoneAhead}
+use Rattle.avro_certificate.specs.inside.CertificateLines.{NoneAhead}
 use Rattle.avro_certificate.proofs.Decimal.{decimal_digits, decimal_first, above_zero}
 
 -- the byte is not there
@@ -66,7 +66,7 @@ cut_at bs k stop here e =
     let next : suc k ≡ k + 1 = omega arith in
     sym (take-append-drop k bs) ∙ ap (λ l. take k bs ++ l) (drop-cons bs k 0 here ∙ ap (λ c. c ∷ drop (suc k) bs) e ∙ ap (λ j. stop ∷ drop j bs) next)
 
--- what is left of a text, from a place on
+-- what is left of a text, from an index on
 pub rest_of : (bs : List ℕ) (i : ℕ) → take (length bs - i) (drop i bs) ≡ drop i bs
 rest_of bs i = take_all (length bs - i) (drop i bs) (omega (arith, length-drop i bs))
 

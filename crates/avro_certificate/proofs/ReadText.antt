@@ -4,9 +4,9 @@ use Rattle.std.proofs.lemmas.Bool.{true≢false}
 use Rattle.std.specs.Prelude.{nat_lt, Err}
 use Rattle.avro_certificate.specs.Closed.{Pair}
 use Rattle.avro_certificate.specs.CertificateText.{CertText, certificate_text, is_rising, is_before, are_small}
-use Rattle.avro_certificate.specs.CertificateLines.{bounded, bounded_pair}
+use Rattle.avro_certificate.specs.inside.CertificateLines.{bounded, bounded_pair}
 use Rattle.avro_certificate.specs.CertificateRead.{HasGreatNumber, Refuses, UnlessOutOfMemory}
-use Rattle.avro_certificate.specs.CertificateSets.{RefusesSets}
+use Rattle.avro_certificate.specs.inside.CertificateSets.{RefusesSets}
 use Rattle.avro_certificate.specs.SeenPair.{pairs_of}
 use Rattle.avro_certificate.specs.declared.error.CertError.{CertError}
 use Rattle.avro_certificate.specs.declared.kept.Certificate.{Certificate}

@@ -32,7 +32,7 @@ of_itself = record {
   all_dead = refl;
   greatest = λ other dead p among.
       only p (and_left (nat_lt p (length record_of_itself)) (is_dead_node other (node_at record_of_itself p))
-      (all_among (λ place. nat_lt place (length record_of_itself) && is_dead_node other (node_at record_of_itself place)) other p dead among));
+      (all_among (λ id. nat_lt id (length record_of_itself) && is_dead_node other (node_at record_of_itself id)) other p dead among));
 }
   where
     only : (p : ℕ) → nat_lt p 1 ≡ true → is_among (0 ∷ []) p ≡ true

@@ -1,3 +1,4 @@
+pub mod Aims
 pub mod DeadNodes
 pub mod NodeKinds
 pub mod Resolving

@@ -12,12 +12,12 @@ is_among xs x = list_any (λ y. y == x) xs
 -- a record with a field in the set, or a union with all of its branches in the set
 abbrev pub is_dead_node : List ℕ → Node → Bool
 is_dead_node dead (Node.record_of name aliases fields) = list_any (is_among dead) (field_ids fields)
-is_dead_node dead (Node.union places) = list_all (is_among dead) places
+is_dead_node dead (Node.union ids) = list_all (is_among dead) ids
 is_dead_node dead n = false
 
 -- each member is such a node of the writer's
 abbrev pub is_dead : List Node → List ℕ → Bool
-is_dead writer dead = list_all (λ place. nat_lt place (length writer) && is_dead_node dead (node_at writer place)) dead
+is_dead writer dead = list_all (λ id. nat_lt id (length writer) && is_dead_node dead (node_at writer id)) dead
 
 -- a pair of nodes, the writer's and the reader's
 pub record Pair : Type 0 where
@@ -45,8 +45,8 @@ has_fault_of_kind w r = false
 -- What fails at a pair itself: a reader's union of which no branch matches, nodes that do not match, bytes for a string,
 -- a symbol that the reader lacks, a field without source and default. A writer's union has no fault of its own.
 abbrev pub has_local_fault : List Node → List Node → Node → Node → Bool
-has_local_fault writer reader (Node.union places) r = false
-has_local_fault writer reader w (Node.union places) = is_none (first_match writer reader w places)
+has_local_fault writer reader (Node.union ids) r = false
+has_local_fault writer reader w (Node.union ids) = is_none (first_match writer reader w ids)
 has_local_fault writer reader w r = not (is_match writer reader w r) || has_fault_of_kind w r
 
 -- each reader's field that has a source, beside it
@@ -55,17 +55,17 @@ field_children fields theirs = flat_map (λ f. of_source f (source_of fields f))
   where
     of_source : FieldNode → Option ℕ → List Pair
     of_source f None = []
-    of_source f (Some place) = record { w = unwrap_or (slice_get (field_ids fields) place) 0; r = f.node } ∷ []
+    of_source f (Some index) = record { w = unwrap_or (slice_get (field_ids fields) index) 0; r = f.node } ∷ []
 
 -- The pairs that a pair asks for: each branch of a writer's union with the same reader's node; the same writer's node with
 -- the first branch of a reader's union that matches; the sources with their fields; the items or the values.
 abbrev pub children_of : List Node → List Node → ℕ → ℕ → Node → Node → List Pair
-children_of writer reader w r (Node.union places) q = map (λ place. record { w = place; r = r }) places
-children_of writer reader w r n (Node.union places) = of_branch (first_match writer reader n places)
+children_of writer reader w r (Node.union ids) q = map (λ id. record { w = id; r = r }) ids
+children_of writer reader w r n (Node.union ids) = of_branch (first_match writer reader n ids)
   where
     of_branch : Option ℕ → List Pair
     of_branch None = []
-    of_branch (Some k) = record { w = w; r = unwrap_or (slice_get places k) 0 } ∷ []
+    of_branch (Some k) = record { w = w; r = unwrap_or (slice_get ids k) 0 } ∷ []
 children_of writer reader w r (Node.record_of a xs fields) (Node.record_of b ys theirs) = field_children fields theirs
 children_of writer reader w r (Node.array a) (Node.array b) = record { w = a; r = b } ∷ []
 children_of writer reader w r (Node.map_of a) (Node.map_of b) = record { w = a; r = b } ∷ []

@@ -5,6 +5,4 @@ pub mod CertificateText
 pub mod SeenPair
 pub mod SeenCertificate
 pub mod CertificateRead
-pub mod CertificateLines
-pub mod CertificateSets
 pub mod inside

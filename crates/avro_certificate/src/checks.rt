@@ -3,7 +3,7 @@
 ghost use Rattle.std.specs.Prelude.{◌≡◌, nat_lt, option_map};
 ghost use Rattle.std.specs.List.{list_all};
 ghost use Rattle.avro_certificate.specs.CertificateText.{is_small, is_small_pair, are_small, is_rising, is_before};
-ghost use Rattle.avro_certificate.specs.CertificateLines.{follows};
+ghost use Rattle.avro_certificate.specs.inside.CertificateLines.{follows};
 ghost use Rattle.avro_certificate.specs.SeenPair.{pair_of, pairs_of};
 
 /// The greatest number of a node of any schema.

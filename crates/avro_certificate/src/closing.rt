@@ -1,6 +1,6 @@
 //! Whether the sets of a certificate are closed over two schemas.
 
-ghost use Rattle.std.specs.Prelude.{◌≡◌, ◌&&◌, true, is_some, nat_lt, length, map, unwrap_or, slice_get, IfOk, OnOk, ◌++◌, ◌∷◌, []};
+ghost use Rattle.std.specs.Prelude.{◌≡◌, ◌&&◌, true, is_some, nat_lt, length, map, unwrap_or, slice_get, IfOk, OnOk};
 ghost use Rattle.std.specs.Option.{IfSome};
 ghost use Rattle.std.specs.List.{list_all, list_any};
 ghost use Rattle.avro_schema.specs.Node.{node_at, field_ids};
@@ -48,14 +48,14 @@ fn is_dead(writer: &Schema, certificate: &Certificate) -> bool
 {
     let dead = certificate.dead();
     for number in dead {
-        if !is_dead_place(writer, certificate, NodeId(*number)) {
+        if !is_dead_id(writer, certificate, NodeId(*number)) {
             return false;
         }
     }
     true
 }
 
-fn is_dead_place(writer: &Schema, certificate: &Certificate, id: NodeId) -> bool
+fn is_dead_id(writer: &Schema, certificate: &Certificate, id: NodeId) -> bool
     ensures { result ≡ (nat_lt id.0 (length (schema_nodes writer.now)) && is_dead_node (dead_of certificate.now) (node_at (schema_nodes writer.now) id.0)) }
 {
     if !writer.has(id) {
@@ -63,7 +63,7 @@ fn is_dead_place(writer: &Schema, certificate: &Certificate, id: NodeId) -> bool
     }
     match writer.node(id) {
         Node::Record(record) => has_dead_field(certificate, &record.fields),
-        Node::Union(places) => has_dead_branches(certificate, places),
+        Node::Union(ids) => has_dead_branches(certificate, ids),
         _ => false,
     }
 }
@@ -79,11 +79,11 @@ fn has_dead_field(certificate: &Certificate, fields: &[Field]) -> bool
     false
 }
 
-fn has_dead_branches(certificate: &Certificate, places: &[NodeId]) -> bool
-    ensures { result ≡ list_all (is_among (dead_of certificate.now)) (ids_of places.now) }
+fn has_dead_branches(certificate: &Certificate, ids: &[NodeId]) -> bool
+    ensures { result ≡ list_all (is_among (dead_of certificate.now)) (ids_of ids.now) }
 {
-    for place in places {
-        if !has_dead(certificate, place.0) {
+    for id in ids {
+        if !has_dead(certificate, id.0) {
             return false;
         }
     }
@@ -147,16 +147,8 @@ fn is_closed_at(
     let n = writer.node(w);
     let q = reader.node(r);
     let closed = is_closed_live(certificate, writer, reader, n, q, &kept);
-    push_pair(found, kept)?;
+    found.push(kept)?;
     Ok(closed)
-}
-
-/// Adds what was found of a pair.
-fn push_pair(found: &mut Vec<Comparison>, pair: Comparison) -> Result<(), Memory>
-    ensures { OnOk result (found.new.items ≡ found.old.items ++ pair ∷ []) }
-{
-    found.push(pair)?;
-    Ok(())
 }
 
 /// Whether a pair is closed whose writer's node is not dead.
@@ -174,7 +166,7 @@ fn is_closed_live(
     ensures { result ≡ closed_live (schema_nodes writer.now) (schema_nodes reader.now) (dead_of certificate.now) (pairs_in certificate.now) pair.now.w.0 pair.now.r.0 (node_of n.now) (node_of q.now) }
 {
     match n {
-        Node::Union(places) => has_branches(certificate, places, pair.r),
+        Node::Union(ids) => has_branches(certificate, ids, pair.r),
         _ => match pair.aim {
             Aim::Fault(_) => false,
             Aim::To(Some(_), branch) => has(certificate, pair.w.0, branch.0),
@@ -184,11 +176,11 @@ fn is_closed_live(
 }
 
 /// Whether each branch of a writer's union is accounted for with the reader's node.
-fn has_branches(certificate: &Certificate, places: &[NodeId], r: NodeId) -> bool
-    ensures { result ≡ list_all (stands (dead_of certificate.now) (pairs_in certificate.now)) (map (λ place. record { w = place; r = r.0 }) (ids_of places.now)) }
+fn has_branches(certificate: &Certificate, ids: &[NodeId], r: NodeId) -> bool
+    ensures { result ≡ list_all (stands (dead_of certificate.now) (pairs_in certificate.now)) (map (λ id. record { w = id; r = r.0 }) (ids_of ids.now)) }
 {
-    for place in places {
-        if !has(certificate, place.0, r.0) {
+    for id in ids {
+        if !has(certificate, id.0, r.0) {
             return false;
         }
     }
@@ -234,8 +226,8 @@ fn are_sourced(
     requires all { length sources.now ≡ length theirs.now }
     ensures { result ≡ closed_fields (dead_of certificate.now) (pairs_in certificate.now) (seen_fields fields.now) (seen_fields theirs.now) }
 {
-    for place in 0..theirs.len() {
-        if !has_source(certificate, fields, sources[place], &theirs[place]) {
+    for index in 0..theirs.len() {
+        if !has_source(certificate, fields, sources[index], &theirs[index]) {
             return false;
         }
     }
@@ -254,15 +246,15 @@ fn has_source(
 {
     match source {
         None => field.default.is_some(),
-        Some(place) => has(certificate, place_or_root(fields, place), field.node.0),
+        Some(index) => has(certificate, id_or_root(fields, index), field.node.0),
     }
 }
 
 /// The number of the node of a field; past the end stands the root's.
-fn place_or_root(fields: &[Field], place: usize) -> u32
-    ensures { result ≡ unwrap_or (slice_get (field_ids (seen_fields fields.now)) place) 0 }
+fn id_or_root(fields: &[Field], index: usize) -> u32
+    ensures { result ≡ unwrap_or (slice_get (field_ids (seen_fields fields.now)) index) 0 }
 {
-    match fields.get(place) {
+    match fields.get(index) {
         None => 0,
         Some(field) => field.node.0,
     }

@@ -101,10 +101,8 @@ impl Certificate {
         ensures { IfOk result (λ text. CertText (dead_of self.now) (pairs_in self.now) text.items) }
     {
         let mut text = Vec::new(alloc);
-        match write_text(&mut text, &self.dead, &self.pairs) {
-            Ok(()) => Ok(text),
-            Err(_) => Err(Memory),
-        }
+        write_text(&mut text, &self.dead, &self.pairs)?;
+        Ok(text)
     }
 
     /// The numbers of the writer's nodes that no datum has.

@@ -28,15 +28,15 @@ fn has_pair(certificate: &Certificate, w: u32, r: u32) -> bool
     ensures { result ≡ is_among_pairs (pairs_in certificate.now) (record { w = w; r = r }) }
 {
     let pairs = certificate.pairs();
-    let place = place_of(pairs, (w, r));
-    match pairs.get(place) {
+    let position = position_of(pairs, (w, r));
+    match pairs.get(position) {
         None => false,
         Some(pair) => pair.0 == w && pair.1 == r,
     }
 }
 
-/// The place of the first of rising pairs that does not come before another, by halving.
-fn place_of(pairs: &[(u32, u32)], other: (u32, u32)) -> usize
+/// The position of the first of rising pairs that does not come before another, by halving.
+fn position_of(pairs: &[(u32, u32)], other: (u32, u32)) -> usize
     ensures { is_rising is_before (pairs_of pairs.now) ≡ true
         → IsPartitionPoint (λ y. is_before (pair_of y) (pair_of other) ≡ true) (λ y. is_before (pair_of y) (pair_of other) ≡ false) pairs.now result }
 {

@@ -3,10 +3,10 @@
 ghost use Rattle.std.specs.Prelude.{◌≡◌, ◌≢◌, ℕ, List, ◌++◌, map, flat_map, IfOk};
 ghost use Rattle.std.specs.Result.{IfErr};
 ghost use Rattle.avro_certificate.specs.CertificateText.{dead_line, pair_line, certificate_text};
-ghost use Rattle.avro_certificate.specs.CertificateLines.{bounded, bounded_pair, NoneAhead};
+ghost use Rattle.avro_certificate.specs.inside.CertificateLines.{bounded, bounded_pair, NoneAhead};
 ghost use Rattle.avro_certificate.specs.Closed.{Pair};
 ghost use Rattle.avro_certificate.specs.SeenPair.{pairs_of};
-ghost use Rattle.avro_certificate.specs.CertificateSets.{RefusesSets};
+ghost use Rattle.avro_certificate.specs.inside.CertificateSets.{RefusesSets};
 
 use crate::error::CertError;
 use crate::lines::{after, read_dead_line, read_pair_line};

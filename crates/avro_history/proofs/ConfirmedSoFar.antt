@@ -14,7 +14,7 @@ use Rattle.avro_certificate.specs.SeenCertificate.{dead_of, pairs_in}
 use Rattle.avro_certificate.specs.declared.kept.Certificate.{Certificate}
 use Rattle.avro_history.specs.ConfirmedHistory.{are_closed, nodes_of_all}
 use Rattle.avro_history.specs.SeenHistory.{set_of}
-use Rattle.avro_history.proofs.Written.{from_place}
+use Rattle.avro_history.proofs.Written.{from_index}
 
 -- what is known of an answer, where there is one
 pub some_at : {A : Type 0} (o : Option A) (a : A) (P : A → Type 0) → o ≡ Some a → IfSome o P → P a
@@ -52,9 +52,9 @@ module _ (writers : List Schema) (reader : Schema) (certificates : List Certific
         ≡ (is_closed (schema_nodes writer) (schema_nodes reader) (dead_of certificate) (pairs_in certificate)
         && are_closed (nodes_of_all (drop (i + 1) writers)) (schema_nodes reader) (map set_of (drop (i + 1) certificates)))
     left_is =
-        ap (λ (l : List Schema). are_closed (nodes_of_all l) (schema_nodes reader) (map set_of (drop i certificates))) (from_place writers i writer in_writers writer_at)
+        ap (λ (l : List Schema). are_closed (nodes_of_all l) (schema_nodes reader) (map set_of (drop i certificates))) (from_index writers i writer in_writers writer_at)
         ∙ ap (λ (l : List Certificate). are_closed (nodes_of_all (writer ∷ drop (i + 1) writers)) (schema_nodes reader) (map set_of l))
-        (from_place certificates i certificate in_certificates certificate_at)
+        (from_index certificates i certificate in_certificates certificate_at)
 
     pub confirmed_one : is_closed (schema_nodes writer) (schema_nodes reader) (dead_of certificate) (pairs_in certificate) ≡ true
         → AreCompatible (schema_nodes writer) (schema_nodes reader)
@@ -62,9 +62,9 @@ module _ (writers : List Schema) (reader : Schema) (certificates : List Certific
     confirmed_one is compatible = record {
       closed = sym (left_is ∙ ap (λ b. b && are_closed (nodes_of_all (drop (i + 1) writers)) (schema_nodes reader) (map set_of (drop (i + 1) certificates))) is) ∙ before.closed;
       compatible = λ h. before.compatible (subst (λ (l : List Schema). AllByRecursion (λ w. AreCompatible w (schema_nodes reader)) (nodes_of_all l))
-          (sym (from_place writers i writer in_writers writer_at)) (compatible, h));
+          (sym (from_index writers i writer in_writers writer_at)) (compatible, h));
       approved = append_assoc approvals ((writer, reader) ∷ []) (beside reader (drop (i + 1) writers))
-          ∙ ap (λ (l : List Schema). approvals ++ beside reader l) (sym (from_place writers i writer in_writers writer_at)) ∙ before.approved;
+          ∙ ap (λ (l : List Schema). approvals ++ beside reader l) (sym (from_index writers i writer in_writers writer_at)) ∙ before.approved;
     }
 
     pub refused_one : is_closed (schema_nodes writer) (schema_nodes reader) (dead_of certificate) (pairs_in certificate) ≡ false

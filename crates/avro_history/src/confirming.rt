@@ -44,11 +44,7 @@ pub fn confirm_history<'a>(
     let mut approvals = Vec::new(alloc);
     for (i, writer) in writers.iter().enumerate() {
         match confirm_one(alloc, writer, reader, &certificates[i])? {
-            Some(approved) => {
-                if approvals.push(approved).is_err() {
-                    return Err(Memory);
-                }
-            }
+            Some(approved) => approvals.push(approved)?,
             None => return Ok(None),
         }
     }

@@ -21,25 +21,25 @@ use Rattle.avro_certificate.proofs.public.Tests.{and_left, and_right, or_left, o
 use Rattle.avro_certificate.proofs.public.NodeKinds.{fault_of_union, fault_of_others, children_of_union}
 
 module _ (writer reader : List Node) (test : Pair → Bool) where
-  row_passes : (ws rs : List FieldNode) (place : ℕ) (ps : List ℕ) → list_all test (flat_map row_child (rows_from ws rs place ps)) ≡ true
-      → (k p : ℕ) (f : FieldNode) → slice_get ps k ≡ Some p → reader_field ws rs (place + k) ≡ Some f → test (record { w = p; r = f.node }) ≡ true
-  row_passes ws rs place [] h k p f got found = absurd (grind arith)
-  row_passes ws rs place (q ∷ qs) h zero p f got found =
-      let at : place + 0 ≡ place = omega arith in
-      let own : reader_field ws rs place ≡ Some f = subst (λ (n : ℕ). reader_field ws rs n ≡ Some f) at found in
-      let row : Row = record { node = q; theirs = option_map (λ g. g.node) (reader_field ws rs place) } in
-      let parts = sym (list_all-append test (row_child (record { node = q; theirs = option_map (λ g. g.node) (reader_field ws rs place) })) (flat_map row_child (rows_from ws rs (suc place) qs))) ∙ h in
-      let first = and_left (list_all test (row_child (record { node = q; theirs = option_map (λ g. g.node) (reader_field ws rs place) }))) (list_all test (flat_map row_child (rows_from ws rs (suc place) qs))) parts in
+  row_passes : (ws rs : List FieldNode) (index : ℕ) (ps : List ℕ) → list_all test (flat_map row_child (rows_from ws rs index ps)) ≡ true
+      → (k p : ℕ) (f : FieldNode) → slice_get ps k ≡ Some p → reader_field ws rs (index + k) ≡ Some f → test (record { w = p; r = f.node }) ≡ true
+  row_passes ws rs index [] h k p f got found = absurd (grind arith)
+  row_passes ws rs index (q ∷ qs) h zero p f got found =
+      let at : index + 0 ≡ index = omega arith in
+      let own : reader_field ws rs index ≡ Some f = subst (λ (n : ℕ). reader_field ws rs n ≡ Some f) at found in
+      let row : Row = record { node = q; theirs = option_map (λ g. g.node) (reader_field ws rs index) } in
+      let parts = sym (list_all-append test (row_child (record { node = q; theirs = option_map (λ g. g.node) (reader_field ws rs index) })) (flat_map row_child (rows_from ws rs (suc index) qs))) ∙ h in
+      let first = and_left (list_all test (row_child (record { node = q; theirs = option_map (λ g. g.node) (reader_field ws rs index) }))) (list_all test (flat_map row_child (rows_from ws rs (suc index) qs))) parts in
       subst (λ (x : ℕ). test (record { w = x; r = f.node }) ≡ true) (some_same q p got)
       (and_left (test (record { w = q; r = f.node })) true
       (subst (λ (o : Option FieldNode). list_all test (row_child (record { node = q; theirs = option_map (λ g. g.node) o })) ≡ true) own first))
     where
       some_same : (a b : ℕ) → Some a ≡ Some b → a ≡ b
       some_same a b e = cc
-  row_passes ws rs place (q ∷ qs) h (suc k) p f got found =
-      let at : place + suc k ≡ suc place + k = omega arith in
-      let parts = sym (list_all-append test (row_child (record { node = q; theirs = option_map (λ g. g.node) (reader_field ws rs place) })) (flat_map row_child (rows_from ws rs (suc place) qs))) ∙ h in
-      row_passes ws rs (suc place) qs (and_right (list_all test (row_child (record { node = q; theirs = option_map (λ g. g.node) (reader_field ws rs place) }))) (list_all test (flat_map row_child (rows_from ws rs (suc place) qs))) parts) k p f got
+  row_passes ws rs index (q ∷ qs) h (suc k) p f got found =
+      let at : index + suc k ≡ suc index + k = omega arith in
+      let parts = sym (list_all-append test (row_child (record { node = q; theirs = option_map (λ g. g.node) (reader_field ws rs index) })) (flat_map row_child (rows_from ws rs (suc index) qs))) ∙ h in
+      row_passes ws rs (suc index) qs (and_right (list_all test (row_child (record { node = q; theirs = option_map (λ g. g.node) (reader_field ws rs index) }))) (list_all test (flat_map row_child (rows_from ws rs (suc index) qs))) parts) k p f got
       (subst (λ (n : ℕ). reader_field ws rs n ≡ Some f) at found)
 
   -- the sources of a record's fields
@@ -93,27 +93,27 @@ module _ (writer reader : List Node) (test : Pair → Bool) where
   asked_plain Node.null Node.null h k = refl
   asked_plain _ _ h k = refl
 
-  asked_union : (n : Node) (places : List ℕ) → branches_of n ≡ None → asked writer reader n (Node.union places) ≡ asked_branch places (first_match writer reader n places)
-  asked_union (Node.union ps) places h = absurd (grind arith)
-  asked_union _ places h = refl
+  asked_union : (n : Node) (ids : List ℕ) → branches_of n ≡ None → asked writer reader n (Node.union ids) ≡ asked_branch ids (first_match writer reader n ids)
+  asked_union (Node.union ps) ids h = absurd (grind arith)
+  asked_union _ ids h = refl
 
-  union_pass : (w r : ℕ) (n : Node) (places : List ℕ) → branches_of n ≡ None → has_local_fault writer reader n (Node.union places) ≡ false
-      → list_all test (asked_children w r (asked_branch places (first_match writer reader n places))) ≡ true
-      → (o : Option ℕ) → first_match writer reader n places ≡ o → list_all test (children_of writer reader w r n (Node.union places)) ≡ true
-  union_pass w r n places plain good h None e = absurd (true≢false (sym (ap is_none e) ∙ sym (fault_of_union writer reader n places plain) ∙ good))
-  union_pass w r n places plain good h (Some k) e =
-      subst (λ (cs : List Pair). list_all test cs ≡ true) (sym (children_of_union writer reader w r n places k plain e))
-      (subst (λ (o : Option ℕ). list_all test (asked_children w r (asked_branch places o)) ≡ true) e h)
+  union_pass : (w r : ℕ) (n : Node) (ids : List ℕ) → branches_of n ≡ None → has_local_fault writer reader n (Node.union ids) ≡ false
+      → list_all test (asked_children w r (asked_branch ids (first_match writer reader n ids))) ≡ true
+      → (o : Option ℕ) → first_match writer reader n ids ≡ o → list_all test (children_of writer reader w r n (Node.union ids)) ≡ true
+  union_pass w r n ids plain good h None e = absurd (true≢false (sym (ap is_none e) ∙ sym (fault_of_union writer reader n ids plain) ∙ good))
+  union_pass w r n ids plain good h (Some k) e =
+      subst (λ (cs : List Pair). list_all test cs ≡ true) (sym (children_of_union writer reader w r n ids k plain e))
+      (subst (λ (o : Option ℕ). list_all test (asked_children w r (asked_branch ids o)) ≡ true) e h)
 
   pub covers : (w r : ℕ) (n q : Node) → meets_its_rules reader q ≡ true → has_local_fault writer reader n q ≡ false
       → list_all test (asked_children w r (asked writer reader n q)) ≡ true → list_all test (children_of writer reader w r n q) ≡ true
-  covers w r (Node.union places) q rules good h = h
+  covers w r (Node.union ids) q rules good h = h
   covers w r n q rules good h = by_reader n q refl rules good h
     where
       by_reader : (n q : Node) → branches_of n ≡ None → meets_its_rules reader q ≡ true → has_local_fault writer reader n q ≡ false
           → list_all test (asked_children w r (asked writer reader n q)) ≡ true → list_all test (children_of writer reader w r n q) ≡ true
-      by_reader n (Node.union places) plain rules good h =
-          union_pass w r n places plain good (subst (λ (a : Asked). list_all test (asked_children w r a) ≡ true) (asked_union n places plain) h) (first_match writer reader n places) refl
+      by_reader n (Node.union ids) plain rules good h =
+          union_pass w r n ids plain good (subst (λ (a : Asked). list_all test (asked_children w r a) ≡ true) (asked_union n ids plain) h) (first_match writer reader n ids) refl
       by_reader n q plain rules good h =
           let both : (not (is_match writer reader n q) || has_fault_of_kind n q) ≡ false = sym (fault_of_others writer reader n q plain refl) ∙ good in
           let matches : is_match writer reader n q ≡ true = not_false (is_match writer reader n q) (or_left (not (is_match writer reader n q)) (has_fault_of_kind n q) both) in

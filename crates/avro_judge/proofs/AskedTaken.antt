@@ -13,23 +13,23 @@ use Rattle.avro_certificate.proofs.public.NodeKinds.{children_of_union}
 
 module _ (writer reader : List Node) (test : Pair → Bool) where
   -- the pair of a writer's field and the reader's field whose source it is
-  source_taken : (ws rs : List FieldNode) (place : ℕ) (f : FieldNode) → list_all test (field_children ws rs) ≡ true → reader_field ws rs place ≡ Some f
-      → test (record { w = unwrap_or (slice_get (field_ids ws) place) 0; r = f.node }) ≡ true
-  source_taken ws [] place f h e = absurd (grind arith)
-  source_taken ws (g ∷ gs) place f h e = by_source (source_of ws g) refl h e (source_taken ws gs place f)
+  source_taken : (ws rs : List FieldNode) (index : ℕ) (f : FieldNode) → list_all test (field_children ws rs) ≡ true → reader_field ws rs index ≡ Some f
+      → test (record { w = unwrap_or (slice_get (field_ids ws) index) 0; r = f.node }) ≡ true
+  source_taken ws [] index f h e = absurd (grind arith)
+  source_taken ws (g ∷ gs) index f h e = by_source (source_of ws g) refl h e (source_taken ws gs index f)
     where
-      by_source : (o : Option ℕ) → source_of ws g ≡ o → list_all test (field_children ws (g ∷ gs)) ≡ true → reader_field ws (g ∷ gs) place ≡ Some f
-          → (list_all test (field_children ws gs) ≡ true → reader_field ws gs place ≡ Some f → test (record { w = unwrap_or (slice_get (field_ids ws) place) 0; r = f.node }) ≡ true)
-          → test (record { w = unwrap_or (slice_get (field_ids ws) place) 0; r = f.node }) ≡ true
+      by_source : (o : Option ℕ) → source_of ws g ≡ o → list_all test (field_children ws (g ∷ gs)) ≡ true → reader_field ws (g ∷ gs) index ≡ Some f
+          → (list_all test (field_children ws gs) ≡ true → reader_field ws gs index ≡ Some f → test (record { w = unwrap_or (slice_get (field_ids ws) index) 0; r = f.node }) ≡ true)
+          → test (record { w = unwrap_or (slice_get (field_ids ws) index) 0; r = f.node }) ≡ true
       by_source None is h e later = later (rw is at h) (rw is at e)
-      by_source (Some k) is h e later = chosen (k == place) refl (rw is at h) (rw is at e)
+      by_source (Some k) is h e later = chosen (k == index) refl (rw is at h) (rw is at e)
         where
-          chosen : (t : Bool) → (k == place) ≡ t
+          chosen : (t : Bool) → (k == index) ≡ t
               → (test (record { w = unwrap_or (slice_get (field_ids ws) k) 0; r = g.node }) && list_all test (field_children ws gs)) ≡ true
-              → cond t (Some g) (reader_field ws gs place) ≡ Some f
-              → test (record { w = unwrap_or (slice_get (field_ids ws) place) 0; r = f.node }) ≡ true
+              → cond t (Some g) (reader_field ws gs index) ≡ Some f
+              → test (record { w = unwrap_or (slice_get (field_ids ws) index) 0; r = f.node }) ≡ true
           chosen true same all found =
-              subst (λ (x : ℕ). test (record { w = unwrap_or (slice_get (field_ids ws) x) 0; r = f.node }) ≡ true) (eqb-true k place same)
+              subst (λ (x : ℕ). test (record { w = unwrap_or (slice_get (field_ids ws) x) 0; r = f.node }) ≡ true) (eqb-true k index same)
               (subst (λ (x : FieldNode). test (record { w = unwrap_or (slice_get (field_ids ws) k) 0; r = x.node }) ≡ true) (some_same g f found)
               (and_left (test (record { w = unwrap_or (slice_get (field_ids ws) k) 0; r = g.node })) (list_all test (field_children ws gs)) all))
             where
@@ -37,24 +37,24 @@ module _ (writer reader : List Node) (test : Pair → Bool) where
               some_same a b e = cc
           chosen false same all found = later (and_right (test (record { w = unwrap_or (slice_get (field_ids ws) k) 0; r = g.node })) (list_all test (field_children ws gs)) all) found
 
-  rows_taken : (ws rs : List FieldNode) (place : ℕ) (ps : List ℕ)
-      → ((k p : ℕ) (f : FieldNode) → slice_get ps k ≡ Some p → reader_field ws rs (place + k) ≡ Some f → test (record { w = p; r = f.node }) ≡ true)
-      → list_all test (flat_map row_child (rows_from ws rs place ps)) ≡ true
-  rows_taken ws rs place [] each = refl
-  rows_taken ws rs place (p ∷ ps) each =
-      by_field (reader_field ws rs place) refl (rows_taken ws rs (suc place) ps (λ k q f got found. each (suc k) q f got (next k f found)))
+  rows_taken : (ws rs : List FieldNode) (index : ℕ) (ps : List ℕ)
+      → ((k p : ℕ) (f : FieldNode) → slice_get ps k ≡ Some p → reader_field ws rs (index + k) ≡ Some f → test (record { w = p; r = f.node }) ≡ true)
+      → list_all test (flat_map row_child (rows_from ws rs index ps)) ≡ true
+  rows_taken ws rs index [] each = refl
+  rows_taken ws rs index (p ∷ ps) each =
+      by_field (reader_field ws rs index) refl (rows_taken ws rs (suc index) ps (λ k q f got found. each (suc k) q f got (next k f found)))
     where
-      next : (k : ℕ) (f : FieldNode) → reader_field ws rs (suc place + k) ≡ Some f → reader_field ws rs (place + suc k) ≡ Some f
+      next : (k : ℕ) (f : FieldNode) → reader_field ws rs (suc index + k) ≡ Some f → reader_field ws rs (index + suc k) ≡ Some f
       next k f found =
-          let at : suc place + k ≡ place + suc k = omega arith in
+          let at : suc index + k ≡ index + suc k = omega arith in
           subst (λ (n : ℕ). reader_field ws rs n ≡ Some f) at found
 
-      by_field : (o : Option FieldNode) → reader_field ws rs place ≡ o → list_all test (flat_map row_child (rows_from ws rs (suc place) ps)) ≡ true
-          → list_all test (flat_map row_child (rows_from ws rs place (p ∷ ps))) ≡ true
+      by_field : (o : Option FieldNode) → reader_field ws rs index ≡ o → list_all test (flat_map row_child (rows_from ws rs (suc index) ps)) ≡ true
+          → list_all test (flat_map row_child (rows_from ws rs index (p ∷ ps))) ≡ true
       by_field None e rest = rw e rest
       by_field (Some f) e rest =
-          let at : place ≡ place + 0 = omega arith in
-          rw e (and_from (test (record { w = p; r = f.node })) (list_all test (flat_map row_child (rows_from ws rs (suc place) ps)))
+          let at : index ≡ index + 0 = omega arith in
+          rw e (and_from (test (record { w = p; r = f.node })) (list_all test (flat_map row_child (rows_from ws rs (suc index) ps)))
           (each 0 p f refl (subst (λ (n : ℕ). reader_field ws rs n ≡ Some f) at e)) rest)
 
   record_taken : (fields theirs : List FieldNode) → list_all test (field_children fields theirs) ≡ true
@@ -89,22 +89,22 @@ module _ (writer reader : List Node) (test : Pair → Bool) where
   plain_taken w r n q true h = inside_taken w r n q h
   plain_taken w r n q false h = refl
 
-  branch_taken : (w r : ℕ) (n : Node) (places : List ℕ) → branches_of n ≡ None → list_all test (children_of writer reader w r n (Node.union places)) ≡ true
-      → (o : Option ℕ) → first_match writer reader n places ≡ o → list_all test (asked_children w r (asked_branch places o)) ≡ true
-  branch_taken w r n places plain h None e = refl
-  branch_taken w r n places plain h (Some k) e =
-      subst (λ (cs : List Pair). list_all test cs ≡ true) (children_of_union writer reader w r n places k plain e) h
+  branch_taken : (w r : ℕ) (n : Node) (ids : List ℕ) → branches_of n ≡ None → list_all test (children_of writer reader w r n (Node.union ids)) ≡ true
+      → (o : Option ℕ) → first_match writer reader n ids ≡ o → list_all test (asked_children w r (asked_branch ids o)) ≡ true
+  branch_taken w r n ids plain h None e = refl
+  branch_taken w r n ids plain h (Some k) e =
+      subst (λ (cs : List Pair). list_all test cs ≡ true) (children_of_union writer reader w r n ids k plain e) h
 
   -- what all children pass, all pairs that are asked for pass
   pub taken : (w r : ℕ) (n q : Node) → list_all test (children_of writer reader w r n q) ≡ true
       → list_all test (asked_children w r (asked writer reader n q)) ≡ true
-  taken w r (Node.union places) q h = h
+  taken w r (Node.union ids) q h = h
   taken w r n q h = by_reader n q refl h
     where
       by_reader : (n q : Node) → branches_of n ≡ None → list_all test (children_of writer reader w r n q) ≡ true
           → list_all test (asked_children w r (asked writer reader n q)) ≡ true
-      by_reader (Node.union places) q plain h = absurd (grind arith)
-      by_reader n (Node.union places) plain h = branch_taken w r n places plain h (first_match writer reader n places) refl
+      by_reader (Node.union ids) q plain h = absurd (grind arith)
+      by_reader n (Node.union ids) plain h = branch_taken w r n ids plain h (first_match writer reader n ids) refl
       by_reader n q plain h = plain_taken w r n q (is_match writer reader n q) h
 
 -- each of some pairs is among them

@@ -15,12 +15,12 @@ use Rattle.avro_least.specs.Tables.{Least, LeastTable, AreDataShown, AreLow, err
 use Rattle.avro_least.specs.Reached.{is_key, AreFollowed, IsSteppedTo}
 use Rattle.avro_least.specs.SeenLeast.{seen, table_of}
 use Rattle.avro_least.specs.declared.kept.Least.{Least as KeptLeast}
-use Rattle.avro_judge.proofs.DeadPlaces.{dead_is, dead_greatest, dead_rising}
+use Rattle.avro_judge.proofs.DeadIds.{dead_is, dead_greatest, dead_rising}
 use Rattle.avro_judge.proofs.Evidence.{closed_small, evidence_dead, closed_dead, evidence_live, closed_live}
 use Rattle.avro_judge.proofs.PairNumbers.{pairs_rising}
 use Rattle.avro_least.proofs.public.Stepping.{some_nodes}
 
--- whether a place has no entry, by the entry that was looked up
+-- whether a node has no entry, by the entry that was looked up
 pub no_entry : (o : Option KeptLeast) (t : Option Least) (b : Bool) → seen o ≡ t → is_some o ≡ not b → is_none t ≡ b
 no_entry None t true is s = ap is_none (sym is)
 no_entry None t false is s = absurd (false≢true s)

@@ -14,7 +14,7 @@ use Rattle.avro_judge.specs.inside.Evidence.{pairs_at}
 use Rattle.avro_least.specs.FoundTables.{AreTables}
 use Rattle.avro_least.specs.Tables.{Least, LeastTable, erring_of, pair_number}
 use Rattle.avro_least.specs.Reached.{is_key, IsSteppedTo}
-use Rattle.avro_judge.proofs.DeadPlaces.{all_from}
+use Rattle.avro_judge.proofs.DeadIds.{all_from}
 use Rattle.avro_least.proofs.public.Keys.{key_passes}
 use Rattle.avro_judge.proofs.PairNumbers.{listed_pair, pair_listed, number_back, same_itself}
 use Rattle.avro_judge.proofs.ReachedPairs.{IsStanding, standing_quiet, child_standing, standing, root_lives, IsMet, met}
@@ -43,7 +43,7 @@ closed_small writer reader dead pairs formed theirs closed =
     let rest = and_right (is_dead writer dead && root) (list_all (is_closed_at writer reader dead pairs) pairs) closed in
     and_from (list_all is_small dead) (list_all is_small_pair pairs)
     (all_from is_small dead (λ p m. small_below p writer formed
-    (and_left (nat_lt p (length writer)) _ (all_among (λ place. nat_lt place (length writer) && is_dead_node dead (node_at writer place)) dead p gone m))))
+    (and_left (nat_lt p (length writer)) _ (all_among (λ id. nat_lt id (length writer) && is_dead_node dead (node_at writer id)) dead p gone m))))
     (all_pairs is_small_pair pairs (λ p m.
     let own = and_left (nat_lt p.w (length writer) && nat_lt p.r (length reader)) _ (all_among_pairs (is_closed_at writer reader dead pairs) pairs p rest m) in
     and_from (is_small p.w) (is_small p.r) (small_below p.w writer formed (and_left (nat_lt p.w (length writer)) (nat_lt p.r (length reader)) own))

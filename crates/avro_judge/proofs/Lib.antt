@@ -1,7 +1,7 @@
 pub mod AskedCovers
 pub mod AskedTaken
 pub mod Certified
-pub mod DeadPlaces
+pub mod DeadIds
 pub mod Evidence
 pub mod Exclusive
 pub mod PairNumbers

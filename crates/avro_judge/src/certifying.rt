@@ -18,26 +18,24 @@ use avro_schema::{Memory, NodeId, Schema};
 use indexmap::IndexSet;
 use std::alloc::Global;
 
-/// Adds a place where it has no entry.
-fn add_dead(dead: &mut Vec<u32>, table: &[Option<Least>], place: u32) -> Result<(), Memory>
-    ensures { OnOk result (dead.new.items ≡ dead.old.items ++ cond (is_none (table_of table.now place)) (place ∷ []) []) }
+/// Adds the id of a node without an entry.
+fn add_dead(dead: &mut Vec<u32>, table: &[Option<Least>], id: u32) -> Result<(), Memory>
+    ensures { OnOk result (dead.new.items ≡ dead.old.items ++ cond (is_none (table_of table.now id)) (id ∷ []) []) }
 {
-    if entry(table, NodeId(place)).is_some() {
+    if entry(table, NodeId(id)).is_some() {
         return Ok(());
     }
-    if dead.push(place).is_err() {
-        return Err(Memory);
-    }
+    dead.push(id)?;
     Ok(())
 }
 
-/// The places without an entry, rising.
-fn dead_places(alloc: Global, table: &[Option<Least>], count: u32) -> Result<Vec<u32>, Memory>
+/// The ids of the nodes without an entry, rising.
+fn dead_ids(alloc: Global, table: &[Option<Least>], count: u32) -> Result<Vec<u32>, Memory>
     ensures { IfOk result (λ d. d.items ≡ dead_below (table_of table.now) count) }
 {
     let mut dead = Vec::new(alloc);
-    for place in 0..count {
-        add_dead(&mut dead, table, place)?;
+    for id in 0..count {
+        add_dead(&mut dead, table, id)?;
     }
     Ok(dead)
 }
@@ -47,13 +45,9 @@ fn sorted_keys(alloc: Global, known: &IndexSet<u64>) -> Result<Vec<u64>, Memory>
     ensures same { IfOk result (λ n. (k : ℕ) → is_key n.items k ≡ is_key (keys known.now) k) }
     ensures rising { IfOk result (λ n. is_rising nat_lt n.items ≡ true) }
 {
-    match known.as_slice().to_vec(alloc) {
-        Ok(mut numbers) => {
-            numbers.sort_unstable();
-            Ok(numbers)
-        }
-        Err(_) => Err(Memory),
-    }
+    let mut numbers = known.as_slice().to_vec(alloc)?;
+    numbers.sort_unstable();
+    Ok(numbers)
 }
 
 /// The pairs of some numbers.
@@ -72,9 +66,7 @@ fn pairs_of_numbers(
             writers(writer, reader, *number).0,
             readers(reader, *number).0,
         );
-        if pairs.push(pair).is_err() {
-            return Err(Memory);
-        }
+        pairs.push(pair)?;
     }
     Ok(pairs)
 }
@@ -108,7 +100,7 @@ pub(crate) fn certificate_of(
     ensures { IfOk result (IsCertificateOf (schema_nodes writer.now) (schema_nodes reader.now)) }
 {
     let _ = count(reader);
-    let dead = dead_places(alloc, table, count(writer))?;
+    let dead = dead_ids(alloc, table, count(writer))?;
     if entry(table, NodeId(0)).is_none() {
         return Ok(Certificate::of(dead, Vec::new(alloc)));
     }

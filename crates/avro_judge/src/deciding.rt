@@ -14,7 +14,9 @@ ghost use Rattle.avro_least.specs.SeenLeast.{seen_all, table_of};
 
 use crate::certifying::certificate_of;
 use avro_certificate::Certificate;
-use avro_least::{Least, Reached, build_error, count, least_data, least_errors, pair_entry, reach};
+use avro_least::{
+    Least, Reached, Tables, build_error, count, least_data, least_errors, pair_entry, reach,
+};
 use avro_resolve::Comparison;
 use avro_schema::{Datum, Memory, NodeId, Schema};
 use std::alloc::Global;
@@ -72,8 +74,7 @@ fn judge_roots(
             if least.depth > deepest {
                 return Ok(Judged::Depth);
             }
-            let datum = build_error(
-                alloc,
+            let tables = Tables {
                 writer,
                 reader,
                 limit,
@@ -81,10 +82,8 @@ fn judge_roots(
                 count,
                 reached,
                 entries,
-                root,
-                root,
-                least.nodes,
-            )?;
+            };
+            let datum = build_error(alloc, &tables, root, root, least.nodes)?;
             Ok(Judged::Erring(datum))
         }
     }

@@ -18,8 +18,8 @@ use Rattle.avro_resolve.specs.Resolve.{Resolved, Sourced, matched, into_branch, 
 use Rattle.avro_certificate.specs.Closed.{Pair, lacks_symbol}
 use Rattle.avro_least.specs.Tables.{Least, LeastTable, ErringTable, IsWithin, count_of, around, together, best_of, all_of, no_parts, one}
 use Rattle.avro_least.specs.Asked.{Row, row_child, Asked, rows_from, asked_inside, asked_branch, asked, err_of_row, err_of_rows, asked_value, asked_children}
-use Rattle.avro_least.specs.Built.{Builds}
-use Rattle.avro_least.specs.BuiltErrors.{IsLone, part_value, IsErringOf, AreExact, BuildsError, is_same, BuildsAsked, BuildsRow, BuildsRows, part_of_row, total_from}
+use Rattle.avro_least.specs.inside.Built.{Builds}
+use Rattle.avro_least.specs.BuiltErrors.{BuildsLone, part_value, IsErringOf, AreExact, BuildsError, is_same, BuildsAsked, BuildsRow, BuildsRows, part_of_row, total_from}
 use Rattle.avro_certificate.proofs.public.Tests.{and_left, and_right, all_at}
 use Rattle.avro_certificate.proofs.public.Shapes.{plain_branch, first_match_within}
 use Rattle.avro_least.proofs.LeastErrors.{through_is_matched}
@@ -84,10 +84,10 @@ module _ (writer reader : List Node) (limit : ℕ) (table : LeastTable) (erring 
         numbers = sym step ∙ least.numbers;
       }
 
-  pub lone_builds : (left w r : ℕ) (v : Value) → IsLone (node_at writer w) (node_at reader r) v → BuildsAsked writer reader limit table erring left w r Asked.lone v
+  pub lone_builds : (left w r : ℕ) (v : Value) → BuildsLone writer reader w r v → BuildsAsked writer reader limit table erring left w r Asked.lone v
   lone_builds left w r v own ns is known ex kn within few =
       let step : Some one ≡ erring w r = step_of known ex w r Asked.lone is kn within in
-      let errs = lone_errs writer reader (node_at writer w) (node_at reader r) v (HasFewChoices-from_is_schema writer ex.formed w) is own in
+      let errs = lone_errs writer reader (node_at writer w) (node_at reader r) v (HasFewChoices-from_is_schema writer ex.formed w) is (own is) in
       record {
         fitting = errs.fitting;
         faulty = the_fault (resolve writer reader (node_at writer w) (node_at reader r) v) errs.faulty;
@@ -114,63 +114,63 @@ module _ (writer reader : List Node) (limit : ℕ) (table : LeastTable) (erring 
       }
 
   -- a writer's union
-  union_asked : (n q : Node) (places : List ℕ) → Asked.branches places ≡ asked writer reader n q → n ≡ Node.union places
-  union_asked (Node.union ps) q places e = ap Node.union (sym (ap branches_in e))
+  union_asked : (n q : Node) (ids : List ℕ) → Asked.branches ids ≡ asked writer reader n q → n ≡ Node.union ids
+  union_asked (Node.union ps) q ids e = ap Node.union (sym (ap branches_in e))
     where
       branches_in : Asked → List ℕ
       branches_in (Asked.branches ps) = ps
       branches_in _ = []
-  union_asked n q places e = absurd (by n q refl e)
+  union_asked n q ids e = absurd (by n q refl e)
     where
-      inside_no : (n q : Node) → Asked.branches places ≡ asked_inside n q → ⊥
+      inside_no : (n q : Node) → Asked.branches ids ≡ asked_inside n q → ⊥
       inside_no (Node.record_of a xs fields) (Node.record_of b ys theirs) s = chosen (is_some (missing_field fields theirs)) s
         where
-          chosen : (t : Bool) → Asked.branches places ≡ cond t Asked.whole (Asked.fields (rows_from fields theirs 0 (field_ids fields))) → ⊥
+          chosen : (t : Bool) → Asked.branches ids ≡ cond t Asked.whole (Asked.fields (rows_from fields theirs 0 (field_ids fields))) → ⊥
           chosen true s = grind arith
           chosen false s = grind arith
       inside_no (Node.enum a xs symbols x) (Node.enum b ys theirs y) s = chosen (lacks_symbol symbols theirs y) s
         where
-          chosen : (t : Bool) → Asked.branches places ≡ cond t Asked.lone Asked.quiet → ⊥
+          chosen : (t : Bool) → Asked.branches ids ≡ cond t Asked.lone Asked.quiet → ⊥
           chosen true s = grind arith
           chosen false s = grind arith
       inside_no _ _ s = grind arith
 
-      by : (n q : Node) → branches_of n ≡ None → Asked.branches places ≡ asked writer reader n q → ⊥
+      by : (n q : Node) → branches_of n ≡ None → Asked.branches ids ≡ asked writer reader n q → ⊥
       by n (Node.union ps) plain s = chosen (first_match writer reader n ps) (s ∙ asked_of_union writer reader n ps plain)
         where
-          chosen : (o : Option ℕ) → Asked.branches places ≡ asked_branch ps o → ⊥
+          chosen : (o : Option ℕ) → Asked.branches ids ≡ asked_branch ps o → ⊥
           chosen None s = grind arith
           chosen (Some k) s = grind arith
       by n q plain s = chosen (is_match writer reader n q) (s ∙ asked_of_plain writer reader n q plain refl)
         where
-          chosen : (t : Bool) → Asked.branches places ≡ cond t (asked_inside n q) Asked.whole → ⊥
+          chosen : (t : Bool) → Asked.branches ids ≡ cond t (asked_inside n q) Asked.whole → ⊥
           chosen true s = inside_no n q s
           chosen false s = grind arith
 
-  branch_errs : (n q : Node) (places : List ℕ) (k p : ℕ) (v : Value) → n ≡ Node.union places → slice_get places k ≡ Some p → fits writer (node_at writer p) v ≡ true
+  branch_errs : (n q : Node) (ids : List ℕ) (k p : ℕ) (v : Value) → n ≡ Node.union ids → slice_get ids k ≡ Some p → fits writer (node_at writer p) v ≡ true
       → IsFault (resolve writer reader (node_at writer p) q v) → (fits writer n (Value.union k v) ≡ true) × IsFault (resolve writer reader n q (Value.union k v))
-  branch_errs n q places k p v is here fit f = subst (λ (m : Node). (fits writer m (Value.union k v) ≡ true) × IsFault (resolve writer reader m q (Value.union k v))) (sym is)
+  branch_errs n q ids k p v is here fit f = subst (λ (m : Node). (fits writer m (Value.union k v) ≡ true) × IsFault (resolve writer reader m q (Value.union k v))) (sym is)
       (rw here fit, rw here (fault_inside 0 (resolve writer reader (node_at writer p) q v) f))
 
-  pub branches_builds : (left less w r : ℕ) (places : List ℕ) (k : ℕ) (v whole : Value) → left ≤ suc less → (k < 4294967296 → whole ≡ Value.union k v)
-      → (is_some (best_of (λ p. erring p r) places) ≡ true
-      → (p : ℕ) × (slice_get places k ≡ Some p) × (erring p r ≡ best_of (λ p. erring p r) places) × BuildsError writer reader limit table erring less p r v)
-      → BuildsAsked writer reader limit table erring left w r (Asked.branches places) whole
-  branches_builds left less w r places k v whole more made found ns is known ex kn within few =
-      let step : around limit (best_of (λ p. erring p r) places) ≡ erring w r = step_of known ex w r (Asked.branches places) is kn within in
+  pub branches_builds : (left less w r : ℕ) (ids : List ℕ) (k : ℕ) (v whole : Value) → left ≤ suc less → (k < 4294967296 → whole ≡ Value.union k v)
+      → (is_some (best_of (λ p. erring p r) ids) ≡ true
+      → (p : ℕ) × (slice_get ids k ≡ Some p) × (erring p r ≡ best_of (λ p. erring p r) ids) × BuildsError writer reader limit table erring less p r v)
+      → BuildsAsked writer reader limit table erring left w r (Asked.branches ids) whole
+  branches_builds left less w r ids k v whole more made found ns is known ex kn within few =
+      let step : around limit (best_of (λ p. erring p r) ids) ≡ erring w r = step_of known ex w r (Asked.branches ids) is kn within in
       let entry = the_entry limit (erring w r) within in
-      let inner = around_is limit (best_of (λ p. erring p r) places) entry.0 (step ∙ entry.1) entry.2 in
+      let inner = around_is limit (best_of (λ p. erring p r) ids) entry.0 (step ∙ entry.1) entry.2 in
       let best = found (subst (λ (o : Option Least). is_some o ≡ true) (sym inner.is) refl) in
       let same : erring best.0 r ≡ Some inner.inner = best.2 ∙ inner.is in
       let all : entry.0.nodes ≤ left = subst (λ (o : Option Least). count_of o ≤ left) entry.1 few in
-      let child = all_at (λ p. known (record { w = p; r = r })) places k best.0
-      (sym (list_all-map known (λ p. record { w = p; r = r }) places) ∙ closed_of known ex w r (Asked.branches places) is kn within) best.1 in
+      let child = all_at (λ p. known (record { w = p; r = r })) ids k best.0
+      (sym (list_all-map known (λ p. record { w = p; r = r }) ids) ∙ closed_of known ex w r (Asked.branches ids) is kn within) best.1 in
       let part = best.3 known ex child (subst (λ (o : Option Least). IsWithin limit o) (sym same) (omega (arith, entry.2, inner.nodes)))
       (subst (λ (o : Option Least). count_of o ≤ less) (sym same) (omega (arith, all, more, inner.nodes))) in
-      let node : node_at writer w ≡ Node.union places = union_asked (node_at writer w) (node_at reader r) places is in
-      let small = few_branches writer ex.formed w places node in
-      let whole_is : whole ≡ Value.union k v = made (omega (arith, slice_get_within places k best.0 best.1, small)) in
-      let errs = branch_errs (node_at writer w) (node_at reader r) places k best.0 v node best.1 part.fitting
+      let node : node_at writer w ≡ Node.union ids = union_asked (node_at writer w) (node_at reader r) ids is in
+      let small = few_branches writer ex.formed w ids node in
+      let whole_is : whole ≡ Value.union k v = made (omega (arith, slice_get_within ids k best.0 best.1, small)) in
+      let errs = branch_errs (node_at writer w) (node_at reader r) ids k best.0 v node best.1 part.fitting
       (is_fault (resolve writer reader (node_at writer best.0) (node_at reader r) v) part.faulty.0 part.faulty.1) in
       subst (λ (x : Value). IsErringOf writer reader erring w r x) (sym whole_is) (record {
         fitting = errs.0;
@@ -179,32 +179,32 @@ module _ (writer reader : List Node) (limit : ℕ) (table : LeastTable) (erring 
       })
 
   -- a reader's union
-  into_errs : (n q : Node) (places : List ℕ) (k b : ℕ) (v : Value) → branches_of n ≡ None → q ≡ Node.union places → first_match writer reader n places ≡ Some k → slice_get places k ≡ Some b
+  into_errs : (n q : Node) (ids : List ℕ) (k b : ℕ) (v : Value) → branches_of n ≡ None → q ≡ Node.union ids → first_match writer reader n ids ≡ Some k → slice_get ids k ≡ Some b
       → branches_of (node_at reader b) ≡ None → fits writer n v ≡ true → IsFault (resolve writer reader n (node_at reader b) v) → IsFault (resolve writer reader n q v)
-  into_errs n q places k b v plain is first here their_plain fit f =
+  into_errs n q ids k b v plain is first here their_plain fit f =
       let form = plain_form writer reader n v (value_of_plain writer n v plain fit) in
-      let own : unwrap_or (slice_get places k) 0 ≡ b = ap (λ (o : Option ℕ). unwrap_or o 0) here in
+      let own : unwrap_or (slice_get ids k) 0 ≡ b = ap (λ (o : Option ℕ). unwrap_or o 0) here in
       subst (λ (m : Node). IsFault (resolve writer reader n m v)) (sym is)
-      (subst (λ (x : Resolved). IsFault x) (sym (form.1 (Node.union places)))
-      (subst (λ (o : Option ℕ). IsFault (into_branch writer reader n places o form.0)) (sym first)
-      (fault_map (Value.union k) (matched writer reader n (branch_node reader places k) form.0)
+      (subst (λ (x : Resolved). IsFault x) (sym (form.1 (Node.union ids)))
+      (subst (λ (o : Option ℕ). IsFault (into_branch writer reader n ids o form.0)) (sym first)
+      (fault_map (Value.union k) (matched writer reader n (branch_node reader ids k) form.0)
       (subst (λ (p : ℕ). IsFault (matched writer reader n (node_at reader p) form.0)) (sym own)
       (subst (λ (x : Resolved). IsFault x) (form.1 (node_at reader b) ∙ through_is_matched writer reader n (node_at reader b) form.0 their_plain) f)))))
 
   pub record IsIntoUnion (n q : Node) (p : ℕ) : Type 0 where
     pub plain : branches_of n ≡ None
-    pub places : List ℕ
-    pub is : q ≡ Node.union places
+    pub ids : List ℕ
+    pub is : q ≡ Node.union ids
     pub branch : ℕ
-    pub first : first_match writer reader n places ≡ Some branch
-    pub here : slice_get places branch ≡ Some p
+    pub first : first_match writer reader n ids ≡ Some branch
+    pub here : slice_get ids branch ≡ Some p
 
-  same_place : (a b : ℕ) → Asked.same a ≡ Asked.same b → a ≡ b
-  same_place a b e = ap place_of e
+  same_id : (a b : ℕ) → Asked.same a ≡ Asked.same b → a ≡ b
+  same_id a b e = ap id_of e
     where
-      place_of : Asked → ℕ
-      place_of (Asked.same q) = q
-      place_of _ = 0
+      id_of : Asked → ℕ
+      id_of (Asked.same q) = q
+      id_of _ = 0
 
   same_asked : (n q : Node) (p : ℕ) → Asked.same p ≡ asked writer reader n q → IsIntoUnion n q p
   same_asked (Node.union ps) q p e = absurd (grind arith)
@@ -217,10 +217,10 @@ module _ (writer reader : List Node) (limit : ℕ) (table : LeastTable) (erring 
           chosen None m s = absurd (grind arith)
           chosen (Some k) m s =
               let found = first_match_within writer reader n ps k m in
-              let own : p ≡ unwrap_or (slice_get ps k) 0 = same_place p (unwrap_or (slice_get ps k) 0) s in
+              let own : p ≡ unwrap_or (slice_get ps k) 0 = same_id p (unwrap_or (slice_get ps k) 0) s in
               record {
                 plain = plain;
-                places = ps;
+                ids = ps;
                 is = refl;
                 branch = k;
                 first = m;
@@ -233,13 +233,13 @@ module _ (writer reader : List Node) (limit : ℕ) (table : LeastTable) (erring 
   same_builds left w r q v is h known ex kn within few =
       let step : erring w q ≡ erring w r = step_of known ex w r (Asked.same q) is kn within in
       let into = same_asked (node_at writer w) (node_at reader r) q is in
-      let plain : branches_of (node_at reader q) ≡ None = plain_branch reader r into.places into.branch q ex.theirs into.is into.here in
+      let plain : branches_of (node_at reader q) ≡ None = plain_branch reader r into.ids into.branch q ex.theirs into.is into.here in
       let child = and_left (known (record { w = w; r = q })) true (closed_of known ex w r (Asked.same q) is kn within) in
       let part = h plain known ex child (subst (λ (o : Option Least). IsWithin limit o) (sym step) within) (subst (λ (o : Option Least). count_of o ≤ left) (sym step) few) in
       record {
         fitting = part.fitting;
         faulty = the_fault (resolve writer reader (node_at writer w) (node_at reader r) v)
-            (into_errs (node_at writer w) (node_at reader r) into.places into.branch q v into.plain into.is into.first into.here plain part.fitting
+            (into_errs (node_at writer w) (node_at reader r) into.ids into.branch q v into.plain into.is into.first into.here plain part.fitting
             (is_fault (resolve writer reader (node_at writer w) (node_at reader q) v) part.faulty.0 part.faulty.1));
         numbers = sym step ∙ part.numbers;
       }
@@ -269,26 +269,26 @@ module _ (writer reader : List Node) (limit : ℕ) (table : LeastTable) (erring 
       ]
 
   -- the fields, of which the chosen one errs
-  record RowsErr (fields theirs : List FieldNode) (place k : ℕ) (ps : List ℕ) (vs : List Value) (e : Least) : Type 0 where
+  record RowsErr (fields theirs : List FieldNode) (index k : ℕ) (ps : List ℕ) (vs : List Value) (e : Least) : Type 0 where
     fitting : fields_fit writer ps (values_from vs) ≡ true
     nodes_is : values_size (values_from vs) ≡ e.nodes
     depth_is : values_depth (values_from vs) ≡ e.depth
-    faulty : place ≤ k → k < place + length ps → IsFault (resolve_sources writer reader fields theirs place (values_from vs))
+    faulty : index ≤ k → k < index + length ps → IsFault (resolve_sources writer reader fields theirs index (values_from vs))
 
   -- one field
-  record RowIs (fields theirs : List FieldNode) (place : ℕ) (chosen : Bool) (p : ℕ) (v : Value) (e : Least) : Type 0 where
+  record RowIs (fields theirs : List FieldNode) (index : ℕ) (chosen : Bool) (p : ℕ) (v : Value) (e : Least) : Type 0 where
     fitting : fits writer (node_at writer p) v ≡ true
     numbers : record { nodes = size v; depth = depth v } ≡ e
-    faulty : chosen ≡ true → (f : FieldNode) × (reader_field fields theirs place ≡ Some f) × IsFault (resolve writer reader (node_at writer p) (node_at reader f.node) v)
+    faulty : chosen ≡ true → (f : FieldNode) × (reader_field fields theirs index ≡ Some f) × IsFault (resolve writer reader (node_at writer p) (node_at reader f.node) v)
 
   module _ (known : Pair → Bool) (ex : AreExact writer reader limit table erring known) (less : ℕ) where
-    row_is : (fields theirs : List FieldNode) (place : ℕ) (chosen : Bool) (p : ℕ) (v : Value) (e : Least) → (o : Option FieldNode) → reader_field fields theirs place ≡ o
+    row_is : (fields theirs : List FieldNode) (index : ℕ) (chosen : Bool) (p : ℕ) (v : Value) (e : Least) → (o : Option FieldNode) → reader_field fields theirs index ≡ o
         → BuildsRow writer reader limit table erring less chosen (record { node = p; theirs = option_map (λ f. f.node) o }) v
         → list_all known (row_child (record { node = p; theirs = option_map (λ f. f.node) o })) ≡ true
         → part_of_row table erring chosen (record { node = p; theirs = option_map (λ f. f.node) o }) ≡ Some e → e.nodes ≤ limit → e.nodes ≤ less
-        → RowIs fields theirs place chosen p v e
-    row_is fields theirs place true p v e None found b kn is few small = absurd (grind arith)
-    row_is fields theirs place true p v e (Some f) found b kn is few small =
+        → RowIs fields theirs index chosen p v e
+    row_is fields theirs index true p v e None found b kn is few small = absurd (grind arith)
+    row_is fields theirs index true p v e (Some f) found b kn is few small =
         let own = b.errs refl f.node refl known ex (and_left (known (record { w = p; r = f.node })) true kn)
         (subst (λ (o : Option Least). IsWithin limit o) (sym is) few) (subst (λ (o : Option Least). count_of o ≤ less) (sym is) small) in
         record {
@@ -296,7 +296,7 @@ module _ (writer reader : List Node) (limit : ℕ) (table : LeastTable) (erring 
           numbers = some_least (record { nodes = size v; depth = depth v }) e (sym own.numbers ∙ is);
           faulty = λ t. (f, found, is_fault (resolve writer reader (node_at writer p) (node_at reader f.node) v) own.faulty.0 own.faulty.1);
         }
-    row_is fields theirs place false p v e o found b kn is few small =
+    row_is fields theirs index false p v e o found b kn is few small =
         let own = b.fits_in refl limit ex.formed ex.low ex.shown (subst (λ (o : Option Least). IsWithin limit o) (sym is) few) (subst (λ (o : Option Least). count_of o ≤ less) (sym is) small) in
         record {
           fitting = own.fitting;
@@ -304,25 +304,25 @@ module _ (writer reader : List Node) (limit : ℕ) (table : LeastTable) (erring 
           faulty = λ t. absurd (false≢true t);
         }
 
-    rows_err : (fields theirs : List FieldNode) (place k : ℕ) (ps : List ℕ) (vs : List Value) → drop place (field_ids fields) ≡ ps
-        → BuildsRows writer reader limit table erring less k place (rows_from fields theirs place ps) vs
-        → list_all known (flat_map row_child (rows_from fields theirs place ps)) ≡ true
-        → (e : Least) → total_from limit table erring k place (rows_from fields theirs place ps) ≡ Some e → e.nodes ≤ limit → e.nodes ≤ less
-        → RowsErr fields theirs place k ps vs e
-    rows_err fields theirs place k [] [] at b kn e is few small =
+    rows_err : (fields theirs : List FieldNode) (index k : ℕ) (ps : List ℕ) (vs : List Value) → drop index (field_ids fields) ≡ ps
+        → BuildsRows writer reader limit table erring less k index (rows_from fields theirs index ps) vs
+        → list_all known (flat_map row_child (rows_from fields theirs index ps)) ≡ true
+        → (e : Least) → total_from limit table erring k index (rows_from fields theirs index ps) ≡ Some e → e.nodes ≤ limit → e.nodes ≤ less
+        → RowsErr fields theirs index k ps vs e
+    rows_err fields theirs index k [] [] at b kn e is few small =
         let same : no_parts ≡ e = some_least no_parts e is in
         record { fitting = refl; nodes_is = ap (λ (l : Least). l.nodes) same; depth_is = ap (λ (l : Least). l.depth) same; faulty = λ from to. absurd (omega (arith, from, to)) }
-    rows_err fields theirs place k [] (v ∷ vs) at b kn e is few small = absurd b
-    rows_err fields theirs place k (p ∷ ps) [] at b kn e is few small = absurd b
-    rows_err fields theirs place k (p ∷ ps) (v ∷ vs) at b kn e is few small =
-        let both = together_is limit (part_of_row table erring (place == k) (record { node = p; theirs = option_map (λ f. f.node) (reader_field fields theirs place) }))
-        (total_from limit table erring k (suc place) (rows_from fields theirs (suc place) ps)) e is few in
-        let parts = sym (list_all-append known (row_child (record { node = p; theirs = option_map (λ g. g.node) (reader_field fields theirs place) })) (flat_map row_child (rows_from fields theirs (suc place) ps))) ∙ kn in
-        let own = row_is fields theirs place (place == k) p v both.first (reader_field fields theirs place) refl b.0
-        (and_left (list_all known (row_child (record { node = p; theirs = option_map (λ g. g.node) (reader_field fields theirs place) }))) (list_all known (flat_map row_child (rows_from fields theirs (suc place) ps))) parts)
+    rows_err fields theirs index k [] (v ∷ vs) at b kn e is few small = absurd b
+    rows_err fields theirs index k (p ∷ ps) [] at b kn e is few small = absurd b
+    rows_err fields theirs index k (p ∷ ps) (v ∷ vs) at b kn e is few small =
+        let both = together_is limit (part_of_row table erring (index == k) (record { node = p; theirs = option_map (λ f. f.node) (reader_field fields theirs index) }))
+        (total_from limit table erring k (suc index) (rows_from fields theirs (suc index) ps)) e is few in
+        let parts = sym (list_all-append known (row_child (record { node = p; theirs = option_map (λ g. g.node) (reader_field fields theirs index) })) (flat_map row_child (rows_from fields theirs (suc index) ps))) ∙ kn in
+        let own = row_is fields theirs index (index == k) p v both.first (reader_field fields theirs index) refl b.0
+        (and_left (list_all known (row_child (record { node = p; theirs = option_map (λ g. g.node) (reader_field fields theirs index) }))) (list_all known (flat_map row_child (rows_from fields theirs (suc index) ps))) parts)
         both.first_is (omega (arith, few, both.nodes)) (omega (arith, small, both.nodes)) in
-        let rest = rows_err fields theirs (suc place) k ps vs (drop_more (field_ids fields) ps place p at) b.1
-        (and_right (list_all known (row_child (record { node = p; theirs = option_map (λ g. g.node) (reader_field fields theirs place) }))) (list_all known (flat_map row_child (rows_from fields theirs (suc place) ps))) parts)
+        let rest = rows_err fields theirs (suc index) k ps vs (drop_more (field_ids fields) ps index p at) b.1
+        (and_right (list_all known (row_child (record { node = p; theirs = option_map (λ g. g.node) (reader_field fields theirs index) }))) (list_all known (flat_map row_child (rows_from fields theirs (suc index) ps))) parts)
         both.second both.second_is (omega (arith, few, both.nodes)) (omega (arith, small, both.nodes)) in
         let count : size v ≡ both.first.nodes = ap (λ (l : Least). l.nodes) own.numbers in
         let level : depth v ≡ both.first.depth = ap (λ (l : Least). l.depth) own.numbers in
@@ -330,19 +330,19 @@ module _ (writer reader : List Node) (limit : ℕ) (table : LeastTable) (erring 
           fitting = and_from (fits writer (node_at writer p) v) (fields_fit writer ps (values_from vs)) own.fitting rest.fitting;
           nodes_is = omega (arith, count, rest.nodes_is, both.nodes);
           depth_is = ap (λ (n : ℕ). max n (values_depth (values_from vs))) level ∙ ap (max both.first.depth) rest.depth_is ∙ sym both.depth;
-          faulty = λ from to. chosen (place == k) refl own.faulty rest.faulty from to;
+          faulty = λ from to. chosen (index == k) refl own.faulty rest.faulty from to;
         }
       where
-        chosen : (t : Bool) → (place == k) ≡ t
-            → (t ≡ true → (f : FieldNode) × (reader_field fields theirs place ≡ Some f) × IsFault (resolve writer reader (node_at writer p) (node_at reader f.node) v))
-            → (suc place ≤ k → k < suc place + length ps → IsFault (resolve_sources writer reader fields theirs (suc place) (values_from vs)))
-            → place ≤ k → k < place + length (p ∷ ps) → IsFault (resolve_sources writer reader fields theirs place (value v (values_from vs)))
+        chosen : (t : Bool) → (index == k) ≡ t
+            → (t ≡ true → (f : FieldNode) × (reader_field fields theirs index ≡ Some f) × IsFault (resolve writer reader (node_at writer p) (node_at reader f.node) v))
+            → (suc index ≤ k → k < suc index + length ps → IsFault (resolve_sources writer reader fields theirs (suc index) (values_from vs)))
+            → index ≤ k → k < index + length (p ∷ ps) → IsFault (resolve_sources writer reader fields theirs index (value v (values_from vs)))
         chosen true m here later from to =
             let found = here refl in
-            field_faults writer reader fields theirs place p found.0 v (values_from vs) found.1 (slice_get_of_drop (field_ids fields) ps place p at) found.2
+            field_faults writer reader fields theirs index p found.0 v (values_from vs) found.1 (slice_get_of_drop (field_ids fields) ps index p at) found.2
         chosen false m here later from to =
-            let apart : place ≡ k → ⊥ = λ e. true≢false (sym (eq-eqb place k e) ∙ m) in
-            fault_later (reader_field fields theirs place) place _ (resolve_sources writer reader fields theirs (suc place) (values_from vs))
+            let apart : index ≡ k → ⊥ = λ e. true≢false (sym (eq-eqb index k e) ∙ m) in
+            fault_later (reader_field fields theirs index) index _ (resolve_sources writer reader fields theirs (suc index) (values_from vs))
             (later (omega (arith, from, apart)) (omega (arith, to)))
 
   -- two records
@@ -376,26 +376,26 @@ module _ (writer reader : List Node) (limit : ℕ) (table : LeastTable) (erring 
       chosen false s = grind arith
   records_inside _ _ rows e = absurd (grind arith)
 
-  records_union : (n : Node) (places : List ℕ) (rows : List Row) → branches_of n ≡ None → Asked.fields rows ≡ asked writer reader n (Node.union places) → ⊥
-  records_union n places rows plain e = chosen (first_match writer reader n places) (e ∙ asked_of_union writer reader n places plain)
+  records_union : (n : Node) (ids : List ℕ) (rows : List Row) → branches_of n ≡ None → Asked.fields rows ≡ asked writer reader n (Node.union ids) → ⊥
+  records_union n ids rows plain e = chosen (first_match writer reader n ids) (e ∙ asked_of_union writer reader n ids plain)
     where
-      chosen : (o : Option ℕ) → Asked.fields rows ≡ asked_branch places o → ⊥
+      chosen : (o : Option ℕ) → Asked.fields rows ≡ asked_branch ids o → ⊥
       chosen None s = grind arith
       chosen (Some k) s = grind arith
 
   records_asked : (n q : Node) (rows : List Row) → Asked.fields rows ≡ asked writer reader n q → (is_match writer reader n q ≡ true) × IsRecords n q rows
-  records_asked (Node.union places) q rows e = absurd (grind arith)
+  records_asked (Node.union ids) q rows e = absurd (grind arith)
   records_asked n q rows e = by n q refl e
     where
       by : (n q : Node) → branches_of n ≡ None → Asked.fields rows ≡ asked writer reader n q → (is_match writer reader n q ≡ true) × IsRecords n q rows
-      by n (Node.union places) plain s = absurd (records_union n places rows plain s)
+      by n (Node.union ids) plain s = absurd (records_union n ids rows plain s)
       by n q plain s =
           let own = asks_inside writer reader n q plain refl (Asked.fields rows) s (λ t. grind arith) in
           (own.0, records_inside n q rows own.1)
 
-  rows_count : (fields theirs : List FieldNode) (place : ℕ) (ps : List ℕ) → length (rows_from fields theirs place ps) ≡ length ps
-  rows_count fields theirs place [] = refl
-  rows_count fields theirs place (p ∷ ps) = ap suc (rows_count fields theirs (suc place) ps)
+  rows_count : (fields theirs : List FieldNode) (index : ℕ) (ps : List ℕ) → length (rows_from fields theirs index ps) ≡ length ps
+  rows_count fields theirs index [] = refl
+  rows_count fields theirs index (p ∷ ps) = ap suc (rows_count fields theirs (suc index) ps)
 
   -- the finished record
   record_errs : (n q : Node) (rows : List Row) (k : ℕ) (vs : List Value) (e : Least) (is : IsRecords n q rows) → k < length rows → RowsErr is.fields is.theirs 0 k (field_ids is.fields) vs e
@@ -411,7 +411,7 @@ module _ (writer reader : List Node) (limit : ℕ) (table : LeastTable) (erring 
     where
       not_missing : (o : Option ℕ) (x : Result Sourced ResolutionFault) → IsFault x → IsFault (record_or_missing is.fields is.theirs o x)
       not_missing None x f = fault_map _ x f
-      not_missing (Some place) x f = tt
+      not_missing (Some index) x f = tt
 
       count : k < 0 + length (field_ids is.fields)
       count = omega (arith, within, ap length is.rows_is ∙ rows_count is.fields is.theirs 0 (field_ids is.fields))
@@ -426,8 +426,8 @@ module _ (writer reader : List Node) (limit : ℕ) (table : LeastTable) (erring 
       let inner = around_is limit (err_of_rows limit table erring rows) entry.0 (step ∙ entry.1) entry.2 in
       let all : entry.0.nodes ≤ left = subst (λ (o : Option Least). count_of o ≤ left) entry.1 few in
       let exists = some_total 0 rows inner.inner inner.is (omega (arith, entry.2, inner.nodes)) in
-      let place : 0 + exists.0 ≡ exists.0 = omega arith in
-      let chosen = choice exists.0 exists.1 (subst (λ (j : ℕ). total_from limit table erring j 0 rows ≡ err_of_rows limit table erring rows) place (exists.2 ∙ sym inner.is)) in
+      let index : 0 + exists.0 ≡ exists.0 = omega arith in
+      let chosen = choice exists.0 exists.1 (subst (λ (j : ℕ). total_from limit table erring j 0 rows ≡ err_of_rows limit table erring rows) index (exists.2 ∙ sym inner.is)) in
       let found = records_asked (node_at writer w) (node_at reader r) rows is in
       let own = found.1 in
       let errs : RowsErr own.fields own.theirs 0 k (field_ids own.fields) vs inner.inner =

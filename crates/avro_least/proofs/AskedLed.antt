@@ -26,9 +26,9 @@ module _ (writer reader : List Node) where
   asked_of_aim own (To (Some k) q) = Asked.same q.0
   asked_of_aim own (To None q) = own
 
-  by_branch : (places : List ℕ) (o : Option ℕ) (own : Asked) → asked_of_aim own (branch_aim places o) ≡ asked_branch places o
-  by_branch places None own = refl
-  by_branch places (Some k) own = refl
+  by_branch : (ids : List ℕ) (o : Option ℕ) (own : Asked) → asked_of_aim own (branch_aim ids o) ≡ asked_branch ids o
+  by_branch ids None own = refl
+  by_branch ids (Some k) own = refl
 
   by_match : (t : Bool) (r : NodeId) (own : Asked) → asked_of_aim own (cond t (To None r) (Fault NoMatch)) ≡ cond t own Asked.whole
   by_match true r own = refl
@@ -36,7 +36,7 @@ module _ (writer reader : List Node) where
 
   by_aim : (n q : Node) (r : NodeId) → branches_of n ≡ None → asked_of_aim (asked_inside n q) (aim_of writer reader n r q) ≡ asked writer reader n q
   by_aim (Node.union ps) q r plain = absurd (grind arith)
-  by_aim n (Node.union places) r plain = by_branch places (first_match writer reader n places) (asked_inside n (Node.union places))
+  by_aim n (Node.union ids) r plain = by_branch ids (first_match writer reader n ids) (asked_inside n (Node.union ids))
   by_aim n q r plain = by_match (is_match writer reader n q) r (asked_inside n q)
 
   pub asked_fault : (n q : Node) (r : NodeId) (aim : Aim) (kind : FaultKind) → branches_of n ≡ None → aim ≡ aim_of writer reader n r q → aim ≡ Fault kind → Asked.whole ≡ asked writer reader n q
@@ -49,8 +49,8 @@ module _ (writer reader : List Node) where
   asked_own n q r b aim plain e is = ap (asked_of_aim (asked_inside n q)) (sym is ∙ e) ∙ by_aim n q r plain
 
 -- a node that is no union
-pub plain_node : (n : KeptNode) → ((places : Vec NodeId Global) → n ≡ KeptNode.Union places → ⊥) → branches_of (node_of n) ≡ None
-plain_node (KeptNode.Union places) h = absurd (h places refl)
+pub plain_node : (n : KeptNode) → ((ids : Vec NodeId Global) → n ≡ KeptNode.Union ids → ⊥) → branches_of (node_of n) ≡ None
+plain_node (KeptNode.Union ids) h = absurd (h ids refl)
 plain_node _ h = refl
 
 -- ---- Fields

@@ -14,18 +14,18 @@ use Rattle.avro_least.proofs.LeastErrors.{err_of_plain, err_of_none, err_of_some
 
 module _ (limit : ℕ) (table : LeastTable) (erring : ErringTable) where
   -- the nodes of the rows are those of the fields
-  row_nodes : (ws rs : List FieldNode) (place : ℕ) (ps : List ℕ) → map (λ r. r.node) (rows_from ws rs place ps) ≡ ps
-  row_nodes ws rs place [] = refl
-  row_nodes ws rs place (p ∷ ps) = ap (λ qs. p ∷ qs) (row_nodes ws rs (suc place) ps)
+  row_nodes : (ws rs : List FieldNode) (index : ℕ) (ps : List ℕ) → map (λ r. r.node) (rows_from ws rs index ps) ≡ ps
+  row_nodes ws rs index [] = refl
+  row_nodes ws rs index (p ∷ ps) = ap (λ qs. p ∷ qs) (row_nodes ws rs (suc index) ps)
 
   row_value : (p : ℕ) (o : Option FieldNode) → err_of_row erring (record { node = p; theirs = option_map (λ f. f.node) o }) ≡ err_of_field erring p o
   row_value p None = refl
   row_value p (Some f) = refl
 
-  rows_value : (ws rs : List FieldNode) (place : ℕ) (ps : List ℕ) → err_of_rows limit table erring (rows_from ws rs place ps) ≡ err_of_fields limit table erring ws rs place ps
-  rows_value ws rs place [] = refl
-  rows_value ws rs place (p ∷ ps) =
-      rw (rows_value ws rs (suc place) ps, row_nodes ws rs (suc place) ps, row_value p (reader_field ws rs place)) refl
+  rows_value : (ws rs : List FieldNode) (index : ℕ) (ps : List ℕ) → err_of_rows limit table erring (rows_from ws rs index ps) ≡ err_of_fields limit table erring ws rs index ps
+  rows_value ws rs index [] = refl
+  rows_value ws rs index (p ∷ ps) =
+      rw (rows_value ws rs (suc index) ps, row_nodes ws rs (suc index) ps, row_value p (reader_field ws rs index)) refl
 
   inside_value : (w r : ℕ) (n q : Node) → asked_value limit table erring w r (asked_inside n q) ≡ err_inside limit table erring w n q
   inside_value w r Node.bytes Node.string = refl
@@ -49,10 +49,10 @@ module _ (limit : ℕ) (table : LeastTable) (erring : ErringTable) where
   plain_value w r n q true = inside_value w r n q
   plain_value w r n q false = refl
 
-  branch_value : (writer reader : List Node) (w r : ℕ) (n : Node) (places : List ℕ) → branches_of n ≡ None → (o : Option ℕ) → first_match writer reader n places ≡ o
-      → asked_value limit table erring w r (asked_branch places o) ≡ err_of writer reader limit table erring w r n (Node.union places)
-  branch_value writer reader w r n places plain None e = sym (err_of_none writer reader limit table erring w r n places plain e)
-  branch_value writer reader w r n places plain (Some k) e = sym (err_of_some writer reader limit table erring w r n places k plain e)
+  branch_value : (writer reader : List Node) (w r : ℕ) (n : Node) (ids : List ℕ) → branches_of n ≡ None → (o : Option ℕ) → first_match writer reader n ids ≡ o
+      → asked_value limit table erring w r (asked_branch ids o) ≡ err_of writer reader limit table erring w r n (Node.union ids)
+  branch_value writer reader w r n ids plain None e = sym (err_of_none writer reader limit table erring w r n ids plain e)
+  branch_value writer reader w r n ids plain (Some k) e = sym (err_of_some writer reader limit table erring w r n ids k plain e)
 
   asked_plain : (writer reader : List Node) (n q : Node) → branches_of n ≡ None → branches_of q ≡ None
       → asked writer reader n q ≡ cond (is_match writer reader n q) (asked_inside n q) Asked.whole
@@ -61,20 +61,20 @@ module _ (limit : ℕ) (table : LeastTable) (erring : ErringTable) where
   asked_plain writer reader Node.null Node.null h k = refl
   asked_plain writer reader _ _ h k = refl
 
-  asked_union : (writer reader : List Node) (n : Node) (places : List ℕ) → branches_of n ≡ None
-      → asked writer reader n (Node.union places) ≡ asked_branch places (first_match writer reader n places)
-  asked_union writer reader (Node.union ps) places h = absurd (grind arith)
-  asked_union writer reader _ places h = refl
+  asked_union : (writer reader : List Node) (n : Node) (ids : List ℕ) → branches_of n ≡ None
+      → asked writer reader n (Node.union ids) ≡ asked_branch ids (first_match writer reader n ids)
+  asked_union writer reader (Node.union ps) ids h = absurd (grind arith)
+  asked_union writer reader _ ids h = refl
 
   pub value_is : (writer reader : List Node) (w r : ℕ) (n q : Node)
       → asked_value limit table erring w r (asked writer reader n q) ≡ err_of writer reader limit table erring w r n q
-  value_is writer reader w r (Node.union places) q = refl
+  value_is writer reader w r (Node.union ids) q = refl
   value_is writer reader w r n q = by_reader n q refl
     where
       by_reader : (n q : Node) → branches_of n ≡ None → asked_value limit table erring w r (asked writer reader n q) ≡ err_of writer reader limit table erring w r n q
-      by_reader n (Node.union places) plain =
-          ap (asked_value limit table erring w r) (asked_union writer reader n places plain)
-          ∙ branch_value writer reader w r n places plain (first_match writer reader n places) refl
+      by_reader n (Node.union ids) plain =
+          ap (asked_value limit table erring w r) (asked_union writer reader n ids plain)
+          ∙ branch_value writer reader w r n ids plain (first_match writer reader n ids) refl
       by_reader n q plain =
           ap (asked_value limit table erring w r) (asked_plain writer reader n q plain refl)
           ∙ plain_value w r n q (is_match writer reader n q)
@@ -88,11 +88,11 @@ module _ (limit : ℕ) (table : LeastTable) (erring other : ErringTable) (test :
   best_same r (p ∷ ps) h = rw (agree (record { w = p; r = r }) (and_left _ (list_all test (map (λ p. record { w = p; r = r }) ps)) h), best_same r ps (and_right (test (record { w = p; r = r })) _ h)) refl
 
   row_same : (row : Row) → list_all test (row_child row) ≡ true → err_of_row erring row ≡ err_of_row other row
-  row_same row h = by_place row.theirs refl
+  row_same row h = by_reader row.theirs refl
     where
-      by_place : (o : Option ℕ) → row.theirs ≡ o → err_of_row erring row ≡ err_of_row other row
-      by_place None e = rw e refl
-      by_place (Some q) e = rw e (agree (record { w = row.node; r = q }) (and_left (test (record { w = row.node; r = q })) true (taken e)))
+      by_reader : (o : Option ℕ) → row.theirs ≡ o → err_of_row erring row ≡ err_of_row other row
+      by_reader None e = rw e refl
+      by_reader (Some q) e = rw e (agree (record { w = row.node; r = q }) (and_left (test (record { w = row.node; r = q })) true (taken e)))
         where
           taken : row.theirs ≡ Some q → list_all test (record { w = row.node; r = q } ∷ []) ≡ true
           taken e = sym (ap (list_all test) (child e)) ∙ h

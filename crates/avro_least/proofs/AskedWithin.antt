@@ -15,14 +15,14 @@ use Rattle.avro_certificate.proofs.public.Shapes.{first_match_within}
 good-all : (nodes : List Node) → is_schema nodes ≡ true → are_good_nodes nodes 0 nodes ≡ true
 good-all nodes h = grind arith
 
-edges-from : (nodes : List Node) (from place : ℕ) (ns : List Node) (k : ℕ) → are_good_nodes nodes from ns ≡ true → place ≡ from + k
-    → list_all (is_edge nodes place) (edges_of (unwrap_or (slice_get ns k) Node.null)) ≡ true
-edges-from nodes from place [] k h e = refl
-edges-from nodes from place (n ∷ ns) zero h e =
-    let same : from ≡ place = omega arith in
+edges-from : (nodes : List Node) (from id : ℕ) (ns : List Node) (k : ℕ) → are_good_nodes nodes from ns ≡ true → id ≡ from + k
+    → list_all (is_edge nodes id) (edges_of (unwrap_or (slice_get ns k) Node.null)) ≡ true
+edges-from nodes from id [] k h e = refl
+edges-from nodes from id (n ∷ ns) zero h e =
+    let same : from ≡ id = omega arith in
     subst (λ (i : ℕ). list_all (is_edge nodes i) (edges_of n) ≡ true) same (grind arith)
-edges-from nodes from place (n ∷ ns) (suc k) h e =
-    edges-from nodes (suc from) place ns k (and_parts (is_good_node nodes from n) (are_good_nodes nodes (suc from) ns) h).1 (omega arith)
+edges-from nodes from id (n ∷ ns) (suc k) h e =
+    edges-from nodes (suc from) id ns k (and_parts (is_good_node nodes from n) (are_good_nodes nodes (suc from) ns) h).1 (omega arith)
 
 -- numbers that are nodes
 abbrev pub are_within : List Node → List ℕ → Bool
@@ -35,8 +35,8 @@ edges_within nodes from (p ∷ ps) h =
     (edges_within nodes from ps (and_right (is_edge nodes from p) (list_all (is_edge nodes from) ps) h))
 
 -- the edges of a schema's node
-pub node_within : (nodes : List Node) (place : ℕ) → is_schema nodes ≡ true → are_within nodes (edges_of (node_at nodes place)) ≡ true
-node_within nodes place h = edges_within nodes place (edges_of (node_at nodes place)) (edges-from nodes 0 place nodes place (good-all nodes h) (omega arith))
+pub node_within : (nodes : List Node) (id : ℕ) → is_schema nodes ≡ true → are_within nodes (edges_of (node_at nodes id)) ≡ true
+node_within nodes id h = edges_within nodes id (edges_of (node_at nodes id)) (edges-from nodes 0 id nodes id (good-all nodes h) (omega arith))
 
 within_at : (nodes : List Node) (ps : List ℕ) (k p : ℕ) → are_within nodes ps ≡ true → slice_get ps k ≡ Some p → nat_lt p (length nodes) ≡ true
 within_at nodes [] k p h e = absurd (grind arith)
@@ -54,13 +54,13 @@ module _ (writer reader : List Node) where
   one_within w r h k = and_from (is_within (record { w = w; r = r })) true (and_from (nat_lt w (length writer)) (nat_lt r (length reader)) h k) refl
 
   -- the node of some reader's field
-  field_within : (ws rs : List FieldNode) (place : ℕ) (f : FieldNode) → are_within reader (field_ids rs) ≡ true → reader_field ws rs place ≡ Some f
+  field_within : (ws rs : List FieldNode) (index : ℕ) (f : FieldNode) → are_within reader (field_ids rs) ≡ true → reader_field ws rs index ≡ Some f
       → nat_lt f.node (length reader) ≡ true
-  field_within ws [] place f h e = absurd (grind arith)
-  field_within ws (g ∷ gs) place f h e =
-      chosen (is_place (source_of ws g) place) e (field_within ws gs place f (and_right (nat_lt g.node (length reader)) (are_within reader (field_ids gs)) h))
+  field_within ws [] index f h e = absurd (grind arith)
+  field_within ws (g ∷ gs) index f h e =
+      chosen (is_place (source_of ws g) index) e (field_within ws gs index f (and_right (nat_lt g.node (length reader)) (are_within reader (field_ids gs)) h))
     where
-      chosen : (t : Bool) → cond t (Some g) (reader_field ws gs place) ≡ Some f → (reader_field ws gs place ≡ Some f → nat_lt f.node (length reader) ≡ true)
+      chosen : (t : Bool) → cond t (Some g) (reader_field ws gs index) ≡ Some f → (reader_field ws gs index ≡ Some f → nat_lt f.node (length reader) ≡ true)
           → nat_lt f.node (length reader) ≡ true
       chosen true e later = subst (λ (x : FieldNode). nat_lt x.node (length reader) ≡ true) (some_same g f e) (and_left _ (are_within reader (field_ids gs)) h)
         where
@@ -68,18 +68,18 @@ module _ (writer reader : List Node) where
           some_same a b e = cc
       chosen false e later = later e
 
-  rows_within : (ws rs : List FieldNode) (place : ℕ) (ps : List ℕ) → are_within reader (field_ids rs) ≡ true → are_within writer ps ≡ true
-      → list_all is_within (flat_map row_child (rows_from ws rs place ps)) ≡ true
-  rows_within ws rs place [] h k = refl
-  rows_within ws rs place (p ∷ ps) h k =
-      by_field (reader_field ws rs place) refl (rows_within ws rs (suc place) ps h (and_right (nat_lt p (length writer)) (are_within writer ps) k))
+  rows_within : (ws rs : List FieldNode) (index : ℕ) (ps : List ℕ) → are_within reader (field_ids rs) ≡ true → are_within writer ps ≡ true
+      → list_all is_within (flat_map row_child (rows_from ws rs index ps)) ≡ true
+  rows_within ws rs index [] h k = refl
+  rows_within ws rs index (p ∷ ps) h k =
+      by_field (reader_field ws rs index) refl (rows_within ws rs (suc index) ps h (and_right (nat_lt p (length writer)) (are_within writer ps) k))
     where
-      by_field : (o : Option FieldNode) → reader_field ws rs place ≡ o
-          → list_all is_within (flat_map row_child (rows_from ws rs (suc place) ps)) ≡ true
-          → list_all is_within (flat_map row_child (rows_from ws rs place (p ∷ ps))) ≡ true
+      by_field : (o : Option FieldNode) → reader_field ws rs index ≡ o
+          → list_all is_within (flat_map row_child (rows_from ws rs (suc index) ps)) ≡ true
+          → list_all is_within (flat_map row_child (rows_from ws rs index (p ∷ ps))) ≡ true
       by_field None e rest = rw e rest
-      by_field (Some f) e rest = rw e (and_from (is_within (record { w = p; r = f.node })) (list_all is_within (flat_map row_child (rows_from ws rs (suc place) ps)))
-          (and_from (nat_lt p (length writer)) (nat_lt f.node (length reader)) (and_left (nat_lt p (length writer)) (are_within writer ps) k) (field_within ws rs place f h e)) rest)
+      by_field (Some f) e rest = rw e (and_from (is_within (record { w = p; r = f.node })) (list_all is_within (flat_map row_child (rows_from ws rs (suc index) ps)))
+          (and_from (nat_lt p (length writer)) (nat_lt f.node (length reader)) (and_left (nat_lt p (length writer)) (are_within writer ps) k) (field_within ws rs index f h e)) rest)
 
   inside_within : (w r : ℕ) (n q : Node) → are_within writer (edges_of n) ≡ true → are_within reader (edges_of q) ≡ true
       → list_all is_within (asked_children w r (asked_inside n q)) ≡ true
@@ -103,13 +103,13 @@ module _ (writer reader : List Node) where
   plain_within w r n q true h k = inside_within w r n q h k
   plain_within w r n q false h k = refl
 
-  branch_within : (w r : ℕ) (n : Node) (places : List ℕ) → nat_lt w (length writer) ≡ true → are_within reader places ≡ true
-      → (o : Option ℕ) → first_match writer reader n places ≡ o → list_all is_within (asked_children w r (asked_branch places o)) ≡ true
-  branch_within w r n places h k None e = refl
-  branch_within w r n places h k (Some i) e =
-      let found = first_match_within writer reader n places i e in
-      one_within w (unwrap_or (slice_get places i) 0) h
-      (subst (λ (o : Option ℕ). nat_lt (unwrap_or o 0) (length reader) ≡ true) (sym found.1) (within_at reader places i found.0 k found.1))
+  branch_within : (w r : ℕ) (n : Node) (ids : List ℕ) → nat_lt w (length writer) ≡ true → are_within reader ids ≡ true
+      → (o : Option ℕ) → first_match writer reader n ids ≡ o → list_all is_within (asked_children w r (asked_branch ids o)) ≡ true
+  branch_within w r n ids h k None e = refl
+  branch_within w r n ids h k (Some i) e =
+      let found = first_match_within writer reader n ids i e in
+      one_within w (unwrap_or (slice_get ids i) 0) h
+      (subst (λ (o : Option ℕ). nat_lt (unwrap_or o 0) (length reader) ≡ true) (sym found.1) (within_at reader ids i found.0 k found.1))
 
   branches_within : (r : ℕ) (ps : List ℕ) → nat_lt r (length reader) ≡ true → are_within writer ps ≡ true → list_all is_within (map (λ p. record { w = p; r = r }) ps) ≡ true
   branches_within r [] h k = refl
@@ -121,11 +121,11 @@ module _ (writer reader : List Node) where
   pub children_within : (w r : ℕ) (n q : Node) → nat_lt w (length writer) ≡ true → nat_lt r (length reader) ≡ true
       → are_within writer (edges_of n) ≡ true → are_within reader (edges_of q) ≡ true
       → list_all is_within (asked_children w r (asked writer reader n q)) ≡ true
-  children_within w r (Node.union places) q here there h k = branches_within r places there h
+  children_within w r (Node.union ids) q here there h k = branches_within r ids there h
   children_within w r n q here there h k = by_reader n q h k
     where
       by_reader : (n q : Node) → are_within writer (edges_of n) ≡ true → are_within reader (edges_of q) ≡ true
           → list_all is_within (asked_children w r (asked writer reader n q)) ≡ true
-      by_reader (Node.union places) q h k = branches_within r places there h
-      by_reader n (Node.union places) h k = branch_within w r n places here k (first_match writer reader n places) refl
+      by_reader (Node.union ids) q h k = branches_within r ids there h
+      by_reader n (Node.union ids) h k = branch_within w r n ids here k (first_match writer reader n ids) refl
       by_reader n q h k = plain_within w r n q (is_match writer reader n q) h k

@@ -12,8 +12,8 @@ use Rattle.avro_schema.specs.Node.{Node, FieldNode, node_at, branches_of, fields
 use Rattle.avro_schema.specs.Fits.{fits, fields_fit, are_bytes}
 use Rattle.avro_schema.specs.WellFormed.{is_schema, meets_its_rules}
 use Rattle.avro_least.specs.Tables.{Least, LeastTable, IsLowForData, AreDataShown, IsLeastOf, IsWithin, count_of, Exactly, best_of, all_of, least_datum, no_parts}
-use Rattle.avro_least.specs.Leaf.{leaf_value}
-use Rattle.avro_least.specs.Built.{Builds, BuildsAt, BuildsAll, BuildsRecord}
+use Rattle.avro_least.specs.inside.Leaf.{leaf_value}
+use Rattle.avro_least.specs.inside.Built.{Builds, BuildsAt, BuildsAll, BuildsRecord}
 use Rattle.avro_certificate.proofs.public.Shapes.{meets_rules_at}
 use Rattle.avro_least.proofs.ShownData.{zeros_fit, empty_text}
 use Rattle.avro_certificate.proofs.public.Tests.{and_left}
@@ -28,8 +28,8 @@ some_least : (a b : Least) → Some a ≡ Some b → a ≡ b
 some_least a b e = cc
 
 -- a schema's union has few branches
-pub few_branches : (nodes : List Node) → is_schema nodes ≡ true → (p : ℕ) (places : List ℕ) → node_at nodes p ≡ Node.union places → length places ≤ 2 ^ 31
-few_branches nodes formed p places here = subst (λ (n : Node). HasFewChoices n) here (HasFewChoices-from_is_schema nodes formed p)
+pub few_branches : (nodes : List Node) → is_schema nodes ≡ true → (p : ℕ) (ids : List ℕ) → node_at nodes p ≡ Node.union ids → length ids ≤ 2 ^ 31
+few_branches nodes formed p ids here = subst (λ (n : Node). HasFewChoices n) here (HasFewChoices-from_is_schema nodes formed p)
 
 module _ (nodes : List Node) (table : LeastTable) (left : ℕ) where
   -- a node without parts
@@ -58,16 +58,16 @@ module _ (nodes : List Node) (table : LeastTable) (left : ℕ) where
   few_nodes p e is few = subst (λ (o : Option Least). count_of o ≤ suc left) is few
 
   -- the best branch of a union
-  pub branch_builds : (places : List ℕ) (k : ℕ) (v whole : Value) → (k < 4294967296 → whole ≡ Value.union k v)
-      → (is_some (best_of table places) ≡ true → (q : ℕ) × (slice_get places k ≡ Some q) × (table q ≡ best_of table places) × Builds nodes table left q v)
-      → BuildsAt nodes table left (Node.union places) whole
-  branch_builds places k v whole is found limit p formed low shown within here few =
+  pub branch_builds : (ids : List ℕ) (k : ℕ) (v whole : Value) → (k < 4294967296 → whole ≡ Value.union k v)
+      → (is_some (best_of table ids) ≡ true → (q : ℕ) × (slice_get ids k ≡ Some q) × (table q ≡ best_of table ids) × Builds nodes table left q v)
+      → BuildsAt nodes table left (Node.union ids) whole
+  branch_builds ids k v whole is found limit p formed low shown within here few =
       let step = step_is nodes limit table low shown p within in
-      let inside = around_is limit (best_of table places) step.0 (sym (ap (least_datum limit table) here) ∙ step.3) step.2 in
+      let inside = around_is limit (best_of table ids) step.0 (sym (ap (least_datum limit table) here) ∙ step.3) step.2 in
       let best = found (subst (λ (o : Option Least). is_some o ≡ true) (sym inside.is) refl) in
-      let branch = branch_least nodes limit table low shown p k best.0 places within here best.1 best.2 in
-      let small = few_branches nodes formed p places here in
-      subst (λ (x : Value). IsLeastOf nodes table p x) (sym (is (omega (arith, slice_get_within places k best.0 best.1, small))))
+      let branch = branch_least nodes limit table low shown p k best.0 ids within here best.1 best.2 in
+      let small = few_branches nodes formed p ids here in
+      subst (λ (x : Value). IsLeastOf nodes table p x) (sym (is (omega (arith, slice_get_within ids k best.0 best.1, small))))
       (branch.whole v (best.3 limit formed low shown branch.within (omega (arith, branch.falls, few))))
 
   -- the fields of a record

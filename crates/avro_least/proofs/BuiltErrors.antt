@@ -18,7 +18,7 @@ use Rattle.avro_least.specs.BuiltErrors.{first_from, is_lacking, IsLone, part_va
 use Rattle.avro_certificate.proofs.public.Tests.{not_true}
 use Rattle.avro_least.proofs.LeastErrors.{through_is_matched}
 use Rattle.avro_least.proofs.ShownData.{empty_text}
-use Rattle.avro_least.proofs.ShownErrors.{IsFault, fault_inside, fault_map, fault_first, fault_matched, value_of_plain, plain_form, not_a_text, no_place, missing_errs}
+use Rattle.avro_least.proofs.ShownErrors.{IsFault, fault_inside, fault_map, fault_first, fault_matched, value_of_plain, plain_form, not_a_text, no_index, missing_errs}
 
 module _ (writer reader : List Node) where
   -- a pair of which each datum errs
@@ -42,9 +42,9 @@ module _ (writer reader : List Node) where
   asked_of_plain Node.null Node.null h k = refl
   asked_of_plain _ _ h k = refl
 
-  pub asked_of_union : (n : Node) (places : List ℕ) → branches_of n ≡ None → asked writer reader n (Node.union places) ≡ asked_branch places (first_match writer reader n places)
-  asked_of_union (Node.union ps) places h = absurd (grind arith)
-  asked_of_union _ places h = refl
+  pub asked_of_union : (n : Node) (ids : List ℕ) → branches_of n ≡ None → asked writer reader n (Node.union ids) ≡ asked_branch ids (first_match writer reader n ids)
+  asked_of_union (Node.union ps) ids h = absurd (grind arith)
+  asked_of_union _ ids h = refl
 
   none_match : (n q : Node) (v : Value) → branches_of n ≡ None → branches_of q ≡ None → fits writer n v ≡ true → is_match writer reader n q ≡ false → IsFault (resolve writer reader n q v)
   none_match n q v plain their_plain fit e =
@@ -59,23 +59,23 @@ module _ (writer reader : List Node) where
       chosen true m s = whole_plain n q v plain their_plain fit s
       chosen false m s = none_match n q v plain their_plain fit m
 
-  union_whole : (n : Node) (places : List ℕ) (v : Value) → branches_of n ≡ None → fits writer n v ≡ true → Asked.whole ≡ asked writer reader n (Node.union places)
-      → IsFault (resolve writer reader n (Node.union places) v)
-  union_whole n places v plain fit e = chosen (first_match writer reader n places) refl (sym (e ∙ asked_of_union n places plain))
+  union_whole : (n : Node) (ids : List ℕ) (v : Value) → branches_of n ≡ None → fits writer n v ≡ true → Asked.whole ≡ asked writer reader n (Node.union ids)
+      → IsFault (resolve writer reader n (Node.union ids) v)
+  union_whole n ids v plain fit e = chosen (first_match writer reader n ids) refl (sym (e ∙ asked_of_union n ids plain))
     where
-      chosen : (o : Option ℕ) → first_match writer reader n places ≡ o → asked_branch places o ≡ Asked.whole → IsFault (resolve writer reader n (Node.union places) v)
+      chosen : (o : Option ℕ) → first_match writer reader n ids ≡ o → asked_branch ids o ≡ Asked.whole → IsFault (resolve writer reader n (Node.union ids) v)
       chosen None m s =
           let form = plain_form writer reader n v (value_of_plain writer n v plain fit) in
-          subst (λ (x : Resolved). IsFault x) (sym (form.1 (Node.union places)))
-          (subst (λ (o : Option ℕ). IsFault (into_branch writer reader n places o form.0)) (sym m) tt)
+          subst (λ (x : Resolved). IsFault x) (sym (form.1 (Node.union ids)))
+          (subst (λ (o : Option ℕ). IsFault (into_branch writer reader n ids o form.0)) (sym m) tt)
       chosen (Some k) m s = absurd (grind arith)
 
   pub whole_errs : (n q : Node) (v : Value) → fits writer n v ≡ true → Asked.whole ≡ asked writer reader n q → IsFault (resolve writer reader n q v)
-  whole_errs (Node.union places) q v fit e = absurd (grind arith)
+  whole_errs (Node.union ids) q v fit e = absurd (grind arith)
   whole_errs n q v fit e = by_reader n q refl fit e
     where
       by_reader : (n q : Node) → branches_of n ≡ None → fits writer n v ≡ true → Asked.whole ≡ asked writer reader n q → IsFault (resolve writer reader n q v)
-      by_reader n (Node.union places) plain fit e = union_whole n places v plain fit e
+      by_reader n (Node.union ids) plain fit e = union_whole n ids v plain fit e
       by_reader n q plain fit e = plain_whole n q v plain refl fit e
 
   -- where no reader's union is met, no other reader's node is asked for
@@ -96,7 +96,7 @@ module _ (writer reader : List Node) where
   inside_not_same _ _ = refl
 
   pub not_same : (n q : Node) → branches_of q ≡ None → is_same (asked writer reader n q) ≡ false
-  not_same (Node.union places) q h = refl
+  not_same (Node.union ids) q h = refl
   not_same n q h = by n q refl h
     where
       by : (n q : Node) → branches_of n ≡ None → branches_of q ≡ None → is_same (asked writer reader n q) ≡ false
@@ -117,11 +117,11 @@ module _ (writer reader : List Node) where
 
 -- the first that passes
 record IsFirst {A : Type 0} (test : A → Bool) (n : ℕ) (xs : List A) : Type 0 where
-  place : ℕ
-  is : first_from test n xs ≡ n + place
-  within : place < length xs
+  index : ℕ
+  is : first_from test n xs ≡ n + index
+  within : index < length xs
   one : A
-  here : slice_get xs place ≡ Some one
+  here : slice_get xs index ≡ Some one
   passes : test one ≡ true
 
 first_passes : {A : Type 0} (test : A → Bool) (n : ℕ) (xs : List A) → list_any test xs ≡ true → IsFirst test n xs
@@ -129,11 +129,11 @@ first_passes test n [] h = absurd (false≢true h)
 first_passes test n (x ∷ xs) h = chosen (test x) refl h (first_passes test (n + 1) xs)
   where
     chosen : (t : Bool) → test x ≡ t → (t || list_any test xs) ≡ true → (list_any test xs ≡ true → IsFirst test (n + 1) xs) → IsFirst test n (x ∷ xs)
-    chosen true e s later = record { place = 0; is = ap (λ t. cond t n (first_from test (n + 1) xs)) e ∙ omega arith; within = omega arith; one = x; here = refl; passes = e }
+    chosen true e s later = record { index = 0; is = ap (λ t. cond t n (first_from test (n + 1) xs)) e ∙ omega arith; within = omega arith; one = x; here = refl; passes = e }
     chosen false e s later =
         let found = later s in
         record {
-          place = suc found.place;
+          index = suc found.index;
           is = ap (λ t. cond t n (first_from test (n + 1) xs)) e ∙ found.is ∙ omega arith;
           within = omega (arith, found.within);
           one = found.one;
@@ -142,17 +142,17 @@ first_passes test n (x ∷ xs) h = chosen (test x) refl h (first_passes test (n 
         }
 
 -- the first symbol that the reader lacks
-lacking_place : (symbols theirs : List (List ℕ)) (y : Option ℕ) → lacks_symbol symbols theirs y ≡ true
+lacking_index : (symbols theirs : List (List ℕ)) (y : Option ℕ) → lacks_symbol symbols theirs y ≡ true
     → (first_from (is_lacking theirs) 0 symbols < length symbols)
     × IsFault (enum_or_default (position (λ t. bytes_eq t (unwrap_or (slice_get symbols (first_from (is_lacking theirs) 0 symbols)) [])) theirs) y)
-lacking_place symbols theirs (Some place) h = absurd (false≢true h)
-lacking_place symbols theirs None h =
+lacking_index symbols theirs (Some index) h = absurd (false≢true h)
+lacking_index symbols theirs None h =
     let found = first_passes (is_lacking theirs) 0 symbols h in
-    let at : first_from (is_lacking theirs) 0 symbols ≡ found.place = omega (arith, found.is) in (
+    let at : first_from (is_lacking theirs) 0 symbols ≡ found.index = omega (arith, found.is) in (
       omega (arith, at, found.within),
       subst (λ (k : ℕ). IsFault (enum_or_default (position (λ t. bytes_eq t (unwrap_or (slice_get symbols k) [])) theirs) None)) (sym at)
           (subst (λ (o : Option (List ℕ)). IsFault (enum_or_default (position (λ t. bytes_eq t (unwrap_or o [])) theirs) None)) (sym found.here)
-          (subst (λ (o : Option ℕ). IsFault (enum_or_default o None)) (sym (no_place found.one theirs (not_true _ found.passes))) tt)),
+          (subst (λ (o : Option ℕ). IsFault (enum_or_default o None)) (sym (no_index found.one theirs (not_true _ found.passes))) tt)),
     )
 
 few_symbols : (nodes : List Node) → is_schema nodes ≡ true → (p : ℕ) (a : _) (xs : _) (symbols : List (List ℕ)) (x : Option ℕ) → node_at nodes p ≡ Node.enum a xs symbols x → length symbols ≤ 2 ^ 31
@@ -179,7 +179,7 @@ module _ (writer reader : List Node) where
     where
       chosen : (t : Bool) → lacks_symbol symbols theirs y ≡ t → Asked.lone ≡ cond t Asked.lone Asked.quiet → Errs (Node.enum a xs symbols x) (Node.enum b ys theirs y) v 1 1
       chosen true l s =
-          let found = lacking_place symbols theirs y l in
+          let found = lacking_index symbols theirs y l in
           let k : ℕ = first_from (is_lacking theirs) 0 symbols in
           errs_of_same (Node.enum a xs symbols x) (Node.enum b ys theirs y) (Value.enum (first_from (is_lacking theirs) 0 symbols)) v 1 1
           (is.symbol (first_from (is_lacking theirs) 0 symbols) refl (omega (arith, found.0, few))) (record {
@@ -197,19 +197,19 @@ module _ (writer reader : List Node) where
       chosen false s = grind arith
   lone_inside _ _ v few m e is = absurd (grind arith)
 
-  lone_union : (n : Node) (places : List ℕ) → branches_of n ≡ None → Asked.lone ≡ asked writer reader n (Node.union places) → ⊥
-  lone_union n places plain e = chosen (first_match writer reader n places) (e ∙ asked_of_union writer reader n places plain)
+  pub lone_union : (n : Node) (ids : List ℕ) → branches_of n ≡ None → Asked.lone ≡ asked writer reader n (Node.union ids) → ⊥
+  lone_union n ids plain e = chosen (first_match writer reader n ids) (e ∙ asked_of_union writer reader n ids plain)
     where
-      chosen : (o : Option ℕ) → Asked.lone ≡ asked_branch places o → ⊥
+      chosen : (o : Option ℕ) → Asked.lone ≡ asked_branch ids o → ⊥
       chosen None s = grind arith
       chosen (Some k) s = grind arith
 
   pub lone_errs : (n q : Node) (v : Value) → HasFewChoices n → Asked.lone ≡ asked writer reader n q → IsLone n q v → Errs n q v 1 1
-  lone_errs (Node.union places) q v few e is = absurd (grind arith)
+  lone_errs (Node.union ids) q v few e is = absurd (grind arith)
   lone_errs n q v few e is = by_reader n q refl few e is
     where
       by_reader : (n q : Node) → branches_of n ≡ None → HasFewChoices n → Asked.lone ≡ asked writer reader n q → IsLone n q v → Errs n q v 1 1
-      by_reader n (Node.union places) plain few e is = absurd (lone_union n places plain e)
+      by_reader n (Node.union ids) plain few e is = absurd (lone_union n ids plain e)
       by_reader n q plain few e is =
           let own = asks_inside writer reader n q plain refl Asked.lone e (λ s. grind arith) in
           lone_inside n q v few own.0 own.1 is
@@ -217,7 +217,7 @@ module _ (writer reader : List Node) where
   -- one part
   part_inside : (n q : Node) (a b : ℕ) (v : Value) → Asked.part a b ≡ asked_inside n q → fits writer (node_at writer a) v ≡ true
       → IsFault (resolve writer reader (node_at writer a) (node_at reader b) v) → Errs n q (part_value n v) (suc (size v)) (suc (depth v))
-  part_inside (Node.array x) (Node.array y) a b v e fit f = at_places x y (parts a b x y e) fit f
+  part_inside (Node.array x) (Node.array y) a b v e fit f = at_ids x y (parts a b x y e) fit f
     where
       parts : (a b x y : ℕ) → Asked.part a b ≡ Asked.part x y → (a ≡ x) × (b ≡ y)
       parts a b x y s = (first s, second s)
@@ -236,9 +236,9 @@ module _ (writer reader : List Node) where
           second : Asked.part a b ≡ Asked.part x y → b ≡ y
           second s = ap second_of s
 
-      at_places : (x y : ℕ) → (a ≡ x) × (b ≡ y) → fits writer (node_at writer a) v ≡ true → IsFault (resolve writer reader (node_at writer a) (node_at reader b) v)
+      at_ids : (x y : ℕ) → (a ≡ x) × (b ≡ y) → fits writer (node_at writer a) v ≡ true → IsFault (resolve writer reader (node_at writer a) (node_at reader b) v)
           → Errs (Node.array x) (Node.array y) (Value.array (value v no_values)) (suc (size v)) (suc (depth v))
-      at_places x y same fit f = record {
+      at_ids x y same fit f = record {
         fitting = and_from (fits writer (node_at writer x) v) true (subst (λ (p : ℕ). fits writer (node_at writer p) v ≡ true) same.0 fit) refl;
         faulty = fault_matched writer reader (Node.array x) (Node.array y)
             (λ q. result_map Value.array (resolve_items writer reader (node_at writer x) (part_at reader (items_node q)) 0 (value v no_values)))
@@ -250,7 +250,7 @@ module _ (writer reader : List Node) where
         nodes_is = omega arith;
         depth_is = omega arith;
       }
-  part_inside (Node.map_of x) (Node.map_of y) a b v e fit f = at_places x y (ap first_of e) (ap second_of e) fit f
+  part_inside (Node.map_of x) (Node.map_of y) a b v e fit f = at_ids x y (ap first_of e) (ap second_of e) fit f
     where
       first_of : Asked → ℕ
       first_of (Asked.part a b) = a
@@ -260,10 +260,10 @@ module _ (writer reader : List Node) where
       second_of (Asked.part a b) = b
       second_of _ = 0
 
-      at_places : (x y : ℕ) → a ≡ x → b ≡ y → fits writer (node_at writer a) v ≡ true → IsFault (resolve writer reader (node_at writer a) (node_at reader b) v)
+      at_ids : (x y : ℕ) → a ≡ x → b ≡ y → fits writer (node_at writer a) v ≡ true → IsFault (resolve writer reader (node_at writer a) (node_at reader b) v)
           → Errs (Node.map_of x) (Node.map_of y) (Value.map_of (entry [] v no_entries)) (suc (size v)) (suc (depth v))
-      at_places x y first second fit f = record {
-        fitting = and_from _ (is_some_and (λ place. entries_fit writer (node_at writer place) (entry [] v no_entries)) (Some x))
+      at_ids x y first second fit f = record {
+        fitting = and_from _ (is_some_and (λ id. entries_fit writer (node_at writer id) (entry [] v no_entries)) (Some x))
             (and_from (is_text [] && true) true (and_from (is_text []) true empty_text refl) refl)
             (and_from (fits writer (node_at writer x) v) true (subst (λ (p : ℕ). fits writer (node_at writer p) v ≡ true) first fit) refl);
         faulty = fault_matched writer reader (Node.map_of x) (Node.map_of y)
@@ -288,20 +288,20 @@ module _ (writer reader : List Node) where
       chosen false s = grind arith
   part_inside _ _ a b v e fit f = absurd (grind arith)
 
-  part_union : (n : Node) (places : List ℕ) (a b : ℕ) → branches_of n ≡ None → Asked.part a b ≡ asked writer reader n (Node.union places) → ⊥
-  part_union n places a b plain e = chosen (first_match writer reader n places) (e ∙ asked_of_union writer reader n places plain)
+  part_union : (n : Node) (ids : List ℕ) (a b : ℕ) → branches_of n ≡ None → Asked.part a b ≡ asked writer reader n (Node.union ids) → ⊥
+  part_union n ids a b plain e = chosen (first_match writer reader n ids) (e ∙ asked_of_union writer reader n ids plain)
     where
-      chosen : (o : Option ℕ) → Asked.part a b ≡ asked_branch places o → ⊥
+      chosen : (o : Option ℕ) → Asked.part a b ≡ asked_branch ids o → ⊥
       chosen None s = grind arith
       chosen (Some k) s = grind arith
 
   pub part_errs : (n q : Node) (a b : ℕ) (v : Value) → Asked.part a b ≡ asked writer reader n q → fits writer (node_at writer a) v ≡ true
       → IsFault (resolve writer reader (node_at writer a) (node_at reader b) v) → Errs n q (part_value n v) (suc (size v)) (suc (depth v))
-  part_errs (Node.union places) q a b v e fit f = absurd (grind arith)
+  part_errs (Node.union ids) q a b v e fit f = absurd (grind arith)
   part_errs n q a b v e fit f = by_reader n q refl e
     where
       by_reader : (n q : Node) → branches_of n ≡ None → Asked.part a b ≡ asked writer reader n q → Errs n q (part_value n v) (suc (size v)) (suc (depth v))
-      by_reader n (Node.union places) plain e = absurd (part_union n places a b plain e)
+      by_reader n (Node.union ids) plain e = absurd (part_union n ids a b plain e)
       by_reader n q plain e =
           let own = asks_inside writer reader n q plain refl (Asked.part a b) e (λ s. grind arith) in
           part_inside n q a b v own.1 fit f

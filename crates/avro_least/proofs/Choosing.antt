@@ -40,12 +40,12 @@ module _ (writer : List Node) (limit : ℕ) (table : LeastTable) (low : IsLowFor
     pub falls : count_of (table q) < count_of (table p)
     pub whole : (v : Value) → IsLeastOf writer table q v → IsLeastOf writer table p (Value.union k v)
 
-  pub branch_least : (p k q : ℕ) (places : List ℕ) → IsWithin limit (table p) → node_at writer p ≡ Node.union places → slice_get places k ≡ Some q
-      → table q ≡ best_of table places → IsBranch p q k
-  branch_least p k q places within here taken best =
+  pub branch_least : (p k q : ℕ) (ids : List ℕ) → IsWithin limit (table p) → node_at writer p ≡ Node.union ids → slice_get ids k ≡ Some q
+      → table q ≡ best_of table ids → IsBranch p q k
+  branch_least p k q ids within here taken best =
       let found = step_is p within in
       let e : Least = found.0 in
-      let inside = around_is limit (best_of table places) e (sym (ap (least_datum limit table) here) ∙ found.3) found.2 in
+      let inside = around_is limit (best_of table ids) e (sym (ap (least_datum limit table) here) ∙ found.3) found.2 in
       let entry : table q ≡ Some inside.inner = best ∙ inside.is in
       record {
         within = subst (λ (o : Option Least). IsWithin limit o) (sym entry) (omega (arith, found.2, inside.nodes));

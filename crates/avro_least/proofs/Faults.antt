@@ -39,8 +39,8 @@ pub on_string : (t : List ℕ) (q : Node) (P : Type 0) → OnErr (string_as t q)
 on_string t Node.bytes P = tt
 on_string t _ P = tt
 
-pub on_sourced : (o : Option FieldNode) (place : ℕ) (resolve : FieldNode → Resolved) (later : Result Sourced ResolutionFault) (P : Type 0)
-    → ((f : FieldNode) → o ≡ Some f → OnErr (resolve f) P) → OnErr later P → OnErr (with_sourced o place resolve later) P
-on_sourced None place resolve later P here h = h
-on_sourced (Some f) place resolve later P here h =
-    on_both (λ v found. (place, v) ∷ found) (inside place (resolve f)) later P (on_inside place (resolve f) P (here f refl)) h
+pub on_sourced : (o : Option FieldNode) (index : ℕ) (resolve : FieldNode → Resolved) (later : Result Sourced ResolutionFault) (P : Type 0)
+    → ((f : FieldNode) → o ≡ Some f → OnErr (resolve f) P) → OnErr later P → OnErr (with_sourced o index resolve later) P
+on_sourced None index resolve later P here h = h
+on_sourced (Some f) index resolve later P here h =
+    on_both (λ v found. (index, v) ∷ found) (inside index (resolve f)) later P (on_inside index (resolve f) P (here f refl)) h

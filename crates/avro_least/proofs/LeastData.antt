@@ -16,12 +16,12 @@ is_whole (Value.record_of vs) = false
 is_whole _ = true
 
 -- does not fit a union or a record
-whole_refused : (nodes : List Node) (places : List ℕ) (v : Value) → is_whole v ≡ true → fits nodes (Node.union places) v ≡ true → ⊥
-whole_refused nodes places (Value.union k v) whole h = false≢true whole
-whole_refused nodes places (Value.array vs) whole h = false≢true (and_right (is_count (values_count vs)) false h)
-whole_refused nodes places (Value.map_of es) whole h = false≢true (and_right _ false h)
-whole_refused nodes places (Value.fixed b) whole h = false≢true (and_right (are_bytes b) false h)
-whole_refused nodes places _ whole h = false≢true h
+whole_refused : (nodes : List Node) (ids : List ℕ) (v : Value) → is_whole v ≡ true → fits nodes (Node.union ids) v ≡ true → ⊥
+whole_refused nodes ids (Value.union k v) whole h = false≢true whole
+whole_refused nodes ids (Value.array vs) whole h = false≢true (and_right (is_count (values_count vs)) false h)
+whole_refused nodes ids (Value.map_of es) whole h = false≢true (and_right _ false h)
+whole_refused nodes ids (Value.fixed b) whole h = false≢true (and_right (are_bytes b) false h)
+whole_refused nodes ids _ whole h = false≢true h
 
 whole_no_record : (nodes : List Node) (n : Node) (v : Value) → is_whole v ≡ true → is_some_and (λ f. true) (fields_of n) ≡ true → fits nodes n v ≡ true → ⊥
 whole_no_record nodes (Node.record_of name aliases fields) (Value.union k v) whole r h = false≢true whole
@@ -35,21 +35,21 @@ whole_no_record nodes _ v whole r h = false≢true r
 -- the least of its node has one node
 whole_step : (nodes : List Node) (limit : ℕ) (table : LeastTable) (n : Node) (v : Value) → is_whole v ≡ true → fits nodes n v ≡ true
     → AtMost (least_datum limit table n) (size v) (depth v)
-whole_step nodes limit table (Node.union places) v whole h = absurd (whole_refused nodes places v whole h)
+whole_step nodes limit table (Node.union ids) v whole h = absurd (whole_refused nodes ids v whole h)
 whole_step nodes limit table (Node.record_of name aliases fields) v whole h = absurd (whole_no_record nodes (Node.record_of name aliases fields) v whole refl h)
 whole_step nodes limit table _ v whole h = record { fewer = some_size v; shallower = λ k. some_depth v }
 
 -- a union's is no more than its branch's
 union_step : (nodes : List Node) (limit : ℕ) (table : LeastTable) (n : Node) (k : ℕ) (v : Value)
-    → is_some_and (λ place. fits nodes (node_at nodes place) v) (option_and_then (λ places. slice_get places k) (branches_of n)) ≡ true
+    → is_some_and (λ id. fits nodes (node_at nodes id) v) (option_and_then (λ ids. slice_get ids k) (branches_of n)) ≡ true
     → ((p : ℕ) → fits nodes (node_at nodes p) v ≡ true → AtMost (table p) (size v) (depth v))
     → AtMost (least_datum limit table n) (size (Value.union k v)) (depth (Value.union k v))
-union_step nodes limit table (Node.union places) k v h below = taken (slice_get places k) refl h
+union_step nodes limit table (Node.union ids) k v h below = taken (slice_get ids k) refl h
   where
-    taken : (branch : Option ℕ) → slice_get places k ≡ branch → is_some_and (λ place. fits nodes (node_at nodes place) v) branch ≡ true
-        → AtMost (least_datum limit table (Node.union places)) (size (Value.union k v)) (depth (Value.union k v))
+    taken : (branch : Option ℕ) → slice_get ids k ≡ branch → is_some_and (λ id. fits nodes (node_at nodes id) v) branch ≡ true
+        → AtMost (least_datum limit table (Node.union ids)) (size (Value.union k v)) (depth (Value.union k v))
     taken None here passes = absurd (false≢true passes)
-    taken (Some p) here passes = under_around limit _ (size v) (depth v) (under_best table places k p (size v) (depth v) here (below p passes))
+    taken (Some p) here passes = under_around limit _ (size v) (depth v) (under_best table ids k p (size v) (depth v) here (below p passes))
 union_step nodes limit table _ k v h below = absurd (false≢true h)
 
 -- a record's is no more than its fields'

@@ -35,21 +35,21 @@ err_of_plain writer reader limit table erring w r Node.null Node.null h k = refl
 err_of_plain writer reader limit table erring w r _ _ h k = refl
 
 -- that of a plain node and a union
-pub err_of_none : (writer reader : List Node) (limit : ℕ) (table : LeastTable) (erring : ErringTable) (w r : ℕ) (n : Node) (places : List ℕ) → branches_of n ≡ None
-    → first_match writer reader n places ≡ None → err_of writer reader limit table erring w r n (Node.union places) ≡ table w
-err_of_none writer reader limit table erring w r (Node.union ps) places plain h = absurd (grind arith)
-err_of_none writer reader limit table erring w r _ places plain h = rw h refl
+pub err_of_none : (writer reader : List Node) (limit : ℕ) (table : LeastTable) (erring : ErringTable) (w r : ℕ) (n : Node) (ids : List ℕ) → branches_of n ≡ None
+    → first_match writer reader n ids ≡ None → err_of writer reader limit table erring w r n (Node.union ids) ≡ table w
+err_of_none writer reader limit table erring w r (Node.union ps) ids plain h = absurd (grind arith)
+err_of_none writer reader limit table erring w r _ ids plain h = rw h refl
 
-pub err_of_some : (writer reader : List Node) (limit : ℕ) (table : LeastTable) (erring : ErringTable) (w r : ℕ) (n : Node) (places : List ℕ) (k : ℕ) → branches_of n ≡ None
-    → first_match writer reader n places ≡ Some k
-    → err_of writer reader limit table erring w r n (Node.union places) ≡ erring w (unwrap_or (slice_get places k) 0)
-err_of_some writer reader limit table erring w r (Node.union ps) places k plain h = absurd (grind arith)
-err_of_some writer reader limit table erring w r _ places k plain h = rw h refl
+pub err_of_some : (writer reader : List Node) (limit : ℕ) (table : LeastTable) (erring : ErringTable) (w r : ℕ) (n : Node) (ids : List ℕ) (k : ℕ) → branches_of n ≡ None
+    → first_match writer reader n ids ≡ Some k
+    → err_of writer reader limit table erring w r n (Node.union ids) ≡ erring w (unwrap_or (slice_get ids k) 0)
+err_of_some writer reader limit table erring w r (Node.union ps) ids k plain h = absurd (grind arith)
+err_of_some writer reader limit table erring w r _ ids k plain h = rw h refl
 
 -- what is not a union is matched
 pub through_is_matched : (writer reader : List Node) (n q : Node) (f : Node → Resolved) → branches_of q ≡ None
     → through writer reader n q f ≡ matched writer reader n q f
-through_is_matched writer reader n (Node.union places) f plain = absurd (grind arith)
+through_is_matched writer reader n (Node.union ids) f plain = absurd (grind arith)
 through_is_matched writer reader n _ f plain = refl
 
 module _ (writer reader : List Node) (limit : ℕ) (table : LeastTable) (erring : ErringTable) (low : AreLow writer reader limit table erring) (formed : is_schema reader ≡ true) where
@@ -81,29 +81,29 @@ module _ (writer reader : List Node) (limit : ℕ) (table : LeastTable) (erring 
       → OnErr (through writer reader n (node_at reader r) f) (AtMost (err_of writer reader limit table erring w r n (node_at reader r)) s d)
   through_step w r n f s d here plain own inner = by_branches (branches_of (node_at reader r)) refl
     where
-      branch_low : (places : List ℕ) → node_at reader r ≡ Node.union places → (o : Option ℕ) → first_match writer reader n places ≡ o
-          → OnErr (into_branch writer reader n places o f) (AtMost (err_of writer reader limit table erring w r n (Node.union places)) s d)
-      branch_low places there None e = subst (λ (x : Option Least). AtMost x s d) (sym (err_of_none writer reader limit table erring w r n places plain e)) own
-      branch_low places there (Some k) e =
-          let found = first_match_within writer reader n places k e in
+      branch_low : (ids : List ℕ) → node_at reader r ≡ Node.union ids → (o : Option ℕ) → first_match writer reader n ids ≡ o
+          → OnErr (into_branch writer reader n ids o f) (AtMost (err_of writer reader limit table erring w r n (Node.union ids)) s d)
+      branch_low ids there None e = subst (λ (x : Option Least). AtMost x s d) (sym (err_of_none writer reader limit table erring w r n ids plain e)) own
+      branch_low ids there (Some k) e =
+          let found = first_match_within writer reader n ids k e in
           let their_plain = subst (λ (o : Option ℕ). branches_of (node_at reader (unwrap_or o 0)) ≡ None) (sym found.1)
-          (plain_branch reader r places k found.0 formed there found.1) in
-          on_map (Value.union k) (matched writer reader n (branch_node reader places k) f) _
-          (subst (λ (x : Option Least). OnErr (matched writer reader n (branch_node reader places k) f) (AtMost x s d))
-          (sym (err_of_some writer reader limit table erring w r n places k plain e))
-          (lower w (unwrap_or (slice_get places k) 0) s d (matched writer reader n (branch_node reader places k) f) own
-          (subst (λ (m : Node). OnErr (matched writer reader n (branch_node reader places k) f)
-          (AtMost (err_of writer reader limit table erring w (unwrap_or (slice_get places k) 0) m (branch_node reader places k)) s d)) (sym here)
-          (matched_step w (unwrap_or (slice_get places k) 0) n f s d plain their_plain own inner))))
+          (plain_branch reader r ids k found.0 formed there found.1) in
+          on_map (Value.union k) (matched writer reader n (branch_node reader ids k) f) _
+          (subst (λ (x : Option Least). OnErr (matched writer reader n (branch_node reader ids k) f) (AtMost x s d))
+          (sym (err_of_some writer reader limit table erring w r n ids k plain e))
+          (lower w (unwrap_or (slice_get ids k) 0) s d (matched writer reader n (branch_node reader ids k) f) own
+          (subst (λ (m : Node). OnErr (matched writer reader n (branch_node reader ids k) f)
+          (AtMost (err_of writer reader limit table erring w (unwrap_or (slice_get ids k) 0) m (branch_node reader ids k)) s d)) (sym here)
+          (matched_step w (unwrap_or (slice_get ids k) 0) n f s d plain their_plain own inner))))
 
       by_branches : (o : Option (List ℕ)) → branches_of (node_at reader r) ≡ o
           → OnErr (through writer reader n (node_at reader r) f) (AtMost (err_of writer reader limit table erring w r n (node_at reader r)) s d)
       by_branches None e = subst (λ (x : Resolved). OnErr x (AtMost (err_of writer reader limit table erring w r n (node_at reader r)) s d))
           (sym (through_is_matched writer reader n (node_at reader r) f e)) (matched_step w r n f s d plain e own inner)
-      by_branches (Some places) e =
-          let there : node_at reader r ≡ Node.union places = union_of_branches (node_at reader r) places e in
+      by_branches (Some ids) e =
+          let there : node_at reader r ≡ Node.union ids = union_of_branches (node_at reader r) ids e in
           subst (λ (q : Node). OnErr (through writer reader n q f) (AtMost (err_of writer reader limit table erring w r n q) s d)) (sym there)
-          (branch_low places there (first_match writer reader n places) refl)
+          (branch_low ids there (first_match writer reader n ids) refl)
 
   -- bytes
   inner_bytes : (w : ℕ) (n : Node) (b : List ℕ) → is_bytes_node n ≡ true → Inner writer reader limit table erring w n (bytes_as b) 1 1
@@ -128,7 +128,7 @@ module _ (writer reader : List Node) (limit : ℕ) (table : LeastTable) (erring 
       into : (steps : ℕ) (n q : Node) → is_some_and (λ symbols. nat_lt k (length symbols)) (symbols_of n) ≡ true
           → branches_of q ≡ None → match_within steps writer reader n q ≡ true
           → OnErr (enum_as (symbol_at n k) q) (AtMost (err_inside limit table erring w n q) 1 1)
-      into steps (Node.enum a xs symbols x) (Node.union places) h plain m = absurd (grind arith)
+      into steps (Node.enum a xs symbols x) (Node.union ids) h plain m = absurd (grind arith)
       into zero (Node.enum a xs symbols x) (Node.enum b ys theirs y) h plain m =
           lacked (Node.enum a xs symbols x) (Node.enum b ys theirs y) (lacks_symbol symbols theirs y) (λ e. succeeds_enum symbols theirs k y h e)
       into (suc steps) (Node.enum a xs symbols x) (Node.enum b ys theirs y) h plain m =
@@ -138,7 +138,7 @@ module _ (writer reader : List Node) (limit : ℕ) (table : LeastTable) (erring 
       into steps _ q h plain m = absurd (false≢true h)
 
   -- an array's items
-  inner_array : (w : ℕ) (n : Node) (vs : Values) → is_some_and (λ place. each_fits writer (node_at writer place) vs) (items_node n) ≡ true
+  inner_array : (w : ℕ) (n : Node) (vs : Values) → is_some_and (λ id. each_fits writer (node_at writer id) vs) (items_node n) ≡ true
       → ((a b : ℕ) → each_fits writer (node_at writer a) vs ≡ true
       → OnErr (resolve_items writer reader (node_at writer a) (node_at reader b) 0 vs) (AtMost (erring a b) (values_size vs) (values_depth vs)))
       → Inner writer reader limit table erring w n
@@ -152,11 +152,11 @@ module _ (writer reader : List Node) (limit : ℕ) (table : LeastTable) (erring 
       parts a b f = on_map Value.array (resolve_items writer reader (node_at writer a) (node_at reader b) 0 vs) _
           (on_mono (resolve_items writer reader (node_at writer a) (node_at reader b) 0 vs) _ _ (under_around limit (erring a b) (values_size vs) (values_depth vs)) (each a b f))
 
-      into : (steps : ℕ) (n q : Node) → is_some_and (λ place. each_fits writer (node_at writer place) vs) (items_node n) ≡ true
+      into : (steps : ℕ) (n q : Node) → is_some_and (λ id. each_fits writer (node_at writer id) vs) (items_node n) ≡ true
           → branches_of q ≡ None → match_within steps writer reader n q ≡ true
           → OnErr (result_map Value.array (resolve_items writer reader (part_at writer (items_node n)) (part_at reader (items_node q)) 0 vs))
           (AtMost (err_inside limit table erring w n q) (suc (values_size vs)) (suc (values_depth vs)))
-      into steps (Node.array a) (Node.union places) h plain m = absurd (grind arith)
+      into steps (Node.array a) (Node.union ids) h plain m = absurd (grind arith)
       into zero (Node.array a) (Node.array b) h plain m = parts a b h
       into (suc steps) (Node.array a) (Node.array b) h plain m = parts a b h
       into zero (Node.array a) _ h plain m = absurd (false≢true m)
@@ -164,7 +164,7 @@ module _ (writer reader : List Node) (limit : ℕ) (table : LeastTable) (erring 
       into steps _ q h plain m = absurd (false≢true h)
 
   -- a map's entries
-  inner_map : (w : ℕ) (n : Node) (es : Entries) → is_some_and (λ place. entries_fit writer (node_at writer place) es) (values_node n) ≡ true
+  inner_map : (w : ℕ) (n : Node) (es : Entries) → is_some_and (λ id. entries_fit writer (node_at writer id) es) (values_node n) ≡ true
       → ((a b : ℕ) → entries_fit writer (node_at writer a) es ≡ true
       → OnErr (resolve_entries writer reader (node_at writer a) (node_at reader b) 0 es) (AtMost (erring a b) (entries_size es) (entries_depth es)))
       → Inner writer reader limit table erring w n
@@ -178,11 +178,11 @@ module _ (writer reader : List Node) (limit : ℕ) (table : LeastTable) (erring 
       parts a b f = on_map Value.map_of (resolve_entries writer reader (node_at writer a) (node_at reader b) 0 es) _
           (on_mono (resolve_entries writer reader (node_at writer a) (node_at reader b) 0 es) _ _ (under_around limit (erring a b) (entries_size es) (entries_depth es)) (each a b f))
 
-      into : (steps : ℕ) (n q : Node) → is_some_and (λ place. entries_fit writer (node_at writer place) es) (values_node n) ≡ true
+      into : (steps : ℕ) (n q : Node) → is_some_and (λ id. entries_fit writer (node_at writer id) es) (values_node n) ≡ true
           → branches_of q ≡ None → match_within steps writer reader n q ≡ true
           → OnErr (result_map Value.map_of (resolve_entries writer reader (part_at writer (values_node n)) (part_at reader (values_node q)) 0 es))
           (AtMost (err_inside limit table erring w n q) (suc (entries_size es)) (suc (entries_depth es)))
-      into steps (Node.map_of a) (Node.union places) h plain m = absurd (grind arith)
+      into steps (Node.map_of a) (Node.union ids) h plain m = absurd (grind arith)
       into zero (Node.map_of a) (Node.map_of b) h plain m = parts a b h
       into (suc steps) (Node.map_of a) (Node.map_of b) h plain m = parts a b h
       into zero (Node.map_of a) _ h plain m = absurd (false≢true m)
@@ -207,13 +207,13 @@ module _ (writer reader : List Node) (limit : ℕ) (table : LeastTable) (erring 
       parts fields theirs None f = on_map _ (resolve_sources writer reader fields theirs 0 vs) _
           (on_mono (resolve_sources writer reader fields theirs 0 vs) _ _
           (under_around limit (err_of_fields limit table erring fields theirs 0 (field_ids fields)) (values_size vs) (values_depth vs)) (each fields theirs f))
-      parts fields theirs (Some place) f = own
+      parts fields theirs (Some index) f = own
 
       into : (steps : ℕ) (n q : Node) → is_some_and (λ fields. fields_fit writer (field_ids fields) vs) (fields_of n) ≡ true
           → branches_of q ≡ None → match_within steps writer reader n q ≡ true
           → OnErr (record_or_missing (fields_at n) (fields_at q) (missing_field (fields_at n) (fields_at q)) (resolve_sources writer reader (fields_at n) (fields_at q) 0 vs))
           (AtMost (err_inside limit table erring w n q) (suc (values_size vs)) (suc (values_depth vs)))
-      into steps (Node.record_of a xs fields) (Node.union places) h plain m = absurd (grind arith)
+      into steps (Node.record_of a xs fields) (Node.union ids) h plain m = absurd (grind arith)
       into zero (Node.record_of a xs fields) (Node.record_of b ys theirs) h plain m = parts fields theirs (missing_field fields theirs) h
       into (suc steps) (Node.record_of a xs fields) (Node.record_of b ys theirs) h plain m = parts fields theirs (missing_field fields theirs) h
       into zero (Node.record_of a xs fields) _ h plain m = absurd (false≢true m)
@@ -222,20 +222,20 @@ module _ (writer reader : List Node) (limit : ℕ) (table : LeastTable) (erring 
 
   -- a union's branch
   union_step : (v : Value) (k w r : ℕ) (n : Node)
-      → is_some_and (λ place. fits writer (node_at writer place) v) (option_and_then (λ places. slice_get places k) (branches_of n)) ≡ true
+      → is_some_and (λ id. fits writer (node_at writer id) v) (option_and_then (λ ids. slice_get ids k) (branches_of n)) ≡ true
       → ((p : ℕ) → fits writer (node_at writer p) v ≡ true
       → OnErr (resolve writer reader (node_at writer p) (node_at reader r) v) (AtMost (erring p r) (size v) (depth v)))
       → OnErr (inside 0 (resolve writer reader (branch_node writer (unwrap_or (branches_of n) []) k) (node_at reader r) v))
       (AtMost (err_of writer reader limit table erring w r n (node_at reader r)) (suc (size v)) (suc (depth v)))
-  union_step v k w r (Node.union places) h each = taken (slice_get places k) refl h
+  union_step v k w r (Node.union ids) h each = taken (slice_get ids k) refl h
     where
-      taken : (o : Option ℕ) → slice_get places k ≡ o → is_some_and (λ place. fits writer (node_at writer place) v) o ≡ true
-          → OnErr (inside 0 (resolve writer reader (branch_node writer places k) (node_at reader r) v))
-          (AtMost (around limit (best_of (λ p. erring p r) places)) (suc (size v)) (suc (depth v)))
+      taken : (o : Option ℕ) → slice_get ids k ≡ o → is_some_and (λ id. fits writer (node_at writer id) v) o ≡ true
+          → OnErr (inside 0 (resolve writer reader (branch_node writer ids k) (node_at reader r) v))
+          (AtMost (around limit (best_of (λ p. erring p r) ids)) (suc (size v)) (suc (depth v)))
       taken None there passes = absurd (false≢true passes)
       taken (Some p) there passes = rw there (on_inside 0 (resolve writer reader (node_at writer p) (node_at reader r) v) _
           (on_mono (resolve writer reader (node_at writer p) (node_at reader r) v) (AtMost (erring p r) (size v) (depth v)) _
-          (λ x. under_around limit _ (size v) (depth v) (under_best (λ q. erring q r) places k p (size v) (depth v) there x)) (each p passes)))
+          (λ x. under_around limit _ (size v) (depth v) (under_best (λ q. erring q r) ids k p (size v) (depth v) there x)) (each p passes)))
   union_step v k w r _ h each = absurd (false≢true h)
 
   -- a datum that is no union's
@@ -267,11 +267,11 @@ module _ (writer reader : List Node) (limit : ℕ) (table : LeastTable) (erring 
     step_errors (Value.string t) w r h = plain_step (Value.string t) w r (string_as t) refl h (λ q plain m. on_string t q _)
     step_errors (Value.array vs) w r h = plain_step (Value.array vs) w r _ refl h
         (inner_array w (node_at writer w) vs
-        (and_right (is_count (values_count vs)) (is_some_and (λ place. each_fits writer (node_at writer place) vs) (items_node (node_at writer w))) h)
+        (and_right (is_count (values_count vs)) (is_some_and (λ id. each_fits writer (node_at writer id) vs) (items_node (node_at writer w))) h)
         (λ a b f. at_most_items vs a b 0 f))
     step_errors (Value.map_of es) w r h = plain_step (Value.map_of es) w r _ refl h
         (inner_map w (node_at writer w) es
-        (and_right _ (is_some_and (λ place. entries_fit writer (node_at writer place) es) (values_node (node_at writer w))) h)
+        (and_right _ (is_some_and (λ id. entries_fit writer (node_at writer id) es) (values_node (node_at writer w))) h)
         (λ a b f. at_most_entries es a b 0 f))
     step_errors (Value.union k v) w r h = union_step v k w r (node_at writer w) h (λ p f. lower_at v p r f (step_errors v p r f))
     step_errors (Value.record_of vs) w r h = plain_step (Value.record_of vs) w r _ refl h
@@ -281,60 +281,60 @@ module _ (writer reader : List Node) (limit : ℕ) (table : LeastTable) (erring 
     step_errors (Value.fixed b) w r h = plain_step (Value.fixed b) w r (λ q. Ok (Value.fixed b)) refl h (λ q plain m. tt)
 
     -- the items
-    at_most_items : (vs : Values) (w r place : ℕ) → each_fits writer (node_at writer w) vs ≡ true
-        → OnErr (resolve_items writer reader (node_at writer w) (node_at reader r) place vs) (AtMost (erring w r) (values_size vs) (values_depth vs))
-    at_most_items no_values w r place h = tt
-    at_most_items (value v vs) w r place h =
-        on_both value (inside place (resolve writer reader (node_at writer w) (node_at reader r) v))
-        (resolve_items writer reader (node_at writer w) (node_at reader r) (suc place) vs) _
-        (on_inside place (resolve writer reader (node_at writer w) (node_at reader r) v) _
+    at_most_items : (vs : Values) (w r index : ℕ) → each_fits writer (node_at writer w) vs ≡ true
+        → OnErr (resolve_items writer reader (node_at writer w) (node_at reader r) index vs) (AtMost (erring w r) (values_size vs) (values_depth vs))
+    at_most_items no_values w r index h = tt
+    at_most_items (value v vs) w r index h =
+        on_both value (inside index (resolve writer reader (node_at writer w) (node_at reader r) v))
+        (resolve_items writer reader (node_at writer w) (node_at reader r) (suc index) vs) _
+        (on_inside index (resolve writer reader (node_at writer w) (node_at reader r) v) _
         (on_mono (resolve writer reader (node_at writer w) (node_at reader r) v) (AtMost (erring w r) (size v) (depth v)) _
         (under_more_left (erring w r) (size v) (depth v) (values_size vs) (values_depth vs))
         (lower_at v w r (and_left (fits writer (node_at writer w) v) (each_fits writer (node_at writer w) vs) h)
         (step_errors v w r (and_left (fits writer (node_at writer w) v) (each_fits writer (node_at writer w) vs) h)))))
-        (on_mono (resolve_items writer reader (node_at writer w) (node_at reader r) (suc place) vs) (AtMost (erring w r) (values_size vs) (values_depth vs)) _
+        (on_mono (resolve_items writer reader (node_at writer w) (node_at reader r) (suc index) vs) (AtMost (erring w r) (values_size vs) (values_depth vs)) _
         (under_more_right (erring w r) (size v) (depth v) (values_size vs) (values_depth vs))
-        (at_most_items vs w r (suc place) (and_right (fits writer (node_at writer w) v) (each_fits writer (node_at writer w) vs) h)))
+        (at_most_items vs w r (suc index) (and_right (fits writer (node_at writer w) v) (each_fits writer (node_at writer w) vs) h)))
 
     -- the entries
-    at_most_entries : (es : Entries) (w r place : ℕ) → entries_fit writer (node_at writer w) es ≡ true
-        → OnErr (resolve_entries writer reader (node_at writer w) (node_at reader r) place es) (AtMost (erring w r) (entries_size es) (entries_depth es))
-    at_most_entries no_entries w r place h = tt
-    at_most_entries (entry k v es) w r place h =
-        on_both (entry k) (inside place (resolve writer reader (node_at writer w) (node_at reader r) v))
-        (resolve_entries writer reader (node_at writer w) (node_at reader r) (suc place) es) _
-        (on_inside place (resolve writer reader (node_at writer w) (node_at reader r) v) _
+    at_most_entries : (es : Entries) (w r index : ℕ) → entries_fit writer (node_at writer w) es ≡ true
+        → OnErr (resolve_entries writer reader (node_at writer w) (node_at reader r) index es) (AtMost (erring w r) (entries_size es) (entries_depth es))
+    at_most_entries no_entries w r index h = tt
+    at_most_entries (entry k v es) w r index h =
+        on_both (entry k) (inside index (resolve writer reader (node_at writer w) (node_at reader r) v))
+        (resolve_entries writer reader (node_at writer w) (node_at reader r) (suc index) es) _
+        (on_inside index (resolve writer reader (node_at writer w) (node_at reader r) v) _
         (on_mono (resolve writer reader (node_at writer w) (node_at reader r) v) (AtMost (erring w r) (size v) (depth v)) _
         (under_more_left (erring w r) (size v) (depth v) (entries_size es) (entries_depth es))
         (lower_at v w r (and_left (fits writer (node_at writer w) v) (entries_fit writer (node_at writer w) es) h)
         (step_errors v w r (and_left (fits writer (node_at writer w) v) (entries_fit writer (node_at writer w) es) h)))))
-        (on_mono (resolve_entries writer reader (node_at writer w) (node_at reader r) (suc place) es) (AtMost (erring w r) (entries_size es) (entries_depth es)) _
+        (on_mono (resolve_entries writer reader (node_at writer w) (node_at reader r) (suc index) es) (AtMost (erring w r) (entries_size es) (entries_depth es)) _
         (under_more_right (erring w r) (size v) (depth v) (entries_size es) (entries_depth es))
-        (at_most_entries es w r (suc place) (and_right (fits writer (node_at writer w) v) (entries_fit writer (node_at writer w) es) h)))
+        (at_most_entries es w r (suc index) (and_right (fits writer (node_at writer w) v) (entries_fit writer (node_at writer w) es) h)))
 
-    -- the writer's fields from a place on
-    at_most_sources : (vs : Values) (fields theirs : List FieldNode) (place : ℕ) (places : List ℕ) → drop place (field_ids fields) ≡ places
-        → fields_fit writer places vs ≡ true
-        → OnErr (resolve_sources writer reader fields theirs place vs)
-        (AtMost (err_of_fields limit table erring fields theirs place places) (values_size vs) (values_depth vs))
-    at_most_sources no_values fields theirs place places e h = tt
-    at_most_sources (value v vs) fields theirs place [] e h = absurd (false≢true h)
-    at_most_sources (value v vs) fields theirs place (p ∷ ps) e h =
-        on_sourced (reader_field fields theirs place) place _ (resolve_sources writer reader fields theirs (suc place) vs) _
-        (λ f here. rw (here, slice_get_of_drop (field_ids fields) ps place p e)
+    -- the writer's fields from an index on
+    at_most_sources : (vs : Values) (fields theirs : List FieldNode) (index : ℕ) (ids : List ℕ) → drop index (field_ids fields) ≡ ids
+        → fields_fit writer ids vs ≡ true
+        → OnErr (resolve_sources writer reader fields theirs index vs)
+        (AtMost (err_of_fields limit table erring fields theirs index ids) (values_size vs) (values_depth vs))
+    at_most_sources no_values fields theirs index ids e h = tt
+    at_most_sources (value v vs) fields theirs index [] e h = absurd (false≢true h)
+    at_most_sources (value v vs) fields theirs index (p ∷ ps) e h =
+        on_sourced (reader_field fields theirs index) index _ (resolve_sources writer reader fields theirs (suc index) vs) _
+        (λ f here. rw (here, slice_get_of_drop (field_ids fields) ps index p e)
         (on_mono (resolve writer reader (node_at writer p) (node_at reader f.node) v) (AtMost (erring p f.node) (size v) (depth v)) _
-        (λ x. under_lesser_left (together limit (erring p f.node) (all_of limit table ps)) (together limit (table p) (err_of_fields limit table erring fields theirs (suc place) ps)) _ _
+        (λ x. under_lesser_left (together limit (erring p f.node) (all_of limit table ps)) (together limit (table p) (err_of_fields limit table erring fields theirs (suc index) ps)) _ _
         (under_together limit (erring p f.node) (all_of limit table ps) (size v) (depth v) (values_size vs) (values_depth vs) x
         (at_most_fields writer limit table low.for_data vs ps (and_right (fits writer (node_at writer p) v) (fields_fit writer ps vs) h))))
         (lower_at v p f.node (and_left (fits writer (node_at writer p) v) (fields_fit writer ps vs) h)
         (step_errors v p f.node (and_left (fits writer (node_at writer p) v) (fields_fit writer ps vs) h)))))
-        (on_mono (resolve_sources writer reader fields theirs (suc place) vs)
-        (AtMost (err_of_fields limit table erring fields theirs (suc place) ps) (values_size vs) (values_depth vs)) _
-        (λ x. under_lesser_right (together limit (err_of_field erring p (reader_field fields theirs place)) (all_of limit table ps))
-        (together limit (table p) (err_of_fields limit table erring fields theirs (suc place) ps)) _ _
-        (under_together limit (table p) (err_of_fields limit table erring fields theirs (suc place) ps) (size v) (depth v) (values_size vs) (values_depth vs)
+        (on_mono (resolve_sources writer reader fields theirs (suc index) vs)
+        (AtMost (err_of_fields limit table erring fields theirs (suc index) ps) (values_size vs) (values_depth vs)) _
+        (λ x. under_lesser_right (together limit (err_of_field erring p (reader_field fields theirs index)) (all_of limit table ps))
+        (together limit (table p) (err_of_fields limit table erring fields theirs (suc index) ps)) _ _
+        (under_together limit (table p) (err_of_fields limit table erring fields theirs (suc index) ps) (size v) (depth v) (values_size vs) (values_depth vs)
         (at_most_data writer limit table low.for_data v p (and_left (fits writer (node_at writer p) v) (fields_fit writer ps vs) h)) x))
-        (at_most_sources vs fields theirs (suc place) ps (drop_more (field_ids fields) ps place p e)
+        (at_most_sources vs fields theirs (suc index) ps (drop_more (field_ids fields) ps index p e)
         (and_right (fits writer (node_at writer p) v) (fields_fit writer ps vs) h)))
 
   -- no datum that errs is below the pair's entry

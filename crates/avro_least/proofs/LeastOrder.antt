@@ -78,8 +78,8 @@ under_lesser_right (Some a) (Some b) s d h = chosen (precedes b a) refl
     chosen true e = h
     chosen false e = follows_under a b s d e h
 
--- the best is no more than the entry of one of the places
-pub under_best : (table : LeastTable) (places : List ℕ) (k p s d : ℕ) → slice_get places k ≡ Some p → AtMost (table p) s d → AtMost (best_of table places) s d
+-- the best is no more than the entry of one of the ids
+pub under_best : (table : LeastTable) (ids : List ℕ) (k p s d : ℕ) → slice_get ids k ≡ Some p → AtMost (table p) s d → AtMost (best_of table ids) s d
 under_best table [] k p s d here h = absurd (grind arith)
 under_best table (q ∷ qs) zero p s d here h =
     under_lesser_left (table q) (best_of table qs) s d (subst (λ (x : ℕ). AtMost (table x) s d) (some_same p q (sym here)) h)

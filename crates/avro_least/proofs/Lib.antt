@@ -10,6 +10,7 @@ pub mod Fixed
 pub mod LeastData
 pub mod LeastErrors
 pub mod LeastOrder
+pub mod LoneValue
 pub mod PairRounds
 pub mod PairTable
 pub mod Rounds

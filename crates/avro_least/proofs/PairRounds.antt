@@ -135,10 +135,10 @@ module _ (count : ℕ) (table : LeastTable) (keys : List ℕ) (es : List (Option
       some_same : (a b : ℕ) → Some a ≡ Some b → a ≡ b
       some_same a b e = cc
 
-      by_place : (x : Least) → table w ≡ Some x → nat_lt r count ≡ true → (o : Option ℕ) → position (λ q. pair_number count w r == q) keys ≡ o
+      by_index : (x : Least) → table w ≡ Some x → nat_lt r count ≡ true → (o : Option ℕ) → position (λ q. pair_number count w r == q) keys ≡ o
           → (erring_of count table keys (seen_all (set es i found)) w r ≡ erring_of count table keys (seen_all es) w r) ⊎ IsSetAt w r
-      by_place x e m None p = inl (erring_at count table keys (seen_all (set es i found)) w r x None e m p ∙ sym (erring_at count table keys (seen_all es) w r x None e m p))
-      by_place x e m (Some j) p = elim (cases_eq j i) [
+      by_index x e m None p = inl (erring_at count table keys (seen_all (set es i found)) w r x None e m p ∙ sym (erring_at count table keys (seen_all es) w r x None e m p))
+      by_index x e m (Some j) p = elim (cases_eq j i) [
         | inl same ↦
             let at = position-Some (λ q. pair_number count w r == q) keys j 0 p in
             let there : slice_get keys j ≡ Some (w * count + r) = slice_get-get_or keys j 0 at.0 ∙ ap Some (sym (eqb-true (w * count + r) (get_or keys j 0) at.1)) in
@@ -154,7 +154,7 @@ module _ (count : ℕ) (table : LeastTable) (keys : List ℕ) (es : List (Option
 
       by_test : (x : Least) → table w ≡ Some x → (t : Bool) → nat_lt r count ≡ t
           → (erring_of count table keys (seen_all (set es i found)) w r ≡ erring_of count table keys (seen_all es) w r) ⊎ IsSetAt w r
-      by_test x e true m = by_place x e m (position (λ q. pair_number count w r == q) keys) refl
+      by_test x e true m = by_index x e m (position (λ q. pair_number count w r == q) keys) refl
       by_test x e false m = inl (erring_past count table keys (seen_all (set es i found)) w r x e m ∙ sym (erring_past count table keys (seen_all es) w r x e m))
 
       by_node : (o : Option Least) → table w ≡ o

@@ -57,18 +57,18 @@ lesser_either (Some a) (Some b) h = chosen (precedes b a)
     chosen true = inr (refl, refl)
     chosen false = inl (refl, refl)
 
--- a best entry is that of one of the places
-pub record IsBest (table : LeastTable) (places : List ℕ) : Type 0 where
+-- a best entry is that of one of the ids
+pub record IsBest (table : LeastTable) (ids : List ℕ) : Type 0 where
   pub branch : ℕ
-  pub place : ℕ
-  pub here : slice_get places branch ≡ Some place
-  pub is : best_of table places ≡ table place
+  pub id : ℕ
+  pub here : slice_get ids branch ≡ Some id
+  pub is : best_of table ids ≡ table id
 
-pub best_is : (table : LeastTable) (places : List ℕ) → is_some (best_of table places) ≡ true → IsBest table places
+pub best_is : (table : LeastTable) (ids : List ℕ) → is_some (best_of table ids) ≡ true → IsBest table ids
 best_is table [] h = absurd (false≢true h)
 best_is table (p ∷ ps) h = elim (lesser_either (table p) (best_of table ps) h) [
-  | inl first ↦ record { branch = 0; place = p; here = refl; is = first.1 }
-  | inr later ↦ (let found = best_is table ps later.0 in record { branch = suc found.branch; place = found.place; here = found.here; is = later.1 ∙ found.is })
+  | inl first ↦ record { branch = 0; id = p; here = refl; is = first.1 }
+  | inr later ↦ (let found = best_is table ps later.0 in record { branch = suc found.branch; id = found.id; here = found.here; is = later.1 ∙ found.is })
 ]
 
 -- the empty text
@@ -85,10 +85,10 @@ zeros_fit n h = and_from (is_count (length (replicate n 0))) (list_all (λ x. na
     small zero = refl
     small (suc m) = small m
 
--- values for some places
-pub record ShowsFields (writer : List Node) (limit : ℕ) (places : List ℕ) (e : Option Least) : Type 0 where
+-- values for some ids
+pub record ShowsFields (writer : List Node) (limit : ℕ) (ids : List ℕ) (e : Option Least) : Type 0 where
   pub values : Values
-  pub fitting : fields_fit writer places values ≡ true
+  pub fitting : fields_fit writer ids values ≡ true
   pub exact : Exactly limit e (values_size values) (values_depth values)
 
 module _ (writer : List Node) (limit : ℕ) (table : LeastTable) (shown : AreDataShown writer limit table) where
@@ -105,23 +105,23 @@ module _ (writer : List Node) (limit : ℕ) (table : LeastTable) (shown : AreDat
             first.exact others.exact;
       }
 
-  union_shown : (places : List ℕ) → IsBest table places → is_some (best_of table places) ≡ true
-      → ShowsData writer limit (Node.union places) (around limit (best_of table places))
-  union_shown places best h =
-      let part = shown best.place (subst (λ (e : Option Least). is_some e ≡ true) best.is h) in
+  union_shown : (ids : List ℕ) → IsBest table ids → is_some (best_of table ids) ≡ true
+      → ShowsData writer limit (Node.union ids) (around limit (best_of table ids))
+  union_shown ids best h =
+      let part = shown best.id (subst (λ (e : Option Least). is_some e ≡ true) best.is h) in
       record {
         datum = Value.union best.branch part.datum;
         fitting = rw best.here part.fitting;
-        exact = exact_around limit (best_of table places) (size part.datum) (depth part.datum)
+        exact = exact_around limit (best_of table ids) (size part.datum) (depth part.datum)
             (subst (λ (e : Option Least). Exactly limit e (size part.datum) (depth part.datum)) (sym best.is) part.exact);
       }
 
   -- a step of the table
   pub step_shown : (n : Node) → meets_its_rules writer n ≡ true → is_some (least_datum limit table n) ≡ true
       → ShowsData writer limit n (least_datum limit table n)
-  step_shown (Node.union places) rules h =
-      let some = around_some limit (best_of table places) h in
-      union_shown places (best_is table places some) some
+  step_shown (Node.union ids) rules h =
+      let some = around_some limit (best_of table ids) h in
+      union_shown ids (best_is table ids some) some
   step_shown (Node.record_of name aliases fields) rules h =
       let parts = shown_fields (field_ids fields) (around_some limit (all_of limit table (field_ids fields)) h) in
       record {
@@ -135,8 +135,8 @@ module _ (writer : List Node) (limit : ℕ) (table : LeastTable) (shown : AreDat
   step_shown Node.long rules h = record { datum = Value.long (pos 0); fitting = refl; exact = λ k. (refl, refl) }
   step_shown Node.bytes rules h = record { datum = Value.bytes []; fitting = refl; exact = λ k. (refl, refl) }
   step_shown Node.string rules h = record { datum = Value.string []; fitting = empty_text; exact = λ k. (refl, refl) }
-  step_shown (Node.array place) rules h = record { datum = Value.array no_values; fitting = refl; exact = λ k. (refl, refl) }
-  step_shown (Node.map_of place) rules h = record { datum = Value.map_of no_entries; fitting = refl; exact = λ k. (refl, refl) }
+  step_shown (Node.array id) rules h = record { datum = Value.array no_values; fitting = refl; exact = λ k. (refl, refl) }
+  step_shown (Node.map_of id) rules h = record { datum = Value.map_of no_entries; fitting = refl; exact = λ k. (refl, refl) }
   step_shown (Node.enum name aliases symbols default) rules h = record { datum = Value.enum 0; fitting = and_left _ _ (and_left _ _ (and_left _ _ (and_left _ _ rules))); exact = λ k. (refl, refl) }
   step_shown (Node.fixed name aliases count) rules h = record {
     datum = Value.fixed (replicate count 0);

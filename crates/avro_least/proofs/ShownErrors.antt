@@ -65,10 +65,10 @@ fault_matched writer reader n q f h = chosen (is_match writer reader n q)
     chosen false = tt
 
 -- a later field
-pub fault_later : (o : Option FieldNode) (place : ℕ) (resolve : FieldNode → Resolved) (later : Result Sourced ResolutionFault) → IsFault later
-    → IsFault (with_sourced o place resolve later)
-fault_later None place resolve later h = h
-fault_later (Some f) place resolve later h = fault_second (λ v found. (place, v) ∷ found) (inside place (resolve f)) later h
+pub fault_later : (o : Option FieldNode) (index : ℕ) (resolve : FieldNode → Resolved) (later : Result Sourced ResolutionFault) → IsFault later
+    → IsFault (with_sourced o index resolve later)
+fault_later None index resolve later h = h
+fault_later (Some f) index resolve later h = fault_second (λ v found. (index, v) ∷ found) (inside index (resolve f)) later h
 
 -- what a plain node makes of a datum that is no union's
 pub plain_form : (writer reader : List Node) (n : Node) (v : Value) → is_plain_value v ≡ true
@@ -82,7 +82,7 @@ pub value_of_plain : (nodes : List Node) (n : Node) (v : Value) → branches_of 
 value_of_plain nodes n (Value.union k v) plain h = absurd (no_branch n plain h)
   where
     no_branch : (n : Node) → branches_of n ≡ None
-        → is_some_and (λ place. fits nodes (node_at nodes place) v) (option_and_then (λ places. slice_get places k) (branches_of n)) ≡ true → ⊥
+        → is_some_and (λ id. fits nodes (node_at nodes id) v) (option_and_then (λ ids. slice_get ids k) (branches_of n)) ≡ true → ⊥
     no_branch n e m = false≢true (rw e at m)
 value_of_plain nodes n _ plain h = refl
 
@@ -96,7 +96,7 @@ exact_single : (limit : ℕ) (e : Option Least) (s d : ℕ) → Exactly limit e 
 exact_single limit None s d h = h
 exact_single limit (Some e) s d h = λ k. let x = h k in (omega (arith, x.0), omega (arith, x.1))
 
--- where one passes, its place
+-- where one passes, its index
 pub any_at : {A : Type 0} (test : A → Bool) (xs : List A) → list_any test xs ≡ true → (k : ℕ) × ((x : A) × (slice_get xs k ≡ Some x) × (test x ≡ true) × (k < length xs))
 any_at test [] h = absurd (false≢true h)
 any_at test (x ∷ xs) h = elim (or_cases (test x) (list_any test xs) h) [
@@ -104,9 +104,9 @@ any_at test (x ∷ xs) h = elim (or_cases (test x) (list_any test xs) h) [
   | inr later ↦ (let found = any_at test xs later in (suc found.0, (found.1.0, found.1.1, found.1.2, omega (arith, found.1.3))))
 ]
 
--- a symbol that is among none has no place
-pub no_place : (s : List ℕ) (theirs : List (List ℕ)) → list_any (bytes_eq s) theirs ≡ false → position (λ t. bytes_eq t s) theirs ≡ None
-no_place s theirs h = chosen (position (λ t. bytes_eq t s) theirs) refl
+-- a symbol that is among none has no index
+pub no_index : (s : List ℕ) (theirs : List (List ℕ)) → list_any (bytes_eq s) theirs ≡ false → position (λ t. bytes_eq t s) theirs ≡ None
+no_index s theirs h = chosen (position (λ t. bytes_eq t s) theirs) refl
   where
     chosen : (o : Option ℕ) → position (λ t. bytes_eq t s) theirs ≡ o → o ≡ None
     chosen None e = refl
@@ -118,23 +118,23 @@ no_place s theirs h = chosen (position (λ t. bytes_eq t s) theirs) refl
 -- the symbol that lacks
 lacking : (symbols theirs : List (List ℕ)) (y : Option ℕ) → lacks_symbol symbols theirs y ≡ true
     → (k : ℕ) × (nat_lt k (length symbols) ≡ true) × IsFault (enum_or_default (position (λ t. bytes_eq t (unwrap_or (slice_get symbols k) [])) theirs) y)
-lacking symbols theirs (Some place) h = absurd (false≢true h)
+lacking symbols theirs (Some index) h = absurd (false≢true h)
 lacking symbols theirs None h =
     let found = any_at (λ s. not (list_any (bytes_eq s) theirs)) symbols h in (
       found.0,
       lt-ltb found.0 (length symbols) found.1.3,
       subst (λ (o : Option (List ℕ)). IsFault (enum_or_default (position (λ t. bytes_eq t (unwrap_or o [])) theirs) None)) (sym found.1.1)
-          (subst (λ (o : Option ℕ). IsFault (enum_or_default o None)) (sym (no_place found.1.0 theirs (not_true _ found.1.2))) tt),
+          (subst (λ (o : Option ℕ). IsFault (enum_or_default o None)) (sym (no_index found.1.0 theirs (not_true _ found.1.2))) tt),
     )
 
 module _ (writer reader : List Node) where
   -- a field that errs
-  pub field_faults : (fields theirs : List FieldNode) (place p : ℕ) (f : FieldNode) (v : Value) (rest : Values) → reader_field fields theirs place ≡ Some f
-      → slice_get (field_ids fields) place ≡ Some p → IsFault (resolve writer reader (node_at writer p) (node_at reader f.node) v)
-      → IsFault (resolve_sources writer reader fields theirs place (value v rest))
-  field_faults fields theirs place p f v rest found here h = rw (found, here)
-      (fault_first (λ v later. (place, v) ∷ later) (inside place (resolve writer reader (node_at writer p) (node_at reader f.node) v))
-      (resolve_sources writer reader fields theirs (suc place) rest) (fault_inside place (resolve writer reader (node_at writer p) (node_at reader f.node) v) h))
+  pub field_faults : (fields theirs : List FieldNode) (index p : ℕ) (f : FieldNode) (v : Value) (rest : Values) → reader_field fields theirs index ≡ Some f
+      → slice_get (field_ids fields) index ≡ Some p → IsFault (resolve writer reader (node_at writer p) (node_at reader f.node) v)
+      → IsFault (resolve_sources writer reader fields theirs index (value v rest))
+  field_faults fields theirs index p f v rest found here h = rw (found, here)
+      (fault_first (λ v later. (index, v) ∷ later) (inside index (resolve writer reader (node_at writer p) (node_at reader f.node) v))
+      (resolve_sources writer reader fields theirs (suc index) rest) (fault_inside index (resolve writer reader (node_at writer p) (node_at reader f.node) v) h))
 
   -- a record of which a field is missing
   pub missing_errs : (a b : _) (xs ys : _) (fields theirs : List FieldNode) (v : Value) → fits writer (Node.record_of a xs fields) v ≡ true
@@ -146,7 +146,7 @@ module _ (writer reader : List Node) where
     where
       chosen : (o : Option ℕ) → is_some o ≡ true → IsFault (record_or_missing fields theirs o (resolve_sources writer reader fields theirs 0 vs))
       chosen None s = absurd (false≢true s)
-      chosen (Some place) s = tt
+      chosen (Some index) s = tt
   missing_errs a b xs ys fields theirs (Value.array vs) h m = absurd (false≢true (and_right (is_count (values_count vs)) false h))
   missing_errs a b xs ys fields theirs (Value.map_of es) h m = absurd (false≢true (and_right _ false h))
   missing_errs a b xs ys fields theirs (Value.fixed c) h m = absurd (false≢true (and_right (are_bytes c) false h))
@@ -168,55 +168,55 @@ module _ (writer reader : List Node) (limit : ℕ) (table : LeastTable) (erring 
       shows n q e d.datum d.fitting (subst (λ (x : Resolved). IsFault x) (sym (form.1 q)) (faults form.0)) d.exact
 
   -- values of which one errs
-  record ErringFields (fields theirs : List FieldNode) (place : ℕ) (ps : List ℕ) (e : Option Least) : Type 0 where
+  record ErringFields (fields theirs : List FieldNode) (index : ℕ) (ps : List ℕ) (e : Option Least) : Type 0 where
     values : Values
     fitting : fields_fit writer ps values ≡ true
-    faulty : IsFault (resolve_sources writer reader fields theirs place values)
+    faulty : IsFault (resolve_sources writer reader fields theirs index values)
     exact : Exactly limit e (values_size values) (values_depth values)
 
-  erring_fields : (fields theirs : List FieldNode) (place : ℕ) (ps : List ℕ) → drop place (field_ids fields) ≡ ps
-      → list_all known (field_children fields theirs) ≡ true → is_some (err_of_fields limit table erring fields theirs place ps) ≡ true
-      → ErringFields fields theirs place ps (err_of_fields limit table erring fields theirs place ps)
-  erring_fields fields theirs place [] e children h = absurd (false≢true h)
-  erring_fields fields theirs place (p ∷ ps) e children h =
-      elim (lesser_either (together limit (err_of_field erring p (reader_field fields theirs place)) (all_of limit table ps))
-      (together limit (table p) (err_of_fields limit table erring fields theirs (suc place) ps)) h) [
+  erring_fields : (fields theirs : List FieldNode) (index : ℕ) (ps : List ℕ) → drop index (field_ids fields) ≡ ps
+      → list_all known (field_children fields theirs) ≡ true → is_some (err_of_fields limit table erring fields theirs index ps) ≡ true
+      → ErringFields fields theirs index ps (err_of_fields limit table erring fields theirs index ps)
+  erring_fields fields theirs index [] e children h = absurd (false≢true h)
+  erring_fields fields theirs index (p ∷ ps) e children h =
+      elim (lesser_either (together limit (err_of_field erring p (reader_field fields theirs index)) (all_of limit table ps))
+      (together limit (table p) (err_of_fields limit table erring fields theirs (suc index) ps)) h) [
         | inl first ↦
-            let parts = together_some limit (err_of_field erring p (reader_field fields theirs place)) (all_of limit table ps) first.0 in
-            subst (λ (x : Option Least). ErringFields fields theirs place (p ∷ ps) x) (sym first.1)
-            (here_errs (reader_field fields theirs place) refl parts.0 parts.1)
+            let parts = together_some limit (err_of_field erring p (reader_field fields theirs index)) (all_of limit table ps) first.0 in
+            subst (λ (x : Option Least). ErringFields fields theirs index (p ∷ ps) x) (sym first.1)
+            (here_errs (reader_field fields theirs index) refl parts.0 parts.1)
         | inr later ↦
-            let parts = together_some limit (table p) (err_of_fields limit table erring fields theirs (suc place) ps) later.0 in
-            subst (λ (x : Option Least). ErringFields fields theirs place (p ∷ ps) x) (sym later.1)
+            let parts = together_some limit (table p) (err_of_fields limit table erring fields theirs (suc index) ps) later.0 in
+            subst (λ (x : Option Least). ErringFields fields theirs index (p ∷ ps) x) (sym later.1)
             (later_errs (live p parts.0)
-            (erring_fields fields theirs (suc place) ps (drop_more (field_ids fields) ps place p e) children parts.1))
+            (erring_fields fields theirs (suc index) ps (drop_more (field_ids fields) ps index p e) children parts.1))
       ]
     where
-      here_errs : (o : Option FieldNode) → reader_field fields theirs place ≡ o → is_some (err_of_field erring p o) ≡ true → is_some (all_of limit table ps) ≡ true
-          → ErringFields fields theirs place (p ∷ ps) (together limit (err_of_field erring p o) (all_of limit table ps))
+      here_errs : (o : Option FieldNode) → reader_field fields theirs index ≡ o → is_some (err_of_field erring p o) ≡ true → is_some (all_of limit table ps) ≡ true
+          → ErringFields fields theirs index (p ∷ ps) (together limit (err_of_field erring p o) (all_of limit table ps))
       here_errs None found some others = absurd (false≢true some)
       here_errs (Some f) found some others =
-          let at_place = slice_get_of_drop (field_ids fields) ps place p e in
-          let there = subst (λ (o : Option ℕ). known (record { w = unwrap_or o 0; r = f.node }) ≡ true) at_place (source_child known fields theirs place f found children) in
+          let at_index = slice_get_of_drop (field_ids fields) ps index p e in
+          let there = subst (λ (o : Option ℕ). known (record { w = unwrap_or o 0; r = f.node }) ≡ true) at_index (source_child known fields theirs index f found children) in
           let first = errors p f.node there some in
           let rest = shown_fields writer limit table live ps others in
           record {
             values = value first.datum rest.values;
             fitting = and_from (fits writer (node_at writer p) first.datum) (fields_fit writer ps rest.values) first.fitting rest.fitting;
-            faulty = field_faults writer reader fields theirs place p f first.datum rest.values found at_place
+            faulty = field_faults writer reader fields theirs index p f first.datum rest.values found at_index
                 (is_fault (resolve writer reader (node_at writer p) (node_at reader f.node) first.datum) first.fault first.faulty);
             exact = exact_together limit (erring p f.node) (all_of limit table ps) (size first.datum) (depth first.datum) (values_size rest.values) (values_depth rest.values)
                 first.exact rest.exact;
           }
 
       later_errs : ShowsData writer limit (node_at writer p) (table p)
-          → ErringFields fields theirs (suc place) ps (err_of_fields limit table erring fields theirs (suc place) ps)
-          → ErringFields fields theirs place (p ∷ ps) (together limit (table p) (err_of_fields limit table erring fields theirs (suc place) ps))
+          → ErringFields fields theirs (suc index) ps (err_of_fields limit table erring fields theirs (suc index) ps)
+          → ErringFields fields theirs index (p ∷ ps) (together limit (table p) (err_of_fields limit table erring fields theirs (suc index) ps))
       later_errs first rest = record {
         values = value first.datum rest.values;
         fitting = and_from (fits writer (node_at writer p) first.datum) (fields_fit writer ps rest.values) first.fitting rest.fitting;
-        faulty = fault_later (reader_field fields theirs place) place _ (resolve_sources writer reader fields theirs (suc place) rest.values) rest.faulty;
-        exact = exact_together limit (table p) (err_of_fields limit table erring fields theirs (suc place) ps) (size first.datum) (depth first.datum)
+        faulty = fault_later (reader_field fields theirs index) index _ (resolve_sources writer reader fields theirs (suc index) rest.values) rest.faulty;
+        exact = exact_together limit (table p) (err_of_fields limit table erring fields theirs (suc index) ps) (size first.datum) (depth first.datum)
             (values_size rest.values) (values_depth rest.values) first.exact rest.exact;
       }
 
@@ -253,7 +253,7 @@ module _ (writer reader : List Node) (limit : ℕ) (table : LeastTable) (erring 
         where
           not_missing : (o : Option ℕ) (x : Result Sourced ResolutionFault) → IsFault x → IsFault (record_or_missing fields theirs o x)
           not_missing None x f = fault_map _ x f
-          not_missing (Some place) x f = tt
+          not_missing (Some index) x f = tt
   inside_step w r (Node.array a) (Node.array b) own children h =
       let part = errors a b (and_left (known (record { w = a; r = b })) true children) (around_some limit (erring a b) h) in
       shows (Node.array a) (Node.array b) (around limit (erring a b)) (Value.array (value part.datum no_values))
@@ -268,7 +268,7 @@ module _ (writer reader : List Node) (limit : ℕ) (table : LeastTable) (erring 
   inside_step w r (Node.map_of a) (Node.map_of b) own children h =
       let part = errors a b (and_left (known (record { w = a; r = b })) true children) (around_some limit (erring a b) h) in
       shows (Node.map_of a) (Node.map_of b) (around limit (erring a b)) (Value.map_of (entry [] part.datum no_entries))
-      (and_from _ (is_some_and (λ place. entries_fit writer (node_at writer place) (entry [] part.datum no_entries)) (Some a))
+      (and_from _ (is_some_and (λ id. entries_fit writer (node_at writer id) (entry [] part.datum no_entries)) (Some a))
       (and_from (is_text [] && true) true (and_from (is_text []) true empty_text refl) refl)
       (and_from (fits writer (node_at writer a) part.datum) true part.fitting refl))
       (fault_matched writer reader (Node.map_of a) (Node.map_of b)
@@ -295,54 +295,54 @@ module _ (writer reader : List Node) (limit : ℕ) (table : LeastTable) (erring 
           (subst (λ (b : Bool). IsFault (cond b (f q) (Err (fault_here no_match)))) (sym e) tt)) (own s)
 
   -- a plain node and a union
-  into_step : (w r : ℕ) (n : Node) (places : List ℕ) → branches_of n ≡ None → node_at reader r ≡ Node.union places
+  into_step : (w r : ℕ) (n : Node) (ids : List ℕ) → branches_of n ≡ None → node_at reader r ≡ Node.union ids
       → (is_some (table w) ≡ true → ShowsData writer limit n (table w))
       → ((b : ℕ) → known (record { w = w; r = b }) ≡ true → is_some (erring w b) ≡ true → ShowsError writer reader limit n (node_at reader b) (erring w b))
-      → list_all known (children_of writer reader w r n (Node.union places)) ≡ true
-      → is_some (err_of writer reader limit table erring w r n (Node.union places)) ≡ true
-      → ShowsError writer reader limit n (Node.union places) (err_of writer reader limit table erring w r n (Node.union places))
-  into_step w r n places plain there own each children h = chosen (first_match writer reader n places) refl
+      → list_all known (children_of writer reader w r n (Node.union ids)) ≡ true
+      → is_some (err_of writer reader limit table erring w r n (Node.union ids)) ≡ true
+      → ShowsError writer reader limit n (Node.union ids) (err_of writer reader limit table erring w r n (Node.union ids))
+  into_step w r n ids plain there own each children h = chosen (first_match writer reader n ids) refl
     where
-      chosen : (o : Option ℕ) → first_match writer reader n places ≡ o
-          → ShowsError writer reader limit n (Node.union places) (err_of writer reader limit table erring w r n (Node.union places))
+      chosen : (o : Option ℕ) → first_match writer reader n ids ≡ o
+          → ShowsError writer reader limit n (Node.union ids) (err_of writer reader limit table erring w r n (Node.union ids))
       chosen None e =
-          let is = err_of_none writer reader limit table erring w r n places plain e in
-          subst (λ (x : Option Least). ShowsError writer reader limit n (Node.union places) x) (sym is)
-          (any_errs n (Node.union places) (table w) plain
-          (λ f. subst (λ (o : Option ℕ). IsFault (into_branch writer reader n places o f)) (sym e) tt)
+          let is = err_of_none writer reader limit table erring w r n ids plain e in
+          subst (λ (x : Option Least). ShowsError writer reader limit n (Node.union ids) x) (sym is)
+          (any_errs n (Node.union ids) (table w) plain
+          (λ f. subst (λ (o : Option ℕ). IsFault (into_branch writer reader n ids o f)) (sym e) tt)
           (own (subst (λ (x : Option Least). is_some x ≡ true) is h)))
       chosen (Some k) e =
-          let is = err_of_some writer reader limit table erring w r n places k plain e in
-          let found = first_match_within writer reader n places k e in
+          let is = err_of_some writer reader limit table erring w r n ids k plain e in
+          let found = first_match_within writer reader n ids k e in
           let their_plain = subst (λ (o : Option ℕ). branches_of (node_at reader (unwrap_or o 0)) ≡ None) (sym found.1)
-          (plain_branch reader r places k found.0 formed there found.1) in
-          let child = and_left (known (record { w = w; r = unwrap_or (slice_get places k) 0 })) true
-          (subst (λ (ps : List Pair). list_all known ps ≡ true) (children_of_union writer reader w r n places k plain e) children) in
-          let part = each (unwrap_or (slice_get places k) 0) child (subst (λ (x : Option Least). is_some x ≡ true) is h) in
+          (plain_branch reader r ids k found.0 formed there found.1) in
+          let child = and_left (known (record { w = w; r = unwrap_or (slice_get ids k) 0 })) true
+          (subst (λ (ps : List Pair). list_all known ps ≡ true) (children_of_union writer reader w r n ids k plain e) children) in
+          let part = each (unwrap_or (slice_get ids k) 0) child (subst (λ (x : Option Least). is_some x ≡ true) is h) in
           let form = plain_form writer reader n part.datum (value_of_plain writer n part.datum plain part.fitting) in
-          subst (λ (x : Option Least). ShowsError writer reader limit n (Node.union places) x) (sym is)
-          (shows n (Node.union places) (erring w (unwrap_or (slice_get places k) 0)) part.datum part.fitting
-          (subst (λ (x : Resolved). IsFault x) (sym (form.1 (Node.union places)))
-          (subst (λ (o : Option ℕ). IsFault (into_branch writer reader n places o form.0)) (sym e)
-          (fault_map (Value.union k) (matched writer reader n (branch_node reader places k) form.0)
-          (subst (λ (x : Resolved). IsFault x) (form.1 (branch_node reader places k) ∙ through_is_matched writer reader n (branch_node reader places k) form.0 their_plain)
-          (is_fault (resolve writer reader n (branch_node reader places k) part.datum) part.fault part.faulty))))) part.exact)
+          subst (λ (x : Option Least). ShowsError writer reader limit n (Node.union ids) x) (sym is)
+          (shows n (Node.union ids) (erring w (unwrap_or (slice_get ids k) 0)) part.datum part.fitting
+          (subst (λ (x : Resolved). IsFault x) (sym (form.1 (Node.union ids)))
+          (subst (λ (o : Option ℕ). IsFault (into_branch writer reader n ids o form.0)) (sym e)
+          (fault_map (Value.union k) (matched writer reader n (branch_node reader ids k) form.0)
+          (subst (λ (x : Resolved). IsFault x) (form.1 (branch_node reader ids k) ∙ through_is_matched writer reader n (branch_node reader ids k) form.0 their_plain)
+          (is_fault (resolve writer reader n (branch_node reader ids k) part.datum) part.fault part.faulty))))) part.exact)
 
   -- a writer's union
-  from_step : (w r : ℕ) (places : List ℕ) (q : Node) → node_at reader r ≡ q
-      → list_all known (children_of writer reader w r (Node.union places) q) ≡ true → is_some (best_of (λ p. erring p r) places) ≡ true
-      → ShowsError writer reader limit (Node.union places) q (around limit (best_of (λ p. erring p r) places))
-  from_step w r places q there children some =
-      let best = best_is (λ p. erring p r) places some in
-      let child = all_at (λ p. known (record { w = p; r = r })) places best.branch best.place
-      (sym (list_all-map known (λ p. record { w = p; r = r }) places) ∙ children) best.here in
-      let part = errors best.place r child (subst (λ (x : Option Least). is_some x ≡ true) best.is some) in
-      shows (Node.union places) q (around limit (best_of (λ p. erring p r) places)) (Value.union best.branch part.datum)
+  from_step : (w r : ℕ) (ids : List ℕ) (q : Node) → node_at reader r ≡ q
+      → list_all known (children_of writer reader w r (Node.union ids) q) ≡ true → is_some (best_of (λ p. erring p r) ids) ≡ true
+      → ShowsError writer reader limit (Node.union ids) q (around limit (best_of (λ p. erring p r) ids))
+  from_step w r ids q there children some =
+      let best = best_is (λ p. erring p r) ids some in
+      let child = all_at (λ p. known (record { w = p; r = r })) ids best.branch best.id
+      (sym (list_all-map known (λ p. record { w = p; r = r }) ids) ∙ children) best.here in
+      let part = errors best.id r child (subst (λ (x : Option Least). is_some x ≡ true) best.is some) in
+      shows (Node.union ids) q (around limit (best_of (λ p. erring p r) ids)) (Value.union best.branch part.datum)
       (rw best.here part.fitting)
-      (rw best.here (fault_inside 0 (resolve writer reader (node_at writer best.place) q part.datum)
-      (is_fault (resolve writer reader (node_at writer best.place) q part.datum) part.fault
-      (subst (λ (m : Node). resolve writer reader (node_at writer best.place) m part.datum ≡ Err part.fault) there part.faulty))))
-      (exact_around limit (best_of (λ p. erring p r) places) (size part.datum) (depth part.datum)
+      (rw best.here (fault_inside 0 (resolve writer reader (node_at writer best.id) q part.datum)
+      (is_fault (resolve writer reader (node_at writer best.id) q part.datum) part.fault
+      (subst (λ (m : Node). resolve writer reader (node_at writer best.id) m part.datum ≡ Err part.fault) there part.faulty))))
+      (exact_around limit (best_of (λ p. erring p r) ids) (size part.datum) (depth part.datum)
       (subst (λ (x : Option Least). Exactly limit x (size part.datum) (depth part.datum)) (sym best.is) part.exact))
 
   -- a step of the table
@@ -356,7 +356,7 @@ module _ (writer reader : List Node) (limit : ℕ) (table : LeastTable) (erring 
           → ((b : ℕ) → known (record { w = w; r = b }) ≡ true → is_some (erring w b) ≡ true → ShowsError writer reader limit n (node_at reader b) (erring w b))
           → list_all known (children_of writer reader w r n q) ≡ true → is_some (err_of writer reader limit table erring w r n q) ≡ true
           → ShowsError writer reader limit n q (err_of writer reader limit table erring w r n q)
-      by_reader n (Node.union places) plain there own each children h = into_step w r n places plain there own each children h
+      by_reader n (Node.union ids) plain there own each children h = into_step w r n ids plain there own each children h
       by_reader n q plain there own each children h =
           let is = err_of_plain writer reader limit table erring w r n q plain refl in
           subst (λ (x : Option Least). ShowsError writer reader limit n q x) (sym is)
@@ -367,6 +367,6 @@ module _ (writer reader : List Node) (limit : ℕ) (table : LeastTable) (erring 
           → list_all known (children_of writer reader w r n (node_at reader r)) ≡ true
           → is_some (err_of writer reader limit table erring w r n (node_at reader r)) ≡ true
           → ShowsError writer reader limit n (node_at reader r) (err_of writer reader limit table erring w r n (node_at reader r))
-      by_writer (Node.union places) own each children h =
-          from_step w r places (node_at reader r) refl children (around_some limit (best_of (λ p. erring p r) places) h)
+      by_writer (Node.union ids) own each children h =
+          from_step w r ids (node_at reader r) refl children (around_some limit (best_of (λ p. erring p r) ids) h)
       by_writer n own each children h = by_reader n (node_at reader r) refl refl own each children h

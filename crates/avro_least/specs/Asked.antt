@@ -29,8 +29,8 @@ pub data Asked : Type 0 where
   fields : List Row → Asked
 
 abbrev pub rows_from : List FieldNode → List FieldNode → ℕ → List ℕ → List Row
-rows_from ws rs place [] = []
-rows_from ws rs place (p ∷ ps) = record { node = p; theirs = option_map (λ f. f.node) (reader_field ws rs place) } ∷ rows_from ws rs (suc place) ps
+rows_from ws rs index [] = []
+rows_from ws rs index (p ∷ ps) = record { node = p; theirs = option_map (λ f. f.node) (reader_field ws rs index) } ∷ rows_from ws rs (suc index) ps
 
 -- of two nodes that match and are no unions
 abbrev pub asked_inside : Node → Node → Asked
@@ -43,21 +43,21 @@ asked_inside (Node.map_of a) (Node.map_of b) = part a b
 asked_inside n q = quiet
 
 abbrev pub asked_branch : List ℕ → Option ℕ → Asked
-asked_branch places None = whole
-asked_branch places (Some k) = same (unwrap_or (slice_get places k) 0)
+asked_branch ids None = whole
+asked_branch ids (Some k) = same (unwrap_or (slice_get ids k) 0)
 
 abbrev pub asked : List Node → List Node → Node → Node → Asked
-asked writer reader (Node.union places) q = branches places
-asked writer reader n (Node.union places) = asked_branch places (first_match writer reader n places)
+asked writer reader (Node.union ids) q = branches ids
+asked writer reader n (Node.union ids) = asked_branch ids (first_match writer reader n ids)
 asked writer reader n q = cond (is_match writer reader n q) (asked_inside n q) whole
 
 -- what it comes to
 abbrev pub err_of_row : ErringTable → Row → Option Least
-err_of_row erring row = of_place row.theirs
+err_of_row erring row = of_reader row.theirs
   where
-    of_place : Option ℕ → Option Least
-    of_place None = None
-    of_place (Some q) = erring row.node q
+    of_reader : Option ℕ → Option Least
+    of_reader None = None
+    of_reader (Some q) = erring row.node q
 
 abbrev pub err_of_rows : ℕ → LeastTable → ErringTable → List Row → Option Least
 err_of_rows limit table erring [] = None
@@ -71,21 +71,21 @@ asked_value limit table erring w r whole = table w
 asked_value limit table erring w r lone = Some one
 asked_value limit table erring w r (same q) = erring w q
 asked_value limit table erring w r (part a b) = around limit (erring a b)
-asked_value limit table erring w r (branches places) = around limit (best_of (λ p. erring p r) places)
+asked_value limit table erring w r (branches ids) = around limit (best_of (λ p. erring p r) ids)
 asked_value limit table erring w r (fields rows) = around limit (err_of_rows limit table erring rows)
 
 -- the pairs that it takes
 abbrev pub row_child : Row → List Pair
-row_child row = of_place row.theirs
+row_child row = of_reader row.theirs
   where
-    of_place : Option ℕ → List Pair
-    of_place None = []
-    of_place (Some q) = record { w = row.node; r = q } ∷ []
+    of_reader : Option ℕ → List Pair
+    of_reader None = []
+    of_reader (Some q) = record { w = row.node; r = q } ∷ []
 
 abbrev pub asked_children : ℕ → ℕ → Asked → List Pair
 asked_children w r (same q) = record { w = w; r = q } ∷ []
 asked_children w r (part a b) = record { w = a; r = b } ∷ []
-asked_children w r (branches places) = map (λ p. record { w = p; r = r }) places
+asked_children w r (branches ids) = map (λ p. record { w = p; r = r }) ids
 asked_children w r (fields rows) = flat_map row_child rows
 asked_children w r _ = []
 
@@ -108,7 +108,7 @@ live_numbers count table (c ∷ cs) = cond (is_none (table c.w)) (live_numbers c
 abbrev pub steps_at : List Node → List Node → LeastTable → ℕ → List ℕ
 steps_at writer reader table k = live_numbers (length reader) table (children_at writer reader k)
 
--- what each key asks for, up to a place
+-- what each key asks for, up to an index
 abbrev pub AreAsked : List Node → List Node → List ℕ → List Asked → Type 0
 AreAsked writer reader keys asks = (i k : ℕ) → slice_get keys i ≡ Some k → nat_lt i (length asks) ≡ true → slice_get asks i ≡ Some (asked_at writer reader k)
 

@@ -9,10 +9,10 @@ use Rattle.avro_resolve.specs.Fault.{ResolutionFault}
 use Rattle.avro_resolve.specs.Resolve.{resolve}
 use Rattle.avro_certificate.specs.Closed.{Pair}
 use Rattle.avro_least.specs.Asked.{Row, Asked, asked, asked_value, asked_children, err_of_row}
-use Rattle.avro_least.specs.Built.{Builds}
+use Rattle.avro_least.specs.inside.Built.{Builds}
 use Rattle.avro_least.specs.Tables.{Least, LeastTable, ErringTable, IsLowForData, AreDataShown, IsWithin, count_of, together, no_parts}
 
--- the first place, from a place on, that passes
+-- the index of the first that passes, from one on
 abbrev pub first_from : {A : Type 0} → (A → Bool) → ℕ → List A → ℕ
 first_from test n [] = n
 first_from test n (x ∷ xs) = cond (test x) n (first_from test (n + 1) xs)
@@ -31,9 +31,13 @@ pub record IsLone (n q : Node) (v : Value) : Type 0 where
   pub symbol : (k : ℕ) → lone_value n q ≡ Value.enum k → k < 4294967296 → v ≡ Value.enum k
   pub bytes : lone_value n q ≡ Value.bytes (255 ∷ []) → v ≡ Value.bytes (255 ∷ [])
 
+-- the same where the pair asks for it
+abbrev pub BuildsLone : List Node → List Node → ℕ → ℕ → Value → Type 0
+BuildsLone writer reader w r v = Asked.lone ≡ asked writer reader (node_at writer w) (node_at reader r) → IsLone (node_at writer w) (node_at reader r) v
+
 -- one item, or one entry of the empty key
 abbrev pub part_value : Node → Value → Value
-part_value (Node.map_of place) v = Value.map_of (entry [] v no_entries)
+part_value (Node.map_of id) v = Value.map_of (entry [] v no_entries)
 part_value n v = Value.array (value v no_values)
 
 -- the datum has a fault
@@ -78,7 +82,7 @@ pub record BuildsRow (writer reader : List Node) (limit : ℕ) (table : LeastTab
   pub errs : chosen ≡ true → (q : ℕ) → row.theirs ≡ Some q → BuildsError writer reader limit table erring left row.node q v
   pub fits_in : chosen ≡ false → Builds writer table left row.node v
 
--- for each field, from a place on
+-- for each field, from an index on
 abbrev pub BuildsRows : List Node → List Node → ℕ → LeastTable → ErringTable → ℕ → ℕ → ℕ → List Row → List Value → Type 0
 BuildsRows writer reader limit table erring left k i [] [] = Unit {0}
 BuildsRows writer reader limit table erring left k i (row ∷ rows) (v ∷ vs) =

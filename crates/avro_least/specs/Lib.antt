@@ -4,6 +4,6 @@ pub mod Asked
 pub mod SeenAsk
 pub mod Reached
 pub mod FoundTables
-pub mod Leaf
-pub mod Built
 pub mod BuiltErrors
+pub mod SeenTables
+pub mod inside

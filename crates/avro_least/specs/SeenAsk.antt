@@ -18,7 +18,7 @@ ask_of Ask.Whole = Asked.whole
 ask_of Ask.Lone = Asked.lone
 ask_of (Ask.Same r) = Asked.same r.0
 ask_of (Ask.Part w r) = Asked.part w.0 r.0
-ask_of (Ask.Branches places) = Asked.branches (ids_of places.items)
+ask_of (Ask.Branches ids) = Asked.branches (ids_of ids.items)
 ask_of (Ask.Fields rows) = Asked.fields (rows_of rows.items)
 
 abbrev pub asks_of : List Ask → List Asked
@@ -31,9 +31,9 @@ theirs_in (Some At.Ignored) = None
 theirs_in (Some (At.Pair w r)) = Some r.0
 
 abbrev pub theirs_at : List At → ℕ → Option ℕ
-theirs_at parts place = theirs_in (slice_get parts place)
+theirs_at parts index = theirs_in (slice_get parts index)
 
 -- each writer's field beside it
 abbrev pub rows_by : List At → ℕ → List ℕ → List Row
-rows_by parts place [] = []
-rows_by parts place (p ∷ ps) = record { node = p; theirs = theirs_at parts place } ∷ rows_by parts (suc place) ps
+rows_by parts index [] = []
+rows_by parts index (p ∷ ps) = record { node = p; theirs = theirs_at parts index } ∷ rows_by parts (suc index) ps

@@ -23,7 +23,7 @@ improves None b = false
 improves (Some a) None = true
 improves (Some a) (Some b) = precedes a b
 
--- no step lowers the entry of a place
+-- no step lowers the entry of a node
 abbrev pub IsLowAt : List Node → ℕ → LeastTable → ℕ → Type 0
 IsLowAt nodes limit table p = (s d : ℕ) → AtMost (least_datum limit table (node_at nodes p)) s d → AtMost (table p) s d
 

@@ -54,7 +54,7 @@ lesser None b = b
 lesser (Some a) None = Some a
 lesser (Some a) (Some b) = cond (precedes b a) (Some b) (Some a)
 
--- an entry for each place
+-- an entry for each node, by its id
 abbrev pub LeastTable : Type 0
 LeastTable = ℕ → Option Least
 
@@ -68,7 +68,7 @@ best_of table (p ∷ ps) = lesser (table p) (best_of table ps)
 
 -- what a node's entry is by those of its parts
 abbrev pub least_datum : ℕ → LeastTable → Node → Option Least
-least_datum limit table (Node.union places) = around limit (best_of table places)
+least_datum limit table (Node.union ids) = around limit (best_of table ids)
 least_datum limit table (Node.record_of name aliases fields) = around limit (all_of limit table (field_ids fields))
 least_datum limit table _ = Some one
 
@@ -76,21 +76,21 @@ least_datum limit table _ = Some one
 abbrev pub IsLowForData : List Node → ℕ → LeastTable → Type 0
 IsLowForData nodes limit table = (p s d : ℕ) → AtMost (least_datum limit table (node_at nodes p)) s d → AtMost (table p) s d
 
--- an entry for each pair of places, the writer's and the reader's
+-- an entry for each pair of ids, the writer's and the reader's
 abbrev pub ErringTable : Type 0
 ErringTable = ℕ → ℕ → Option Least
 
--- the field at a writer's place, where it is some reader's source
+-- the field of a writer's node, where it is some reader's source
 abbrev pub err_of_field : ErringTable → ℕ → Option FieldNode → Option Least
 err_of_field erring p None = None
 err_of_field erring p (Some f) = erring p f.node
 
--- one field that errs, and the least data of the others, from a place on
+-- one field that errs, and the least data of the others, from an index on
 abbrev pub err_of_fields : ℕ → LeastTable → ErringTable → List FieldNode → List FieldNode → ℕ → List ℕ → Option Least
-err_of_fields limit table erring ws rs place [] = None
-err_of_fields limit table erring ws rs place (p ∷ ps) =
-    lesser (together limit (err_of_field erring p (reader_field ws rs place)) (all_of limit table ps))
-    (together limit (table p) (err_of_fields limit table erring ws rs (suc place) ps))
+err_of_fields limit table erring ws rs index [] = None
+err_of_fields limit table erring ws rs index (p ∷ ps) =
+    lesser (together limit (err_of_field erring p (reader_field ws rs index)) (all_of limit table ps))
+    (together limit (table p) (err_of_fields limit table erring ws rs (suc index) ps))
 
 -- of two nodes that match and are no unions
 abbrev pub err_inside : ℕ → LeastTable → ErringTable → ℕ → Node → Node → Option Least
@@ -104,12 +104,12 @@ err_inside limit table erring w n q = None
 
 -- what a pair's entry is by the others
 abbrev pub err_of : List Node → List Node → ℕ → LeastTable → ErringTable → ℕ → ℕ → Node → Node → Option Least
-err_of writer reader limit table erring w r (Node.union places) q = around limit (best_of (λ p. erring p r) places)
-err_of writer reader limit table erring w r n (Node.union places) = of_branch (first_match writer reader n places)
+err_of writer reader limit table erring w r (Node.union ids) q = around limit (best_of (λ p. erring p r) ids)
+err_of writer reader limit table erring w r n (Node.union ids) = of_branch (first_match writer reader n ids)
   where
     of_branch : Option ℕ → Option Least
     of_branch None = table w
-    of_branch (Some k) = erring w (unwrap_or (slice_get places k) 0)
+    of_branch (Some k) = erring w (unwrap_or (slice_get ids k) 0)
 err_of writer reader limit table erring w r n q = cond (is_match writer reader n q) (err_inside limit table erring w n q) (table w)
 
 -- no step lowers the tables, where the writer's node has data
@@ -146,8 +146,8 @@ abbrev pub AreErrorsShown : List Node → List Node → ℕ → (Pair → Bool) 
 AreErrorsShown writer reader limit known erring = (w r : ℕ) → known (record { w = w; r = r }) ≡ true → is_some (erring w r) ≡ true
     → ShowsError writer reader limit (node_at writer w) (node_at reader r) (erring w r)
 
--- The table of the pairs that were reached: each has a number, the writer's place times the reader's number of nodes and
--- the reader's place. A dead node has no entry; a pair that was not reached, or that is none, has the least of all.
+-- The table of the pairs that were reached: each has a number, the writer's id times the reader's number of nodes and
+-- the reader's id. A dead node has no entry; a pair that was not reached, or that is none, has the least of all.
 abbrev pub pair_number : ℕ → ℕ → ℕ → ℕ
 pair_number count w r = w * count + r
 

@@ -41,7 +41,7 @@ pub enum Ask {
     Fields(Vec<FieldAsk>),
 }
 
-/// The node at a place; past the end stand nulls.
+/// The node of an id; past the end stand nulls.
 pub(crate) fn node_or<'a>(schema: &'a Schema, id: NodeId, null: &'a Node) -> &'a Node
     requires { node_of null.now ≡ SeenNode.null }
     ensures { node_of result.now ≡ node_at (schema_nodes schema.now) id.0 }
@@ -54,10 +54,10 @@ pub(crate) fn node_or<'a>(schema: &'a Schema, id: NodeId, null: &'a Node) -> &'a
 }
 
 /// The node of the reader's field that a part is for.
-fn theirs_at(parts: &[At], place: usize) -> Option<NodeId>
-    ensures { option_map (λ id. id.0) result ≡ theirs_at parts.now place }
+fn theirs_at(parts: &[At], index: usize) -> Option<NodeId>
+    ensures { option_map (λ id. id.0) result ≡ theirs_at parts.now index }
 {
-    match parts.get(place) {
+    match parts.get(index) {
         Some(At::Pair(_, theirs)) => Some(*theirs),
         Some(At::Ignored) => None,
         None => None,
@@ -74,9 +74,7 @@ fn rows(alloc: Global, writer: &[Field], parts: &[At]) -> Result<Vec<FieldAsk>, 
             node: writer[i].node,
             theirs: theirs_at(parts, i),
         };
-        if rows.push(row).is_err() {
-            return Err(Memory);
-        }
+        rows.push(row)?;
     }
     Ok(rows)
 }
@@ -134,15 +132,13 @@ fn ask_inside(alloc: Global, w: &Node, r: &Node, pair: &Comparison) -> Result<As
     }
 }
 
-/// Some places, again.
-fn copy(alloc: Global, places: &[NodeId]) -> Result<Vec<NodeId>, Memory>
-    ensures { IfOk result (λ copy. copy.items ≡ places.now) }
+/// Some ids, again.
+fn copy(alloc: Global, ids: &[NodeId]) -> Result<Vec<NodeId>, Memory>
+    ensures { IfOk result (λ copy. copy.items ≡ ids.now) }
 {
     let mut copy = Vec::new(alloc);
-    for i in 0..places.len() {
-        if copy.push(places[i]).is_err() {
-            return Err(Memory);
-        }
+    for i in 0..ids.len() {
+        copy.push(ids[i])?;
     }
     Ok(copy)
 }
@@ -178,7 +174,7 @@ fn ask_nodes(
     ensures { IfOk result (λ a. ask_of a ≡ asked (schema_nodes writer.now) (schema_nodes reader.now) (node_of from.now) (node_of to.now)) }
 {
     match from {
-        Node::Union(places) => Ok(Ask::Branches(copy(alloc, places)?)),
+        Node::Union(ids) => Ok(Ask::Branches(copy(alloc, ids)?)),
         _ => match pair.aim {
             Aim::Fault(_) => Ok(Ask::Whole),
             Aim::To(Some(_), q) => Ok(Ask::Same(q)),

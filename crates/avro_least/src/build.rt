@@ -6,10 +6,10 @@ ghost use Rattle.avro_schema.specs.Seen.{value_of, values_from, node_of, ids_of,
 ghost use Rattle.avro_least.specs.Tables.{best_of};
 ghost use Rattle.avro_least.specs.SeenLeast.{seen, table_of};
 ghost use Rattle.avro_schema.specs.Value.{Value};
-ghost use Rattle.avro_least.specs.Leaf.{leaf_value};
+ghost use Rattle.avro_least.specs.inside.Leaf.{leaf_value};
 ghost use Rattle.avro_schema.specs.Node.{Node as SeenNode};
 ghost use Rattle.avro_schema.specs.SeenSchema.{schema_nodes};
-ghost use Rattle.avro_least.specs.Built.{Builds, BuildsAt, BuildsRecord};
+ghost use Rattle.avro_least.specs.inside.Built.{Builds, BuildsAt, BuildsRecord};
 
 use crate::asking::node_or;
 use crate::kept::Least;
@@ -31,14 +31,14 @@ pub(crate) fn are_same(a: Option<Least>, b: Option<Least>) -> bool
     }
 }
 
-/// The first place of the best entry.
-fn best_place(table: &[Option<Least>], places: &[NodeId]) -> usize
-    ensures { is_some (best_of (table_of table.now) (ids_of places.now)) ≡ true
-        → (p : ℕ) × (slice_get (ids_of places.now) result ≡ Some p) × (table_of table.now p ≡ best_of (table_of table.now) (ids_of places.now)) }
+/// The index of the first id of the best entry.
+fn best_index(table: &[Option<Least>], ids: &[NodeId]) -> usize
+    ensures { is_some (best_of (table_of table.now) (ids_of ids.now)) ≡ true
+        → (p : ℕ) × (slice_get (ids_of ids.now) result ≡ Some p) × (table_of table.now p ≡ best_of (table_of table.now) (ids_of ids.now)) }
 {
-    let best = best_of(table, places);
-    for i in 0..places.len() {
-        if are_same(entry(table, places[i]), best) {
+    let best = best_of(table, ids);
+    for i in 0..ids.len() {
+        if are_same(entry(table, ids[i]), best) {
             return i;
         }
     }
@@ -51,9 +51,7 @@ fn zeros(alloc: Global, count: u32) -> Result<Vec<u8>, Memory>
 {
     let mut zeros: Vec<u8> = Vec::new(alloc);
     for done in 0..count {
-        if zeros.push(0).is_err() {
-            return Err(Memory);
-        }
+        zeros.push(0)?;
     }
     Ok(zeros)
 }
@@ -85,12 +83,12 @@ fn leaf(alloc: Global, node: &Node) -> Result<Datum, Memory>
     }
 }
 
-/// A place as a datum holds it; a schema has no place past the greatest `u32`.
-pub(crate) fn as_place(k: usize) -> u32
+/// An index as a datum holds it; no union or enum has one past the greatest `u32`.
+pub(crate) fn as_index(k: usize) -> u32
     ensures { k < 4294967296 → result ≡ k }
 {
     match u32::try_from(k) {
-        Ok(place) => place,
+        Ok(index) => index,
         Err(_) => u32::MAX,
     }
 }
@@ -99,19 +97,17 @@ pub(crate) fn as_place(k: usize) -> u32
 pub(crate) fn wrap(alloc: Global, k: usize, value: Datum) -> Result<Datum, Memory>
     ensures { IfOk result (λ d. k < 4294967296 → value_of d ≡ Value.union k (value_of value)) }
 {
-    match Box::new(alloc, value) {
-        Ok(value) => Ok(Datum::Union(as_place(k), value)),
-        Err(_) => Err(Memory),
-    }
+    let value = Box::new(alloc, value)?;
+    Ok(Datum::Union(as_index(k), value))
 }
 
-/// The place at an index.
-pub(crate) fn place_at(places: &[NodeId], k: usize) -> NodeId
-    ensures { (p : ℕ) → slice_get (ids_of places.now) k ≡ Some p → result.0 ≡ p }
+/// The id at an index.
+pub(crate) fn id_at(ids: &[NodeId], k: usize) -> NodeId
+    ensures { (p : ℕ) → slice_get (ids_of ids.now) k ≡ Some p → result.0 ≡ p }
 {
-    match places.get(k) {
+    match ids.get(k) {
         None => NodeId(0),
-        Some(place) => *place,
+        Some(id) => *id,
     }
 }
 
@@ -120,16 +116,6 @@ pub(crate) fn make_record(values: Vec<Datum>) -> Datum
     ensures { value_of result ≡ Value.record_of (values_from (map value_of values.items)) }
 {
     Datum::Record(values)
-}
-
-/// Adds a datum.
-pub(crate) fn push_datum(values: &mut Vec<Datum>, value: Datum) -> Result<(), Memory>
-    ensures { OnOk result (values.new.items ≡ values.old.items ++ value ∷ []) }
-{
-    if values.push(value).is_err() {
-        return Err(Memory);
-    }
-    Ok(())
 }
 
 /// A least datum of a node, of no more nodes than are left.
@@ -148,8 +134,8 @@ pub(crate) fn build(
     }
     let null = Node::Null;
     match node_or(schema, id, &null) {
-        Node::Union(places) => {
-            let value = build_branch(alloc, schema, table, places, left - 1)?;
+        Node::Union(ids) => {
+            let value = build_branch(alloc, schema, table, ids, left - 1)?;
             Ok(value)
         }
         Node::Record(record) => {
@@ -169,13 +155,13 @@ fn build_branch(
     alloc: Global,
     schema: &Schema,
     table: &[Option<Least>],
-    places: &[NodeId],
+    ids: &[NodeId],
     left: u32,
 ) -> Result<Datum, Memory>
-    ensures { IfOk result (λ d. BuildsAt (schema_nodes schema.now) (table_of table.now) left (SeenNode.union (ids_of places.now)) (value_of d)) }
+    ensures { IfOk result (λ d. BuildsAt (schema_nodes schema.now) (table_of table.now) left (SeenNode.union (ids_of ids.now)) (value_of d)) }
 {
-    let k = best_place(table, places);
-    let value = build(alloc, schema, table, place_at(places, k), left)?;
+    let k = best_index(table, ids);
+    let value = build(alloc, schema, table, id_at(ids, k), left)?;
     let whole = wrap(alloc, k, value)?;
     Ok(whole)
 }
@@ -194,7 +180,7 @@ fn build_record(
     let mut values = Vec::new(alloc);
     for i in 0..fields.len() {
         let value = build(alloc, schema, table, fields[i].node, left)?;
-        push_datum(&mut values, value)?;
+        values.push(value)?;
     }
     Ok(make_record(values))
 }

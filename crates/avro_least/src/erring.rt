@@ -81,16 +81,16 @@ pub(crate) fn best_branch(
     count: u32,
     known: &IndexSet<u64>,
     entries: &[Option<Least>],
-    places: &[NodeId],
+    ids: &[NodeId],
     r: NodeId,
 ) -> Option<Least>
-    ensures { seen result ≡ best_of (λ p. erring_of count (table_of table.now) (keys known.now) (seen_all entries.now) p r.0) (ids_of places.now) }
+    ensures { seen result ≡ best_of (λ p. erring_of count (table_of table.now) (keys known.now) (seen_all entries.now) p r.0) (ids_of ids.now) }
 {
     let mut best = None;
-    let mut i = places.len();
+    let mut i = ids.len();
     while i > 0 {
         i -= 1;
-        best = lesser(pair_entry(table, count, known, entries, places[i], r), best);
+        best = lesser(pair_entry(table, count, known, entries, ids[i], r), best);
     }
     best
 }
@@ -156,10 +156,7 @@ fn value_of_ask(
         Ask::Lone => Some(Least { nodes: 1, depth: 1 }),
         Ask::Same(q) => pair_entry(table, count, known, entries, w, *q),
         Ask::Part(a, b) => around(limit, pair_entry(table, count, known, entries, *a, *b)),
-        Ask::Branches(places) => around(
-            limit,
-            best_branch(table, count, known, entries, places, r),
-        ),
+        Ask::Branches(ids) => around(limit, best_branch(table, count, known, entries, ids, r)),
         Ask::Fields(rows) => around(limit, best_field(limit, table, count, known, entries, rows)),
     }
 }

@@ -87,24 +87,24 @@ pub(crate) fn lesser(first: Option<Least>, second: Option<Least>) -> Option<Leas
 }
 
 /// The entry of a node; it has none where the node has no data.
-pub fn entry(table: &[Option<Least>], place: NodeId) -> Option<Least>
-    ensures { seen result ≡ table_of table.now place.0 }
+pub fn entry(table: &[Option<Least>], id: NodeId) -> Option<Least>
+    ensures { seen result ≡ table_of table.now id.0 }
 {
-    match table.get(place.0 as usize) {
+    match table.get(id.0 as usize) {
         None => Some(Least { nodes: 1, depth: 1 }),
         Some(e) => *e,
     }
 }
 
-/// The best of some places.
-pub(crate) fn best_of(table: &[Option<Least>], places: &[NodeId]) -> Option<Least>
-    ensures { seen result ≡ best_of (table_of table.now) (ids_of places.now) }
+/// The best of some nodes.
+pub(crate) fn best_of(table: &[Option<Least>], ids: &[NodeId]) -> Option<Least>
+    ensures { seen result ≡ best_of (table_of table.now) (ids_of ids.now) }
 {
     let mut best = None;
-    let mut i = places.len();
+    let mut i = ids.len();
     while i > 0 {
         i -= 1;
-        best = lesser(entry(table, places[i]), best);
+        best = lesser(entry(table, ids[i]), best);
     }
     best
 }
@@ -129,13 +129,13 @@ fn least_of(limit: u32, table: &[Option<Least>], node: &Node) -> Option<Least>
     ensures { seen result ≡ least_datum limit (table_of table.now) (node_of node.now) }
 {
     match node {
-        Node::Union(places) => around(limit, best_of(table, places)),
+        Node::Union(ids) => around(limit, best_of(table, ids)),
         Node::Record(record) => around(limit, all_of(limit, table, &record.fields)),
         _ => Some(Least { nodes: 1, depth: 1 }),
     }
 }
 
-/// Improves the entries where a step does, from the last place on, and tells whether one was.
+/// Improves the entries where a step does, from the last node on, and tells whether one was.
 fn round(writer: &Schema, limit: u32, table: &mut [Option<Least>]) -> bool
     requires range { limit ≤ 16777216 }
     requires one_each { length table.old ≡ length (schema_nodes writer.now) }
@@ -174,9 +174,7 @@ pub(crate) fn unknown(alloc: Global, count: usize) -> Result<Vec<Option<Least>>,
 {
     let mut table = Vec::new(alloc);
     for done in 0..count {
-        if table.push(None).is_err() {
-            return Err(Memory);
-        }
+        table.push(None)?;
     }
     Ok(table)
 }

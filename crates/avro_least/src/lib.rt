@@ -6,14 +6,15 @@
 #![tactic(auto)]
 
 mod asking;
-mod asking_names;
 mod build;
 mod build_errors;
 mod erring;
+mod found_pairs;
 mod kept;
 pub mod laws;
 mod least;
 mod made;
+mod pair_tables;
 mod reaching;
 mod selecting;
 
@@ -22,4 +23,5 @@ pub use build_errors::build_error;
 pub use erring::{least_errors, pair_entry};
 pub use kept::Least;
 pub use least::{count, entry, least_data};
+pub use pair_tables::Tables;
 pub use reaching::{Reached, reach, readers, writers};

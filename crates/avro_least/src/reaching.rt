@@ -1,16 +1,15 @@
 //! The pairs of nodes that are reached from the roots.
 
-ghost use Rattle.std.specs.Prelude.{◌≡◌, ◌||◌, ◌<◌, ◌≤◌, ◌*◌, ◌/◌, ◌%◌, ◌^◌, ℕ, Bool, true, false, List, [], ◌∷◌, ◌++◌, length, nat_eq, nat_lt, slice_get, Some, IfOk, IfSome, OnOk};
+ghost use Rattle.std.specs.Prelude.{◌≡◌, ◌||◌, ◌<◌, ◌≤◌, ◌*◌, ◌/◌, ◌%◌, ◌^◌, ℕ, Bool, true, false, List, [], ◌∷◌, ◌++◌, length, nat_eq, nat_lt, slice_get, Some, IfOk, OnOk};
 ghost use Rattle.std.specs.List.{list_all};
 ghost use Rattle.indexmap.specs.IndexSet.{keys, index_set_len, IsUnique};
-ghost use Rattle.avro_schema.specs.Node.{Node as SeenNode, node_at};
 ghost use Rattle.avro_schema.specs.SeenSchema.{schema_nodes};
-ghost use Rattle.avro_resolve.specs.Planned.{AreComparisons, IsComparison};
+ghost use Rattle.avro_resolve.specs.Planned.{AreComparisons};
 ghost use Rattle.avro_certificate.specs.Closed.{Pair};
 ghost use Rattle.avro_least.specs.Tables.{pair_number};
 ghost use Rattle.avro_least.specs.SeenLeast.{table_of};
 ghost use Rattle.avro_least.specs.Reached.{is_key, AreFollowed, IsSteppedTo};
-ghost use Rattle.avro_least.specs.Asked.{asked, asked_at, asked_children, live_numbers, steps_at, AreAsked};
+ghost use Rattle.avro_least.specs.Asked.{asked_at, asked_children, live_numbers, steps_at, AreAsked};
 ghost use Rattle.avro_least.specs.SeenAsk.{ask_of, asks_of};
 
 use crate::asking::{Ask, ask_of_pair};
@@ -26,9 +25,9 @@ use std::alloc::Global;
 pub struct Reached {
     /// The number of each pair, in order of discovery.
     pub known: IndexSet<u64>,
-    /// What was found of the pair at each place.
+    /// What was found of the pair at each index.
     pub found: Vec<Comparison>,
-    /// What the pair at each place asks for.
+    /// What the pair at each index asks for.
     pub asks: Vec<Ask>,
 }
 
@@ -40,10 +39,7 @@ fn add_all(known: &mut IndexSet<u64>, more: &[u64]) -> Result<(), Memory>
     ensures all { OnOk result ((P : ℕ → Bool) → list_all P (keys known.old) ≡ true → list_all P more.now ≡ true → list_all P (keys known.new) ≡ true) }
 {
     for key in more {
-        match known.insert(*key) {
-            Ok(_) => {}
-            Err(_) => return Err(Memory),
-        }
+        known.insert(*key)?;
     }
     Ok(())
 }
@@ -68,9 +64,7 @@ fn add_number(
     if entry(table, w).is_none() {
         return Ok(());
     }
-    if numbers.push(number(count, w, r)).is_err() {
-        return Err(Memory);
-    }
+    numbers.push(number(count, w, r))?;
     Ok(())
 }
 
@@ -92,9 +86,9 @@ fn children(
         Ask::Lone => {}
         Ask::Same(q) => add_number(&mut numbers, table, count, w, *q)?,
         Ask::Part(a, b) => add_number(&mut numbers, table, count, *a, *b)?,
-        Ask::Branches(places) => {
-            for i in 0..places.len() {
-                add_number(&mut numbers, table, count, places[i], r)?;
+        Ask::Branches(ids) => {
+            for i in 0..ids.len() {
+                add_number(&mut numbers, table, count, ids[i], r)?;
             }
         }
         Ask::Fields(rows) => {
@@ -146,18 +140,8 @@ fn ask_at(
     let r = readers(reader, key);
     let pair = compare(alloc, names, w, r)?;
     let ask = ask_of_pair(alloc, writer, reader, &pair)?;
-    push_pair(found, pair)?;
+    found.push(pair)?;
     Ok(ask)
-}
-
-/// Adds what was found of a pair.
-fn push_pair(found: &mut Vec<Comparison>, pair: Comparison) -> Result<(), Memory>
-    ensures { OnOk result (found.new.items ≡ found.old.items ++ pair ∷ []) }
-{
-    if found.push(pair).is_err() {
-        return Err(Memory);
-    }
-    Ok(())
 }
 
 /// The numbers of the pairs that a pair takes, by its number.
@@ -178,16 +162,6 @@ fn steps(
     let w = writers(writer, reader, key);
     let r = readers(reader, key);
     children(alloc, table, count, w, r, ask)
-}
-
-/// Adds what a pair asks for.
-fn push_ask(asks: &mut Vec<Ask>, ask: Ask) -> Result<(), Memory>
-    ensures { OnOk result (asks.new.items ≡ asks.old.items ++ ask ∷ []) }
-{
-    if asks.push(ask).is_err() {
-        return Err(Memory);
-    }
-    Ok(())
 }
 
 /// All pairs that are reached from the roots through writer's nodes that are not dead, by the table of
@@ -229,53 +203,10 @@ pub fn reach(
                 let ask = ask_at(alloc, &names, writer, reader, key, &mut found)?;
                 let more = steps(alloc, writer, reader, table, key, &ask)?;
                 add_all(&mut known, &more)?;
-                push_ask(&mut asks, ask)?;
+                asks.push(ask)?;
             }
         }
         next += 1;
     }
     Ok(Reached { known, found, asks })
-}
-
-/// What was found of a pair, if it is one that was reached.
-fn found_of(reached: &Reached, count: u32, w: NodeId, r: NodeId) -> Option<&Comparison>
-    ensures { (writer reader : List SeenNode) → AreComparisons writer reader reached.now.found.items
-        → IfSome result (λ p. IsComparison writer reader p.now × (p.now.w ≡ w) × (p.now.r ≡ r)) }
-{
-    let place = match reached.known.get_index_of(&number(count, w, r)) {
-        Some(place) => place,
-        None => return None,
-    };
-    if place >= reached.found.len() {
-        return None;
-    }
-    let pair = &reached.found[place];
-    if pair.w == w && pair.r == r {
-        Some(pair)
-    } else {
-        None
-    }
-}
-
-/// What a pair asks for, by what was found of it, and else by names.
-pub(crate) fn ask_for(
-    alloc: Global,
-    writer: &Schema,
-    reader: &Schema,
-    count: u32,
-    reached: &Reached,
-    w: NodeId,
-    r: NodeId,
-) -> Result<Ask, Memory>
-    requires { AreComparisons (schema_nodes writer.now) (schema_nodes reader.now) reached.now.found.items }
-    ensures { IfOk result (λ a. ask_of a ≡ asked (schema_nodes writer.now) (schema_nodes reader.now) (node_at (schema_nodes writer.now) w.0) (node_at (schema_nodes reader.now) r.0)) }
-{
-    match found_of(reached, count, w, r) {
-        Some(pair) => ask_of_pair(alloc, writer, reader, pair),
-        None => {
-            let names = Names::none(alloc, writer, reader);
-            let pair = compare(alloc, &names, w, r)?;
-            ask_of_pair(alloc, writer, reader, &pair)
-        }
-    }
 }

@@ -14,7 +14,7 @@ pub dead_at : (writer : List Node) (dead : List ℕ) (p : ℕ) → is_dead write
     → is_dead_node dead (node_at writer p) ≡ true
 dead_at writer dead p all among =
     and_right (nat_lt p (length writer)) (is_dead_node dead (node_at writer p))
-    (all_among (λ place. nat_lt place (length writer) && is_dead_node dead (node_at writer place)) dead p all among)
+    (all_among (λ id. nat_lt id (length writer) && is_dead_node dead (node_at writer id)) dead p all among)
 
 -- a null is not dead
 null_lives : (dead : List ℕ) (n : Node) → is_null_node n ≡ true → is_dead_node dead n ≡ true → ⊥
@@ -48,12 +48,12 @@ string_lives dead _ h d = false≢true h
 
 -- nor an array
 array_lives : (dead : List ℕ) (test : ℕ → Bool) (n : Node) → is_some_and test (items_node n) ≡ true → is_dead_node dead n ≡ true → ⊥
-array_lives dead test (Node.array place) h d = false≢true d
+array_lives dead test (Node.array id) h d = false≢true d
 array_lives dead test _ h d = false≢true h
 
 -- nor a map
 map_lives : (dead : List ℕ) (test : ℕ → Bool) (n : Node) → is_some_and test (values_node n) ≡ true → is_dead_node dead n ≡ true → ⊥
-map_lives dead test (Node.map_of place) h d = false≢true d
+map_lives dead test (Node.map_of id) h d = false≢true d
 map_lives dead test _ h d = false≢true h
 
 -- nor an enum
@@ -68,20 +68,20 @@ fixed_lives dead test _ h d = false≢true h
 
 -- the branch that a datum takes of a dead union is in the set
 branch_is_dead : (dead : List ℕ) (test : ℕ → Bool) (n : Node) (k : ℕ)
-    → is_some_and test (option_and_then (λ places. slice_get places k) (branches_of n)) ≡ true → is_dead_node dead n ≡ true
-    → (place : ℕ) × (is_among dead place ≡ true) × (test place ≡ true)
-branch_is_dead dead test (Node.union places) k h d = taken (slice_get places k) refl h
+    → is_some_and test (option_and_then (λ ids. slice_get ids k) (branches_of n)) ≡ true → is_dead_node dead n ≡ true
+    → (id : ℕ) × (is_among dead id ≡ true) × (test id ≡ true)
+branch_is_dead dead test (Node.union ids) k h d = taken (slice_get ids k) refl h
   where
-    taken : (branch : Option ℕ) → slice_get places k ≡ branch → is_some_and test branch ≡ true
-        → (place : ℕ) × (is_among dead place ≡ true) × (test place ≡ true)
+    taken : (branch : Option ℕ) → slice_get ids k ≡ branch → is_some_and test branch ≡ true
+        → (id : ℕ) × (is_among dead id ≡ true) × (test id ≡ true)
     taken None here passes = absurd (false≢true passes)
-    taken (Some place) here passes = (place, all_at (is_among dead) places k place d here, passes)
+    taken (Some id) here passes = (id, all_at (is_among dead) ids k id d here, passes)
 branch_is_dead dead test _ k h d = absurd (false≢true h)
 
 -- a field of a dead record is in the set
 fields_are_dead : (writer : List Node) (dead : List ℕ) (vs : Values) (n : Node)
     → is_some_and (λ fields. fields_fit writer (field_ids fields) vs) (fields_of n) ≡ true → is_dead_node dead n ≡ true
-    → (places : List ℕ) × (list_any (is_among dead) places ≡ true) × (fields_fit writer places vs ≡ true)
+    → (ids : List ℕ) × (list_any (is_among dead) ids ≡ true) × (fields_fit writer ids vs ≡ true)
 fields_are_dead writer dead vs (Node.record_of name aliases fields) h d = (field_ids fields, d, h)
 fields_are_dead writer dead vs _ h d = absurd (false≢true h)
 
@@ -100,12 +100,12 @@ mutual
   no_dead_datum writer dead all (Value.string t) p among h =
       string_lives dead (node_at writer p) (and_left (is_string_node (node_at writer p)) (is_text t) h) (dead_at writer dead p all among)
   no_dead_datum writer dead all (Value.array vs) p among h =
-      array_lives dead (λ place. each_fits writer (node_at writer place) vs) (node_at writer p) (and_right (is_count (values_count vs)) _ h)
+      array_lives dead (λ id. each_fits writer (node_at writer id) vs) (node_at writer p) (and_right (is_count (values_count vs)) _ h)
       (dead_at writer dead p all among)
   no_dead_datum writer dead all (Value.map_of es) p among h =
-      map_lives dead (λ place. entries_fit writer (node_at writer place) es) (node_at writer p) (and_right _ _ h) (dead_at writer dead p all among)
+      map_lives dead (λ id. entries_fit writer (node_at writer id) es) (node_at writer p) (and_right _ _ h) (dead_at writer dead p all among)
   no_dead_datum writer dead all (Value.union k v) p among h =
-      let taken = branch_is_dead dead (λ place. fits writer (node_at writer place) v) (node_at writer p) k h (dead_at writer dead p all among) in
+      let taken = branch_is_dead dead (λ id. fits writer (node_at writer id) v) (node_at writer p) k h (dead_at writer dead p all among) in
       no_dead_datum writer dead all v taken.0 taken.1 taken.2
   no_dead_datum writer dead all (Value.record_of vs) p among h =
       let found = fields_are_dead writer dead vs (node_at writer p) h (dead_at writer dead p all among) in
@@ -115,14 +115,14 @@ mutual
   no_dead_datum writer dead all (Value.fixed b) p among h =
       fixed_lives dead _ (node_at writer p) (and_right (are_bytes b) _ h) (dead_at writer dead p all among)
 
-  -- nor do values fit places of which one is in the set
-  pub no_dead_fields : (writer : List Node) (dead : List ℕ) → is_dead writer dead ≡ true → (vs : Values) (places : List ℕ)
-      → list_any (is_among dead) places ≡ true → fields_fit writer places vs ≡ true → ⊥
+  -- nor do values fit nodes of which one is in the set
+  pub no_dead_fields : (writer : List Node) (dead : List ℕ) → is_dead writer dead ≡ true → (vs : Values) (ids : List ℕ)
+      → list_any (is_among dead) ids ≡ true → fields_fit writer ids vs ≡ true → ⊥
   no_dead_fields writer dead all no_values [] among h = false≢true among
-  no_dead_fields writer dead all no_values (place ∷ places) among h = false≢true h
+  no_dead_fields writer dead all no_values (id ∷ ids) among h = false≢true h
   no_dead_fields writer dead all (value v vs) [] among h = false≢true among
-  no_dead_fields writer dead all (value v vs) (place ∷ places) among h =
-      elim (or_cases (is_among dead place) (list_any (is_among dead) places) among) [
-        | inl first ↦ no_dead_datum writer dead all v place first (and_left (fits writer (node_at writer place) v) (fields_fit writer places vs) h)
-        | inr later ↦ no_dead_fields writer dead all vs places later (and_right (fits writer (node_at writer place) v) (fields_fit writer places vs) h)
+  no_dead_fields writer dead all (value v vs) (id ∷ ids) among h =
+      elim (or_cases (is_among dead id) (list_any (is_among dead) ids) among) [
+        | inl first ↦ no_dead_datum writer dead all v id first (and_left (fits writer (node_at writer id) v) (fields_fit writer ids vs) h)
+        | inr later ↦ no_dead_fields writer dead all vs ids later (and_right (fits writer (node_at writer id) v) (fields_fit writer ids vs) h)
       ]

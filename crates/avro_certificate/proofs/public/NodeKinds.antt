@@ -12,19 +12,19 @@ use Rattle.avro_certificate.proofs.public.Tests.{and_right}
 
 -- a branch of a union is no union
 pub no_union : (n : Node) → is_some (branch_kind n) ≡ true → branches_of n ≡ None
-no_union (Node.union places) h = absurd (false≢true h)
+no_union (Node.union ids) h = absurd (false≢true h)
 no_union _ h = refl
 
 -- a node with branches is a union
-pub union_of_branches : (n : Node) (places : List ℕ) → branches_of n ≡ Some places → n ≡ Node.union places
-union_of_branches (Node.union ps) places h = grind arith
-union_of_branches _ places h = absurd (grind arith)
+pub union_of_branches : (n : Node) (ids : List ℕ) → branches_of n ≡ Some ids → n ≡ Node.union ids
+union_of_branches (Node.union ps) ids h = grind arith
+union_of_branches _ ids h = absurd (grind arith)
 
 -- the fault of a plain node and a union
-pub fault_of_union : (writer reader : List Node) (n : Node) (places : List ℕ) → branches_of n ≡ None
-    → has_local_fault writer reader n (Node.union places) ≡ is_none (first_match writer reader n places)
-fault_of_union writer reader (Node.union ps) places h = absurd (grind arith)
-fault_of_union writer reader _ places h = refl
+pub fault_of_union : (writer reader : List Node) (n : Node) (ids : List ℕ) → branches_of n ≡ None
+    → has_local_fault writer reader n (Node.union ids) ≡ is_none (first_match writer reader n ids)
+fault_of_union writer reader (Node.union ps) ids h = absurd (grind arith)
+fault_of_union writer reader _ ids h = refl
 
 -- the fault of two plain nodes
 pub fault_of_others : (writer reader : List Node) (n q : Node) → branches_of n ≡ None → branches_of q ≡ None
@@ -35,11 +35,11 @@ fault_of_others writer reader Node.null Node.null h k = refl
 fault_of_others writer reader _ _ h k = refl
 
 -- what a pair of a plain node and a union asks for
-pub children_of_union : (writer reader : List Node) (w r : ℕ) (n : Node) (places : List ℕ) (k : ℕ) → branches_of n ≡ None
-    → first_match writer reader n places ≡ Some k
-    → children_of writer reader w r n (Node.union places) ≡ record { w = w; r = unwrap_or (slice_get places k) 0 } ∷ []
-children_of_union writer reader w r (Node.union ps) places k plain h = absurd (grind arith)
-children_of_union writer reader w r _ places k plain h = rw h refl
+pub children_of_union : (writer reader : List Node) (w r : ℕ) (n : Node) (ids : List ℕ) (k : ℕ) → branches_of n ≡ None
+    → first_match writer reader n ids ≡ Some k
+    → children_of writer reader w r n (Node.union ids) ≡ record { w = w; r = unwrap_or (slice_get ids k) 0 } ∷ []
+children_of_union writer reader w r (Node.union ps) ids k plain h = absurd (grind arith)
+children_of_union writer reader w r _ ids k plain h = rw h refl
 
 -- a datum that is no union's
 abbrev pub is_plain_value : Value → Bool
@@ -47,14 +47,14 @@ is_plain_value (Value.union k v) = false
 is_plain_value _ = true
 
 -- such a datum does not fit a union
-union_refused : (nodes : List Node) (places : List ℕ) (v : Value) → is_plain_value v ≡ true → fits nodes (Node.union places) v ≡ true → ⊥
-union_refused nodes places (Value.union k v) plain h = false≢true plain
-union_refused nodes places (Value.array vs) plain h = false≢true (and_right (is_count (values_count vs)) false h)
-union_refused nodes places (Value.map_of es) plain h = false≢true (and_right _ false h)
-union_refused nodes places (Value.fixed b) plain h = false≢true (and_right (are_bytes b) false h)
-union_refused nodes places _ plain h = false≢true h
+union_refused : (nodes : List Node) (ids : List ℕ) (v : Value) → is_plain_value v ≡ true → fits nodes (Node.union ids) v ≡ true → ⊥
+union_refused nodes ids (Value.union k v) plain h = false≢true plain
+union_refused nodes ids (Value.array vs) plain h = false≢true (and_right (is_count (values_count vs)) false h)
+union_refused nodes ids (Value.map_of es) plain h = false≢true (and_right _ false h)
+union_refused nodes ids (Value.fixed b) plain h = false≢true (and_right (are_bytes b) false h)
+union_refused nodes ids _ plain h = false≢true h
 
 -- the node of a datum that is no union's is none
 pub plain_node : (nodes : List Node) (n : Node) (v : Value) → is_plain_value v ≡ true → fits nodes n v ≡ true → branches_of n ≡ None
-plain_node nodes (Node.union places) v plain h = absurd (union_refused nodes places v plain h)
+plain_node nodes (Node.union ids) v plain h = absurd (union_refused nodes ids v plain h)
 plain_node nodes _ v plain h = refl

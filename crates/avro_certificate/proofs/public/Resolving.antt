@@ -23,7 +23,7 @@ array_into : (writer reader : List Node) (dead : List ℕ) (pairs : List Pair) (
     → match_within steps writer reader (Node.array a) q ≡ true → list_all (stands dead pairs) (children_of writer reader w r (Node.array a) q) ≡ true
     → ((b : ℕ) → stands dead pairs (record { w = a; r = b }) ≡ true → Succeeds (resolve_items writer reader (node_at writer a) (node_at reader b) 0 vs))
     → Succeeds (result_map Value.array (resolve_items writer reader (node_at writer a) (part_at reader (items_node q)) 0 vs))
-array_into writer reader dead pairs vs steps w r a (Node.union places) plain m s each = absurd (grind arith)
+array_into writer reader dead pairs vs steps w r a (Node.union ids) plain m s each = absurd (grind arith)
 array_into writer reader dead pairs vs (suc steps) w r a (Node.array b) plain m s each =
     succeeds_map Value.array (resolve_items writer reader (node_at writer a) (node_at reader b) 0 vs) (each b (and_left _ true s))
 array_into writer reader dead pairs vs zero w r a (Node.array b) plain m s each =
@@ -33,13 +33,13 @@ array_into writer reader dead pairs vs (suc steps) w r a _ plain m s each = absu
 
 -- the same for any pair of nodes
 succeeds_array : (writer reader : List Node) (dead : List ℕ) (pairs : List Pair) (vs : Values) (w : ℕ) (n q : Node)
-    → Reaches writer reader dead pairs w n q → is_some_and (λ place. each_fits writer (node_at writer place) vs) (items_node n) ≡ true
+    → Reaches writer reader dead pairs w n q → is_some_and (λ id. each_fits writer (node_at writer id) vs) (items_node n) ≡ true
     → ((a b : ℕ) → stands dead pairs (record { w = a; r = b }) ≡ true → each_fits writer (node_at writer a) vs ≡ true
     → Succeeds (resolve_items writer reader (node_at writer a) (node_at reader b) 0 vs))
     → Succeeds (through writer reader n q
     (λ m. result_map Value.array (resolve_items writer reader (part_at writer (items_node n)) (part_at reader (items_node m)) 0 vs)))
 succeeds_array writer reader dead pairs vs w (Node.array a) q way h each = way.gives _
-    (array_into writer reader dead pairs vs (length writer) w way.place a (node_at reader way.place) way.plain way.matches way.children (λ b s. each a b s h))
+    (array_into writer reader dead pairs vs (length writer) w way.id a (node_at reader way.id) way.plain way.matches way.children (λ b s. each a b s h))
 succeeds_array writer reader dead pairs vs w _ q way h each = absurd (false≢true h)
 
 -- a map's entries
@@ -47,7 +47,7 @@ map_into : (writer reader : List Node) (dead : List ℕ) (pairs : List Pair) (es
     → match_within steps writer reader (Node.map_of a) q ≡ true → list_all (stands dead pairs) (children_of writer reader w r (Node.map_of a) q) ≡ true
     → ((b : ℕ) → stands dead pairs (record { w = a; r = b }) ≡ true → Succeeds (resolve_entries writer reader (node_at writer a) (node_at reader b) 0 es))
     → Succeeds (result_map Value.map_of (resolve_entries writer reader (node_at writer a) (part_at reader (values_node q)) 0 es))
-map_into writer reader dead pairs es steps w r a (Node.union places) plain m s each = absurd (grind arith)
+map_into writer reader dead pairs es steps w r a (Node.union ids) plain m s each = absurd (grind arith)
 map_into writer reader dead pairs es (suc steps) w r a (Node.map_of b) plain m s each =
     succeeds_map Value.map_of (resolve_entries writer reader (node_at writer a) (node_at reader b) 0 es) (each b (and_left _ true s))
 map_into writer reader dead pairs es zero w r a (Node.map_of b) plain m s each =
@@ -57,19 +57,19 @@ map_into writer reader dead pairs es (suc steps) w r a _ plain m s each = absurd
 
 -- the same for any pair of nodes
 succeeds_map_of : (writer reader : List Node) (dead : List ℕ) (pairs : List Pair) (es : Entries) (w : ℕ) (n q : Node)
-    → Reaches writer reader dead pairs w n q → is_some_and (λ place. entries_fit writer (node_at writer place) es) (values_node n) ≡ true
+    → Reaches writer reader dead pairs w n q → is_some_and (λ id. entries_fit writer (node_at writer id) es) (values_node n) ≡ true
     → ((a b : ℕ) → stands dead pairs (record { w = a; r = b }) ≡ true → entries_fit writer (node_at writer a) es ≡ true
     → Succeeds (resolve_entries writer reader (node_at writer a) (node_at reader b) 0 es))
     → Succeeds (through writer reader n q
     (λ m. result_map Value.map_of (resolve_entries writer reader (part_at writer (values_node n)) (part_at reader (values_node m)) 0 es)))
 succeeds_map_of writer reader dead pairs es w (Node.map_of a) q way h each = way.gives _
-    (map_into writer reader dead pairs es (length writer) w way.place a (node_at reader way.place) way.plain way.matches way.children (λ b s. each a b s h))
+    (map_into writer reader dead pairs es (length writer) w way.id a (node_at reader way.id) way.plain way.matches way.children (λ b s. each a b s h))
 succeeds_map_of writer reader dead pairs es w _ q way h each = absurd (false≢true h)
 
 -- a symbol
 enum_into : (writer reader : List Node) (steps : ℕ) (n q : Node) (k : ℕ) → is_some_and (λ symbols. nat_lt k (length symbols)) (symbols_of n) ≡ true
     → branches_of q ≡ None → match_within steps writer reader n q ≡ true → has_fault_of_kind n q ≡ false → Succeeds (enum_as (symbol_at n k) q)
-enum_into writer reader steps (Node.enum a xs symbols x) (Node.union places) k h plain m faultless = absurd (grind arith)
+enum_into writer reader steps (Node.enum a xs symbols x) (Node.union ids) k h plain m faultless = absurd (grind arith)
 enum_into writer reader zero (Node.enum a xs symbols x) (Node.enum b ys theirs y) k h plain m faultless = succeeds_enum symbols theirs k y h faultless
 enum_into writer reader (suc steps) (Node.enum a xs symbols x) (Node.enum b ys theirs y) k h plain m faultless = succeeds_enum symbols theirs k y h faultless
 enum_into writer reader zero (Node.enum a xs symbols x) _ k h plain m faultless = absurd (false≢true m)
@@ -85,7 +85,7 @@ record_into : (writer reader : List Node) (dead : List ℕ) (pairs : List Pair) 
     → fields_fit writer (field_ids fields) vs ≡ true → Succeeds (resolve_sources writer reader fields theirs 0 vs))
     → Succeeds (record_or_missing (fields_at n) (fields_at q) (missing_field (fields_at n) (fields_at q))
     (resolve_sources writer reader (fields_at n) (fields_at q) 0 vs))
-record_into writer reader dead pairs vs steps w r (Node.record_of a xs fields) (Node.union places) h plain m faultless s each = absurd (grind arith)
+record_into writer reader dead pairs vs steps w r (Node.record_of a xs fields) (Node.union ids) h plain m faultless s each = absurd (grind arith)
 record_into writer reader dead pairs vs zero w r (Node.record_of a xs fields) (Node.record_of b ys theirs) h plain m faultless s each =
     succeeds_record fields theirs (missing_field fields theirs) (resolve_sources writer reader fields theirs 0 vs) faultless (each fields theirs s h)
 record_into writer reader dead pairs vs (suc steps) w r (Node.record_of a xs fields) (Node.record_of b ys theirs) h plain m faultless s each =
@@ -96,25 +96,25 @@ record_into writer reader dead pairs vs steps w r _ q h plain m faultless s each
 
 -- the branch that a datum takes of the writer's union, with the same reader's node
 union_into : (writer reader : List Node) (dead : List ℕ) (pairs : List Pair) (v : Value) (k w r : ℕ) (n q : Node)
-    → is_some_and (λ place. fits writer (node_at writer place) v) (option_and_then (λ places. slice_get places k) (branches_of n)) ≡ true
+    → is_some_and (λ id. fits writer (node_at writer id) v) (option_and_then (λ ids. slice_get ids k) (branches_of n)) ≡ true
     → list_all (stands dead pairs) (children_of writer reader w r n q) ≡ true
-    → ((place : ℕ) → stands dead pairs (record { w = place; r = r }) ≡ true → fits writer (node_at writer place) v ≡ true
-    → Succeeds (resolve writer reader (node_at writer place) (node_at reader r) v))
+    → ((id : ℕ) → stands dead pairs (record { w = id; r = r }) ≡ true → fits writer (node_at writer id) v ≡ true
+    → Succeeds (resolve writer reader (node_at writer id) (node_at reader r) v))
     → Succeeds (inside 0 (resolve writer reader (branch_node writer (unwrap_or (branches_of n) []) k) (node_at reader r) v))
-union_into writer reader dead pairs v k w r (Node.union places) q h s each = taken (slice_get places k) refl h
+union_into writer reader dead pairs v k w r (Node.union ids) q h s each = taken (slice_get ids k) refl h
   where
-    child : (place : ℕ) → slice_get places k ≡ Some place → stands dead pairs (record { w = place; r = r }) ≡ true
-    child place here = all_at (λ p. stands dead pairs (record { w = p; r = r })) places k place
-        (sym (list_all-map (stands dead pairs) (λ p. record { w = p; r = r }) places) ∙ s) here
+    child : (id : ℕ) → slice_get ids k ≡ Some id → stands dead pairs (record { w = id; r = r }) ≡ true
+    child id here = all_at (λ p. stands dead pairs (record { w = p; r = r })) ids k id
+        (sym (list_all-map (stands dead pairs) (λ p. record { w = p; r = r }) ids) ∙ s) here
 
-    taken : (o : Option ℕ) → slice_get places k ≡ o → is_some_and (λ place. fits writer (node_at writer place) v) o ≡ true
-        → Succeeds (inside 0 (resolve writer reader (branch_node writer places k) (node_at reader r) v))
+    taken : (o : Option ℕ) → slice_get ids k ≡ o → is_some_and (λ id. fits writer (node_at writer id) v) o ≡ true
+        → Succeeds (inside 0 (resolve writer reader (branch_node writer ids k) (node_at reader r) v))
     taken None here passes = absurd (false≢true passes)
-    taken (Some place) here passes = rw here (succeeds_inside 0 (resolve writer reader (node_at writer place) (node_at reader r) v)
-        (each place (child place here) passes))
+    taken (Some id) here passes = rw here (succeeds_inside 0 (resolve writer reader (node_at writer id) (node_at reader r) v)
+        (each id (child id here) passes))
 union_into writer reader dead pairs v k w r _ q h s each = absurd (false≢true h)
 
--- what stands at a place begins the rest from there on
+-- what stands at an index begins the rest from there on
 pub slice_get_of_drop : {A : Type 0} (xs ys : List A) (n : ℕ) (x : A) → drop n xs ≡ x ∷ ys → slice_get xs n ≡ Some x
 slice_get_of_drop [] ys zero x e = absurd (grind arith)
 slice_get_of_drop [] ys (suc n) x e = absurd (grind arith)
@@ -143,68 +143,68 @@ module _ (writer reader : List Node) (dead : List ℕ) (pairs : List Pair) (dead
     resolves (Value.boolean b) w r s h = (way_of (Value.boolean b) w r refl s h).gives (λ q. Ok (Value.boolean b)) tt
     resolves (Value.int i) w r s h =
         let way = way_of (Value.int i) w r refl s h in
-        way.gives (int_as i) (succeeds_int i (node_at reader way.place))
+        way.gives (int_as i) (succeeds_int i (node_at reader way.id))
     resolves (Value.long i) w r s h = (way_of (Value.long i) w r refl s h).gives (λ q. Ok (Value.long i)) tt
     resolves (Value.bytes b) w r s h =
         let way = way_of (Value.bytes b) w r refl s h in
-        way.gives (bytes_as b) (succeeds_bytes b (node_at writer w) (node_at reader way.place)
+        way.gives (bytes_as b) (succeeds_bytes b (node_at writer w) (node_at reader way.id)
         (and_left (is_bytes_node (node_at writer w)) (are_bytes b) h) way.faultless)
     resolves (Value.string t) w r s h =
         let way = way_of (Value.string t) w r refl s h in
-        way.gives (string_as t) (succeeds_string t (node_at reader way.place))
+        way.gives (string_as t) (succeeds_string t (node_at reader way.id))
     resolves (Value.array vs) w r s h = succeeds_array writer reader dead pairs vs w (node_at writer w) (node_at reader r) (way_of (Value.array vs) w r refl s h)
-        (and_right (is_count (values_count vs)) (is_some_and (λ place. each_fits writer (node_at writer place) vs) (items_node (node_at writer w))) h)
+        (and_right (is_count (values_count vs)) (is_some_and (λ id. each_fits writer (node_at writer id) vs) (items_node (node_at writer w))) h)
         (λ a b t f. resolves_items vs a b 0 t f)
     resolves (Value.map_of es) w r s h = succeeds_map_of writer reader dead pairs es w (node_at writer w) (node_at reader r) (way_of (Value.map_of es) w r refl s h)
-        (and_right _ (is_some_and (λ place. entries_fit writer (node_at writer place) es) (values_node (node_at writer w))) h)
+        (and_right _ (is_some_and (λ id. entries_fit writer (node_at writer id) es) (values_node (node_at writer w))) h)
         (λ a b t f. resolves_entries es a b 0 t f)
     resolves (Value.union k v) w r s h = union_into writer reader dead pairs v k w r (node_at writer w) (node_at reader r) h
-        (sound writer reader dead pairs dead_set closed (Value.union k v) w r s h).children (λ place t f. resolves v place r t f)
+        (sound writer reader dead pairs dead_set closed (Value.union k v) w r s h).children (λ id t f. resolves v id r t f)
     resolves (Value.record_of vs) w r s h =
         let way = way_of (Value.record_of vs) w r refl s h in
-        way.gives _ (record_into writer reader dead pairs vs (length writer) w way.place (node_at writer w) (node_at reader way.place) h
+        way.gives _ (record_into writer reader dead pairs vs (length writer) w way.id (node_at writer w) (node_at reader way.id) h
         way.plain way.matches way.faultless way.children
         (λ fields theirs t f. resolves_sources vs fields theirs 0 (field_ids fields) refl t f))
     resolves (Value.enum k) w r s h =
         let way = way_of (Value.enum k) w r refl s h in
         way.gives (enum_as (symbol_at (node_at writer w) k))
-        (enum_into writer reader (length writer) (node_at writer w) (node_at reader way.place) k h way.plain way.matches way.faultless)
+        (enum_into writer reader (length writer) (node_at writer w) (node_at reader way.id) k h way.plain way.matches way.faultless)
     resolves (Value.fixed b) w r s h = (way_of (Value.fixed b) w r refl s h).gives (λ q. Ok (Value.fixed b)) tt
 
     -- the items
-    resolves_items : (vs : Values) (w r place : ℕ) → stands dead pairs (record { w = w; r = r }) ≡ true → each_fits writer (node_at writer w) vs ≡ true
-        → Succeeds (resolve_items writer reader (node_at writer w) (node_at reader r) place vs)
-    resolves_items no_values w r place s h = tt
-    resolves_items (value v vs) w r place s h =
-        succeeds_both value (inside place (resolve writer reader (node_at writer w) (node_at reader r) v))
-        (resolve_items writer reader (node_at writer w) (node_at reader r) (suc place) vs)
-        (succeeds_inside place (resolve writer reader (node_at writer w) (node_at reader r) v)
+    resolves_items : (vs : Values) (w r index : ℕ) → stands dead pairs (record { w = w; r = r }) ≡ true → each_fits writer (node_at writer w) vs ≡ true
+        → Succeeds (resolve_items writer reader (node_at writer w) (node_at reader r) index vs)
+    resolves_items no_values w r index s h = tt
+    resolves_items (value v vs) w r index s h =
+        succeeds_both value (inside index (resolve writer reader (node_at writer w) (node_at reader r) v))
+        (resolve_items writer reader (node_at writer w) (node_at reader r) (suc index) vs)
+        (succeeds_inside index (resolve writer reader (node_at writer w) (node_at reader r) v)
         (resolves v w r s (and_left (fits writer (node_at writer w) v) (each_fits writer (node_at writer w) vs) h)))
-        (resolves_items vs w r (suc place) s (and_right (fits writer (node_at writer w) v) (each_fits writer (node_at writer w) vs) h))
+        (resolves_items vs w r (suc index) s (and_right (fits writer (node_at writer w) v) (each_fits writer (node_at writer w) vs) h))
 
     -- the entries
-    resolves_entries : (es : Entries) (w r place : ℕ) → stands dead pairs (record { w = w; r = r }) ≡ true → entries_fit writer (node_at writer w) es ≡ true
-        → Succeeds (resolve_entries writer reader (node_at writer w) (node_at reader r) place es)
-    resolves_entries no_entries w r place s h = tt
-    resolves_entries (entry k v es) w r place s h =
-        succeeds_both (entry k) (inside place (resolve writer reader (node_at writer w) (node_at reader r) v))
-        (resolve_entries writer reader (node_at writer w) (node_at reader r) (suc place) es)
-        (succeeds_inside place (resolve writer reader (node_at writer w) (node_at reader r) v)
+    resolves_entries : (es : Entries) (w r index : ℕ) → stands dead pairs (record { w = w; r = r }) ≡ true → entries_fit writer (node_at writer w) es ≡ true
+        → Succeeds (resolve_entries writer reader (node_at writer w) (node_at reader r) index es)
+    resolves_entries no_entries w r index s h = tt
+    resolves_entries (entry k v es) w r index s h =
+        succeeds_both (entry k) (inside index (resolve writer reader (node_at writer w) (node_at reader r) v))
+        (resolve_entries writer reader (node_at writer w) (node_at reader r) (suc index) es)
+        (succeeds_inside index (resolve writer reader (node_at writer w) (node_at reader r) v)
         (resolves v w r s (and_left (fits writer (node_at writer w) v) (entries_fit writer (node_at writer w) es) h)))
-        (resolves_entries es w r (suc place) s (and_right (fits writer (node_at writer w) v) (entries_fit writer (node_at writer w) es) h))
+        (resolves_entries es w r (suc index) s (and_right (fits writer (node_at writer w) v) (entries_fit writer (node_at writer w) es) h))
 
-    -- the writer's fields from a place on
-    resolves_sources : (vs : Values) (fields theirs : List FieldNode) (place : ℕ) (places : List ℕ) → drop place (field_ids fields) ≡ places
-        → list_all (stands dead pairs) (field_children fields theirs) ≡ true → fields_fit writer places vs ≡ true
-        → Succeeds (resolve_sources writer reader fields theirs place vs)
-    resolves_sources no_values fields theirs place places e s h = tt
-    resolves_sources (value v vs) fields theirs place [] e s h = absurd (false≢true h)
-    resolves_sources (value v vs) fields theirs place (p ∷ ps) e s h =
-        succeeds_sourced (reader_field fields theirs place) place _ (resolve_sources writer reader fields theirs (suc place) vs)
-        (λ f here. resolves v (unwrap_or (slice_get (field_ids fields) place) 0) f.node (source_child (stands dead pairs) fields theirs place f here s)
-        (subst (λ (o : Option ℕ). fits writer (node_at writer (unwrap_or o 0)) v ≡ true) (sym (slice_get_of_drop (field_ids fields) ps place p e))
+    -- the writer's fields from an index on
+    resolves_sources : (vs : Values) (fields theirs : List FieldNode) (index : ℕ) (ids : List ℕ) → drop index (field_ids fields) ≡ ids
+        → list_all (stands dead pairs) (field_children fields theirs) ≡ true → fields_fit writer ids vs ≡ true
+        → Succeeds (resolve_sources writer reader fields theirs index vs)
+    resolves_sources no_values fields theirs index ids e s h = tt
+    resolves_sources (value v vs) fields theirs index [] e s h = absurd (false≢true h)
+    resolves_sources (value v vs) fields theirs index (p ∷ ps) e s h =
+        succeeds_sourced (reader_field fields theirs index) index _ (resolve_sources writer reader fields theirs (suc index) vs)
+        (λ f here. resolves v (unwrap_or (slice_get (field_ids fields) index) 0) f.node (source_child (stands dead pairs) fields theirs index f here s)
+        (subst (λ (o : Option ℕ). fits writer (node_at writer (unwrap_or o 0)) v ≡ true) (sym (slice_get_of_drop (field_ids fields) ps index p e))
         (and_left (fits writer (node_at writer p) v) (fields_fit writer ps vs) h)))
-        (resolves_sources vs fields theirs (suc place) ps (drop_more (field_ids fields) ps place p e) s
+        (resolves_sources vs fields theirs (suc index) ps (drop_more (field_ids fields) ps index p e) s
         (and_right (fits writer (node_at writer p) v) (fields_fit writer ps vs) h))
 
 -- a closed set shows that each datum of the writer's is one of the reader's

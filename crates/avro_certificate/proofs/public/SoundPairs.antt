@@ -26,45 +26,45 @@ pub record IsSound (writer reader : List Node) (dead : List ℕ) (pairs : List P
   pub faultless : has_local_fault writer reader n q ≡ false
   pub children : list_all (stands dead pairs) (children_of writer reader w r n q) ≡ true
 
--- a place of the reader's, with a plain node that takes what a writer's plain node has
+-- a plain node of the reader's that takes what a writer's plain node has
 pub record Reaches (writer reader : List Node) (dead : List ℕ) (pairs : List Pair) (w : ℕ) (n q : Node) : Type 0 where
-  pub place : ℕ
-  pub plain : branches_of (node_at reader place) ≡ None
-  pub matches : is_match writer reader n (node_at reader place) ≡ true
-  pub faultless : has_fault_of_kind n (node_at reader place) ≡ false
-  pub children : list_all (stands dead pairs) (children_of writer reader w place n (node_at reader place)) ≡ true
-  pub gives : (f : Node → Resolved) → Succeeds (f (node_at reader place)) → Succeeds (through writer reader n q f)
+  pub id : ℕ
+  pub plain : branches_of (node_at reader id) ≡ None
+  pub matches : is_match writer reader n (node_at reader id) ≡ true
+  pub faultless : has_fault_of_kind n (node_at reader id) ≡ false
+  pub children : list_all (stands dead pairs) (children_of writer reader w id n (node_at reader id)) ≡ true
+  pub gives : (f : Node → Resolved) → Succeeds (f (node_at reader id)) → Succeeds (through writer reader n q f)
 
 -- the first of some fields takes its source, or a later one does
-first_child : (test : Pair → Bool) (places : List ℕ) (source place : ℕ) (g f : FieldNode) (rest : Option FieldNode)
-    → cond (source == place) (Some g) rest ≡ Some f → test (record { w = unwrap_or (slice_get places source) 0; r = g.node }) ≡ true
-    → (rest ≡ Some f → test (record { w = unwrap_or (slice_get places place) 0; r = f.node }) ≡ true)
-    → test (record { w = unwrap_or (slice_get places place) 0; r = f.node }) ≡ true
-first_child test places source place g f rest found passes later = chosen (source == place) refl found
+first_child : (test : Pair → Bool) (ids : List ℕ) (source index : ℕ) (g f : FieldNode) (rest : Option FieldNode)
+    → cond (source == index) (Some g) rest ≡ Some f → test (record { w = unwrap_or (slice_get ids source) 0; r = g.node }) ≡ true
+    → (rest ≡ Some f → test (record { w = unwrap_or (slice_get ids index) 0; r = f.node }) ≡ true)
+    → test (record { w = unwrap_or (slice_get ids index) 0; r = f.node }) ≡ true
+first_child test ids source index g f rest found passes later = chosen (source == index) refl found
   where
     same_field : (a b : FieldNode) → Some a ≡ Some b → a ≡ b
     same_field a b e = cc
 
-    chosen : (b : Bool) → (source == place) ≡ b → cond b (Some g) rest ≡ Some f → test (record { w = unwrap_or (slice_get places place) 0; r = f.node }) ≡ true
-    chosen true e h = subst (λ (p : ℕ). test (record { w = unwrap_or (slice_get places p) 0; r = f.node }) ≡ true) (eqb-true source place e)
-        (subst (λ (x : FieldNode). test (record { w = unwrap_or (slice_get places source) 0; r = x.node }) ≡ true) (same_field g f h) passes)
+    chosen : (b : Bool) → (source == index) ≡ b → cond b (Some g) rest ≡ Some f → test (record { w = unwrap_or (slice_get ids index) 0; r = f.node }) ≡ true
+    chosen true e h = subst (λ (p : ℕ). test (record { w = unwrap_or (slice_get ids p) 0; r = f.node }) ≡ true) (eqb-true source index e)
+        (subst (λ (x : FieldNode). test (record { w = unwrap_or (slice_get ids source) 0; r = x.node }) ≡ true) (same_field g f h) passes)
     chosen false e h = later h
 
--- the child of a reader's field whose source is at a place
-pub source_child : (test : Pair → Bool) (fields theirs : List FieldNode) (place : ℕ) (f : FieldNode) → reader_field fields theirs place ≡ Some f
-    → list_all test (field_children fields theirs) ≡ true → test (record { w = unwrap_or (slice_get (field_ids fields) place) 0; r = f.node }) ≡ true
-source_child test fields [] place f here all = absurd (grind arith)
-source_child test fields (g ∷ gs) place f here all = step (source_of fields g) refl (source_child test fields gs place f)
+-- the child of a reader's field whose source is at an index
+pub source_child : (test : Pair → Bool) (fields theirs : List FieldNode) (index : ℕ) (f : FieldNode) → reader_field fields theirs index ≡ Some f
+    → list_all test (field_children fields theirs) ≡ true → test (record { w = unwrap_or (slice_get (field_ids fields) index) 0; r = f.node }) ≡ true
+source_child test fields [] index f here all = absurd (grind arith)
+source_child test fields (g ∷ gs) index f here all = step (source_of fields g) refl (source_child test fields gs index f)
   where
     step : (o : Option ℕ) → source_of fields g ≡ o
-        → (reader_field fields gs place ≡ Some f → list_all test (field_children fields gs) ≡ true
-        → test (record { w = unwrap_or (slice_get (field_ids fields) place) 0; r = f.node }) ≡ true)
-        → test (record { w = unwrap_or (slice_get (field_ids fields) place) 0; r = f.node }) ≡ true
+        → (reader_field fields gs index ≡ Some f → list_all test (field_children fields gs) ≡ true
+        → test (record { w = unwrap_or (slice_get (field_ids fields) index) 0; r = f.node }) ≡ true)
+        → test (record { w = unwrap_or (slice_get (field_ids fields) index) 0; r = f.node }) ≡ true
     step None e later = later (rw e at here) (rw e at all)
     step (Some source) e later =
         let found = rw e at here in
         let tests = rw e at all in
-        first_child test (field_ids fields) source place g f (reader_field fields gs place) found (and_left _ _ tests)
+        first_child test (field_ids fields) source index g f (reader_field fields gs index) found (and_left _ _ tests)
         (λ there. later there (and_right _ _ tests))
 
 module _ (writer reader : List Node) (dead : List ℕ) (pairs : List Pair) (dead_set : is_dead writer dead ≡ true)
@@ -87,7 +87,7 @@ module _ (writer reader : List Node) (dead : List ℕ) (pairs : List Pair) (dead
   reach_plain : (w r : ℕ) (n : Node) → branches_of n ≡ None → branches_of (node_at reader r) ≡ None
       → IsSound writer reader dead pairs w r n (node_at reader r) → Reaches writer reader dead pairs w n (node_at reader r)
   reach_plain w r n plain their_plain is_sound = record {
-    place = r;
+    id = r;
     plain = their_plain;
     matches = their_match;
     faultless = or_right _ _ no_fault;
@@ -102,43 +102,43 @@ module _ (writer reader : List Node) (dead : List ℕ) (pairs : List Pair) (dead
       their_match = not_false _ (or_left _ _ no_fault)
 
   -- where the reader's node is a union
-  reach_branch : is_schema reader ≡ true → (v : Value) (w r : ℕ) (places : List ℕ) → node_at reader r ≡ Node.union places
+  reach_branch : is_schema reader ≡ true → (v : Value) (w r : ℕ) (ids : List ℕ) → node_at reader r ≡ Node.union ids
       → fits writer (node_at writer w) v ≡ true → branches_of (node_at writer w) ≡ None
-      → IsSound writer reader dead pairs w r (node_at writer w) (Node.union places)
-      → Reaches writer reader dead pairs w (node_at writer w) (Node.union places)
-  reach_branch formed v w r places here h plain is_sound = chosen (first_match writer reader (node_at writer w) places) refl
-      (sym (fault_of_union writer reader (node_at writer w) places plain) ∙ is_sound.faultless)
+      → IsSound writer reader dead pairs w r (node_at writer w) (Node.union ids)
+      → Reaches writer reader dead pairs w (node_at writer w) (Node.union ids)
+  reach_branch formed v w r ids here h plain is_sound = chosen (first_match writer reader (node_at writer w) ids) refl
+      (sym (fault_of_union writer reader (node_at writer w) ids plain) ∙ is_sound.faultless)
     where
-      their_plain : (k : ℕ) → first_match writer reader (node_at writer w) places ≡ Some k
-          → branches_of (node_at reader (unwrap_or (slice_get places k) 0)) ≡ None
+      their_plain : (k : ℕ) → first_match writer reader (node_at writer w) ids ≡ Some k
+          → branches_of (node_at reader (unwrap_or (slice_get ids k) 0)) ≡ None
       their_plain k taken =
-          let found = first_match_within writer reader (node_at writer w) places k taken in
-          subst (λ (o : Option ℕ). branches_of (node_at reader (unwrap_or o 0)) ≡ None) (sym found.1) (plain_branch reader r places k found.0 formed here found.1)
+          let found = first_match_within writer reader (node_at writer w) ids k taken in
+          subst (λ (o : Option ℕ). branches_of (node_at reader (unwrap_or o 0)) ≡ None) (sym found.1) (plain_branch reader r ids k found.0 formed here found.1)
 
-      child : (k : ℕ) → first_match writer reader (node_at writer w) places ≡ Some k
-          → stands dead pairs (record { w = w; r = unwrap_or (slice_get places k) 0 }) ≡ true
-      child k taken = and_left (stands dead pairs (record { w = w; r = unwrap_or (slice_get places k) 0 })) true
+      child : (k : ℕ) → first_match writer reader (node_at writer w) ids ≡ Some k
+          → stands dead pairs (record { w = w; r = unwrap_or (slice_get ids k) 0 }) ≡ true
+      child k taken = and_left (stands dead pairs (record { w = w; r = unwrap_or (slice_get ids k) 0 })) true
           (subst (λ (ps : List Pair). list_all (stands dead pairs) ps ≡ true)
-          (children_of_union writer reader w r (node_at writer w) places k plain taken) is_sound.children)
+          (children_of_union writer reader w r (node_at writer w) ids k plain taken) is_sound.children)
 
-      within : (k : ℕ) → first_match writer reader (node_at writer w) places ≡ Some k
-          → Reaches writer reader dead pairs w (node_at writer w) (node_at reader (unwrap_or (slice_get places k) 0))
-      within k taken = reach_plain w (unwrap_or (slice_get places k) 0) (node_at writer w) plain (their_plain k taken)
-          (sound v w (unwrap_or (slice_get places k) 0) (child k taken) h)
+      within : (k : ℕ) → first_match writer reader (node_at writer w) ids ≡ Some k
+          → Reaches writer reader dead pairs w (node_at writer w) (node_at reader (unwrap_or (slice_get ids k) 0))
+      within k taken = reach_plain w (unwrap_or (slice_get ids k) 0) (node_at writer w) plain (their_plain k taken)
+          (sound v w (unwrap_or (slice_get ids k) 0) (child k taken) h)
 
-      chosen : (o : Option ℕ) → first_match writer reader (node_at writer w) places ≡ o → is_none o ≡ false
-          → Reaches writer reader dead pairs w (node_at writer w) (Node.union places)
+      chosen : (o : Option ℕ) → first_match writer reader (node_at writer w) ids ≡ o → is_none o ≡ false
+          → Reaches writer reader dead pairs w (node_at writer w) (Node.union ids)
       chosen None taken some = absurd (true≢false some)
       chosen (Some k) taken some =
           let way = within k taken in
           record {
-            place = way.place;
+            id = way.id;
             plain = way.plain;
             matches = way.matches;
             faultless = way.faultless;
             children = way.children;
-            gives = λ f s. rw taken (succeeds_map (Value.union k) (matched writer reader (node_at writer w) (branch_node reader places k) f)
-                (matched_plain writer reader (node_at writer w) (branch_node reader places k) f (their_plain k taken) (way.gives f s)));
+            gives = λ f s. rw taken (succeeds_map (Value.union k) (matched writer reader (node_at writer w) (branch_node reader ids k) f)
+                (matched_plain writer reader (node_at writer w) (branch_node reader ids k) f (their_plain k taken) (way.gives f s)));
           }
 
   -- whatever the reader's node is
@@ -152,8 +152,8 @@ module _ (writer reader : List Node) (dead : List ℕ) (pairs : List Pair) (dead
 
       by_branches : (o : Option (List ℕ)) → branches_of (node_at reader r) ≡ o → Reaches writer reader dead pairs w (node_at writer w) (node_at reader r)
       by_branches None e = reach_plain w r (node_at writer w) plain e is_sound
-      by_branches (Some places) e =
-          let here : node_at reader r ≡ Node.union places = union_of_branches (node_at reader r) places e in
+      by_branches (Some ids) e =
+          let here : node_at reader r ≡ Node.union ids = union_of_branches (node_at reader r) ids e in
           subst (λ (q : Node). Reaches writer reader dead pairs w (node_at writer w) q) (sym here)
-          (reach_branch formed v w r places here h plain
+          (reach_branch formed v w r ids here h plain
           (subst (λ (q : Node). IsSound writer reader dead pairs w r (node_at writer w) q) here is_sound))

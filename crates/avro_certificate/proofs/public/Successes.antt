@@ -47,13 +47,13 @@ succeeds_matched writer reader w r resolve h s = chosen (is_match writer reader 
 -- where the reader's node is no union
 pub through_plain : (writer reader : List Node) (w r : Node) (resolve : Node → Resolved) → branches_of r ≡ None
     → Succeeds (matched writer reader w r resolve) → Succeeds (through writer reader w r resolve)
-through_plain writer reader w (Node.union places) resolve plain s = absurd (grind arith)
+through_plain writer reader w (Node.union ids) resolve plain s = absurd (grind arith)
 through_plain writer reader w _ resolve plain s = s
 
 -- and back
 pub matched_plain : (writer reader : List Node) (w r : Node) (resolve : Node → Resolved) → branches_of r ≡ None
     → Succeeds (through writer reader w r resolve) → Succeeds (matched writer reader w r resolve)
-matched_plain writer reader w (Node.union places) resolve plain s = absurd (grind arith)
+matched_plain writer reader w (Node.union ids) resolve plain s = absurd (grind arith)
 matched_plain writer reader w _ resolve plain s = s
 
 -- an int
@@ -91,9 +91,9 @@ list_any-same f g (x ∷ xs) same h = elim (or_cases (f x) (list_any f xs) h) [
   | inr later ↦ or_from_right (g x) (list_any g xs) (list_any-same f g xs same later)
 ]
 
--- a symbol that the reader does not lack has a place there
+-- a symbol that the reader does not lack is found there
 found_symbol : (s : List ℕ) (theirs : List (List ℕ)) → list_any (bytes_eq s) theirs ≡ true
-    → (place : ℕ) × (position (λ t. bytes_eq t s) theirs ≡ Some place)
+    → (index : ℕ) × (position (λ t. bytes_eq t s) theirs ≡ Some index)
 found_symbol s theirs h =
     let there : list_any (λ t. bytes_eq t s) theirs ≡ true = list_any-same (bytes_eq s) (λ t. bytes_eq t s) theirs (bytes_eq-sym s) h in
     let below = prefix_len_below (λ t. bytes_eq t s) theirs there in
@@ -103,9 +103,9 @@ found_symbol s theirs h =
 pub succeeds_enum : (symbols theirs : List (List ℕ)) (k : ℕ) (default : Option ℕ) → nat_lt k (length symbols) ≡ true
     → lacks_symbol symbols theirs default ≡ false
     → Succeeds (enum_or_default (position (λ t. bytes_eq t (unwrap_or (slice_get symbols k) [])) theirs) default)
-succeeds_enum symbols theirs k (Some place) within lacks = either (position (λ t. bytes_eq t (unwrap_or (slice_get symbols k) [])) theirs)
+succeeds_enum symbols theirs k (Some index) within lacks = either (position (λ t. bytes_eq t (unwrap_or (slice_get symbols k) [])) theirs)
   where
-    either : (o : Option ℕ) → Succeeds (enum_or_default o (Some place))
+    either : (o : Option ℕ) → Succeeds (enum_or_default o (Some index))
     either None = tt
     either (Some p) = tt
 succeeds_enum symbols theirs k None within lacks =
@@ -116,11 +116,11 @@ succeeds_enum symbols theirs k None within lacks =
 pub succeeds_record : (writer reader : List FieldNode) (missing : Option ℕ) (sourced : Result Sourced ResolutionFault) → is_some missing ≡ false
     → Succeeds sourced → Succeeds (record_or_missing writer reader missing sourced)
 succeeds_record writer reader None sourced h s = succeeds_map (λ found. Value.record_of (field_values writer found reader)) sourced s
-succeeds_record writer reader (Some place) sourced h s = absurd (true≢false h)
+succeeds_record writer reader (Some index) sourced h s = absurd (true≢false h)
 
 -- a writer's field, some reader's source or not
-pub succeeds_sourced : (o : Option FieldNode) (place : ℕ) (resolve : FieldNode → Resolved) (later : Result Sourced ResolutionFault)
-    → ((f : FieldNode) → o ≡ Some f → Succeeds (resolve f)) → Succeeds later → Succeeds (with_sourced o place resolve later)
-succeeds_sourced None place resolve later here s = s
-succeeds_sourced (Some f) place resolve later here s =
-    succeeds_both (λ v found. (place, v) ∷ found) (inside place (resolve f)) later (succeeds_inside place (resolve f) (here f refl)) s
+pub succeeds_sourced : (o : Option FieldNode) (index : ℕ) (resolve : FieldNode → Resolved) (later : Result Sourced ResolutionFault)
+    → ((f : FieldNode) → o ≡ Some f → Succeeds (resolve f)) → Succeeds later → Succeeds (with_sourced o index resolve later)
+succeeds_sourced None index resolve later here s = s
+succeeds_sourced (Some f) index resolve later here s =
+    succeeds_both (λ v found. (index, v) ∷ found) (inside index (resolve f)) later (succeeds_inside index (resolve f) (here f refl)) s

@@ -17,13 +17,13 @@ some_from s n (t ∷ ts) =
     here true o e = refl
     here false o e = e
 
-pub some_place : (s : List ℕ) (ts : List (List ℕ)) → is_some (position (λ t. bytes_eq t s) ts) ≡ list_any (bytes_eq s) ts
-some_place s ts = ap (λ (o : Option ℕ). is_some o) (position_from-zero (λ t. bytes_eq t s) ts) ∙ some_from s 0 ts
+pub some_position : (s : List ℕ) (ts : List (List ℕ)) → is_some (position (λ t. bytes_eq t s) ts) ≡ list_any (bytes_eq s) ts
+some_position s ts = ap (λ (o : Option ℕ). is_some o) (position_from-zero (λ t. bytes_eq t s) ts) ∙ some_from s 0 ts
 
 -- a symbol has none of the reader's exactly where it is none of them, and there is no default
-lacks_here : (y f : Option ℕ) (s : List ℕ) (theirs : List (List ℕ)) → IsSymbol (enum_or_default (position (λ t. bytes_eq t s) theirs) y) f
+pub lacks_here : (y f : Option ℕ) (s : List ℕ) (theirs : List (List ℕ)) → IsSymbol (enum_or_default (position (λ t. bytes_eq t s) theirs) y) f
     → is_none f ≡ (is_none y && not (list_any (bytes_eq s) theirs))
-lacks_here y f s theirs h = chosen (position (λ t. bytes_eq t s) theirs) y f (some_place s theirs) h
+lacks_here y f s theirs h = chosen (position (λ t. bytes_eq t s) theirs) y f (some_position s theirs) h
   where
     chosen : (o y f : Option ℕ) → is_some o ≡ list_any (bytes_eq s) theirs → IsSymbol (enum_or_default o y) f → is_none f ≡ (is_none y && not (list_any (bytes_eq s) theirs))
     chosen (Some k) None (Some j) e h = ap not e

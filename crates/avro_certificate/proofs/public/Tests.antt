@@ -78,13 +78,13 @@ all_among_pairs test (q ∷ qs) p all among = elim (or_cases (same_pair p q) (is
   | inr later ↦ all_among_pairs test qs p (and_right (test q) (list_all test qs) all) later
 ]
 
--- and for what stands at a place
+-- and for what stands at an index
 pub all_at : {A : Type 0} (test : A → Bool) (xs : List A) (k : ℕ) (x : A) → list_all test xs ≡ true → slice_get xs k ≡ Some x → test x ≡ true
 all_at test [] k x all here = absurd (grind arith)
 all_at test (y ∷ ys) zero x all here = grind arith
 all_at test (y ∷ ys) (suc k) x all here = all_at test ys k x (and_right (test y) (list_all test ys) all) here
 
--- what none passes, the one at a place does not pass
+-- what none passes, the one at an index does not pass
 pub none_at : {A : Type 0} (test : A → Bool) (xs : List A) (k : ℕ) (d : A) → list_any test xs ≡ false → k < length xs
     → test (unwrap_or (slice_get xs k) d) ≡ false
 none_at test [] k d none within = absurd (omega arith)

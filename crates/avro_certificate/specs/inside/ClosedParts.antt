@@ -12,7 +12,7 @@ stands dead pairs p = is_among dead p.w || is_among_pairs pairs p
 -- a reader's field with a source that is accounted for, or without one and with a default
 abbrev pub closed_from : List ℕ → List Pair → List FieldNode → FieldNode → Option ℕ → Bool
 closed_from dead pairs fields f None = is_some f.default
-closed_from dead pairs fields f (Some place) = stands dead pairs (record { w = unwrap_or (slice_get (field_ids fields) place) 0; r = f.node })
+closed_from dead pairs fields f (Some index) = stands dead pairs (record { w = unwrap_or (slice_get (field_ids fields) index) 0; r = f.node })
 
 abbrev pub closed_source : List ℕ → List Pair → List FieldNode → FieldNode → Bool
 closed_source dead pairs fields f = closed_from dead pairs fields f (source_of fields f)

@@ -15,7 +15,7 @@ pair_at count k = record { w = k / count; r = k % count }
 abbrev pub pairs_at : ℕ → List ℕ → List Pair
 pairs_at count ks = map (pair_at count) ks
 
--- the places without an entry, below a number
+-- the ids of the nodes without an entry, below a number
 abbrev pub dead_below : LeastTable → ℕ → List ℕ
 dead_below table zero = []
 dead_below table (suc n) = dead_below table n ++ cond (is_none (table n)) (n ∷ []) []

@@ -42,7 +42,7 @@ added ks k = chosen (is_key ks k) refl
       from = λ q h. sym (list_any-append (λ x. q == x) ks (k ∷ [])) ∙ h;
     }
 
--- what stands at a place is a key
+-- what stands at an index is a key
 pub key_at : (ks : List ℕ) (i k : ℕ) → slice_get ks i ≡ Some k → is_key ks k ≡ true
 key_at [] i k h = absurd (grind arith)
 key_at (x ∷ xs) zero k h = or_from_left (k == x) (is_key xs k) (eq-eqb k x (some_same x k h))

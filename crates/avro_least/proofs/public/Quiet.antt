@@ -103,8 +103,8 @@ dead_of_none writer limit table dead low covers p none =
     (λ s d m. subst (λ (e : Option Least). AtMost e s d) none (low p s d m)))
   where
     by_node : (n : Node) → least_datum limit table n ≡ None → is_dead_node dead n ≡ true
-    by_node (Node.union places) h =
-        all_pass (λ p. is_none (table p)) (is_among dead) places covers (best_none table places (around_none limit (best_of table places) h))
+    by_node (Node.union ids) h =
+        all_pass (λ p. is_none (table p)) (is_among dead) ids covers (best_none table ids (around_none limit (best_of table ids) h))
     by_node (Node.record_of name aliases fields) h =
         any_pass (λ p. is_none (table p)) (is_among dead) (field_ids fields) covers
         (all_none limit table (field_ids fields) (around_none limit (all_of limit table (field_ids fields)) h))
@@ -125,15 +125,15 @@ module _ (writer reader : List Node) (limit : ℕ) (table : LeastTable) (erring 
   quiet_none w r h = or_from_right (is_none (table w)) (is_none (erring w r)) (is_none_of (erring w r) h)
 
   -- the fields of a record of which each has data
-  fields_quiet : (fields theirs : List FieldNode) (place : ℕ) (ps : List ℕ) (vs : Values) → drop place (field_ids fields) ≡ ps → fields_fit writer ps vs ≡ true
-      → err_of_fields limit table erring fields theirs place ps ≡ None → (k : ℕ) (f : FieldNode) → place ≤ k → k < place + length ps
+  fields_quiet : (fields theirs : List FieldNode) (index : ℕ) (ps : List ℕ) (vs : Values) → drop index (field_ids fields) ≡ ps → fields_fit writer ps vs ≡ true
+      → err_of_fields limit table erring fields theirs index ps ≡ None → (k : ℕ) (f : FieldNode) → index ≤ k → k < index + length ps
       → reader_field fields theirs k ≡ Some f → is_quiet (record { w = unwrap_or (slice_get (field_ids fields) k) 0; r = f.node }) ≡ true
-  fields_quiet fields theirs place [] vs e h none k f from to found = absurd (omega (arith, from, to))
-  fields_quiet fields theirs place (p ∷ ps) no_values e h none k f from to found = absurd (false≢true h)
-  fields_quiet fields theirs place (p ∷ ps) (value v vs) e h none k f from to found = elim (cases_eq place k) [
+  fields_quiet fields theirs index [] vs e h none k f from to found = absurd (omega (arith, from, to))
+  fields_quiet fields theirs index (p ∷ ps) no_values e h none k f from to found = absurd (false≢true h)
+  fields_quiet fields theirs index (p ∷ ps) (value v vs) e h none k f from to found = elim (cases_eq index k) [
     | inl same ↦ first same
-    | inr apart ↦ fields_quiet fields theirs (suc place) ps vs (drop_more (field_ids fields) ps place p e) later_fit
-        (right_none limit (table p) (err_of_fields limit table erring fields theirs (suc place) ps) both.1 live) k f (omega (arith, from, apart)) (omega (arith, to)) found
+    | inr apart ↦ fields_quiet fields theirs (suc index) ps vs (drop_more (field_ids fields) ps index p e) later_fit
+        (right_none limit (table p) (err_of_fields limit table erring fields theirs (suc index) ps) both.1 live) k f (omega (arith, from, apart)) (omega (arith, to)) found
   ]
     where
       first_fit : fits writer (node_at writer p) v ≡ true
@@ -148,18 +148,18 @@ module _ (writer reader : List Node) (limit : ℕ) (table : LeastTable) (erring 
       others : is_some (all_of limit table ps) ≡ true
       others = some_below (all_of limit table ps) (values_size vs) (values_depth vs) (at_most_fields writer limit table low.for_data vs ps later_fit)
 
-      both : (together limit (err_of_field erring p (reader_field fields theirs place)) (all_of limit table ps) ≡ None)
-          × (together limit (table p) (err_of_fields limit table erring fields theirs (suc place) ps) ≡ None)
-      both = lesser_none (together limit (err_of_field erring p (reader_field fields theirs place)) (all_of limit table ps))
-          (together limit (table p) (err_of_fields limit table erring fields theirs (suc place) ps)) none
+      both : (together limit (err_of_field erring p (reader_field fields theirs index)) (all_of limit table ps) ≡ None)
+          × (together limit (table p) (err_of_fields limit table erring fields theirs (suc index) ps) ≡ None)
+      both = lesser_none (together limit (err_of_field erring p (reader_field fields theirs index)) (all_of limit table ps))
+          (together limit (table p) (err_of_fields limit table erring fields theirs (suc index) ps)) none
 
-      first : place ≡ k → is_quiet (record { w = unwrap_or (slice_get (field_ids fields) k) 0; r = f.node }) ≡ true
+      first : index ≡ k → is_quiet (record { w = unwrap_or (slice_get (field_ids fields) k) 0; r = f.node }) ≡ true
       first same =
-          let there : reader_field fields theirs place ≡ Some f = subst (λ (j : ℕ). reader_field fields theirs j ≡ Some f) (sym same) found in
+          let there : reader_field fields theirs index ≡ Some f = subst (λ (j : ℕ). reader_field fields theirs j ≡ Some f) (sym same) found in
           let gone : erring p f.node ≡ None = left_none limit (erring p f.node) (all_of limit table ps)
           (subst (λ (o : Option FieldNode). together limit (err_of_field erring p o) (all_of limit table ps) ≡ None) there both.0) others in
           subst (λ (j : ℕ). is_quiet (record { w = unwrap_or (slice_get (field_ids fields) j) 0; r = f.node }) ≡ true) same
-          (subst (λ (o : Option ℕ). is_quiet (record { w = unwrap_or o 0; r = f.node }) ≡ true) (sym (slice_get_of_drop (field_ids fields) ps place p e)) (quiet_none p f.node gone))
+          (subst (λ (o : Option ℕ). is_quiet (record { w = unwrap_or o 0; r = f.node }) ≡ true) (sym (slice_get_of_drop (field_ids fields) ps index p e)) (quiet_none p f.node gone))
 
   -- the sources of a record's fields
   children_quiet : (fields theirs gs : List FieldNode) → are_distinct bytes_eq (flat_map field_names theirs) ≡ true
@@ -233,35 +233,35 @@ module _ (writer reader : List Node) (limit : ℕ) (table : LeastTable) (erring 
       chosen false e m = absurd (false≢true (subst (λ (o : Option Least). is_some o ≡ true) m live))
 
   -- a plain node and a union
-  into_quiet : (w r : ℕ) (n : Node) (places : List ℕ) → branches_of n ≡ None → is_some (table w) ≡ true
-      → err_of writer reader limit table erring w r n (Node.union places) ≡ None → IsQuiet w r n (Node.union places)
-  into_quiet w r n places plain live none = chosen (first_match writer reader n places) refl
+  into_quiet : (w r : ℕ) (n : Node) (ids : List ℕ) → branches_of n ≡ None → is_some (table w) ≡ true
+      → err_of writer reader limit table erring w r n (Node.union ids) ≡ None → IsQuiet w r n (Node.union ids)
+  into_quiet w r n ids plain live none = chosen (first_match writer reader n ids) refl
     where
-      chosen : (o : Option ℕ) → first_match writer reader n places ≡ o → IsQuiet w r n (Node.union places)
+      chosen : (o : Option ℕ) → first_match writer reader n ids ≡ o → IsQuiet w r n (Node.union ids)
       chosen None e = absurd (false≢true (subst (λ (o : Option Least). is_some o ≡ true)
-          (sym (err_of_none writer reader limit table erring w r n places plain e) ∙ none) live))
+          (sym (err_of_none writer reader limit table erring w r n ids plain e) ∙ none) live))
       chosen (Some k) e =
-          let gone = sym (err_of_some writer reader limit table erring w r n places k plain e) ∙ none in
+          let gone = sym (err_of_some writer reader limit table erring w r n ids k plain e) ∙ none in
           record {
-            faultless = fault_of_union writer reader n places plain ∙ ap is_none e;
-            children = subst (λ (ps : List Pair). list_all is_quiet ps ≡ true) (sym (children_of_union writer reader w r n places k plain e))
-                (and_from (is_quiet (record { w = w; r = unwrap_or (slice_get places k) 0 })) true (quiet_none w (unwrap_or (slice_get places k) 0) gone) refl);
+            faultless = fault_of_union writer reader n ids plain ∙ ap is_none e;
+            children = subst (λ (ps : List Pair). list_all is_quiet ps ≡ true) (sym (children_of_union writer reader w r n ids k plain e))
+                (and_from (is_quiet (record { w = w; r = unwrap_or (slice_get ids k) 0 })) true (quiet_none w (unwrap_or (slice_get ids k) 0) gone) refl);
           }
 
   -- any two nodes
   any_quiet : (w r : ℕ) (n q : Node) (v : Value) → is_some (table w) ≡ true → fits writer n v ≡ true → meets_its_rules reader q ≡ true
       → err_of writer reader limit table erring w r n q ≡ None → IsQuiet w r n q
-  any_quiet w r (Node.union places) q v live h rules none = record {
+  any_quiet w r (Node.union ids) q v live h rules none = record {
     faultless = refl;
-    children = list_all-map is_quiet (λ p. record { w = p; r = r }) places
-        ∙ all_pass (λ p. is_none (erring p r)) (λ p. is_quiet (record { w = p; r = r })) places (λ p m. or_from_right (is_none (table p)) (is_none (erring p r)) m)
-        (best_none (λ p. erring p r) places (around_none limit (best_of (λ p. erring p r) places) none));
+    children = list_all-map is_quiet (λ p. record { w = p; r = r }) ids
+        ∙ all_pass (λ p. is_none (erring p r)) (λ p. is_quiet (record { w = p; r = r })) ids (λ p m. or_from_right (is_none (table p)) (is_none (erring p r)) m)
+        (best_none (λ p. erring p r) ids (around_none limit (best_of (λ p. erring p r) ids) none));
   }
   any_quiet w r n q v live h rules none = by_reader n q refl v live h rules none
     where
       by_reader : (n q : Node) → branches_of n ≡ None → (v : Value) → is_some (table w) ≡ true → fits writer n v ≡ true → meets_its_rules reader q ≡ true
           → err_of writer reader limit table erring w r n q ≡ None → IsQuiet w r n q
-      by_reader n (Node.union places) plain v live h rules none = into_quiet w r n places plain live none
+      by_reader n (Node.union ids) plain v live h rules none = into_quiet w r n ids plain live none
       by_reader n q plain v live h rules none = plain_quiet w r n q v plain refl live h rules none
 
   -- where the writer's node has data and the pair has no entry

@@ -7,7 +7,7 @@ use Rattle.avro_certificate.proofs.closing.are_sourced.Goals as goal
 
 pub has_source-requires : goal.has_source-requires
 has_source-requires c =
-    let place = c.loop-place.place in
-    let field = c.index-theirs-place.result in
-    c.requires.each place (slice_index_or c.args.sources.now place None) (slice_get-get_or c.args.sources.now place None (omega (arith, c.loop-place-test.true, c.requires.all))) (field_of field)
-    (seen_there c.args.theirs.now place field c.loop-place-test.true ∙ ap (λ f. Some (field_of f)) (sym c.index-theirs-place.is))
+    let index = c.loop-index.index in
+    let field = c.index-theirs-index.result in
+    c.requires.each index (slice_index_or c.args.sources.now index None) (slice_get-get_or c.args.sources.now index None (omega (arith, c.loop-index-test.true, c.requires.all))) (field_of field)
+    (seen_there c.args.theirs.now index field c.loop-index-test.true ∙ ap (λ f. Some (field_of f)) (sym c.index-theirs-index.is))

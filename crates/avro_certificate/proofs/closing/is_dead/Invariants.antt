@@ -9,5 +9,5 @@ use Rattle.avro_certificate.proofs.closing.is_dead.Given as goal
 
 abbrev pub invariant-loop-number : goal.invariant-loop-number
 invariant-loop-number l =
-    list_all (λ place. nat_lt place (length (schema_nodes l.writer)) && is_dead_node (dead_of l.certificate) (node_at (schema_nodes l.writer) place)) (drop l.number-index l.dead)
+    list_all (λ id. nat_lt id (length (schema_nodes l.writer)) && is_dead_node (dead_of l.certificate) (node_at (schema_nodes l.writer) id)) (drop l.number-index l.dead)
     ≡ is_dead (schema_nodes l.writer) (dead_of l.certificate)

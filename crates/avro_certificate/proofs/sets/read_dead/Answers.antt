@@ -1,6 +1,6 @@
 use Rattle.std.proofs.Common.{ℕ, List, [], map, refl, sym, ◌∙◌, subst, ap}
 use Rattle.avro_certificate.specs.CertificateText.{dead_line}
-use Rattle.avro_certificate.specs.CertificateLines.{bounded}
+use Rattle.avro_certificate.specs.inside.CertificateLines.{bounded}
 use Rattle.avro_certificate.proofs.LineTexts.{HasRead, read_one, shorter, dead_line_some, map_id}
 use Rattle.avro_certificate.proofs.sets.read_dead.Goals as goal
 

@@ -1,6 +1,6 @@
 use Rattle.std.proofs.Common.{ℕ, length}
 use Rattle.avro_certificate.specs.CertificateText.{dead_line}
-use Rattle.avro_certificate.specs.CertificateLines.{bounded}
+use Rattle.avro_certificate.specs.inside.CertificateLines.{bounded}
 use Rattle.avro_certificate.proofs.LineTexts.{HasRead}
 use Rattle.avro_certificate.proofs.sets.read_dead.Given as goal
 

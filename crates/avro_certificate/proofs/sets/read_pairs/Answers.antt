@@ -1,6 +1,6 @@
 use Rattle.std.proofs.Common.{ℕ, List, [], map, refl, sym, subst, ap}
 use Rattle.avro_certificate.specs.CertificateText.{pair_line}
-use Rattle.avro_certificate.specs.CertificateLines.{bounded_pair}
+use Rattle.avro_certificate.specs.inside.CertificateLines.{bounded_pair}
 use Rattle.avro_certificate.specs.SeenPair.{pair_of}
 use Rattle.avro_certificate.proofs.LineTexts.{HasRead, read_one, shorter, pair_line_some}
 use Rattle.avro_certificate.proofs.sets.read_pairs.Goals as goal

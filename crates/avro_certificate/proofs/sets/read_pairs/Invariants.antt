@@ -1,6 +1,6 @@
 use Rattle.std.proofs.Common.{length}
 use Rattle.avro_certificate.specs.CertificateText.{pair_line}
-use Rattle.avro_certificate.specs.CertificateLines.{bounded_pair}
+use Rattle.avro_certificate.specs.inside.CertificateLines.{bounded_pair}
 use Rattle.avro_certificate.specs.SeenPair.{pair_of}
 use Rattle.avro_certificate.proofs.LineTexts.{HasRead}
 use Rattle.avro_certificate.proofs.sets.read_pairs.Given as goal

@@ -1,11 +1,9 @@
-use Rattle.std.proofs.Common.{◌≡◌, ◌∙◌, ap, sym, subst, None, Some, rules}
+use Rattle.std.proofs.Common.{◌≡◌, subst, None, Some, rules}
 use Rattle.std.specs.Prelude.{IfOk}
-use Rattle.avro_schema.specs.Node.{node_at}
 use Rattle.avro_schema.specs.Seen.{node_of}
 use Rattle.avro_schema.specs.SeenSchema.{schema_nodes}
-use Rattle.avro_resolve.specs.Pairs.{aim_of}
-use Rattle.avro_resolve.specs.Planned.{AreInside}
 use Rattle.avro_resolve.specs.declared.guided.Aim.TheVariants.{To}
+use Rattle.avro_certificate.proofs.public.Aims.{aims_of, inside_of}
 use Rattle.avro_least.specs.SeenAsk.{ask_of}
 use Rattle.avro_least.proofs.AskedLed.{asked_fault, asked_same, asked_own, plain_node}
 use Rattle.avro_least.proofs.asking.ask_nodes.Goals as goal
@@ -15,7 +13,7 @@ returns-in-Fault c =
     let writer = schema_nodes c.args.writer.now in
     let reader = schema_nodes c.args.reader.now in
     let pair = c.args.pair.now in
-    let aims = c.requires.pair.aims ∙ ap (λ n. aim_of writer reader n pair.r (node_at reader pair.r.0)) (sym c.requires.from) ∙ ap (aim_of writer reader (node_of c.args.from.now) pair.r) (sym c.requires.to) in
+    let aims = aims_of writer reader pair (node_of c.args.from.now) (node_of c.args.to.now) c.requires.pair c.requires.from c.requires.to in
     asked_fault writer reader (node_of c.args.from.now) (node_of c.args.to.now) pair.r pair.aim c.in-Fault.field-0 (plain_node c.args.from.now c.in_default.not-Union) aims c.in-Fault.is
 
 pub returns-in-To-Some-default : goal.returns-in-To-Some-default
@@ -24,7 +22,7 @@ returns-in-To-Some-default c =
     let reader = schema_nodes c.args.reader.now in
     let pair = c.args.pair.now in
     let here = c.in-To-Some-default in
-    let aims = c.requires.pair.aims ∙ ap (λ n. aim_of writer reader n pair.r (node_at reader pair.r.0)) (sym c.requires.from) ∙ ap (aim_of writer reader (node_of c.args.from.now) pair.r) (sym c.requires.to) in
+    let aims = aims_of writer reader pair (node_of c.args.from.now) (node_of c.args.to.now) c.requires.pair c.requires.from c.requires.to in
     let own : pair.aim ≡ To (Some here.field-0-0) here.q = search rules in
     asked_same writer reader (node_of c.args.from.now) (node_of c.args.to.now) pair.r here.q pair.aim here.field-0-0 (plain_node c.args.from.now c.in_default.not-Union) aims own
 
@@ -33,8 +31,7 @@ ask_inside-requires c =
     let pair = c.args.pair.now in
     let here = c.in-To-None-default in
     let own : pair.aim ≡ To None here.field-1 = search rules in
-    subst (λ n. AreInside n (node_of c.args.to.now) pair) (sym c.requires.from)
-    (subst (λ n. AreInside (node_at (schema_nodes c.args.writer.now) pair.w.0) n pair) (sym c.requires.to) (c.requires.pair.inside here.field-1 own))
+    inside_of (schema_nodes c.args.writer.now) (schema_nodes c.args.reader.now) pair (node_of c.args.from.now) (node_of c.args.to.now) c.requires.pair c.requires.from c.requires.to here.field-1 own
 
 pub returns-in-To-None-default : goal.returns-in-To-None-default
 returns-in-To-None-default c =
@@ -42,7 +39,7 @@ returns-in-To-None-default c =
     let reader = schema_nodes c.args.reader.now in
     let pair = c.args.pair.now in
     let here = c.in-To-None-default in
-    let aims = c.requires.pair.aims ∙ ap (λ n. aim_of writer reader n pair.r (node_at reader pair.r.0)) (sym c.requires.from) ∙ ap (aim_of writer reader (node_of c.args.from.now) pair.r) (sym c.requires.to) in
+    let aims = aims_of writer reader pair (node_of c.args.from.now) (node_of c.args.to.now) c.requires.pair c.requires.from c.requires.to in
     let own : pair.aim ≡ To None here.field-1 = search rules in
     subst (λ a. IfOk c.ask_inside.result (λ b. ask_of b ≡ a)) (asked_own writer reader (node_of c.args.from.now) (node_of c.args.to.now) pair.r here.field-1 pair.aim (plain_node c.args.from.now c.in_default.not-Union) aims own)
     c.ask_inside.ensures

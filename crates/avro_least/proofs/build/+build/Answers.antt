@@ -10,7 +10,7 @@ use Rattle.avro_schema.specs.declared.schema.Field.{Field}
 use Rattle.avro_schema.specs.declared.schema.NodeId.{NodeId}
 use Rattle.avro_least.specs.Tables.{LeastTable}
 use Rattle.avro_least.specs.SeenLeast.{table_of}
-use Rattle.avro_least.specs.Built.{Builds, BuildsAll, BuildsRecord}
+use Rattle.avro_least.specs.inside.Built.{Builds, BuildsAll, BuildsRecord}
 use Rattle.avro_least.proofs.Built.{leaf_builds, branch_builds, record_builds, builds_more, none_builds, plain_kept}
 use Rattle.avro_least.proofs.build.+build.Goals as goal
 
@@ -37,10 +37,10 @@ build-returns t c = λ limit formed low shown within few.
 
 pub build_branch-returns : goal.build_branch-returns
 build_branch-returns t c =
-    branch_builds (schema_nodes c.args.schema.now) (table_of c.args.table.now) c.args.left (ids_of c.args.places.now) c.best_place-k.result (value_of c.in_ok-value.value) (value_of c.in_ok-whole.whole)
+    branch_builds (schema_nodes c.args.schema.now) (table_of c.args.table.now) c.args.left (ids_of c.args.ids.now) c.best_index-k.result (value_of c.in_ok-value.value) (value_of c.in_ok-whole.whole)
     c.in_ok-whole.ensures
-    (λ h. let b = c.best_place-k.ensures h in
-    (b.0, b.1, b.2, subst (λ (q : ℕ). Builds (schema_nodes c.args.schema.now) (table_of c.args.table.now) c.args.left q (value_of c.in_ok-value.value)) (c.place_at.ensures b.0 b.1) c.in_ok-value.ensures))
+    (λ h. let b = c.best_index-k.ensures h in
+    (b.0, b.1, b.2, subst (λ (q : ℕ). Builds (schema_nodes c.args.schema.now) (table_of c.args.table.now) c.args.left q (value_of c.in_ok-value.value)) (c.id_at.ensures b.0 b.1) c.in_ok-value.ensures))
 
 more_built : (nodes : List SeenNode) (table : LeastTable) (left i : ℕ) (fields : List Field) (f : Field) (old new : List Datum) (v : Datum) → i < length fields
     → BuildsAll nodes table left (field_ids (seen_fields (take i fields))) (map value_of old) → Builds nodes table left (get_or fields i f).node.0 (value_of v)
@@ -56,7 +56,7 @@ more_built nodes table left i fields f old new v within before own is =
 
 pub build_record-loop-i-preserved : goal.build_record-loop-i-preserved
 build_record-loop-i-preserved t c = more_built (schema_nodes c.args.schema.now) (table_of c.args.table.now) c.args.left c.loop-i.i c.args.fields.now _ c.loop-i.values.items _ c.in_ok-value.value
-    c.loop-i-test.true c.loop-i.invariant c.in_ok-value.ensures c.in_ok-push_datum.ensures
+    c.loop-i-test.true c.loop-i.invariant c.in_ok-value.ensures c.in_ok-push.ensures.items
 
 all_taken : (i : ℕ) (fs : List Field) → length fs ≤ i → take i fs ≡ fs
 all_taken zero [] h = refl

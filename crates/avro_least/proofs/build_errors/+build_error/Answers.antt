@@ -1,7 +1,6 @@
 use Rattle.std.proofs.Common.{◌≡◌, ℕ, zero, suc, ◌+◌, ◌-◌, ◌<◌, ◌≤◌, false, List, [], ◌∷◌, ◌++◌, Some, take, length, get_or, refl, sym, ◌∙◌, ap, subst, arith}
 use Rattle.std.proofs.lemmas.List.{take_more, map-append, length-map}
 use Rattle.std.specs.Prelude.{map, ◌==◌}
-use Rattle.indexmap.specs.IndexSet.{keys}
 use Rattle.avro_schema.specs.Value.{Value}
 use Rattle.avro_schema.specs.Seen.{ids_of, value_of}
 use Rattle.avro_schema.specs.SeenSchema.{schema_nodes}
@@ -11,12 +10,12 @@ use Rattle.avro_schema.specs.declared.schema.NodeId.{NodeId}
 use Rattle.avro_least.specs.declared.asking.Ask.{Ask}
 use Rattle.avro_least.specs.declared.asking.FieldAsk.{FieldAsk}
 use Rattle.avro_least.specs.Asked.{Asked, Row}
-use Rattle.avro_least.specs.Tables.{LeastTable, ErringTable, erring_of}
+use Rattle.avro_least.specs.Tables.{LeastTable, ErringTable}
 use Rattle.avro_least.specs.SeenAsk.{ask_of, row_of, rows_of}
-use Rattle.avro_least.specs.SeenLeast.{seen_all, table_of}
 use Rattle.avro_least.specs.BuiltErrors.{BuildsError, is_same, BuildsAsked, BuildsRow, BuildsRows}
 use Rattle.avro_least.proofs.BuiltErrors.{not_same}
 use Rattle.avro_least.proofs.AskedBuilds.{whole_builds, lone_builds, part_builds, branches_builds, fields_builds, same_builds, rows_more}
+use Rattle.avro_least.specs.SeenTables.{erring_in, least_in}
 use Rattle.avro_least.proofs.build_errors.+build_error.Goals as goal
 
 asked_is : (writer reader : List SeenNode) (limit : ℕ) (table : LeastTable) (erring : ErringTable) (left w r : ℕ) (a b : Ask) (v : Value) → b ≡ a
@@ -29,51 +28,51 @@ other_ask _ h = refl
 
 pub build_asked-returns-in_ok-value-in-Whole : goal.build_asked-returns-in_ok-value-in-Whole
 build_asked-returns-in_ok-value-in-Whole t c =
-    asked_is (schema_nodes c.args.writer.now) (schema_nodes c.args.reader.now) c.args.limit (table_of c.args.table.now) (erring_of c.args.count (table_of c.args.table.now) (keys c.args.reached.now.known) (seen_all c.args.entries.now)) c.args.left c.args.w.0 c.args.r.0 Ask.Whole c.args.ask.now (value_of c.in_ok-value-in-Whole.value) c.in-Whole.is
-    (whole_builds (schema_nodes c.args.writer.now) (schema_nodes c.args.reader.now) c.args.limit (table_of c.args.table.now) (erring_of c.args.count (table_of c.args.table.now) (keys c.args.reached.now.known) (seen_all c.args.entries.now)) c.args.left c.args.w.0 c.args.r.0 (value_of c.in_ok-value-in-Whole.value) c.in_ok-value-in-Whole.ensures)
+    asked_is (schema_nodes c.args.tables.now.writer.now) (schema_nodes c.args.tables.now.reader.now) c.args.tables.now.limit (least_in c.args.tables.now) (erring_in c.args.tables.now) c.args.left c.args.w.0 c.args.r.0 Ask.Whole c.args.ask.now (value_of c.in_ok-value-in-Whole.value) c.in-Whole.is
+    (whole_builds (schema_nodes c.args.tables.now.writer.now) (schema_nodes c.args.tables.now.reader.now) c.args.tables.now.limit (least_in c.args.tables.now) (erring_in c.args.tables.now) c.args.left c.args.w.0 c.args.r.0 (value_of c.in_ok-value-in-Whole.value) c.in_ok-value-in-Whole.ensures)
 
 pub build_asked-returns-in_ok-value-in-Lone : goal.build_asked-returns-in_ok-value-in-Lone
 build_asked-returns-in_ok-value-in-Lone t c =
-    asked_is (schema_nodes c.args.writer.now) (schema_nodes c.args.reader.now) c.args.limit (table_of c.args.table.now) (erring_of c.args.count (table_of c.args.table.now) (keys c.args.reached.now.known) (seen_all c.args.entries.now)) c.args.left c.args.w.0 c.args.r.0 Ask.Lone c.args.ask.now (value_of c.in_ok-value-in-Lone.value) c.in-Lone.is
-    (lone_builds (schema_nodes c.args.writer.now) (schema_nodes c.args.reader.now) c.args.limit (table_of c.args.table.now) (erring_of c.args.count (table_of c.args.table.now) (keys c.args.reached.now.known) (seen_all c.args.entries.now)) c.args.left c.args.w.0 c.args.r.0 (value_of c.in_ok-value-in-Lone.value) c.in_ok-value-in-Lone.ensures)
+    asked_is (schema_nodes c.args.tables.now.writer.now) (schema_nodes c.args.tables.now.reader.now) c.args.tables.now.limit (least_in c.args.tables.now) (erring_in c.args.tables.now) c.args.left c.args.w.0 c.args.r.0 Ask.Lone c.args.ask.now (value_of c.in_ok-value-in-Lone.value) c.in-Lone.is
+    (lone_builds (schema_nodes c.args.tables.now.writer.now) (schema_nodes c.args.tables.now.reader.now) c.args.tables.now.limit (least_in c.args.tables.now) (erring_in c.args.tables.now) c.args.left c.args.w.0 c.args.r.0 (value_of c.in_ok-value-in-Lone.value) c.in_ok-value-in-Lone.ensures)
 
 pub build_asked-returns-in_ok-value-in-Part : goal.build_asked-returns-in_ok-value-in-Part
 build_asked-returns-in_ok-value-in-Part t c =
-    asked_is (schema_nodes c.args.writer.now) (schema_nodes c.args.reader.now) c.args.limit (table_of c.args.table.now) (erring_of c.args.count (table_of c.args.table.now) (keys c.args.reached.now.known) (seen_all c.args.entries.now)) c.args.left c.args.w.0 c.args.r.0 (Ask.Part _ _) c.args.ask.now (value_of c.in_ok-value-in-Part.value) c.in-Part.is
-    (subst (λ (v : Value). BuildsAsked (schema_nodes c.args.writer.now) (schema_nodes c.args.reader.now) c.args.limit (table_of c.args.table.now) (erring_of c.args.count (table_of c.args.table.now) (keys c.args.reached.now.known) (seen_all c.args.entries.now)) c.args.left c.args.w.0 c.args.r.0 (Asked.part c.in-Part.a.0 c.in-Part.b.0) v) (sym c.in_ok-value-in-Part.ensures)
-    (part_builds (schema_nodes c.args.writer.now) (schema_nodes c.args.reader.now) c.args.limit (table_of c.args.table.now) (erring_of c.args.count (table_of c.args.table.now) (keys c.args.reached.now.known) (seen_all c.args.entries.now)) c.args.left (c.args.left - 1) c.args.w.0 c.args.r.0 c.in-Part.a.0 c.in-Part.b.0 (value_of c.in_ok-part-in-Part.part) (omega arith) c.in_ok-part-in-Part.ensures))
+    asked_is (schema_nodes c.args.tables.now.writer.now) (schema_nodes c.args.tables.now.reader.now) c.args.tables.now.limit (least_in c.args.tables.now) (erring_in c.args.tables.now) c.args.left c.args.w.0 c.args.r.0 (Ask.Part _ _) c.args.ask.now (value_of c.in_ok-value-in-Part.value) c.in-Part.is
+    (subst (λ (v : Value). BuildsAsked (schema_nodes c.args.tables.now.writer.now) (schema_nodes c.args.tables.now.reader.now) c.args.tables.now.limit (least_in c.args.tables.now) (erring_in c.args.tables.now) c.args.left c.args.w.0 c.args.r.0 (Asked.part c.in-Part.a.0 c.in-Part.b.0) v) (sym c.in_ok-value-in-Part.ensures)
+    (part_builds (schema_nodes c.args.tables.now.writer.now) (schema_nodes c.args.tables.now.reader.now) c.args.tables.now.limit (least_in c.args.tables.now) (erring_in c.args.tables.now) c.args.left (c.args.left - 1) c.args.w.0 c.args.r.0 c.in-Part.a.0 c.in-Part.b.0 (value_of c.in_ok-part-in-Part.part) (omega arith) c.in_ok-part-in-Part.ensures))
 
 pub build_asked-returns-in_ok-value-in-Branches : goal.build_asked-returns-in_ok-value-in-Branches
 build_asked-returns-in_ok-value-in-Branches t c =
-    asked_is (schema_nodes c.args.writer.now) (schema_nodes c.args.reader.now) c.args.limit (table_of c.args.table.now) (erring_of c.args.count (table_of c.args.table.now) (keys c.args.reached.now.known) (seen_all c.args.entries.now)) c.args.left c.args.w.0 c.args.r.0 (Ask.Branches _) c.args.ask.now (value_of c.in_ok-value-in-Branches.value) c.in-Branches.is
-    (subst (λ (ids : List NodeId). BuildsAsked (schema_nodes c.args.writer.now) (schema_nodes c.args.reader.now) c.args.limit (table_of c.args.table.now) (erring_of c.args.count (table_of c.args.table.now) (keys c.args.reached.now.known) (seen_all c.args.entries.now)) c.args.left c.args.w.0 c.args.r.0 (Asked.branches (ids_of ids)) (value_of c.in_ok-value-in-Branches.value)) c.deref.ensures.value
+    asked_is (schema_nodes c.args.tables.now.writer.now) (schema_nodes c.args.tables.now.reader.now) c.args.tables.now.limit (least_in c.args.tables.now) (erring_in c.args.tables.now) c.args.left c.args.w.0 c.args.r.0 (Ask.Branches _) c.args.ask.now (value_of c.in_ok-value-in-Branches.value) c.in-Branches.is
+    (subst (λ (ids : List NodeId). BuildsAsked (schema_nodes c.args.tables.now.writer.now) (schema_nodes c.args.tables.now.reader.now) c.args.tables.now.limit (least_in c.args.tables.now) (erring_in c.args.tables.now) c.args.left c.args.w.0 c.args.r.0 (Asked.branches (ids_of ids)) (value_of c.in_ok-value-in-Branches.value)) c.deref.ensures.value
     (c.in_ok-value-in-Branches.ensures c.args.w.0 c.args.left (omega arith)))
 
 pub build_asked-returns-in_ok-value-in-Fields : goal.build_asked-returns-in_ok-value-in-Fields
 build_asked-returns-in_ok-value-in-Fields t c =
-    asked_is (schema_nodes c.args.writer.now) (schema_nodes c.args.reader.now) c.args.limit (table_of c.args.table.now) (erring_of c.args.count (table_of c.args.table.now) (keys c.args.reached.now.known) (seen_all c.args.entries.now)) c.args.left c.args.w.0 c.args.r.0 (Ask.Fields _) c.args.ask.now (value_of c.in_ok-value-in-Fields.value) c.in-Fields.is
-    (subst (λ (rows : List FieldAsk). BuildsAsked (schema_nodes c.args.writer.now) (schema_nodes c.args.reader.now) c.args.limit (table_of c.args.table.now) (erring_of c.args.count (table_of c.args.table.now) (keys c.args.reached.now.known) (seen_all c.args.entries.now)) c.args.left c.args.w.0 c.args.r.0 (Asked.fields (rows_of rows)) (value_of c.in_ok-value-in-Fields.value)) c.deref-in-Fields.ensures.value
+    asked_is (schema_nodes c.args.tables.now.writer.now) (schema_nodes c.args.tables.now.reader.now) c.args.tables.now.limit (least_in c.args.tables.now) (erring_in c.args.tables.now) c.args.left c.args.w.0 c.args.r.0 (Ask.Fields _) c.args.ask.now (value_of c.in_ok-value-in-Fields.value) c.in-Fields.is
+    (subst (λ (rows : List FieldAsk). BuildsAsked (schema_nodes c.args.tables.now.writer.now) (schema_nodes c.args.tables.now.reader.now) c.args.tables.now.limit (least_in c.args.tables.now) (erring_in c.args.tables.now) c.args.left c.args.w.0 c.args.r.0 (Asked.fields (rows_of rows)) (value_of c.in_ok-value-in-Fields.value)) c.deref-in-Fields.ensures.value
     (c.in_ok-value-in-Fields.ensures c.args.w.0 c.args.r.0 c.args.left (omega arith)))
 
 pub build_error-returns-in-Same : goal.build_error-returns-in-Same
 build_error-returns-in-Same t c =
-    same_builds (schema_nodes c.args.writer.now) (schema_nodes c.args.reader.now) c.args.limit (table_of c.args.table.now) (erring_of c.args.count (table_of c.args.table.now) (keys c.args.reached.now.known) (seen_all c.args.entries.now)) c.args.left c.args.w.0 c.args.r.0 c.in-Same.q.0 (value_of c.in_ok-value-in-Same.value)
+    same_builds (schema_nodes c.args.tables.now.writer.now) (schema_nodes c.args.tables.now.reader.now) c.args.tables.now.limit (least_in c.args.tables.now) (erring_in c.args.tables.now) c.args.left c.args.w.0 c.args.r.0 c.in-Same.q.0 (value_of c.in_ok-value-in-Same.value)
     (sym (ap ask_of c.in-Same.is) ∙ c.in_ok-ask.ensures)
-    (λ plain. c.in_ok-value-in-Same.ensures (ap is_same c.in_ok-again-in-Same.ensures ∙ not_same (schema_nodes c.args.writer.now) (schema_nodes c.args.reader.now) (node_at (schema_nodes c.args.writer.now) c.args.w.0) (node_at (schema_nodes c.args.reader.now) c.in-Same.q.0) plain) c.in_ok-again-in-Same.ensures)
+    (λ plain. c.in_ok-value-in-Same.ensures (ap is_same c.in_ok-again-in-Same.ensures ∙ not_same (schema_nodes c.args.tables.now.writer.now) (schema_nodes c.args.tables.now.reader.now) (node_at (schema_nodes c.args.tables.now.writer.now) c.args.w.0) (node_at (schema_nodes c.args.tables.now.reader.now) c.in-Same.q.0) plain) c.in_ok-again-in-Same.ensures)
 
 pub build_error-returns : goal.build_error-returns
 build_error-returns t c = c.in_ok-value-in_default.ensures (other_ask c.in_ok-ask.ask c.in_default.not-Same) c.in_ok-ask.ensures
 
 pub build_branches-returns : goal.build_branches-returns
 build_branches-returns t c w more few =
-    branches_builds (schema_nodes c.args.writer.now) (schema_nodes c.args.reader.now) c.args.limit (table_of c.args.table.now) (erring_of c.args.count (table_of c.args.table.now) (keys c.args.reached.now.known) (seen_all c.args.entries.now)) more c.args.left w c.args.r.0 (ids_of c.args.places.now) c.best_error_place-k.result (value_of c.in_ok-value.value) (value_of c.in_ok-whole.whole)
+    branches_builds (schema_nodes c.args.tables.now.writer.now) (schema_nodes c.args.tables.now.reader.now) c.args.tables.now.limit (least_in c.args.tables.now) (erring_in c.args.tables.now) more c.args.left w c.args.r.0 (ids_of c.args.ids.now) c.best_error_index-k.result (value_of c.in_ok-value.value) (value_of c.in_ok-whole.whole)
     (omega (arith, few)) c.in_ok-whole.ensures
-    (λ h. let b = c.best_error_place-k.ensures h in
-    (b.0, b.1, b.2, subst (λ (q : ℕ). BuildsError (schema_nodes c.args.writer.now) (schema_nodes c.args.reader.now) c.args.limit (table_of c.args.table.now) (erring_of c.args.count (table_of c.args.table.now) (keys c.args.reached.now.known) (seen_all c.args.entries.now)) c.args.left q c.args.r.0 (value_of c.in_ok-value.value)) (c.place_at.ensures b.0 b.1) c.in_ok-value.ensures))
+    (λ h. let b = c.best_error_index-k.ensures h in
+    (b.0, b.1, b.2, subst (λ (q : ℕ). BuildsError (schema_nodes c.args.tables.now.writer.now) (schema_nodes c.args.tables.now.reader.now) c.args.tables.now.limit (least_in c.args.tables.now) (erring_in c.args.tables.now) c.args.left q c.args.r.0 (value_of c.in_ok-value.value)) (c.id_at.ensures b.0 b.1) c.in_ok-value.ensures))
 
 pub build_row-returns-in_ok-value-in-Some : goal.build_row-returns-in_ok-value-in-Some
 build_row-returns-in_ok-value-in-Some t c = record {
-  errs = λ h q is. subst (λ (n : ℕ). BuildsError (schema_nodes c.args.writer.now) (schema_nodes c.args.reader.now) c.args.limit (table_of c.args.table.now) (erring_of c.args.count (table_of c.args.table.now) (keys c.args.reached.now.known) (seen_all c.args.entries.now)) c.args.left c.args.row.node.0 n (value_of c.in_ok-value-in-Some.value))
+  errs = λ h q is. subst (λ (n : ℕ). BuildsError (schema_nodes c.args.tables.now.writer.now) (schema_nodes c.args.tables.now.reader.now) c.args.tables.now.limit (least_in c.args.tables.now) (erring_in c.args.tables.now) c.args.left c.args.row.node.0 n (value_of c.in_ok-value-in-Some.value))
       (theirs_is c.args.row c.in-Some.theirs q c.in-Some.is is) c.in_ok-value-in-Some.ensures;
   fits_in = λ h. absurd (grind (arith, h, c.if-chosen.true));
 }
@@ -90,10 +89,10 @@ more_rows writer reader limit table erring less k i rows row old new v within be
     (subst (λ (vs : List Value). BuildsRows writer reader limit table erring less k 0 (rows_of (take i rows) ++ row_of (get_or rows i row) ∷ []) vs)
     (sym (ap (map value_of) is ∙ map-append value_of old (v ∷ [])))
     (rows_more writer reader limit table erring less k 0 (rows_of (take i rows)) (map value_of old) (row_of (get_or rows i row)) (value_of v) before
-    (subst (λ (n : ℕ). BuildsRow writer reader limit table erring less (n == k) (row_of (get_or rows i row)) (value_of v)) place own)))
+    (subst (λ (n : ℕ). BuildsRow writer reader limit table erring less (n == k) (row_of (get_or rows i row)) (value_of v)) index own)))
   where
-    place : i ≡ 0 + length (rows_of (take i rows))
-    place = let count = length-map (take i rows) row_of in let all = taken i rows (omega (arith, within)) in omega (arith, count, all)
+    index : i ≡ 0 + length (rows_of (take i rows))
+    index = let count = length-map (take i rows) row_of in let all = taken i rows (omega (arith, within)) in omega (arith, count, all)
       where
         taken : (i : ℕ) (rs : List FieldAsk) → i ≤ length rs → length (take i rs) ≡ i
         taken zero [] h = refl
@@ -102,8 +101,8 @@ more_rows writer reader limit table erring less k i rows row old new v within be
         taken (suc i) (r ∷ rs) h = ap suc (taken i rs (omega (arith, h)))
 
 pub build_rows-loop-i-preserved : goal.build_rows-loop-i-preserved
-build_rows-loop-i-preserved t c = more_rows (schema_nodes c.args.writer.now) (schema_nodes c.args.reader.now) c.args.limit (table_of c.args.table.now) (erring_of c.args.count (table_of c.args.table.now) (keys c.args.reached.now.known) (seen_all c.args.entries.now)) c.args.left c.best_row-k.result c.loop-i.i c.args.rows.now _ c.loop-i.values.items _ c.in_ok-value.value
-    c.loop-i-test.true c.loop-i.invariant c.in_ok-value.ensures c.in_ok-push_datum.ensures
+build_rows-loop-i-preserved t c = more_rows (schema_nodes c.args.tables.now.writer.now) (schema_nodes c.args.tables.now.reader.now) c.args.tables.now.limit (least_in c.args.tables.now) (erring_in c.args.tables.now) c.args.left c.best_row-k.result c.loop-i.i c.args.rows.now _ c.loop-i.values.items _ c.in_ok-value.value
+    c.loop-i-test.true c.loop-i.invariant c.in_ok-value.ensures c.in_ok-push.ensures.items
 
 all_taken : (i : ℕ) (rs : List FieldAsk) → length rs ≤ i → take i rs ≡ rs
 all_taken zero [] h = refl
@@ -113,9 +112,9 @@ all_taken (suc i) (r ∷ rs) h = ap (λ xs. r ∷ xs) (all_taken i rs (omega (ar
 
 pub build_rows-returns : goal.build_rows-returns
 build_rows-returns t c w r more few =
-    subst (λ (v : Value). BuildsAsked (schema_nodes c.args.writer.now) (schema_nodes c.args.reader.now) c.args.limit (table_of c.args.table.now) (erring_of c.args.count (table_of c.args.table.now) (keys c.args.reached.now.known) (seen_all c.args.entries.now)) more w r (Asked.fields (rows_of c.args.rows.now)) v) (sym c.make_record.ensures)
-    (fields_builds (schema_nodes c.args.writer.now) (schema_nodes c.args.reader.now) c.args.limit (table_of c.args.table.now) (erring_of c.args.count (table_of c.args.table.now) (keys c.args.reached.now.known) (seen_all c.args.entries.now)) more c.args.left w r (rows_of c.args.rows.now) c.best_row-k.result (map value_of c.loop-i.values.items) (omega (arith, few))
-    (subst (λ (rs : List FieldAsk). BuildsRows (schema_nodes c.args.writer.now) (schema_nodes c.args.reader.now) c.args.limit (table_of c.args.table.now) (erring_of c.args.count (table_of c.args.table.now) (keys c.args.reached.now.known) (seen_all c.args.entries.now)) c.args.left c.best_row-k.result 0 (rows_of rs) (map value_of c.loop-i.values.items))
+    subst (λ (v : Value). BuildsAsked (schema_nodes c.args.tables.now.writer.now) (schema_nodes c.args.tables.now.reader.now) c.args.tables.now.limit (least_in c.args.tables.now) (erring_in c.args.tables.now) more w r (Asked.fields (rows_of c.args.rows.now)) v) (sym c.make_record.ensures)
+    (fields_builds (schema_nodes c.args.tables.now.writer.now) (schema_nodes c.args.tables.now.reader.now) c.args.tables.now.limit (least_in c.args.tables.now) (erring_in c.args.tables.now) more c.args.left w r (rows_of c.args.rows.now) c.best_row-k.result (map value_of c.loop-i.values.items) (omega (arith, few))
+    (subst (λ (rs : List FieldAsk). BuildsRows (schema_nodes c.args.tables.now.writer.now) (schema_nodes c.args.tables.now.reader.now) c.args.tables.now.limit (least_in c.args.tables.now) (erring_in c.args.tables.now) c.args.left c.best_row-k.result 0 (rows_of rs) (map value_of c.loop-i.values.items))
     (all_taken c.loop-i.i c.args.rows.now (omega (arith, c.loop-i-test.false))) c.loop-i.invariant)
     (λ j within same. let count = length-map c.args.rows.now row_of in
     let found = c.best_row-k.ensures j (omega (arith, within, count)) same in (omega (arith, found.0, count), found.1)))

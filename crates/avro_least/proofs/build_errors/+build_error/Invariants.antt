@@ -1,12 +1,10 @@
 use Rattle.std.proofs.Common.{◌*◌, ◌+◌, take}
 use Rattle.std.specs.Prelude.{map}
-use Rattle.indexmap.specs.IndexSet.{keys}
 use Rattle.avro_schema.specs.Seen.{value_of}
 use Rattle.avro_schema.specs.SeenSchema.{schema_nodes}
-use Rattle.avro_least.specs.Tables.{erring_of}
 use Rattle.avro_least.specs.SeenAsk.{rows_of}
-use Rattle.avro_least.specs.SeenLeast.{seen_all, table_of}
 use Rattle.avro_least.specs.BuiltErrors.{BuildsRows}
+use Rattle.avro_least.specs.SeenTables.{erring_in, least_in}
 use Rattle.avro_least.proofs.build_errors.+build_error.Given as goal
 
 abbrev pub decreases-build_error : goal.decreases-build_error
@@ -25,5 +23,5 @@ abbrev pub decreases-build_row : goal.decreases-build_row
 decreases-build_row l = 4 * l.left + 3
 
 abbrev pub invariant-build_rows-loop-i : goal.invariant-build_rows-loop-i
-invariant-build_rows-loop-i l = BuildsRows (schema_nodes l.writer) (schema_nodes l.reader) l.limit (table_of l.table)
-    (erring_of l.count (table_of l.table) (keys l.reached.known) (seen_all l.entries)) l.left l.k 0 (rows_of (take l.i l.rows)) (map value_of l.values.items)
+invariant-build_rows-loop-i l = BuildsRows (schema_nodes l.tables.writer.now) (schema_nodes l.tables.reader.now) l.tables.limit (least_in l.tables)
+    (erring_in l.tables) l.left l.k 0 (rows_of (take l.i l.rows)) (map value_of l.values.items)

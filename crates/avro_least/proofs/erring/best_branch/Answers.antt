@@ -18,7 +18,7 @@ loop-i-preserved c =
     let f : LeastTable = λ p. erring_of c.args.count (table_of c.args.table.now) (keys c.args.known.now) (seen_all c.args.entries.now) p c.args.r.0 in (
       omega (arith, c.loop-i.invariant.0),
       c.lesser-best.ensures ∙ ap (λ (o : Option Least). lesser o (seen c.loop-i.best)) c.pair_entry.ensures
-          ∙ ap (lesser _) (c.loop-i.invariant.1 ∙ ap (λ (n : ℕ). best_of (λ p. erring_of c.args.count (table_of c.args.table.now) (keys c.args.known.now) (seen_all c.args.entries.now) p c.args.r.0) (ids_of (drop n c.args.places.now))) (sym (back c.loop-i.i c.loop-i-test.true)))
-          ∙ best_more (λ p. erring_of c.args.count (table_of c.args.table.now) (keys c.args.known.now) (seen_all c.args.entries.now) p c.args.r.0) c.args.places.now (c.loop-i.i - 1) _
+          ∙ ap (lesser _) (c.loop-i.invariant.1 ∙ ap (λ (n : ℕ). best_of (λ p. erring_of c.args.count (table_of c.args.table.now) (keys c.args.known.now) (seen_all c.args.entries.now) p c.args.r.0) (ids_of (drop n c.args.ids.now))) (sym (back c.loop-i.i c.loop-i-test.true)))
+          ∙ best_more (λ p. erring_of c.args.count (table_of c.args.table.now) (keys c.args.known.now) (seen_all c.args.entries.now) p c.args.r.0) c.args.ids.now (c.loop-i.i - 1) _
           (omega (arith, c.loop-i.invariant.0, c.loop-i-test.true)),
     )

@@ -6,8 +6,8 @@ use Rattle.avro_least.specs.SeenLeast.{seen, seen_all, table_of}
 use Rattle.avro_least.proofs.erring.best_branch.Given as goal
 
 abbrev pub invariant-loop-i : goal.invariant-loop-i
-invariant-loop-i l = (l.i ≤ length l.places)
-    × (seen l.best ≡ best_of (λ p. erring_of l.count (table_of l.table) (keys l.known) (seen_all l.entries) p l.r.0) (ids_of (drop l.i l.places)))
+invariant-loop-i l = (l.i ≤ length l.ids)
+    × (seen l.best ≡ best_of (λ p. erring_of l.count (table_of l.table) (keys l.known) (seen_all l.entries) p l.r.0) (ids_of (drop l.i l.ids)))
 
 abbrev pub decreases-loop-i : goal.decreases-loop-i
 decreases-loop-i l = l.i

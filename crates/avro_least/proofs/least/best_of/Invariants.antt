@@ -5,7 +5,7 @@ use Rattle.avro_least.specs.SeenLeast.{seen, table_of}
 use Rattle.avro_least.proofs.least.best_of.Given as goal
 
 abbrev pub invariant-loop-i : goal.invariant-loop-i
-invariant-loop-i l = (l.i ≤ length l.places) × (seen l.best ≡ best_of (table_of l.table) (ids_of (drop l.i l.places)))
+invariant-loop-i l = (l.i ≤ length l.ids) × (seen l.best ≡ best_of (table_of l.table) (ids_of (drop l.i l.ids)))
 
 abbrev pub decreases-loop-i : goal.decreases-loop-i
 decreases-loop-i l = l.i

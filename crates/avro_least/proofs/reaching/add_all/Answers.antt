@@ -24,7 +24,7 @@ loop-key-preserved c =
     let inv = c.loop-key.invariant in
     let k : ℕ = get_or c.args.more.now c.loop-key.key-index 0 in
     let one : IsAdded (keys c.loop-key.known) k (keys c.insert.new.self) =
-    subst (λ (ks : List ℕ). IsAdded (keys c.loop-key.known) k ks) (sym c.in-Ok.ensures.keys) (added (keys c.loop-key.known) k) in
+    subst (λ (ks : List ℕ). IsAdded (keys c.loop-key.known) k ks) (sym c.in_ok-insert.ensures.keys) (added (keys c.loop-key.known) k) in
     let more = take_more c.args.more.now c.loop-key.key-index 0 c.loop-key-test.true in (
       (inv.0.0 ++ one.rest, one.is ∙ ap (λ ks. ks ++ one.rest) inv.0.1 ∙ append_assoc (keys c.args.known.now) inv.0.0 one.rest),
       rw more (list_all-append (is_key (keys c.insert.new.self)) (take c.loop-key.key-index c.args.more.now) (k ∷ [])

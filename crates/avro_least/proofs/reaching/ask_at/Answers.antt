@@ -10,4 +10,4 @@ returns-clause-found c = λ before.
     let reader = schema_nodes c.args.reader.now in
     let pair = c.in_ok-pair.pair in
     let own = subst (λ s. IsComparison (schema_nodes s.0) (schema_nodes s.1) pair) c.requires.of_these c.in_ok-pair.ensures.0 in
-    subst (λ ps. AreComparisons writer reader ps) (sym c.in_ok-push_pair.ensures) (each_more (IsComparison writer reader) c.args.found.now.items pair before own)
+    subst (λ ps. AreComparisons writer reader ps) (sym c.in_ok-push.ensures.items) (each_more (IsComparison writer reader) c.args.found.now.items pair before own)

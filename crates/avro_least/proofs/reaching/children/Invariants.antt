@@ -7,8 +7,8 @@ use Rattle.avro_least.specs.SeenAsk.{rows_of}
 use Rattle.avro_least.proofs.reaching.children.Given as goal
 
 abbrev pub invariant-loop-i : goal.invariant-loop-i
-invariant-loop-i l = live_numbers l.count (table_of l.table) (map (λ p. record { w = p; r = l.r.0 }) (ids_of l.places.items))
-    ≡ l.numbers.items ++ live_numbers l.count (table_of l.table) (map (λ p. record { w = p; r = l.r.0 }) (ids_of (drop l.i l.places.items)))
+invariant-loop-i l = live_numbers l.count (table_of l.table) (map (λ p. record { w = p; r = l.r.0 }) (ids_of l.ids.items))
+    ≡ l.numbers.items ++ live_numbers l.count (table_of l.table) (map (λ p. record { w = p; r = l.r.0 }) (ids_of (drop l.i l.ids.items)))
 
 abbrev pub invariant-loop-i-2 : goal.invariant-loop-i-2
 invariant-loop-i-2 l = live_numbers l.count (table_of l.table) (flat_map row_child (rows_of l.rows.items))

@@ -113,9 +113,9 @@ loop-next-preserved c =
           (followed_more (steps_at (schema_nodes c.args.writer.now) (schema_nodes c.args.reader.now) (table_of c.args.table.now)) (keys c.loop-next.known) rest c.loop-next.next key inv.2 here
           (subst (λ (ks : List ℕ). list_all (is_key ks) (steps_at (schema_nodes c.args.writer.now) (schema_nodes c.args.reader.now) (table_of c.args.table.now) key) ≡ true) is all)),
       longer (keys c.loop-next.known) rest (keys c.add_all-in-Some.new.known) c.loop-next.next is (omega (arith, c.loop-next-test.true, c.len.ensures.len)),
-      grown c.loop-next.asks.items c.push_ask.new.asks.items c.in_ok-ask-in-Some.ask c.loop-next.next c.in_ok-push_ask-in-Some.ensures inv.4,
+      grown c.loop-next.asks.items c.push.new.self.items c.in_ok-ask-in-Some.ask c.loop-next.next c.in_ok-push-in-Some.ensures.items inv.4,
       more_asked (schema_nodes c.args.writer.now) (schema_nodes c.args.reader.now) (keys c.loop-next.known) rest (keys c.add_all-in-Some.new.known)
-          c.loop-next.asks.items c.push_ask.new.asks.items c.in_ok-ask-in-Some.ask key c.loop-next.next c.in_ok-push_ask-in-Some.ensures is inv.5 inv.4 here c.in_ok-ask-in-Some.ensures.asked,
+          c.loop-next.asks.items c.push.new.self.items c.in_ok-ask-in-Some.ask key c.loop-next.next c.in_ok-push-in-Some.ensures.items is inv.5 inv.4 here c.in_ok-ask-in-Some.ensures.asked,
       λ P zero step. more.all P (inv.6 P zero step) (subst (λ (ks : List ℕ). list_all P ks ≡ true) (sym row)
           (step key (all_at P (keys c.loop-next.known) c.loop-next.next key (inv.6 P zero step) here))),
       λ k m. more_stepped (steps_at (schema_nodes c.args.writer.now) (schema_nodes c.args.reader.now) (table_of c.args.table.now)) (keys c.loop-next.known) key k inv.7

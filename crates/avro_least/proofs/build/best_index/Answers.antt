@@ -7,10 +7,10 @@ use Rattle.avro_schema.specs.Seen.{ids_of}
 use Rattle.avro_schema.specs.declared.schema.NodeId.{NodeId}
 use Rattle.avro_least.specs.SeenLeast.{table_of}
 use Rattle.avro_least.proofs.ShownData.{best_is}
-use Rattle.avro_least.proofs.build.best_place.Goals as goal
+use Rattle.avro_least.proofs.build.best_index.Goals as goal
 
-place_here : (ids : List NodeId) (i p : ℕ) (d : NodeId) → i < length ids → slice_get (ids_of ids) i ≡ Some p → (get_or ids i d).0 ≡ p
-place_here ids i p d within got = some_same (get_or ids i d).0 p (sym (slice_get-map (λ id. id.0) ids i ∙ ap (option_map (λ id. id.0)) (slice_get-get_or ids i d within)) ∙ got)
+id_here : (ids : List NodeId) (i p : ℕ) (d : NodeId) → i < length ids → slice_get (ids_of ids) i ≡ Some p → (get_or ids i d).0 ≡ p
+id_here ids i p d within got = some_same (get_or ids i d).0 p (sym (slice_get-map (λ id. id.0) ids i ∙ ap (option_map (λ id. id.0)) (slice_get-get_or ids i d within)) ∙ got)
   where
     some_same : (a b : ℕ) → Some a ≡ Some b → a ≡ b
     some_same a b e = cc
@@ -18,13 +18,13 @@ place_here ids i p d within got = some_same (get_or ids i d).0 p (sym (slice_get
 pub loop-i-preserved : goal.loop-i-preserved
 loop-i-preserved c j p below got same = elim (cases_eq j c.loop-i.i) [
   | inl here ↦ absurd (true≢false (sym (c.are_same.ensures.told (c.entry.ensures
-      ∙ ap (table_of c.args.table.now) (place_here c.args.places.now c.loop-i.i p _ c.loop-i-test.true (subst (λ (n : ℕ). slice_get (ids_of c.args.places.now) n ≡ Some p) here got)) ∙ same)) ∙ c.if-are_same.false))
+      ∙ ap (table_of c.args.table.now) (id_here c.args.ids.now c.loop-i.i p _ c.loop-i-test.true (subst (λ (n : ℕ). slice_get (ids_of c.args.ids.now) n ≡ Some p) here got)) ∙ same)) ∙ c.if-are_same.false))
   | inr apart ↦ c.loop-i.invariant j p (omega (arith, below, apart)) got same
 ]
 
 pub returns : goal.returns
 returns c h =
-    let best = best_is (table_of c.args.table.now) (ids_of c.args.places.now) h in
-    absurd (c.loop-i.invariant best.branch best.place
-    (omega (arith, slice_get_within (ids_of c.args.places.now) best.branch best.place best.here, length-map c.args.places.now (λ id. id.0), c.loop-i-test.false))
+    let best = best_is (table_of c.args.table.now) (ids_of c.args.ids.now) h in
+    absurd (c.loop-i.invariant best.branch best.id
+    (omega (arith, slice_get_within (ids_of c.args.ids.now) best.branch best.id best.here, length-map c.args.ids.now (λ id. id.0), c.loop-i-test.false))
     best.here (sym best.is ∙ sym c.best_of-best.ensures))

@@ -1,4 +1,4 @@
--- The places without an entry are the greatest dead set.
+-- The ids of the nodes without an entry are the greatest dead set.
 use Rattle.std.proofs.Common.{◌≡◌, ℕ, zero, suc, ◌<◌, Bool, true, false, ◌&&◌, cond, List, [], ◌∷◌, ◌++◌, Option, Some, None, inl, inr, length, refl, sym, ◌∙◌, ap, subst, arith}
 use Rattle.std.proofs.lemmas.Bool.{false≢true, and_from, eqb-true, eq-eqb, lt-ltb, cases_eq}
 use Rattle.std.proofs.lemmas.List.{append-nil}
@@ -25,7 +25,7 @@ all_from test (k ∷ ks) each =
     (all_from test ks (λ x m. each x (or_from_right (k == x) (is_among ks x) m)))
 
 module _ (table : LeastTable) where
-  -- a place below the number without an entry is listed
+  -- each node below the number without an entry is listed
   pub dead_listed : (n p : ℕ) → p < n → is_none (table p) ≡ true → is_among (dead_below table n) p ≡ true
   dead_listed zero p h none = absurd (omega (arith, h))
   dead_listed (suc n) p h none =
@@ -40,7 +40,7 @@ module _ (table : LeastTable) where
           subst (λ (b : Bool). is_among (cond b (n ∷ []) []) p ≡ true) (sym (subst (λ (x : ℕ). is_none (table x) ≡ true) same none))
           (or_from_left (n == p) false (eq-eqb n p (sym same)))
 
-  -- each that is listed is such a place
+  -- each that is listed is such a node
   pub listed_dead : (n p : ℕ) → is_among (dead_below table n) p ≡ true → (p < n) × (is_none (table p) ≡ true)
   listed_dead zero p h = absurd (false≢true h)
   listed_dead (suc n) p h =
@@ -85,7 +85,7 @@ past_end (e ∷ es) (suc p) h = omega (arith, past_end es p h)
 
 module _ (writer : List Node) (limit : ℕ) (es : List (Option KeptLeast)) (low : IsLowForData writer limit (table_of es)) (shown : AreDataShown writer limit (table_of es))
     (one_each : length es ≡ length writer) where
-  -- exactly the places without an entry are listed
+  -- exactly the nodes without an entry are listed
   pub dead_is : (p : ℕ) → is_among (dead_below (table_of es) (length es)) p ≡ is_none (table_of es p)
   dead_is p = chosen (is_none (table_of es p)) refl (is_among (dead_below (table_of es) (length es)) p) refl
     where
@@ -97,7 +97,7 @@ module _ (writer : List Node) (limit : ℕ) (es : List (Option KeptLeast)) (low 
 
   pub dead_greatest : IsGreatestDead writer (dead_below (table_of es) (length es))
   dead_greatest = record {
-    all_dead = all_from (λ place. nat_lt place (length writer) && is_dead_node (dead_below (table_of es) (length es)) (node_at writer place)) (dead_below (table_of es) (length es)) each;
+    all_dead = all_from (λ id. nat_lt id (length writer) && is_dead_node (dead_below (table_of es) (length es)) (node_at writer id)) (dead_below (table_of es) (length es)) each;
     greatest = λ other dead p among. dead_is p ∙ without other dead p among (table_of es p) refl;
   }
     where

@@ -6,12 +6,12 @@ use Rattle.avro_schema.specs.Node.{Node, FieldNode, node_at}
 use Rattle.avro_schema.specs.WellFormed.{is_schema}
 use Rattle.avro_least.specs.Tables.{LeastTable, IsLowForData, AreDataShown, IsLeastOf, IsWithin, count_of}
 
--- a least datum of the node at a place
+-- a least datum of the node of an id
 abbrev pub Builds : List Node → LeastTable → ℕ → ℕ → Value → Type 0
 Builds nodes table left p v = (limit : ℕ) → is_schema nodes ≡ true → IsLowForData nodes limit table → AreDataShown nodes limit table
     → IsWithin limit (table p) → count_of (table p) ≤ left → IsLeastOf nodes table p v
 
--- a least datum of any place of this node, whose parts use no more
+-- a least datum of any id of this node, whose parts use no more
 abbrev pub BuildsAt : List Node → LeastTable → ℕ → Node → Value → Type 0
 BuildsAt nodes table left n v = (limit p : ℕ) → is_schema nodes ≡ true → IsLowForData nodes limit table → AreDataShown nodes limit table
     → IsWithin limit (table p) → node_at nodes p ≡ n → count_of (table p) ≤ suc left → IsLeastOf nodes table p v

@@ -4,7 +4,7 @@ use Rattle.std.specs.List.{AllWithin}
 use Rattle.avro_certificate.specs.CertificateText.{is_before}
 use Rattle.avro_certificate.specs.SeenPair.{pair_of}
 use Rattle.avro_certificate.proofs.Halving.{before_up_to, none_from}
-use Rattle.avro_certificate.proofs.lookup.place_of.Goals as goal
+use Rattle.avro_certificate.proofs.lookup.position_of.Goals as goal
 
 pub loop-low-preserved-then-comes_before : goal.loop-low-preserved-then-comes_before
 loop-low-preserved-then-comes_before c =

@@ -1,0 +1,20 @@
+-- What is kept of a pair of nodes, of two nodes at hand that are its own.
+use Rattle.std.proofs.Common.{◌≡◌, ◌∙◌, List, None, ap, sym, subst}
+use Rattle.avro_schema.specs.Node.{Node, node_at}
+use Rattle.avro_schema.specs.declared.schema.NodeId.{NodeId}
+use Rattle.avro_resolve.specs.Pairs.{aim_of}
+use Rattle.avro_resolve.specs.Planned.{AreInside, IsComparison}
+use Rattle.avro_resolve.specs.declared.guided.Aim.TheVariants.{To}
+use Rattle.avro_resolve.specs.declared.comparison.Comparison.{Comparison}
+
+module _ (writer reader : List Node) (pair : Comparison) (n q : Node) (comparison : IsComparison writer reader pair)
+    (from : n ≡ node_at writer pair.w.0) (to : q ≡ node_at reader pair.r.0) where
+  -- where it leads
+  pub aims_of : pair.aim ≡ aim_of writer reader n pair.r q
+  aims_of = comparison.aims ∙ ap (λ (m : Node). aim_of writer reader m pair.r (node_at reader pair.r.0)) (sym from) ∙ ap (aim_of writer reader n pair.r) (sym to)
+
+  -- what is inside, where it leads to the reader's node itself
+  pub inside_of : (b : NodeId) → pair.aim ≡ To None b → AreInside n q pair
+  inside_of b is =
+      subst (λ (m : Node). AreInside m q pair) (sym from)
+      (subst (λ (m : Node). AreInside (node_at writer pair.w.0) m pair) (sym to) (comparison.inside b is))

@@ -1,0 +1,74 @@
+-- A datum of one node that errs, by what is found of a pair.
+use Rattle.std.proofs.Common.{◌≡◌, ℕ, suc, ◌+◌, ◌<◌, ◌≤◌, ◌^◌, Bool, true, false, cond, List, [], ◌∷◌, Option, Some, None, length, refl, sym, ◌∙◌, ap, subst, arith}
+use Rattle.std.specs.Prelude.{slice_get, unwrap_or, position, bytes_eq, is_none}
+use Rattle.avro_name.specs.Name.{Name}
+use Rattle.avro_schema.specs.Value.{Value}
+use Rattle.avro_schema.specs.Node.{Node, branches_of}
+use Rattle.avro_schema.specs.Seen.{node_of, texts_of}
+use Rattle.avro_schema.specs.declared.schema.EnumNode.{EnumNode}
+use Rattle.avro_schema.specs.declared.schema.NodeId.{NodeId}
+use Rattle.avro_schema.specs.declared.schema.Node.{Node as KeptNode}
+use Rattle.avro_resolve.specs.Match.{is_match}
+use Rattle.avro_resolve.specs.Pairs.{IsSymbol, aim_of}
+use Rattle.avro_resolve.specs.Planned.{AreInside}
+use Rattle.avro_resolve.specs.Resolve.{enum_or_default}
+use Rattle.avro_resolve.specs.declared.error.FaultKind.TheVariants.{NoMatch}
+use Rattle.avro_resolve.specs.declared.guided.Aim.{Aim}
+use Rattle.avro_resolve.specs.declared.guided.Aim.TheVariants.{Fault, To}
+use Rattle.avro_resolve.specs.declared.comparison.Comparison.{Comparison}
+use Rattle.avro_certificate.specs.Closed.{lacks_symbol}
+use Rattle.avro_certificate.proofs.public.Symbols.{lacks_here}
+use Rattle.avro_least.specs.Asked.{Asked, asked, asked_inside}
+use Rattle.avro_least.specs.BuiltErrors.{IsLone, first_from, is_lacking, lone_value}
+use Rattle.avro_least.proofs.BuiltErrors.{asks_inside, lone_union}
+
+-- without a default, the first of the writer's symbols for which none was found is the first that the reader lacks
+first_same : (symbols theirs : List (List ℕ)) (found : List (Option ℕ)) (n : ℕ) → length found ≡ length symbols
+    → ((k : ℕ) (f : Option ℕ) → slice_get found k ≡ Some f → IsSymbol (enum_or_default (position (λ t. bytes_eq t (unwrap_or (slice_get symbols k) [])) theirs) None) f)
+    → first_from is_none n found ≡ first_from (is_lacking theirs) n symbols
+first_same [] theirs [] n all h = refl
+first_same (s ∷ ss) theirs (f ∷ fs) n all h =
+    ap (λ (b : Bool). cond b n (first_from is_none (n + 1) fs)) (lacks_here None f s theirs (h 0 f refl))
+    ∙ ap (λ (m : ℕ). cond (is_lacking theirs s) n m) (first_same ss theirs fs (n + 1) (omega (arith, all)) (λ k g got. h (suc k) g got))
+first_same [] theirs (f ∷ fs) n all h = absurd (omega (arith, all))
+first_same (s ∷ ss) theirs [] n all h = absurd (omega (arith, all))
+
+module _ (writer reader : List Node) where
+  symbol_inside : (a : Name) (xs : List Name) (symbols : List (List ℕ)) (x : Option ℕ) (q : Node) (pair : Comparison) → AreInside (Node.enum a xs symbols x) q pair
+      → Asked.lone ≡ asked_inside (Node.enum a xs symbols x) q → (v : Value)
+      → (first_from is_none 0 pair.symbols.items < 4294967296 → v ≡ Value.enum (first_from is_none 0 pair.symbols.items)) → IsLone (Node.enum a xs symbols x) q v
+  symbol_inside a xs symbols x (Node.enum b ys theirs None) pair inside e v h =
+      let same : first_from is_none 0 pair.symbols.items ≡ first_from (is_lacking theirs) 0 symbols = first_same symbols theirs pair.symbols.items 0 inside.all_symbols inside.symbols in
+      record { symbol = λ k is low. chosen (first_from (is_lacking theirs) 0 symbols) k same (enum_same (first_from (is_lacking theirs) 0 symbols) k is) low; bytes = λ is. absurd (grind arith) }
+    where
+      enum_same : (i k : ℕ) → Value.enum i ≡ Value.enum k → i ≡ k
+      enum_same i k s = cc
+
+      chosen : (i k : ℕ) → first_from is_none 0 pair.symbols.items ≡ i → i ≡ k → k < 4294967296 → v ≡ Value.enum k
+      chosen i k same is low = h (omega (arith, same, is, low)) ∙ ap Value.enum (same ∙ is)
+  symbol_inside a xs symbols x (Node.enum b ys theirs (Some d)) pair inside e v h = absurd (grind arith)
+  symbol_inside a xs symbols x _ pair inside e v h = absurd (grind arith)
+
+  symbol_plain : (a : Name) (xs : List Name) (symbols : List (List ℕ)) (x : Option ℕ) (q : Node) (pair : Comparison) → branches_of q ≡ None
+      → pair.aim ≡ cond (is_match writer reader (Node.enum a xs symbols x) q) (To None pair.r) (Fault NoMatch)
+      → ((b : NodeId) → pair.aim ≡ To None b → AreInside (Node.enum a xs symbols x) q pair)
+      → Asked.lone ≡ asked writer reader (Node.enum a xs symbols x) q → (v : Value)
+      → (first_from is_none 0 pair.symbols.items < 4294967296 → v ≡ Value.enum (first_from is_none 0 pair.symbols.items)) → IsLone (Node.enum a xs symbols x) q v
+  symbol_plain a xs symbols x q pair plain aims inside e v h =
+      let own = asks_inside writer reader (Node.enum a xs symbols x) q refl plain Asked.lone e (λ s. grind arith) in
+      symbol_inside a xs symbols x q pair (inside pair.r (aims ∙ ap (λ (b : Bool). cond b (To None pair.r) (Fault NoMatch)) own.0)) own.1 v h
+
+  symbol_of_enum : (a : Name) (xs : List Name) (symbols : List (List ℕ)) (x : Option ℕ) (q : Node) (pair : Comparison)
+      → pair.aim ≡ aim_of writer reader (Node.enum a xs symbols x) pair.r q
+      → ((b : NodeId) → pair.aim ≡ To None b → AreInside (Node.enum a xs symbols x) q pair)
+      → Asked.lone ≡ asked writer reader (Node.enum a xs symbols x) q → (v : Value)
+      → (first_from is_none 0 pair.symbols.items < 4294967296 → v ≡ Value.enum (first_from is_none 0 pair.symbols.items)) → IsLone (Node.enum a xs symbols x) q v
+  symbol_of_enum a xs symbols x (Node.union ids) pair aims inside e v h = absurd (lone_union writer reader (Node.enum a xs symbols x) ids refl e)
+  symbol_of_enum a xs symbols x q pair aims inside e v h = symbol_plain a xs symbols x q pair refl aims inside e v h
+
+  -- the first symbol for which none was found
+  pub lone_symbol : (n : EnumNode) (q : Node) (pair : Comparison) → pair.aim ≡ aim_of writer reader (node_of (KeptNode.Enum n)) pair.r q
+      → ((b : NodeId) → pair.aim ≡ To None b → AreInside (node_of (KeptNode.Enum n)) q pair)
+      → Asked.lone ≡ asked writer reader (node_of (KeptNode.Enum n)) q → (v : Value)
+      → (first_from is_none 0 pair.symbols.items < 4294967296 → v ≡ Value.enum (first_from is_none 0 pair.symbols.items)) → IsLone (node_of (KeptNode.Enum n)) q v
+  lone_symbol n q pair aims inside e v h = symbol_of_enum n.name n.aliases.items (texts_of n.symbols.items) n.default q pair aims inside e v h
