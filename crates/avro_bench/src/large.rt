@@ -15,13 +15,13 @@ pub(crate) struct Shape {
 
 impl Shape {
     /// A node of a group.
-    fn in_group(group: u16, place: u8) -> NodeId {
-        NodeId(u32::from(group) * 4 + u32::from(place))
+    fn in_group(group: u16, index: u8) -> NodeId {
+        NodeId(u32::from(group) * 4 + u32::from(index))
     }
 
     /// One of the arrays, from the outermost to the int in the innermost.
-    fn array(self, place: u16) -> NodeId {
-        NodeId(u32::from(self.groups) * 4 + u32::from(place))
+    fn array(self, index: u16) -> NodeId {
+        NodeId(u32::from(self.groups) * 4 + u32::from(index))
     }
 
     /// The int in the innermost array.
@@ -39,8 +39,8 @@ pub(crate) fn draft_of(alloc: Global, shape: Shape) -> anyhow::Result<Draft> {
         draft.add(fixed(alloc, shape, group)?)?;
         draft.add(union(alloc, shape)?)?;
     }
-    for place in 1..=shape.depth {
-        draft.add(Node::Array(shape.array(place)))?;
+    for index in 1..=shape.depth {
+        draft.add(Node::Array(shape.array(index)))?;
     }
     draft.add(Node::Int)?;
     Ok(draft)

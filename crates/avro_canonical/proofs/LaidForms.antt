@@ -3,7 +3,7 @@ use Rattle.std.proofs.Common.{◌≡◌, ◌⊎◌, inl, inr, ⊎_elim, ℕ, zer
 use Rattle.std.proofs.lemmas.List.{append_assoc}
 use Rattle.avro_name.specs.Name.{Name, same_name}
 use Rattle.avro_schema.specs.Node.{Node, node_at, node_name}
-use Rattle.avro_schema_json.specs.Declares.{Known, place_of, defining}
+use Rattle.avro_schema_json.specs.Declares.{Known, id_of, defining}
 use Rattle.avro_canonical.specs.Form.{Form, Forms, FieldForms, no_forms, form, no_fields, field, written_after}
 use Rattle.avro_canonical.specs.Canonical.{IsForm, AreForms, AreFieldForms, is_among, no_branch, branch, no_field, next_field}
 use Rattle.avro_canonical.specs.CanonicalTree.{nodes_in}
@@ -47,16 +47,16 @@ stand_cut nodes next xs ys others n count e =
 
 -- each name that is known is that of the node of its id
 abbrev pub KnownStand : List Node → Known → Type 0
-KnownStand nodes known = (name : Name) (p : ℕ) → place_of name known ≡ Some p → node_name (node_at nodes p) ≡ Some name
+KnownStand nodes known = (name : Name) (p : ℕ) → id_of name known ≡ Some p → node_name (node_at nodes p) ≡ Some name
 
-last_id : (x name : Name) (p q : ℕ) (known : Known) → place_of x (known ++ (name, p) ∷ []) ≡ Some q → (place_of x known ≡ Some q) ⊎ ((same_name x name ≡ true) × (p ≡ q))
+last_id : (x name : Name) (p q : ℕ) (known : Known) → id_of x (known ++ (name, p) ∷ []) ≡ Some q → (id_of x known ≡ Some q) ⊎ ((same_name x name ≡ true) × (p ≡ q))
 last_id x name p q [] e =
     (elim (same_name x name) as (λ b. cond b (Some p) None ≡ Some q → (None ≡ Some q) ⊎ ((b ≡ true) × (p ≡ q))) [
       | true ↦ λ h. inr (refl, some-is h)
       | false ↦ λ h. inl h
     ]) e
 last_id x name p q (d ∷ known) e =
-    (elim (same_name x d.0) as (λ b. cond b (Some d.1) (place_of x (known ++ (name, p) ∷ [])) ≡ Some q → (cond b (Some d.1) (place_of x known) ≡ Some q) ⊎ ((same_name x name ≡ true) × (p ≡ q))) [
+    (elim (same_name x d.0) as (λ b. cond b (Some d.1) (id_of x (known ++ (name, p) ∷ [])) ≡ Some q → (cond b (Some d.1) (id_of x known) ≡ Some q) ⊎ ((same_name x name ≡ true) × (p ≡ q))) [
       | true ↦ λ h. inl h
       | false ↦ λ h. last_id x name p q known h
     ]) e
@@ -97,8 +97,8 @@ mutual
 
 -- a reference goes to its definition
 pub named_there : (nodes : List Node) (written : List Name) (known : Known) (name : Name) → IsKnown written known → KnownStand nodes known → is_among name written ≡ true
-    → node_name (node_at nodes (unwrap_or (place_of name known) 0)) ≡ Some name
-named_there nodes written known name is stands old = stands name (unwrap_or (place_of name known) 0) (id_is (place_of name known) (is name ∙ old))
+    → node_name (node_at nodes (unwrap_or (id_of name known) 0)) ≡ Some name
+named_there nodes written known name is stands old = stands name (unwrap_or (id_of name known) 0) (id_is (id_of name known) (is name ∙ old))
 
 mutual
   pub laid_form : (nodes : List Node) (f : Form) (written : List Name) (known : Known) (next : ℕ) (others : List Node) → WellMade written f → IsKnown written known

@@ -10,7 +10,7 @@ use Rattle.avro_display.specs.DisplayTree.{name_text}
 use Rattle.serde_json.specs.Data.{Data}
 use Rattle.avro_schema_json.specs.declared.error.SchemaError.{SchemaError}
 use Rattle.avro_schema_json.specs.DeclaredAttributes.{name_from}
-use Rattle.avro_schema_json.specs.Declares.{RawNode, RawField, Known, place_of, Made, above, defining, meaning_of, word_of, type_name}
+use Rattle.avro_schema_json.specs.Declares.{RawNode, RawField, Known, id_of, Made, above, defining, meaning_of, word_of, type_name}
 use Rattle.avro_canonical.specs.Form.{Form, Forms, FieldForms, no_forms, form, no_fields, field, written_after, written_after_all, written_after_fields}
 use Rattle.avro_canonical.specs.Canonical.{primitive_word, is_among}
 use Rattle.avro_canonical.specs.CanonicalTree.{nodes_in, nodes_in_all, nodes_in_fields, is_kept}
@@ -49,7 +49,7 @@ raw_count known next f = length-map (laid known next f) raw_node ∙ laid_count 
 
 -- what is known is what is written
 abbrev pub IsKnown : List Name → Known → Type 0
-IsKnown written known = (name : Name) → is_some (place_of name known) ≡ is_among name written
+IsKnown written known = (name : Name) → is_some (id_of name known) ≡ is_among name written
 
 or_turned : (s t : Bool) → (s || t) ≡ (t || s)
 or_turned true true = refl
@@ -57,10 +57,10 @@ or_turned true false = refl
 or_turned false true = refl
 or_turned false false = refl
 
-id_of_last : (x name : Name) (p : ℕ) (known : Known) → is_some (place_of x (known ++ (name, p) ∷ [])) ≡ (is_some (place_of x known) || same_name x name)
+id_of_last : (x name : Name) (p : ℕ) (known : Known) → is_some (id_of x (known ++ (name, p) ∷ [])) ≡ (is_some (id_of x known) || same_name x name)
 id_of_last x name p [] = elim (same_name x name) as (λ b. is_some (cond b (Some p) None) ≡ b) [ true ↦ refl | false ↦ refl ]
 id_of_last x name p (d ∷ known) =
-    elim (same_name x d.0) as (λ b. is_some (cond b (Some d.1) (place_of x (known ++ (name, p) ∷ []))) ≡ (is_some (cond b (Some d.1) (place_of x known)) || same_name x name))
+    elim (same_name x d.0) as (λ b. is_some (cond b (Some d.1) (id_of x (known ++ (name, p) ∷ []))) ≡ (is_some (cond b (Some d.1) (id_of x known)) || same_name x name))
     [ true ↦ refl | false ↦ id_of_last x name p known ]
 
 pub known_more : (written : List Name) (known : Known) (name : Name) (next : ℕ) → IsKnown written known → IsKnown (name ∷ written) (defining name next known)
@@ -141,10 +141,10 @@ pub id_is : (o : Option ℕ) → is_some o ≡ true → o ≡ Some (unwrap_or o 
 id_is None h = absurd (false≢true h)
 id_is (Some p) h = refl
 
-pub reference_read : (name : Name) (known : Known) (next : ℕ) (enclosing : List ℕ) → is_full_name name ≡ true → is_kept enclosing name ≡ true → is_some (place_of name known) ≡ true
+pub reference_read : (name : Name) (known : Known) (next : ℕ) (enclosing : List ℕ) → is_full_name name ≡ true → is_kept enclosing name ≡ true → is_some (id_of name known) ≡ true
     → meaning_of (Data.string (name_text name)) enclosing known next ≡ made known next (Form.reference name)
 reference_read name known next enclosing full kept some =
-    rw (name_no_word name full, name_read name enclosing full (kept_is enclosing name kept)) (rw (id_is (place_of name known) some) refl)
+    rw (name_no_word name full, name_read name enclosing full (kept_is enclosing name kept)) (rw (id_is (id_of name known) some) refl)
 
 pub name_given : (name : Name) (enclosing : List ℕ) → is_full_name name ≡ true → is_kept enclosing name ≡ true → name_from enclosing None (Some (name_text name)) ≡ Ok name
 name_given name enclosing full kept =

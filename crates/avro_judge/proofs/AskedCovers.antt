@@ -14,7 +14,7 @@ use Rattle.avro_schema.specs.WellFormed.{field_names, meets_its_rules, has_good_
 use Rattle.avro_resolve.specs.Match.{is_match, first_match}
 use Rattle.avro_resolve.specs.Source.{reader_field, source_of}
 use Rattle.avro_resolve.specs.Ends.{IsField, here, later}
-use Rattle.avro_resolve.proofs.public.Sources.{first_place-named, reader_field-source}
+use Rattle.avro_resolve.proofs.public.Sources.{first_index-named, reader_field-source}
 use Rattle.avro_certificate.specs.Closed.{Pair, children_of, field_children, has_local_fault, has_fault_of_kind}
 use Rattle.avro_least.specs.Asked.{Row, Asked, rows_from, asked_inside, asked_branch, asked, row_child, asked_children}
 use Rattle.avro_certificate.proofs.public.Tests.{and_left, and_right, or_left, or_right, not_false}
@@ -56,7 +56,7 @@ module _ (writer reader : List Node) (test : Pair → Bool) where
       of_source None e rest = rw e rest
       of_source (Some k) e rest =
           let reads = reader_field-source fields theirs k g (all g here) distinct e in
-          let named = first_place-named fields g (field_names g) k e in
+          let named = first_index-named fields g (field_names g) k e in
           rw e (and_from (test (record { w = unwrap_or (slice_get (field_ids fields) k) 0; r = g.node })) (list_all test (field_children fields gs))
           (subst (λ (r : ℕ). test (record { w = unwrap_or (slice_get (field_ids fields) k) 0; r = r }) ≡ true) reads.2 (each k reads.0 named.0 reads.1)) rest)
 

@@ -6,7 +6,7 @@ use Rattle.std.specs.List.{list_all}
 use Rattle.avro_schema.specs.Node.{Node, FieldNode, node_at, field_ids, edges_of}
 use Rattle.avro_schema.specs.WellFormed.{is_schema, is_edge, is_good_node, are_good_nodes}
 use Rattle.avro_resolve.specs.Match.{is_match, first_match}
-use Rattle.avro_resolve.specs.Source.{reader_field, missing_field, is_place, source_of}
+use Rattle.avro_resolve.specs.Source.{reader_field, missing_field, is_index, source_of}
 use Rattle.avro_certificate.specs.Closed.{Pair, lacks_symbol}
 use Rattle.avro_least.specs.Asked.{Asked, rows_from, asked_inside, asked_branch, asked, row_child, asked_children}
 use Rattle.avro_certificate.proofs.public.Tests.{and_left, and_right}
@@ -58,7 +58,7 @@ module _ (writer reader : List Node) where
       → nat_lt f.node (length reader) ≡ true
   field_within ws [] index f h e = absurd (grind arith)
   field_within ws (g ∷ gs) index f h e =
-      chosen (is_place (source_of ws g) index) e (field_within ws gs index f (and_right (nat_lt g.node (length reader)) (are_within reader (field_ids gs)) h))
+      chosen (is_index (source_of ws g) index) e (field_within ws gs index f (and_right (nat_lt g.node (length reader)) (are_within reader (field_ids gs)) h))
     where
       chosen : (t : Bool) → cond t (Some g) (reader_field ws gs index) ≡ Some f → (reader_field ws gs index ≡ Some f → nat_lt f.node (length reader) ≡ true)
           → nat_lt f.node (length reader) ≡ true

@@ -10,7 +10,7 @@ use Rattle.avro_schema.specs.declared.schema.Field.{Field}
 use Rattle.avro_schema.specs.declared.schema.NodeId.{NodeId}
 use Rattle.avro_resolve.specs.inside.Noting.{AreIgnored, noted}
 use Rattle.avro_resolve.specs.Pairs.{part_to}
-use Rattle.avro_resolve.specs.Source.{is_place, reader_field, source_of}
+use Rattle.avro_resolve.specs.Source.{is_index, reader_field, source_of}
 use Rattle.avro_resolve.specs.declared.guided.At.{At}
 use Rattle.avro_resolve.specs.declared.guided.At.TheVariants.{Pair}
 use Rattle.avro_resolve.proofs.Planning.{part_found, reader_past}
@@ -63,12 +63,12 @@ for_none ws reads n parts e none = λ k at got.
     ∙ ap (λ (fs : List Field). part_to (unwrap_or (slice_get (field_ids ws) k) 0) (reader_field ws (seen_fields fs) k)) (sym (ap (λ (m : ℕ). drop m reads) e ∙ drop-length reads))
 
 module _ (ws : List FieldNode) (reads : List Field) (i : ℕ) (f : Field) (low : i < length reads) (is : f ≡ slice_index_or reads i f) where
-  past : (k : ℕ) (at : At) → is_place (source_of ws (field_of f)) k ≡ false → at ≡ part_to (unwrap_or (slice_get (field_ids ws) k) 0) (reader_field ws (seen_fields (drop (i + 1) reads)) k)
+  past : (k : ℕ) (at : At) → is_index (source_of ws (field_of f)) k ≡ false → at ≡ part_to (unwrap_or (slice_get (field_ids ws) k) 0) (reader_field ws (seen_fields (drop (i + 1) reads)) k)
       → at ≡ part_to (unwrap_or (slice_get (field_ids ws) k) 0) (reader_field ws (seen_fields (drop i reads)) k)
   past k at other h = h ∙ ap (part_to (unwrap_or (slice_get (field_ids ws) k) 0)) (sym (reader_past ws reads i k f low is other))
 
   pub for_past : (parts : List At) → source_of ws (field_of f) ≡ None → AreForFrom ws reads (i + 1) parts → AreForFrom ws reads i parts
-  for_past parts e h = λ k at got. past k at (ap (λ (o : Option ℕ). is_place o k) e) (h k at got)
+  for_past parts e h = λ k at got. past k at (ap (λ (o : Option ℕ). is_index o k) e) (h k at got)
 
   pub for_noted : (parts new : List At) (index : ℕ) (node : NodeId) → source_of ws (field_of f) ≡ Some index → node.0 ≡ unwrap_or (slice_get (field_ids ws) index) 0
       → new ≡ noted parts index (Pair node f.node) → AreForFrom ws reads (i + 1) parts → AreForFrom ws reads i new
@@ -76,6 +76,6 @@ module _ (ws : List FieldNode) (reads : List Field) (i : ℕ) (f : Field) (low :
       let known = subst (λ (xs : List At). slice_get xs k ≡ Some at) put got in
       ⊎_elim
       (λ same. noted_here parts index k (Pair node f.node) at known same
-      ∙ part_found ws reads i k f low is (ap (λ (o : Option ℕ). is_place o k) e ∙ eq-eqb index k (sym same)) _ refl node _ (there ∙ ap (λ (j : ℕ). unwrap_or (slice_get (field_ids ws) j) 0) (sym same)))
-      (λ ne. past k at (ap (λ (o : Option ℕ). is_place o k) e ∙ false_from_ne_true (index == k) (λ t. ne (sym (eqb-true index k t)))) (h k at (noted_other parts index k (Pair node f.node) at known ne)))
+      ∙ part_found ws reads i k f low is (ap (λ (o : Option ℕ). is_index o k) e ∙ eq-eqb index k (sym same)) _ refl node _ (there ∙ ap (λ (j : ℕ). unwrap_or (slice_get (field_ids ws) j) 0) (sym same)))
+      (λ ne. past k at (ap (λ (o : Option ℕ). is_index o k) e ∙ false_from_ne_true (index == k) (λ t. ne (sym (eqb-true index k t)))) (h k at (noted_other parts index k (Pair node f.node) at known ne)))
       (cases_eq k index)

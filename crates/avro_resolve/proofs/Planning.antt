@@ -9,7 +9,7 @@ use Rattle.avro_schema.specs.declared.schema.Field.{Field}
 use Rattle.avro_schema.specs.declared.schema.NodeId.{NodeId}
 use Rattle.avro_resolve.specs.Pairs.{part_to}
 use Rattle.avro_resolve.specs.Planned.{AreSources}
-use Rattle.avro_resolve.specs.Source.{is_place, reader_field, source_of}
+use Rattle.avro_resolve.specs.Source.{is_index, reader_field, source_of}
 use Rattle.avro_resolve.specs.declared.guided.At.TheVariants.{Pair}
 use Rattle.avro_resolve.proofs.Guiding.{one_longer}
 use Rattle.avro_resolve.proofs.Slots.{get_before, get_last, get_past, seen_next}
@@ -61,14 +61,14 @@ holds_push {A = A} P xs new x m pushed h last =
 -- ---- The reader's fields in order
 
 module _ (ws : List FieldNode) (reads : List Field) (i index : ℕ) (f : Field) (low : i < length reads) (is : f ≡ slice_index_or reads i f) where
-  step : reader_field ws (seen_fields (drop i reads)) index ≡ cond (is_place (source_of ws (field_of f)) index) (Some (field_of f)) (reader_field ws (seen_fields (drop (i + 1) reads)) index)
+  step : reader_field ws (seen_fields (drop i reads)) index ≡ cond (is_index (source_of ws (field_of f)) index) (Some (field_of f)) (reader_field ws (seen_fields (drop (i + 1) reads)) index)
   step = ap (λ (fs : List FieldNode). reader_field ws fs index) (seen_next reads i f low ∙ ap (λ (g : Field). field_of g ∷ seen_fields (drop (i + 1) reads)) (sym is))
 
-  pub reader_past : is_place (source_of ws (field_of f)) index ≡ false → reader_field ws (seen_fields (drop i reads)) index ≡ reader_field ws (seen_fields (drop (i + 1) reads)) index
-  reader_past e = step ∙ cond-false (is_place (source_of ws (field_of f)) index) (Some (field_of f)) (reader_field ws (seen_fields (drop (i + 1) reads)) index) e
+  pub reader_past : is_index (source_of ws (field_of f)) index ≡ false → reader_field ws (seen_fields (drop i reads)) index ≡ reader_field ws (seen_fields (drop (i + 1) reads)) index
+  reader_past e = step ∙ cond-false (is_index (source_of ws (field_of f)) index) (Some (field_of f)) (reader_field ws (seen_fields (drop (i + 1) reads)) index) e
 
-  pub part_found : is_place (source_of ws (field_of f)) index ≡ true → (all : Option FieldNode) → all ≡ reader_field ws (seen_fields (drop i reads)) index → (node : NodeId) (j : ℕ) → node.0 ≡ j
+  pub part_found : is_index (source_of ws (field_of f)) index ≡ true → (all : Option FieldNode) → all ≡ reader_field ws (seen_fields (drop i reads)) index → (node : NodeId) (j : ℕ) → node.0 ≡ j
       → Pair node f.node ≡ part_to j all
   part_found e all left node j at =
-      let here = step ∙ cond-true (is_place (source_of ws (field_of f)) index) (Some (field_of f)) (reader_field ws (seen_fields (drop (i + 1) reads)) index) e in
+      let here = step ∙ cond-true (is_index (source_of ws (field_of f)) index) (Some (field_of f)) (reader_field ws (seen_fields (drop (i + 1) reads)) index) e in
       ap (λ (m : ℕ). part_to m (Some (field_of f))) at ∙ ap (part_to j) (sym (left ∙ here))

@@ -13,7 +13,7 @@ use Rattle.avro_resolve.specs.Source.{source_of, reader_field, missing_field, mi
 use Rattle.avro_resolve.specs.Fault.{ResolutionFault}
 use Rattle.avro_resolve.specs.Resolve.{Resolved, Sourced, inside, with_sourced, sourced_at, field_value, field_values}
 use Rattle.avro_resolve.specs.Ends.{IsField, here, later}
-use Rattle.avro_resolve.proofs.public.Sources.{first_place-named, reader_field-source}
+use Rattle.avro_resolve.proofs.public.Sources.{first_index-named, reader_field-source}
 use Rattle.avro_resolve.proofs.Outcomes.{IfOk-inside, IfOk-both}
 use Rattle.avro_resolve.proofs.AtMatch.{FitsAt}
 
@@ -95,7 +95,7 @@ value-found : (reader : List Node) (ws rs : List FieldNode) (found : Sourced) (g
     → FitsAt reader (node_at reader g.node) (sourced_at found k)
 value-found reader ws rs found g k is distinct all e =
     let reads = reader_field-source ws rs k g is distinct e in
-    let named = first_place-named ws g (field_names g) k e in
+    let named = first_index-named ws g (field_names g) k e in
     subst (λ (id : ℕ). FitsAt reader (node_at reader id) (sourced_at found k)) reads.2 (all k reads.0 (omega arith) named.0 reads.1)
 
 value-default : (reader : List Node) (g : FieldNode) → has_good_default reader g ≡ true → is_some g.default ≡ true

@@ -22,7 +22,7 @@ use Rattle.avro_resolve.specs.declared.error.ResolveError.{ResolveError}
 use Rattle.avro_resolve.proofs.InOrder.{next_in, fails_mapped}
 use Rattle.avro_resolve.proofs.Resolved.{good-fields}
 use Rattle.avro_resolve.proofs.Rules.{MeetRules-from_is_schema}
-use Rattle.avro_resolve.proofs.public.Sources.{is_place-same, two_readers, are_distinct-back}
+use Rattle.avro_resolve.proofs.public.Sources.{is_index-same, two_readers, are_distinct-back}
 
 -- names of a node's fields are distinct
 pub distinct_fields : (nodes : List Node) (id : ℕ) → is_schema nodes ≡ true → are_distinct bytes_eq (flat_map field_names (fields_at (node_at nodes id))) ≡ true
@@ -51,7 +51,7 @@ module _ {O : Type 0} (S : O → Value → Type 0) (ws : List FieldNode) (found 
     where
       apart : (g : FieldNode) → IsField g rest → (k : ℕ) → source_of ws g ≡ Some k → k ≡ index → ⊥
       apart g is k src same =
-          two_readers ws rest k f g is distinct src (is_place-same (source_of ws f) k (subst (λ (j : ℕ). source_of ws f ≡ Some j) (sym same) e))
+          two_readers ws rest k f g is distinct src (is_index-same (source_of ws f) k (subst (λ (j : ℕ). source_of ws f ≡ Some j) (sym same) e))
 
   pub rest_same : (slots : List (Option O)) → SlotsFor S ws (f ∷ rest) found slots → SlotsFor S ws rest found slots
   rest_same slots h = λ g is k src. h g (later is) k src

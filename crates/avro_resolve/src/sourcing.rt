@@ -5,7 +5,7 @@ ghost use Rattle.avro_schema.specs.WellFormed.{field_names};
 ghost use Rattle.avro_schema.specs.Node.{FieldNode, node_at, field_ids};
 ghost use Rattle.avro_schema.specs.Seen.{seen_fields, field_of};
 ghost use Rattle.avro_schema.specs.SeenSchema.{schema_nodes};
-ghost use Rattle.avro_resolve.specs.Source.{field_index, is_place, source_of, missing_field};
+ghost use Rattle.avro_resolve.specs.Source.{field_index, is_index, source_of, missing_field};
 ghost use Rattle.avro_resolve.specs.Resolve.{fields_at};
 ghost use Rattle.avro_resolve.specs.Pairs.{field_for};
 ghost use Rattle.avro_resolve.specs.Planned.{AreSources};
@@ -153,7 +153,7 @@ pub fn part_among(writer: &[Field], reader: &[Field], sources: &[Option<usize>],
 /// Whether a writer's field, by its index, is the source of a reader's field, which is the one at an index.
 fn takes(writer: &[Field], sources: &[Option<usize>], index: usize, f: &Field, field: usize) -> bool
     ensures { (rs : List FieldNode) → AreSources (seen_fields writer.now) rs sources.now → slice_get rs index ≡ Some (field_of f.now)
-        → result ≡ is_place (source_of (seen_fields writer.now) (field_of f.now)) field }
+        → result ≡ is_index (source_of (seen_fields writer.now) (field_of f.now)) field }
 {
     match source_kept(writer, sources, index, f) {
         Some(k) => k == field,

@@ -15,7 +15,7 @@ use Rattle.std.proofs.lemmas.Bool.Decides.{Decides-eqb}
 use Rattle.std.proofs.lemmas.Map.Text.{is_eq-slice_cmp}
 use Rattle.std.proofs.lemmas.Slice.Eq.{bytes_eq-Decides}
 use Rattle.avro_name.specs.Name.{Name, same_name, name_of, split_name, has_dot, is_dotted_name, is_primitive_word}
-use Rattle.avro_schema_json.specs.Declares.{Known, place_of, defining}
+use Rattle.avro_schema_json.specs.Declares.{Known, id_of, defining}
 use Rattle.avro_schema_json.specs.inside.KnownNames.{Key, key_cmp, number_of, IsIndexOf}
 use Rattle.avro_schema_json.specs.inside.KnownSeen.{known_of, IsNumbered}
 use Rattle.avro_schema_json.specs.declared.name_table.NameTable.{NameTable}
@@ -49,7 +49,7 @@ same_name-comm a b = by_cases (same_name a b) (same_name b a) refl refl
     by_cases true false h k = absurd (false≢true (sym k ∙ ap (λ n. same_name b n) (one_name a b h) ∙ same_name-self b))
     by_cases false true h k = absurd (false≢true (sym h ∙ ap (λ n. same_name a n) (one_name b a k) ∙ same_name-self a))
 
-taken : (q name : Name) (known : Known) (first : Name × ℕ) → same_name q first.0 ≡ true → place_of name (first ∷ known) ≡ None → same_name q name ≡ false
+taken : (q name : Name) (known : Known) (first : Name × ℕ) → same_name q first.0 ≡ true → id_of name (first ∷ known) ≡ None → same_name q name ≡ false
 taken q name known first here absent =
     false_from_ne_true (same_name q name) (λ h.
     let same : same_name name first.0 ≡ true = ap (λ n. same_name n first.0) (sym (one_name q name h)) ∙ here in
@@ -58,21 +58,21 @@ taken q name known first here absent =
     some_none : Some first.1 ≡ None → ⊥
     some_none h = absurd cc
 
-later : (name : Name) (known : Known) (first : Name × ℕ) → place_of name (first ∷ known) ≡ None → place_of name known ≡ None
+later : (name : Name) (known : Known) (first : Name × ℕ) → id_of name (first ∷ known) ≡ None → id_of name known ≡ None
 later name known first absent = by (same_name name first.0) refl
   where
-    by : (same : Bool) → same_name name first.0 ≡ same → place_of name known ≡ None
+    by : (same : Bool) → same_name name first.0 ≡ same → id_of name known ≡ None
     by true h = let found = rw h at absent in absurd cc
     by false h = rw h at absent
 
 -- a name that is added is found with its id, and the others as before
-pub found_after : (q name : Name) (id : ℕ) (known : Known) → place_of name known ≡ None
-    → place_of q (known ++ (name, id) ∷ []) ≡ cond (same_name q name) (Some id) (place_of q known)
+pub found_after : (q name : Name) (id : ℕ) (known : Known) → id_of name known ≡ None
+    → id_of q (known ++ (name, id) ∷ []) ≡ cond (same_name q name) (Some id) (id_of q known)
 found_after q name id [] absent = refl
 found_after q name id (first ∷ known) absent = by (found_after q name id known (later name known first absent)) (same_name q first.0) refl
   where
-    by : place_of q (known ++ (name, id) ∷ []) ≡ cond (same_name q name) (Some id) (place_of q known) → (here : Bool) → same_name q first.0 ≡ here
-        → place_of q ((first ∷ known) ++ (name, id) ∷ []) ≡ cond (same_name q name) (Some id) (place_of q (first ∷ known))
+    by : id_of q (known ++ (name, id) ∷ []) ≡ cond (same_name q name) (Some id) (id_of q known) → (here : Bool) → same_name q first.0 ≡ here
+        → id_of q ((first ∷ known) ++ (name, id) ∷ []) ≡ cond (same_name q name) (Some id) (id_of q (first ∷ known))
     by rest true h = let other = taken q name known first h absent in rw (h, other) refl
     by rest false h = rw h rest
 
@@ -85,10 +85,10 @@ answers_so (Err e) h f = h
 pub found_in : (names : NameTable) (space : Space) (name : Name) (simple : List ℕ) (id : Option ℕ) (known : Known) → IsNumbered names space
     → space.namespace ≡ name.namespace → simple ≡ name.simple → known_of names ≡ known
     → ((namespace : List ℕ) → number_of names.numbers namespace ≡ Some space.number
-    → id ≡ place_of (record { namespace = namespace; simple = simple }) (known_of names)) → id ≡ place_of name known
+    → id ≡ id_of (record { namespace = namespace; simple = simple }) (known_of names)) → id ≡ id_of name known
 found_in names space name simple id known numbered at spelled same answer =
     answer name.namespace (ap (number_of names.numbers) (sym at) ∙ numbered)
-    ∙ ap (λ t. place_of (record { namespace = name.namespace; simple = t }) (known_of names)) spelled ∙ ap (place_of name) same
+    ∙ ap (λ t. id_of (record { namespace = name.namespace; simple = t }) (known_of names)) spelled ∙ ap (id_of name) same
 
 some_same : (a b : Name) → Some a ≡ Some b → a ≡ b
 some_same a b e = cc
@@ -146,7 +146,7 @@ module _ (known : Known) (numbers : BTreeMap (List ℕ) ℕ) (ids : BTreeMap Key
       let equal : m ≡ n = cc in (Decides-eqb m n).1 equal)
 
   module _ (name : Name) (number id : ℕ) (simple : String Global) (later : BTreeMap Key ℕ) (numbered : number_of numbers name.namespace ≡ Some number)
-      (spelled : string_bytes simple ≡ name.simple) (new : place_of name known ≡ None)
+      (spelled : string_bytes simple ≡ name.simple) (new : id_of name known ≡ None)
       (put : (q : Key) → get key_cmp later q ≡ cond (is_eq (key_cmp (number, simple) q)) (Some id) (get key_cmp ids q)) where
     -- the key of a name is the one that is put just where the name is the one that is added
     key_of : (namespace : List ℕ) (n : ℕ) (s : String Global) → number_of numbers namespace ≡ Some n
@@ -176,7 +176,7 @@ module _ (known : Known) (numbers : BTreeMap (List ℕ) ℕ) (ids : BTreeMap Key
           let other : same_name q name ≡ false = false_from_ne_true (same_name q name) (λ e.
           let same : namespace ≡ name.namespace = ap (λ (n : Name). n.namespace) (one_name q name e) in
           let found : None ≡ Some number = sym h ∙ ap (number_of numbers) same ∙ numbered in absurd (cc)) in
-          found_after q name id known new ∙ ap (λ b. cond b (Some id) (place_of q known)) other ∙ index.unnumbered namespace t h;
+          found_after q name id known new ∙ ap (λ b. cond b (Some id) (id_of q known)) other ∙ index.unnumbered namespace t h;
       unused = λ n s h.
           put (n, s) ∙ ap (λ b. cond b (Some id) (get key_cmp ids (n, s))) (past n s h) ∙ index.unused n s h;
     }
@@ -221,7 +221,7 @@ module _ (known : Known) (numbers : BTreeMap (List ℕ) ℕ) (ids : BTreeMap Key
       found = λ q n s h.
           ⊎_elim
           (λ here.
-          let q_unknown : place_of (record { namespace = q; simple = string_bytes s }) known ≡ None = index.unnumbered q (string_bytes s) (sym (ap (number_of numbers) here.0) ∙ new) in
+          let q_unknown : id_of (record { namespace = q; simple = string_bytes s }) known ≡ None = index.unnumbered q (string_bytes s) (sym (ap (number_of numbers) here.0) ∙ new) in
           index.unused n s (omega (arith, here.1, next)) ∙ sym q_unknown)
           (λ before. index.found q n s before)
           (numbered_as q n h);

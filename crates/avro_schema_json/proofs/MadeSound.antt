@@ -18,7 +18,7 @@ use Rattle.serde_json.specs.Written.{has_float}
 use Rattle.avro_schema_json.specs.DeclaredFaults.{faults_of, refusals_of_nodes, or_else, HasFault}
 use Rattle.avro_schema_json.specs.DeclaredSchema.{whole_nodes, are_all_defaults_read}
 use Rattle.avro_schema_json.specs.Refusals.{refusal_of_fault}
-use Rattle.avro_schema_json.specs.Declares.{RawField, RawNode, Known, Made, Meaning, faulty, joined, in_turn, above, alone, use_of, place_of, reference, Word, null_word, boolean_word, int_word, long_word, bytes_word, string_word, unsupported_word, type_name, word_of, type_of_word, union_of, container_of, defining, name_faults, record_named, enum_named, fixed_named, definition_of, Form, record_form, enum_form, fixed_form, array_form, map_form, error_form, word_form, no_form, form_of, type_of_form, field_of, no_field, meaning_of, branches_of, meaning_under, fields_under, fields_from, field_meanings, field_meaning, made_of}
+use Rattle.avro_schema_json.specs.Declares.{RawField, RawNode, Known, Made, Meaning, faulty, joined, in_turn, above, alone, use_of, id_of, reference, Word, null_word, boolean_word, int_word, long_word, bytes_word, string_word, unsupported_word, type_name, word_of, type_of_word, union_of, container_of, defining, name_faults, record_named, enum_named, fixed_named, definition_of, Form, record_form, enum_form, fixed_form, array_form, map_form, error_form, word_form, no_form, form_of, type_of_form, field_of, no_field, meaning_of, branches_of, meaning_under, fields_under, fields_from, field_meanings, field_meaning, made_of}
 
 -- a fault that a tree can have
 abbrev is_of_tree : SchemaError → Bool
@@ -164,14 +164,14 @@ use-sound n = record { at = λ enclosing known next. above-sound next (λ none. 
 reference-sound : (word : List ℕ) → IsSoundMeaning (reference word)
 reference-sound word = record { at = λ enclosing known next. by_name enclosing known next (name_of word enclosing) refl }
   where
-    by_id : (enclosing : List ℕ) (known : Known) (next : ℕ) (name : Name) (id : Option ℕ) → name_of word enclosing ≡ Some name → place_of name known ≡ id
+    by_id : (enclosing : List ℕ) (known : Known) (next : ℕ) (name : Name) (id : Option ℕ) → name_of word enclosing ≡ Some name → id_of name known ≡ id
         → IsSound (reference word enclosing known next)
     by_id enclosing known next name None h k = rw (h, k) (record { clean = refl })
     by_id enclosing known next name (Some id) h k = rw (h, k) (record { clean = refl })
 
     by_name : (enclosing : List ℕ) (known : Known) (next : ℕ) (name : Option Name) → name_of word enclosing ≡ name → IsSound (reference word enclosing known next)
     by_name enclosing known next None h = rw h (record { clean = refl })
-    by_name enclosing known next (Some name) h = by_id enclosing known next name (place_of name known) h refl
+    by_name enclosing known next (Some name) h = by_id enclosing known next name (id_of name known) h refl
 
 word-sound : (word : List ℕ) → IsSoundMeaning (type_of_word word)
 word-sound word = by_word (word_of word) refl
@@ -204,7 +204,7 @@ container-sound node (Some part) s = record {
 -- ---- definitions
 
 name_faults-of_tree : (name : Name) (known : Known) → are_of_tree (name_faults name known) ≡ true
-name_faults-of_tree name known = unless-of_tree (not (is_some (place_of name known))) SchemaError.DuplicateName refl
+name_faults-of_tree name known = unless-of_tree (not (is_some (id_of name known))) SchemaError.DuplicateName refl
 
 record-sound : (ms : Members) (fields : Option (List (Meaning RawField))) → IfAllSound fields → (known : Known) (next : ℕ) (name : Name)
     → IsSound (record_named ms fields known next name)

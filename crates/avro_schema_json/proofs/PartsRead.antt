@@ -5,18 +5,18 @@ use Rattle.std.proofs.lemmas.List.{append-nil}
 use Rattle.std.proofs.lemmas.List.Elements.{Contains-append_right}
 use Rattle.avro_name.specs.Name.{Name, name_of}
 use Rattle.avro_schema_json.specs.declared.error.SchemaError.{SchemaError}
-use Rattle.avro_schema_json.specs.Declares.{name_faults, Known, place_of, reference}
+use Rattle.avro_schema_json.specs.Declares.{name_faults, Known, id_of, reference}
 use Rattle.avro_schema_json.specs.inside.Reading.{State, made_at, IsRead, IsRefusal, limit_faults, beginning_faults}
 
 -- ---- references
 
 pub reference-read : (word enclosing : List ℕ) (s : State) (name : Name) (id : ℕ) → name_of word enclosing ≡ Some name
-    → place_of name s.known ≡ Some id → IsRead (made_at (reference word) enclosing s) s s id
+    → id_of name s.known ≡ Some id → IsRead (made_at (reference word) enclosing s) s s id
 reference-read word enclosing s name id is known =
     rw (is, known) (record { no_faults = refl; result_is = refl; nodes_are = sym (append-nil s.nodes); known_are = refl })
 
 pub reference-unknown : (word enclosing : List ℕ) (s : State) (name : Name) → name_of word enclosing ≡ Some name
-    → place_of name s.known ≡ None → Contains (made_at (reference word) enclosing s).faults SchemaError.UnknownName
+    → id_of name s.known ≡ None → Contains (made_at (reference word) enclosing s).faults SchemaError.UnknownName
 reference-unknown word enclosing s name is unknown = rw (is, unknown) (0, omega arith, refl)
 
 -- ---- answers that are a model's, or want memory
@@ -34,14 +34,14 @@ not_some (Some x) h = cc
 
 -- ---- beginnings of definitions
 
-pub name_faults-new : (name : Name) (known : Known) → place_of name known ≡ None → name_faults name known ≡ []
+pub name_faults-new : (name : Name) (known : Known) → id_of name known ≡ None → name_faults name known ≡ []
 name_faults-new name known h = rw h refl
 
-pub name_faults-known : (name : Name) (known : Known) → is_some (place_of name known) ≡ true
+pub name_faults-known : (name : Name) (known : Known) → is_some (id_of name known) ≡ true
     → Contains (name_faults name known) SchemaError.DuplicateName
 name_faults-known name known h = rw h (0, omega arith, refl)
 
 pub beginning-known : (before : State) (named : Result Name SchemaError) (name : Name) → named ≡ Ok name
-    → is_some (place_of name before.known) ≡ true → IsRefusal (beginning_faults before named) SchemaError.DuplicateName
+    → is_some (id_of name before.known) ≡ true → IsRefusal (beginning_faults before named) SchemaError.DuplicateName
 beginning-known before named name is h =
     inr (rw is (Contains-append_right (limit_faults before) (name_faults name before.known) SchemaError.DuplicateName (name_faults-known name before.known h)))

@@ -28,9 +28,9 @@ pub data RawNode : Type 0 where
 abbrev pub Known : Type 0
 Known = List (Name × ℕ)
 
-abbrev pub place_of : Name → Known → Option ℕ
-place_of name [] = None
-place_of name (definition ∷ known) = if same_name name definition.0 then Some definition.1 else place_of name known
+abbrev pub id_of : Name → Known → Option ℕ
+id_of name [] = None
+id_of name (definition ∷ known) = if same_name name definition.0 then Some definition.1 else id_of name known
 
 -- what a part of a tree makes: what it is for the part around it, its nodes, the names that are known after it, and
 -- its faults
@@ -94,7 +94,7 @@ reference word enclosing known next = by_name (name_of word enclosing)
 
     by_name : Option Name → Made ℕ
     by_name None = faulty 0 SchemaError.InvalidName enclosing known next
-    by_name (Some name) = by_id (place_of name known)
+    by_name (Some name) = by_id (id_of name known)
 
 -- what a word names
 pub data Word : Type 0 where
@@ -150,7 +150,7 @@ defining name id known = known ++ (name, id) ∷ []
 
 -- no name is defined twice
 abbrev pub name_faults : Name → Known → List SchemaError
-name_faults name known = unless (not (is_some (place_of name known))) SchemaError.DuplicateName
+name_faults name known = unless (not (is_some (id_of name known))) SchemaError.DuplicateName
 
 -- the enclosing namespace of a record's fields is its own
 abbrev pub record_named : Members → Option (List (Meaning RawField)) → Known → ℕ → Name → Made ℕ

@@ -28,7 +28,7 @@ pub(crate) struct NameTable {
 
 impl NameTable {
     ghost use Rattle.std.specs.Prelude.{◌≡◌, ℕ, List, [], None, Some, IfOk, OnOk};
-    ghost use Rattle.avro_schema_json.specs.Declares.{place_of, defining};
+    ghost use Rattle.avro_schema_json.specs.Declares.{id_of, defining};
     ghost use Rattle.avro_schema_json.specs.inside.KnownNames.{number_of};
     ghost use Rattle.avro_schema_json.specs.inside.KnownSeen.{known_of, IsNumbered, KeepsNumbers};
 
@@ -85,7 +85,7 @@ impl NameTable {
 
     /// The id of the definition of a name.
     pub fn id(&self, alloc: Global, name: &FullName) -> Result<Option<u32>, AllocError>
-        ensures { IfOk result (λ id. id ≡ place_of name.now (known_of self.now)) }
+        ensures { IfOk result (λ id. id ≡ id_of name.now (known_of self.now)) }
     {
         match self.numbers.get(name.space()) {
             Some(number) => self.id_in(alloc, *number, name.simple()),
@@ -96,7 +96,7 @@ impl NameTable {
     /// The id of the definition of a simple name in the namespace of this number.
     pub fn id_in(&self, alloc: Global, number: u32, simple: &str) -> Result<Option<u32>, AllocError>
         ensures { IfOk result (λ id. (namespace : List ℕ) → number_of self.now.numbers namespace ≡ Some number
-            → id ≡ place_of (record { namespace = namespace; simple = simple.now }) (known_of self.now)) }
+            → id ≡ id_of (record { namespace = namespace; simple = simple.now }) (known_of self.now)) }
     {
         let text = String::from_str(alloc, simple)?;
         let key = (number, text);
@@ -111,7 +111,7 @@ impl NameTable {
         name: &FullName,
         id: u32,
     ) -> Result<(), AllocError>
-        requires { IsNumbered self.old space.now × (space.now.namespace ≡ name.now.namespace) × (place_of name.now (known_of self.old) ≡ None) }
+        requires { IsNumbered self.old space.now × (space.now.namespace ≡ name.now.namespace) × (id_of name.now (known_of self.old) ≡ None) }
         ensures added { OnOk result (known_of self.new ≡ defining name.now id (known_of self.old)) }
         ensures kept { KeepsNumbers self.old self.new }
     {

@@ -3,7 +3,7 @@ ghost use Rattle.avro_name.specs.Name.{name_of};
 ghost use Rattle.avro_schema.specs.Node.Node.{null as NullNode};
 ghost use Rattle.avro_schema_json.specs.DeclaredAttributes.{name_in};
 ghost use Rattle.avro_schema_json.specs.Declares.RawNode.{plain as plain_node};
-ghost use Rattle.avro_schema_json.specs.Declares.{reference, place_of};
+ghost use Rattle.avro_schema_json.specs.Declares.{reference, id_of};
 ghost use Rattle.avro_schema_json.specs.inside.Reading.{State, made_at, IsRead, IsRefusal, IsAdded, IsBegun, limit_faults, beginning_faults};
 ghost use Rattle.avro_schema_json.specs.inside.ReadingSeen.{state_of, IsEnclosed, Keeps};
 ghost use Rattle.avro_schema_json.specs.inside.SeenRaw.{raw_node_of};
@@ -105,7 +105,7 @@ impl<'a> Progress<'a> {
         name: &FullName,
     ) -> Result<Option<u32>, AllocError>
         requires { IsEnclosed self.now enclosing.now × (name_of word.now enclosing.now.namespace ≡ Some name.now) }
-        ensures { IfOk result (λ id. id ≡ place_of name.now (state_of self.now).known) }
+        ensures { IfOk result (λ id. id ≡ id_of name.now (state_of self.now).known) }
     {
         if has_dot(word) {
             return self.names.id(alloc, name);

@@ -1,7 +1,7 @@
 -- The nodes that the tree of a form declares: numbered in the order in which they begin, where some names are known.
 use Rattle.std.specs.Prelude.{ℕ, suc, ◌+◌, List, [], ◌∷◌, ◌++◌, None, unwrap_or, map}
 use Rattle.avro_schema.specs.Node.{Node, FieldNode}
-use Rattle.avro_schema_json.specs.Declares.{Known, place_of, defining, RawNode, RawField}
+use Rattle.avro_schema_json.specs.Declares.{Known, id_of, defining, RawNode, RawField}
 use Rattle.avro_canonical.specs.Form.{Form, Forms, FieldForms, no_forms, form, no_fields, field}
 use Rattle.avro_canonical.specs.CanonicalTree.{nodes_in}
 use Rattle.avro_canonical.specs.inside.WellMade.{node_of_word}
@@ -35,7 +35,7 @@ laid_id known next (Form.union fs) = next
 laid_id known next (Form.record_of name fs) = next
 laid_id known next (Form.enum name symbols) = next
 laid_id known next (Form.fixed name count) = next
-laid_id known next (Form.reference name) = unwrap_or (place_of name known) 0
+laid_id known next (Form.reference name) = unwrap_or (id_of name known) 0
 
 abbrev pub laid_ids : Known → ℕ → Forms → List ℕ
 laid_ids known next no_forms = []

@@ -14,7 +14,7 @@ use Rattle.std.proofs.lemmas.List.{length-map}
 use Rattle.avro_resolve.specs.Match.{is_match, first_match}
 use Rattle.avro_resolve.specs.Source.{source_of, reader_field, missing_field}
 use Rattle.avro_resolve.specs.Ends.{IsField, here, later}
-use Rattle.avro_resolve.proofs.public.Sources.{first_place-named, reader_field-source}
+use Rattle.avro_resolve.proofs.public.Sources.{first_index-named, reader_field-source}
 use Rattle.avro_certificate.specs.Closed.{Pair, is_among, is_dead_node, children_of, field_children, has_local_fault, has_fault_of_kind, lacks_symbol}
 use Rattle.avro_least.specs.Tables.{Least, LeastTable, ErringTable, AtMost, IsLowForData, AreLow, AreDataShown, ShowsData, around, together, lesser, precedes, best_of, all_of, least_datum, err_of, err_inside, err_of_field, err_of_fields, one}
 use Rattle.avro_certificate.proofs.public.Tests.{and_left, and_right, or_cases, or_from_left, or_from_right}
@@ -175,7 +175,7 @@ module _ (writer reader : List Node) (limit : ℕ) (table : LeastTable) (erring 
       of_source None e rest = rw e rest
       of_source (Some k) e rest =
           let reads = reader_field-source fields theirs k g (all g here) distinct e in
-          let named = first_place-named fields g (field_names g) k e in
+          let named = first_index-named fields g (field_names g) k e in
           rw e (and_from (is_quiet (record { w = unwrap_or (slice_get (field_ids fields) k) 0; r = g.node })) (list_all is_quiet (field_children fields gs))
           (subst (λ (r : ℕ). is_quiet (record { w = unwrap_or (slice_get (field_ids fields) k) 0; r = r }) ≡ true) reads.2 (each k reads.0 named.0 reads.1)) rest)
 

@@ -10,7 +10,7 @@ use Rattle.avro_schema.specs.Node.{FieldNode}
 use Rattle.avro_schema.specs.Distinct.{are_distinct}
 use Rattle.avro_schema.specs.WellFormed.{field_names}
 use Rattle.avro_resolve.specs.Ends.{IsField, here, later}
-use Rattle.avro_resolve.specs.Source.{field_index, or_else, first_index, source_of, is_place, reader_field}
+use Rattle.avro_resolve.specs.Source.{field_index, or_else, first_index, source_of, is_index, reader_field}
 
 -- the index is that of a field, whose name is one of the names
 abbrev pub IsNamed : List FieldNode → FieldNode → List (List ℕ) → ℕ → Type 0
@@ -30,10 +30,10 @@ named_either ws d name names k None rest is more e = named_later ws d name names
 named_either ws d name names k (Some j) rest is more e = named_here ws d name names k (is ∙ e)
 
 -- the first index among some names is that of a field with one of them
-pub first_place-named : (ws : List FieldNode) (d : FieldNode) (names : List (List ℕ)) (k : ℕ) → first_index ws names ≡ Some k → IsNamed ws d names k
-first_place-named ws d [] k e = absurd (cc)
-first_place-named ws d (name ∷ names) k e =
-    named_either ws d name names k (field_index ws name) (first_index ws names) refl (first_place-named ws d names k) e
+pub first_index-named : (ws : List FieldNode) (d : FieldNode) (names : List (List ℕ)) (k : ℕ) → first_index ws names ≡ Some k → IsNamed ws d names k
+first_index-named ws d [] k e = absurd (cc)
+first_index-named ws d (name ∷ names) k e =
+    named_either ws d name names k (field_index ws name) (first_index ws names) refl (first_index-named ws d names k) e
 
 -- of two lists together distinct the second is distinct
 pub are_distinct-back : (xs ys : List (List ℕ)) → are_distinct bytes_eq (xs ++ ys) ≡ true → are_distinct bytes_eq ys ≡ true
@@ -66,31 +66,31 @@ field_name-among n g fs (here {fs = gs}) h =
 field_name-among n g fs (later {g = f} {fs = gs} is) h =
     list_any-append (bytes_eq n) (field_names f) (flat_map field_names gs) ∙ or_right (list_any (bytes_eq n) (field_names f)) (list_any (bytes_eq n) (flat_map field_names gs)) (field_name-among n g gs is h)
 
-is_place-equal : (o : Option ℕ) (k : ℕ) → is_place o k ≡ true → o ≡ Some k
-is_place-equal None k h = absurd (both_ways false refl h)
-is_place-equal (Some j) k h = ap Some (eqb-true j k h)
+is_index-equal : (o : Option ℕ) (k : ℕ) → is_index o k ≡ true → o ≡ Some k
+is_index-equal None k h = absurd (both_ways false refl h)
+is_index-equal (Some j) k h = ap Some (eqb-true j k h)
 
-pub is_place-same : (o : Option ℕ) (k : ℕ) → o ≡ Some k → is_place o k ≡ true
-is_place-same None k e = absurd (cc)
-is_place-same (Some j) k e = eq-eqb j k (cc)
+pub is_index-same : (o : Option ℕ) (k : ℕ) → o ≡ Some k → is_index o k ≡ true
+is_index-same None k e = absurd (cc)
+is_index-same (Some j) k e = eq-eqb j k (cc)
 
 -- the reader's field with that source, found from any field that has it
 abbrev pub TakesSource : List FieldNode → List FieldNode → ℕ → FieldNode → Type 0
 TakesSource ws rs k g = (f : FieldNode) × (reader_field ws rs k ≡ Some f) × (f.node ≡ g.node)
 
 read_first : (ws fs : List FieldNode) (k : ℕ) (g : FieldNode) → source_of ws g ≡ Some k → TakesSource ws (g ∷ fs) k g
-read_first ws fs k g e = (g, cond-true (is_place (source_of ws g) k) (Some g) (reader_field ws fs k) (is_place-same (source_of ws g) k e), refl)
+read_first ws fs k g e = (g, cond-true (is_index (source_of ws g) k) (Some g) (reader_field ws fs k) (is_index-same (source_of ws g) k e), refl)
 
-read_later : (ws fs : List FieldNode) (k : ℕ) (f g : FieldNode) → (is_place (source_of ws f) k ≡ true → ⊥) → TakesSource ws fs k g → TakesSource ws (f ∷ fs) k g
+read_later : (ws fs : List FieldNode) (k : ℕ) (f g : FieldNode) → (is_index (source_of ws f) k ≡ true → ⊥) → TakesSource ws fs k g → TakesSource ws (f ∷ fs) k g
 read_later ws fs k f g other more =
-    (more.0, cond-false (is_place (source_of ws f) k) (Some f) (reader_field ws fs k) (false_from_ne_true (is_place (source_of ws f) k) other) ∙ more.1, more.2)
+    (more.0, cond-false (is_index (source_of ws f) k) (Some f) (reader_field ws fs k) (false_from_ne_true (is_index (source_of ws f) k) other) ∙ more.1, more.2)
 
 -- two fields that stand apart in a record have no source in common
 pub two_readers : (ws fs : List FieldNode) (k : ℕ) (f g : FieldNode) → IsField g fs → are_distinct bytes_eq (field_names f ++ flat_map field_names fs) ≡ true
-    → source_of ws g ≡ Some k → is_place (source_of ws f) k ≡ true → ⊥
+    → source_of ws g ≡ Some k → is_index (source_of ws f) k ≡ true → ⊥
 two_readers ws fs k f g is distinct e same =
-    let a = first_place-named ws f (field_names f) k (is_place-equal (source_of ws f) k same) in
-    let b = first_place-named ws f (field_names g) k e in
+    let a = first_index-named ws f (field_names f) k (is_index-equal (source_of ws f) k same) in
+    let b = first_index-named ws f (field_names g) k e in
     are_distinct-apart (get_or ws k f).name (field_names f) (flat_map field_names fs) distinct a.1
     (field_name-among (get_or ws k f).name g fs is b.1)
 

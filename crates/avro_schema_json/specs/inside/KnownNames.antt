@@ -6,7 +6,7 @@ use Rattle.std.specs.String.{string_cmp}
 use Rattle.std.specs.declared.cmp.Ordering.{Ordering}
 use Rattle.std.specs.Cmp.Lexicographic.{slice_cmp}
 use Rattle.std.specs.BTreeMap.{BTreeMap, get, btree_map_len}
-use Rattle.avro_schema_json.specs.Declares.{Known, place_of}
+use Rattle.avro_schema_json.specs.Declares.{Known, id_of}
 
 -- a number and a simple part
 abbrev pub Key : Type 0
@@ -25,6 +25,6 @@ pub record IsIndexOf (known : Known) (numbers : BTreeMap (List ℕ) ℕ) (ids : 
   pub bounded : (namespace : List ℕ) (number : ℕ) → number_of numbers namespace ≡ Some number → number < btree_map_len numbers
   pub alone : (one other : List ℕ) (number : ℕ) → number_of numbers one ≡ Some number → number_of numbers other ≡ Some number → one ≡ other
   pub found : (namespace : List ℕ) (number : ℕ) (simple : String Global) → number_of numbers namespace ≡ Some number
-      → get key_cmp ids (number, simple) ≡ place_of (record { namespace = namespace; simple = string_bytes simple }) known
-  pub unnumbered : (namespace simple : List ℕ) → number_of numbers namespace ≡ None → place_of (record { namespace = namespace; simple = simple }) known ≡ None
+      → get key_cmp ids (number, simple) ≡ id_of (record { namespace = namespace; simple = string_bytes simple }) known
+  pub unnumbered : (namespace simple : List ℕ) → number_of numbers namespace ≡ None → id_of (record { namespace = namespace; simple = simple }) known ≡ None
   pub unused : (number : ℕ) (simple : String Global) → btree_map_len numbers ≤ number → get key_cmp ids (number, simple) ≡ None

@@ -3,7 +3,7 @@ use Rattle.serde_json.specs.View.{members_view}
 use Rattle.avro_schema.specs.Node.{Node}
 use Rattle.avro_schema_json.specs.DeclaredAttributes.{name_in}
 use Rattle.std.specs.Prelude.{is_some}
-use Rattle.avro_schema_json.specs.Declares.{RawNode, defining, place_of}
+use Rattle.avro_schema_json.specs.Declares.{RawNode, defining, id_of}
 use Rattle.avro_schema_json.specs.inside.Reading.{State, IsAdded}
 use Rattle.avro_schema_json.specs.inside.ReadingSeen.{state_of}
 use Rattle.avro_schema_json.proofs.KnownFound.{found_in}
@@ -29,7 +29,7 @@ add-requires c =
     let absent = not_some _ (ap is_some (sym is) ∙ sym c.is_some.ensures ∙ c.if-is_some.false) in (
       c.reserve.ensures.kept space.namespace space.number c.in_ok-space.ensures.numbered,
       c.in_ok-space.ensures.namespace,
-      ap (place_of name) c.in_ok-id.ensures.added.known_are ∙ absent,
+      ap (id_of name) c.in_ok-id.ensures.added.known_are ∙ absent,
     )
 
 pub returns-in_err-add-clause-kept : goal.returns-in_err-add-clause-kept
@@ -49,7 +49,7 @@ returns-clause-begun c =
     let added = subst (λ (s : State). IsAdded s (state_of c.reserve.new.self) (RawNode.plain Node.null) c.in_ok-id.id.0) state c.in_ok-id.ensures.added in
     let is = found_in c.space_of.new.self.names c.in_ok-space.space name c.simple.result.now c.in_ok-known.known before.known
     c.in_ok-space.ensures.numbered c.in_ok-space.ensures.namespace c.simple.ensures.part same c.in_ok-known.ensures in
-    let absent = not_some (place_of name before.known) (ap is_some (sym is) ∙ sym c.is_some.ensures ∙ c.if-is_some.false) in
+    let absent = not_some (id_of name before.known) (ap is_some (sym is) ∙ sym c.is_some.ensures ∙ c.if-is_some.false) in
     record {
       name_is = ok-or_memory name _ c.in_ok-name.ensures;
       id_is = added.id_is;
