@@ -1,7 +1,9 @@
 use avro_binary::ReadError;
 use avro_resolve::Fault;
+use avro_schema::Memory;
 use avro_schema_json::SchemaError;
 use avro_zigzag::VarError;
+use std::alloc::AllocError;
 use thiserror::Error;
 
 /// Why a block's count or size is not a number of data or of bytes.
@@ -83,4 +85,26 @@ pub enum CopyError {
     /// The input ends in a block.
     #[error("C16 block {0}")]
     CutBlock(u64),
+}
+
+impl From<AllocError> for CopyError {
+    ghost use Rattle.std.specs.Prelude.{◌≡◌};
+    ghost use Rattle.avro_container.specs.declared.error.CopyError.TheVariants.{OutOfMemory};
+
+    ghost from_gives = { λ _ error. error ≡ OutOfMemory };
+
+    fn from(_error: AllocError) -> CopyError {
+        CopyError::OutOfMemory
+    }
+}
+
+impl From<Memory> for CopyError {
+    ghost use Rattle.std.specs.Prelude.{◌≡◌};
+    ghost use Rattle.avro_container.specs.declared.error.CopyError.TheVariants.{OutOfMemory};
+
+    ghost from_gives = { λ _ error. error ≡ OutOfMemory };
+
+    fn from(_error: Memory) -> CopyError {
+        CopyError::OutOfMemory
+    }
 }

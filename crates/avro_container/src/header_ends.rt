@@ -19,7 +19,7 @@ use crate::filling::{Reach, fill};
 use crate::part_error::PartError;
 
 /// The first bytes of a file.
-const MAGIC: [u8; 4] = [0x4f, 0x62, 0x6a, 1];
+pub(crate) const MAGIC: [u8; 4] = [0x4f, 0x62, 0x6a, 1];
 
 /// Whether some bytes are the magic.
 fn is_magic(bytes: &[u8]) -> bool
@@ -41,9 +41,7 @@ fn magic_error(error: PartError) -> CopyError
     match error {
         PartError::Device => CopyError::InputFailed,
         PartError::OutOfMemory => CopyError::OutOfMemory,
-        PartError::Ended => CopyError::NoMagic,
-        PartError::Limit => CopyError::NoMagic,
-        PartError::OutOfRange => CopyError::NoMagic,
+        PartError::Ended | PartError::Limit | PartError::OutOfRange => CopyError::NoMagic,
     }
 }
 

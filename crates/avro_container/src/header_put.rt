@@ -50,14 +50,9 @@ pub(crate) fn put_header<O: Output>(
     ensures first { result ≢ Err CopyError.FailedBefore }
     ensures named { IfErr result IsNamed }
 {
-    let metadata = match copied_metadata(alloc, header.metadata(), task) {
-        Ok(metadata) => metadata,
-        Err(_) => return Err(CopyError::OutOfMemory),
-    };
-    match Sink::start(alloc, output, &metadata, marker(task, header)) {
-        Ok(_) => Ok(()),
-        Err(error) => Err(error),
-    }
+    let metadata = copied_metadata(alloc, header.metadata(), task)?;
+    Sink::start(alloc, output, &metadata, marker(task, header))?;
+    Ok(())
 }
 
 /// The metadata, with the reader's text in place of the schema's where there is one.

@@ -4,7 +4,7 @@ ghost use Rattle.std.specs.Prelude.{◌≡◌, ℕ, cond, true, false, List, byt
 ghost use Rattle.std.specs.BTreeSet.{contains_text};
 ghost use Rattle.std.specs.Str.{is_utf8};
 
-use std::alloc::Global;
+use std::alloc::{AllocError, Global};
 use std::collections::BTreeSet;
 
 /// Why some bytes are no next name.
@@ -16,6 +16,16 @@ pub(crate) enum NameError {
     Twice,
     /// Memory ran out.
     OutOfMemory,
+}
+
+impl From<AllocError> for NameError {
+    ghost use Rattle.avro_container.specs.declared.names.NameError.TheVariants.{OutOfMemory};
+
+    ghost from_gives = { λ _ error. error ≡ OutOfMemory };
+
+    fn from(_error: AllocError) -> NameError {
+        NameError::OutOfMemory
+    }
 }
 
 /// The text that bytes are, if they are UTF-8.
@@ -48,21 +58,14 @@ pub(crate) fn add_name(
     ensures text { result ≡ Err NameError.Twice → is_utf8 content.now ≡ true }
     ensures twice { result ≡ Err NameError.Twice → contains_text names.old content.now ≡ true }
 {
-    let text = match text_of(content) {
-        Some(text) => text,
-        None => return Err(NameError::NoText),
+    let Some(text) = text_of(content) else {
+        return Err(NameError::NoText);
     };
     if names.contains(text) {
         return Err(NameError::Twice);
     }
-    let name = match String::from_str(alloc, text) {
-        Ok(name) => name,
-        Err(_) => return Err(NameError::OutOfMemory),
-    };
-    let kept = match String::from_str(alloc, text) {
-        Ok(kept) => kept,
-        Err(_) => return Err(NameError::OutOfMemory),
-    };
+    let name = String::from_str(alloc, text)?;
+    let kept = String::from_str(alloc, text)?;
     match names.insert(kept) {
         Ok(_) => Ok(name),
         Err(_) => Err(NameError::OutOfMemory),

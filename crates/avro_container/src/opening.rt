@@ -94,12 +94,7 @@ fn put_opened<'a, O: Output>(
     ensures first { result ≢ Err CopyError.FailedBefore }
     ensures named { IfErr result IsNamed }
 {
-    let opened = match Opened::new(alloc, header, task.reader) {
-        Ok(opened) => opened,
-        Err(_) => return Err(CopyError::OutOfMemory),
-    };
-    match put_header(alloc, output, task, opened.header()) {
-        Ok(()) => Ok(opened),
-        Err(error) => Err(error),
-    }
+    let opened = Opened::new(alloc, header, task.reader)?;
+    put_header(alloc, output, task, opened.header())?;
+    Ok(opened)
 }

@@ -33,10 +33,7 @@ fn keep(pieces: Pieces, most: usize, number: u64, packed: &mut Vec<u8>) -> Resul
     ensures fault { IfErr result (λ e. (f : FileFault) → file_fault e ≡ Some f → Some (in_block number limit_passed) ≡ Some f) }
     ensures memory { IfErr result (λ e. file_fault e ≡ None → e ≡ CopyError.OutOfMemory) }
 {
-    match append(&pieces, packed) {
-        Ok(()) => {}
-        Err(_) => return Err(CopyError::OutOfMemory),
-    }
+    append(&pieces, packed)?;
     if packed.len() > most {
         return Err(CopyError::LimitExceeded(LimitPlace::Block(number)));
     }

@@ -12,12 +12,10 @@ ghost use Rattle.avro_container.specs.Parts.{block_part, header_part, properties
 
 use crate::device::Output;
 use crate::error::CopyError;
+use crate::header_ends::MAGIC;
 use crate::putting::put_all;
 use avro_zigzag::write_long;
 use std::alloc::{AllocError, Global};
-
-/// The first bytes of a file.
-const MAGIC: [u8; 4] = [0x4f, 0x62, 0x6a, 1];
 
 /// A file that is put: behind its header, block by block (Avro 1.11, "Object Container Files").
 #[derive(Drop)]
@@ -51,10 +49,7 @@ impl Sink {
         ensures named { IfErr result IsNamed }
     {
         let mut room = Vec::new(alloc);
-        match append_header(metadata, &sync, &mut room) {
-            Ok(()) => {}
-            Err(_) => return Err(CopyError::OutOfMemory),
-        }
+        append_header(metadata, &sync, &mut room)?;
         match put_all(output, &room) {
             Ok(()) => Ok(Sink {
                 sync,
@@ -119,10 +114,7 @@ pub(crate) fn put_block<O: Output>(
     ensures named { IfErr result IsNamed }
 {
     room.clear();
-    match append_block(sync, count, body, room) {
-        Ok(()) => {}
-        Err(_) => return Err(CopyError::OutOfMemory),
-    }
+    append_block(sync, count, body, room)?;
     match put_all(output, room) {
         Ok(()) => Ok(()),
         Err(_) => Err(CopyError::OutputFailed),

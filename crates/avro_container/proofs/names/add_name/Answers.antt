@@ -4,9 +4,9 @@ use Rattle.std.specs.BTreeSet.{contains_text}
 use Rattle.std.proofs.lemmas.Map.Text.{btree_set_updates_text}
 use Rattle.avro_container.proofs.names.add_name.Goals as goal
 
-pub returns-in-Ok-insert-clause-added : goal.returns-in-Ok-insert-clause-added
-returns-in-Ok-insert-clause-added c = λ word.
-    let key = string_bytes c.in-Ok-from_str.kept in
-    let same : key ≡ c.args.content.now = c.in-Ok-from_str.ensures.ok ∙ c.in-Some.ensures.some in
-    btree_set_updates_text key c.args.names.now c.insert.new.self true c.in-Ok-insert.ensures.updates word
+pub returns-in-Ok-clause-added : goal.returns-in-Ok-clause-added
+returns-in-Ok-clause-added c = λ word.
+    let key = string_bytes c.in_ok-kept.kept in
+    let same : key ≡ c.args.content.now = c.in_ok-kept.ensures.ok ∙ c.in-Some.ensures.some in
+    btree_set_updates_text key c.args.names.now c.insert.new.self true c.in-Ok.ensures.updates word
     ∙ ap (λ (b : List ℕ). cond (bytes_eq b word) true (contains_text c.args.names.now word)) same
