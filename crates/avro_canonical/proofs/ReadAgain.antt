@@ -10,7 +10,7 @@ use Rattle.avro_schema.specs.WellFormed.{is_schema, max_nodes}
 use Rattle.serde_json.specs.Data.{Data}
 use Rattle.serde_json.specs.Written.{has_float, items_have_float}
 use Rattle.avro_schema_json.specs.Declares.{Known, Made, made_of, defining}
-use Rattle.avro_schema_json.specs.DeclaredSchema.{declared, DeclaresSchema, whole_field, whole_node, whole_nodes, is_default_read, are_defaults_read, are_all_defaults_read, bare_nodes}
+use Rattle.avro_schema_json.specs.DeclaredSchema.{declared, DeclaresSchema, completed_field, completed_node, completed_nodes, is_default_read, are_defaults_read, are_all_defaults_read, bare_nodes}
 use Rattle.avro_canonical.specs.Form.{Form, Forms, FieldForms, no_forms, form, no_fields, field, form_text}
 use Rattle.avro_canonical.specs.Canonical.{IsForm, IsCanonical, primitive_word}
 use Rattle.avro_canonical.specs.CanonicalTree.{text_items, form_tree, form_trees, field_trees, nodes_in, keeps_names}
@@ -51,11 +51,11 @@ mutual
   field_floats (field name f fs) = rw (whole_floats f) (field_floats fs)
 
 -- the nodes that are laid have no defaults
-word_whole : (bare : List Node) (n : Node) (word : List ℕ) → primitive_word n ≡ Some word → (whole_node bare (raw_node n) ≡ n) × (are_defaults_read bare (raw_node n) ≡ true)
+word_whole : (bare : List Node) (n : Node) (word : List ℕ) → primitive_word n ≡ Some word → (completed_node bare (raw_node n) ≡ n) × (are_defaults_read bare (raw_node n) ≡ true)
 word_whole bare =
-    by_word (λ n word. (whole_node bare (raw_node n) ≡ n) × (are_defaults_read bare (raw_node n) ≡ true)) (refl, refl) (refl, refl) (refl, refl) (refl, refl) (refl, refl) (refl, refl)
+    by_word (λ n word. (completed_node bare (raw_node n) ≡ n) × (are_defaults_read bare (raw_node n) ≡ true)) (refl, refl) (refl, refl) (refl, refl) (refl, refl) (refl, refl) (refl, refl)
 
-fields_whole : (bare : List Node) (known : Known) (next : ℕ) (fs : FieldForms) → map (whole_field bare) (map raw_field (laid_fields known next fs)) ≡ laid_fields known next fs
+fields_whole : (bare : List Node) (known : Known) (next : ℕ) (fs : FieldForms) → map (completed_field bare) (map raw_field (laid_fields known next fs)) ≡ laid_fields known next fs
 fields_whole bare known next no_fields = refl
 fields_whole bare known next (field name f fs) =
     ap (λ xs. record { name = name; aliases = []; node = laid_id known next f; default = None } ∷ xs) (fields_whole bare (known_after known next f) (next + nodes_in f) fs)
@@ -66,16 +66,16 @@ fields_read_whole bare known next (field name f fs) = fields_read_whole bare (kn
 
 -- nodes that are what is read of them
 abbrev AreWhole : List Node → List Node → Type 0
-AreWhole bare nodes = (map (whole_node bare) (raw_nodes nodes) ≡ nodes) × (list_all (are_defaults_read bare) (raw_nodes nodes) ≡ true)
+AreWhole bare nodes = (map (completed_node bare) (raw_nodes nodes) ≡ nodes) × (list_all (are_defaults_read bare) (raw_nodes nodes) ≡ true)
 
-whole_then : (bare : List Node) (n : Node) (nodes : List Node) → whole_node bare (raw_node n) ≡ n → are_defaults_read bare (raw_node n) ≡ true → AreWhole bare nodes → AreWhole bare (n ∷ nodes)
+whole_then : (bare : List Node) (n : Node) (nodes : List Node) → completed_node bare (raw_node n) ≡ n → are_defaults_read bare (raw_node n) ≡ true → AreWhole bare nodes → AreWhole bare (n ∷ nodes)
 whole_then bare n nodes one read rest =
-    (ap (λ m. m ∷ map (whole_node bare) (raw_nodes nodes)) one ∙ ap (λ ms. n ∷ ms) rest.0, and_from _ _ read rest.1)
+    (ap (λ m. m ∷ map (completed_node bare) (raw_nodes nodes)) one ∙ ap (λ ms. n ∷ ms) rest.0, and_from _ _ read rest.1)
 
 whole_append : (bare xs ys : List Node) → AreWhole bare xs → AreWhole bare ys → AreWhole bare (xs ++ ys)
 whole_append bare xs ys first later = (
-  ap (map (whole_node bare)) (map-append raw_node xs ys) ∙ map-append (whole_node bare) (raw_nodes xs) (raw_nodes ys)
-      ∙ ap (λ ms. ms ++ map (whole_node bare) (raw_nodes ys)) first.0 ∙ ap (λ ms. xs ++ ms) later.0,
+  ap (map (completed_node bare)) (map-append raw_node xs ys) ∙ map-append (completed_node bare) (raw_nodes xs) (raw_nodes ys)
+      ∙ ap (λ ms. ms ++ map (completed_node bare) (raw_nodes ys)) first.0 ∙ ap (λ ms. xs ++ ms) later.0,
   ap (list_all (are_defaults_read bare)) (map-append raw_node xs ys) ∙ list_all-append (are_defaults_read bare) (raw_nodes xs) (raw_nodes ys) ∙ and_from _ _ first.1 later.1,
 )
 
@@ -137,7 +137,7 @@ laid_schema f good few =
     (good_laid nodes f [] [] 0 [] good (λ name. refl) (λ name p e. absurd (none_apart e)) (sym (append-nil nodes))))
     (laid_distinct f [] 0 good)
 
-declared_as : (tree : Data) (it : Made ℕ) (nodes : List Node) → has_float tree ≡ false → made_of tree ≡ it → it.faults ≡ [] → whole_nodes it.nodes ≡ nodes → is_schema nodes ≡ true
+declared_as : (tree : Data) (it : Made ℕ) (nodes : List Node) → has_float tree ≡ false → made_of tree ≡ it → it.faults ≡ [] → completed_nodes it.nodes ≡ nodes → is_schema nodes ≡ true
     → are_all_defaults_read it.nodes ≡ true → declared tree ≡ Some nodes
 declared_as tree it nodes numbers makes clean whole formed defaults = rw (numbers, makes, clean, whole, formed, defaults) refl
 

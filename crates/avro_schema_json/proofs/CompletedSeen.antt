@@ -11,15 +11,15 @@ use Rattle.avro_schema_json.specs.declared.error.SchemaError.{SchemaError}
 use Rattle.avro_schema_json.specs.Declares.{RawField, RawNode}
 use Rattle.avro_schema_json.specs.DeclaredAttributes.{unless}
 use Rattle.avro_schema_json.specs.DeclaredFaults.{refusals_of_nodes, or_else}
-use Rattle.avro_schema_json.specs.DeclaredSchema.{field_default, whole_field, whole_node}
+use Rattle.avro_schema_json.specs.DeclaredSchema.{field_default, completed_field, completed_node}
 use Rattle.avro_schema_json.specs.Refusals.{refusal_of_fault}
 use Rattle.avro_schema_json.specs.inside.SeenDefaults.{defaults_of_node, filled_fields, filled_nodes}
 
-filled-fields : (nodes : List Node) (fields : List RawField) → filled_fields fields (map (field_default nodes) fields) ≡ map (whole_field nodes) fields
+filled-fields : (nodes : List Node) (fields : List RawField) → filled_fields fields (map (field_default nodes) fields) ≡ map (completed_field nodes) fields
 filled-fields nodes [] = refl
-filled-fields nodes (f ∷ fields) = ap (λ rest. whole_field nodes f ∷ rest) (filled-fields nodes fields)
+filled-fields nodes (f ∷ fields) = ap (λ rest. completed_field nodes f ∷ rest) (filled-fields nodes fields)
 
-pub filled-completed : (nodes : List Node) (raws : List RawNode) → filled_nodes raws (map (defaults_of_node nodes) raws) ≡ map (whole_node nodes) raws
+pub filled-completed : (nodes : List Node) (raws : List RawNode) → filled_nodes raws (map (defaults_of_node nodes) raws) ≡ map (completed_node nodes) raws
 filled-completed nodes [] = refl
 filled-completed nodes (RawNode.plain n ∷ raws) = ap (λ rest. n ∷ rest) (filled-completed nodes raws)
 filled-completed nodes (RawNode.record_of name aliases fields ∷ raws) = rw (filled-fields nodes fields, filled-completed nodes raws) refl

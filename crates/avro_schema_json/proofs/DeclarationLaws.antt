@@ -15,7 +15,7 @@ use Rattle.avro_schema_json.specs.declared.error.SchemaError.{SchemaError}
 use Rattle.avro_schema_json.specs.DeclaredAttributes.{unless}
 use Rattle.avro_schema_json.specs.Declares.{made_of, meaning_of, meaning_under, fields_from, fields_under}
 use Rattle.avro_schema_json.specs.DeclaredDefaults.{default_of, default_under}
-use Rattle.avro_schema_json.specs.DeclaredSchema.{declared, whole_nodes, are_all_defaults_read, is_empty, DeclaresSchema}
+use Rattle.avro_schema_json.specs.DeclaredSchema.{declared, completed_nodes, are_all_defaults_read, is_empty, DeclaresSchema}
 use Rattle.avro_schema_json.specs.DeclaredFaults.{faults_of, refusals_of_nodes, or_else, HasFault}
 use Rattle.avro_schema_json.specs.Refusals.{refusal_of_fault}
 
@@ -80,8 +80,8 @@ pub is_schema-from_declared : (tree : Data) (nodes : List Node) → DeclaresSche
 is_schema-from_declared tree nodes h =
     let raws = (made_of tree).nodes in
     let start = not (has_float tree) && is_empty (made_of tree).faults in
-    let schema = is_schema (whole_nodes raws) in
-    let found = only_where (start && schema && are_all_defaults_read raws) (whole_nodes raws) nodes h in
+    let schema = is_schema (completed_nodes raws) in
+    let found = only_where (start && schema && are_all_defaults_read raws) (completed_nodes raws) nodes h in
     let all = and_parts (start && schema) (are_all_defaults_read raws) found.0 in
     subst (λ ns. is_schema ns ≡ true) found.1 (and_parts start schema all.0).1
 
@@ -109,17 +109,17 @@ stages-faulty false true true [] ys e es clean h = absurd (nil-is-no_cons ys e e
     nil-is-no_cons (y ∷ ys) e es g h = cc
 
 -- a tree without a fault declares a schema, and one with a fault none
-pub declared-from_no_faults : (tree : Data) → faults_of tree ≡ [] → DeclaresSchema tree (whole_nodes (made_of tree).nodes)
+pub declared-from_no_faults : (tree : Data) → faults_of tree ≡ [] → DeclaresSchema tree (completed_nodes (made_of tree).nodes)
 declared-from_no_faults tree h =
     let raws = (made_of tree).nodes in
-    rw (stages-clean (has_float tree) (is_schema (whole_nodes raws)) (are_all_defaults_read raws) (made_of tree).faults
-    (refusals_of_nodes (whole_nodes raws)) (is_schema-from_no_refusals (whole_nodes raws)) h) refl
+    rw (stages-clean (has_float tree) (is_schema (completed_nodes raws)) (are_all_defaults_read raws) (made_of tree).faults
+    (refusals_of_nodes (completed_nodes raws)) (is_schema-from_no_refusals (completed_nodes raws)) h) refl
 
 pub none_declared-from_faults : (tree : Data) (e : SchemaError) (es : List SchemaError) → faults_of tree ≡ e ∷ es → declared tree ≡ None
 none_declared-from_faults tree e es h =
     let raws = (made_of tree).nodes in
-    rw (stages-faulty (has_float tree) (is_schema (whole_nodes raws)) (are_all_defaults_read raws) (made_of tree).faults
-    (refusals_of_nodes (whole_nodes raws)) e es (no_refusals-from_is_schema (whole_nodes raws)) h) refl
+    rw (stages-faulty (has_float tree) (is_schema (completed_nodes raws)) (are_all_defaults_read raws) (made_of tree).faults
+    (refusals_of_nodes (completed_nodes raws)) e es (no_refusals-from_is_schema (completed_nodes raws)) h) refl
 
 no_element : {A : Type 0} (x : A) → Contains [] x → ⊥
 no_element x c = omega (arith, c.1)
@@ -163,13 +163,13 @@ fault-from_declarations tree fault whole c =
 
 -- a fault of nodes
 pub fault-from_nodes : (tree : Data) (fault : SchemaError) → has_float tree ≡ false → (made_of tree).faults ≡ []
-    → Contains (refusals_of_nodes (whole_nodes (made_of tree).nodes)) fault → HasFault tree fault
+    → Contains (refusals_of_nodes (completed_nodes (made_of tree).nodes)) fault → HasFault tree fault
 fault-from_nodes tree fault whole clean c =
-    rw (whole, clean) (or_else-first (refusals_of_nodes (whole_nodes (made_of tree).nodes)) _ fault c)
+    rw (whole, clean) (or_else-first (refusals_of_nodes (completed_nodes (made_of tree).nodes)) _ fault c)
 
 -- a default that is no datum
 pub fault-from_defaults : (tree : Data) → has_float tree ≡ false → (made_of tree).faults ≡ []
-    → is_schema (whole_nodes (made_of tree).nodes) ≡ true → are_all_defaults_read (made_of tree).nodes ≡ false
+    → is_schema (completed_nodes (made_of tree).nodes) ≡ true → are_all_defaults_read (made_of tree).nodes ≡ false
     → HasFault tree SchemaError.InvalidDefault
 fault-from_defaults tree whole clean formed unread =
-    rw (whole, clean, no_refusals-from_is_schema (whole_nodes (made_of tree).nodes) formed, unread) (0, omega arith, refl)
+    rw (whole, clean, no_refusals-from_is_schema (completed_nodes (made_of tree).nodes) formed, unread) (0, omega arith, refl)

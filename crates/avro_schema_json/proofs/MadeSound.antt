@@ -16,7 +16,7 @@ use Rattle.avro_schema_json.specs.declared.error.SchemaError.{SchemaError}
 use Rattle.avro_schema_json.specs.DeclaredAttributes.{unless, needed, text_in, as_texts, namespace_from, name_from, name_in, alias_texts_from, alias_texts_in, aliases_in, symbol_index, default_symbol_from, symbols_in, size_in}
 use Rattle.serde_json.specs.Written.{has_float}
 use Rattle.avro_schema_json.specs.DeclaredFaults.{faults_of, refusals_of_nodes, or_else, HasFault}
-use Rattle.avro_schema_json.specs.DeclaredSchema.{whole_nodes, are_all_defaults_read}
+use Rattle.avro_schema_json.specs.DeclaredSchema.{completed_nodes, are_all_defaults_read}
 use Rattle.avro_schema_json.specs.Refusals.{refusal_of_fault}
 use Rattle.avro_schema_json.specs.Declares.{RawField, RawNode, Known, Made, Meaning, faulty, joined, in_turn, above, alone, use_of, id_of, reference, Word, null_word, boolean_word, int_word, long_word, bytes_word, string_word, unsupported_word, type_name, word_of, type_of_word, union_of, container_of, defining, name_faults, record_named, enum_named, fixed_named, definition_of, Form, record_form, enum_form, fixed_form, array_form, map_form, error_form, word_form, no_form, form_of, type_of_form, field_of, no_field, meaning_of, branches_of, meaning_under, fields_under, fields_from, field_meanings, field_meaning, made_of}
 
@@ -366,11 +366,11 @@ all-of_tree : (tree : Data) → are_of_tree (faults_of tree) ≡ true
 all-of_tree tree =
     let raws = (made_of tree).nodes in
     let unread = unless (are_all_defaults_read raws) SchemaError.InvalidDefault in
-    let refused = refusals_of_nodes (whole_nodes raws) in
+    let refused = refusals_of_nodes (completed_nodes raws) in
     or_else-of_tree (unless (not (has_float tree)) SchemaError.UnsupportedNumber) (or_else (made_of tree).faults (or_else refused unread))
     (unless-of_tree (not (has_float tree)) SchemaError.UnsupportedNumber refl)
     (or_else-of_tree (made_of tree).faults (or_else refused unread) ((meaning-sound tree).at [] [] 0).clean
-    (or_else-of_tree refused unread (refusals-of_tree (faults_of_nodes (whole_nodes raws)))
+    (or_else-of_tree refused unread (refusals-of_tree (faults_of_nodes (completed_nodes raws)))
     (unless-of_tree (are_all_defaults_read raws) SchemaError.InvalidDefault refl)))
 
 of_tree-other : (e : SchemaError) → is_of_tree e ≡ true → (e ≡ SchemaError.NotJson → ⊥) × (e ≡ SchemaError.OutOfMemory → ⊥)

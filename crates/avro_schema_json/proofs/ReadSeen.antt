@@ -9,21 +9,21 @@ use Rattle.avro_schema_json.specs.declared.error.SchemaError.{SchemaError}
 use Rattle.avro_schema_json.specs.Declares.{RawNode, made_of}
 use Rattle.avro_schema_json.specs.DeclaredAttributes.{unless}
 use Rattle.avro_schema_json.specs.DeclaredFaults.{refusals_of_nodes, or_else, HasFault}
-use Rattle.avro_schema_json.specs.DeclaredSchema.{whole_nodes, are_all_defaults_read, DeclaresSchema}
+use Rattle.avro_schema_json.specs.DeclaredSchema.{completed_nodes, are_all_defaults_read, DeclaresSchema}
 
 -- the nodes of a tree without a fault are what it declares
 pub declared-found : (tree : Data) (raws : List RawNode) (nodes : List Node) → false ≡ has_float tree → (made_of tree).faults ≡ [] → raws ≡ (made_of tree).nodes
-    → is_schema (whole_nodes raws) ≡ true → are_all_defaults_read raws ≡ true → nodes ≡ whole_nodes raws → DeclaresSchema tree nodes
+    → is_schema (completed_nodes raws) ≡ true → are_all_defaults_read raws ≡ true → nodes ≡ completed_nodes raws → DeclaresSchema tree nodes
 declared-found tree raws nodes whole clean same formed good is =
     let float : has_float tree ≡ false = sym whole in
     let formed_there = rw same at formed in
     let good_there = rw same at good in
-    let nodes_there : nodes ≡ whole_nodes (made_of tree).nodes = is ∙ ap whole_nodes same in
+    let nodes_there : nodes ≡ completed_nodes (made_of tree).nodes = is ∙ ap completed_nodes same in
     rw (float, clean, formed_there, good_there, nodes_there) refl
 
 -- a fault of the nodes, or of the defaults, is one of the tree
 pub fault-found : (tree : Data) (raws : List RawNode) (e : SchemaError) → false ≡ has_float tree → (made_of tree).faults ≡ [] → raws ≡ (made_of tree).nodes
-    → Contains (or_else (refusals_of_nodes (whole_nodes raws)) (unless (are_all_defaults_read raws) SchemaError.InvalidDefault)) e → HasFault tree e
+    → Contains (or_else (refusals_of_nodes (completed_nodes raws)) (unless (are_all_defaults_read raws) SchemaError.InvalidDefault)) e → HasFault tree e
 fault-found tree raws e whole clean same c =
     let float : has_float tree ≡ false = sym whole in
     let there = rw same at c in

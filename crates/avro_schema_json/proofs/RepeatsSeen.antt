@@ -17,7 +17,7 @@ use Rattle.avro_schema.specs.SeenKind.{kind_at, has_kind}
 use Rattle.avro_schema.specs.WellFormed.{is_edge, is_union, BranchKind, unnamed, named, branch_kind, same_kind}
 use Rattle.avro_schema.proofs.public.NodeFaults.{broken-there}
 use Rattle.avro_schema_json.specs.Declares.{RawNode}
-use Rattle.avro_schema_json.specs.DeclaredSchema.{bare_node, whole_node}
+use Rattle.avro_schema_json.specs.DeclaredSchema.{bare_node, completed_node}
 use Rattle.avro_schema_json.specs.inside.OwnDefaults.{bare_of, bares_of}
 use Rattle.avro_schema_json.specs.declared.raw.RawNode.{RawNode as KeptNode}
 use Rattle.avro_schema_json.specs.inside.Repeats.{kind_code, code_by, Repeats, SomeRepeats}
@@ -98,34 +98,34 @@ module _ (nodes : List Node) where
 
 -- ---- from the nodes without their defaults to those with them
 
-completed_kind : (nodes : List Node) (raws : List RawNode) (m : ℕ) → branch_kind (node_at (map (whole_node nodes) raws) m) ≡ branch_kind (node_at (map bare_node raws) m)
+completed_kind : (nodes : List Node) (raws : List RawNode) (m : ℕ) → branch_kind (node_at (map (completed_node nodes) raws) m) ≡ branch_kind (node_at (map bare_node raws) m)
 completed_kind nodes [] m = refl
 completed_kind nodes (RawNode.plain n ∷ raws) zero = refl
 completed_kind nodes (RawNode.record_of name aliases fields ∷ raws) zero = refl
 completed_kind nodes (RawNode.plain n ∷ raws) (suc m) = completed_kind nodes raws m
 completed_kind nodes (RawNode.record_of name aliases fields ∷ raws) (suc m) = completed_kind nodes raws m
 
-completed_branches : (nodes : List Node) (raws : List RawNode) (m : ℕ) → branches_of (node_at (map (whole_node nodes) raws) m) ≡ branches_of (node_at (map bare_node raws) m)
+completed_branches : (nodes : List Node) (raws : List RawNode) (m : ℕ) → branches_of (node_at (map (completed_node nodes) raws) m) ≡ branches_of (node_at (map bare_node raws) m)
 completed_branches nodes [] m = refl
 completed_branches nodes (RawNode.plain n ∷ raws) zero = refl
 completed_branches nodes (RawNode.record_of name aliases fields ∷ raws) zero = refl
 completed_branches nodes (RawNode.plain n ∷ raws) (suc m) = completed_branches nodes raws m
 completed_branches nodes (RawNode.record_of name aliases fields ∷ raws) (suc m) = completed_branches nodes raws m
 
-completed_name : (nodes : List Node) (raws : List RawNode) (m : ℕ) → node_name (node_at (map (whole_node nodes) raws) m) ≡ node_name (node_at (map bare_node raws) m)
+completed_name : (nodes : List Node) (raws : List RawNode) (m : ℕ) → node_name (node_at (map (completed_node nodes) raws) m) ≡ node_name (node_at (map bare_node raws) m)
 completed_name nodes [] m = refl
 completed_name nodes (RawNode.plain n ∷ raws) zero = refl
 completed_name nodes (RawNode.record_of name aliases fields ∷ raws) zero = refl
 completed_name nodes (RawNode.plain n ∷ raws) (suc m) = completed_name nodes raws m
 completed_name nodes (RawNode.record_of name aliases fields ∷ raws) (suc m) = completed_name nodes raws m
 
-completed_edge : (nodes : List Node) (raws : List RawNode) (m p : ℕ) → is_edge (map (whole_node nodes) raws) m p ≡ is_edge (map bare_node raws) m p
+completed_edge : (nodes : List Node) (raws : List RawNode) (m p : ℕ) → is_edge (map (completed_node nodes) raws) m p ≡ is_edge (map bare_node raws) m p
 completed_edge nodes raws m p =
-    let count : length (map (whole_node nodes) raws) ≡ length (map bare_node raws) = simp length-map in
+    let count : length (map (completed_node nodes) raws) ≡ length (map bare_node raws) = simp length-map in
     rw (count, completed_name nodes raws p) refl
 
 completed_edges : (nodes : List Node) (raws : List RawNode) (m : ℕ) (ids : List ℕ)
-    → list_all (is_edge (map (whole_node nodes) raws) m) ids ≡ list_all (is_edge (map bare_node raws) m) ids
+    → list_all (is_edge (map (completed_node nodes) raws) m) ids ≡ list_all (is_edge (map bare_node raws) m) ids
 completed_edges nodes raws m [] = refl
 completed_edges nodes raws m (p ∷ ids) = rw (completed_edge nodes raws m p, completed_edges nodes raws m ids) refl
 
@@ -136,10 +136,10 @@ no_union nodes id (Node.union found) ids is edges h =
     rw (same, edges, h) refl
 no_union nodes id _ ids is edges h = absurd cc
 
-pub repeated-there : (nodes : List Node) (raws : List RawNode) → SomeRepeats (map bare_node raws) → IsThere invalid_union (map (whole_node nodes) raws)
+pub repeated-there : (nodes : List Node) (raws : List RawNode) → SomeRepeats (map bare_node raws) → IsThere invalid_union (map (completed_node nodes) raws)
 repeated-there nodes raws some =
     let r = some.5 in
-    let completed = map (whole_node nodes) raws in
+    let completed = map (completed_node nodes) raws in
     let code : (p : ℕ) → code_by completed p ≡ code_by (map bare_node raws) p = λ p. ap (kind_code p) (completed_kind nodes raws p) in
     let count : length completed ≡ length (map bare_node raws) = simp length-map in
     let broken = repeated_branch completed some.1 (r.0, r.1, r.2, r.3, r.4, r.5, r.6, code r.2 ∙ r.7 ∙ sym (code r.3)) in

@@ -7,7 +7,7 @@ use Rattle.serde_json.specs.Written.{has_float}
 use Rattle.avro_schema_json.specs.declared.error.SchemaError.{SchemaError}
 use Rattle.avro_schema_json.specs.DeclaredAttributes.{unless}
 use Rattle.avro_schema_json.specs.Declares.{made_of}
-use Rattle.avro_schema_json.specs.DeclaredSchema.{whole_nodes, are_all_defaults_read}
+use Rattle.avro_schema_json.specs.DeclaredSchema.{completed_nodes, are_all_defaults_read}
 use Rattle.avro_schema_json.specs.Refusals.{refusal_of_fault}
 
 -- what keeps nodes from being a schema
@@ -25,7 +25,7 @@ abbrev pub faults_of : Data → List SchemaError
 faults_of tree =
     or_else (unless (not (has_float tree)) SchemaError.UnsupportedNumber)
     (or_else (made_of tree).faults
-    (or_else (refusals_of_nodes (whole_nodes (made_of tree).nodes))
+    (or_else (refusals_of_nodes (completed_nodes (made_of tree).nodes))
     (unless (are_all_defaults_read (made_of tree).nodes) SchemaError.InvalidDefault)))
 
 -- A fault is there. Each comes from one of these places:

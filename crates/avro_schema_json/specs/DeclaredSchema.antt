@@ -25,15 +25,15 @@ abbrev pub field_default : List Node → RawField → Option Value
 field_default nodes f = option_and_then (λ d. default_of nodes d (node_at nodes f.node)) f.default
 
 -- a node with its defaults; one that is no datum is left out
-abbrev pub whole_field : List Node → RawField → FieldNode
-whole_field nodes f = record { name = f.name; aliases = f.aliases; node = f.node; default = field_default nodes f }
+abbrev pub completed_field : List Node → RawField → FieldNode
+completed_field nodes f = record { name = f.name; aliases = f.aliases; node = f.node; default = field_default nodes f }
 
-abbrev pub whole_node : List Node → RawNode → Node
-whole_node nodes (RawNode.plain n) = n
-whole_node nodes (RawNode.record_of name aliases fields) = Node.record_of name aliases (map (whole_field nodes) fields)
+abbrev pub completed_node : List Node → RawNode → Node
+completed_node nodes (RawNode.plain n) = n
+completed_node nodes (RawNode.record_of name aliases fields) = Node.record_of name aliases (map (completed_field nodes) fields)
 
-abbrev pub whole_nodes : List RawNode → List Node
-whole_nodes raws = map (whole_node (bare_nodes raws)) raws
+abbrev pub completed_nodes : List RawNode → List Node
+completed_nodes raws = map (completed_node (bare_nodes raws)) raws
 
 -- a field has no default, or one that is a datum
 abbrev pub is_default_read : List Node → RawField → Bool
@@ -54,9 +54,9 @@ is_empty (x ∷ xs) = false
 -- each default is a datum.
 abbrev pub declared : Data → Option (List Node)
 declared tree =
-    if not (has_float tree) && is_empty (made_of tree).faults && is_schema (whole_nodes (made_of tree).nodes)
+    if not (has_float tree) && is_empty (made_of tree).faults && is_schema (completed_nodes (made_of tree).nodes)
     && are_all_defaults_read (made_of tree).nodes
-    then Some (whole_nodes (made_of tree).nodes) else None
+    then Some (completed_nodes (made_of tree).nodes) else None
 
 abbrev pub DeclaresSchema : Data → List Node → Type 0
 DeclaresSchema tree nodes = declared tree ≡ Some nodes

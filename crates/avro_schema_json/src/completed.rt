@@ -9,7 +9,7 @@ ghost use Rattle.avro_schema.specs.WellFormed.{is_schema};
 ghost use Rattle.avro_schema.specs.declared.fault.DraftError.TheVariants.{LimitExceeded as DraftLimit, OutOfMemory as DraftMemory};
 ghost use Rattle.avro_schema_json.specs.DeclaredAttributes.{unless};
 ghost use Rattle.avro_schema_json.specs.DeclaredFaults.{refusals_of_nodes, or_else};
-ghost use Rattle.avro_schema_json.specs.DeclaredSchema.{field_default, is_default_read, are_defaults_read, are_all_defaults_read, whole_nodes};
+ghost use Rattle.avro_schema_json.specs.DeclaredSchema.{field_default, is_default_read, are_defaults_read, are_all_defaults_read, completed_nodes};
 ghost use Rattle.avro_schema_json.specs.inside.OwnDefaults.{bares_of};
 ghost use Rattle.avro_schema_json.specs.inside.SeenDefaults.{data_seen, lists_seen, defaults_of_node as node_defaults_by, first_or, others_of, filled_fields, filled_node, filled_nodes};
 ghost use Rattle.avro_schema_json.specs.inside.SeenRaw.{raw_field_of, raw_fields_of, raw_node_of, raw_nodes_of};
@@ -205,11 +205,11 @@ fn draft_of(
 /// The schema of nodes. A default that is no datum is left out at first, so that another fault of the
 /// nodes is answered before it.
 pub(crate) fn schema_of(alloc: Global, raws: Vec<RawNode<'_>>) -> Result<Schema, SchemaError>
-    ensures found { IfOk result (λ schema. schema_nodes schema ≡ whole_nodes (raw_nodes_of raws.entry.items)) }
-    ensures formed { OnOk result (is_schema (whole_nodes (raw_nodes_of raws.entry.items)) ≡ true) }
+    ensures found { IfOk result (λ schema. schema_nodes schema ≡ completed_nodes (raw_nodes_of raws.entry.items)) }
+    ensures formed { OnOk result (is_schema (completed_nodes (raw_nodes_of raws.entry.items)) ≡ true) }
     ensures read { OnOk result (are_all_defaults_read (raw_nodes_of raws.entry.items) ≡ true) }
     ensures refused { IfErr result (λ e. (e ≡ OutOfMemory)
-        ⊎ Contains (or_else (refusals_of_nodes (whole_nodes (raw_nodes_of raws.entry.items))) (unless (are_all_defaults_read (raw_nodes_of raws.entry.items)) InvalidDefault)) e) }
+        ⊎ Contains (or_else (refusals_of_nodes (completed_nodes (raw_nodes_of raws.entry.items))) (unless (are_all_defaults_read (raw_nodes_of raws.entry.items)) InvalidDefault)) e) }
 {
     if has_repeated_branch(alloc, &raws)? {
         return Err(SchemaError::InvalidUnion);

@@ -12,7 +12,7 @@ use Rattle.avro_schema_json.specs.declared.raw.RawNode.{RawNode as KeptNode}
 use Rattle.avro_schema_json.specs.Declares.{RawNode}
 use Rattle.avro_schema_json.specs.DeclaredAttributes.{unless}
 use Rattle.avro_schema_json.specs.DeclaredFaults.{refusals_of_nodes, or_else}
-use Rattle.avro_schema_json.specs.DeclaredSchema.{bare_nodes, whole_nodes, are_all_defaults_read}
+use Rattle.avro_schema_json.specs.DeclaredSchema.{bare_nodes, completed_nodes, are_all_defaults_read}
 use Rattle.avro_schema_json.specs.inside.OwnDefaults.{bares_of}
 use Rattle.avro_schema_json.specs.Refusals.{refusal_of_fault, refusal_of}
 use Rattle.avro_schema_json.specs.inside.SeenDefaults.{lists_seen, defaults_of_node, filled_nodes}
@@ -26,27 +26,27 @@ use Rattle.avro_schema_json.proofs.completed.schema_of.Goals as goal
 -- the nodes of the draft are the completed ones
 completed_draft : (raws read : List KeptNode) (lists : List (List (Option Value))) (nodes : List Node) → read ≡ raws
     → lists ≡ map (defaults_of_node (bares_of read)) (raw_nodes_of read) → nodes ≡ filled_nodes (raw_nodes_of raws) lists
-    → nodes ≡ whole_nodes (raw_nodes_of raws)
+    → nodes ≡ completed_nodes (raw_nodes_of raws)
 completed_draft raws read lists nodes same listed is =
     let d = rw same at listed in
     is ∙ ap (filled_nodes (raw_nodes_of raws)) d ∙ filled-completed (bares_of raws) (raw_nodes_of raws)
 
 -- the refusals of nodes
 abbrev faults_with : List RawNode → List SchemaError
-faults_with raws = or_else (refusals_of_nodes (whole_nodes raws)) (unless (are_all_defaults_read raws) SchemaError.InvalidDefault)
+faults_with raws = or_else (refusals_of_nodes (completed_nodes raws)) (unless (are_all_defaults_read raws) SchemaError.InvalidDefault)
 
-of_fault : (raws : List RawNode) (fault : NodeFault) → IsThere fault (whole_nodes raws) → Contains (faults_with raws) (refusal_of_fault fault)
+of_fault : (raws : List RawNode) (fault : NodeFault) → IsThere fault (completed_nodes raws) → Contains (faults_with raws) (refusal_of_fault fault)
 of_fault raws fault there =
-    or_else-first (refusals_of_nodes (whole_nodes raws)) (unless (are_all_defaults_read raws) SchemaError.InvalidDefault) (refusal_of_fault fault)
-    (refusal-contains fault (whole_nodes raws) there)
+    or_else-first (refusals_of_nodes (completed_nodes raws)) (unless (are_all_defaults_read raws) SchemaError.InvalidDefault) (refusal_of_fault fault)
+    (refusal-contains fault (completed_nodes raws) there)
 
-of_named : (raws : List RawNode) (fault : Option NodeFault) → IfSome fault (λ f. IsThere f (whole_nodes raws))
+of_named : (raws : List RawNode) (fault : Option NodeFault) → IfSome fault (λ f. IsThere f (completed_nodes raws))
     → (unwrap_or (option_map refusal_of_fault fault) SchemaError.OutOfMemory ≡ SchemaError.OutOfMemory)
     ⊎ Contains (faults_with raws) (unwrap_or (option_map refusal_of_fault fault) SchemaError.OutOfMemory)
 of_named raws None there = inl refl
 of_named raws (Some fault) there = inr (of_fault raws fault there)
 
-of_draft : (raws : List RawNode) (nodes : List Node) (e : DraftError) (r : SchemaError) → nodes ≡ whole_nodes raws → IsRefused nodes e
+of_draft : (raws : List RawNode) (nodes : List Node) (e : DraftError) (r : SchemaError) → nodes ≡ completed_nodes raws → IsRefused nodes e
     → r ≡ refusal_of e → (r ≡ SchemaError.OutOfMemory) ⊎ Contains (faults_with raws) r
 of_draft raws nodes e r completed refused is =
     subst (λ (x : SchemaError). (x ≡ SchemaError.OutOfMemory) ⊎ Contains (faults_with raws) x) (sym is)
@@ -57,7 +57,7 @@ of_length : (raws : List KeptNode) (e : DraftError) (r : SchemaError) → (e ≡
     → r ≡ refusal_of e → (r ≡ SchemaError.OutOfMemory) ⊎ Contains (faults_with (raw_nodes_of raws)) r
 of_length raws e r (inl memory) is = inl (is ∙ ap refusal_of memory)
 of_length raws e r (inr limit) is =
-    let nodes = whole_nodes (raw_nodes_of raws) in
+    let nodes = completed_nodes (raw_nodes_of raws) in
     let count : length nodes ≡ length raws = simp length-map in
     let same : r ≡ SchemaError.LimitExceeded = is ∙ ap refusal_of limit.0 in
     inr (subst (λ (x : SchemaError). Contains (faults_with (raw_nodes_of raws)) x) (sym same)
@@ -90,10 +90,10 @@ returns-else-are_read-clause-refused c =
     let raws = raw_nodes_of c.args.raws.items in
     let completed = completed_draft c.args.raws.items c.deref-2.result.now (lists_seen c.in-Ok.defaults.of_nodes.items) (draft_nodes c.in-Ok-draft_of.draft)
     c.deref-2.ensures.value c.in-Ok.ensures.data c.in-Ok-draft_of.ensures.nodes in
-    let formed : is_schema (whole_nodes raws) ≡ true = ap is_schema (sym completed) ∙ c.in-Ok-finish.ensures.formed in
+    let formed : is_schema (completed_nodes raws) ≡ true = ap is_schema (sym completed) ∙ c.in-Ok-finish.ensures.formed in
     let unread : are_all_defaults_read raws ≡ false =
     ap (λ (ns : List KeptNode). are_all_defaults_read (raw_nodes_of ns)) (sym c.deref-2.ensures.value) ∙ sym c.in-Ok.ensures.read ∙ c.if-are_read.false in
-    inr (or_else-unread (refusals_of_nodes (whole_nodes raws)) (are_all_defaults_read raws) SchemaError.InvalidDefault (no_refusals-from_is_schema (whole_nodes raws) formed) unread)
+    inr (or_else-unread (refusals_of_nodes (completed_nodes raws)) (are_all_defaults_read raws) SchemaError.InvalidDefault (no_refusals-from_is_schema (completed_nodes raws) formed) unread)
 
 pub returns-in-Err-finish-clause-refused : goal.returns-in-Err-finish-clause-refused
 returns-in-Err-finish-clause-refused c =

@@ -10,21 +10,21 @@ use Rattle.avro_schema_json.specs.declared.error.SchemaError.{SchemaError}
 use Rattle.avro_schema_json.specs.Declares.{RawNode, made_of}
 use Rattle.avro_schema_json.specs.DeclaredAttributes.{unless}
 use Rattle.avro_schema_json.specs.DeclaredFaults.{refusals_of_nodes, or_else, HasFault}
-use Rattle.avro_schema_json.specs.DeclaredSchema.{whole_nodes, are_all_defaults_read, DeclaresSchema}
+use Rattle.avro_schema_json.specs.DeclaredSchema.{completed_nodes, are_all_defaults_read, DeclaresSchema}
 use Rattle.avro_schema_json.specs.inside.SeenRaw.{raw_nodes_of}
 use Rattle.avro_schema_json.proofs.MadeSound.{made_fault, fault-other}
 use Rattle.avro_schema_json.proofs.ReadSeen.{declared-found, fault-found}
 use Rattle.avro_schema_json.proofs.read.declared_schema.Goals as goal
 
 schema_found : (tree : Data) (raws : List RawNode) (r : Result Schema SchemaError) → false ≡ has_float tree → (made_of tree).faults ≡ [] → raws ≡ (made_of tree).nodes
-    → IfOk r (λ schema. schema_nodes schema ≡ whole_nodes raws) → OnOk r (is_schema (whole_nodes raws) ≡ true) → OnOk r (are_all_defaults_read raws ≡ true)
+    → IfOk r (λ schema. schema_nodes schema ≡ completed_nodes raws) → OnOk r (is_schema (completed_nodes raws) ≡ true) → OnOk r (are_all_defaults_read raws ≡ true)
     → IfOk r (λ schema. DeclaresSchema tree (schema_nodes schema))
 schema_found tree raws (Ok schema) whole clean same nodes formed good = declared-found tree raws (schema_nodes schema) whole clean same formed good nodes
 schema_found tree raws (Err e) whole clean same nodes formed good = tt
 
 schema_refused : (tree : Data) (raws : List RawNode) (r : Result Schema SchemaError) → false ≡ has_float tree → (made_of tree).faults ≡ [] → raws ≡ (made_of tree).nodes
     → IfErr r (λ e. (e ≡ SchemaError.OutOfMemory)
-    ⊎ Contains (or_else (refusals_of_nodes (whole_nodes raws)) (unless (are_all_defaults_read raws) SchemaError.InvalidDefault)) e)
+    ⊎ Contains (or_else (refusals_of_nodes (completed_nodes raws)) (unless (are_all_defaults_read raws) SchemaError.InvalidDefault)) e)
     → IfErr r (λ e. (e ≡ SchemaError.OutOfMemory) ⊎ HasFault tree e)
 schema_refused tree raws (Ok schema) whole clean same refused = tt
 schema_refused tree raws (Err e) whole clean same (inl memory) = inl memory
