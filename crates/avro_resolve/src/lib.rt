@@ -52,7 +52,6 @@ pub use error::{Fault, FaultKind, ReadResolveError, ResolveError};
 pub use guided::{Aim, At};
 pub use matching::matches;
 pub use names::Names;
-pub use naming::symbol_names;
 pub use pairs::first_match;
 pub use plan::Plan;
 pub use plan_ref::PlanRef;
