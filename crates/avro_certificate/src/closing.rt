@@ -15,7 +15,7 @@ ghost use Rattle.avro_certificate.specs.SeenPair.{pair_of};
 
 use crate::kept::Certificate;
 use crate::lookup::{has, has_dead};
-use avro_resolve::{Aim, Names, Comparison, compare};
+use avro_resolve::{Aim, Comparison, Names, compare};
 use avro_schema::{Field, Memory, Node, NodeId, Schema};
 use std::alloc::Global;
 

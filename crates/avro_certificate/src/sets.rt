@@ -1,6 +1,6 @@
 //! The two sets of a certificate's text.
 
-ghost use Rattle.std.specs.Prelude.{◌≡◌, ◌≢◌, ℕ, List, ◌++◌, map, flat_map, IfOk};
+ghost use Rattle.std.specs.Prelude.{◌≡◌, ℕ, List, ◌++◌, map, flat_map, IfOk};
 ghost use Rattle.std.specs.Result.{IfErr};
 ghost use Rattle.avro_certificate.specs.CertificateText.{dead_line, pair_line, certificate_text};
 ghost use Rattle.avro_certificate.specs.inside.CertificateLines.{bounded, bounded_pair, NoneAhead};

@@ -1,5 +1,5 @@
 -- Where the text of a certificate ends: of its lines the last one alone has an n.
-use Rattle.std.proofs.Common.{◌≡◌, ℕ, zero, suc, ◌+◌, ◌<◌, ◌⊎◌, inl, inr, Bool, true, false, ◌||◌, List, [], ◌∷◌, ◌++◌, length, get_or, take, drop, map, flat_map, cond, min, refl, sym, ap, ◌∙◌, arith, append_assoc, length-append}
+use Rattle.std.proofs.Common.{◌≡◌, ℕ, zero, suc, ◌+◌, ◌<◌, inl, inr, Bool, true, false, List, [], ◌∷◌, ◌++◌, length, get_or, take, drop, map, flat_map, cond, min, refl, sym, ap, ◌∙◌, arith, append_assoc, length-append}
 use Rattle.std.proofs.Math.Seq.{get_or-append_seam, take-append_seam, drop-append_seam}
 use Rattle.std.proofs.lemmas.List.Folds.{list_any-append}
 use Rattle.std.proofs.lemmas.Int.Digits.{all_below_base_digits_of}
@@ -8,7 +8,7 @@ use Rattle.std.specs.Prelude.{codes, ◌==◌}
 use Rattle.std.specs.List.{list_any}
 use Rattle.std.specs.Int.Digits.{digits_of, AllBelowBase}
 use Rattle.avro_certificate.specs.Closed.{Pair}
-use Rattle.avro_certificate.specs.CertificateText.{decimal, dead_line, pair_line, certificate_text}
+use Rattle.avro_certificate.specs.CertificateText.{decimal, dead_line, pair_line}
 use Rattle.avro_history.specs.HistoryText.{Sets, sets_text}
 
 abbrev has_n : List ℕ → Bool

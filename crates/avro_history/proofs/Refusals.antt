@@ -1,5 +1,5 @@
 -- What each refusal says of a certificate, and of the text of a history.
-use Rattle.std.proofs.Common.{◌≡◌, ℕ, ◌<◌, ◌⊎◌, inl, inr, List, ◌++◌, length, drop, sym, ap, ◌∙◌, subst, arith}
+use Rattle.std.proofs.Common.{◌≡◌, ℕ, inl, inr, List, ◌++◌, length, drop, sym, ap, ◌∙◌, subst, arith}
 use Rattle.std.specs.Prelude.{codes, Err}
 use Rattle.avro_certificate.specs.CertificateRead.{IsMalformed, HasGreatNumber, Refuses, UnlessOutOfMemory}
 use Rattle.avro_certificate.specs.declared.error.CertError.{CertError}

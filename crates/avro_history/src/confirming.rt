@@ -6,7 +6,7 @@ ghost use Rattle.avro_certificate.specs.Closed.{is_closed};
 ghost use Rattle.avro_certificate.specs.Compatible.{AreCompatible};
 ghost use Rattle.avro_certificate.specs.SeenCertificate.{dead_of, pairs_in};
 ghost use Rattle.avro_history.specs.ConfirmedHistory.{are_closed, nodes_of_all};
-ghost use Rattle.avro_history.specs.SeenHistory.{set_of, sets_of};
+ghost use Rattle.avro_history.specs.SeenHistory.{sets_of};
 
 use crate::history::HistoryCert;
 use avro_certificate::laws::closed_is_compatible;

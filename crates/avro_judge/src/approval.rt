@@ -1,7 +1,7 @@
 use crate::deciding::certify;
 use avro_binary::{Build, ReadError};
 use avro_certificate::Certificate;
-use avro_resolve::{Plan, PlanTable, Comparison, ReadResolveError};
+use avro_resolve::{Comparison, Plan, PlanTable, ReadResolveError};
 use avro_schema::{Limits, Memory, Schema};
 use std::alloc::Global;
 use std::marker::Model;

@@ -1,7 +1,5 @@
 ghost use Rattle.std.specs.Prelude.{◌≡◌, ◌↔◌, ◌<◌, ◌≤◌, ◌*◌, length, IfOk};
-ghost use Rattle.avro_schema.specs.Node.{root_of};
 ghost use Rattle.avro_schema.specs.Seen.{value_of};
-ghost use Rattle.avro_schema.specs.Fits.{fits};
 ghost use Rattle.avro_schema.specs.SeenSchema.{schema_nodes};
 ghost use Rattle.avro_schema.specs.Value.{Value, size, depth};
 ghost use Rattle.avro_resolve.specs.Fault.{ResolutionFault};

@@ -1,5 +1,5 @@
 -- A datum of one node that errs, by what is found of a pair.
-use Rattle.std.proofs.Common.{◌≡◌, ℕ, suc, ◌+◌, ◌<◌, ◌≤◌, ◌^◌, Bool, true, false, cond, List, [], ◌∷◌, Option, Some, None, length, refl, sym, ◌∙◌, ap, subst, arith}
+use Rattle.std.proofs.Common.{◌≡◌, ℕ, suc, ◌+◌, ◌<◌, Bool, cond, List, [], ◌∷◌, Option, Some, None, length, refl, ◌∙◌, ap, arith}
 use Rattle.std.specs.Prelude.{slice_get, unwrap_or, position, bytes_eq, is_none}
 use Rattle.avro_name.specs.Name.{Name}
 use Rattle.avro_schema.specs.Value.{Value}
@@ -16,10 +16,9 @@ use Rattle.avro_resolve.specs.declared.error.FaultKind.TheVariants.{NoMatch}
 use Rattle.avro_resolve.specs.declared.guided.Aim.{Aim}
 use Rattle.avro_resolve.specs.declared.guided.Aim.TheVariants.{Fault, To}
 use Rattle.avro_resolve.specs.declared.comparison.Comparison.{Comparison}
-use Rattle.avro_certificate.specs.Closed.{lacks_symbol}
 use Rattle.avro_certificate.proofs.public.Symbols.{lacks_here}
 use Rattle.avro_least.specs.Asked.{Asked, asked, asked_inside}
-use Rattle.avro_least.specs.BuiltErrors.{IsLone, first_from, is_lacking, lone_value}
+use Rattle.avro_least.specs.BuiltErrors.{IsLone, first_from, is_lacking}
 use Rattle.avro_least.proofs.BuiltErrors.{asks_inside, lone_union}
 
 -- without a default, the first of the writer's symbols for which none was found is the first that the reader lacks

@@ -1,6 +1,6 @@
 //! A least datum, by its table.
 
-ghost use Rattle.std.specs.Prelude.{◌≡◌, ◌<◌, ◌≤◌, ℕ, true, length, IfOk, OnOk, [], ◌∷◌, ◌++◌, Some, slice_get, is_some, map};
+ghost use Rattle.std.specs.Prelude.{◌≡◌, ◌<◌, ℕ, true, IfOk, [], Some, slice_get, is_some, map};
 ghost use Rattle.std.proofs.Math.ListN.{replicate};
 ghost use Rattle.avro_schema.specs.Seen.{value_of, values_from, node_of, ids_of, seen_fields};
 ghost use Rattle.avro_least.specs.Tables.{best_of};

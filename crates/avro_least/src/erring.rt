@@ -1,15 +1,14 @@
 //! The least data that err at pairs of nodes.
 
-ghost use Rattle.std.specs.Prelude.{◌≡◌, ◌<◌, ◌≤◌, ◌*◌, ℕ, Bool, true, false, List, Option, length, nat_lt, slice_get, map, Some, None, IfOk, position, ◌==◌, cond};
+ghost use Rattle.std.specs.Prelude.{◌≡◌, ◌<◌, ◌≤◌, ◌*◌, ℕ, true, false, List, Option, length, nat_lt, slice_get, Some, None, IfOk, position, ◌==◌, cond};
 ghost use Rattle.std.specs.List.{list_all};
 ghost use Rattle.indexmap.specs.IndexSet.{keys};
 ghost use Rattle.avro_schema.specs.Seen.{ids_of};
 ghost use Rattle.avro_schema.specs.SeenSchema.{schema_nodes};
-ghost use Rattle.avro_schema.specs.WellFormed.{is_schema};
 ghost use Rattle.avro_least.specs.Tables.{erring_of, reached_entry, pair_number, no_parts, best_of, AreDataShown, AreLow, IsLowForData};
 ghost use Rattle.avro_least.specs.SeenLeast.{seen, given_entry, seen_all, table_of, weights};
-ghost use Rattle.avro_least.specs.Reached.{is_key, AreFollowed};
-ghost use Rattle.avro_least.specs.Asked.{Asked, Row, asked_at, asked_value, err_of_row, err_of_rows, steps_at, AreAsked, ArePairsShown, IsLowAtIndex};
+ghost use Rattle.avro_least.specs.Reached.{AreFollowed};
+ghost use Rattle.avro_least.specs.Asked.{asked_value, err_of_row, err_of_rows, steps_at, AreAsked, ArePairsShown, IsLowAtIndex};
 ghost use Rattle.avro_least.specs.SeenAsk.{ask_of, asks_of, row_of, rows_of};
 
 use crate::asking::{Ask, FieldAsk};

@@ -13,7 +13,7 @@ use crate::asking::{Ask, ask_of_pair, node_or};
 use crate::made::{one_byte, symbol};
 use crate::pair_tables::Tables;
 use crate::reaching::{Reached, number};
-use avro_resolve::{Names, Comparison, compare};
+use avro_resolve::{Comparison, Names, compare};
 use avro_schema::{Datum, Memory, Node, NodeId};
 use std::alloc::Global;
 

@@ -1,13 +1,13 @@
 //! The least data of a schema's nodes.
 
-ghost use Rattle.std.specs.Prelude.{◌≡◌, ◌<◌, ◌≤◌, ℕ, Bool, true, false, length, IfOk, Some, None};
+ghost use Rattle.std.specs.Prelude.{◌≡◌, ◌<◌, ◌≤◌, ℕ, true, false, length, IfOk, Some, None};
 ghost use Rattle.std.proofs.Math.ListN.{replicate};
 ghost use Rattle.avro_schema.specs.Seen.{node_of, ids_of, seen_fields};
-ghost use Rattle.avro_schema.specs.Node.{Node as SeenNode, field_ids};
+ghost use Rattle.avro_schema.specs.Node.{field_ids};
 ghost use Rattle.avro_schema.specs.SeenSchema.{schema_nodes};
 ghost use Rattle.avro_schema.specs.WellFormed.{is_schema};
 ghost use Rattle.avro_least.specs.Tables.{capped, around, together, lesser, best_of, all_of, least_datum, IsLowForData, AreDataShown, Least as SeenLeast};
-ghost use Rattle.avro_least.specs.SeenLeast.{seen, table_of, improves, IsLowAt, weights};
+ghost use Rattle.avro_least.specs.SeenLeast.{seen, table_of, improves, weights};
 
 use crate::kept::Least;
 use avro_schema::{Field, Memory, Node, NodeId, Schema};

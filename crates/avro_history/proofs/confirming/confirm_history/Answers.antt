@@ -3,7 +3,7 @@ use Rattle.std.proofs.lemmas.Grind.{common_steps}
 use Rattle.avro_schema.specs.declared.schema.Schema.{Schema}
 use Rattle.avro_schema.specs.SeenSchema.{schema_nodes}
 use Rattle.avro_history.specs.ConfirmedHistory.{are_closed, nodes_of_all}
-use Rattle.avro_history.proofs.ConfirmedSoFar.{ConfirmedSoFar, some_at, uneven, confirmed_one, refused_one, all_closed, all_compatible, all_approved}
+use Rattle.avro_history.proofs.ConfirmedSoFar.{ConfirmedSoFar, some_at, uneven, confirmed_one}
 use Rattle.avro_history.proofs.confirming.confirm_history.Goals as goal
 
 pub returns-then-writers-certificates-clause-refused : goal.returns-then-writers-certificates-clause-refused

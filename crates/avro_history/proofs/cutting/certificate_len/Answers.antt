@@ -1,4 +1,4 @@
-use Rattle.std.proofs.Common.{ℕ, ◌<◌, ◌≡◌, get_or, length, sym, ◌∙◌, subst, arith}
+use Rattle.std.proofs.Common.{ℕ, ◌∙◌, arith}
 use Rattle.avro_history.proofs.Fronts.{ends_at, no_end}
 use Rattle.avro_history.proofs.cutting.certificate_len.Goals as goal
 

@@ -1,4 +1,4 @@
-use Rattle.std.proofs.Common.{sym, ◌∙◌}
+use Rattle.std.proofs.Common.{◌∙◌}
 use Rattle.avro_history.specs.HistoryText.{sets_text}
 use Rattle.avro_history.proofs.Fronts.{parted_at}
 use Rattle.avro_history.proofs.cutting.split_certificate.Goals as goal

@@ -1,10 +1,10 @@
-use Rattle.std.proofs.Common.{rules, ◌≡◌, ℕ, ◌⊎◌, inl, inr, List, [], ◌∷◌, ◌++◌, map, sym, ◌∙◌, ap, subst}
+use Rattle.std.proofs.Common.{rules, ◌≡◌, ℕ, inl, inr, List, [], ◌∷◌, ◌++◌, map, sym, ◌∙◌, ap, subst}
 use Rattle.std.proofs.lemmas.List.{map-append}
-use Rattle.std.specs.Prelude.{codes, true}
+use Rattle.std.specs.Prelude.{codes}
 use Rattle.avro_history.specs.HistoryText.{Sets}
 use Rattle.avro_history.specs.SeenHistory.{set_of}
 use Rattle.avro_history.proofs.Refusals.{great_number, no_certificate, not_great, not_malformed}
-use Rattle.avro_history.proofs.ReadSoFar.{ReadSoFar, read_one, read_great, no_lines, no_small_lines, longer, shorter, all_read, all_kept, great_lines, none_great}
+use Rattle.avro_history.proofs.ReadSoFar.{ReadSoFar, read_one, read_great, no_lines, no_small_lines, longer, all_kept}
 use Rattle.avro_history.proofs.reading.read_certificates.Goals as goal
 
 pub loop-rest-preserved-in_ok-push-in-Ok : goal.loop-rest-preserved-in_ok-push-in-Ok

@@ -1,4 +1,4 @@
-use Rattle.std.proofs.Common.{◌∙◌, ap}
+use Rattle.std.proofs.Common.{◌∙◌}
 use Rattle.avro_history.proofs.Written.{text_more, rising_more}
 use Rattle.avro_history.proofs.writing.write_certificates.Goals as goal
 

@@ -1,4 +1,4 @@
-use Rattle.std.proofs.Common.{◌∙◌, ap, sym, subst}
+use Rattle.std.proofs.Common.{sym, subst}
 use Rattle.avro_schema.specs.SeenSchema.{schema_nodes}
 use Rattle.avro_resolve.specs.Planned.{AreComparisons, IsComparison}
 use Rattle.avro_certificate.proofs.public.Tests.{each_more}
