@@ -66,6 +66,7 @@ fn confirm_one<'a>(
     ensures of_these { IfOk result (λ o. IfSome o (λ a. a ≡ (writer.now, reader.now))) }
 {
     closed_is_compatible();
+    // Its contract says that the schema is well formed, which the proof asks for.
     let _ = reader.len();
     confirm(alloc, writer, reader, certificate)
 }

@@ -99,6 +99,7 @@ pub(crate) fn certificate_of(
         → IsSteppedTo (steps_at (schema_nodes writer.now) (schema_nodes reader.now) (table_of table.now)) k }
     ensures { IfOk result (IsCertificateOf (schema_nodes writer.now) (schema_nodes reader.now)) }
 {
+    // The contract of this call bounds the number of nodes, which the proof needs.
     let _ = count(reader);
     let dead = dead_ids(alloc, table, count(writer))?;
     if entry(table, NodeId(0)).is_none() {

@@ -30,6 +30,7 @@ pub fn confirm<'a>(
         (is_closed (schema_nodes writer.now) (schema_nodes reader.now) (dead_of certificate.now) (pairs_in certificate.now) ≡ false)) }
     ensures of_these { IfOk result (λ o. IfSome o (λ a. a ≡ (writer.now, reader.now))) }
 {
+    // Its contract says that the schema is well formed, which the proof asks for.
     let _ = reader.len();
     match find_closed(alloc, writer, reader, certificate)? {
         Some(found) => {

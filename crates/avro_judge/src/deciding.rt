@@ -59,6 +59,7 @@ fn judge_roots(
     requires found { AreComparisons (schema_nodes writer.now) (schema_nodes reader.now) reached.now.found.items }
     ensures { IfOk result (λ j. IsJudged (schema_nodes writer.now) (schema_nodes reader.now) limit deepest j) }
 {
+    // The contract of this call bounds the number of nodes, which the proof needs.
     let _ = count(writer);
     let count = count(reader);
     let root = NodeId(0);

@@ -191,6 +191,7 @@ fn pair_round(
     ensures falls { result ≡ true → weights entries.new < weights entries.old }
     ensures low { result ≡ false → (i : ℕ) → IsLowAtIndex (schema_nodes writer.now) (schema_nodes reader.now) limit (table_of table.now) (keys reached.now.known) (seen_all entries.new) i }
 {
+    // The contract of this call bounds the number of nodes, which the proof needs.
     let _ = count(writer);
     let count = count(reader);
     let mut changed = false;

@@ -108,6 +108,7 @@ pub fn writers(writer: &Schema, reader: &Schema, key: u64) -> NodeId
     ensures is { result.0 ≡ key / length (schema_nodes reader.now) }
     ensures within { result.0 < length (schema_nodes writer.now) }
 {
+    // The contract of this call bounds the number of nodes, which the proof needs.
     let _ = count(writer);
     NodeId((key / u64::from(count(reader))) as u32)
 }
@@ -156,6 +157,7 @@ fn steps(
     requires asked { ask_of ask.now ≡ asked_at (schema_nodes writer.now) (schema_nodes reader.now) key }
     ensures { IfOk result (λ n. n.items ≡ steps_at (schema_nodes writer.now) (schema_nodes reader.now) (table_of table.now) key) }
 {
+    // The contract of this call bounds the number of nodes, which the proof needs.
     let _ = count(writer);
     let count = count(reader);
     let w = writers(writer, reader, key);
@@ -186,6 +188,7 @@ pub fn reach(
     ensures asked { IfOk result (λ p. AreAsked (schema_nodes writer.now) (schema_nodes reader.now) (keys p.known) (asks_of p.asks.items)) }
     ensures found { IfOk result (λ p. AreComparisons (schema_nodes writer.now) (schema_nodes reader.now) p.found.items) }
 {
+    // The contract of these calls bounds the number of nodes, which the proof needs.
     let _ = count(writer);
     let _ = count(reader);
     let names = Names::new(alloc, writer, reader)?;
