@@ -7,9 +7,9 @@ ghost use Rattle.avro_resolve.specs.inside.NameTables.{symbols_at};
 ghost use Rattle.avro_resolve.specs.inside.Noting.{AreIgnored, noted};
 ghost use Rattle.avro_resolve.specs.Planned.{AreFor, AreInside, AreComparisons, AreSources, AreSymbols, IsComparison};
 
+use crate::comparison::Comparison;
 use crate::guided::{Aim, At};
 use crate::names::Names;
-use crate::comparison::Comparison;
 use crate::sourcing::{fields_of, missing_among, node_of_field, source_kept};
 use crate::symbols::symbols_of;
 use avro_schema::{Field, Memory, NodeId, Schema};

@@ -6,9 +6,9 @@ ghost use Rattle.avro_resolve.specs.Planned.{AreInside, AreComparisons, AreSourc
 ghost use Rattle.avro_resolve.specs.Resolve.{enum_as, fields_at, symbol_at};
 ghost use Rattle.avro_resolve.specs.Source.{missing_field};
 
+use crate::comparison::Comparison;
 use crate::guided::{Aim, At};
 use crate::pairs::aim;
-use crate::comparison::Comparison;
 use crate::sourcing::{fields_of, missing, part_for};
 use crate::symbols::symbol_for;
 use avro_schema::{NodeId, Schema};

@@ -1,6 +1,6 @@
+use crate::comparison::Comparison;
 use crate::guided::{Aim, At};
 use crate::parts::{items_of, values_of};
-use crate::comparison::Comparison;
 use avro_schema::{Memory, Node, NodeId, Schema};
 use std::alloc::Global;
 

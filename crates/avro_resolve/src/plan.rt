@@ -1,7 +1,7 @@
+use crate::comparing::compare_all;
 use crate::error::ReadResolveError;
 use crate::plan_ref::PlanRef;
 use crate::plan_table::PlanTable;
-use crate::comparing::compare_all;
 use avro_binary::Build;
 use avro_schema::{Limits, Memory, NodeId, Schema};
 use std::alloc::Global;

@@ -1,8 +1,8 @@
+use crate::comparison::Comparison;
 use crate::error::ReadResolveError;
 use crate::guided::{Aim, At, Part};
 use crate::keeping::{aim_kept, field_kept, missing_kept, sources_kept, symbol_kept};
 use crate::parts::{branch_of, items_of, values_of};
-use crate::comparison::Comparison;
 use crate::read::read_planned;
 use avro_binary::Build;
 use avro_schema::{Limits, NodeId, Schema};

@@ -1,6 +1,6 @@
+use crate::comparison::Comparison;
 use crate::ordering::indices_of;
 use crate::plan_ref::PlanRef;
-use crate::comparison::Comparison;
 use crate::walking::compare_reached;
 use avro_schema::{Memory, Schema};
 use std::alloc::Global;
