@@ -6,7 +6,7 @@ use Rattle.avro_name.specs.Name.{Name, is_full_name}
 use Rattle.avro_schema.specs.WellFormed.{max_nodes, max_count}
 use Rattle.avro_schema.specs.Node.{Node}
 use Rattle.avro_schema_json.specs.DeclaredAttributes.{texts_of}
-use Rattle.avro_schema_json.specs.Declares.{RawNode, RawField, Known, Made, above, followed_by, joined, in_turn, defining, name_faults, meaning_of, branches_of, field_meanings}
+use Rattle.avro_schema_json.specs.Declares.{RawNode, RawField, Known, Made, node_with, followed_by, first_and_rest, in_turn, defining, name_faults, meaning_of, branches_of, field_meanings}
 use Rattle.avro_canonical.specs.Form.{Form, Forms, FieldForms, no_forms, form, no_fields, field, written_after}
 use Rattle.avro_canonical.specs.Canonical.{is_among}
 use Rattle.avro_canonical.specs.CanonicalTree.{text_items, form_tree, form_trees, field_trees, nodes_in, nodes_in_all, nodes_in_fields, is_kept, keeps_names, all_keep_names, fields_keep_names}
@@ -28,8 +28,8 @@ next_made : (first : Made ℕ) (f : Form) (fs : Forms) (known : Known) (next : �
 next_made first f fs known next rest one others =
     let later = known_after known next f in
     ap (λ it. followed_by it (λ m. rest m.known (next + length m.nodes))) one
-    ∙ ap (λ n. joined (made known next f) (rest later (next + n))) (raw_count known next f)
-    ∙ ap (λ r. joined (made known next f) r) others
+    ∙ ap (λ n. first_and_rest (made known next f) (rest later (next + n))) (raw_count known next f)
+    ∙ ap (λ r. first_and_rest (made known next f) r) others
     ∙ ap (λ nodes. record { result = laid_ids known next (form f fs); nodes = nodes; known = known_after_all known next (form f fs); faults = [] })
     (sym (map-append raw_node (laid known next f) (laid_all later (next + nodes_in f) fs)))
 
@@ -43,8 +43,8 @@ next_field_made : (first : Made ℕ) (name : List ℕ) (f : Form) (fs : FieldFor
 next_field_made first name f fs known next rest one others =
     let later = known_after known next f in
     ap (λ it. followed_by (typed name it) (λ m. rest m.known (next + length m.nodes))) one
-    ∙ ap (λ n. joined (typed name (made known next f)) (rest later (next + n))) (raw_count known next f)
-    ∙ ap (λ r. joined (typed name (made known next f)) r) others
+    ∙ ap (λ n. first_and_rest (typed name (made known next f)) (rest later (next + n))) (raw_count known next f)
+    ∙ ap (λ r. first_and_rest (typed name (made known next f)) r) others
     ∙ ap (λ nodes. record { result = map raw_field (laid_fields known next (field name f fs)); nodes = nodes; known = known_after_fields known next (field name f fs); faults = [] })
     (sym (map-append raw_node (laid known next f) (laid_in_fields later (next + nodes_in f) fs)))
 
@@ -88,13 +88,13 @@ mutual
       → keeps_names enclosing f ≡ true → next + nodes_in f ≤ max_nodes → meaning_of (form_tree f) enclosing known next ≡ made known next f
   form_read (Form.primitive word) written known next enclosing good is kept few = word_read word known next enclosing good (room_one next few)
   form_read (Form.array f) written known next enclosing good is kept few =
-      ap (above next (λ id. RawNode.plain (Node.array id)) []) (form_read f written known (suc next) enclosing good is kept (room_inside next (nodes_in f) few))
+      ap (node_with next (λ id. RawNode.plain (Node.array id)) []) (form_read f written known (suc next) enclosing good is kept (room_inside next (nodes_in f) few))
       ∙ above_clean next (λ id. RawNode.plain (Node.array id)) [] (made known (suc next) f) (room_here next (nodes_in f) few) refl refl
   form_read (Form.map_of f) written known next enclosing good is kept few =
-      ap (above next (λ id. RawNode.plain (Node.map_of id)) []) (form_read f written known (suc next) enclosing good is kept (room_inside next (nodes_in f) few))
+      ap (node_with next (λ id. RawNode.plain (Node.map_of id)) []) (form_read f written known (suc next) enclosing good is kept (room_inside next (nodes_in f) few))
       ∙ above_clean next (λ id. RawNode.plain (Node.map_of id)) [] (made known (suc next) f) (room_here next (nodes_in f) few) refl refl
   form_read (Form.union fs) written known next enclosing good is kept few =
-      ap (above next (λ ids. RawNode.plain (Node.union ids)) []) (forms_read fs written known (suc next) enclosing good.1 is kept (room_inside next (nodes_in_all fs) few))
+      ap (node_with next (λ ids. RawNode.plain (Node.union ids)) []) (forms_read fs written known (suc next) enclosing good.1 is kept (room_inside next (nodes_in_all fs) few))
       ∙ above_clean next (λ ids. RawNode.plain (Node.union ids)) [] (made_all known (suc next) fs) (room_here next (nodes_in_all fs) few) refl refl
   form_read (Form.record_of name fs) written known next enclosing good is kept few =
       let both = and_parts (is_kept enclosing name) (fields_keep_names name.namespace fs) kept in

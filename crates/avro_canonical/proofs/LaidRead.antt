@@ -10,7 +10,7 @@ use Rattle.avro_display.specs.DisplayTree.{name_text}
 use Rattle.serde_json.specs.Data.{Data}
 use Rattle.avro_schema_json.specs.declared.error.SchemaError.{SchemaError}
 use Rattle.avro_schema_json.specs.DeclaredAttributes.{name_from}
-use Rattle.avro_schema_json.specs.Declares.{RawNode, RawField, Known, id_of, Made, above, defining, meaning_of, word_of, type_name}
+use Rattle.avro_schema_json.specs.Declares.{RawNode, RawField, Known, id_of, Made, node_with, defining, meaning_of, word_of, type_name}
 use Rattle.avro_canonical.specs.Form.{Form, Forms, FieldForms, no_forms, form, no_fields, field, written_after, written_after_all, written_after_fields}
 use Rattle.avro_canonical.specs.Canonical.{primitive_word, is_among}
 use Rattle.avro_canonical.specs.CanonicalTree.{nodes_in, nodes_in_all, nodes_in_fields, is_kept}
@@ -97,7 +97,7 @@ made_fields known next fs = record { result = map raw_field (laid_fields known n
 
 -- a node within the limit, without a fault
 pub above_clean : {A : Type 0} (next : ℕ) (node : A → RawNode) (faults : List SchemaError) (parts : Made A) → nat_lt next max_nodes ≡ true → faults ≡ [] → parts.faults ≡ []
-    → above next node faults parts ≡ record { result = next; nodes = node parts.result ∷ parts.nodes; known = parts.known; faults = [] }
+    → node_with next node faults parts ≡ record { result = next; nodes = node parts.result ∷ parts.nodes; known = parts.known; faults = [] }
 above_clean next node faults parts within none no_more = rw (within, none, no_more) refl
 
 within_of : (next more : ℕ) → next + suc more ≤ max_nodes → nat_lt next max_nodes ≡ true

@@ -68,7 +68,7 @@ impl Build for Packed {
     }
 
     fn fixed(&mut self, alloc: Global, content: &[u8]) -> Result<Pieces, AllocError> {
-        joined(alloc, &[], content)
+        pieces_of(alloc, &[], content)
     }
 
     fn symbol(&mut self, _alloc: Global, index: u32) -> Result<Pieces, AllocError> {
@@ -192,11 +192,11 @@ fn measured(alloc: Global, content: &[u8]) -> Result<Pieces, AllocError>
     ensures { IfOk result (λ out. bytes_of out ≡ plain_bytes content.now) }
 {
     let (number, len) = spelling(content.len() as i64);
-    joined(alloc, &number[..len], content)
+    pieces_of(alloc, &number[..len], content)
 }
 
 /// Bytes, and others behind them.
-fn joined(alloc: Global, first: &[u8], second: &[u8]) -> Result<Pieces, AllocError>
+fn pieces_of(alloc: Global, first: &[u8], second: &[u8]) -> Result<Pieces, AllocError>
     ensures { IfOk result (λ out. bytes_of out ≡ first.now ++ second.now) }
 {
     if let Some(short) = Short::of(first, second) {

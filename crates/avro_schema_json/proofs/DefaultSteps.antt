@@ -119,9 +119,3 @@ pub fields_end : (nodes : List Node) (es : List Entry) (fields : List FieldNode)
 fields_end nodes es fields i all done past whole =
     let none : drop i fields ≡ [] = drop_past fields i past in
     values_end all done (fields_left nodes es (drop i fields)) whole (rw none refl)
-
--- there is a field at each index below their number
-pub field_absent : (fields : List FieldNode) (i : ℕ) → i < length fields → None ≡ option_map name_and_node (slice_get fields i) → ⊥
-field_absent [] i below h = omega arith
-field_absent (f ∷ fields) zero below h = cc
-field_absent (f ∷ fields) (suc i) below h = field_absent fields i (omega arith) h

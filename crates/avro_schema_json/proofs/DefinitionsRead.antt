@@ -7,9 +7,9 @@ use Rattle.avro_schema.specs.Node.{Node}
 use Rattle.serde_json.specs.Data.{Members}
 use Rattle.avro_schema_json.specs.declared.error.SchemaError.{SchemaError}
 use Rattle.avro_schema_json.specs.DeclaredAttributes.{name_in, aliases_in, symbols_in, size_in}
-use Rattle.avro_schema_json.specs.Declares.{RawNode, RawField, Known, Made, Meaning, alone, above, definition_of, enum_named, fixed_named, record_named, defining, name_faults}
+use Rattle.avro_schema_json.specs.Declares.{RawNode, RawField, Known, Made, Meaning, no_parts, node_with, definition_of, enum_named, fixed_named, record_named, defining, name_faults}
 use Rattle.avro_schema_json.specs.inside.Reading.{State, made_at, IsRead, Reads, IsRefusal, Refuses, IsAttribute, IsBegun, limit_faults, beginning_faults, fields_meaning}
-use Rattle.avro_schema_json.proofs.TypesRead.{first-refused, second-refused, grown-refused, above-read, above-own, above-part}
+use Rattle.avro_schema_json.proofs.TypesRead.{first-refused, second-refused, grown-refused, node_with-read, node_with-own, node_with-part}
 
 -- ---- definitions of all kinds
 
@@ -31,14 +31,14 @@ definition-unbegun ms named enclosing s e of_named refused = by (name_in enclosi
     by (Err fault) is h = rw (definition-unnamed ms named enclosing s fault is) h
     by (Ok name) is h = rw (definition-made ms named enclosing s name is) (of_named name h)
 
-nothing-read : (space : List ℕ) (s : State) → Reads (λ space known next. alone known) space s s []
+nothing-read : (space : List ℕ) (s : State) → Reads (λ space known next. no_parts known) space s s []
 nothing-read space s = record { no_faults = refl; result_is = refl; nodes_are = sym (append-nil s.nodes); known_are = refl }
 
 -- ---- a record
 
 record-made : (ms : Members) (fields : Option (List (Meaning RawField))) (known : Known) (next : ℕ) (name : Name)
     → record_named ms fields known next name
-    ≡ above next (RawNode.record_of name (aliases_in name.namespace ms).value) (name_faults name known ++ (aliases_in name.namespace ms).faults)
+    ≡ node_with next (RawNode.record_of name (aliases_in name.namespace ms).value) (name_faults name known ++ (aliases_in name.namespace ms).faults)
     (fields_meaning fields name.namespace (defining name next known) (suc next))
 record-made ms None known next name = refl
 record-made ms (Some meanings) known next name = refl
@@ -54,7 +54,7 @@ module _ (ms : Members) (fields : Option (List (Meaning RawField))) (enclosing :
 
   module _ (inside : State) (name : Name) (space : List ℕ) (id : ℕ) (begun : IsBegun enclosing ms before inside name id) (at : space ≡ name.namespace) where
     begun-made : made_at (definition_of ms (record_named ms fields)) enclosing before
-        ≡ above (length before.nodes) (RawNode.record_of name (aliases_in name.namespace ms).value)
+        ≡ node_with (length before.nodes) (RawNode.record_of name (aliases_in name.namespace ms).value)
         (name_faults name before.known ++ (aliases_in name.namespace ms).faults)
         (fields_meaning fields name.namespace (defining name (length before.nodes) before.known) (suc (length before.nodes)))
     begun-made = definition-made ms (record_named ms fields) enclosing before name begun.name_is ∙ record-made ms fields before.known (length before.nodes) name
@@ -62,7 +62,7 @@ module _ (ms : Members) (fields : Option (List (Meaning RawField))) (enclosing :
     pub record-misnamed : (e : SchemaError) → IsRefusal (aliases_in space ms).faults e → Refuses (definition_of ms (record_named ms fields)) enclosing before e
     record-misnamed e refused =
         let h : IsRefusal (aliases_in name.namespace ms).faults e = subst (λ (s : List ℕ). IsRefusal (aliases_in s ms).faults e) at refused in
-        rw begun-made (above-own before (RawNode.record_of name (aliases_in name.namespace ms).value)
+        rw begun-made (node_with-own before (RawNode.record_of name (aliases_in name.namespace ms).value)
         (name_faults name before.known ++ (aliases_in name.namespace ms).faults)
         (fields_meaning fields name.namespace (defining name (length before.nodes) before.known) (suc (length before.nodes))) e
         (second-refused (name_faults name before.known) (aliases_in name.namespace ms).faults e h))
@@ -71,7 +71,7 @@ module _ (ms : Members) (fields : Option (List (Meaning RawField))) (enclosing :
         → Refuses (definition_of ms (record_named ms fields)) enclosing before e
     record-fields_refused e refused =
         let h : Refuses (fields_meaning fields) name.namespace inside e = subst (λ (s : List ℕ). Refuses (fields_meaning fields) s inside e) at refused in
-        rw begun-made (above-part (fields_meaning fields) name.namespace before inside (RawNode.plain Node.null)
+        rw begun-made (node_with-part (fields_meaning fields) name.namespace before inside (RawNode.plain Node.null)
         (RawNode.record_of name (aliases_in name.namespace ms).value) (name_faults name before.known ++ (aliases_in name.namespace ms).faults)
         (defining name (length before.nodes) before.known) e begun.nodes_are begun.known_are h)
 
@@ -84,7 +84,7 @@ module _ (ms : Members) (fields : Option (List (Meaning RawField))) (enclosing :
         let r : Reads (fields_meaning fields) name.namespace inside after read_fields = subst (λ (s : List ℕ). Reads (fields_meaning fields) s inside after read_fields) at read in
         let clean : name_faults name before.known ++ (aliases_in name.namespace ms).faults ≡ [] = rw (begun.is_new, h.no_faults) refl in
         subst (λ (made : Made ℕ). IsRead made before last id) (sym begun-made)
-        (above-read (fields_meaning fields) name.namespace before inside after last (RawNode.plain Node.null) (RawNode.record_of name aliases read_fields)
+        (node_with-read (fields_meaning fields) name.namespace before inside after last (RawNode.plain Node.null) (RawNode.record_of name aliases read_fields)
         (RawNode.record_of name (aliases_in name.namespace ms).value) (name_faults name before.known ++ (aliases_in name.namespace ms).faults)
         (defining name (length before.nodes) before.known) read_fields id begun.id_is begun.within clean begun.nodes_are begun.known_are r
         (ap (λ names. RawNode.record_of name names read_fields) (sym h.value_is)) put kept)
@@ -126,7 +126,7 @@ module _ (ms : Members) (enclosing : List ℕ) (before : State) where
         let node : RawNode.plain (Node.enum name aliases symbols default) ≡ RawNode.plain (Node.enum name (aliases_in name.namespace ms).value (symbols_in ms).value.0 (symbols_in ms).value.1) =
         rw (h.value_is, listed.value_is) refl in
         subst (λ (made : Made ℕ). IsRead made before last id) (sym (definition-made ms (enum_named ms) enclosing before name begun.name_is))
-        (above-read (λ space known next. alone known) name.namespace before inside inside last (RawNode.plain Node.null)
+        (node_with-read (λ space known next. no_parts known) name.namespace before inside inside last (RawNode.plain Node.null)
         (RawNode.plain (Node.enum name aliases symbols default))
         (λ none. RawNode.plain (Node.enum name (aliases_in name.namespace ms).value (symbols_in ms).value.0 (symbols_in ms).value.1))
         (name_faults name before.known ++ (aliases_in name.namespace ms).faults ++ (symbols_in ms).faults)
@@ -170,7 +170,7 @@ module _ (ms : Members) (enclosing : List ℕ) (before : State) where
         let node : RawNode.plain (Node.fixed name aliases size) ≡ RawNode.plain (Node.fixed name (aliases_in name.namespace ms).value (size_in ms).value) =
         rw (h.value_is, sized.value_is) refl in
         subst (λ (made : Made ℕ). IsRead made before last id) (sym (definition-made ms (fixed_named ms) enclosing before name begun.name_is))
-        (above-read (λ space known next. alone known) name.namespace before inside inside last (RawNode.plain Node.null)
+        (node_with-read (λ space known next. no_parts known) name.namespace before inside inside last (RawNode.plain Node.null)
         (RawNode.plain (Node.fixed name aliases size))
         (λ none. RawNode.plain (Node.fixed name (aliases_in name.namespace ms).value (size_in ms).value))
         (name_faults name before.known ++ (aliases_in name.namespace ms).faults ++ (size_in ms).faults)

@@ -18,8 +18,8 @@ use Rattle.avro_name.specs.Name.{Name, same_name, name_of, split_name, has_dot, 
 use Rattle.avro_schema_json.specs.Declares.{Known, id_of, defining}
 use Rattle.avro_schema_json.specs.inside.KnownNames.{Key, key_cmp, number_of, IsIndexOf}
 use Rattle.avro_schema_json.specs.inside.KnownSeen.{known_of, IsNumbered}
-use Rattle.avro_schema_json.specs.declared.name_table.NameTable.{NameTable}
-use Rattle.avro_schema_json.specs.declared.name_table.Space.{Space}
+use Rattle.avro_schema_json.specs.declared.declarations.name_table.NameTable.{NameTable}
+use Rattle.avro_schema_json.specs.declared.declarations.name_table.Space.{Space}
 
 is_eq-then : (a b : Ordering) → is_eq (ordering_then a b) ≡ (is_eq a && is_eq b)
 is_eq-then Less b = refl
@@ -141,7 +141,7 @@ module _ (known : Known) (numbers : BTreeMap (List ℕ) ℕ) (ids : BTreeMap Key
   one_number one other m n h k =
       both_ways (m == n) (bytes_eq one other)
       (λ e. let same : m ≡ n = (Decides-eqb m n).0 e in
-      (bytes_eq-Decides one other).1 (index.alone one other n (rw (← same) h) k))
+      (bytes_eq-Decides one other).1 (index.distinct_numbers one other n (rw (← same) h) k))
       (λ e. let same : Some m ≡ Some n = sym h ∙ ap (number_of numbers) (one_bytes one other e) ∙ k in
       let equal : m ≡ n = cc in (Decides-eqb m n).1 equal)
 
@@ -166,7 +166,7 @@ module _ (known : Known) (numbers : BTreeMap (List ℕ) ℕ) (ids : BTreeMap Key
     pub named_after : IsIndexOf (defining name id known) numbers later
     named_after = record {
       bounded = index.bounded;
-      alone = index.alone;
+      distinct_numbers = index.distinct_numbers;
       found = λ namespace n s h.
           put (n, s) ∙ ap (λ b. cond b (Some id) (get key_cmp ids (n, s))) (key_of namespace n s h)
           ∙ ap (λ o. cond (same_name (record { namespace = namespace; simple = string_bytes s }) name) (Some id) o) (index.found namespace n s h)
@@ -213,10 +213,10 @@ module _ (known : Known) (numbers : BTreeMap (List ℕ) ℕ) (ids : BTreeMap Key
     pub numbered_after : IsIndexOf known later ids
     numbered_after = record {
       bounded = λ q n h. ⊎_elim (λ here. omega (arith, here.1, next, longer)) (λ before. let below = index.bounded q n before in omega (arith, below, longer)) (numbered_as q n h);
-      alone = λ q r n h k.
+      distinct_numbers = λ q r n h k.
           ⊎_elim
           (λ here. ⊎_elim (λ there. sym here.0 ∙ there.0) (λ before. absurd (old_below r (before ∙ ap Some here.1))) (numbered_as r n k))
-          (λ before. ⊎_elim (λ there. absurd (old_below q (before ∙ ap Some there.1))) (λ also. index.alone q r n before also) (numbered_as r n k))
+          (λ before. ⊎_elim (λ there. absurd (old_below q (before ∙ ap Some there.1))) (λ also. index.distinct_numbers q r n before also) (numbered_as r n k))
           (numbered_as q n h);
       found = λ q n s h.
           ⊎_elim
@@ -237,7 +237,7 @@ module _ (known : Known) (numbers : BTreeMap (List ℕ) ℕ) (ids : BTreeMap Key
   unchanged_after : (later : BTreeMap (List ℕ) ℕ) → later.entries ≡ numbers.entries → IsIndexOf known later ids
   unchanged_after later unchanged = record {
     bounded = λ q n h. let below = index.bounded q n (sym (same q) ∙ h) in omega (arith, below, long);
-    alone = λ q r n h k. index.alone q r n (sym (same q) ∙ h) (sym (same r) ∙ k);
+    distinct_numbers = λ q r n h k. index.distinct_numbers q r n (sym (same q) ∙ h) (sym (same r) ∙ k);
     found = λ q n s h. index.found q n s (sym (same q) ∙ h);
     unnumbered = λ q t h. index.unnumbered q t (sym (same q) ∙ h);
     unused = λ n s h. index.unused n s (omega (arith, h, long));

@@ -18,7 +18,7 @@ use Rattle.serde_json.specs.Written.{has_float}
 use Rattle.avro_schema_json.specs.DeclaredFaults.{faults_of, refusals_of_nodes, or_else, HasFault}
 use Rattle.avro_schema_json.specs.DeclaredSchema.{completed_nodes, are_all_defaults_read}
 use Rattle.avro_schema_json.specs.Refusals.{refusal_of_fault}
-use Rattle.avro_schema_json.specs.Declares.{RawField, RawNode, Known, Made, Meaning, faulty, joined, in_turn, above, alone, use_of, id_of, reference, Word, null_word, boolean_word, int_word, long_word, bytes_word, string_word, unsupported_word, type_name, word_of, type_of_word, union_of, container_of, defining, name_faults, record_named, enum_named, fixed_named, definition_of, Form, record_form, enum_form, fixed_form, array_form, map_form, error_form, word_form, no_form, form_of, type_of_form, field_of, no_field, meaning_of, branches_of, meaning_under, fields_under, fields_from, field_meanings, field_meaning, made_of}
+use Rattle.avro_schema_json.specs.Declares.{RawField, RawNode, Known, Made, Meaning, faulty, first_and_rest, in_turn, node_with, no_parts, use_of, id_of, reference, Word, null_word, boolean_word, int_word, long_word, bytes_word, string_word, unsupported_word, type_name, word_of, type_of_word, union_of, container_of, defining, name_faults, record_named, enum_named, fixed_named, definition_of, Form, record_form, enum_form, fixed_form, array_form, map_form, error_form, word_form, no_form, form_of, type_of_form, field_of, no_field, meaning_of, branches_of, meaning_under, fields_under, fields_from, field_meanings, field_meaning, made_of}
 
 -- a fault that a tree can have
 abbrev is_of_tree : SchemaError → Bool
@@ -134,8 +134,8 @@ IfAllSound (Some meanings) = AreSound meanings
 faulty-sound : {A : Type 0} (x : A) (fault : SchemaError) → is_of_tree fault ≡ true → IsSoundMeaning (faulty x fault)
 faulty-sound x fault h = record { at = λ enclosing known next. record { clean = rw h refl } }
 
-joined-sound : {A : Type 0} (first : Made A) (rest : Made (List A)) → IsSound first → IsSound rest → IsSound (joined first rest)
-joined-sound first rest f r = record {
+first_and_rest-sound : {A : Type 0} (first : Made A) (rest : Made (List A)) → IsSound first → IsSound rest → IsSound (first_and_rest first rest)
+first_and_rest-sound first rest f r = record {
   clean = both is_of_tree first.faults rest.faults f.clean r.clean;
 }
 
@@ -144,22 +144,22 @@ in_turn-sound : {A : Type 0} (meanings : List (Meaning A)) → AreSound meanings
 in_turn-sound [] s enclosing known next = record { clean = refl }
 in_turn-sound (meaning ∷ meanings) s enclosing known next =
     let first = meaning enclosing known next in
-    joined-sound first (in_turn meanings enclosing first.known (next + length first.nodes)) (s.0.at enclosing known next)
+    first_and_rest-sound first (in_turn meanings enclosing first.known (next + length first.nodes)) (s.0.at enclosing known next)
     (in_turn-sound meanings s.1 enclosing first.known (next + length first.nodes))
 
-above-sound : {A : Type 0} (next : ℕ) (node : A → RawNode) (faults : List SchemaError) (parts : Made A) → are_of_tree faults ≡ true → IsSound parts
-    → IsSound (above next node faults parts)
-above-sound next node faults parts clean s = record {
+node_with-sound : {A : Type 0} (next : ℕ) (node : A → RawNode) (faults : List SchemaError) (parts : Made A) → are_of_tree faults ≡ true → IsSound parts
+    → IsSound (node_with next node faults parts)
+node_with-sound next node faults parts clean s = record {
   clean = both is_of_tree (unless (nat_lt next max_nodes) SchemaError.LimitExceeded ++ faults) parts.faults
       (both is_of_tree (unless (nat_lt next max_nodes) SchemaError.LimitExceeded) faults (unless-of_tree (nat_lt next max_nodes) SchemaError.LimitExceeded refl) clean)
       s.clean;
 }
 
-alone-sound : (known : Known) → IsSound (alone known)
-alone-sound known = record { clean = refl }
+no_parts-sound : (known : Known) → IsSound (no_parts known)
+no_parts-sound known = record { clean = refl }
 
 use-sound : (n : Node) → IsSoundMeaning (use_of n)
-use-sound n = record { at = λ enclosing known next. above-sound next (λ none. RawNode.plain n) [] (alone known) refl (alone-sound known) }
+use-sound n = record { at = λ enclosing known next. node_with-sound next (λ none. RawNode.plain n) [] (no_parts known) refl (no_parts-sound known) }
 
 reference-sound : (word : List ℕ) → IsSoundMeaning (reference word)
 reference-sound word = record { at = λ enclosing known next. by_name enclosing known next (name_of word enclosing) refl }
@@ -189,7 +189,7 @@ word-sound word = by_word (word_of word) refl
 union-sound : (branches : List (Meaning ℕ)) → AreSound branches → IsSoundMeaning (union_of branches)
 union-sound branches s = record {
   at = λ enclosing known next.
-      above-sound next (λ ids. RawNode.plain (Node.union ids)) [] (in_turn branches enclosing known (suc next)) refl
+      node_with-sound next (λ ids. RawNode.plain (Node.union ids)) [] (in_turn branches enclosing known (suc next)) refl
       (in_turn-sound branches s enclosing known (suc next));
 }
 
@@ -197,7 +197,7 @@ container-sound : (node : ℕ → Node) (part : Option (Meaning ℕ)) → IfSoun
 container-sound node None s = faulty-sound 0 SchemaError.InvalidDeclaration refl
 container-sound node (Some part) s = record {
   at = λ enclosing known next.
-      above-sound next (λ id. RawNode.plain (node id)) [] (part enclosing known (suc next)) refl
+      node_with-sound next (λ id. RawNode.plain (node id)) [] (part enclosing known (suc next)) refl
       (s.at enclosing known (suc next));
 }
 
@@ -209,31 +209,31 @@ name_faults-of_tree name known = unless-of_tree (not (is_some (id_of name known)
 record-sound : (ms : Members) (fields : Option (List (Meaning RawField))) → IfAllSound fields → (known : Known) (next : ℕ) (name : Name)
     → IsSound (record_named ms fields known next name)
 record-sound ms None s known next name =
-    above-sound next (RawNode.record_of name (aliases_in name.namespace ms).value) (name_faults name known ++ (aliases_in name.namespace ms).faults)
+    node_with-sound next (RawNode.record_of name (aliases_in name.namespace ms).value) (name_faults name known ++ (aliases_in name.namespace ms).faults)
     (faulty [] SchemaError.InvalidDeclaration name.namespace (defining name next known) (suc next))
     (both is_of_tree (name_faults name known) (aliases_in name.namespace ms).faults (name_faults-of_tree name known) (aliases-of_tree name.namespace ms))
     (record { clean = refl })
 record-sound ms (Some fields) s known next name =
-    above-sound next (RawNode.record_of name (aliases_in name.namespace ms).value) (name_faults name known ++ (aliases_in name.namespace ms).faults)
+    node_with-sound next (RawNode.record_of name (aliases_in name.namespace ms).value) (name_faults name known ++ (aliases_in name.namespace ms).faults)
     (in_turn fields name.namespace (defining name next known) (suc next))
     (both is_of_tree (name_faults name known) (aliases_in name.namespace ms).faults (name_faults-of_tree name known) (aliases-of_tree name.namespace ms))
     (in_turn-sound fields s name.namespace (defining name next known) (suc next))
 
 enum-sound : (ms : Members) (known : Known) (next : ℕ) (name : Name) → IsSound (enum_named ms known next name)
 enum-sound ms known next name =
-    above-sound next (λ none. RawNode.plain (Node.enum name (aliases_in name.namespace ms).value (symbols_in ms).value.0 (symbols_in ms).value.1))
-    (name_faults name known ++ (aliases_in name.namespace ms).faults ++ (symbols_in ms).faults) (alone (defining name next known))
+    node_with-sound next (λ none. RawNode.plain (Node.enum name (aliases_in name.namespace ms).value (symbols_in ms).value.0 (symbols_in ms).value.1))
+    (name_faults name known ++ (aliases_in name.namespace ms).faults ++ (symbols_in ms).faults) (no_parts (defining name next known))
     (both is_of_tree (name_faults name known ++ (aliases_in name.namespace ms).faults) (symbols_in ms).faults
     (both is_of_tree (name_faults name known) (aliases_in name.namespace ms).faults (name_faults-of_tree name known) (aliases-of_tree name.namespace ms))
-    (symbols-of_tree ms)) (alone-sound (defining name next known))
+    (symbols-of_tree ms)) (no_parts-sound (defining name next known))
 
 fixed-sound : (ms : Members) (known : Known) (next : ℕ) (name : Name) → IsSound (fixed_named ms known next name)
 fixed-sound ms known next name =
-    above-sound next (λ none. RawNode.plain (Node.fixed name (aliases_in name.namespace ms).value (size_in ms).value))
-    (name_faults name known ++ (aliases_in name.namespace ms).faults ++ (size_in ms).faults) (alone (defining name next known))
+    node_with-sound next (λ none. RawNode.plain (Node.fixed name (aliases_in name.namespace ms).value (size_in ms).value))
+    (name_faults name known ++ (aliases_in name.namespace ms).faults ++ (size_in ms).faults) (no_parts (defining name next known))
     (both is_of_tree (name_faults name known ++ (aliases_in name.namespace ms).faults) (size_in ms).faults
     (both is_of_tree (name_faults name known) (aliases_in name.namespace ms).faults (name_faults-of_tree name known) (aliases-of_tree name.namespace ms))
-    (size-of_tree ms)) (alone-sound (defining name next known))
+    (size-of_tree ms)) (no_parts-sound (defining name next known))
 
 definition-sound : (ms : Members) (named : Known → ℕ → Name → Made ℕ) → ((known : Known) (next : ℕ) (name : Name) → IsSound (named known next name))
     → IsSoundMeaning (definition_of ms named)

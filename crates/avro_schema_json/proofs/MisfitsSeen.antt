@@ -75,11 +75,6 @@ item-misfit nodes (y ∷ ys) zero x n below at none = let w = rw at at none in r
 item-misfit nodes (y ∷ ys) (suc i) x n below at none =
     rw (item-misfit nodes ys i x n (omega arith) at none) (first-none (default_of nodes (view y) n))
 
-pub at_index : {A : Type 0} (xs : List A) (i : ℕ) (x : A) → i < length xs → x ≡ get_or xs i x → slice_get xs i ≡ Some x
-at_index [] i x below at = absurd (omega arith)
-at_index (y ∷ ys) zero x below at = ap Some (sym at)
-at_index (y ∷ ys) (suc i) x below at = at_index ys i x (omega arith) at
-
 pushed : {A : Type 0} (xs : List A) (p : A) (i : ℕ) (q : A) → slice_get (xs ++ p ∷ []) i ≡ Some q → (slice_get xs i ≡ Some q) ⊎ (p ≡ q)
 pushed [] p zero q h = inr (cc)
 pushed [] p (suc i) q h = inl h

@@ -1,9 +1,11 @@
 -- How the program's nodes and fields are seen before their defaults are read.
-use Rattle.std.proofs.Common.{◌≡◌, ℕ, List, Option, Some, None, option_map, map, refl, ap, ◌∙◌, sym}
+use Rattle.std.proofs.Common.{◌≡◌, ℕ, zero, suc, ◌<◌, ◌≤◌, List, [], ◌∷◌, length, Option, Some, None, option_map, get_or, map, refl, ap, ◌∙◌, sym, arith}
 use Rattle.std.specs.Prelude.{slice_get, string_bytes}
+use Rattle.std.proofs.lemmas.List.{length-map}
 use Rattle.std.proofs.lemmas.Option.{slice_get-map}
 use Rattle.avro_schema.specs.Node.{FieldNode}
 use Rattle.avro_schema_json.specs.DeclaredSchema.{bare_field}
+use Rattle.avro_schema_json.specs.inside.OwnDefaults.{fields_seen}
 use Rattle.avro_schema_json.specs.inside.SeenRaw.{raw_field_of, raw_fields_of}
 use Rattle.avro_schema_json.specs.declared.raw.RawField.{RawField}
 
@@ -11,7 +13,7 @@ use Rattle.avro_schema_json.specs.declared.raw.RawField.{RawField}
 abbrev pub name_and_node : FieldNode → List ℕ × ℕ
 name_and_node f = (f.name, f.node)
 
-pub raw_field_at : (fs : List RawField) (i : ℕ)
+raw_field_at : (fs : List RawField) (i : ℕ)
     → option_map {U = List ℕ × ℕ} (λ f. (string_bytes f.name, f.node.0)) (slice_get fs i) ≡ option_map name_and_node (slice_get (map bare_field (raw_fields_of fs)) i)
 raw_field_at fs i =
     seen (slice_get fs i) ∙ ap (λ f. option_map name_and_node (option_map bare_field f)) (sym (slice_get-map raw_field_of fs i))
@@ -21,3 +23,19 @@ raw_field_at fs i =
         → option_map {U = List ℕ × ℕ} (λ f. (string_bytes f.name, f.node.0)) f ≡ option_map name_and_node (option_map bare_field (option_map raw_field_of f))
     seen None = refl
     seen (Some f) = refl
+
+pub at_index : {A : Type 0} (xs : List A) (i : ℕ) (x : A) → i < length xs → x ≡ get_or xs i x → slice_get xs i ≡ Some x
+at_index [] i x below at = absurd (omega arith)
+at_index (y ∷ ys) zero x below at = ap Some (sym at)
+at_index (y ∷ ys) (suc i) x below at = at_index ys i x (omega arith) at
+
+-- the field of an index, by its name
+pub field_item : (fs : List RawField) (i : ℕ) (f : RawField) (name : List ℕ) → i < length fs → f ≡ get_or fs i f → name ≡ string_bytes f.name
+    → Some (name, f.node.0) ≡ option_map name_and_node (slice_get (fields_seen fs) i)
+field_item fs i f name below at named =
+    let found = at_index fs i f below at in
+    rw named (ap (option_map {U = List ℕ × ℕ} (λ g. (string_bytes g.name, g.node.0))) (sym found) ∙ raw_field_at fs i)
+
+-- no field is left
+pub fields_past : (fs : List RawField) (i : ℕ) → length fs ≤ i → length (fields_seen fs) ≤ i
+fields_past fs i past = let count : length (fields_seen fs) ≡ length fs = simp length-map in rw count past

@@ -9,7 +9,7 @@ use Rattle.avro_schema.specs.WellFormed.{max_nodes}
 use Rattle.serde_json.specs.View.{view, items_view}
 use Rattle.serde_json.specs.declared.value.Value.{Value}
 use Rattle.avro_schema_json.specs.declared.error.SchemaError.{SchemaError}
-use Rattle.avro_schema_json.specs.Declares.{RawNode, RawField, Known, Made, Meaning, above, in_turn, meaning_of, branches_of, field_meaning, field_meanings}
+use Rattle.avro_schema_json.specs.Declares.{RawNode, RawField, Known, Made, Meaning, node_with, in_turn, meaning_of, branches_of, field_meaning, field_meanings}
 use Rattle.avro_schema_json.specs.inside.Reading.{State, made_at, IsRead, Reads, IsRefusal, Refuses, limit_faults}
 
 -- ---- refusals of a part are refusals of the whole
@@ -42,17 +42,17 @@ put-node before parts inside after last held node id at kept added put =
     let whole : after ≡ before ++ held ∷ parts = added ∙ ap (λ xs. xs ++ parts) kept ∙ append_assoc before (held ∷ []) parts in
     put ∙ rw (whole, at) (set-append_seam before held parts node)
 
-pub above-read : {A : Type 0} (part : Meaning A) (space : List ℕ) (before inside after last : State) (held put : RawNode) (node : A → RawNode)
+pub node_with-read : {A : Type 0} (part : Meaning A) (space : List ℕ) (before inside after last : State) (held put : RawNode) (node : A → RawNode)
     (faults : List SchemaError) (known : Known) (result : A) (id : ℕ)
     → id ≡ length before.nodes → nat_lt (length before.nodes) max_nodes ≡ true → faults ≡ []
     → inside.nodes ≡ before.nodes ++ held ∷ [] → inside.known ≡ known → Reads part space inside after result
     → put ≡ node result → last.nodes ≡ slice_set after.nodes id put → last.known ≡ after.known
-    → IsRead (above (length before.nodes) node faults (part space known (suc (length before.nodes)))) before last id
-above-read part space before inside after last held put node faults known result id at within clean kept names read is nodes last_names =
+    → IsRead (node_with (length before.nodes) node faults (part space known (suc (length before.nodes)))) before last id
+node_with-read part space before inside after last held put node faults known result id at within clean kept names read is nodes last_names =
     let made = made_at part space inside in
     let same = inside-made part space before inside held known kept names in
     let put_is : put ≡ node made.result = is ∙ ap node (sym read.result_is) in
-    subst (λ parts. IsRead (above (length before.nodes) node faults parts) before last id) same
+    subst (λ parts. IsRead (node_with (length before.nodes) node faults parts) before last id) same
     (record {
       no_faults = rw (within, clean, read.no_faults) refl;
       result_is = sym at;
@@ -62,16 +62,16 @@ above-read part space before inside after last held put node faults known result
     })
 
 -- a fault of the node's own, and one of a part
-pub above-own : {A : Type 0} (before : State) (node : A → RawNode) (faults : List SchemaError) (parts : Made A) (e : SchemaError)
-    → IsRefusal faults e → IsRefusal (above (length before.nodes) node faults parts).faults e
-above-own before node faults parts e h =
+pub node_with-own : {A : Type 0} (before : State) (node : A → RawNode) (faults : List SchemaError) (parts : Made A) (e : SchemaError)
+    → IsRefusal faults e → IsRefusal (node_with (length before.nodes) node faults parts).faults e
+node_with-own before node faults parts e h =
     first-refused (limit_faults before ++ faults) parts.faults e (second-refused (limit_faults before) faults e h)
 
-pub above-part : {A : Type 0} (part : Meaning A) (space : List ℕ) (before inside : State) (held : RawNode) (node : A → RawNode)
+pub node_with-part : {A : Type 0} (part : Meaning A) (space : List ℕ) (before inside : State) (held : RawNode) (node : A → RawNode)
     (faults : List SchemaError) (known : Known) (e : SchemaError)
     → inside.nodes ≡ before.nodes ++ held ∷ [] → inside.known ≡ known → Refuses part space inside e
-    → IsRefusal (above (length before.nodes) node faults (part space known (suc (length before.nodes)))).faults e
-above-part part space before inside held node faults known e kept names refused =
+    → IsRefusal (node_with (length before.nodes) node faults (part space known (suc (length before.nodes)))).faults e
+node_with-part part space before inside held node faults known e kept names refused =
     let same = inside-made part space before inside held known kept names in
     second-refused (limit_faults before ++ faults) _ e (subst (λ (made : Made _). IsRefusal made.faults e) same refused)
 

@@ -50,8 +50,8 @@ abbrev pub faulty : {A : Type 0} → A → SchemaError → Meaning A
 faulty x fault enclosing known next = record { result = x; nodes = []; known = known; faults = fault ∷ [] }
 
 -- a part, and the parts after it
-abbrev pub joined : {A : Type 0} → Made A → Made (List A) → Made (List A)
-joined first rest = record {
+abbrev pub first_and_rest : {A : Type 0} → Made A → Made (List A) → Made (List A)
+first_and_rest first rest = record {
   result = first.result ∷ rest.result;
   nodes = first.nodes ++ rest.nodes;
   known = rest.known;
@@ -59,7 +59,7 @@ joined first rest = record {
 }
 
 abbrev pub followed_by : {A : Type 0} → Made A → (Made A → Made (List A)) → Made (List A)
-followed_by first rest = joined first (rest first)
+followed_by first rest = first_and_rest first (rest first)
 
 -- parts one after another
 abbrev pub in_turn : {A : Type 0} → List (Meaning A) → Meaning (List A)
@@ -68,8 +68,8 @@ in_turn (meaning ∷ meanings) enclosing known next =
     followed_by (meaning enclosing known next) (λ first. in_turn meanings enclosing first.known (next + length first.nodes))
 
 -- a node, with the parts below it; it is one too many past `max_nodes`
-abbrev pub above : {A : Type 0} → ℕ → (A → RawNode) → List SchemaError → Made A → Made ℕ
-above next node faults parts = record {
+abbrev pub node_with : {A : Type 0} → ℕ → (A → RawNode) → List SchemaError → Made A → Made ℕ
+node_with next node faults parts = record {
   result = next;
   nodes = node parts.result ∷ parts.nodes;
   known = parts.known;
@@ -77,12 +77,12 @@ above next node faults parts = record {
 }
 
 -- no part
-abbrev pub alone : Known → Made (List ℕ)
-alone known = record { result = []; nodes = []; known = known; faults = [] }
+abbrev pub no_parts : Known → Made (List ℕ)
+no_parts known = record { result = []; nodes = []; known = known; faults = [] }
 
 -- a primitive type
 abbrev pub use_of : Node → Meaning ℕ
-use_of node enclosing known next = above next (λ none. RawNode.plain node) [] (alone known)
+use_of node enclosing known next = node_with next (λ none. RawNode.plain node) [] (no_parts known)
 
 -- a reference to a definition that is known
 abbrev pub reference : List ℕ → Meaning ℕ
@@ -137,12 +137,12 @@ type_of_word word = by_word (word_of word)
 -- a union of its branches in order
 abbrev pub union_of : List (Meaning ℕ) → Meaning ℕ
 union_of branches enclosing known next =
-    above next (λ ids. RawNode.plain (Node.union ids)) [] (in_turn branches enclosing known (suc next))
+    node_with next (λ ids. RawNode.plain (Node.union ids)) [] (in_turn branches enclosing known (suc next))
 
 -- an array or a map of the type under one key
 abbrev pub container_of : (ℕ → Node) → Option (Meaning ℕ) → Meaning ℕ
 container_of node None = faulty 0 SchemaError.InvalidDeclaration
-container_of node (Some part) = λ enclosing known next. above next (λ id. RawNode.plain (node id)) [] (part enclosing known (suc next))
+container_of node (Some part) = λ enclosing known next. node_with next (λ id. RawNode.plain (node id)) [] (part enclosing known (suc next))
 
 -- the names that are known from the start of a definition on
 abbrev pub defining : Name → ℕ → Known → Known
@@ -155,7 +155,7 @@ name_faults name known = unless (not (is_some (id_of name known))) SchemaError.D
 -- the enclosing namespace of a record's fields is its own
 abbrev pub record_named : Members → Option (List (Meaning RawField)) → Known → ℕ → Name → Made ℕ
 record_named ms fields known next name =
-    above next (RawNode.record_of name (aliases_in name.namespace ms).value)
+    node_with next (RawNode.record_of name (aliases_in name.namespace ms).value)
     (name_faults name known ++ (aliases_in name.namespace ms).faults)
     (fields_meaning fields name.namespace (defining name next known) (suc next))
   where
@@ -165,16 +165,16 @@ record_named ms fields known next name =
 
 abbrev pub enum_named : Members → Known → ℕ → Name → Made ℕ
 enum_named ms known next name =
-    above next
+    node_with next
     (λ none. RawNode.plain (Node.enum name (aliases_in name.namespace ms).value (symbols_in ms).value.0 (symbols_in ms).value.1))
     (name_faults name known ++ (aliases_in name.namespace ms).faults ++ (symbols_in ms).faults)
-    (alone (defining name next known))
+    (no_parts (defining name next known))
 
 abbrev pub fixed_named : Members → Known → ℕ → Name → Made ℕ
 fixed_named ms known next name =
-    above next (λ none. RawNode.plain (Node.fixed name (aliases_in name.namespace ms).value (size_in ms).value))
+    node_with next (λ none. RawNode.plain (Node.fixed name (aliases_in name.namespace ms).value (size_in ms).value))
     (name_faults name known ++ (aliases_in name.namespace ms).faults ++ (size_in ms).faults)
-    (alone (defining name next known))
+    (no_parts (defining name next known))
 
 -- a definition without a name that can be read defines nothing
 abbrev pub definition_of : Members → (Known → ℕ → Name → Made ℕ) → Meaning ℕ

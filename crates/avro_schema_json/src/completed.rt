@@ -12,7 +12,7 @@ ghost use Rattle.avro_schema_json.specs.DeclaredFaults.{refusals_of_nodes, or_el
 ghost use Rattle.avro_schema_json.specs.DeclaredSchema.{field_default, is_default_read, are_defaults_read, are_all_defaults_read, completed_nodes};
 ghost use Rattle.avro_schema_json.specs.inside.OwnDefaults.{bares_of};
 ghost use Rattle.avro_schema_json.specs.inside.SeenDefaults.{data_seen, lists_seen, defaults_of_node as node_defaults_by, first_or, others_of, filled_fields, filled_node, filled_nodes};
-ghost use Rattle.avro_schema_json.specs.inside.SeenRaw.{raw_field_of, raw_fields_of, raw_node_of, raw_nodes_of};
+ghost use Rattle.avro_schema_json.specs.inside.SeenRaw.{raw_field_of, raw_fields_of, raw_record_of, raw_node_of, raw_nodes_of};
 ghost use Rattle.avro_schema_json.specs.declared.error.SchemaError.TheVariants.{InvalidDefault, OutOfMemory};
 
 use crate::defaults::default_of;
@@ -79,15 +79,11 @@ fn defaults_of_node(alloc: Global, raws: &[RawNode], raw: &RawNode) -> Result<No
     ensures read { IfOk result (λ defaults. defaults.are_read ≡ are_defaults_read (bares_of raws.now) (raw_node_of raw.now)) }
 {
     match raw {
-        RawNode::Plain(_) => Ok(NodeDefaults {
-            of_fields: Vec::new(alloc),
-            are_read: true,
-        }),
-        RawNode::Enum(_) => Ok(NodeDefaults {
-            of_fields: Vec::new(alloc),
-            are_read: true,
-        }),
         RawNode::Record(record) => defaults_of_fields(alloc, raws, &record.fields),
+        _ => Ok(NodeDefaults {
+            of_fields: Vec::new(alloc),
+            are_read: true,
+        }),
     }
 }
 
@@ -153,6 +149,27 @@ fn complete_fields(
     Ok(completed)
 }
 
+/// The record with these defaults.
+fn complete_record(
+    alloc: Global,
+    raw: RawRecord<'_>,
+    defaults: Vec<Option<Datum>>,
+) -> Result<Node, Memory>
+    ensures { IfOk result (λ node. node_of node ≡ filled_node (raw_record_of raw.entry) (data_seen defaults.items)) }
+{
+    let RawRecord {
+        name,
+        aliases,
+        fields,
+    } = raw;
+    let fields = complete_fields(alloc, fields, defaults)?;
+    Ok(Node::Record(RecordNode {
+        name,
+        aliases,
+        fields,
+    }))
+}
+
 /// The node with these defaults.
 fn complete_node(
     alloc: Global,
@@ -162,22 +179,18 @@ fn complete_node(
     ensures { IfOk result (λ node. node_of node ≡ filled_node (raw_node_of raw.entry) (data_seen defaults.items)) }
 {
     match raw {
-        RawNode::Plain(node) => Ok(node),
+        RawNode::Null => Ok(Node::Null),
+        RawNode::Boolean => Ok(Node::Boolean),
+        RawNode::Int => Ok(Node::Int),
+        RawNode::Long => Ok(Node::Long),
+        RawNode::Bytes => Ok(Node::Bytes),
+        RawNode::Str => Ok(Node::Str),
+        RawNode::Array(items) => Ok(Node::Array(items)),
+        RawNode::Map(values) => Ok(Node::Map(values)),
+        RawNode::Union(branches) => Ok(Node::Union(branches)),
+        RawNode::Record(record) => complete_record(alloc, record, defaults),
         RawNode::Enum(RawEnum { node, indices: _ }) => Ok(Node::Enum(node)),
-        RawNode::Record(
-            RawRecord {
-                name,
-                aliases,
-                fields,
-            },
-        ) => {
-            let fields = complete_fields(alloc, fields, defaults)?;
-            Ok(Node::Record(RecordNode {
-                name,
-                aliases,
-                fields,
-            }))
-        }
+        RawNode::Fixed(node) => Ok(Node::Fixed(node)),
     }
 }
 

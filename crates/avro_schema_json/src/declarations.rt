@@ -8,14 +8,20 @@ ghost use Rattle.avro_schema_json.specs.inside.SeenRaw.{raw_nodes_of, raw_field_
 ghost use Rattle.serde_json.specs.Data.{object};
 ghost use Rattle.serde_json.specs.View.{view, items_view, members_view};
 
-use crate::attributes::{Members, alias_texts, aliases, field_name, form, member};
+mod attributes;
+mod leaves;
+mod name_table;
+mod progress;
+mod words;
+
+use crate::declarations::attributes::{Members, alias_texts, aliases, field_name, form, member};
+use crate::declarations::name_table::Space;
+use crate::declarations::progress::{Definition, Progress};
+use crate::declarations::words::Form;
 use crate::error::SchemaError;
-use crate::name_table::Space;
-use crate::progress::{Definition, Progress};
 use crate::raw::{RawField, RawNode, RawRecord};
-use crate::words::Form;
 use avro_name::Namespace;
-use avro_schema::{Node, NodeId};
+use avro_schema::NodeId;
 use serde_json::Value;
 use std::alloc::Global;
 
@@ -61,7 +67,7 @@ impl<'a> Progress<'a> {
         for branch in branches {
             ids.push(self.read_type(alloc, enclosing, branch)?)?;
         }
-        self.put(id, RawNode::Plain(Node::Union(ids)));
+        self.put(id, RawNode::Union(ids));
         Ok(id)
     }
 
@@ -111,7 +117,7 @@ impl<'a> Progress<'a> {
     {
         let id = self.reserve()?;
         let part = self.read_type(alloc, enclosing, items)?;
-        self.put(id, RawNode::Plain(Node::Array(part)));
+        self.put(id, RawNode::Array(part));
         Ok(id)
     }
 
@@ -130,7 +136,7 @@ impl<'a> Progress<'a> {
     {
         let id = self.reserve()?;
         let part = self.read_type(alloc, enclosing, values)?;
-        self.put(id, RawNode::Plain(Node::Map(part)));
+        self.put(id, RawNode::Map(part));
         Ok(id)
     }
 

@@ -2,23 +2,29 @@
 
 ghost use Rattle.std.specs.Prelude.{◌≡◌, true, length, Some, option_map, IfOk};
 ghost use Rattle.avro_schema.specs.Node.{node_at};
-ghost use Rattle.avro_schema.specs.Seen.{value_of, values_of, entries_of, node_of, ids_of};
+ghost use Rattle.avro_schema.specs.Seen.{value_of, values_of, entries_of, ids_of};
 ghost use Rattle.avro_schema.specs.Value.{Value as SeenValue};
 ghost use Rattle.avro_schema_json.specs.DeclaredDefaults.{default_of as default_by, each_default, entries_default as each_entry, default_under, fields_default as each_field, object_default as default_of_object, items_default as default_of_items, member_keys, first_fit};
 ghost use Rattle.avro_schema_json.specs.inside.Misfits.{AreMisfits};
 ghost use Rattle.avro_schema_json.specs.inside.OwnDefaults.{own_default as own_default_by, default_of_fields, bare_of, bares_of, fields_seen};
 ghost use Rattle.serde_json.specs.View.{view, items_view, members_view};
 
-use crate::fields::{Fields, names_fields};
-use crate::misfit::has;
-use crate::misfits::skipped_branches;
-use crate::plain_defaults::{
-    boolean_default, enum_default, null_default, number_default, text_default,
+mod asks;
+mod fields;
+mod misfit;
+mod misfits;
+mod plain_defaults;
+
+use crate::defaults::fields::names_fields;
+use crate::defaults::misfit::has;
+use crate::defaults::misfits::skipped_branches;
+use crate::defaults::plain_defaults::{
+    boolean_default, null_default, number_default, text_default,
 };
-use crate::raw::RawNode;
+use crate::raw::{RawField, RawNode};
 use crate::raw_nodes::{branches, raw_at};
 use crate::texts::copy_of_text;
-use avro_schema::{Datum, Memory, Node, NodeId};
+use avro_schema::{Datum, Memory, NodeId};
 use serde_json::{Map, Value};
 use std::alloc::Global;
 use std::collections::BTreeSet;
@@ -34,7 +40,7 @@ pub(crate) fn default_of(
 ) -> Result<Option<Datum>, Memory>
     ensures { IfOk result (λ datum. option_map value_of datum ≡ default_by (bares_of raws.now) (view tree.now) (node_at (bares_of raws.now) id.0)) }
 {
-    let null = RawNode::Plain(Node::Null);
+    let null = RawNode::Null;
     let node = raw_at(&*raws, &null, id);
     match branches(node) {
         None => own_default(alloc, raws, tree, node),
@@ -82,7 +88,7 @@ fn default_at(
 ) -> Result<Option<Datum>, Memory>
     ensures { IfOk result (λ datum. option_map value_of datum ≡ own_default_by (bares_of raws.now) (view tree.now) (node_at (bares_of raws.now) id.0)) }
 {
-    let null = RawNode::Plain(Node::Null);
+    let null = RawNode::Null;
     let node = raw_at(&*raws, &null, id);
     own_default(alloc, raws, tree, node)
 }
@@ -108,28 +114,6 @@ fn own_default(
 ) -> Result<Option<Datum>, Memory>
     ensures { IfOk result (λ datum. option_map value_of datum ≡ own_default_by (bares_of raws.now) (view tree.now) (bare_of node.now)) }
 {
-    match node {
-        RawNode::Plain(node) => plain_default(alloc, raws, tree, node),
-        RawNode::Enum(raw) => Ok(enum_default(tree, raw)),
-        RawNode::Record(record) => match tree {
-            Value::Object(members) => {
-                record_default(alloc, raws, members, Fields::Raw(&record.fields))
-            }
-            _ => Ok(None),
-        },
-    }
-}
-
-/// The default that JSON is for a node without defaults of its own.
-#[cycle(defaults)]
-fn plain_default(
-    alloc: Global,
-    raws: &[RawNode],
-    tree: &Value,
-    node: &Node,
-) -> Result<Option<Datum>, Memory>
-    ensures { IfOk result (λ datum. option_map value_of datum ≡ own_default_by (bares_of raws.now) (view tree.now) (node_of node.now)) }
-{
     match tree {
         Value::Null => Ok(null_default(node)),
         Value::Bool(value) => Ok(boolean_default(*value, node)),
@@ -146,13 +130,13 @@ fn items_default(
     alloc: Global,
     raws: &[RawNode],
     items: &Vec<Value>,
-    node: &Node,
+    node: &RawNode,
 ) -> Result<Option<Datum>, Memory>
     ensures { IfOk result (λ datum. option_map value_of datum
-        ≡ default_of_items (bares_of raws.now) (λ m. each_default (bares_of raws.now) (items_view items.now.items) m) (node_of node.now)) }
+        ≡ default_of_items (bares_of raws.now) (λ m. each_default (bares_of raws.now) (items_view items.now.items) m) (bare_of node.now)) }
 {
     match node {
-        Node::Array(id) => match item_defaults(alloc, raws, items, *id)? {
+        RawNode::Array(id) => match item_defaults(alloc, raws, items, *id)? {
             Some(values) => Ok(Some(Datum::Array(values))),
             None => Ok(None),
         },
@@ -187,20 +171,18 @@ fn object_default(
     alloc: Global,
     raws: &[RawNode],
     members: &Map<String, Value>,
-    node: &Node,
+    node: &RawNode,
 ) -> Result<Option<Datum>, Memory>
     ensures { IfOk result (λ datum. option_map value_of datum
         ≡ default_of_object (bares_of raws.now) (λ m. each_entry (bares_of raws.now) (members_view members.now.entries) m)
-        (λ key. default_under (bares_of raws.now) key (members_view members.now.entries)) (member_keys (members_view members.now.entries)) (node_of node.now)) }
+        (λ key. default_under (bares_of raws.now) key (members_view members.now.entries)) (member_keys (members_view members.now.entries)) (bare_of node.now)) }
 {
     match node {
-        Node::Map(id) => match entry_defaults(alloc, raws, members, *id)? {
+        RawNode::Map(id) => match entry_defaults(alloc, raws, members, *id)? {
             Some(entries) => Ok(Some(Datum::Map(entries))),
             None => Ok(None),
         },
-        Node::Record(record) => {
-            record_default(alloc, raws, members, Fields::Completed(&record.fields))
-        }
+        RawNode::Record(record) => record_default(alloc, raws, members, &record.fields),
         _ => Ok(None),
     }
 }
@@ -232,10 +214,10 @@ fn record_default(
     alloc: Global,
     raws: &[RawNode],
     members: &Map<String, Value>,
-    fields: Fields<'_>,
+    fields: &[RawField],
 ) -> Result<Option<Datum>, Memory>
     ensures { IfOk result (λ datum. option_map value_of datum
-        ≡ default_of_fields (bares_of raws.now) (members_view members.now.entries) (fields_seen fields.entry)) }
+        ≡ default_of_fields (bares_of raws.now) (members_view members.now.entries) (fields_seen fields.now)) }
 {
     let Some(values) = field_defaults(alloc, raws, members, fields)? else {
         return Ok(None);
@@ -253,20 +235,17 @@ fn field_defaults(
     alloc: Global,
     raws: &[RawNode],
     members: &Map<String, Value>,
-    fields: Fields<'_>,
+    fields: &[RawField],
 ) -> Result<Option<Vec<Datum>>, Memory>
     ensures { IfOk result (λ values. option_map (λ vs. values_of vs.items) values
-        ≡ each_field (bares_of raws.now) (λ key. default_under (bares_of raws.now) key (members_view members.now.entries)) (fields_seen fields.entry)) }
+        ≡ each_field (bares_of raws.now) (λ key. default_under (bares_of raws.now) key (members_view members.now.entries)) (fields_seen fields.now)) }
 {
     let mut values: Vec<Datum> = Vec::new(alloc);
-    for i in 0..fields.len() {
-        let Some((name, id)) = fields.get(i) else {
+    for field in fields {
+        let Some(tree) = members.get(field.name.as_str()) else {
             return Ok(None);
         };
-        let Some(tree) = members.get(name) else {
-            return Ok(None);
-        };
-        let Some(value) = default_of(alloc, raws, tree, id)? else {
+        let Some(value) = default_of(alloc, raws, tree, field.node)? else {
             return Ok(None);
         };
         values.push(value)?;

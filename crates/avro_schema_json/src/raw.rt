@@ -2,7 +2,7 @@ ghost use Rattle.avro_schema.specs.Seen.{texts_of};
 ghost use Rattle.avro_schema_json.specs.inside.SymbolIndices.{FindsSymbols};
 
 use avro_name::FullName;
-use avro_schema::{EnumNode, Node, NodeId};
+use avro_schema::{EnumNode, FixedNode, NodeId};
 use serde_json::Value;
 use std::collections::BTreeMap;
 
@@ -18,12 +18,21 @@ pub(crate) struct RawField<'a> {
 /// A node before its defaults are read; only a record has any.
 #[derive(Drop)]
 pub(crate) enum RawNode<'a> {
-    /// A node that is neither an enum nor a record.
-    Plain(Node),
-    /// An enum.
-    Enum(RawEnum),
-    /// A record.
+    Null,
+    Boolean,
+    Int,
+    Long,
+    Bytes,
+    Str,
+    /// An array, with the type of its items.
+    Array(NodeId),
+    /// A map, with the type of its values.
+    Map(NodeId),
+    /// A union of these branches.
+    Union(Vec<NodeId>),
     Record(RawRecord<'a>),
+    Enum(RawEnum),
+    Fixed(FixedNode),
 }
 
 /// An enum, and the first index of each of its symbols.

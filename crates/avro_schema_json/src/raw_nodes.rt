@@ -3,12 +3,12 @@
 ghost use Rattle.std.specs.Prelude.{◌≡◌, is_some, option_map};
 ghost use Rattle.std.specs.List.{list_all};
 ghost use Rattle.avro_schema.specs.Node.{Node as SeenNode, node_at, node_name, branches_of as branches_in};
-ghost use Rattle.avro_schema.specs.Seen.{node_of, ids_of};
+ghost use Rattle.avro_schema.specs.Seen.{ids_of};
 ghost use Rattle.avro_schema.specs.WellFormed.{is_edge as is_good_edge};
 ghost use Rattle.avro_schema_json.specs.inside.OwnDefaults.{bare_of, bares_of};
 
 use crate::raw::RawNode;
-use avro_schema::{Node, NodeId};
+use avro_schema::NodeId;
 
 /// The node of an id, or the given node, that of null, where there is none.
 pub(crate) fn raw_at<'a>(
@@ -27,12 +27,8 @@ pub(crate) fn branches<'a>(node: &'a RawNode<'_>) -> Option<&'a [NodeId]>
     ensures { option_map (λ ids. ids_of ids.now) result ≡ branches_in (bare_of node.now) }
 {
     match node {
-        RawNode::Plain(node) => match node {
-            Node::Union(ids) => Some(ids),
-            _ => None,
-        },
-        RawNode::Enum(_) => None,
-        RawNode::Record(_) => None,
+        RawNode::Union(ids) => Some(ids),
+        _ => None,
     }
 }
 
@@ -40,18 +36,10 @@ pub(crate) fn branches<'a>(node: &'a RawNode<'_>) -> Option<&'a [NodeId]>
 fn has_name(raw: &RawNode) -> bool
     ensures { result ≡ is_some (node_name (bare_of raw.now)) }
 {
-    match raw {
-        RawNode::Plain(node) => is_named(node),
-        RawNode::Enum(_) => true,
-        RawNode::Record(_) => true,
-    }
-}
-
-/// The same of a node that has no defaults.
-fn is_named(node: &Node) -> bool
-    ensures { result ≡ is_some (node_name (node_of node.now)) }
-{
-    matches!(node, Node::Record(_) | Node::Enum(_) | Node::Fixed(_))
+    matches!(
+        raw,
+        RawNode::Record(_) | RawNode::Enum(_) | RawNode::Fixed(_)
+    )
 }
 
 /// Whether an edge stays among the nodes, and goes to a later one or to a record, an enum or a fixed.
@@ -62,7 +50,7 @@ fn is_edge(raws: &[RawNode], from: usize, to: NodeId) -> bool
     if index >= raws.len() {
         return false;
     }
-    let null = RawNode::Plain(Node::Null);
+    let null = RawNode::Null;
     from < index || has_name(raw_at(&*raws, &null, to))
 }
 

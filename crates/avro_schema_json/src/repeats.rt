@@ -4,14 +4,13 @@
 ghost use Rattle.std.specs.Prelude.{◌≡◌, ◌⊎◌, ℕ, true, IfOk, OnOk};
 ghost use Rattle.std.specs.Ordering.{nat_cmp};
 ghost use Rattle.std.specs.BTreeSet.{contains};
-ghost use Rattle.avro_schema.specs.Seen.{node_of, ids_of};
-ghost use Rattle.avro_schema.specs.WellFormed.{branch_kind};
+ghost use Rattle.avro_schema.specs.Seen.{ids_of};
 ghost use Rattle.avro_schema_json.specs.inside.OwnDefaults.{bares_of};
-ghost use Rattle.avro_schema_json.specs.inside.Repeats.{kind_code, code_by, Repeats, SomeRepeats};
+ghost use Rattle.avro_schema_json.specs.inside.Repeats.{code_by, Repeats, SomeRepeats};
 
 use crate::raw::RawNode;
 use crate::raw_nodes::{are_edges, branches, raw_at};
-use avro_schema::{Memory, Node, NodeId};
+use avro_schema::{Memory, NodeId};
 use std::alloc::Global;
 use std::collections::BTreeSet;
 
@@ -19,31 +18,20 @@ use std::collections::BTreeSet;
 fn code_of(raws: &[RawNode], branch: NodeId) -> u64
     ensures { result ≡ code_by (bares_of raws.now) branch.0 }
 {
-    let null = RawNode::Plain(Node::Null);
+    let null = RawNode::Null;
     match raw_at(&*raws, &null, branch) {
-        RawNode::Plain(node) => code_of_plain(node, branch),
-        RawNode::Enum(_) => u64::from(branch.0) * 2 + 1,
+        RawNode::Null => 0,
+        RawNode::Boolean => 2,
+        RawNode::Int => 4,
+        RawNode::Long => 6,
+        RawNode::Bytes => 8,
+        RawNode::Str => 10,
+        RawNode::Array(_) => 12,
+        RawNode::Map(_) => 14,
+        RawNode::Union(_) => u64::from(branch.0) * 2 + 1,
         RawNode::Record(_) => u64::from(branch.0) * 2 + 1,
-    }
-}
-
-/// The code of a branch whose node is neither an enum nor a record.
-fn code_of_plain(node: &Node, branch: NodeId) -> u64
-    ensures { result ≡ kind_code branch.0 (branch_kind (node_of node.now)) }
-{
-    match node {
-        Node::Null => 0,
-        Node::Boolean => 2,
-        Node::Int => 4,
-        Node::Long => 6,
-        Node::Bytes => 8,
-        Node::Str => 10,
-        Node::Array(_) => 12,
-        Node::Map(_) => 14,
-        Node::Union(_) => u64::from(branch.0) * 2 + 1,
-        Node::Record(_) => u64::from(branch.0) * 2 + 1,
-        Node::Enum(_) => u64::from(branch.0) * 2 + 1,
-        Node::Fixed(_) => u64::from(branch.0) * 2 + 1,
+        RawNode::Enum(_) => u64::from(branch.0) * 2 + 1,
+        RawNode::Fixed(_) => u64::from(branch.0) * 2 + 1,
     }
 }
 

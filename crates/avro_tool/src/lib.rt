@@ -54,7 +54,7 @@ impl Finding {
 
 /// Tells that the words could not be taken from the system, and answers the status.
 pub fn refuse_words<E: Write>(error: &io::Error, err: &mut E) -> u8 {
-    told(&Failure::of_words(error), err)
+    report(&Failure::of_words(error), err)
 }
 
 /// Runs the program over its words, without its name, and answers its status: 0 good or yes, 1 no,
@@ -68,13 +68,13 @@ pub fn run<R: Files + AllocGlobal, O: Write, E: Write>(
 ) -> u8 {
     match answer(rt, words, out) {
         Ok(finding) => finding.status(),
-        Err(failure) => told(&failure, err),
+        Err(failure) => report(&failure, err),
     }
 }
 
 /// Tells of a failure, and answers its status. Where the standard error fails too, the status is all
 /// that can be told.
-fn told<E: Write>(failure: &Failure<'_>, err: &mut E) -> u8 {
+fn report<E: Write>(failure: &Failure<'_>, err: &mut E) -> u8 {
     let _ = failure.write_to(err);
     failure.status()
 }

@@ -23,7 +23,7 @@ number_of numbers namespace = get (slice_cmp nat_cmp) numbers namespace
 -- Each namespace has a number of its own. A map finds the id of each name that is known, and of no other.
 pub record IsIndexOf (known : Known) (numbers : BTreeMap (List ℕ) ℕ) (ids : BTreeMap Key ℕ) : Type 0 where
   pub bounded : (namespace : List ℕ) (number : ℕ) → number_of numbers namespace ≡ Some number → number < btree_map_len numbers
-  pub alone : (one other : List ℕ) (number : ℕ) → number_of numbers one ≡ Some number → number_of numbers other ≡ Some number → one ≡ other
+  pub distinct_numbers : (one other : List ℕ) (number : ℕ) → number_of numbers one ≡ Some number → number_of numbers other ≡ Some number → one ≡ other
   pub found : (namespace : List ℕ) (number : ℕ) (simple : String Global) → number_of numbers namespace ≡ Some number
       → get key_cmp ids (number, simple) ≡ id_of (record { namespace = namespace; simple = string_bytes simple }) known
   pub unnumbered : (namespace simple : List ℕ) → number_of numbers namespace ≡ None → id_of (record { namespace = namespace; simple = simple }) known ≡ None

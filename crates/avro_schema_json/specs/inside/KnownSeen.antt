@@ -2,8 +2,8 @@
 use Rattle.std.specs.Prelude.{◌≡◌, ℕ, List, Some}
 use Rattle.avro_schema_json.specs.Declares.{Known}
 use Rattle.avro_schema_json.specs.inside.KnownNames.{number_of}
-use Rattle.avro_schema_json.specs.declared.name_table.NameTable.{NameTable}
-use Rattle.avro_schema_json.specs.declared.name_table.Space.{Space}
+use Rattle.avro_schema_json.specs.declared.declarations.name_table.NameTable.{NameTable}
+use Rattle.avro_schema_json.specs.declared.declarations.name_table.Space.{Space}
 
 abbrev pub known_of : NameTable → Known
 known_of names = names.order.items

@@ -2,14 +2,12 @@
 use Rattle.std.specs.Prelude.{List, Option, option_and_then, map}
 use Rattle.avro_schema.specs.Value.{Value}
 use Rattle.avro_schema.specs.Node.{Node, FieldNode}
-use Rattle.avro_schema.specs.Seen.{seen_fields}
 use Rattle.serde_json.specs.Data.{Data, Members}
 use Rattle.avro_schema_json.specs.DeclaredDefaults.{null_default, boolean_default, number_default, text_default, items_default, object_default, each_default, entries_default, default_under, fields_default, member_keys, names_only, only_if}
 use Rattle.avro_schema_json.specs.DeclaredSchema.{bare_field, bare_node, bare_nodes}
 use Rattle.avro_schema_json.specs.inside.SeenRaw.{raw_node_of, raw_nodes_of, raw_fields_of}
 use Rattle.avro_schema_json.specs.declared.raw.RawNode.{RawNode}
-use Rattle.avro_schema_json.specs.declared.fields.Fields.{Fields}
-use Rattle.avro_schema_json.specs.declared.fields.Fields.TheVariants.{Completed, Raw}
+use Rattle.avro_schema_json.specs.declared.raw.RawField.{RawField}
 
 abbrev pub own_default : List Node → Data → Node → Option Value
 own_default nodes Data.null n = null_default n
@@ -26,10 +24,9 @@ bare_of raw = bare_node (raw_node_of raw)
 abbrev pub bares_of : List RawNode → List Node
 bares_of raws = bare_nodes (raw_nodes_of raws)
 
--- the fields of a record, whether their defaults are read or not
-abbrev pub fields_seen : Fields → List FieldNode
-fields_seen (Completed fields) = seen_fields fields.now
-fields_seen (Raw fields) = map bare_field (raw_fields_of fields.now)
+-- the fields of a record without their defaults, of the program
+abbrev pub fields_seen : List RawField → List FieldNode
+fields_seen fields = map bare_field (raw_fields_of fields)
 
 -- a record, by a member for each field and no other
 abbrev pub default_of_fields : List Node → Members → List FieldNode → Option Value

@@ -1,16 +1,16 @@
 -- How contracts see the state of a reading, its words and its forms.
 use Rattle.std.specs.Prelude.{ℕ, List}
-use Rattle.avro_schema.specs.Seen.{node_of}
+use Rattle.avro_schema.specs.Node.{Node}
 use Rattle.avro_schema.specs.declared.schema.NodeId.{NodeId}
 use Rattle.avro_schema_json.specs.declared.error.SchemaError.{SchemaError}
 use Rattle.avro_schema_json.specs.Declares.{Meaning, faulty, use_of, reference, Form as SeenForm, record_form, enum_form, fixed_form, array_form, map_form, error_form, word_form, no_form}
 use Rattle.avro_schema_json.specs.inside.KnownSeen.{known_of, IsNumbered, KeepsNumbers}
 use Rattle.avro_schema_json.specs.inside.Reading.{State, Reads, Refuses}
 use Rattle.avro_schema_json.specs.inside.SeenRaw.{raw_nodes_of}
-use Rattle.avro_schema_json.specs.declared.name_table.Space.{Space}
-use Rattle.avro_schema_json.specs.declared.progress.Progress.{Progress}
-use Rattle.avro_schema_json.specs.declared.words.Word.{Word}
-use Rattle.avro_schema_json.specs.declared.words.Form.{Form}
+use Rattle.avro_schema_json.specs.declared.declarations.name_table.Space.{Space}
+use Rattle.avro_schema_json.specs.declared.declarations.progress.Progress.{Progress}
+use Rattle.avro_schema_json.specs.declared.declarations.words.Word.{Word}
+use Rattle.avro_schema_json.specs.declared.declarations.words.Form.{Form}
 
 abbrev pub state_of : Progress → State
 state_of d = record { nodes = raw_nodes_of d.nodes.items; known = known_of d.names }
@@ -35,7 +35,12 @@ RefusesAt meaning enclosing before e = Refuses meaning enclosing (state_of befor
 
 -- what a word means, once it is known which it is
 abbrev pub meaning_of_word : List ℕ → Word → Meaning ℕ
-meaning_of_word text (Word.Primitive n) = use_of (node_of n)
+meaning_of_word text Word.Null = use_of Node.null
+meaning_of_word text Word.Boolean = use_of Node.boolean
+meaning_of_word text Word.Int = use_of Node.int
+meaning_of_word text Word.Long = use_of Node.long
+meaning_of_word text Word.Bytes = use_of Node.bytes
+meaning_of_word text Word.Str = use_of Node.string
 meaning_of_word text Word.Unsupported = faulty 0 SchemaError.UnsupportedType
 meaning_of_word text Word.TypeName = reference text
 

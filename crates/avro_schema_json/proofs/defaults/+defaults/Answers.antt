@@ -1,4 +1,4 @@
-use Rattle.std.proofs.Common.{◌≡◌, Some, option_map, sym, ap, ◌∙◌, arith}
+use Rattle.std.proofs.Common.{◌≡◌, Some, option_map, sym, ap, ◌∙◌}
 use Rattle.avro_schema.specs.Node.{node_at, branches_of}
 use Rattle.avro_schema.specs.Seen.{value_of, ids_of}
 use Rattle.avro_schema.specs.Value.{Value}
@@ -8,8 +8,9 @@ use Rattle.serde_json.proofs.Views.{view-lookup}
 use Rattle.avro_schema_json.specs.DeclaredDefaults.{each_default, entries_default}
 use Rattle.avro_schema_json.specs.inside.OwnDefaults.{bares_of, fields_seen}
 use Rattle.avro_schema_json.proofs.DefaultsSeen.{default-union, entries_end}
-use Rattle.avro_schema_json.proofs.DefaultSteps.{item_next, items_end, entry_next, fields_left, field_next, field_stop, field_missing, fields_end, field_absent}
+use Rattle.avro_schema_json.proofs.DefaultSteps.{item_next, items_end, entry_next, fields_left, field_next, field_stop, field_missing, fields_end}
 use Rattle.avro_schema_json.proofs.MisfitsSeen.{branch-skip}
+use Rattle.avro_schema_json.proofs.RawSeen.{field_item, fields_past}
 use Rattle.avro_schema_json.proofs.defaults.+defaults.Goals as goal
 
 pub default_of-returns : goal.default_of-returns
@@ -64,46 +65,51 @@ entry_defaults-returns t c =
 
 pub field_defaults-returns-in_default : goal.field_defaults-returns-in_default
 field_defaults-returns-in_default t c =
-    absurd (field_absent (fields_seen c.args.fields) c.loop-i.i (omega (arith, c.loop-i-test.true, c.len-i-end.ensures)) c.in_default.ensures)
-
-pub field_defaults-returns-in_default-get : goal.field_defaults-returns-in_default-get
-field_defaults-returns-in_default-get t c =
-    let l = c.loop-i in
+    let l = c.loop-field in
     let nodes = bares_of c.args.raws.now in
     let es = c.args.members.now.entries in
-    let fields = fields_seen c.args.fields in
-    let member = ap (option_map view) c.in_default-get.ensures.value ∙ view-lookup c.in-Some.name.now es in
-    field_missing nodes es fields l.i c.in-Some.name.now c.in-Some.id.0 (fields_left nodes es fields) l.values.items c.in-Some.ensures member l.invariant
+    let fs = c.args.fields.now in
+    let key = c.as_str.result.now in
+    let f = c.field-item.result in
+    let got = field_item fs l.field-index f key c.loop-field-test.true c.field-item.is c.as_str.ensures.value in
+    let member = ap (option_map view) c.in_default.ensures.value ∙ view-lookup key es in
+    field_missing nodes es (fields_seen fs) l.field-index key f.node.0 (fields_left nodes es (fields_seen fs)) l.values.items got member l.invariant
 
 pub field_defaults-returns-in_default-2 : goal.field_defaults-returns-in_default-2
 field_defaults-returns-in_default-2 t c =
-    let l = c.loop-i in
+    let l = c.loop-field in
     let nodes = bares_of c.args.raws.now in
     let es = c.args.members.now.entries in
-    let fields = fields_seen c.args.fields in
-    let member = ap (option_map view) c.in-Some-get.ensures.value ∙ view-lookup c.in-Some.name.now es in
+    let fs = c.args.fields.now in
+    let key = c.as_str.result.now in
+    let f = c.field-item.result in
+    let got = field_item fs l.field-index f key c.loop-field-test.true c.field-item.is c.as_str.ensures.value in
+    let member = ap (option_map view) c.in-Some.ensures.value ∙ view-lookup key es in
     let none = ap (option_map value_of) (sym c.in_default-2.is) ∙ c.in_ok-value.ensures in
-    field_stop nodes es fields l.i c.in-Some.name.now c.in-Some.id.0 (view c.in-Some-get.tree.now) (fields_left nodes es fields) l.values.items
-    c.in-Some.ensures member l.invariant none
+    field_stop nodes es (fields_seen fs) l.field-index key f.node.0 (view c.in-Some.tree.now) (fields_left nodes es (fields_seen fs)) l.values.items
+    got member l.invariant none
 
-pub field_defaults-loop-i-preserved : goal.field_defaults-loop-i-preserved
-field_defaults-loop-i-preserved t c =
-    let l = c.loop-i in
+pub field_defaults-loop-field-preserved : goal.field_defaults-loop-field-preserved
+field_defaults-loop-field-preserved t c =
+    let l = c.loop-field in
     let nodes = bares_of c.args.raws.now in
     let es = c.args.members.now.entries in
-    let fields = fields_seen c.args.fields in
-    let member = ap (option_map view) c.in-Some-get.ensures.value ∙ view-lookup c.in-Some.name.now es in
+    let fs = c.args.fields.now in
+    let key = c.as_str.result.now in
+    let f = c.field-item.result in
+    let got = field_item fs l.field-index f key c.loop-field-test.true c.field-item.is c.as_str.ensures.value in
+    let member = ap (option_map view) c.in-Some.ensures.value ∙ view-lookup key es in
     let read = ap (option_map value_of) (sym c.in-Some-2.is) ∙ c.in_ok-value.ensures in
-    rw c.in_ok-push.ensures.items (field_next nodes es fields l.i c.in-Some.name.now c.in-Some.id.0 (view c.in-Some-get.tree.now) (fields_left nodes es fields)
-    l.values.items c.in-Some-2.value c.in-Some.ensures member l.invariant read)
+    rw c.in_ok-push.ensures.items (field_next nodes es (fields_seen fs) l.field-index key f.node.0 (view c.in-Some.tree.now) (fields_left nodes es (fields_seen fs))
+    l.values.items c.in-Some-2.value got member l.invariant read)
 
 pub field_defaults-returns : goal.field_defaults-returns
 field_defaults-returns t c =
-    let l = c.loop-i in
+    let l = c.loop-field in
     let nodes = bares_of c.args.raws.now in
     let es = c.args.members.now.entries in
-    let fields = fields_seen c.args.fields in
-    fields_end nodes es fields l.i (fields_left nodes es fields) l.values.items (omega (arith, c.loop-i-test.false, c.len-i-end.ensures)) l.invariant
+    let fs = c.args.fields.now in
+    fields_end nodes es (fields_seen fs) l.field-index (fields_left nodes es (fields_seen fs)) l.values.items (fields_past fs l.field-index c.loop-field-test.false) l.invariant
 
 pub object_default-returns-in-Some : goal.object_default-returns-in-Some
 object_default-returns-in-Some t c =

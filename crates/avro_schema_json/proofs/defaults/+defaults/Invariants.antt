@@ -22,11 +22,11 @@ invariant-entry_defaults-loop-key l =
     option_map (after_entries l.entries.items) (entries_default nodes (members_view l.key-iterator) node)
     ≡ entries_default nodes (members_view l.members.entries) node
 
-abbrev pub invariant-field_defaults-loop-i : goal.invariant-field_defaults-loop-i
-invariant-field_defaults-loop-i l =
+abbrev pub invariant-field_defaults-loop-field : goal.invariant-field_defaults-loop-field
+invariant-field_defaults-loop-field l =
     let nodes = bares_of l.raws in
     let under : List ℕ → Option (Node → Option Value) = λ key. default_under nodes key (members_view l.members.entries) in
-    option_map (after_values l.values.items) (fields_default nodes under (drop l.i (fields_seen l.fields))) ≡ fields_default nodes under (fields_seen l.fields)
+    option_map (after_values l.values.items) (fields_default nodes under (drop l.field-index (fields_seen l.fields))) ≡ fields_default nodes under (fields_seen l.fields)
 
 abbrev pub invariant-branch_default-loop-i : goal.invariant-branch_default-loop-i
 invariant-branch_default-loop-i l =

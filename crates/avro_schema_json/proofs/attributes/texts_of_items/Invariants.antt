@@ -1,9 +1,0 @@
-use Rattle.std.proofs.Common.{◌≡◌, ◌++◌, drop, option_map}
-use Rattle.avro_schema.specs.Seen.{texts_of}
-use Rattle.serde_json.specs.View.{items_view}
-use Rattle.avro_schema_json.specs.DeclaredAttributes.{texts_of as texts_in}
-use Rattle.avro_schema_json.proofs.attributes.texts_of_items.Given as goal
-
-abbrev pub invariant-loop-item : goal.invariant-loop-item
-invariant-loop-item l =
-    texts_in (items_view l.items) ≡ option_map (λ more. texts_of l.texts.items ++ more) (texts_in (items_view (drop l.item-index l.items)))

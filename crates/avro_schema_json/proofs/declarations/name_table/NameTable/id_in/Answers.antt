@@ -1,0 +1,14 @@
+use Rattle.std.proofs.Common.{rules, ◌≡◌, ap, ◌∙◌}
+use Rattle.std.specs.BTreeMap.{get}
+use Rattle.avro_schema_json.specs.Declares.{id_of}
+use Rattle.avro_schema_json.specs.inside.KnownNames.{key_cmp}
+use Rattle.avro_schema_json.proofs.declarations.name_table.NameTable.id_in.Goals as goal
+
+pub returns : goal.returns
+returns c =
+    let table = c.args.self.now in
+    let text = c.in_ok-text.text in
+    let is : c.copied.result ≡ get key_cmp table.ids (c.args.number, text) = search rules in
+    λ namespace h.
+    is ∙ table.agree.found namespace c.args.number text h
+    ∙ ap (λ t. id_of (record { namespace = namespace; simple = t }) table.order.items) c.in_ok-text.ensures.ok

@@ -1,0 +1,14 @@
+use Rattle.std.proofs.Common.{◌≡◌, ℕ, List, ◌||◌, drop}
+use Rattle.std.specs.Prelude.{is_some}
+use Rattle.std.specs.List.{list_any}
+use Rattle.std.specs.Ordering.{nat_cmp}
+use Rattle.std.specs.Cmp.Lexicographic.{slice_cmp}
+use Rattle.std.specs.BTreeMap.{get_by}
+use Rattle.avro_schema_json.specs.inside.OwnDefaults.{fields_seen}
+use Rattle.avro_schema_json.proofs.NamesSeen.{is_named}
+use Rattle.avro_schema_json.proofs.defaults.fields.names_of.Given as goal
+
+abbrev pub invariant-loop-field : goal.invariant-loop-field
+invariant-loop-field l = (name : List ℕ)
+    → (is_some (get_by (λ k. slice_cmp nat_cmp name k.now) l.names) || list_any (is_named name) (drop l.field-index (fields_seen l.fields)))
+    ≡ list_any (is_named name) (fields_seen l.fields)

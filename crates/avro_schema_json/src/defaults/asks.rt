@@ -1,0 +1,197 @@
+//! Which nodes are asked of the parts of a JSON value. What is asked decides what is looked at, and not
+//! what is found: a node that is not asked is tried when its turn comes.
+
+use crate::defaults::misfit::lacks_field;
+use crate::raw::{RawField, RawNode};
+use avro_schema::{Memory, NodeId};
+use serde_json::{Map, Value};
+use std::alloc::Global;
+use std::collections::{BTreeMap, BTreeSet};
+
+/// Nodes that are asked of a value, each once.
+#[derive(Drop)]
+pub(crate) struct Asked {
+    pub ids: Vec<NodeId>,
+    known: BTreeSet<u32>,
+}
+
+impl Asked {
+    /// No nodes.
+    fn new(alloc: Global) -> Asked {
+        Asked {
+            ids: Vec::new(alloc),
+            known: BTreeSet::new(alloc),
+        }
+    }
+
+    /// Asks of one more node.
+    fn add(&mut self, id: NodeId) -> Result<(), Memory> {
+        if self.known.contains(&id.0) {
+            return Ok(());
+        }
+        self.known.insert(id.0)?;
+        self.ids.push(id)?;
+        Ok(())
+    }
+
+    /// Asks of more nodes.
+    fn add_all(&mut self, ids: &[NodeId]) -> Result<(), Memory> {
+        for id in ids {
+            self.add(*id)?;
+        }
+        Ok(())
+    }
+}
+
+/// Whether JSON is looked into for two or more of some branches, so that what one finds may be looked at
+/// again for another. Where no part has parts of its own, each branch is tried in place: that costs no more
+/// than its parts.
+pub(crate) fn may_repeat(raws: &[RawNode], tree: &Value, ids: &[NodeId]) -> bool {
+    if is_flat(tree) {
+        return false;
+    }
+    let mut is_one = false;
+    for id in ids {
+        if may_enter(raws, tree, *id) {
+            if is_one {
+                return true;
+            }
+            is_one = true;
+        }
+    }
+    false
+}
+
+/// Whether JSON has no part that is an array or an object.
+fn is_flat(tree: &Value) -> bool {
+    match tree {
+        Value::Array(items) => are_leaves(items),
+        Value::Object(members) => {
+            for (_, member) in members.iter() {
+                if has_parts(member) {
+                    return false;
+                }
+            }
+            true
+        }
+        _ => true,
+    }
+}
+
+/// Whether none of some items is an array or an object.
+fn are_leaves(items: &[Value]) -> bool {
+    for item in items {
+        if has_parts(item) {
+            return false;
+        }
+    }
+    true
+}
+
+/// Whether JSON is an array or an object.
+fn has_parts(tree: &Value) -> bool {
+    tree.is_array() || tree.is_object()
+}
+
+/// Whether JSON is looked into for the node of an id: an array for an array, an object for a map or a
+/// record.
+fn may_enter(raws: &[RawNode], tree: &Value, id: NodeId) -> bool {
+    match raws.get(id.0 as usize) {
+        Some(RawNode::Array(_)) => tree.is_array(),
+        Some(RawNode::Map(_)) => tree.is_object(),
+        Some(RawNode::Record(_)) => tree.is_object(),
+        _ => false,
+    }
+}
+
+/// The nodes that are asked, a union by its branches.
+pub(crate) fn own_ids(
+    alloc: Global,
+    raws: &[RawNode],
+    asked: &[NodeId],
+) -> Result<Vec<NodeId>, Memory> {
+    let mut own = Asked::new(alloc);
+    for id in asked {
+        match raws.get(id.0 as usize) {
+            Some(RawNode::Union(branches)) => own.add_all(branches)?,
+            _ => own.add(*id)?,
+        }
+    }
+    Ok(own.ids)
+}
+
+/// The nodes that arrays ask of their items.
+pub(crate) fn asked_items(
+    alloc: Global,
+    raws: &[RawNode],
+    own: &[NodeId],
+) -> Result<Vec<NodeId>, Memory> {
+    let mut asked = Asked::new(alloc);
+    for id in own {
+        match raws.get(id.0 as usize) {
+            Some(RawNode::Array(items)) => asked.add(*items)?,
+            _ => {}
+        }
+    }
+    Ok(asked.ids)
+}
+
+/// The nodes that maps ask of their values.
+fn asked_values(alloc: Global, raws: &[RawNode], own: &[NodeId]) -> Result<Vec<NodeId>, Memory> {
+    let mut asked = Asked::new(alloc);
+    for id in own {
+        match raws.get(id.0 as usize) {
+            Some(RawNode::Map(values)) => asked.add(*values)?,
+            _ => {}
+        }
+    }
+    Ok(asked.ids)
+}
+
+/// What is asked of each member: by maps, and by records that have a field of each key and no other.
+pub(crate) fn asked_members<'a>(
+    alloc: Global,
+    raws: &[RawNode],
+    members: &'a Map<String, Value>,
+    own: &[NodeId],
+) -> Result<BTreeMap<&'a str, Asked>, Memory> {
+    let values = asked_values(alloc, raws, own)?;
+    let mut asked = asked_of_each(alloc, members, &values)?;
+    for id in own {
+        match raws.get(id.0 as usize) {
+            Some(RawNode::Record(record)) => {
+                if record.fields.len() == members.len() && !lacks_field(members, &record.fields) {
+                    ask_fields(&mut asked, &record.fields)?;
+                }
+            }
+            _ => {}
+        }
+    }
+    Ok(asked)
+}
+
+/// The same nodes asked of each member.
+fn asked_of_each<'a>(
+    alloc: Global,
+    members: &'a Map<String, Value>,
+    values: &[NodeId],
+) -> Result<BTreeMap<&'a str, Asked>, Memory> {
+    let mut asked: BTreeMap<&'a str, Asked> = BTreeMap::new(alloc);
+    for (key, _) in members.iter() {
+        let mut of_member = Asked::new(alloc);
+        of_member.add_all(values)?;
+        asked.insert(key.as_str(), of_member)?;
+    }
+    Ok(asked)
+}
+
+/// Asks of the member of each field what the field asks.
+fn ask_fields(asked: &mut BTreeMap<&str, Asked>, fields: &[RawField]) -> Result<(), Memory> {
+    for field in fields {
+        match asked.get_mut(field.name.as_str()) {
+            Some(of_member) => of_member.add(field.node)?,
+            None => {}
+        }
+    }
+    Ok(())
+}

@@ -1,0 +1,172 @@
+//! Which nodes a JSON value is no default of. Each value is looked at once, with all the nodes that are
+//! asked of it.
+
+ghost use Rattle.std.specs.Prelude.{◌≡◌, ◌⊎◌, ℕ, true, None, IfOk, OnOk};
+ghost use Rattle.std.specs.List.{list_all};
+ghost use Rattle.avro_schema.specs.Node.{node_at};
+ghost use Rattle.avro_schema.specs.Seen.{ids_of};
+ghost use Rattle.avro_schema_json.specs.inside.Misfits.{has_id, is_misfit as is_misfit_by, AreMisfits, AreItemMisfits, AreMemberMisfits};
+ghost use Rattle.avro_schema_json.specs.inside.OwnDefaults.{own_default as own_default_by, bares_of};
+ghost use Rattle.serde_json.specs.Data.{Data, Items};
+ghost use Rattle.serde_json.specs.View.{view, items_view, members_view};
+
+use crate::defaults::asks::{asked_items, asked_members, may_repeat, own_ids};
+use crate::defaults::misfit::{is_array_misfit, is_leaf_misfit, is_object_misfit};
+use crate::raw::RawNode;
+use avro_schema::{Memory, NodeId};
+use serde_json::{Map, Value};
+use std::alloc::Global;
+use std::collections::{BTreeMap, BTreeSet};
+
+/// The branches that need not be tried: those that JSON is no default of, where two or more would look into
+/// it. JSON without parts, and that which one branch alone looks into, is tried in place.
+pub(crate) fn skipped_branches(
+    alloc: Global,
+    raws: &[RawNode],
+    tree: &Value,
+    ids: &[NodeId],
+) -> Result<BTreeSet<u32>, Memory>
+    ensures { IfOk result (λ skipped. AreMisfits (bares_of raws.now) (view tree.now) skipped) }
+{
+    if may_repeat(raws, tree, ids) {
+        return misfits_of(alloc, raws, tree, ids);
+    }
+    Ok(BTreeSet::new(alloc))
+}
+
+/// The nodes that JSON is no default of, among those that are asked of it, unions by their branches.
+#[cycle(misfits)]
+fn misfits_of(
+    alloc: Global,
+    raws: &[RawNode],
+    tree: &Value,
+    asked: &[NodeId],
+) -> Result<BTreeSet<u32>, Memory>
+    ensures { IfOk result (λ ids. AreMisfits (bares_of raws.now) (view tree.now) ids) }
+{
+    let own = own_ids(alloc, raws, asked)?;
+    match tree {
+        Value::Array(items) => {
+            let parts = item_misfits(alloc, raws, items, &own)?;
+            array_misfits(alloc, raws, items, &parts, &own)
+        }
+        Value::Object(members) => {
+            let parts = member_misfits(alloc, raws, members, &own)?;
+            object_misfits(alloc, raws, members, &parts, &own)
+        }
+        _ => leaf_misfits(alloc, raws, tree, &own),
+    }
+}
+
+/// For each item, the nodes that it is no default of.
+#[cycle(misfits)]
+fn item_misfits(
+    alloc: Global,
+    raws: &[RawNode],
+    items: &Vec<Value>,
+    own: &[NodeId],
+) -> Result<Vec<BTreeSet<u32>>, Memory>
+    ensures { IfOk result (λ parts. AreItemMisfits (bares_of raws.now) (items_view items.now.items) parts.items) }
+{
+    let asked = asked_items(alloc, raws, own)?;
+    let mut parts: Vec<BTreeSet<u32>> = Vec::new(alloc);
+    for item in items {
+        let part = misfits_of(alloc, raws, item, &asked)?;
+        parts.push(part)?;
+    }
+    Ok(parts)
+}
+
+/// For each member, the nodes that it is no default of.
+#[cycle(misfits)]
+fn member_misfits<'a>(
+    alloc: Global,
+    raws: &[RawNode],
+    members: &'a Map<String, Value>,
+    own: &[NodeId],
+) -> Result<BTreeMap<&'a str, BTreeSet<u32>>, Memory>
+    ensures { IfOk result (λ parts. AreMemberMisfits (bares_of raws.now) (members_view members.now.entries) parts) }
+{
+    let asked = asked_members(alloc, raws, members, own)?;
+    let mut parts: BTreeMap<&'a str, BTreeSet<u32>> = BTreeMap::new(alloc);
+    for (key, _) in members.iter() {
+        let key = key.as_str();
+        match asked.get(key) {
+            Some(of_member) => match members.get(key) {
+                Some(tree) => {
+                    let part = misfits_of(alloc, raws, tree, &of_member.ids)?;
+                    parts.insert(key, part)?;
+                }
+                None => {}
+            },
+            None => {}
+        }
+    }
+    Ok(parts)
+}
+
+/// Adds an id.
+fn add(ids: &mut BTreeSet<u32>, id: NodeId) -> Result<(), Memory>
+    ensures { OnOk result ((m : ℕ) → has_id ids.new m ≡ true → (has_id ids.old m ≡ true) ⊎ (m ≡ id.0)) }
+{
+    ids.insert(id.0)?;
+    Ok(())
+}
+
+/// The nodes that JSON without parts is no default of.
+fn leaf_misfits(
+    alloc: Global,
+    raws: &[RawNode],
+    tree: &Value,
+    own: &[NodeId],
+) -> Result<BTreeSet<u32>, Memory>
+    ensures { IfOk result (λ ids. AreMisfits (bares_of raws.now) (view tree.now) ids) }
+{
+    let mut ids: BTreeSet<u32> = BTreeSet::new(alloc);
+    for id in own {
+        if is_leaf_misfit(alloc, raws, tree, *id)? {
+            add(&mut ids, *id)?;
+        }
+    }
+    Ok(ids)
+}
+
+/// The nodes that an array is no default of, by the sets of its items.
+fn array_misfits(
+    alloc: Global,
+    raws: &[RawNode],
+    _items: &Vec<Value>,
+    parts: &[BTreeSet<u32>],
+    own: &[NodeId],
+) -> Result<BTreeSet<u32>, Memory>
+    ensures { IfOk result (λ ids. AreItemMisfits (bares_of raws.now) (items_view _items.now.items) parts.now
+        → AreMisfits (bares_of raws.now) (Data.array (items_view _items.now.items)) ids) }
+{
+    let mut ids: BTreeSet<u32> = BTreeSet::new(alloc);
+    for id in own {
+        if is_array_misfit(raws, parts, *id) {
+            add(&mut ids, *id)?;
+        }
+    }
+    Ok(ids)
+}
+
+/// The nodes that an object is no default of, by the sets of its members.
+fn object_misfits(
+    alloc: Global,
+    raws: &[RawNode],
+    members: &Map<String, Value>,
+    parts: &BTreeMap<&str, BTreeSet<u32>>,
+    own: &[NodeId],
+) -> Result<BTreeSet<u32>, Memory>
+    ensures { IfOk result (λ ids. AreMemberMisfits (bares_of raws.now) (members_view members.now.entries) parts.now
+        → AreMisfits (bares_of raws.now) (Data.object (members_view members.now.entries)) ids) }
+{
+    let mut ids: BTreeSet<u32> = BTreeSet::new(alloc);
+    for id in own {
+        if is_object_misfit(alloc, raws, members, parts, *id)? {
+            add(&mut ids, *id)?;
+        }
+    }
+    Ok(ids)
+}
