@@ -13,15 +13,9 @@ use crate::datum::{Datum, Memory};
 use crate::fault::DraftError;
 use crate::fitting::fits_at;
 use crate::naming::{are_simple_names, have_unique_names, names_of_fields, read_names, texts};
-use crate::schema::{EnumNode, Field, FixedNode, Node, NodeId, RecordNode};
+use crate::schema::{EnumNode, Field, FixedNode, Node, NodeId, RecordNode, Schema};
 use crate::uniqueness::are_unique_texts;
 use std::alloc::Global;
-
-/// The greatest number of nodes of a schema.
-pub(crate) const MAX_NODES: usize = 4096;
-
-/// The greatest number of symbols of an enum, and of bytes of a fixed.
-const MAX_COUNT: usize = 1_048_576;
 
 /// Tests the rules of a schema.
 pub(crate) fn check_nodes(alloc: Global, nodes: &[Node]) -> Result<(), DraftError>
@@ -31,13 +25,10 @@ pub(crate) fn check_nodes(alloc: Global, nodes: &[Node]) -> Result<(), DraftErro
     if nodes.is_empty() {
         return Err(DraftError::LimitExceeded);
     }
-    if nodes.len() > MAX_NODES {
+    if nodes.len() > Schema::MAX_NODES {
         return Err(DraftError::LimitExceeded);
     }
-    match check_each(alloc, nodes) {
-        Ok(()) => {}
-        Err(error) => return Err(error),
-    }
+    check_each(alloc, nodes)?;
     if !have_unique_names(alloc, nodes)? {
         return Err(DraftError::DuplicateName);
     }
@@ -50,10 +41,7 @@ fn check_each(alloc: Global, nodes: &[Node]) -> Result<(), DraftError>
     ensures broken { IfErr result (IsRefusedSomewhere (nodes_of nodes.now)) }
 {
     for i in 0..nodes.len() {
-        match check_node(alloc, nodes, i, &nodes[i]) {
-            Ok(()) => {}
-            Err(error) => return Err(error),
-        }
+        check_node(alloc, nodes, i, &nodes[i])?;
     }
     Ok(())
 }
@@ -195,7 +183,7 @@ fn check_enum(
     if count == 0 {
         return Err(DraftError::InvalidSymbols);
     }
-    if count > MAX_COUNT {
+    if count > EnumNode::MAX_SYMBOLS {
         return Err(DraftError::LimitExceeded);
     }
     match enumeration.default {
@@ -224,7 +212,7 @@ fn check_fixed(nodes: &[Node], id: usize, fixed: &FixedNode) -> Result<(), Draft
     // A name that is read is known to be a fullname, which the rules of the node ask of it.
     let _ = fixed.name.simple();
     read_names(&fixed.aliases);
-    if fixed.size as usize > MAX_COUNT {
+    if fixed.size > FixedNode::MAX_SIZE {
         return Err(DraftError::LimitExceeded);
     }
     Ok(())

@@ -1,6 +1,6 @@
 ghost use Rattle.std.specs.Prelude.{◌≤◌, vec_len};
 
-use crate::checking::{MAX_NODES, check_nodes};
+use crate::checking::check_nodes;
 use crate::fault::DraftError;
 use crate::schema::{Node, NodeId, Schema};
 use std::alloc::Global;
@@ -41,7 +41,7 @@ impl Draft {
         ensures err { OnErr result (draft_nodes self.new ≡ draft_nodes self.old) }
     {
         let number = self.nodes.len();
-        if number >= MAX_NODES {
+        if number >= Schema::MAX_NODES {
             return Err(DraftError::LimitExceeded);
         }
         self.nodes.push(node)?;
@@ -59,9 +59,7 @@ impl Draft {
         ensures succeeds { is_schema (draft_nodes self) ≡ true → IfErr result (λ e. e ≡ DraftError.OutOfMemory) }
         ensures faulty { IfErr result (IsRefused (draft_nodes self)) }
     {
-        match check_nodes(*self.nodes.allocator(), &self.nodes) {
-            Ok(()) => Ok(Schema::from_nodes(self.nodes)),
-            Err(error) => Err(error),
-        }
+        check_nodes(*self.nodes.allocator(), &self.nodes)?;
+        Ok(Schema::from_nodes(self.nodes))
     }
 }

@@ -72,6 +72,16 @@ pub struct FixedNode {
     pub size: u32,
 }
 
+impl EnumNode {
+    /// The greatest number of symbols.
+    pub const MAX_SYMBOLS: usize = 1_048_576;
+}
+
+impl FixedNode {
+    /// The greatest size, in bytes.
+    pub const MAX_SIZE: u32 = 1_048_576;
+}
+
 /// A well-formed schema: 1 to 4,096 nodes that keep the rules of the standard.
 #[derive(Debug, Drop)]
 pub struct Schema {
@@ -85,6 +95,9 @@ impl Schema {
     ghost use Rattle.avro_schema.specs.Seen.{node_of, nodes_of};
     ghost use Rattle.avro_schema.specs.SeenSchema.{schema_nodes};
     ghost use Rattle.avro_schema.specs.WellFormed.{is_schema};
+
+    /// The greatest number of nodes.
+    pub const MAX_NODES: usize = 4096;
 
     /// A schema of nodes that are one.
     pub(crate) fn from_nodes(nodes: Vec<Node>) -> Schema
