@@ -207,10 +207,7 @@ fn draft_of(
     let mut rest = defaults.into_iter();
     for raw in raws {
         let node = complete_node(alloc, raw, next_list(alloc, &mut rest))?;
-        match draft.add(node) {
-            Ok(_) => {}
-            Err(error) => return Err(error),
-        }
+        draft.add(node)?;
     }
     Ok(draft)
 }
@@ -227,21 +224,11 @@ pub(crate) fn schema_of(alloc: Global, raws: Vec<RawNode<'_>>) -> Result<Schema,
     if has_repeated_branch(alloc, &raws)? {
         return Err(SchemaError::InvalidUnion);
     }
-    let defaults = match defaults_of_nodes(alloc, &raws) {
-        Ok(defaults) => defaults,
-        Err(_) => return Err(SchemaError::OutOfMemory),
-    };
-    let Defaults { of_nodes, are_read } = defaults;
-    let draft = match draft_of(alloc, raws, of_nodes) {
-        Ok(draft) => draft,
-        Err(error) => return Err(SchemaError::from(error)),
-    };
-    match draft.finish() {
-        Ok(schema) => if are_read {
-            Ok(schema)
-        } else {
-            Err(SchemaError::InvalidDefault)
-        },
-        Err(error) => Err(SchemaError::from(error)),
+    let Defaults { of_nodes, are_read } = defaults_of_nodes(alloc, &raws)?;
+    let draft = draft_of(alloc, raws, of_nodes)?;
+    let schema = draft.finish()?;
+    if !are_read {
+        return Err(SchemaError::InvalidDefault);
     }
+    Ok(schema)
 }

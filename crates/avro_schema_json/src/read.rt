@@ -70,8 +70,6 @@ fn declared_schema(alloc: Global, tree: &Value) -> Result<Schema, SchemaError>
     if has_float(tree) {
         return Err(SchemaError::UnsupportedNumber);
     }
-    match declarations(alloc, tree) {
-        Ok(raws) => schema_of(alloc, raws),
-        Err(error) => Err(error),
-    }
+    let raws = declarations(alloc, tree)?;
+    schema_of(alloc, raws)
 }

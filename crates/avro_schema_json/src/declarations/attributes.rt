@@ -15,11 +15,9 @@ use crate::declarations::words::{Form, form_of};
 use crate::error::SchemaError;
 use crate::symbol_indices::symbol_indices;
 use avro_name::{FullName, Namespace};
+use avro_schema::FixedNode;
 use serde_json::{Map, Value};
 use std::alloc::Global;
-
-/// The greatest number of bytes of a fixed.
-const MAX_COUNT: u64 = 1_048_576;
 
 /// The members of an object.
 pub(crate) type Members = Map<String, Value>;
@@ -229,7 +227,7 @@ pub(crate) fn size(members: &Members) -> Result<u32, SchemaError>
     };
     match value.as_u64() {
         Some(size) => {
-            if size > MAX_COUNT {
+            if size > FixedNode::MAX_SIZE as u64 {
                 return Err(SchemaError::LimitExceeded);
             }
             Ok(size as u32)

@@ -56,10 +56,7 @@ impl Progress<'_> {
         let Definition { id, name, space } = self.begin(alloc, enclosing, members)?;
         let aliases = aliases(alloc, &space.namespace, members)?;
         let (symbols, default) = symbols(alloc, members)?;
-        let indices = match symbol_indices(alloc, &symbols) {
-            Ok(indices) => indices,
-            Err(_) => return Err(SchemaError::OutOfMemory),
-        };
+        let indices = symbol_indices(alloc, &symbols)?;
         let node = EnumNode {
             name,
             aliases,

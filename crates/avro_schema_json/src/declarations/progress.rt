@@ -14,11 +14,8 @@ use crate::declarations::name_table::{NameTable, Space};
 use crate::error::SchemaError;
 use crate::raw::RawNode;
 use avro_name::FullName;
-use avro_schema::NodeId;
+use avro_schema::{NodeId, Schema};
 use std::alloc::{AllocError, Global};
-
-/// The greatest number of nodes.
-const MAX_NODES: usize = 4096;
 
 /// The nodes of a declaration that is being read, in the order in which they begin, and the
 /// definitions that are known.
@@ -55,7 +52,7 @@ impl<'a> Progress<'a> {
         ensures kept { Keeps self.old self.new }
     {
         let id = self.nodes.len();
-        if id >= MAX_NODES {
+        if id >= Schema::MAX_NODES {
             return Err(SchemaError::LimitExceeded);
         }
         self.nodes.push(node)?;

@@ -1,6 +1,7 @@
 use Rattle.std.proofs.Common.{◌≡◌, ◌<◌, ◌⊎◌, inl, inr, true, false, List, length, map, refl, sym, ap, subst, ◌∙◌}
 use Rattle.std.specs.Prelude.{Contains, Option, Some, None, IfSome, option_map, unwrap_or}
 use Rattle.std.proofs.lemmas.List.{length-map}
+use Rattle.std.proofs.lemmas.Result.{err_from_is_err_and}
 use Rattle.avro_schema.specs.Node.{Node}
 use Rattle.avro_schema.specs.Faulty.{NodeFault, invalid_union, limit_exceeded, fault_of, IsThere, IsRefused}
 use Rattle.avro_schema.specs.SeenSchema.{draft_nodes}
@@ -70,34 +71,37 @@ returns-then-branch-clause-refused c =
     inr (of_fault raws invalid_union (repeated-there (bare_nodes raws) raws
     (subst (λ (ns : List KeptNode). SomeRepeats (bares_of ns)) c.deref.ensures.value repeats)))
 
-pub returns-in-Err-draft_of-clause-refused : goal.returns-in-Err-draft_of-clause-refused
-returns-in-Err-draft_of-clause-refused c = of_length c.args.raws.items c.in-Err-draft_of.error c.from.result c.in-Err-draft_of.ensures.refused c.from.ensures
+pub returns-in_err-draft-clause-refused : goal.returns-in_err-draft-clause-refused
+returns-in_err-draft-clause-refused c =
+    let p = err_from_is_err_and c.from_residual-in_err-draft.result c.from_residual-in_err-draft.ensures.1 in
+    rw p.1 (of_length c.args.raws.items c.in_err-draft.field-0.0 p.0 c.in_err-draft.ensures.refused p.2)
 
-pub returns-then-are_read-clause-found : goal.returns-then-are_read-clause-found
-returns-then-are_read-clause-found c =
-    let completed = completed_draft c.args.raws.items c.deref-2.result.now (lists_seen c.in-Ok.defaults.of_nodes.items) (draft_nodes c.in-Ok-draft_of.draft)
-    c.deref-2.ensures.value c.in-Ok.ensures.data c.in-Ok-draft_of.ensures.nodes in
-    c.in-Ok-finish.ensures.schema ∙ completed
+pub returns-in_err-schema-clause-refused : goal.returns-in_err-schema-clause-refused
+returns-in_err-schema-clause-refused c =
+    let completed = completed_draft c.args.raws.items c.deref-2.result.now (lists_seen c.in_ok-of_nodes.field-0.of_nodes.items) (draft_nodes c.in_ok-draft.draft)
+    c.deref-2.ensures.value c.in_ok-of_nodes.ensures.data c.in_ok-draft.ensures.nodes in
+    let p = err_from_is_err_and c.from_residual-in_err-schema.result c.from_residual-in_err-schema.ensures.1 in
+    rw p.1 (of_draft (raw_nodes_of c.args.raws.items) (draft_nodes c.in_ok-draft.draft) c.in_err-schema.field-0.0 p.0 completed
+    c.in_err-schema.ensures.faulty p.2)
 
-pub returns-then-are_read-clause-formed : goal.returns-then-are_read-clause-formed
-returns-then-are_read-clause-formed c =
-    let completed = completed_draft c.args.raws.items c.deref-2.result.now (lists_seen c.in-Ok.defaults.of_nodes.items) (draft_nodes c.in-Ok-draft_of.draft)
-    c.deref-2.ensures.value c.in-Ok.ensures.data c.in-Ok-draft_of.ensures.nodes in
-    ap is_schema (sym completed) ∙ c.in-Ok-finish.ensures.formed
-
-pub returns-else-are_read-clause-refused : goal.returns-else-are_read-clause-refused
-returns-else-are_read-clause-refused c =
+pub returns-then-not-are_read-clause-refused : goal.returns-then-not-are_read-clause-refused
+returns-then-not-are_read-clause-refused c =
     let raws = raw_nodes_of c.args.raws.items in
-    let completed = completed_draft c.args.raws.items c.deref-2.result.now (lists_seen c.in-Ok.defaults.of_nodes.items) (draft_nodes c.in-Ok-draft_of.draft)
-    c.deref-2.ensures.value c.in-Ok.ensures.data c.in-Ok-draft_of.ensures.nodes in
-    let formed : is_schema (completed_nodes raws) ≡ true = ap is_schema (sym completed) ∙ c.in-Ok-finish.ensures.formed in
+    let completed = completed_draft c.args.raws.items c.deref-2.result.now (lists_seen c.in_ok-of_nodes.field-0.of_nodes.items) (draft_nodes c.in_ok-draft.draft)
+    c.deref-2.ensures.value c.in_ok-of_nodes.ensures.data c.in_ok-draft.ensures.nodes in
+    let formed : is_schema (completed_nodes raws) ≡ true = ap is_schema (sym completed) ∙ c.in_ok-schema.ensures.formed in
     let unread : are_all_defaults_read raws ≡ false =
-    ap (λ (ns : List KeptNode). are_all_defaults_read (raw_nodes_of ns)) (sym c.deref-2.ensures.value) ∙ sym c.in-Ok.ensures.read ∙ c.if-are_read.false in
+    ap (λ (ns : List KeptNode). are_all_defaults_read (raw_nodes_of ns)) (sym c.deref-2.ensures.value) ∙ sym c.in_ok-of_nodes.ensures.read ∙ c.if-not-are_read.true in
     inr (or_else-unread (refusals_of_nodes (completed_nodes raws)) (are_all_defaults_read raws) SchemaError.InvalidDefault (no_refusals-from_is_schema (completed_nodes raws) formed) unread)
 
-pub returns-in-Err-finish-clause-refused : goal.returns-in-Err-finish-clause-refused
-returns-in-Err-finish-clause-refused c =
-    let completed = completed_draft c.args.raws.items c.deref-2.result.now (lists_seen c.in-Ok.defaults.of_nodes.items) (draft_nodes c.in-Ok-draft_of.draft)
-    c.deref-2.ensures.value c.in-Ok.ensures.data c.in-Ok-draft_of.ensures.nodes in
-    of_draft (raw_nodes_of c.args.raws.items) (draft_nodes c.in-Ok-draft_of.draft) c.in-Err-finish.error c.from-in-Err-finish.result completed
-    c.in-Err-finish.ensures.faulty c.from-in-Err-finish.ensures
+pub returns-clause-found : goal.returns-clause-found
+returns-clause-found c =
+    let completed = completed_draft c.args.raws.items c.deref-2.result.now (lists_seen c.in_ok-of_nodes.field-0.of_nodes.items) (draft_nodes c.in_ok-draft.draft)
+    c.deref-2.ensures.value c.in_ok-of_nodes.ensures.data c.in_ok-draft.ensures.nodes in
+    c.in_ok-schema.ensures.schema ∙ completed
+
+pub returns-clause-formed : goal.returns-clause-formed
+returns-clause-formed c =
+    let completed = completed_draft c.args.raws.items c.deref-2.result.now (lists_seen c.in_ok-of_nodes.field-0.of_nodes.items) (draft_nodes c.in_ok-draft.draft)
+    c.deref-2.ensures.value c.in_ok-of_nodes.ensures.data c.in_ok-draft.ensures.nodes in
+    ap is_schema (sym completed) ∙ c.in_ok-schema.ensures.formed

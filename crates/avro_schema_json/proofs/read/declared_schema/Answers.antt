@@ -1,5 +1,6 @@
 use Rattle.std.proofs.Common.{◌≡◌, ◌⊎◌, inl, inr, true, false, List, [], Result, Ok, Err, sym, ◌∙◌}
 use Rattle.std.specs.Prelude.{Contains, IfOk, IfErr, OnOk}
+use Rattle.std.proofs.lemmas.Result.{err_from_is_err_and}
 use Rattle.avro_schema.specs.SeenSchema.{schema_nodes}
 use Rattle.avro_schema.specs.WellFormed.{is_schema}
 use Rattle.avro_schema.specs.declared.schema.Schema.{Schema}
@@ -40,23 +41,25 @@ made_refused : (tree : Data) (e : SchemaError) → (e ≡ SchemaError.OutOfMemor
 made_refused tree e (inl memory) is = cc
 made_refused tree e (inr c) is = made_fault tree e c is
 
-pub returns-in-Ok-clause-found : goal.returns-in-Ok-clause-found
-returns-in-Ok-clause-found c =
+pub returns-clause-found : goal.returns-clause-found
+returns-clause-found c =
     let float = sym c.if-has_float.false ∙ c.has_float.ensures in
-    schema_found (view c.args.tree.now) (raw_nodes_of c.in-Ok.raws.items) c.schema_of.result float c.in-Ok.ensures.found.0 c.in-Ok.ensures.found.1
+    schema_found (view c.args.tree.now) (raw_nodes_of c.in_ok-raws.raws.items) c.schema_of.result float c.in_ok-raws.ensures.found.0 c.in_ok-raws.ensures.found.1
     c.schema_of.ensures.found c.schema_of.ensures.formed c.schema_of.ensures.read
 
-pub returns-in-Ok-clause-refused : goal.returns-in-Ok-clause-refused
-returns-in-Ok-clause-refused c =
+pub returns-clause-refused : goal.returns-clause-refused
+returns-clause-refused c =
     let float = sym c.if-has_float.false ∙ c.has_float.ensures in
-    schema_refused (view c.args.tree.now) (raw_nodes_of c.in-Ok.raws.items) c.schema_of.result float c.in-Ok.ensures.found.0 c.in-Ok.ensures.found.1
+    schema_refused (view c.args.tree.now) (raw_nodes_of c.in_ok-raws.raws.items) c.schema_of.result float c.in_ok-raws.ensures.found.0 c.in_ok-raws.ensures.found.1
     c.schema_of.ensures.refused
 
-pub returns-in-Ok-clause-json : goal.returns-in-Ok-clause-json
-returns-in-Ok-clause-json c =
+pub returns-clause-json : goal.returns-clause-json
+returns-clause-json c =
     let float = sym c.if-has_float.false ∙ c.has_float.ensures in
-    no_json (view c.args.tree.now) c.schema_of.result (schema_refused (view c.args.tree.now) (raw_nodes_of c.in-Ok.raws.items) c.schema_of.result float
-    c.in-Ok.ensures.found.0 c.in-Ok.ensures.found.1 c.schema_of.ensures.refused)
+    no_json (view c.args.tree.now) c.schema_of.result (schema_refused (view c.args.tree.now) (raw_nodes_of c.in_ok-raws.raws.items) c.schema_of.result float
+    c.in_ok-raws.ensures.found.0 c.in_ok-raws.ensures.found.1 c.schema_of.ensures.refused)
 
-pub returns-in-Err-clause-json : goal.returns-in-Err-clause-json
-returns-in-Err-clause-json c = made_refused (view c.args.tree.now) c.in-Err.error c.in-Err.ensures.refused
+pub returns-in_err-raws-clause-json : goal.returns-in_err-raws-clause-json
+returns-in_err-raws-clause-json c =
+    let p = err_from_is_err_and c.from_residual.result c.from_residual.ensures.1 in
+    rw (p.1, p.2) (made_refused (view c.args.tree.now) c.in_err-raws.field-0.0 c.in_err-raws.ensures.refused)

@@ -31,3 +31,7 @@ returns-clause-read c =
     enum-read ms c.args.enclosing.now.namespace (state_of c.args.self.now) (state_of c.begin.new.self) c.in_ok-id.field-0.name c.in_ok-id.field-0.space.namespace c.in_ok-id.field-0.id.0
     c.in_ok-id.ensures.begun c.in_ok-id.ensures.namespace (state_of c.put.new.self) c.in_ok-aliases.aliases.items (texts_of c.in_ok-symbols.symbols.items) c.in_ok-symbols.default
     c.in_ok-aliases.ensures.found c.in_ok-symbols.ensures.found c.put.ensures.nodes c.put.ensures.names
+
+pub returns-clause-kept : goal.returns-clause-kept
+returns-clause-kept c = λ namespace number h.
+    c.put.ensures.kept namespace number (c.begin.ensures.kept namespace number h)
