@@ -8,7 +8,7 @@ use Rattle.avro_schema.specs.Node.{Node, node_at, items_node}
 use Rattle.avro_schema.specs.Seen.{values_from}
 use Rattle.avro_schema.specs.declared.schema.NodeId.{NodeId}
 use Rattle.avro_schema.proofs.public.Parts.{size-positive}
-use Rattle.avro_resolve.specs.Ends.{turned, joined}
+use Rattle.avro_resolve.specs.Ends.{turned, values_before}
 use Rattle.avro_resolve.specs.Fault.{ResolutionFault, fault_in}
 use Rattle.avro_resolve.specs.inside.Guided.{MadeAs, StandsAs, IsSmall, ItemsGood, ItemsStandAs}
 use Rattle.avro_resolve.specs.Pairs.{wrapped, item_id}
@@ -19,7 +19,7 @@ use Rattle.avro_resolve.specs.declared.guided.At.TheVariants.{Ignored, Pair}
 use Rattle.avro_resolve.specs.declared.guided.Made.{Made}
 use Rattle.avro_resolve.specs.declared.guided.Run.{Run}
 use Rattle.avro_resolve.proofs.Guiding.{as_fault, good_made, smaller, wrapped_fault, one_longer, so_far_more, so_far_fails, so_far_whole}
-use Rattle.avro_resolve.proofs.InOrder.{joined-none, joined-more}
+use Rattle.avro_resolve.proofs.InOrder.{values_before-none, values_before-more}
 
 -- ---- Sizes
 
@@ -43,12 +43,12 @@ counted_up vs v count next counted up small = omega (arith, counted, up, small, 
 
 module _ (writer reader : List Node) (w r : Node) (k : ℕ) (v : Value) (more : List Value) where
   item_good : (made : List Value) (u : Value) → resolve writer reader w r v ≡ Ok u
-      → result_map (joined made) (resolve_items writer reader w r k (values_from (v ∷ more))) ≡ result_map (joined (made ++ u ∷ [])) (resolve_items writer reader w r (suc k) (values_from more))
+      → result_map (values_before made) (resolve_items writer reader w r k (values_from (v ∷ more))) ≡ result_map (values_before (made ++ u ∷ [])) (resolve_items writer reader w r (suc k) (values_from more))
   item_good made u e =
-      ap (λ (q : Resolved). result_map (joined made) (both value (inside k q) (resolve_items writer reader w r (suc k) (values_from more)))) e ∙ moved (resolve_items writer reader w r (suc k) (values_from more))
+      ap (λ (q : Resolved). result_map (values_before made) (both value (inside k q) (resolve_items writer reader w r (suc k) (values_from more)))) e ∙ moved (resolve_items writer reader w r (suc k) (values_from more))
     where
-      moved : (rest : Result Values ResolutionFault) → result_map (joined made) (both value (inside k (Ok u)) rest) ≡ result_map (joined (made ++ u ∷ [])) rest
-      moved (Ok vs) = ap (λ (zs : Values). Ok zs) (joined-more made u vs)
+      moved : (rest : Result Values ResolutionFault) → result_map (values_before made) (both value (inside k (Ok u)) rest) ≡ result_map (values_before (made ++ u ∷ [])) rest
+      moved (Ok vs) = ap (λ (zs : Values). Ok zs) (values_before-more made u vs)
       moved (Err f) = refl
 
   item_bad : (f : ResolutionFault) → resolve writer reader w r v ≡ Err f → resolve_items writer reader w r k (values_from (v ∷ more)) ≡ Err (fault_in k f)
@@ -72,15 +72,15 @@ module _ {I : Type 0} (S : I → List Value → Type 0) (writer reader : List No
 
   array_whole : resolve writer reader w r (Value.array (values_from vs)) ≡ wrapped branch (Ok (Value.array (values_from good.made)))
   array_whole =
-      array_leads vs ∙ ap (λ (x : Result Values ResolutionFault). wrapped branch (result_map Value.array x)) (so_far_whole items_run joined vs good.made good.so_far)
-      ∙ ap (λ (us : Values). wrapped branch (Ok (Value.array us))) (joined-none good.made)
+      array_leads vs ∙ ap (λ (x : Result Values ResolutionFault). wrapped branch (result_map Value.array x)) (so_far_whole items_run values_before vs good.made good.so_far)
+      ∙ ap (λ (us : Values). wrapped branch (Ok (Value.array us))) (values_before-none good.made)
 
   array_fails : (v : Value) (f : ResolutionFault) → resolve writer reader (node_at writer a.0) (node_at reader b.0) v ≡ Err f
       → (more : List Value) → resolve writer reader w r (Value.array (values_from ((vs ++ v ∷ []) ++ more))) ≡ Err (fault_in count f)
   array_fails v f e more =
       array_leads ((vs ++ v ∷ []) ++ more)
       ∙ ap (λ (x : Result Values ResolutionFault). wrapped branch (result_map Value.array x))
-      (so_far_fails items_run joined vs v good.made (fault_in (length vs) f) good.so_far (λ rest. item_bad writer reader (node_at writer a.0) (node_at reader b.0) (length vs) v rest f e) more)
+      (so_far_fails items_run values_before vs v good.made (fault_in (length vs) f) good.so_far (λ rest. item_bad writer reader (node_at writer a.0) (node_at reader b.0) (length vs) v rest f e) more)
       ∙ wrapped_fault branch (fault_in (length vs) f) ∙ ap (λ (k : ℕ). as_fault (fault_in k f)) (sym good.counted)
 
 -- ---- Items of a run
@@ -104,7 +104,7 @@ module _ {I O : Type 0} (S : I → List Value → Type 0) (SO : O → Value → 
         of_reader = good.of_reader;
         counted = counted_up vs v count next good.counted up small;
         made = good.made ++ made.0 ∷ [];
-        so_far = so_far_more (λ k us. resolve_items writer reader (node_at writer a.0) (node_at reader b.0) k (values_from us)) joined vs v good.made (good.made ++ made.0 ∷ []) good.so_far
+        so_far = so_far_more (λ k us. resolve_items writer reader (node_at writer a.0) (node_at reader b.0) k (values_from us)) values_before vs v good.made (good.made ++ made.0 ∷ []) good.so_far
             (λ more. item_good writer reader (node_at writer a.0) (node_at reader b.0) (length vs) v more good.made made.0 made.1);
         stands = law good.made made.0 good.stands made.2;
       }

@@ -8,7 +8,7 @@ use Rattle.avro_schema.specs.Node.{Node, node_at, values_node}
 use Rattle.avro_schema.specs.Seen.{entries_from}
 use Rattle.avro_schema.specs.declared.schema.NodeId.{NodeId}
 use Rattle.avro_schema.proofs.public.Parts.{size-positive}
-use Rattle.avro_resolve.specs.Ends.{turned, joined_entries}
+use Rattle.avro_resolve.specs.Ends.{turned, entries_before}
 use Rattle.avro_resolve.specs.Fault.{ResolutionFault, fault_in}
 use Rattle.avro_resolve.specs.inside.Guided.{MadeAs, StandsAs, IsSmall, EntriesGood, EntriesStandAs}
 use Rattle.avro_resolve.specs.Pairs.{wrapped, value_id}
@@ -19,7 +19,7 @@ use Rattle.avro_resolve.specs.declared.guided.At.TheVariants.{Ignored, Pair}
 use Rattle.avro_resolve.specs.declared.guided.Made.{Made}
 use Rattle.avro_resolve.specs.declared.guided.Run.{Run}
 use Rattle.avro_resolve.proofs.Guiding.{as_fault, good_made, smaller, wrapped_fault, one_longer, so_far_more, so_far_fails, so_far_whole}
-use Rattle.avro_resolve.proofs.InOrder.{joined_entries-none, joined_entries-more}
+use Rattle.avro_resolve.proofs.InOrder.{entries_before-none, entries_before-more}
 
 -- ---- Sizes
 
@@ -43,12 +43,12 @@ counted_up vs key v count next counted up small = omega (arith, counted, up, sma
 
 module _ (writer reader : List Node) (w r : Node) (k : ℕ) (key : List ℕ) (v : Value) (more : List (List ℕ × Value)) where
   entry_good : (made : List (List ℕ × Value)) (u : Value) → resolve writer reader w r v ≡ Ok u
-      → result_map (joined_entries made) (resolve_entries writer reader w r k (entries_from ((key, v) ∷ more))) ≡ result_map (joined_entries (made ++ (key, u) ∷ [])) (resolve_entries writer reader w r (suc k) (entries_from more))
+      → result_map (entries_before made) (resolve_entries writer reader w r k (entries_from ((key, v) ∷ more))) ≡ result_map (entries_before (made ++ (key, u) ∷ [])) (resolve_entries writer reader w r (suc k) (entries_from more))
   entry_good made u e =
-      ap (λ (q : Resolved). result_map (joined_entries made) (both (entry key) (inside k q) (resolve_entries writer reader w r (suc k) (entries_from more)))) e ∙ moved (resolve_entries writer reader w r (suc k) (entries_from more))
+      ap (λ (q : Resolved). result_map (entries_before made) (both (entry key) (inside k q) (resolve_entries writer reader w r (suc k) (entries_from more)))) e ∙ moved (resolve_entries writer reader w r (suc k) (entries_from more))
     where
-      moved : (rest : Result Entries ResolutionFault) → result_map (joined_entries made) (both (entry key) (inside k (Ok u)) rest) ≡ result_map (joined_entries (made ++ (key, u) ∷ [])) rest
-      moved (Ok vs) = ap (λ (zs : Entries). Ok zs) (joined_entries-more made key u vs)
+      moved : (rest : Result Entries ResolutionFault) → result_map (entries_before made) (both (entry key) (inside k (Ok u)) rest) ≡ result_map (entries_before (made ++ (key, u) ∷ [])) rest
+      moved (Ok vs) = ap (λ (zs : Entries). Ok zs) (entries_before-more made key u vs)
       moved (Err f) = refl
 
   entry_bad : (f : ResolutionFault) → resolve writer reader w r v ≡ Err f → resolve_entries writer reader w r k (entries_from ((key, v) ∷ more)) ≡ Err (fault_in k f)
@@ -72,15 +72,15 @@ module _ {I : Type 0} (S : I → List (List ℕ × Value) → Type 0) (writer re
 
   map_whole : resolve writer reader w r (Value.map_of (entries_from vs)) ≡ wrapped branch (Ok (Value.map_of (entries_from good.made)))
   map_whole =
-      map_leads vs ∙ ap (λ (x : Result Entries ResolutionFault). wrapped branch (result_map Value.map_of x)) (so_far_whole entries_run joined_entries vs good.made good.so_far)
-      ∙ ap (λ (us : Entries). wrapped branch (Ok (Value.map_of us))) (joined_entries-none good.made)
+      map_leads vs ∙ ap (λ (x : Result Entries ResolutionFault). wrapped branch (result_map Value.map_of x)) (so_far_whole entries_run entries_before vs good.made good.so_far)
+      ∙ ap (λ (us : Entries). wrapped branch (Ok (Value.map_of us))) (entries_before-none good.made)
 
   map_fails : (key : List ℕ) (v : Value) (f : ResolutionFault) → resolve writer reader (node_at writer a.0) (node_at reader b.0) v ≡ Err f
       → (more : List (List ℕ × Value)) → resolve writer reader w r (Value.map_of (entries_from ((vs ++ (key, v) ∷ []) ++ more))) ≡ Err (fault_in count f)
   map_fails key v f e more =
       map_leads ((vs ++ (key, v) ∷ []) ++ more)
       ∙ ap (λ (x : Result Entries ResolutionFault). wrapped branch (result_map Value.map_of x))
-      (so_far_fails entries_run joined_entries vs (key, v) good.made (fault_in (length vs) f) good.so_far (λ rest. entry_bad writer reader (node_at writer a.0) (node_at reader b.0) (length vs) key v rest f e) more)
+      (so_far_fails entries_run entries_before vs (key, v) good.made (fault_in (length vs) f) good.so_far (λ rest. entry_bad writer reader (node_at writer a.0) (node_at reader b.0) (length vs) key v rest f e) more)
       ∙ wrapped_fault branch (fault_in (length vs) f) ∙ ap (λ (k : ℕ). as_fault (fault_in k f)) (sym good.counted)
 
 -- ---- Items of a run
@@ -104,7 +104,7 @@ module _ {I O : Type 0} (S : I → List (List ℕ × Value) → Type 0) (SO : O 
         of_reader = good.of_reader;
         counted = counted_up vs key v count next good.counted up small;
         made = good.made ++ (key, made.0) ∷ [];
-        so_far = so_far_more (λ k us. resolve_entries writer reader (node_at writer a.0) (node_at reader b.0) k (entries_from us)) joined_entries vs (key, v) good.made (good.made ++ (key, made.0) ∷ []) good.so_far
+        so_far = so_far_more (λ k us. resolve_entries writer reader (node_at writer a.0) (node_at reader b.0) k (entries_from us)) entries_before vs (key, v) good.made (good.made ++ (key, made.0) ∷ []) good.so_far
             (λ more. entry_good writer reader (node_at writer a.0) (node_at reader b.0) (length vs) key v more good.made made.0 made.1);
         stands = law good.made made.0 good.stands made.2;
       }

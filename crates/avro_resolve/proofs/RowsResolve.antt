@@ -164,11 +164,11 @@ unfolding is_utf8 chars encode
 second_item = record { fitting = refl; counted = refl; faulty = refl }
 
 -- records: fields by name, by alias and by default
-fields_change_places : Becomes long_and_string string_and_long
+fields_are_reordered : Becomes long_and_string string_and_long
     (Value.record_of (two_values (Value.long (pos 27)) (Value.string (codes "foo"))))
     (Value.record_of (two_values (Value.string (codes "foo")) (Value.long (pos 27))))
 unfolding is_utf8 chars encode
-fields_change_places = record { fitting = refl; resolved = refl; stays_good = refl }
+fields_are_reordered = record { fitting = refl; resolved = refl; stays_good = refl }
 
 names_by_alias : Becomes before_renaming after_renaming
     (Value.record_of (one_value (Value.int (pos 2))))

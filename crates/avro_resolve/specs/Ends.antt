@@ -94,14 +94,14 @@ EndsSlot index (Ok None) step = (others : Result Sourced ResolutionFault) → st
 EndsSlot index (Ok (Some d)) step = (others : Result Sourced ResolutionFault) → step others ≡ result_map (λ found. (index, value_of d) ∷ found) others
 EndsSlot index (Err e) step = (others : Result Sourced ResolutionFault) → Fails e (step others)
 
--- some data before others, and some entries, and what was found so far before the rest
-abbrev pub joined : List Value → Values → Values
-joined [] vs = vs
-joined (u ∷ us) vs = value u (joined us vs)
+-- some data before others; the same of entries, and of what was found so far
+abbrev pub values_before : List Value → Values → Values
+values_before [] vs = vs
+values_before (u ∷ us) vs = value u (values_before us vs)
 
-abbrev pub joined_entries : List (List ℕ × Value) → Entries → Entries
-joined_entries [] es = es
-joined_entries (u ∷ us) es = entry u.0 u.1 (joined_entries us es)
+abbrev pub entries_before : List (List ℕ × Value) → Entries → Entries
+entries_before [] es = es
+entries_before (u ∷ us) es = entry u.0 u.1 (entries_before us es)
 
 abbrev pub before : Sourced → Sourced → Sourced
 before found more = found ++ more

@@ -8,7 +8,7 @@ use std::alloc::AllocError;
 /// The fewest branches, fields or symbols of a node that has a table.
 pub const FEWEST: usize = 8;
 
-/// The table of a node, among tables that rise by their nodes.
+/// The table of a node, if it has one. The tables are sorted by their nodes.
 pub fn table_of<'t, T>(tables: &'t [(NodeId, T)], id: NodeId) -> Option<&'t T>
     ensures { IfSome result (λ t. HasTable tables.now id.0 t.now) }
 {
@@ -23,7 +23,7 @@ pub fn table_of<'t, T>(tables: &'t [(NodeId, T)], id: NodeId) -> Option<&'t T>
     if table.0 == id { Some(&table.1) } else { None }
 }
 
-/// Adds the table of a node that has one.
+/// Adds the table of a node, if it has one.
 pub fn add_table<T: Drop>(
     tables: &mut Vec<(NodeId, T)>,
     id: NodeId,

@@ -15,7 +15,7 @@ use crate::symbols::symbols_of;
 use avro_schema::{Field, Memory, NodeId, Schema};
 use std::alloc::Global;
 
-/// What a plan keeps of some pairs of nodes.
+/// Compares each pair of nodes, for a plan to keep.
 pub fn compare_all(
     alloc: Global,
     writer: &Schema,
@@ -33,8 +33,8 @@ pub fn compare_all(
     Ok(kept)
 }
 
-/// What a plan keeps of a pair of nodes. Their names are compared here, and nowhere else of those who read
-/// or judge by it.
+/// Compares a writer's node with a reader's, for a plan to keep. Only this compares their names: reading and
+/// judging by the result look up what was found.
 ///
 /// # Errors
 ///
@@ -50,7 +50,7 @@ pub fn compare(alloc: Global, names: &Names, w: NodeId, r: NodeId) -> Result<Com
     }
 }
 
-/// A pair of nodes that leads elsewhere, of which nothing is kept inside.
+/// The comparison of a pair of nodes that leads to another node or to a fault. Nothing else is kept of it.
 fn outside(alloc: Global, w: NodeId, r: NodeId, aim: Aim) -> Comparison
     ensures { (result.aim ≡ aim) × (result.w ≡ w) × (result.r ≡ r) }
 {
@@ -65,7 +65,7 @@ fn outside(alloc: Global, w: NodeId, r: NodeId, aim: Aim) -> Comparison
     }
 }
 
-/// What a plan keeps of a pair of nodes that leads to the reader's node itself.
+/// The comparison of a pair of nodes that leads to the reader's node itself.
 fn compare_inside(
     alloc: Global,
     names: &Names,
@@ -109,8 +109,9 @@ fn find_sources(
     Ok(found)
 }
 
-/// What the writer's fields are for, by the sources of the reader's, and nothing behind the last, where
-/// reading asks too. The reader's fields are gone through from the last, so that the first stays.
+/// What each of the writer's fields is for, from the sources of the reader's fields. One ignored part stands
+/// after the last, since reading asks about that index too. The loop goes from the reader's last field to its
+/// first, so that the first of two with the same source is kept.
 fn find_fields(
     alloc: Global,
     writes: &[Field],
@@ -138,7 +139,7 @@ fn find_fields(
     Ok(found)
 }
 
-/// So many parts that are for nothing.
+/// A list of `count` ignored parts.
 fn all_ignored(alloc: Global, count: usize) -> Result<Vec<At>, Memory>
     ensures ignored { IfOk result (λ found. AreIgnored found.items) }
     ensures all { IfOk result (λ found. length found.items ≡ count) }
@@ -150,7 +151,7 @@ fn all_ignored(alloc: Global, count: usize) -> Result<Vec<At>, Memory>
     Ok(found)
 }
 
-/// Notes what the part at an index is for.
+/// Records what the part at an index is for.
 fn note(found: &mut Vec<At>, index: usize, at: At)
     ensures { found.new.items ≡ noted found.old.items index at }
 {
@@ -159,7 +160,7 @@ fn note(found: &mut Vec<At>, index: usize, at: At)
     }
 }
 
-/// The reader's symbols for a writer's.
+/// The reader's symbol for each symbol of a writer's enum.
 fn find_symbols(
     alloc: Global,
     names: &Names,

@@ -8,11 +8,11 @@ pub struct Comparison {
     pub w: NodeId,
     /// The reader's node.
     pub r: NodeId,
-    /// Where the pair leads. What stands below is kept where it leads to the reader's node itself, and is empty elsewhere.
+    /// Where the pair leads. The members below are empty unless it leads to the reader's node itself.
     pub aim: Aim,
     /// The reader's first field without a source and a default.
     pub missing: Option<usize>,
-    /// What each of the writer's fields is for, and nothing behind the last.
+    /// What each of the writer's fields is for, and one ignored part after the last.
     pub fields: Vec<At>,
     /// The source of each of the reader's fields.
     pub sources: Vec<Option<usize>>,
@@ -24,7 +24,7 @@ impl Comparison {
     ghost use Rattle.std.specs.Prelude.{◌≡◌, is_none};
     ghost use Rattle.std.specs.List.{list_any};
 
-    /// Whether some of the writer's symbols is none of the reader's, which has no default.
+    /// Whether the reader's enum lacks a symbol of the writer's and has no default.
     pub fn lacks_symbol(&self) -> bool
         ensures { result ≡ list_any is_none self.now.symbols.items }
     {

@@ -15,7 +15,8 @@ use avro_schema::{Field, NodeId, Schema};
 use std::alloc::{AllocError, Global};
 use std::collections::BTreeMap;
 
-/// The indices of the fields of a writer's records, by their names. They rise by the records' nodes.
+/// The tables of the writer's records with many fields, sorted by the records' nodes. Each maps the names of the
+/// fields to their indices.
 pub fn field_tables(
     alloc: Global,
     writer: &Schema,
@@ -32,7 +33,7 @@ pub fn field_tables(
     Ok(tables)
 }
 
-/// The indices of the fields of a record of many.
+/// The table of a record, which maps the names of its fields to their indices, if it has many fields.
 fn field_table(
     alloc: Global,
     writer: &Schema,

@@ -7,7 +7,7 @@ use avro_schema::{Limits, Memory, NodeId, Schema};
 use std::alloc::Global;
 use std::marker::Model;
 
-/// A writer's schema and a reader's, with what resolution asks of some pairs of their nodes, found ahead.
+/// A writer's schema and a reader's, with the comparisons of some pairs of their nodes, made in advance.
 /// Contracts see the two schemas.
 #[derive(Drop)]
 pub struct Plan<'a> {
@@ -38,8 +38,8 @@ impl<'a> Plan<'a> {
     ghost use Rattle.avro_resolve.specs.Reading.{BuildsResolved};
     ghost use Rattle.avro_resolve.specs.Tables.{IsTableOf};
 
-    /// The plan that keeps these pairs of a writer's node and a reader's, in any order. A pair that is not
-    /// one of theirs is resolved all the same, by names.
+    /// The plan that keeps these pairs of a writer's node and a reader's, which may be in any order. A pair that
+    /// is not among them is resolved all the same, by its names.
     ///
     /// # Errors
     ///
@@ -57,7 +57,7 @@ impl<'a> Plan<'a> {
         Ok(Plan::of(writer, reader, table))
     }
 
-    /// The plan that keeps this of two schemas.
+    /// The plan of two schemas that keeps this table.
     pub fn of(writer: &'a Schema, reader: &'a Schema, table: PlanTable) -> Plan<'a>
         requires { IsTableOf (schema_nodes writer.now) (schema_nodes reader.now) table }
         ensures { result ≡ (writer.now, reader.now) }
@@ -85,9 +85,9 @@ impl<'a> Plan<'a> {
         Ok(Plan::of(writer, reader, table))
     }
 
-    /// Reads a writer's datum from the front of bytes once, and answers what a builder builds of what it is
-    /// for the reader, with the length of its encoding, as [`read_resolved`](crate::read_resolved) does. At
-    /// a pair of nodes that the plan was made of no name is compared.
+    /// Reads a writer's datum from the front of bytes in one pass. Returns what the builder builds of the reader's
+    /// datum, with the length of the encoding, as [`read_resolved`](crate::read_resolved) does. No name is compared
+    /// at a pair of nodes that the plan keeps.
     ///
     /// # Errors
     ///
@@ -104,7 +104,7 @@ impl<'a> Plan<'a> {
         self.by_ref().read(alloc, bytes, limits, builder)
     }
 
-    /// The plan by reference.
+    /// The same plan by reference.
     pub fn by_ref(&self) -> PlanRef<'_>
         ensures { result ≡ self.now }
     {

@@ -46,8 +46,8 @@ impl<'a> PlanRef<'a> {
     ghost use Rattle.avro_resolve.specs.Resolve.{enum_as, fields_at, symbol_at};
     ghost use Rattle.avro_resolve.specs.Source.{missing_field};
 
-    /// The plan of two schemas that keeps these pairs, with the indices of the pairs of their parts, and the
-    /// roots' at an index if at all.
+    /// The plan of two schemas that keeps these pairs. `parts` holds for each pair the indices of the pairs of its
+    /// parts, and `root` is the index of the roots' pair. A pair that is not at its index is resolved by its names.
     pub(crate) fn new(
         writer: &'a Schema,
         reader: &'a Schema,
@@ -98,12 +98,12 @@ impl<'a> PlanRef<'a> {
         self.reader
     }
 
-    /// Where the pair of the roots may be kept.
+    /// The index at which the roots' pair is kept, if it is kept.
     pub(crate) fn root(&self) -> u32 {
         self.root
     }
 
-    /// Where the pair of a part may be kept.
+    /// The index at which the pair of a part is kept, if it is kept.
     pub(crate) fn index_of(&self, part: Part) -> u32 {
         match part.branch {
             Some(branch) => self.index_below(part.index, branch as usize),
@@ -111,7 +111,7 @@ impl<'a> PlanRef<'a> {
         }
     }
 
-    /// Where the pair of a part of the pair at an index may be kept.
+    /// The index at which the pair of a part is kept, if it is kept. The part is one of the pair at `index`.
     pub(crate) fn index_below(&self, index: u32, part: usize) -> u32 {
         match self.parts.get(index as usize) {
             Some(parts) => match parts.get(part) {
@@ -122,7 +122,8 @@ impl<'a> PlanRef<'a> {
         }
     }
 
-    /// Where the pair may be kept that the pair at an index leads to, by a branch of the reader's where there is one.
+    /// The index at which the pair is kept that the pair at `index` leads to, if it is kept. That is another pair if
+    /// it leads to a branch of the reader's union, and else the same.
     pub(crate) fn index_to(&self, index: u32, branch: Option<u32>) -> u32 {
         match branch {
             Some(_) => self.index_below(index, 0),

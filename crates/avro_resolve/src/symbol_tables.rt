@@ -16,7 +16,8 @@ use avro_schema::{Node, NodeId, Schema};
 use std::alloc::{AllocError, Global};
 use std::collections::BTreeMap;
 
-/// The indices of the symbols of a reader's enums. They rise by the enums' nodes.
+/// The tables of the reader's enums with many symbols, sorted by the enums' nodes. Each maps the symbols to their
+/// indices.
 pub fn symbol_tables(
     alloc: Global,
     reader: &Schema,
@@ -33,7 +34,7 @@ pub fn symbol_tables(
     Ok(tables)
 }
 
-/// The indices of the symbols of an enum of many.
+/// The table of an enum, which maps its symbols to their indices, if it has many symbols.
 fn symbol_table(
     alloc: Global,
     reader: &Schema,
@@ -64,7 +65,7 @@ pub fn symbol_by(
     }
 }
 
-/// The same, by the names of the enum's symbols.
+/// The same, by the table of the enum.
 fn symbol_of_table(
     names: &BTreeMap<&str, usize>,
     reader: &Schema,
@@ -81,7 +82,7 @@ fn symbol_of_table(
     }
 }
 
-/// The same of the enum's node.
+/// The same, given the enum's node.
 fn symbol_of_node(names: &BTreeMap<&str, usize>, node: &Node, symbol: &str) -> Option<u32>
     requires few { HasFewChoices (node_of node.now) }
     requires names { FindsSymbols (symbols_at (node_of node.now)) names.now }

@@ -14,7 +14,8 @@ use avro_schema::{Node, NodeId, Schema};
 use std::alloc::{AllocError, Global};
 use std::collections::BTreeMap;
 
-/// The first branch of each kind and name, for a reader's unions. They rise by the unions' nodes.
+/// The tables of the reader's unions with many branches, sorted by the unions' nodes. Each maps a kind and a
+/// simple name to the first branch that has them.
 pub fn union_tables(
     alloc: Global,
     reader: &Schema,
@@ -31,7 +32,8 @@ pub fn union_tables(
     Ok(tables)
 }
 
-/// The first branch of each kind and name, for a union of many branches with few aliases.
+/// The table of a union, which maps a kind and a simple name to the first branch that has them, if the union has
+/// many branches and few aliases.
 fn union_table(
     alloc: Global,
     reader: &Schema,
@@ -46,7 +48,7 @@ fn union_table(
     Ok(Some(first_branches(alloc, reader, branches)?))
 }
 
-/// The branches of a node, and none where it has none. No branch is a union.
+/// The branches of a union, or none if the node is no union. No branch is a union itself.
 fn branches_of(schema: &Schema, id: NodeId) -> &[NodeId]
     ensures ids { ids_of result.now ≡ branches_at (node_at (schema_nodes schema.now) id.0) }
     ensures plain { list_all (λ branch. is_some (branch_kind (node_at (schema_nodes schema.now) branch))) (ids_of result.now) ≡ true }
@@ -60,8 +62,8 @@ fn branches_of(schema: &Schema, id: NodeId) -> &[NodeId]
     }
 }
 
-/// Whether the branches of a union have no more aliases than there are branches. A union that names the same
-/// branches again then costs no more than its text, however many aliases they have.
+/// Whether the branches of a union have no more aliases than there are branches. The size of the table is then
+/// bounded by the text of the union, even if many unions share branches with many aliases.
 fn has_few_aliases(reader: &Schema, branches: &[NodeId]) -> bool {
     let mut left = branches.len();
     for branch in branches {
@@ -82,7 +84,7 @@ fn alias_count(reader: &Schema, id: NodeId) -> usize {
     }
 }
 
-/// An index in a reader's union before which no branch matches a writer's node.
+/// An index in a reader's union such that no branch before it matches the writer's node.
 pub fn start_by<'n>(
     tables: &[(NodeId, BTreeMap<(u64, &'n str), usize>)],
     writer: &'n Schema,
@@ -103,7 +105,7 @@ pub fn start_by<'n>(
     }
 }
 
-/// The first of some branches that has the simple name of a type, or how many branches there are.
+/// The index of the first branch with the kind and the simple name of a type, or the number of branches.
 fn first_named<'n>(
     first: &BTreeMap<(u64, &'n str), usize>,
     branches: &[NodeId],

@@ -5,7 +5,7 @@ use Rattle.avro_schema.specs.Node.{Node, FieldNode, node_at}
 use Rattle.avro_schema.specs.Seen.{values_from, entries_from}
 use Rattle.avro_schema.specs.declared.schema.NodeId.{NodeId}
 use Rattle.avro_resolve.specs.Fault.{ResolutionFault}
-use Rattle.avro_resolve.specs.Ends.{turned, SlotsAre, AllBelow, joined, joined_entries, before}
+use Rattle.avro_resolve.specs.Ends.{turned, SlotsAre, AllBelow, values_before, entries_before, before}
 use Rattle.avro_resolve.specs.Pairs.{wrapped, item_id, value_id, branch_id, field_for}
 use Rattle.avro_resolve.specs.Resolve.{Resolved, Sourced, resolve, resolve_items, resolve_entries, resolve_sources, fields_at, result_map, through}
 use Rattle.avro_resolve.specs.Source.{missing_field}
@@ -61,7 +61,7 @@ pub record ItemsGood {I : Type 0} (S : I → List Value → Type 0) (writer read
   pub of_reader : b.0 ≡ item_id (node_at reader to)
   pub counted : count ≡ length vs
   pub made : List Value
-  pub so_far : SoFar (λ k us. resolve_items writer reader (node_at writer a.0) (node_at reader b.0) k (values_from us)) joined vs made
+  pub so_far : SoFar (λ k us. resolve_items writer reader (node_at writer a.0) (node_at reader b.0) k (values_from us)) values_before vs made
   pub stands : S items made
 
 -- a run is good so far, or one of its items has a fault, whatever follows
@@ -90,7 +90,7 @@ pub record EntriesGood {I : Type 0} (S : I → List (List ℕ × Value) → Type
   pub of_reader : b.0 ≡ value_id (node_at reader to)
   pub counted : count ≡ length vs
   pub made : List (List ℕ × Value)
-  pub so_far : SoFar (λ k us. resolve_entries writer reader (node_at writer a.0) (node_at reader b.0) k (entries_from us)) joined_entries vs made
+  pub so_far : SoFar (λ k us. resolve_entries writer reader (node_at writer a.0) (node_at reader b.0) k (entries_from us)) entries_before vs made
   pub stands : S items made
 
 abbrev pub MapRunAs : {I : Type 0} → (I → List (List ℕ × Value) → Type 0) → List Node → List Node → Node → Node → Run I → List (List ℕ × Value) → Type 0
