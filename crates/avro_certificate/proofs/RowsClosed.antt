@@ -65,11 +65,11 @@ fewer_symbols : IsClosedBy (two_symbols None) three_symbols (pair 0 0 ∷ [])
 fewer_symbols = refl
 
 -- fields in another order, by default and by alias
-fields_change_places : IsClosedBy long_and_string string_and_long (pair 0 0 ∷ pair 1 2 ∷ pair 2 1 ∷ [])
-fields_change_places = refl
+fields_are_reordered : IsClosedBy long_and_string string_and_long (pair 0 0 ∷ pair 1 2 ∷ pair 2 1 ∷ [])
+fields_are_reordered = refl
 
-fields_by_place : IsOpen long_and_string string_and_long (pair 0 0 ∷ pair 1 1 ∷ pair 2 2 ∷ [])
-fields_by_place = refl
+fields_by_index : IsOpen long_and_string string_and_long (pair 0 0 ∷ pair 1 1 ∷ pair 2 2 ∷ [])
+fields_by_index = refl
 
 field_by_default : IsClosedBy array_of_one (array_of_two second_field_by_default) (pair 0 0 ∷ pair 1 1 ∷ pair 2 2 ∷ [])
 field_by_default = refl

@@ -1,4 +1,4 @@
-//! What a pair of nodes asks for, once all names are compared.
+//! What a datum needs to fail at a pair of nodes, from the comparison of the pair.
 
 ghost use Rattle.std.specs.Prelude.{◌≡◌, IfOk, is_none, is_some, cond, option_map};
 ghost use Rattle.std.specs.List.{list_any};
@@ -13,7 +13,7 @@ use avro_resolve::{Aim, At, Comparison};
 use avro_schema::{Field, Memory, Node, NodeId, Schema};
 use std::alloc::Global;
 
-/// A writer's field, and the reader's field whose source it is.
+/// A writer's field, and the reader's field that takes its value.
 #[derive(Clone, Copy, Debug)]
 pub struct FieldAsk {
     /// The node of the writer's field.
@@ -22,26 +22,26 @@ pub struct FieldAsk {
     pub theirs: Option<NodeId>,
 }
 
-/// What a pair of nodes asks for.
+/// What a pair of nodes asks of a datum that fails there.
 #[derive(Debug, Drop)]
 pub enum Ask {
-    /// Nothing: no datum errs.
+    /// Nothing: no datum fails.
     Quiet,
-    /// The writer's least datum: each datum errs.
+    /// The writer's least datum: each datum fails.
     Whole,
-    /// A datum of one node.
+    /// A datum of one node: a symbol that the reader lacks, or bytes that are not UTF-8.
     Lone,
-    /// The same writer's node against another reader's.
+    /// What the writer's node and this node of the reader's ask for.
     Same(NodeId),
-    /// One part.
+    /// An item or a value that fails at these two nodes.
     Part(NodeId, NodeId),
-    /// One of the writer's branches.
+    /// A value that fails in one of the branches of the writer's union.
     Branches(Vec<NodeId>),
-    /// One of the fields, and the others.
+    /// One field that fails, beside the least data of the others.
     Fields(Vec<FieldAsk>),
 }
 
-/// The node of an id; past the end stand nulls.
+/// The node of an id, or null if the schema has no such node.
 pub(crate) fn node_or<'a>(schema: &'a Schema, id: NodeId, null: &'a Node) -> &'a Node
     requires { node_of null.now ≡ SeenNode.null }
     ensures { node_of result.now ≡ node_at (schema_nodes schema.now) id.0 }
@@ -53,7 +53,7 @@ pub(crate) fn node_or<'a>(schema: &'a Schema, id: NodeId, null: &'a Node) -> &'a
     }
 }
 
-/// The node of the reader's field that a part is for.
+/// The node of the reader's field that the part at an index is for, if there is one.
 fn theirs_at(parts: &[At], index: usize) -> Option<NodeId>
     ensures { option_map (λ id. id.0) result ≡ theirs_at parts.now index }
 {
@@ -64,7 +64,7 @@ fn theirs_at(parts: &[At], index: usize) -> Option<NodeId>
     }
 }
 
-/// Each writer's field, beside the reader's field that its part is for.
+/// Each of the writer's fields, with the reader's field that takes its value.
 fn rows(alloc: Global, writer: &[Field], parts: &[At]) -> Result<Vec<FieldAsk>, Memory>
     ensures { IfOk result (λ rows. rows_of rows.items ≡ rows_by parts.now 0 (field_ids (seen_fields writer.now))) }
 {
@@ -101,7 +101,7 @@ fn ask_symbols(pair: &Comparison) -> Ask
     }
 }
 
-/// What two nodes ask for that match and are no unions.
+/// What two matching nodes ask for, neither of which is a union.
 fn ask_inside(alloc: Global, w: &Node, r: &Node, pair: &Comparison) -> Result<Ask, Memory>
     requires { AreInside (node_of w.now) (node_of r.now) pair.now }
     ensures { IfOk result (λ a. ask_of a ≡ asked_inside (node_of w.now) (node_of r.now)) }
@@ -132,7 +132,7 @@ fn ask_inside(alloc: Global, w: &Node, r: &Node, pair: &Comparison) -> Result<As
     }
 }
 
-/// Some ids, again.
+/// A copy of some ids.
 fn copy(alloc: Global, ids: &[NodeId]) -> Result<Vec<NodeId>, Memory>
     ensures { IfOk result (λ copy. copy.items ≡ ids.now) }
 {
@@ -143,7 +143,8 @@ fn copy(alloc: Global, ids: &[NodeId]) -> Result<Vec<NodeId>, Memory>
     Ok(copy)
 }
 
-/// What a pair of nodes asks for, by what was found of it: no name is compared here. Past the end stand nulls.
+/// What a pair of nodes asks for, from its comparison; no name is compared here. An id that a schema does not
+/// have counts as a null.
 pub(crate) fn ask_of_pair(
     alloc: Global,
     writer: &Schema,
@@ -159,7 +160,7 @@ pub(crate) fn ask_of_pair(
     ask_nodes(alloc, writer, reader, from, to, pair)
 }
 
-/// The same of the nodes that stand there.
+/// The same, given the two nodes.
 fn ask_nodes(
     alloc: Global,
     writer: &Schema,

@@ -1,4 +1,4 @@
-//! A least datum, by its table.
+//! Builds a least datum from the table of least data.
 
 ghost use Rattle.std.specs.Prelude.{◌≡◌, ◌<◌, ℕ, true, IfOk, [], Some, slice_get, is_some, map};
 ghost use Rattle.std.proofs.Math.ListN.{replicate};
@@ -31,7 +31,7 @@ pub(crate) fn are_same(a: Option<Least>, b: Option<Least>) -> bool
     }
 }
 
-/// The index of the first id of the best entry.
+/// The index of the first id whose entry is the best.
 fn best_index(table: &[Option<Least>], ids: &[NodeId]) -> usize
     ensures { is_some (best_of (table_of table.now) (ids_of ids.now)) ≡ true
         → (p : ℕ) × (slice_get (ids_of ids.now) result ≡ Some p) × (table_of table.now p ≡ best_of (table_of table.now) (ids_of ids.now)) }
@@ -45,7 +45,7 @@ fn best_index(table: &[Option<Least>], ids: &[NodeId]) -> usize
     0
 }
 
-/// So many zeros.
+/// A list of `count` zeros.
 fn zeros(alloc: Global, count: u32) -> Result<Vec<u8>, Memory>
     ensures { IfOk result (λ z. z.items ≡ replicate count 0) }
 {
@@ -56,7 +56,7 @@ fn zeros(alloc: Global, count: u32) -> Result<Vec<u8>, Memory>
     Ok(zeros)
 }
 
-/// The bytes of a fixed.
+/// A fixed of `count` zeros.
 fn fixed(alloc: Global, count: u32) -> Result<Datum, Memory>
     ensures { IfOk result (λ d. value_of d ≡ Value.fixed (replicate count 0)) }
 {
@@ -83,7 +83,7 @@ fn leaf(alloc: Global, node: &Node) -> Result<Datum, Memory>
     }
 }
 
-/// An index as a datum holds it; no union or enum has one past the greatest `u32`.
+/// An index as a datum holds it. No union or enum has an index above the greatest `u32`.
 pub(crate) fn as_index(k: usize) -> u32
     ensures { k < 4294967296 → result ≡ k }
 {
@@ -93,7 +93,7 @@ pub(crate) fn as_index(k: usize) -> u32
     }
 }
 
-/// A value in a union.
+/// A value in the branch of a union that is at an index.
 pub(crate) fn wrap(alloc: Global, k: usize, value: Datum) -> Result<Datum, Memory>
     ensures { IfOk result (λ d. k < 4294967296 → value_of d ≡ Value.union k (value_of value)) }
 {
@@ -101,7 +101,7 @@ pub(crate) fn wrap(alloc: Global, k: usize, value: Datum) -> Result<Datum, Memor
     Ok(Datum::Union(as_index(k), value))
 }
 
-/// The id at an index.
+/// The id at an index, or 0 past the end.
 pub(crate) fn id_at(ids: &[NodeId], k: usize) -> NodeId
     ensures { (p : ℕ) → slice_get (ids_of ids.now) k ≡ Some p → result.0 ≡ p }
 {
@@ -111,14 +111,14 @@ pub(crate) fn id_at(ids: &[NodeId], k: usize) -> NodeId
     }
 }
 
-/// A record.
+/// The record of these values.
 pub(crate) fn make_record(values: Vec<Datum>) -> Datum
     ensures { value_of result ≡ Value.record_of (values_from (map value_of values.items)) }
 {
     Datum::Record(values)
 }
 
-/// A least datum of a node, of no more nodes than are left.
+/// Builds a least datum of a node. Its entry has at most `left` nodes; at 0 a null stands in for it.
 #[cycle(build)]
 pub(crate) fn build(
     alloc: Global,
@@ -149,7 +149,7 @@ pub(crate) fn build(
     }
 }
 
-/// A least datum of a union.
+/// Builds a least datum of a union.
 #[cycle(build)]
 fn build_branch(
     alloc: Global,
@@ -166,7 +166,7 @@ fn build_branch(
     Ok(whole)
 }
 
-/// A least datum of a record.
+/// Builds a least datum of a record.
 #[cycle(build)]
 fn build_record(
     alloc: Global,

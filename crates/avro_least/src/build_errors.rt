@@ -1,4 +1,4 @@
-//! A least datum that errs, by the tables.
+//! Builds a least datum that fails from the tables.
 
 ghost use Rattle.std.specs.Prelude.{◌+◌, ◌≤◌, ℕ, IfOk};
 ghost use Rattle.avro_schema.specs.Seen.{ids_of, value_of};
@@ -18,7 +18,7 @@ use crate::selecting::{best_error_index, best_row};
 use avro_schema::{Datum, Memory, NodeId};
 use std::alloc::Global;
 
-/// A least datum that fails at a pair, of no more nodes than are left.
+/// Builds a least datum that fails at a pair. Its entry has at most `left` nodes; at 0 a null stands in for it.
 ///
 /// # Errors
 ///
@@ -49,7 +49,7 @@ pub fn build_error(
     }
 }
 
-/// The same, of what the pair asks for, where this is no other pair.
+/// The same, given what the pair asks for. [`Ask::Same`] is left to the caller.
 #[cycle(build_error)]
 fn build_asked(
     alloc: Global,
@@ -93,7 +93,7 @@ fn build_asked(
     }
 }
 
-/// The branch of a writer's union that errs with the fewest nodes.
+/// Builds a least datum of a writer's union that fails: a value in the branch with the best entry.
 #[cycle(build_error)]
 fn build_branches(
     alloc: Global,
@@ -112,7 +112,7 @@ fn build_branches(
     Ok(whole)
 }
 
-/// A record of which one field errs.
+/// Builds a record in which one field fails.
 #[cycle(build_error)]
 fn build_rows(alloc: Global, tables: &Tables, rows: &[FieldAsk], left: u32) -> Result<Datum, Memory>
     requires few { tables.now.limit ≤ 16777216 }
@@ -128,7 +128,7 @@ fn build_rows(alloc: Global, tables: &Tables, rows: &[FieldAsk], left: u32) -> R
     Ok(make_record(values))
 }
 
-/// A field's least datum, or the one that errs where the field is chosen.
+/// Builds a field's least datum, or its least datum that fails if the field is the chosen one.
 #[cycle(build_error)]
 fn build_row(
     alloc: Global,

@@ -1,4 +1,4 @@
-//! The least data that err at pairs of nodes.
+//! The least data that fail at pairs of nodes.
 
 ghost use Rattle.std.specs.Prelude.{◌≡◌, ◌<◌, ◌≤◌, ◌*◌, ℕ, true, false, List, Option, length, nat_lt, slice_get, Some, None, IfOk, position, ◌==◌, cond};
 ghost use Rattle.std.specs.List.{list_all};
@@ -19,7 +19,7 @@ use avro_schema::{Memory, NodeId, Schema};
 use indexmap::IndexSet;
 use std::alloc::Global;
 
-/// The entry at an index; past the end stands the least of all.
+/// The entry at an index, or the least of all entries past the end.
 fn entry_at(entries: &[Option<Least>], i: usize) -> Option<Least>
     ensures { seen result ≡ given_entry (slice_get entries.now i) }
 {
@@ -29,7 +29,7 @@ fn entry_at(entries: &[Option<Least>], i: usize) -> Option<Least>
     }
 }
 
-/// The entry of a pair by its number.
+/// The entry of a pair, given its number.
 fn numbered_entry(known: &IndexSet<u64>, entries: &[Option<Least>], key: u64) -> Option<Least>
     ensures { seen result ≡ reached_entry (seen_all entries.now) (position (λ k. key == k) (keys known.now)) }
 {
@@ -39,7 +39,7 @@ fn numbered_entry(known: &IndexSet<u64>, entries: &[Option<Least>], key: u64) ->
     }
 }
 
-/// The entry of a pair whose writer's node is not dead.
+/// The entry of a pair whose writer's node has data.
 fn live_entry(
     count: u32,
     known: &IndexSet<u64>,
@@ -56,8 +56,8 @@ fn live_entry(
     }
 }
 
-/// The entry of a pair, by the table of least data and the entries of the pairs that were reached; it has
-/// none where no datum fails.
+/// The entry of a pair, from the table of least data and the entries of the pairs that were reached. It is
+/// `None` if no datum fails.
 pub fn pair_entry(
     table: &[Option<Least>],
     count: u32,
@@ -74,7 +74,7 @@ pub fn pair_entry(
     }
 }
 
-/// The best of a writer's branches.
+/// The best entry of the branches of a writer's union.
 pub(crate) fn best_branch(
     table: &[Option<Least>],
     count: u32,
@@ -94,7 +94,7 @@ pub(crate) fn best_branch(
     best
 }
 
-/// The entry of a field, where it is some reader's source.
+/// The entry of a writer's field, or `None` if no reader's field takes its value.
 pub(crate) fn row_entry(
     table: &[Option<Least>],
     count: u32,
@@ -110,7 +110,7 @@ pub(crate) fn row_entry(
     }
 }
 
-/// The best of a record's fields, the least data of the others beside it.
+/// The best entry of a record in which one field fails, beside the least data of the others.
 pub(crate) fn best_field(
     limit: u32,
     table: &[Option<Least>],
@@ -135,7 +135,7 @@ pub(crate) fn best_field(
     best
 }
 
-/// What a pair's entry is by the others.
+/// The entry of a pair, computed from the entries of the others.
 fn value_of_ask(
     limit: u32,
     table: &[Option<Least>],
@@ -168,7 +168,8 @@ fn ask_at_index(reached: &Reached, i: usize) -> &Ask
     &reached.asks[i]
 }
 
-/// Improves the entries where a step does, in reverse order of discovery, and tells whether one was.
+/// Computes each entry from the others, in reverse order of discovery, and keeps those that are better than the
+/// old ones. Returns whether an entry has changed.
 fn pair_round(
     writer: &Schema,
     reader: &Schema,
@@ -216,7 +217,7 @@ fn pair_round(
     changed
 }
 
-/// A table of the least data that fail at each pair that was reached, by the table of least data.
+/// The table of the least data that fail at each pair that was reached, from the table of least data.
 ///
 /// # Errors
 ///

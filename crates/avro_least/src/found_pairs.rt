@@ -1,4 +1,4 @@
-//! What was found by names of the pairs that were reached, where a datum is built by it.
+//! Uses the comparisons of the pairs that were reached to build a datum.
 
 ghost use Rattle.std.specs.Prelude.{◌≡◌, List, IfOk, IfSome, is_none};
 ghost use Rattle.avro_schema.specs.Node.{Node as SeenNode, node_at};
@@ -17,7 +17,7 @@ use avro_resolve::{Comparison, Names, compare};
 use avro_schema::{Datum, Memory, Node, NodeId};
 use std::alloc::Global;
 
-/// What was found of a pair, if it is one that was reached.
+/// The comparison of a pair, if the pair was reached.
 fn found_of(reached: &Reached, count: u32, w: NodeId, r: NodeId) -> Option<&Comparison>
     ensures { (writer reader : List SeenNode) → AreComparisons writer reader reached.now.found.items
         → IfSome result (λ p. IsComparison writer reader p.now × (p.now.w ≡ w) × (p.now.r ≡ r)) }
@@ -37,7 +37,7 @@ fn found_of(reached: &Reached, count: u32, w: NodeId, r: NodeId) -> Option<&Comp
     }
 }
 
-/// What is found of a pair that was not reached: its names are looked through.
+/// Compares a pair that was not reached, without tables of names.
 fn compare_alone(alloc: Global, tables: &Tables, w: NodeId, r: NodeId) -> Result<Comparison, Memory>
     ensures { IfOk result (λ p. IsComparison (schema_nodes tables.now.writer.now) (schema_nodes tables.now.reader.now) p × (p.w ≡ w) × (p.r ≡ r)) }
 {
@@ -45,7 +45,7 @@ fn compare_alone(alloc: Global, tables: &Tables, w: NodeId, r: NodeId) -> Result
     compare(alloc, &names, w, r)
 }
 
-/// What a pair asks for, by what was found of it, and else by names.
+/// What a pair asks for. A pair that was not reached is compared anew.
 pub(crate) fn ask_for(alloc: Global, tables: &Tables, w: NodeId, r: NodeId) -> Result<Ask, Memory>
     requires { AreComparisons (schema_nodes tables.now.writer.now) (schema_nodes tables.now.reader.now) tables.now.reached.now.found.items }
     ensures { IfOk result (λ a. ask_of a ≡ asked (schema_nodes tables.now.writer.now) (schema_nodes tables.now.reader.now) (node_at (schema_nodes tables.now.writer.now) w.0) (node_at (schema_nodes tables.now.reader.now) r.0)) }
@@ -59,7 +59,7 @@ pub(crate) fn ask_for(alloc: Global, tables: &Tables, w: NodeId, r: NodeId) -> R
     }
 }
 
-/// A datum of one node that errs at a pair that asks for one, by what was found of it, and else by names.
+/// A datum of one node that fails, for a pair that asks for one. A pair that was not reached is compared anew.
 pub(crate) fn lone_at(alloc: Global, tables: &Tables, w: NodeId, r: NodeId) -> Result<Datum, Memory>
     requires { AreComparisons (schema_nodes tables.now.writer.now) (schema_nodes tables.now.reader.now) tables.now.reached.now.found.items }
     ensures { IfOk result (λ d. BuildsLone (schema_nodes tables.now.writer.now) (schema_nodes tables.now.reader.now) w.0 r.0 (value_of d)) }
@@ -73,7 +73,7 @@ pub(crate) fn lone_at(alloc: Global, tables: &Tables, w: NodeId, r: NodeId) -> R
     }
 }
 
-/// The first of the writer's symbols that the reader lacks, or the byte `ff`.
+/// The first of the writer's symbols that the reader lacks, or for other nodes the byte `ff`, which is not UTF-8.
 fn lone(alloc: Global, tables: &Tables, pair: &Comparison) -> Result<Datum, Memory>
     requires { IsComparison (schema_nodes tables.now.writer.now) (schema_nodes tables.now.reader.now) pair.now }
     ensures { IfOk result (λ d. BuildsLone (schema_nodes tables.now.writer.now) (schema_nodes tables.now.reader.now) pair.now.w.0 pair.now.r.0 (value_of d)) }
@@ -85,7 +85,7 @@ fn lone(alloc: Global, tables: &Tables, pair: &Comparison) -> Result<Datum, Memo
     }
 }
 
-/// The first of the writer's symbols without a reader's.
+/// The index of the first of the writer's symbols that the reader lacks.
 fn first_lacking(symbols: &[Option<u32>]) -> usize
     ensures { result ≡ first_from is_none 0 symbols.now }
 {

@@ -1,8 +1,9 @@
-//! Entries of tables.
+//! The entries of the tables of least data.
 
 ghost use Rattle.std.specs.Prelude.{◌≤◌};
 
-/// The number of nodes of a datum, and its depth; both are one more than a limit, and 0, above it.
+/// The number of nodes of a datum and its depth. For a datum of more nodes than the limit they are
+/// the limit plus 1, and 0.
 #[derive(Clone, Copy, Debug)]
 pub struct Least {
     /// The number of nodes.

@@ -18,20 +18,20 @@ pub fn least_data()
         → AtMost (table p) (size v) (depth v) }
 {}
 
-/// No datum that errs at a pair of nodes is below the pair's entry, in tables that no step lowers.
+/// No datum that fails at a pair of nodes is below the pair's entry, in tables that no step lowers.
 pub fn least_errors()
     ensures { (writer reader : List Node) (limit : ℕ) (table : LeastTable) (erring : ErringTable) → AreLow writer reader limit table erring → is_schema reader ≡ true
         → (v : Value) (w r : ℕ) → fits writer (node_at writer w) v ≡ true → (fault : ResolutionFault)
         → resolve writer reader (node_at writer w) (node_at reader r) v ≡ Err fault → AtMost (erring w r) (size v) (depth v) }
 {}
 
-/// A step over entries that have data has a datum.
+/// If each entry is that of some datum, so is each entry that a step computes from them.
 pub fn shown_data()
     ensures { (writer : List Node) (limit : ℕ) (table : LeastTable) → AreDataShown writer limit table → (n : Node) → meets_its_rules writer n ≡ true
         → is_some (least_datum limit table n) ≡ true → ShowsData writer limit n (least_datum limit table n) }
 {}
 
-/// A step over entries that have data that err has a datum that errs.
+/// If each entry is that of some datum that fails, so is each entry that a step computes from them.
 pub fn shown_errors()
     ensures { (writer reader : List Node) (limit : ℕ) (table : LeastTable) (erring : ErringTable) (known : Pair → Bool) → is_schema reader ≡ true
         → AreDataShown writer limit table → AreErrorsShown writer reader limit known erring → (w r : ℕ)
@@ -41,21 +41,21 @@ pub fn shown_errors()
         (err_of writer reader limit table erring w r (node_at writer w) (node_at reader r)) }
 {}
 
-/// Over the limit each datum that errs has more nodes than that.
+/// If the entry of the roots is over the limit, each datum that fails has more nodes than the limit.
 pub fn decided_above()
     ensures { (writer reader : List Node) (limit : ℕ) (table : LeastTable) (erring : ErringTable) → AreLow writer reader limit table erring → is_schema reader ≡ true
         → (e : Least) → erring 0 0 ≡ Some e → ShowsError writer reader limit (root_of writer) (root_of reader) (Some e) → limit < e.nodes
         → ErrsOnlyAbove writer reader limit }
 {}
 
-/// Within it, too deep, each least datum that errs is.
+/// If the entry of the roots is within the limit but too deep, each least datum that fails is too deep.
 pub fn decided_deep()
     ensures { (writer reader : List Node) (limit : ℕ) (table : LeastTable) (erring : ErringTable) → AreLow writer reader limit table erring → is_schema reader ≡ true
         → (e : Least) (deepest : ℕ) → erring 0 0 ≡ Some e → ShowsError writer reader limit (root_of writer) (root_of reader) (Some e)
         → e.nodes ≤ limit → deepest < e.depth → ErrsLeastDeep writer reader limit deepest }
 {}
 
-/// Without an entry of the roots no datum errs.
+/// If the roots have no entry, no datum fails.
 pub fn decided_compatible()
     ensures { (writer reader : List Node) (limit : ℕ) (table : LeastTable) (erring : ErringTable) → AreLow writer reader limit table erring → is_schema reader ≡ true
         → erring 0 0 ≡ None → AreCompatible writer reader }

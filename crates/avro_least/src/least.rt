@@ -13,7 +13,7 @@ use crate::kept::Least;
 use avro_schema::{Field, Memory, Node, NodeId, Schema};
 use std::alloc::Global;
 
-/// The same, where numbers above the limit count as one.
+/// The entry of these numbers, where all numbers of nodes above the limit count as the same.
 fn capped(limit: u32, nodes: u32, depth: u32) -> Least
     requires range { limit ≤ 16777216 }
     requires flat { depth ≤ nodes }
@@ -29,7 +29,7 @@ fn capped(limit: u32, nodes: u32, depth: u32) -> Least
     }
 }
 
-/// One node around.
+/// The entry of a datum inside one more node.
 pub(crate) fn around(limit: u32, entry: Option<Least>) -> Option<Least>
     requires { limit ≤ 16777216 }
     ensures { seen result ≡ around limit (seen entry) }
@@ -40,7 +40,7 @@ pub(crate) fn around(limit: u32, entry: Option<Least>) -> Option<Least>
     }
 }
 
-/// One beside the other.
+/// The entry of two data side by side.
 pub(crate) fn together(limit: u32, first: Option<Least>, second: Option<Least>) -> Option<Least>
     requires { limit ≤ 16777216 }
     ensures { seen result ≡ together limit (seen first) (seen second) }
@@ -54,7 +54,7 @@ pub(crate) fn together(limit: u32, first: Option<Least>, second: Option<Least>) 
     }
 }
 
-/// Whether the first is an entry below the second.
+/// Whether the first entry is less than the second. `None` is greater than every entry.
 pub(crate) fn improves(found: Option<Least>, old: Option<Least>) -> bool
     ensures { result ≡ improves (seen found) (seen old) }
 {
@@ -67,7 +67,7 @@ pub(crate) fn improves(found: Option<Least>, old: Option<Least>) -> bool
     }
 }
 
-/// The lesser, the first of equals.
+/// The lesser of two entries, or the first if they are equal.
 pub(crate) fn lesser(first: Option<Least>, second: Option<Least>) -> Option<Least>
     ensures { seen result ≡ lesser (seen first) (seen second) }
 {
@@ -86,7 +86,7 @@ pub(crate) fn lesser(first: Option<Least>, second: Option<Least>) -> Option<Leas
     }
 }
 
-/// The entry of a node; it has none where the node has no data.
+/// The entry of a node, or `None` if the node has no data.
 pub fn entry(table: &[Option<Least>], id: NodeId) -> Option<Least>
     ensures { seen result ≡ table_of table.now id.0 }
 {
@@ -96,7 +96,7 @@ pub fn entry(table: &[Option<Least>], id: NodeId) -> Option<Least>
     }
 }
 
-/// The best of some nodes.
+/// The best entry of some nodes.
 pub(crate) fn best_of(table: &[Option<Least>], ids: &[NodeId]) -> Option<Least>
     ensures { seen result ≡ best_of (table_of table.now) (ids_of ids.now) }
 {
@@ -109,7 +109,7 @@ pub(crate) fn best_of(table: &[Option<Least>], ids: &[NodeId]) -> Option<Least>
     best
 }
 
-/// All fields together.
+/// The entry of the least data of all fields together.
 fn all_of(limit: u32, table: &[Option<Least>], fields: &[Field]) -> Option<Least>
     requires { limit ≤ 16777216 }
     ensures { seen result ≡ all_of limit (table_of table.now) (field_ids (seen_fields fields.now)) }
@@ -123,7 +123,7 @@ fn all_of(limit: u32, table: &[Option<Least>], fields: &[Field]) -> Option<Least
     all
 }
 
-/// A node's entry by those of its parts.
+/// The entry of a node, computed from those of its parts.
 fn least_of(limit: u32, table: &[Option<Least>], node: &Node) -> Option<Least>
     requires { limit ≤ 16777216 }
     ensures { seen result ≡ least_datum limit (table_of table.now) (node_of node.now) }
@@ -135,7 +135,8 @@ fn least_of(limit: u32, table: &[Option<Least>], node: &Node) -> Option<Least>
     }
 }
 
-/// Improves the entries where a step does, from the last node on, and tells whether one was.
+/// Computes each entry from the others, from the last node to the first, and keeps those that are better than the
+/// old ones. Returns whether an entry has changed.
 fn round(writer: &Schema, limit: u32, table: &mut [Option<Least>]) -> bool
     requires range { limit ≤ 16777216 }
     requires one_each { length table.old ≡ length (schema_nodes writer.now) }
@@ -168,7 +169,7 @@ pub fn count(schema: &Schema) -> u32
     schema.len() as u32
 }
 
-/// A table without an entry.
+/// A table of `count` entries, none of which is known yet.
 pub(crate) fn unknown(alloc: Global, count: usize) -> Result<Vec<Option<Least>>, Memory>
     ensures { IfOk result (λ t. t.items ≡ replicate count None) }
 {
@@ -179,7 +180,7 @@ pub(crate) fn unknown(alloc: Global, count: usize) -> Result<Vec<Option<Least>>,
     Ok(table)
 }
 
-/// A table of the least data of each node; data of more nodes than the limit count as one.
+/// The table of the least data of each node, where all data of more nodes than the limit count as the same.
 ///
 /// # Errors
 ///

@@ -1,8 +1,8 @@
-//! The least data of a writer's schema that fail for a reader's, as tables: of the least data of each
-//! node, and of the least data that fail at each pair of nodes that the roots lead to.
+//! Finds the least data of a writer's schema that fail for a reader's. Two tables hold the least data of each
+//! node, and the least data that fail at each pair of nodes that the roots lead to.
 //!
 //! [`least_data`] makes the first table, [`reach`] finds the pairs, and [`least_errors`] makes the second
-//! table. [`build_error`] builds a datum by them.
+//! table. [`build_error`] builds a datum from them.
 #![tactic(auto)]
 
 mod asking;

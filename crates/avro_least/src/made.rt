@@ -1,4 +1,4 @@
-//! The parts that a datum that errs is made of.
+//! The parts of a datum that fails.
 
 ghost use Rattle.std.specs.Prelude.{◌≡◌, ◌<◌, ℕ, [], ◌∷◌, IfOk};
 ghost use Rattle.avro_schema.specs.Node.{node_at};
@@ -12,7 +12,7 @@ use crate::build::as_index;
 use avro_schema::{Datum, Memory, Node, NodeId, Schema};
 use std::alloc::Global;
 
-/// A byte.
+/// The bytes of a single byte.
 pub(crate) fn one_byte(alloc: Global, byte: u8) -> Result<Datum, Memory>
     ensures { IfOk result (λ d. value_of d ≡ Value.bytes (byte ∷ [])) }
 {
@@ -21,7 +21,7 @@ pub(crate) fn one_byte(alloc: Global, byte: u8) -> Result<Datum, Memory>
     Ok(Datum::Bytes(bytes))
 }
 
-/// The symbol of an index.
+/// The symbol at an index.
 pub(crate) fn symbol(index: usize) -> Datum
     ensures { index < 4294967296 → value_of result ≡ Value.enum index }
 {
@@ -37,7 +37,7 @@ fn one_item(alloc: Global, value: Datum) -> Result<Datum, Memory>
     Ok(Datum::Array(items))
 }
 
-/// A map of one entry, of the empty key.
+/// A map of one entry, with the empty key.
 fn one_entry(alloc: Global, value: Datum) -> Result<Datum, Memory>
     ensures { IfOk result (λ d. value_of d ≡ Value.map_of (entry [] (value_of value) no_entries)) }
 {
@@ -46,7 +46,7 @@ fn one_entry(alloc: Global, value: Datum) -> Result<Datum, Memory>
     Ok(Datum::Map(entries))
 }
 
-/// An array of one item, or a map of one entry with the empty key.
+/// A datum of an array or a map around one part: one item, or one entry with the empty key.
 pub(crate) fn around_part(
     alloc: Global,
     writer: &Schema,

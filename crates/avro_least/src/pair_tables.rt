@@ -1,10 +1,10 @@
-//! The tables that a least datum that errs is built by.
+//! The tables from which a least datum that fails is built.
 
 use crate::kept::Least;
 use crate::reaching::Reached;
 use avro_schema::Schema;
 
-/// Two schemas, with the tables of their least data and of their least data that err.
+/// Two schemas, with the tables of the least data and of the least data that fail.
 #[derive(Clone, Copy)]
 pub struct Tables<'a> {
     /// The writer's schema.
@@ -19,6 +19,6 @@ pub struct Tables<'a> {
     pub count: u32,
     /// The pairs that were reached.
     pub reached: &'a Reached,
-    /// The least data that err at each of them.
+    /// The least data that fail at each of them.
     pub entries: &'a [Option<Least>],
 }

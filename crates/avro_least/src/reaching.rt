@@ -19,18 +19,18 @@ use avro_schema::{Memory, NodeId, Schema};
 use indexmap::IndexSet;
 use std::alloc::Global;
 
-/// The pairs that were reached, what was found of each by names, and what each asks for.
+/// The pairs that were reached, the comparison of each, and what each asks for.
 #[derive(Debug, Drop)]
 pub struct Reached {
     /// The number of each pair, in order of discovery.
     pub known: IndexSet<u64>,
-    /// What was found of the pair at each index.
+    /// The comparison of the pair at each index.
     pub found: Vec<Comparison>,
     /// What the pair at each index asks for.
     pub asks: Vec<Ask>,
 }
 
-/// Adds numbers.
+/// Adds numbers, each once.
 fn add_all(known: &mut IndexSet<u64>, more: &[u64]) -> Result<(), Memory>
     ensures kept { OnOk result ((rest : List ℕ) × (keys known.new ≡ keys known.old ++ rest)) }
     ensures added { OnOk result (list_all (is_key (keys known.new)) more.now ≡ true) }
@@ -50,7 +50,7 @@ pub(crate) fn number(count: u32, w: NodeId, r: NodeId) -> u64
     u64::from(w.0) * u64::from(count) + u64::from(r.0)
 }
 
-/// Adds the number of a pair whose writer's node is not dead.
+/// Adds the number of a pair, unless its writer's node has no data.
 fn add_number(
     numbers: &mut Vec<u64>,
     table: &[Option<Least>],
@@ -67,7 +67,7 @@ fn add_number(
     Ok(())
 }
 
-/// The numbers of the pairs that a pair takes.
+/// The numbers of the pairs that a pair leads to, without those whose writer's node has no data.
 fn children(
     alloc: Global,
     table: &[Option<Least>],
@@ -121,7 +121,7 @@ pub fn readers(reader: &Schema, key: u64) -> NodeId
     NodeId((key % u64::from(count(reader))) as u32)
 }
 
-/// What a pair asks for. What is found of it by names is added to what was found of others.
+/// Compares a pair and returns what it asks for. The comparison is added to those of the others.
 fn ask_at(
     alloc: Global,
     names: &Names,
@@ -144,7 +144,7 @@ fn ask_at(
     Ok(ask)
 }
 
-/// The numbers of the pairs that a pair takes, by its number.
+/// The numbers of the pairs that a pair leads to, given its number.
 fn steps(
     alloc: Global,
     writer: &Schema,
@@ -165,8 +165,8 @@ fn steps(
     children(alloc, table, count, w, r, ask)
 }
 
-/// All pairs that are reached from the roots through writer's nodes that are not dead, by the table of
-/// the writer's least data.
+/// All pairs that the roots lead to. A pair whose writer's node has no data, as the table of the writer's least data
+/// tells, is left out.
 ///
 /// # Errors
 ///

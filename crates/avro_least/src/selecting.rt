@@ -1,4 +1,4 @@
-//! The branch and the field of a least datum that errs.
+//! Chooses the branch or the field of a least datum that fails.
 
 ghost use Rattle.std.specs.Prelude.{◌≡◌, ◌<◌, ◌≤◌, ℕ, true, length, slice_get, Some, is_some};
 ghost use Rattle.avro_schema.specs.Seen.{ids_of};
@@ -17,7 +17,7 @@ use crate::least::{entry, together};
 use crate::pair_tables::Tables;
 use avro_schema::NodeId;
 
-/// The best branch against a reader's node.
+/// The index of the branch with the best entry against a reader's node.
 pub(crate) fn best_error_index(tables: &Tables, ids: &[NodeId], r: NodeId) -> usize
     ensures { is_some (best_of (λ p. erring_in tables.now p r.0) (ids_of ids.now)) ≡ true
         → (p : ℕ) × (slice_get (ids_of ids.now) result ≡ Some p)
@@ -49,7 +49,7 @@ pub(crate) fn best_error_index(tables: &Tables, ids: &[NodeId], r: NodeId) -> us
     0
 }
 
-/// The entry of a field, of its data that err where it is chosen.
+/// The entry of a field's least datum, or of its least datum that fails if the field is the chosen one.
 fn row_part(tables: &Tables, row: FieldAsk, chosen: bool) -> Option<Least>
     ensures { seen result ≡ part_of_row (least_in tables.now) (erring_in tables.now) chosen (row_of row) }
 {
@@ -66,7 +66,7 @@ fn row_part(tables: &Tables, row: FieldAsk, chosen: bool) -> Option<Least>
     }
 }
 
-/// All fields, the chosen one's data that err beside the least data of the others.
+/// The entry of all fields together, of which the chosen one fails.
 fn total(tables: &Tables, rows: &[FieldAsk], k: usize) -> Option<Least>
     requires { tables.now.limit ≤ 16777216 }
     ensures { seen result ≡ total_from tables.now.limit (least_in tables.now) (erring_in tables.now) k 0 (rows_of rows.now) }
@@ -80,7 +80,7 @@ fn total(tables: &Tables, rows: &[FieldAsk], k: usize) -> Option<Least>
     all
 }
 
-/// The first field whose whole total is the best.
+/// The index of the first field that gives the best entry if it is the chosen one.
 pub(crate) fn best_row(tables: &Tables, rows: &[FieldAsk]) -> usize
     requires { tables.now.limit ≤ 16777216 }
     ensures { (k : ℕ) → k < length rows.now
