@@ -148,10 +148,7 @@ pub fn wrapped(
 ) -> Result<Datum, ResolveError>
     ensures { (resolved : Resolved) → Ends value_of inner resolved → Ends value_of result (in_branch branch resolved) }
 {
-    let datum = match inner {
-        Ok(datum) => datum,
-        Err(error) => return Err(error),
-    };
+    let datum = inner?;
     match branch {
         None => Ok(datum),
         Some(branch) => match Box::new(alloc, datum) {

@@ -118,18 +118,14 @@ fn take(
         Datum::Array(items) => {
             let a = items_of(writer, w);
             let b = items_of(reader, q);
-            match resolve_each(alloc, writer, a, reader, b, items) {
-                Ok(resolved) => Ok(Datum::Array(resolved)),
-                Err(error) => Err(error),
-            }
+            let resolved_items = resolve_each(alloc, writer, a, reader, b, items)?;
+            Ok(Datum::Array(resolved_items))
         }
         Datum::Map(entries) => {
             let a = values_of(writer, w);
             let b = values_of(reader, q);
-            match resolve_values(alloc, writer, a, reader, b, entries) {
-                Ok(resolved) => Ok(Datum::Map(resolved)),
-                Err(error) => Err(error),
-            }
+            let resolved_entries = resolve_values(alloc, writer, a, reader, b, entries)?;
+            Ok(Datum::Map(resolved_entries))
         }
         Datum::Record(values) => resolve_record(alloc, writer, w, reader, q, values),
         Datum::Null
@@ -221,13 +217,13 @@ fn resolve_record(
     let reads = fields_of(reader, q);
     match missing(writes, reads) {
         Some(field) => Err(fault_here(alloc, FaultKind::MissingField(field))),
-        None => match resolve_fields(alloc, writer, writes, reader, reads, values) {
-            Ok(slots) => match fill_data(alloc, writes, reads, slots) {
+        None => {
+            let slots = resolve_fields(alloc, writer, writes, reader, reads, values)?;
+            match fill_data(alloc, writes, reads, slots) {
                 Ok(filled) => Ok(Datum::Record(filled)),
                 Err(_) => Err(ResolveError::Memory),
-            },
-            Err(error) => Err(error),
-        },
+            }
+        }
     }
 }
 
@@ -247,12 +243,10 @@ fn resolve_fields(
 {
     let mut slots = Vec::new(alloc);
     for index in 0..values.len() {
-        match resolve_field(alloc, writer, writes, reader, reads, index, &values[index]) {
-            Ok(slot) => match slots.push(slot) {
-                Ok(()) => {}
-                Err(_) => return Err(ResolveError::Memory),
-            },
-            Err(error) => return Err(error),
+        let slot = resolve_field(alloc, writer, writes, reader, reads, index, &values[index])?;
+        match slots.push(slot) {
+            Ok(()) => {}
+            Err(_) => return Err(ResolveError::Memory),
         }
     }
     Ok(slots)

@@ -1,4 +1,5 @@
 use Rattle.std.proofs.Common.{◌+◌, ◌∙◌, ap, sym, subst, Ok, Err}
+use Rattle.std.proofs.lemmas.Result.{err_from_is_err_and}
 use Rattle.avro_schema.specs.Node.{node_at}
 use Rattle.avro_schema.specs.Seen.{value_of, entries_of, seen_fields}
 use Rattle.avro_schema.specs.SeenSchema.{schema_nodes}
@@ -26,15 +27,17 @@ resolve_each-returns t c =
     let reader = schema_nodes c.args.reader.now in
     items_done writer reader (node_at writer c.args.w.0) (node_at reader c.args.r.0) c.args.items.now c.loop-index.resolved.items c.loop-index.index c.loop-index-test.false c.loop-index.invariant
 
-pub resolve_fields-returns-in-Err : goal.resolve_fields-returns-in-Err
-resolve_fields-returns-in-Err t c =
+pub resolve_fields-returns-in_err-slot : goal.resolve_fields-returns-in_err-slot
+resolve_fields-returns-in_err-slot t c =
     let writer = schema_nodes c.args.writer.now in
     let reader = schema_nodes c.args.reader.now in
     let ws = seen_fields c.args.writes.now in
     let rs = seen_fields c.args.reads.now in
     let i = c.loop-index.index in
-    field_fails writer reader ws rs c.args.values.now i c.index-values-index.result c.loop-index.slots.items c.in-Err.error c.loop-index-test.true
-    (subst (λ d. EndsSlot i (Err c.in-Err.error) (field_step writer reader ws rs i (value_of d))) c.index-values-index.is c.in-Err.ensures) c.loop-index.invariant
+    let error = c.in_err-slot.field-0.0 in
+    let p = err_from_is_err_and c.from_residual.result c.from_residual.ensures.1 in
+    rw (p.1, p.2) (field_fails writer reader ws rs c.args.values.now i c.index-values-index.result c.loop-index.slots.items error c.loop-index-test.true
+    (subst (λ d. EndsSlot i (Err error) (field_step writer reader ws rs i (value_of d))) c.index-values-index.is c.in_err-slot.ensures) c.loop-index.invariant)
 
 pub resolve_fields-loop-index-preserved : goal.resolve_fields-loop-index-preserved
 resolve_fields-loop-index-preserved t c =
@@ -43,9 +46,9 @@ resolve_fields-loop-index-preserved t c =
     let ws = seen_fields c.args.writes.now in
     let rs = seen_fields c.args.reads.now in
     let i = c.loop-index.index in
-    subst (FieldsSoFar writer reader ws rs c.args.values.now (i + 1)) (sym c.in-Ok-push.ensures.items)
-    (field_done writer reader ws rs c.args.values.now i c.index-values-index.result c.loop-index.slots.items c.in-Ok.slot c.loop-index-test.true
-    (subst (λ d. EndsSlot i (Ok c.in-Ok.slot) (field_step writer reader ws rs i (value_of d))) c.index-values-index.is c.in-Ok.ensures) c.loop-index.invariant)
+    subst (FieldsSoFar writer reader ws rs c.args.values.now (i + 1)) (sym c.in-Ok.ensures.items)
+    (field_done writer reader ws rs c.args.values.now i c.index-values-index.result c.loop-index.slots.items c.in_ok-slot.slot c.loop-index-test.true
+    (subst (λ d. EndsSlot i (Ok c.in_ok-slot.slot) (field_step writer reader ws rs i (value_of d))) c.index-values-index.is c.in_ok-slot.ensures) c.loop-index.invariant)
 
 pub resolve_values-loop-index-preserved : goal.resolve_values-loop-index-preserved
 resolve_values-loop-index-preserved t c =
@@ -63,8 +66,8 @@ resolve_values-returns t c =
     let reader = schema_nodes c.args.reader.now in
     entries_done writer reader (node_at writer c.args.w.0) (node_at reader c.args.r.0) c.args.entries.now c.loop-index.resolved.items c.loop-index.index c.loop-index-test.false c.loop-index.invariant
 
-pub take-returns-in-Ok-resolve_values : goal.take-returns-in-Ok-resolve_values
-take-returns-in-Ok-resolve_values t c =
+pub take-returns-in_ok-resolved_entries-in-Map : goal.take-returns-in_ok-resolved_entries-in-Map
+take-returns-in_ok-resolved_entries-in-Map t c =
     let writer = schema_nodes c.args.writer.now in
     let reader = schema_nodes c.args.reader.now in
     let a = c.values_of-a.result.0 in
@@ -72,16 +75,18 @@ take-returns-in-Ok-resolve_values t c =
     taken_map writer reader (node_at writer c.args.w.0) (node_at reader c.args.q.0) a b (value_of c.args.datum.now) (entries_of c.in-Map.entries.items)
     (ap value_of c.in-Map.is ∙ value_of-Map c.in-Map.entries) c.values_of-a.ensures c.values_of-b.ensures
     ∙ ap (λ es. result_map Value.map_of (resolve_entries writer reader (node_at writer a) (node_at reader b) 0 (entries_of es))) (sym c.deref-in-Map.ensures.value)
-    ∙ ap (result_map Value.map_of) c.in-Ok-resolve_values.ensures ∙ ap (λ v. Ok v) (sym (value_of-Map c.in-Ok-resolve_values.resolved))
+    ∙ ap (result_map Value.map_of) c.in_ok-resolved_entries-in-Map.ensures ∙ ap (λ v. Ok v) (sym (value_of-Map c.in_ok-resolved_entries-in-Map.resolved_entries))
 
-pub take-returns-in-Err-resolve_values : goal.take-returns-in-Err-resolve_values
-take-returns-in-Err-resolve_values t c =
+pub take-returns-in_err-resolved_entries-in-Map : goal.take-returns-in_err-resolved_entries-in-Map
+take-returns-in_err-resolved_entries-in-Map t c =
     let writer = schema_nodes c.args.writer.now in
     let reader = schema_nodes c.args.reader.now in
     let a = c.values_of-a.result.0 in
     let b = c.values_of-b.result.0 in
-    subst (Fails c.in-Err-resolve_values.error)
+    let error = c.in_err-resolved_entries-in-Map.field-0.0 in
+    let p = err_from_is_err_and c.from_residual-in_err-resolved_entries-in-Map.result c.from_residual-in_err-resolved_entries-in-Map.ensures.1 in
+    rw (p.1, p.2) (subst (Fails error)
     (sym (taken_map writer reader (node_at writer c.args.w.0) (node_at reader c.args.q.0) a b (value_of c.args.datum.now) (entries_of c.in-Map.entries.items)
     (ap value_of c.in-Map.is ∙ value_of-Map c.in-Map.entries) c.values_of-a.ensures c.values_of-b.ensures
     ∙ ap (λ es. result_map Value.map_of (resolve_entries writer reader (node_at writer a) (node_at reader b) 0 (entries_of es))) (sym c.deref-in-Map.ensures.value)))
-    (fails_mapped c.in-Err-resolve_values.error Value.map_of _ c.in-Err-resolve_values.ensures)
+    (fails_mapped error Value.map_of _ c.in_err-resolved_entries-in-Map.ensures))
