@@ -12,9 +12,10 @@ use Rattle.avro_container.specs.inside.DataPacked.{IsCopyFault, PacksBlock}
 use Rattle.avro_container.specs.File.{HeaderValue}
 use Rattle.avro_container.specs.FileFault.{FileFault}
 use Rattle.avro_container.specs.FileSeen.{file_fault}
-use Rattle.avro_container.specs.inside.Filled.{GrowsBy, PutsFrontOf, TakesAtMost, UnlessFailed}
+use Rattle.avro_container.specs.inside.Filled.{GrowsBy, TakesAtMost, UnlessFailed}
 use Rattle.avro_container.specs.inside.Moved.{Moved}
 use Rattle.avro_container.specs.Parts.{block_part}
+use Rattle.avro_container.specs.PutFront.{PutsFrontOf}
 use Rattle.avro_container.specs.Steps.{HasFault, PutsFront, Stored, reading_of}
 use Rattle.avro_container.proofs.Cut.{no_bytes}
 use Rattle.avro_container.proofs.Heads.{not_failed}

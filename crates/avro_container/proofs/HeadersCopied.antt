@@ -9,7 +9,8 @@ use Rattle.avro_container.specs.Copied.{Job, copied_header}
 use Rattle.avro_container.specs.File.{HeaderValue, IsHeader}
 use Rattle.avro_container.specs.FileFault.{FileFault}
 use Rattle.avro_container.specs.FileSeen.{file_fault}
-use Rattle.avro_container.specs.inside.Filled.{GrowsBy, PutsFrontOf, TakesAtMost, UnlessFailed}
+use Rattle.avro_container.specs.inside.Filled.{GrowsBy, TakesAtMost, UnlessFailed}
+use Rattle.avro_container.specs.PutFront.{PutsFrontOf}
 use Rattle.avro_container.specs.inside.HeaderCopied.{CopiesHeader}
 use Rattle.avro_container.specs.HeaderFails.{HeaderFails}
 use Rattle.avro_container.specs.HeaderTaken.{IsHeaderFault}

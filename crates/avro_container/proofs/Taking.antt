@@ -3,7 +3,8 @@ use Rattle.std.proofs.Common.{◌≡◌, ◌≢◌, refl, ℕ, ◌+◌, ◌-◌,
 use Rattle.std.proofs.lemmas.List.{take-append-drop}
 use Rattle.avro_container.specs.declared.error.CopyError.{CopyError}
 use Rattle.avro_container.specs.declared.part_error.PartError.{PartError}
-use Rattle.avro_container.specs.inside.Filled.{GrowsBy, TakesAtMost, UnlessDevice, PutsFrontOf}
+use Rattle.avro_container.specs.inside.Filled.{GrowsBy, TakesAtMost, UnlessDevice}
+use Rattle.avro_container.specs.PutFront.{PutsFrontOf}
 
 pub GrowsBy-chain : {I : Type 0} (gives : I → List ℕ → I → Type 0)
     → ((s t u : I) (front back : List ℕ) → gives s front t → gives t back u → gives s (front ++ back) u)

@@ -11,6 +11,7 @@ pub mod BlockStands
 pub mod BlockTaken
 pub mod DataRead
 pub mod Parts
+pub mod PutFront
 pub mod HeaderTaken
 pub mod CopierSeen
 pub mod Copying

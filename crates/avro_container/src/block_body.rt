@@ -1,6 +1,6 @@
 //! Taking the data of a block.
 
-ghost use Rattle.std.specs.Prelude.{◌≡◌, ◌≢◌, ◌↔◌, ◌+◌, ◌-◌, ◌^◌, ◌<◌, ◌≤◌, max, List, ℕ, length, take, drop, OnOk, OnErr, IsTrue, Some, Err};
+ghost use Rattle.std.specs.Prelude.{◌≡◌, ◌≢◌, ◌↔◌, ◌+◌, ◌-◌, ◌^◌, ◌<◌, ◌≤◌, max, length, take, drop, OnOk, OnErr, IsTrue, Some, Err};
 ghost use Rattle.std.specs.Result.{IfErr};
 ghost use Rattle.avro_container.specs.BlockFails.{BlockBegins, FileLimitValues, max_blocks};
 ghost use Rattle.avro_container.specs.BlockStands.{IsBlockFault};

@@ -1,9 +1,9 @@
 //! Taking a block.
 
-ghost use Rattle.std.specs.Prelude.{◌≡◌, ◌≢◌, ◌↔◌, ℕ, ◌+◌, ◌-◌, ◌^◌, ◌<◌, ◌≤◌, max, List, [], ◌++◌, length, take, drop, true, OnOk, OnErr, IfOk, IsTrue, Err, IfSome, IfNone};
+ghost use Rattle.std.specs.Prelude.{◌≡◌, ◌≢◌, ℕ, ◌+◌, ◌-◌, ◌^◌, ◌<◌, ◌≤◌, max, List, length, drop, OnOk, OnErr, IfOk, Err};
 ghost use Rattle.std.specs.Result.{IfErr};
-ghost use Rattle.avro_container.specs.BlockFails.{BlockBegins, FileLimitValues, max_blocks};
-ghost use Rattle.avro_container.specs.BlockStands.{BlockStands, IsBlockFault};
+ghost use Rattle.avro_container.specs.BlockFails.{BlockBegins, max_blocks};
+ghost use Rattle.avro_container.specs.BlockStands.{IsBlockFault};
 ghost use Rattle.avro_container.specs.FileFault.{FileFault};
 ghost use Rattle.avro_container.specs.FileSeen.{file_fault};
 ghost use Rattle.avro_container.specs.inside.Filled.{GrowsBy, TakesAtMost, UnlessFailed};
@@ -11,10 +11,10 @@ ghost use Rattle.avro_container.specs.Held.{held};
 ghost use Rattle.avro_container.specs.Named.{IsNamed};
 
 use crate::buffer::Buffer;
-use crate::counting::{block_error, take_count};
+use crate::counting::take_count;
 use crate::device::Input;
 use crate::error::{CopyError, LimitPlace};
-use crate::filling::{Reach, fill};
+use crate::filling::Reach;
 use crate::limits::FileLimits;
 
 /// How many data a block has, where among its bytes they begin, and how many bytes they are.

@@ -1,6 +1,6 @@
 //! Whether a block begins, or the file ends.
 
-ghost use Rattle.std.specs.Prelude.{◌≡◌, ◌≢◌, ◌+◌, ◌-◌, ◌^◌, ◌<◌, ◌≤◌, max, true, false, List, [], None, length, OnOk, OnErr, IfOk, Err};
+ghost use Rattle.std.specs.Prelude.{◌≡◌, ◌≢◌, ◌+◌, ◌-◌, ◌^◌, ◌<◌, ◌≤◌, max, true, false, None, length, OnOk, OnErr, IfOk, Err};
 ghost use Rattle.std.specs.Result.{IfErr};
 ghost use Rattle.avro_container.specs.FileSeen.{file_fault};
 ghost use Rattle.avro_container.specs.inside.Filled.{GrowsBy, TakesAtMost, UnlessFailed};

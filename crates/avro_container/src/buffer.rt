@@ -1,6 +1,6 @@
 //! What was taken of an input and is not done with.
 
-ghost use Rattle.std.specs.Prelude.{◌≡◌, ◌≢◌, ◌+◌, ◌-◌, ◌^◌, ◌<◌, ◌≤◌, [], length, drop, IfOk, OnOk, OnErr, Err};
+ghost use Rattle.std.specs.Prelude.{◌≡◌, ◌≢◌, ◌+◌, ◌^◌, ◌<◌, ◌≤◌, [], length, drop, IfOk, OnOk, OnErr, Err};
 ghost use Rattle.avro_container.specs.inside.Filled.{GrowsBy, TakesAtMost};
 
 use crate::device::Input;

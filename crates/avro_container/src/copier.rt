@@ -1,6 +1,6 @@
 //! The steps of a copy.
 
-ghost use Rattle.std.specs.Prelude.{◌≡◌, ◌≢◌, ◌⊎◌, ◌≤◌, ◌<◌, ◌^◌, true, false, length, OnOk, OnErr, Ok, Err, IfOk};
+ghost use Rattle.std.specs.Prelude.{◌≡◌, ◌≢◌, ◌⊎◌, ◌≤◌, true, length, OnOk, Ok, Err, IfOk};
 ghost use Rattle.std.specs.Result.{IfErr};
 ghost use Rattle.avro_container.specs.inside.BlockCopied.{GivesWithin, RefusesWithin};
 ghost use Rattle.avro_container.specs.CopierSeen.{job_in, limits_in, outcome_of, stored_of};

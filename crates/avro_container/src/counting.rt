@@ -1,6 +1,6 @@
 //! Taking the count or the size of a block.
 
-ghost use Rattle.std.specs.Prelude.{◌≡◌, ◌≢◌, ℕ, ◌+◌, ◌-◌, ◌^◌, ◌<◌, ◌≤◌, max, pos, length, take, drop, Some, OnOk, OnErr, IfOk, Err};
+ghost use Rattle.std.specs.Prelude.{◌≡◌, ◌≢◌, ◌+◌, ◌-◌, ◌^◌, ◌<◌, ◌≤◌, max, pos, length, take, drop, Some, OnOk, OnErr, IfOk, Err};
 ghost use Rattle.std.specs.Result.{IfErr};
 ghost use Rattle.avro_binary.specs.Breaks.{StartsWithLong};
 ghost use Rattle.avro_container.specs.BlockStands.{CountStops};

@@ -1,12 +1,12 @@
 //! Putting the header of a copy.
 
-ghost use Rattle.std.specs.Prelude.{◌≡◌, ◌≢◌, ◌⊎◌, None, OnOk, OnErr, IfOk, IsTrue, Err, map, bytes_eq, codes};
+ghost use Rattle.std.specs.Prelude.{◌≡◌, ◌≢◌, ◌⊎◌, None, OnOk, OnErr, IfOk, Err, map, bytes_eq, codes};
 ghost use Rattle.std.specs.Result.{IfErr};
 ghost use Rattle.avro_container.specs.Copied.{copied_header, copied_property, or_else};
 ghost use Rattle.avro_container.specs.FileSeen.{file_fault};
-ghost use Rattle.avro_container.specs.inside.Filled.{PutsFrontOf};
 ghost use Rattle.avro_container.specs.Named.{IsNamed};
 ghost use Rattle.avro_container.specs.Parts.{properties_of, property_of};
+ghost use Rattle.avro_container.specs.PutFront.{PutsFrontOf};
 ghost use Rattle.avro_container.specs.HeaderTaken.{header_value};
 ghost use Rattle.avro_container.specs.TaskSeen.{job_of};
 

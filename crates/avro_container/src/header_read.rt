@@ -36,9 +36,7 @@ impl Header {
         ensures named { IfErr result IsNamed }
     {
         let mut buffer = Buffer::new(alloc);
-        match take_header(alloc, input, &mut buffer, limits, 0) {
-            Ok((header, _len)) => Ok(header),
-            Err(error) => Err(error),
-        }
+        let (header, _len) = take_header(alloc, input, &mut buffer, limits, 0)?;
+        Ok(header)
     }
 }

@@ -1,6 +1,6 @@
 //! Taking a number.
 
-ghost use Rattle.std.specs.Prelude.{◌≡◌, ◌≢◌, ℕ, ◌+◌, ◌-◌, ◌^◌, ◌<◌, ◌≤◌, max, length, take, drop, OnOk, OnErr, IfOk, Err};
+ghost use Rattle.std.specs.Prelude.{◌≡◌, ◌≢◌, ◌+◌, ◌-◌, ◌^◌, ◌<◌, ◌≤◌, max, length, take, drop, OnOk, OnErr, IfOk, Err};
 ghost use Rattle.avro_binary.specs.Breaks.{StartsWithLong};
 ghost use Rattle.avro_zigzag.specs.NumberFault.{LongFails};
 ghost use Rattle.avro_zigzag.specs.declared.VarError.TheVariants.{EndOfInput, OutOfRange};

@@ -6,7 +6,7 @@ ghost use Rattle.std.specs.Result.{IfErr};
 ghost use Rattle.avro_container.specs.inside.BlockCopied.{RefusesWithin};
 ghost use Rattle.avro_container.specs.Copied.{copied_header};
 ghost use Rattle.avro_container.specs.FileSeen.{file_fault};
-ghost use Rattle.avro_container.specs.inside.Filled.{PutsFrontOf};
+ghost use Rattle.avro_container.specs.PutFront.{PutsFrontOf};
 ghost use Rattle.avro_container.specs.inside.HeaderCopied.{CopiesHeader};
 ghost use Rattle.avro_container.specs.HeaderTaken.{header_value};
 ghost use Rattle.avro_container.specs.Held.{held};

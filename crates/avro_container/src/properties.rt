@@ -1,6 +1,6 @@
 //! Taking the properties of a header's metadata.
 
-ghost use Rattle.std.specs.Prelude.{◌≡◌, ◌≢◌, ◌+◌, ◌-◌, ◌^◌, ◌<◌, ◌≤◌, ℕ, true, false, List, [], ◌∷◌, ◌++◌, max, length, take, drop, bytes_eq, string_bytes, slice_index, IfOk, OnOk, Some};
+ghost use Rattle.std.specs.Prelude.{◌≡◌, ◌+◌, ◌^◌, ◌<◌, ◌≤◌, ℕ, true, List, [], ◌∷◌, ◌++◌, max, length, bytes_eq, string_bytes, slice_index, IfOk, OnOk, Some};
 ghost use Rattle.std.specs.Result.{IfErr};
 ghost use Rattle.avro_schema.specs.Distinct.{are_distinct};
 ghost use Rattle.avro_binary.specs.Breaks.{KeyBreaks, Left};

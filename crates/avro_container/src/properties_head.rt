@@ -1,6 +1,6 @@
 //! Taking the head of a block of a header's metadata.
 
-ghost use Rattle.std.specs.Prelude.{◌≡◌, ◌≢◌, ◌+◌, ◌^◌, ◌<◌, ◌≤◌, ℕ, true, max, length, take, drop, IfOk, Some};
+ghost use Rattle.std.specs.Prelude.{◌≡◌, ◌+◌, ◌^◌, ◌<◌, ◌≤◌, ℕ, true, max, length, take, drop, IfOk, Some};
 ghost use Rattle.std.specs.Result.{IfErr};
 ghost use Rattle.avro_binary.specs.Breaks.{HeadBreaks, StartsWithLong};
 ghost use Rattle.avro_binary.specs.BlockHeads.{signed_count};

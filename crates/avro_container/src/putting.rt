@@ -1,7 +1,7 @@
 //! Putting all of some bytes.
 
-ghost use Rattle.std.specs.Prelude.{◌≡◌, ◌≢◌, ◌⊎◌, ◌≤◌, ◌<◌, ℕ, List, length, take, drop, OnOk, OnErr, IfOk};
-ghost use Rattle.avro_container.specs.inside.Filled.{PutsFrontOf};
+ghost use Rattle.std.specs.Prelude.{◌≡◌, ◌≢◌, ◌⊎◌, OnOk, OnErr};
+ghost use Rattle.avro_container.specs.PutFront.{PutsFrontOf};
 
 use crate::device::{DeviceFault, Output};
 

@@ -6,9 +6,9 @@ ghost use Rattle.avro_zigzag.specs.Number.{number_bytes};
 ghost use Rattle.avro_binary.specs.Encoding.{plain, plain_bytes, plain_entries};
 ghost use Rattle.avro_container.specs.File.{metadata_value, property_entries};
 ghost use Rattle.avro_container.specs.FileSeen.{file_fault};
-ghost use Rattle.avro_container.specs.inside.Filled.{PutsFrontOf};
 ghost use Rattle.avro_container.specs.Named.{IsNamed};
 ghost use Rattle.avro_container.specs.Parts.{block_part, header_part, properties_of};
+ghost use Rattle.avro_container.specs.PutFront.{PutsFrontOf};
 
 use crate::device::Output;
 use crate::error::CopyError;

@@ -26,10 +26,3 @@ UnlessLost (Err e) P = UnlessDevice e P
 
 abbrev pub UnlessFailed : {T : Type 0} → Result T CopyError → Type 0 → Type 0
 UnlessFailed result P = result ≢ Err CopyError.InputFailed → P
-
--- A front of the bytes was put.
-pub record PutsFrontOf {O : Type 0} (keeps : O → List ℕ → O → Type 0) (from to : O) (bytes : List ℕ) : Type 0 where
-  pub front : List ℕ
-  pub later : List ℕ
-  pub kept : keeps from front to
-  pub split : bytes ≡ front ++ later

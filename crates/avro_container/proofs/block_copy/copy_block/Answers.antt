@@ -1,10 +1,10 @@
 -- A block is taken, packed and put.
 use Rattle.std.proofs.Common.{◌+◌, ◌<◌, List, ℕ, sym, subst}
 use Rattle.avro_container.specs.BlockFails.{max_blocks}
-use Rattle.avro_container.specs.inside.Filled.{PutsFrontOf}
 use Rattle.avro_container.specs.Held.{held}
 use Rattle.avro_container.specs.HeaderTaken.{header_value}
 use Rattle.avro_container.specs.Parts.{block_part}
+use Rattle.avro_container.specs.PutFront.{PutsFrontOf}
 use Rattle.avro_container.specs.TaskSeen.{job_of}
 use Rattle.avro_container.proofs.BlocksCopied.{copies-block, nothing-taken, refuses-block, refuses-putting}
 use Rattle.avro_container.proofs.Heads.{ok_err}
