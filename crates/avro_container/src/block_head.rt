@@ -58,14 +58,8 @@ pub(crate) fn take_head<I: Input>(
     ensures first { result ≢ Err CopyError.FailedBefore }
     ensures named { IfErr result IsNamed }
 {
-    let (count, len) = match take_count(input, buffer, 0, number, reach) {
-        Ok(found) => found,
-        Err(error) => return Err(error),
-    };
-    let (size, more) = match take_count(input, buffer, len, number, reach) {
-        Ok(found) => found,
-        Err(error) => return Err(error),
-    };
+    let (count, len) = take_count(input, buffer, 0, number, reach)?;
+    let (size, more) = take_count(input, buffer, len, number, reach)?;
     if count > u64::from(limits.per_block()) {
         return Err(CopyError::LimitExceeded(LimitPlace::Block(number)));
     }

@@ -63,12 +63,7 @@ pub(crate) fn take_block<I: Input>(
     if number >= MAX_BLOCKS {
         return Err(CopyError::LimitExceeded(LimitPlace::Block(number)));
     }
-    let head = match take_head(input, buffer, number, limits, reach) {
-        Ok(head) => head,
-        Err(error) => return Err(error),
-    };
-    match take_body(input, buffer, head, number, sync, reach) {
-        Ok(()) => Ok(Some(head)),
-        Err(error) => Err(error),
-    }
+    let head = take_head(input, buffer, number, limits, reach)?;
+    take_body(input, buffer, head, number, sync, reach)?;
+    Ok(Some(head))
 }

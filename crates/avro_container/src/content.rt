@@ -92,10 +92,7 @@ pub(crate) fn take_content<I: Input>(
     ensures refused { IfErr result (λ e. (f : FileFault) (is_content : List ℕ → Bool) → file_fault e ≡ Some f
         → PartStops reach.limit at (I.ended input.new) (held buffer.new) (ContentBreaks is_content (2 ^ 63)) ContentWants f) }
 {
-    let (count, len) = match take_length(input, buffer, at, reach) {
-        Ok(found) => found,
-        Err(error) => return Err(error),
-    };
+    let (count, len) = take_length(input, buffer, at, reach)?;
     let start = at + len;
     let end = start + count as usize;
     match fill(input, buffer, end, reach) {

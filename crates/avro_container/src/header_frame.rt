@@ -45,20 +45,12 @@ pub(crate) fn take_frame<I: Input>(
     ensures lost { IfErr result (λ e. Refused I.gives I.failures (max 4 reach.limit) input.old input.new (held buffer.old) (held buffer.new) e) }
     ensures refused { IfErr result (λ e. (f : FileFault) → file_fault e ≡ Some f → IsHeaderFault reach.limit (I.ended input.new) (held buffer.new) f) }
 {
-    match take_magic(input, buffer, reach) {
-        Ok(()) => {}
-        Err(error) => return Err(error),
-    }
-    let (metadata, at) = match take_metadata(alloc, input, buffer, reach) {
-        Ok(found) => found,
-        Err(error) => return Err(error),
-    };
-    match take_marker(input, buffer, at, reach) {
-        Ok(sync) => Ok(Frame {
-            metadata,
-            sync,
-            end: at + 16,
-        }),
-        Err(error) => Err(error),
-    }
+    take_magic(input, buffer, reach)?;
+    let (metadata, at) = take_metadata(alloc, input, buffer, reach)?;
+    let sync = take_marker(input, buffer, at, reach)?;
+    Ok(Frame {
+        metadata,
+        sync,
+        end: at + 16,
+    })
 }

@@ -54,24 +54,17 @@ pub(crate) fn take_header<I: Input>(
         limit,
         ahead: ahead.min(limit),
     };
-    let frame = match take_frame(alloc, input, buffer, reach) {
-        Ok(frame) => frame,
-        Err(error) => return Err(error),
+    let frame = take_frame(alloc, input, buffer, reach)?;
+    let schema = schema_of(alloc, &frame.metadata)?;
+    let Frame {
+        metadata,
+        sync,
+        end,
+    } = frame;
+    let header = Header {
+        schema,
+        metadata,
+        sync,
     };
-    match schema_of(alloc, &frame.metadata) {
-        Ok(schema) => {
-            let Frame {
-                metadata,
-                sync,
-                end,
-            } = frame;
-            let header = Header {
-                schema,
-                metadata,
-                sync,
-            };
-            Ok((header, end))
-        }
-        Err(error) => Err(error),
-    }
+    Ok((header, end))
 }

@@ -57,18 +57,12 @@ fn take_metadata_block<I: Input>(
     ensures refused { IfErr result (λ e. (f : FileFault) → file_fault e ≡ Some f → MetadataSoFar at (held buffer.old) properties.old.names (properties_of properties.old.entries.items)
         → PartStops reach.limit 4 (I.ended input.new) (held buffer.new) (Blocks PropertyBreaks (all_left entry_limits)) (Blocks PropertyWants (all_left entry_limits)) f) }
 {
-    let head = match take_properties_head(input, buffer, at, reach) {
-        Ok(head) => head,
-        Err(error) => return Err(error),
-    };
+    let head = take_properties_head(input, buffer, at, reach)?;
     if head.count == 0 {
         return Ok((false, head.start));
     }
     let start = head.start;
-    let end = match take_properties(alloc, input, buffer, start, head.count, properties, reach) {
-        Ok(end) => end,
-        Err(error) => return Err(error),
-    };
+    let end = take_properties(alloc, input, buffer, start, head.count, properties, reach)?;
     if is_other_size(head, (end - start) as u64) {
         return Err(CopyError::InvalidMetadata(ReadError::WrongBlockSize { place: head.offset }));
     }

@@ -49,10 +49,7 @@ pub(crate) fn take_long<I: Input>(
             Ok(found) => return Ok(found),
             Err(VarError::EndOfInput) => {
                 let want = buffer.len() + 1;
-                match fill(input, buffer, want, reach) {
-                    Ok(()) => {}
-                    Err(error) => return Err(error),
-                }
+                fill(input, buffer, want, reach)?;
             }
             Err(VarError::NotShortest) => return Err(PartError::OutOfRange),
             Err(VarError::OutOfRange) => return Err(PartError::OutOfRange),

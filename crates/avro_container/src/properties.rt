@@ -51,10 +51,7 @@ fn take_name<I: Input>(
     ensures refused { IfErr result (λ e. (f : FileFault) (keys : List (List ℕ)) → file_fault e ≡ Some f → AreNames names.old keys
         → PartStops reach.limit at (I.ended input.new) (held buffer.new) (KeyBreaks keys (2 ^ 63)) ContentWants f) }
 {
-    let (start, end) = match take_content(input, buffer, at, reach) {
-        Ok(found) => found,
-        Err(error) => return Err(error),
-    };
+    let (start, end) = take_content(input, buffer, at, reach)?;
     let (_, rest) = buffer.bytes().split_at(start);
     let (content, _) = rest.split_at(end - start);
     match add_name(alloc, names, content) {
@@ -115,14 +112,8 @@ fn take_property<I: Input>(
     ensures refused { IfErr result (λ e. (f : FileFault) (left : Left) → file_fault e ≡ Some f → 0 < left.nodes → AreNames properties.old.names left.keys
         → PartStops reach.limit at (I.ended input.new) (held buffer.new) (PropertyBreaks left) (PropertyWants left) f) }
 {
-    let (name, middle) = match take_name(alloc, input, buffer, at, &mut properties.names, reach) {
-        Ok(found) => found,
-        Err(error) => return Err(error),
-    };
-    let (start, end) = match take_content(input, buffer, middle, reach) {
-        Ok(found) => found,
-        Err(error) => return Err(error),
-    };
+    let (name, middle) = take_name(alloc, input, buffer, at, &mut properties.names, reach)?;
+    let (start, end) = take_content(input, buffer, middle, reach)?;
     let (_, rest) = buffer.bytes().split_at(start);
     let (content, _) = rest.split_at(end - start);
     keep_none(content);
@@ -161,13 +152,8 @@ pub(crate) fn take_properties<I: Input>(
     let mut end = at;
     let mut done = 0;
     while done < count {
-        match take_property(alloc, input, buffer, end, properties, reach) {
-            Ok(next) => {
-                end = next;
-                done += 1;
-            }
-            Err(error) => return Err(error),
-        }
+        end = take_property(alloc, input, buffer, end, properties, reach)?;
+        done += 1;
     }
     Ok(end)
 }

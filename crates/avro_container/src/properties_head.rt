@@ -84,10 +84,7 @@ pub(crate) fn take_properties_head<I: Input>(
     ensures refused { IfErr result (λ e. (f : FileFault) (nodes : ℕ) → file_fault e ≡ Some f → 2 ^ 63 ≤ nodes
         → PartStops reach.limit at (I.ended input.new) (held buffer.new) (HeadBreaks nodes) (HeadBreaks nodes) f) }
 {
-    let (is_sized, count, len) = match take_properties_count(input, buffer, at, reach) {
-        Ok(found) => found,
-        Err(error) => return Err(error),
-    };
+    let (is_sized, count, len) = take_properties_count(input, buffer, at, reach)?;
     let offset = at + len;
     if !is_sized {
         return Ok(PropertiesHead {
@@ -98,14 +95,12 @@ pub(crate) fn take_properties_head<I: Input>(
             offset,
         });
     }
-    match take_length(input, buffer, offset, reach) {
-        Ok((size, more)) => Ok(PropertiesHead {
-            count,
-            start: offset + more,
-            is_sized,
-            size,
-            offset,
-        }),
-        Err(error) => Err(error),
-    }
+    let (size, more) = take_length(input, buffer, offset, reach)?;
+    Ok(PropertiesHead {
+        count,
+        start: offset + more,
+        is_sized,
+        size,
+        offset,
+    })
 }

@@ -18,16 +18,12 @@ pub(crate) fn put_all<O: Output>(output: &mut O, bytes: &[u8]) -> Result<(), Dev
 {
     let mut rest = bytes;
     while !rest.is_empty() {
-        match output.put(rest) {
-            Ok(count) => {
-                if count == 0 {
-                    return Err(DeviceFault);
-                }
-                let (_, others) = rest.split_at(count);
-                rest = others;
-            }
-            Err(fault) => return Err(fault),
+        let count = output.put(rest)?;
+        if count == 0 {
+            return Err(DeviceFault);
         }
+        let (_, others) = rest.split_at(count);
+        rest = others;
     }
     Ok(())
 }

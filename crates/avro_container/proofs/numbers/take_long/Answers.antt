@@ -1,6 +1,7 @@
 -- Where the bytes so far are cut in a number, the number takes more of them.
 use Rattle.std.proofs.Common.{◌≡◌, ◌+◌, ◌-◌, ◌<◌, ◌≤◌, ◌++◌, max, length, take, drop, sym, ap, ◌∙◌, subst, arith}
 use Rattle.std.proofs.lemmas.List.{take-append-drop, length-take-le, length-drop}
+use Rattle.std.proofs.lemmas.Result.{err_from_is_err_and}
 use Rattle.avro_zigzag.specs.NumberFault.{LongFails}
 use Rattle.avro_zigzag.specs.declared.VarError.TheVariants.{EndOfInput}
 use Rattle.avro_container.specs.inside.Filled.{GrowsBy}
@@ -28,7 +29,7 @@ loop-found-smaller g c =
     let cut : LongFails rest EndOfInput = subst (λ e. LongFails rest e) c.in-Err-EndOfInput.field-0-is c.in-Err-EndOfInput.ensures.refused in
     let short = cut-short rest cut in
     let long : length rest ≡ length old - c.args.at = ap length same ∙ length-drop c.args.at old in
-    let there : c.len-want.result + 1 ≤ length new = c.in-Ok-fill.ensures.there in
+    let there : c.len-want.result + 1 ≤ length new = c.in_ok-fill-in-Err-EndOfInput.ensures.there in
     let was : c.len-want.result ≡ length old = c.len-want.ensures in
     let smaller : c.args.at + 10 - length new < c.args.at + 10 - length old = omega (arith, short, long, there, was, c.loop-found.invariant.1) in
     smaller
@@ -43,12 +44,12 @@ loop-found-preserved g c =
     let same : rest ≡ drop c.args.at old = c.split_at.ensures.back ∙ ap (drop c.args.at) c.bytes.ensures in
     let cut : LongFails rest EndOfInput = subst (λ e. LongFails rest e) c.in-Err-EndOfInput.field-0-is c.in-Err-EndOfInput.ensures.refused in
     let long : length rest ≡ length old - c.args.at = ap length same ∙ length-drop c.args.at old in
-    let there : c.len-want.result + 1 ≤ length new = c.in-Ok-fill.ensures.there in
+    let there : c.len-want.result + 1 ≤ length new = c.in_ok-fill-in-Err-EndOfInput.ensures.there in
     let was : c.len-want.result ≡ length old = c.len-want.ensures in
-    let grown : GrowsBy g.I.Input.gives _ _ old new = c.in-Ok-fill.ensures.taken in
+    let grown : GrowsBy g.I.Input.gives _ _ old new = c.in_ok-fill-in-Err-EndOfInput.ensures.taken in
     let behind : drop c.args.at new ≡ drop c.args.at old ++ grown.bytes = grown-behind g.I.Input.gives _ _ old new c.args.at grown inv.1 in
-    let within : length new ≤ max (length old) (c.len-want.result + 1 + c.args.reach.ahead) = c.in-Ok-fill.ensures.within in
-    let limited : length new ≤ max (length old) c.args.reach.limit = c.in-Ok-fill.ensures.limited in
+    let within : length new ≤ max (length old) (c.len-want.result + 1 + c.args.reach.ahead) = c.in_ok-fill-in-Err-EndOfInput.ensures.within in
+    let limited : length new ≤ max (length old) c.args.reach.limit = c.in_ok-fill-in-Err-EndOfInput.ensures.limited in
     let before : length old ≤ max (length first) c.args.reach.limit = inv.2 in (
       GrowsBy-chain g.I.Input.gives g.met.I.Input.chain _ _ _ first old new inv.0 grown,
       omega (arith, there, was, inv.1),
@@ -56,19 +57,21 @@ loop-found-preserved g c =
       λ v number more spelled e.
           let longer = cut-longer v rest grown.bytes number more cut spelled (ap (λ b. b ++ grown.bytes) same ∙ sym behind ∙ e) in
           omega (arith, longer, long, within, was, inv.1),
-      c.in-Ok-fill.ensures.works ∙ inv.4,
+      c.in_ok-fill-in-Err-EndOfInput.ensures.works ∙ inv.4,
     )
 
-pub returns-in-Err-clause-taken : goal.returns-in-Err-clause-taken
-returns-in-Err-clause-taken g c =
-    UnlessDevice-then c.in-Err.error c.in-Err.ensures.taken
+pub returns-in_err-fill-in-Err-EndOfInput-clause-taken : goal.returns-in_err-fill-in-Err-EndOfInput-clause-taken
+returns-in_err-fill-in-Err-EndOfInput-clause-taken g c =
+    let p = err_from_is_err_and c.from_residual.result c.from_residual.ensures.1 in
+    rw (p.1, p.2) (UnlessDevice-then c.in_err-fill-in-Err-EndOfInput.field-0.0 c.in_err-fill-in-Err-EndOfInput.ensures.taken
     (λ grown. GrowsBy-chain g.I.Input.gives g.met.I.Input.chain _ _ _ (held c.args.buffer.now) (held c.loop-found.buffer) (held c.fill.new.buffer)
-    c.loop-found.invariant.0 grown)
+    c.loop-found.invariant.0 grown))
 
-pub returns-in-Err-clause-lost : goal.returns-in-Err-clause-lost
-returns-in-Err-clause-lost g c =
-    TakesAtMost-later g.I.Input.gives g.met.I.Input.chain _ _ _ (held c.args.buffer.now) (held c.loop-found.buffer) c.args.reach.limit
-    c.loop-found.invariant.0 c.in-Err.ensures.lost c.loop-found.invariant.2
+pub returns-in_err-fill-in-Err-EndOfInput-clause-lost : goal.returns-in_err-fill-in-Err-EndOfInput-clause-lost
+returns-in_err-fill-in-Err-EndOfInput-clause-lost g c =
+    let p = err_from_is_err_and c.from_residual.result c.from_residual.ensures.1 in
+    rw p.1 (TakesAtMost-later g.I.Input.gives g.met.I.Input.chain _ _ _ (held c.args.buffer.now) (held c.loop-found.buffer) c.args.reach.limit
+    c.loop-found.invariant.0 c.in_err-fill-in-Err-EndOfInput.ensures.lost c.loop-found.invariant.2)
 
 pub returns-in-Err-NotShortest : goal.returns-in-Err-NotShortest
 returns-in-Err-NotShortest g c = absurd (not_short _ _ c.in-Err-NotShortest.field-0-is c.in-Err-NotShortest.ensures.refused)

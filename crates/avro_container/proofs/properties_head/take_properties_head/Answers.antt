@@ -1,6 +1,7 @@
 -- A head, with its size where there is one.
 use Rattle.std.proofs.Common.{◌≡◌, ◌+◌, Bool, pos, true, false, take, drop, refl, subst, rules}
 use Rattle.std.specs.Prelude.{neg_ℤ}
+use Rattle.std.proofs.lemmas.Result.{err_from_is_err_and}
 use Rattle.avro_binary.specs.BlockHeads.{signed_count}
 use Rattle.avro_binary.specs.Breaks.{StartsWithLong}
 use Rattle.avro_container.specs.inside.Filled.{GrowsBy}
@@ -10,47 +11,49 @@ use Rattle.avro_container.proofs.PropertyRuns.{stretch_grown}
 use Rattle.avro_container.proofs.HeadStops.{head_plain, head_sized, size_stops, starts_stretch}
 use Rattle.avro_container.proofs.properties_head.take_properties_head.Goals as goal
 
-pub returns-in-Err-clause-refused : goal.returns-in-Err-clause-refused
-returns-in-Err-clause-refused g c = λ f nodes is many. c.in-Err.ensures.refused f nodes is
+pub returns-in_err-is_sized-clause-refused : goal.returns-in_err-is_sized-clause-refused
+returns-in_err-is_sized-clause-refused g c =
+    let p = err_from_is_err_and c.from_residual.result c.from_residual.ensures.1 in
+    rw (p.1, p.2) (λ f nodes is many. c.in_err-is_sized.ensures.refused f nodes is)
 
-pub returns-in-Ok-take_length-clause-took : goal.returns-in-Ok-take_length-clause-took
-returns-in-Ok-take_length-clause-took g c =
+pub returns-clause-took : goal.returns-clause-took
+returns-clause-took g c =
     takes_then g.I.Input.gives g.I.Input.failures g.met.I.Input.chain c.args.reach.limit _ _ _ (held c.args.buffer.now) (held c.take_properties_count.new.buffer) (held c.take_length.new.buffer)
-    c.in-Ok.ensures.took c.in-Ok-take_length.ensures.took
+    c.in_ok-is_sized.ensures.took c.in_ok-size.ensures.took
 
-pub returns-in-Err-take_length-clause-lost : goal.returns-in-Err-take_length-clause-lost
-returns-in-Err-take_length-clause-lost g c =
-    then_refused g.I.Input.gives g.I.Input.failures g.met.I.Input.chain c.args.reach.limit _ _ _ (held c.args.buffer.now) (held c.take_properties_count.new.buffer) (held c.take_length.new.buffer)
-    c.in-Err-take_length.error c.in-Ok.ensures.took c.in-Err-take_length.ensures.lost
+pub returns-in_err-size-clause-lost : goal.returns-in_err-size-clause-lost
+returns-in_err-size-clause-lost g c =
+    let p = err_from_is_err_and c.from_residual-in_err-size.result c.from_residual-in_err-size.ensures.1 in
+    rw (p.1, p.2) (then_refused g.I.Input.gives g.I.Input.failures g.met.I.Input.chain c.args.reach.limit _ _ _ (held c.args.buffer.now) (held c.take_properties_count.new.buffer) (held c.take_length.new.buffer)
+    c.in_err-size.field-0.0 c.in_ok-is_sized.ensures.took c.in_err-size.ensures.lost)
 
 pub returns-then-not-is_sized-clause-found : goal.returns-then-not-is_sized-clause-found
 returns-then-not-is_sized-clause-found g c =
     let new = held c.take_properties_count.new.buffer in
-    let found = c.in-Ok.found in
-    let plain : found.0 ≡ false = search rules in
-    head_plain c.args.at found.2 found.1 new _ refl refl plain c.in-Ok.ensures.small c.in-Ok.ensures.inside
-    (subst (λ (b : Bool). StartsWithLong (signed_count b found.1) (drop c.args.at new) (take found.2 (drop c.args.at new)) (drop found.2 (drop c.args.at new))) plain c.in-Ok.ensures.stands)
+    let plain : c.in_ok-is_sized.is_sized ≡ false = search rules in
+    head_plain c.args.at c.in_ok-is_sized.len c.in_ok-is_sized.count new _ refl refl plain c.in_ok-is_sized.ensures.small c.in_ok-is_sized.ensures.inside
+    (subst (λ (b : Bool). StartsWithLong (signed_count b c.in_ok-is_sized.count) (drop c.args.at new) (take c.in_ok-is_sized.len (drop c.args.at new)) (drop c.in_ok-is_sized.len (drop c.args.at new))) plain c.in_ok-is_sized.ensures.stands)
 
-pub returns-in-Ok-take_length-clause-found : goal.returns-in-Ok-take_length-clause-found
-returns-in-Ok-take_length-clause-found g c =
+pub returns-clause-found : goal.returns-clause-found
+returns-clause-found g c =
     let mid = held c.take_properties_count.new.buffer in
     let new = held c.take_length.new.buffer in
-    let found = c.in-Ok.found in
-    let is_sized : found.0 ≡ true = search rules in
-    head_sized g.I.Input.gives _ _ mid new c.args.at found.2 c.in-Ok-take_length.more found.1 c.in-Ok-take_length.size _ c.in-Ok-take_length.ensures.took.grown
-    refl refl is_sized refl refl (c.in-Ok.ensures.some is_sized) c.in-Ok.ensures.small c.in-Ok-take_length.ensures.counted c.in-Ok.ensures.inside
-    (subst (λ (b : Bool). StartsWithLong (signed_count b found.1) (drop c.args.at mid) (take found.2 (drop c.args.at mid)) (drop found.2 (drop c.args.at mid))) is_sized c.in-Ok.ensures.stands)
-    c.in-Ok-take_length.ensures.inside c.in-Ok-take_length.ensures.found
+    let is_sized : c.in_ok-is_sized.is_sized ≡ true = search rules in
+    head_sized g.I.Input.gives _ _ mid new c.args.at c.in_ok-is_sized.len c.in_ok-size.more c.in_ok-is_sized.count c.in_ok-size.size _ c.in_ok-size.ensures.took.grown
+    refl refl is_sized refl refl (c.in_ok-is_sized.ensures.some is_sized) c.in_ok-is_sized.ensures.small c.in_ok-size.ensures.counted c.in_ok-is_sized.ensures.inside
+    (subst (λ (b : Bool). StartsWithLong (signed_count b c.in_ok-is_sized.count) (drop c.args.at mid) (take c.in_ok-is_sized.len (drop c.args.at mid)) (drop c.in_ok-is_sized.len (drop c.args.at mid))) is_sized c.in_ok-is_sized.ensures.stands)
+    c.in_ok-size.ensures.inside c.in_ok-size.ensures.found
 
-pub returns-in-Err-take_length-clause-refused : goal.returns-in-Err-take_length-clause-refused
-returns-in-Err-take_length-clause-refused g c = λ f nodes is many.
+pub returns-in_err-size-clause-refused : goal.returns-in_err-size-clause-refused
+returns-in_err-size-clause-refused g c =
+    let p = err_from_is_err_and c.from_residual-in_err-size.result c.from_residual-in_err-size.ensures.1 in
+    rw (p.1, p.2) (λ f nodes is many.
     let mid = held c.take_properties_count.new.buffer in
     let new = held c.take_length.new.buffer in
-    let found = c.in-Ok.found in
-    let is_sized : found.0 ≡ true = search rules in
-    let grown : GrowsBy g.I.Input.gives _ _ mid new = c.in-Err-take_length.ensures.lost.grown (reports_not_failed _ f is) in
-    let stands = subst (λ (b : Bool). StartsWithLong (signed_count b found.1) (drop c.args.at mid) (take found.2 (drop c.args.at mid)) (drop found.2 (drop c.args.at mid))) is_sized c.in-Ok.ensures.stands in
-    size_stops c.args.reach.limit c.args.at (c.args.at + found.2) nodes found.1 (g.I.Input.ended c.take_length.new.input) new (take found.2 (drop c.args.at mid)) f
-    (stretch_grown g.I.Input.gives _ _ mid new c.args.at (c.args.at + found.2) (take found.2 (drop c.args.at mid)) grown
-    (starts_stretch c.args.at found.2 (neg_ℤ (pos found.1)) mid c.in-Ok.ensures.inside stands))
-    stands.spelled (c.in-Ok.ensures.some is_sized) c.in-Ok.ensures.small many (c.in-Err-take_length.ensures.refused f is)
+    let is_sized : c.in_ok-is_sized.is_sized ≡ true = search rules in
+    let grown : GrowsBy g.I.Input.gives _ _ mid new = c.in_err-size.ensures.lost.grown (reports_not_failed _ f is) in
+    let stands = subst (λ (b : Bool). StartsWithLong (signed_count b c.in_ok-is_sized.count) (drop c.args.at mid) (take c.in_ok-is_sized.len (drop c.args.at mid)) (drop c.in_ok-is_sized.len (drop c.args.at mid))) is_sized c.in_ok-is_sized.ensures.stands in
+    size_stops c.args.reach.limit c.args.at (c.args.at + c.in_ok-is_sized.len) nodes c.in_ok-is_sized.count (g.I.Input.ended c.take_length.new.input) new (take c.in_ok-is_sized.len (drop c.args.at mid)) f
+    (stretch_grown g.I.Input.gives _ _ mid new c.args.at (c.args.at + c.in_ok-is_sized.len) (take c.in_ok-is_sized.len (drop c.args.at mid)) grown
+    (starts_stretch c.args.at c.in_ok-is_sized.len (neg_ℤ (pos c.in_ok-is_sized.count)) mid c.in_ok-is_sized.ensures.inside stands))
+    stands.spelled (c.in_ok-is_sized.ensures.some is_sized) c.in_ok-is_sized.ensures.small many (c.in_err-size.ensures.refused f is))
