@@ -73,10 +73,7 @@ pub(crate) fn pack_data(
         let (_, rest) = body.split_at(start);
         match read_by_plan(alloc, schema, plan, rest, &limits, &mut Packed) {
             Ok((pieces, len)) => {
-                match keep(pieces, most, number, packed) {
-                    Ok(()) => {}
-                    Err(error) => return Err(error),
-                }
+                keep(pieces, most, number, packed)?;
                 start += len;
                 datum += 1;
             }

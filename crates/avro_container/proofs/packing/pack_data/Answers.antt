@@ -3,6 +3,7 @@ use Rattle.std.proofs.Common.{◌≡◌, ℕ, ◌+◌, ◌^◌, ◌<◌, ◌≤�
 use Rattle.std.specs.Prelude.{option_map}
 use Rattle.std.specs.Option.{IfSome, option_copied}
 use Rattle.std.proofs.lemmas.List.{length-drop}
+use Rattle.std.proofs.lemmas.Result.{err_from_is_err_and}
 use Rattle.avro_schema.specs.Fits.{LimitValues}
 use Rattle.avro_schema.specs.Node.{Node}
 use Rattle.avro_schema.specs.Value.{Value}
@@ -46,7 +47,7 @@ loop-datum-preserved c =
     let rest : c.split_at.result.1.now ≡ drop start body = c.split_at.ensures.back in
     let planned = subst (λ o. Answers o c.in-Ok.pieces len (schema_nodes c.schema-schema.result.now) c.datum-limits.result c.split_at.result.1.now) c.requires.of_reader c.in-Ok.ensures.found in
     let found = same_said (Answers reader c.in-Ok.pieces len) _ _ _ _ _ _ (ap schema_nodes c.schema-schema.ensures) c.datum-limits.ensures rest planned in
-    let same : c.keep.new.packed.items ≡ c.loop-datum.packed.items ++ bytes_of c.in-Ok.pieces = c.in-Ok-keep.ensures.kept in
+    let same : c.keep.new.packed.items ≡ c.loop-datum.packed.items ++ bytes_of c.in-Ok.pieces = c.in_ok-keep-in-Ok.ensures.kept in
     let fits : length c.keep.new.packed.items ≤ task.limits.block = search rules in (
       omega (arith, c.loop-datum.invariant.0, found.2.in_bytes, length-drop start body),
       omega (arith, c.loop-datum-test.true),
@@ -55,8 +56,10 @@ loop-datum-preserved c =
           (subst (λ (b : List ℕ). length b ≤ task.limits.block) same fits)),
     )
 
-pub returns-in-Err-keep-clause-refused : goal.returns-in-Err-keep-clause-refused
-returns-in-Err-keep-clause-refused c = λ f is.
+pub returns-in_err-keep-in-Ok-clause-refused : goal.returns-in_err-keep-in-Ok-clause-refused
+returns-in_err-keep-in-Ok-clause-refused c =
+    let p = err_from_is_err_and c.from_residual.result c.from_residual.ensures.1 in
+    rw (p.1, p.2) (λ f is.
     let task = c.args.task.now in
     let body = c.args.body.now in
     let start = c.loop-datum.start in
@@ -65,9 +68,9 @@ returns-in-Err-keep-clause-refused c = λ f is.
     let rest : c.split_at.result.1.now ≡ drop start body = c.split_at.ensures.back in
     let planned = subst (λ o. Answers o c.in-Ok.pieces c.in-Ok.len (schema_nodes c.schema-schema.result.now) c.datum-limits.result c.split_at.result.1.now) c.requires.of_reader c.in-Ok.ensures.found in
     let found = same_said (Answers reader c.in-Ok.pieces c.in-Ok.len) _ _ _ _ _ _ (ap schema_nodes c.schema-schema.ensures) c.datum-limits.ensures rest planned in
-    let over : task.limits.block < length (c.loop-datum.packed.items ++ bytes_of c.in-Ok.pieces) = search (rules, c.in-Err-keep.ensures.over f is) in
+    let over : task.limits.block < length (c.loop-datum.packed.items ++ bytes_of c.in-Ok.pieces) = search (rules, c.in_err-keep-in-Ok.ensures.over f is) in
     pack-over r c.args.number c.args.count c.loop-datum.datum start c.in-Ok.len body c.loop-datum.packed.items (bytes_of c.in-Ok.pieces) f
-    (omega (arith, c.loop-datum-test.true)) c.loop-datum.invariant.2 found refl over (c.in-Err-keep.ensures.fault f is)
+    (omega (arith, c.loop-datum-test.true)) c.loop-datum.invariant.2 found refl over (c.in_err-keep-in-Ok.ensures.fault f is))
 
 pub datum_error-requires : goal.datum_error-requires
 datum_error-requires c =
