@@ -6,7 +6,7 @@ use Rattle.avro_name.specs.declared.error.NameError.{NameError}
 use Rattle.avro_name.specs.declared.error.NameError.TheVariants.{EmptyPart, BadCharacter, PrimitiveName, OutOfMemory}
 use Rattle.avro_name.specs.Name.{is_name_start, is_name_character, is_simple_name, onto_first, dotted_parts, is_dotted_name, is_empty_text, is_misspelled}
 use Rattle.avro_name.specs.NameFault.{IsNamespaceFault, IsNameFault}
-use Rattle.avro_name.specs.Scan.{first_fault}
+use Rattle.avro_name.specs.inside.Scan.{first_fault}
 
 -- the parts are simple names, or the first of them is the end of one
 abbrev are_good : Bool → List (List ℕ) → Bool

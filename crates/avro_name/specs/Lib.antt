@@ -1,4 +1,4 @@
 pub mod Name
 pub mod NameFault
-pub mod Scan
+pub mod inside
 pub mod Shared

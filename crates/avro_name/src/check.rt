@@ -4,7 +4,7 @@ ghost use Rattle.std.specs.Prelude.{◌≡◌, true, OnOk, IsOk, IfErr};
 ghost use Rattle.std.specs.List.{list_all};
 ghost use Rattle.avro_name.specs.Name.{is_name_start, is_name_character, is_simple_name, is_dotted_name, is_primitive_word};
 ghost use Rattle.avro_name.specs.NameFault.{IsNamespaceFault};
-ghost use Rattle.avro_name.specs.Scan.{first_fault};
+ghost use Rattle.avro_name.specs.inside.Scan.{first_fault};
 
 use crate::error::NameError;
 

@@ -1,5 +1,5 @@
 use Rattle.std.proofs.Common.{◌≡◌, true, drop}
-use Rattle.avro_name.specs.Scan.{first_fault}
+use Rattle.avro_name.specs.inside.Scan.{first_fault}
 use Rattle.avro_name.proofs.check.first_fault.Given as goal
 
 -- the fault of what is left is that of the whole text
