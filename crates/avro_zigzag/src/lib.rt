@@ -1,4 +1,7 @@
 //! The numbers of Avro's binary encoding: zig-zag, and then groups of seven bits.
+//!
+//! [`read_long`] and [`read_int`] read the number at the front of bytes, padded or not, or answer a [`VarError`];
+//! [`write_long`] writes the shortest spelling.
 #![tactic(auto)]
 
 pub mod laws;

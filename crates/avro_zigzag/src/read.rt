@@ -78,10 +78,8 @@ pub fn read_long(bytes: &[u8]) -> Result<(i64, usize), VarError>
     ensures refused { IfErr result (λ e. LongFails bytes.now e) }
     ensures fails { (e : VarError) → LongFails bytes.now e → result ≡ Err e }
 {
-    match read_groups(bytes, 10, 1) {
-        Ok((number, len)) => Ok((from_zigzag(number), len)),
-        Err(e) => Err(e),
-    }
+    let (number, len) = read_groups(bytes, 10, 1)?;
+    Ok((from_zigzag(number), len))
 }
 
 /// The int that the front of `bytes` spells, and in how many of them.
@@ -101,8 +99,6 @@ pub fn read_int(bytes: &[u8]) -> Result<(i32, usize), VarError>
     ensures refused { IfErr result (λ e. IntFails bytes.now e) }
     ensures fails { (e : VarError) → IntFails bytes.now e → result ≡ Err e }
 {
-    match read_groups(bytes, 5, 15) {
-        Ok((number, len)) => Ok((from_zigzag(number) as i32, len)),
-        Err(e) => Err(e),
-    }
+    let (number, len) = read_groups(bytes, 5, 15)?;
+    Ok((from_zigzag(number) as i32, len))
 }
