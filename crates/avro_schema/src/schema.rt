@@ -41,34 +41,48 @@ pub enum Node {
 /// A record: its fullname, its aliases, and its fields in order.
 #[derive(Debug, PartialEq, Drop)]
 pub struct RecordNode {
+    /// Its fullname.
     pub name: FullName,
+    /// Other fullnames that a writer's type may have.
     pub aliases: Vec<FullName>,
+    /// The fields, in order.
     pub fields: Vec<Field>,
 }
 
 /// A field of a record: its name, its aliases, the node of its data, and its default.
 #[derive(Debug, PartialEq, Drop)]
 pub struct Field {
+    /// Its name, a simple one.
     pub name: String,
+    /// Other names that a writer's field may have.
     pub aliases: Vec<String>,
+    /// The node of its data.
     pub node: NodeId,
+    /// Its default, a datum of that node.
     pub default: Option<Datum>,
 }
 
 /// An enum: its fullname, its aliases, its symbols in order, and the index of its default.
 #[derive(Debug, PartialEq, Drop)]
 pub struct EnumNode {
+    /// Its fullname.
     pub name: FullName,
+    /// Other fullnames that a writer's type may have.
     pub aliases: Vec<FullName>,
+    /// The symbols, in order, each once.
     pub symbols: Vec<String>,
+    /// The index of the symbol that stands for an unknown one.
     pub default: Option<u32>,
 }
 
 /// A fixed: its fullname, its aliases, and its number of bytes.
 #[derive(Debug, PartialEq, Drop)]
 pub struct FixedNode {
+    /// Its fullname.
     pub name: FullName,
+    /// Other fullnames that a writer's type may have.
     pub aliases: Vec<FullName>,
+    /// The number of bytes.
     pub size: u32,
 }
 

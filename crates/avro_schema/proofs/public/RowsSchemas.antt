@@ -152,7 +152,7 @@ int_or_nothing = Node.union (1 ∷ 2 ∷ []) ∷ Node.int ∷ Node.record_of (si
 int_or_nothing-good : is_schema int_or_nothing ≡ true
 int_or_nothing-good = refl
 
--- so many records, each of which holds the next one twice, before one of an enum of one symbol
+-- a number of records, each of which holds the next one twice, before one of an enum of one symbol
 abbrev pub doubled_from : ℕ → ℕ → List Node
 doubled_from id zero =
     Node.record_of (simply (codes "R")) [] (plain_field (codes "f") (suc id) ∷ [])
