@@ -84,7 +84,7 @@ module _ (nodes : List Node) (formed : is_schema nodes ≡ true) (id : ℕ) (lim
   told-none None t = tt
   told-none (Some g) t = λ no_limit v front rest encoded split. no_front_of_fault nodes limits id bytes g v front rest formed (told-breaks (Some g) t) no_limit encoded split
 
-  -- an error that tells nothing is want of memory
+  -- an error that tells nothing says that memory ran out
   silent : (A : Type 0) (P : Type 0) (e : ReadError) → read_fault e ≡ None → UnlessOutOfMemory (as_error {A = A} e) P
   silent A P ReadError.OutOfMemory h = tt
   silent A P _ h = absurd cc

@@ -21,7 +21,7 @@ use Rattle.avro_binary.proofs.CursorSteps.{content_is, from_front}
 abbrev pub as_error : {A : Type 0} → ReadError → Result A ReadError
 as_error e = Err e
 
--- an error that reports a fault is not want of memory
+-- an error that reports a fault does not say that memory ran out
 pub unless_reported : (A : Type 0) (error : ReadError) (f : ReadFault) (P : Type 0) → read_fault error ≡ Some f → P → UnlessOutOfMemory (as_error {A = A} error) P
 unless_reported A ReadError.OutOfMemory f P h p = tt
 unless_reported A _ f P h p = p

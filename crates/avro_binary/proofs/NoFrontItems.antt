@@ -75,7 +75,7 @@ cut_more Follows then_left done front item block later x y cut = record {
 
 -- ---- Values
 
--- bytes that break as a node, where so many nodes are left, begin with no value of it; a limit that is passed tells W,
+-- bytes that break as a node, where `left` nodes are left, begin with no value of it; a limit that is passed tells W,
 -- and W that the value is within limits
 abbrev pub NoneAt : Type 0 → List Node → Node → ℕ → ℕ → (ℕ → List ℕ → ReadFault → Type 0) → Type 0
 NoneAt W nodes n d b broken =

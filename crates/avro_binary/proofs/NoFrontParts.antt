@@ -48,7 +48,7 @@ content_none W is_content blob bytes _ content front rest (ContentBreaks.invalid
     ap (λ (k : ℕ). take k x) (same_from_pos n (length content) same.0) ∙ ap (take (length content)) same.1 ∙ take-append_seam content rest in
     false≢true (sym bad ∙ ap is_content taken ∙ good)
 
--- ---- The index of one of so many
+-- ---- The index of one of some choices
 
 pub pos-int : (k choices : ℕ) → k < choices → choices ≤ 2 ^ 31 → is_int (pos k) ≡ true
 pos-int k choices below few = grind (arith, nat_tests)

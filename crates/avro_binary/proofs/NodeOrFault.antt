@@ -42,7 +42,7 @@ error-reports (wrong_block_size place) = refl
 error-reports (duplicate_key place) = refl
 error-reports limit_exceeded = refl
 
--- an error of a fault, which is no want of memory
+-- an error of a fault, which does not say that memory ran out
 abbrev pub IsOfFault : ReadError → Type 0
 IsOfFault e = (fault : ReadFault) × (read_fault e ≡ Some fault)
 
@@ -66,7 +66,7 @@ reported B c e is r =
 
 -- ---- Cursors
 
--- a cursor that passed so many bytes, before these
+-- a cursor that passed the bytes `front`, before these
 abbrev pub moved_to : CursorValue → List ℕ → List ℕ → CursorValue
 moved_to c front rest = record c { bytes = rest; offset = c.offset + length front }
 

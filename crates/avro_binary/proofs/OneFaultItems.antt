@@ -18,7 +18,7 @@ use Rattle.avro_binary.proofs.public.Behind.{same_moved}
 use Rattle.avro_binary.proofs.ElementLaws.{string_is}
 use Rattle.avro_binary.proofs.KeySteps.{key_part}
 
--- bytes that break as a node, where so many nodes are left, have one fault
+-- bytes that break as a node, where `left` nodes are left, have one fault
 abbrev pub OneAt : (ℕ → List ℕ → ReadFault → Type 0) → Type 0
 OneAt broken = (left : ℕ) (bytes : List ℕ) (f g : ReadFault) → broken left bytes f → broken left bytes g → f ≡ g
 

@@ -59,7 +59,7 @@ invariant-maps::read_entry_blocks-loop-entries g l =
 abbrev pub decreases-maps::read_entry_blocks-loop-entries : goal.decreases-maps::read_entry_blocks-loop-entries
 decreases-maps::read_entry_blocks-loop-entries g l = l.cursor.nodes
 
--- so many items so far
+-- the items that are done
 abbrev pub invariant-read_items-loop-done : goal.invariant-read_items-loop-done
 invariant-read_items-loop-done g l =
     (l.cursor.depth ≡ l.initial.cursor.depth) × ((limits : LimitValues) → limits.depth ≡ l.initial.cursor.depth → limits.blob ≡ l.initial.cursor.blob
@@ -67,7 +67,7 @@ invariant-read_items-loop-done g l =
     × g.M.Make.keeps l.initial.maker l.maker
     × ((at : _) (us : List Value) → g.M.Make.items_stand_for l.initial.maker (schema_nodes l.schema) l.id.0 at l.initial.items us → g.M.Make.items_stand_for l.maker (schema_nodes l.schema) l.id.0 at l.items (us ++ xs)))
 
--- so many entries so far
+-- the entries that are done
 abbrev pub invariant-maps::read_entries-loop-done : goal.invariant-maps::read_entries-loop-done
 invariant-maps::read_entries-loop-done g l =
     (l.cursor.depth ≡ l.initial.cursor.depth) × ((limits : LimitValues) (before : List (List ℕ)) → limits.depth ≡ l.initial.cursor.depth → limits.blob ≡ l.initial.cursor.blob
