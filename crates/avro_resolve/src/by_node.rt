@@ -9,7 +9,7 @@ use std::alloc::AllocError;
 pub const FEWEST: usize = 8;
 
 /// The table of a node, if it has one. The tables are sorted by their nodes.
-pub fn table_of<'t, T>(tables: &'t [(NodeId, T)], id: NodeId) -> Option<&'t T>
+pub(crate) fn table_of<'t, T>(tables: &'t [(NodeId, T)], id: NodeId) -> Option<&'t T>
     ensures { IfSome result (λ t. HasTable tables.now id.0 t.now) }
 {
     let at = match tables.binary_search_by_key(&id, |table| table.0) {
@@ -24,7 +24,7 @@ pub fn table_of<'t, T>(tables: &'t [(NodeId, T)], id: NodeId) -> Option<&'t T>
 }
 
 /// Adds the table of a node, if it has one.
-pub fn add_table<T: Drop>(
+pub(crate) fn add_table<T: Drop>(
     tables: &mut Vec<(NodeId, T)>,
     id: NodeId,
     table: Option<T>,

@@ -16,7 +16,7 @@ use avro_schema::{Field, Memory, NodeId, Schema};
 use std::alloc::Global;
 
 /// Compares each pair of nodes, for a plan to keep.
-pub fn compare_all(
+pub(crate) fn compare_all(
     alloc: Global,
     writer: &Schema,
     reader: &Schema,
@@ -66,7 +66,7 @@ fn outside(alloc: Global, w: NodeId, r: NodeId, aim: Aim) -> Comparison
 }
 
 /// The comparison of a pair of nodes that leads to the reader's node itself.
-fn compare_inside(
+pub(crate) fn compare_inside(
     alloc: Global,
     names: &Names,
     w: NodeId,

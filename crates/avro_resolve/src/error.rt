@@ -1,4 +1,6 @@
 use avro_binary::ReadError;
+use avro_schema::Memory;
+use std::alloc::{AllocError, AllocFailed};
 use std::fmt;
 use thiserror::Error;
 
@@ -53,6 +55,39 @@ pub enum ResolveError {
     /// Memory ran out.
     #[error("out of memory")]
     Memory,
+}
+
+impl From<AllocError> for ResolveError {
+    ghost use Rattle.std.specs.Prelude.{◌≡◌};
+    ghost use Rattle.avro_resolve.specs.declared.error.ResolveError.TheVariants.{Memory as memory};
+
+    ghost from_gives = { λ _ error. error ≡ memory };
+
+    fn from(_error: AllocError) -> ResolveError {
+        ResolveError::Memory
+    }
+}
+
+impl<T: Drop> From<AllocFailed<T>> for ResolveError {
+    ghost use Rattle.std.specs.Prelude.{◌≡◌};
+    ghost use Rattle.avro_resolve.specs.declared.error.ResolveError.TheVariants.{Memory as memory};
+
+    ghost from_gives = { λ _ error. error ≡ memory };
+
+    fn from(_error: AllocFailed<T>) -> ResolveError {
+        ResolveError::Memory
+    }
+}
+
+impl From<Memory> for ResolveError {
+    ghost use Rattle.std.specs.Prelude.{◌≡◌};
+    ghost use Rattle.avro_resolve.specs.declared.error.ResolveError.TheVariants.{Memory as memory};
+
+    ghost from_gives = { λ _ error. error ≡ memory };
+
+    fn from(_error: Memory) -> ResolveError {
+        ResolveError::Memory
+    }
 }
 
 /// Why bytes are not read into a reader's datum.

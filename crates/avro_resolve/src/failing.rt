@@ -8,7 +8,7 @@ use crate::error::{Fault, FaultKind, ResolveError};
 use std::alloc::{AllocError, Global};
 
 /// A fault of the datum at hand.
-pub fn faulty(alloc: Global, kind: FaultKind) -> Fault
+pub(crate) fn faulty(alloc: Global, kind: FaultKind) -> Fault
     ensures { turned result ≡ here (cause_of kind) }
 {
     Fault {
@@ -19,7 +19,7 @@ pub fn faulty(alloc: Global, kind: FaultKind) -> Fault
 
 /// The same fault, seen from the datum around. Paths are kept from their end, so that each level is a
 /// step at the back.
-pub fn step_out(step: usize, fault: Fault) -> Result<Fault, AllocError>
+pub(crate) fn step_out(step: usize, fault: Fault) -> Result<Fault, AllocError>
     ensures { IfOk result (λ outer. turned outer ≡ within step (turned fault)) }
 {
     let kind = fault.kind;
@@ -29,7 +29,7 @@ pub fn step_out(step: usize, fault: Fault) -> Result<Fault, AllocError>
 }
 
 /// A fault whose path was kept from its end, with its path from the root.
-pub fn turn(fault: Fault) -> Fault
+pub(crate) fn turn(fault: Fault) -> Fault
     ensures { fault_of result ≡ turned fault }
 {
     let kind = fault.kind;
@@ -39,14 +39,14 @@ pub fn turn(fault: Fault) -> Fault
 }
 
 /// The error of a fault of the datum at hand.
-pub fn fault_here(alloc: Global, kind: FaultKind) -> ResolveError
+pub(crate) fn fault_here(alloc: Global, kind: FaultKind) -> ResolveError
     ensures { Fails result (failed kind) }
 {
     ResolveError::Fault(faulty(alloc, kind))
 }
 
 /// The same error, seen from the datum around.
-pub fn fault_in(step: usize, error: ResolveError) -> ResolveError
+pub(crate) fn fault_in(step: usize, error: ResolveError) -> ResolveError
     ensures { (resolved : Resolved) → Fails error resolved → Fails result (inside step resolved) }
 {
     match error {

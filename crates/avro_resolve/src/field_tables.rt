@@ -17,7 +17,7 @@ use std::collections::BTreeMap;
 
 /// The tables of the writer's records with many fields, sorted by the records' nodes. Each maps the names of the
 /// fields to their indices.
-pub fn field_tables(
+pub(crate) fn field_tables(
     alloc: Global,
     writer: &Schema,
 ) -> Result<Vec<(NodeId, BTreeMap<&str, usize>)>, AllocError>
@@ -49,7 +49,7 @@ fn field_table(
 }
 
 /// The index of the field of a writer's record that a reader's field takes its value from.
-pub fn source_by(
+pub(crate) fn source_by(
     tables: &[(NodeId, BTreeMap<&str, usize>)],
     writer: &Schema,
     w: NodeId,

@@ -16,23 +16,25 @@ use std::alloc::{AllocError, Global};
 
 /// The data of a reader's fields, in its order: each is what is in the slot of its source, or its
 /// default.
-pub fn fill_data(
+pub(crate) fn fill_data(
     alloc: Global,
     writes: &[Field],
     reads: &[Field],
+    sources: &[Option<usize>],
     slots: Vec<Option<Datum>>,
 ) -> Result<Vec<Datum>, AllocError>
-    requires { are_distinct bytes_eq (flat_map field_names (seen_fields reads.now)) ≡ true }
+    requires distinct { are_distinct bytes_eq (flat_map field_names (seen_fields reads.now)) ≡ true }
+    requires sources { AreSources (seen_fields writes.now) (seen_fields reads.now) sources.now }
     ensures { (found : Sourced) → SlotsAre IsSeen found slots.items
         → IfOk result (λ values. values_of values.items ≡ field_values (seen_fields writes.now) found (seen_fields reads.now)) }
 {
     let mut tree = Tree;
-    fill(alloc, &mut tree, writes, reads, &[], slots)
+    fill(alloc, &mut tree, writes, reads, sources, slots)
 }
 
 /// What is built of the values of a reader's fields, in its order: each is what is in the slot of its
 /// source, or of its default.
-pub fn fill<B: Build>(
+pub(crate) fn fill<B: Build>(
     alloc: Global,
     builder: &mut B,
     writes: &[Field],

@@ -13,7 +13,7 @@ use std::collections::BTreeMap;
 
 /// The first branch of each kind with a simple name, its own or that of an alias. Branches are gone through from
 /// the last, so that the first index of a name stays.
-pub fn first_branches<'r>(
+pub(crate) fn first_branches<'r>(
     alloc: Global,
     reader: &'r Schema,
     branches: &[NodeId],
@@ -90,7 +90,7 @@ fn add_name<'r>(
 }
 
 /// What the node of an id is matched by, where it is a record, an enum or a fixed.
-pub fn type_at(schema: &Schema, id: NodeId) -> Option<NamedType<'_>>
+pub(crate) fn type_at(schema: &Schema, id: NodeId) -> Option<NamedType<'_>>
     ensures { result ≡ type_of (node_at (schema_nodes schema.now) id.0) }
 {
     if schema.has(id) {

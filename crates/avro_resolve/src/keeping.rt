@@ -45,7 +45,7 @@ fn inside_of(pairs: &[Comparison], index: u32, w: NodeId, q: NodeId) -> Option<&
 }
 
 /// Where a pair of nodes leads, as it is kept at an index or else by name.
-pub fn aim_kept(
+pub(crate) fn aim_kept(
     pairs: &[Comparison],
     index: u32,
     writer: &Schema,
@@ -64,7 +64,7 @@ pub fn aim_kept(
 }
 
 /// The reader's first field without a source and a default, as it is kept at an index or else by name.
-pub fn missing_kept(
+pub(crate) fn missing_kept(
     pairs: &[Comparison],
     index: u32,
     writer: &Schema,
@@ -82,7 +82,7 @@ pub fn missing_kept(
 }
 
 /// What a writer's field, by its index in its record, is for, as it is kept or else by name.
-pub fn field_kept(
+pub(crate) fn field_kept(
     pairs: &[Comparison],
     index: u32,
     writer: &Schema,
@@ -106,7 +106,7 @@ pub fn field_kept(
 }
 
 /// The sources of the reader's fields, as far as they are kept at an index.
-pub fn sources_kept<'p>(
+pub(crate) fn sources_kept<'p>(
     pairs: &'p [Comparison],
     index: u32,
     writer: &Schema,
@@ -124,7 +124,7 @@ pub fn sources_kept<'p>(
 }
 
 /// The reader's symbol for a writer's, as it is kept at an index or else by name.
-pub fn symbol_kept(
+pub(crate) fn symbol_kept(
     pairs: &[Comparison],
     index: u32,
     writer: &Schema,

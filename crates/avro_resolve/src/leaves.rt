@@ -8,27 +8,26 @@ ghost use Rattle.avro_resolve.specs.Ends.{Ends, leaf_as};
 
 use crate::error::{FaultKind, ResolveError};
 use crate::failing::fault_here;
-use crate::symbols::symbol_for;
+use crate::names::Names;
 use avro_schema::{Datum, Node, NodeId, Schema};
 use std::alloc::Global;
 use std::str::from_utf8;
 
 /// What a reader's node that is no union takes of a datum without parts.
-pub fn leaf(
+pub(crate) fn leaf(
     alloc: Global,
-    writer: &Schema,
+    names: &Names,
     w: NodeId,
-    reader: &Schema,
     q: NodeId,
     datum: &Datum,
 ) -> Result<Datum, ResolveError>
-    ensures { Ends value_of result (leaf_as (node_at (schema_nodes writer.now) w.0) (value_of datum.now) (node_at (schema_nodes reader.now) q.0)) }
+    ensures { Ends value_of result (leaf_as (node_at (schema_nodes names.now.0) w.0) (value_of datum.now) (node_at (schema_nodes names.now.1) q.0)) }
 {
     match datum {
-        Datum::Int(value) => Ok(int_as(reader, q, value)),
-        Datum::Bytes(bytes) => bytes_as(alloc, reader, q, bytes),
-        Datum::Str(text) => string_as(alloc, reader, q, text),
-        Datum::Enum(symbol) => match symbol_for(writer, w, *symbol, reader, q) {
+        Datum::Int(value) => Ok(int_as(names.reader(), q, value)),
+        Datum::Bytes(bytes) => bytes_as(alloc, names.reader(), q, bytes),
+        Datum::Str(text) => string_as(alloc, names.reader(), q, text),
+        Datum::Enum(symbol) => match names.symbol_for(w, *symbol, q) {
             Some(symbol) => Ok(Datum::Enum(symbol)),
             None => Err(fault_here(alloc, FaultKind::NoSymbol)),
         },
@@ -47,10 +46,7 @@ pub fn leaf(
 fn copy_of(datum: &Datum) -> Result<Datum, ResolveError>
     ensures { Ends value_of result (Ok (value_of datum.now)) }
 {
-    match datum.clone() {
-        Ok(copy) => Ok(copy),
-        Err(_) => Err(ResolveError::Memory),
-    }
+    Ok(datum.clone()?)
 }
 
 /// An int, or the long of its value where the reader has a long.
@@ -75,16 +71,10 @@ fn bytes_as(
     ensures { Ends value_of result (kept_bytes bytes.now.items (node_at (schema_nodes reader.now) q.0)) }
 {
     if !is_text(reader, q) {
-        return match bytes.to_vec(alloc) {
-            Ok(copy) => Ok(Datum::Bytes(copy)),
-            Err(_) => Err(ResolveError::Memory),
-        };
+        return Ok(Datum::Bytes(bytes.to_vec(alloc)?));
     }
     match from_utf8(bytes) {
-        Ok(text) => match String::from_str(alloc, text) {
-            Ok(copy) => Ok(Datum::Str(copy)),
-            Err(_) => Err(ResolveError::Memory),
-        },
+        Ok(text) => Ok(Datum::Str(String::from_str(alloc, text)?)),
         Err(_) => Err(fault_here(alloc, FaultKind::NotUtf8)),
     }
 }
@@ -99,19 +89,13 @@ fn string_as(
     ensures { Ends value_of result (kept_string (string_bytes text.now) (node_at (schema_nodes reader.now) q.0)) }
 {
     if is_bytes(reader, q) {
-        return match text.as_bytes().to_vec(alloc) {
-            Ok(copy) => Ok(Datum::Bytes(copy)),
-            Err(_) => Err(ResolveError::Memory),
-        };
+        return Ok(Datum::Bytes(text.as_bytes().to_vec(alloc)?));
     }
-    match text.clone() {
-        Ok(copy) => Ok(Datum::Str(copy)),
-        Err(_) => Err(ResolveError::Memory),
-    }
+    Ok(Datum::Str(text.clone()?))
 }
 
 /// Whether a node is a long.
-pub fn is_long(schema: &Schema, id: NodeId) -> bool
+pub(crate) fn is_long(schema: &Schema, id: NodeId) -> bool
     ensures { Tells result (node_at (schema_nodes schema.now) id.0) SeenNode.long }
 {
     if !schema.has(id) {
@@ -121,7 +105,7 @@ pub fn is_long(schema: &Schema, id: NodeId) -> bool
 }
 
 /// Whether a node is a string.
-pub fn is_text(schema: &Schema, id: NodeId) -> bool
+pub(crate) fn is_text(schema: &Schema, id: NodeId) -> bool
     ensures { Tells result (node_at (schema_nodes schema.now) id.0) SeenNode.string }
 {
     if !schema.has(id) {
@@ -131,7 +115,7 @@ pub fn is_text(schema: &Schema, id: NodeId) -> bool
 }
 
 /// Whether a node is bytes.
-pub fn is_bytes(schema: &Schema, id: NodeId) -> bool
+pub(crate) fn is_bytes(schema: &Schema, id: NodeId) -> bool
     ensures { Tells result (node_at (schema_nodes schema.now) id.0) SeenNode.bytes }
 {
     if !schema.has(id) {
@@ -141,7 +125,7 @@ pub fn is_bytes(schema: &Schema, id: NodeId) -> bool
 }
 
 /// A result, in a branch of the reader's union where there is one.
-pub fn wrapped(
+pub(crate) fn wrapped(
     alloc: Global,
     branch: Option<u32>,
     inner: Result<Datum, ResolveError>,
@@ -151,9 +135,6 @@ pub fn wrapped(
     let datum = inner?;
     match branch {
         None => Ok(datum),
-        Some(branch) => match Box::new(alloc, datum) {
-            Ok(value) => Ok(Datum::Union(branch, value)),
-            Err(_) => Err(ResolveError::Memory),
-        },
+        Some(branch) => Ok(Datum::Union(branch, Box::new(alloc, datum)?)),
     }
 }

@@ -16,7 +16,7 @@ use std::alloc::{AllocError, Global};
 use std::str::from_utf8;
 
 /// What was built, in a branch of the reader's union where there is one.
-pub fn wrap<B: Build>(
+pub(crate) fn wrap<B: Build>(
     alloc: Global,
     builder: &mut B,
     branch: Option<u32>,
@@ -31,7 +31,7 @@ pub fn wrap<B: Build>(
 }
 
 /// What a reader's node takes of an int: a long where it is one.
-pub fn make_int<B: Build>(
+pub(crate) fn make_int<B: Build>(
     alloc: Global,
     builder: &mut B,
     reader: &Schema,
@@ -51,7 +51,7 @@ pub fn make_int<B: Build>(
 }
 
 /// What a reader's node takes of bytes: the text whose UTF-8 they are where it is a string.
-pub fn make_bytes<B: Build>(
+pub(crate) fn make_bytes<B: Build>(
     alloc: Global,
     builder: &mut B,
     reader: &Schema,
@@ -75,7 +75,7 @@ pub fn make_bytes<B: Build>(
 }
 
 /// What a reader's node takes of a text: its UTF-8 where it is bytes.
-pub fn make_string<B: Build>(
+pub(crate) fn make_string<B: Build>(
     alloc: Global,
     builder: &mut B,
     reader: &Schema,
@@ -95,7 +95,7 @@ pub fn make_string<B: Build>(
 }
 
 /// The reader's symbol, or the fault that there is none.
-pub fn make_symbol<B: Build>(
+pub(crate) fn make_symbol<B: Build>(
     alloc: Global,
     builder: &mut B,
     symbol: Option<u32>,

@@ -26,7 +26,7 @@ impl<'s> Model for NamedType<'s> {
 }
 
 /// What a node is matched by, where it is a record, an enum or a fixed.
-pub fn named_type(node: &Node) -> Option<NamedType<'_>>
+pub(crate) fn named_type(node: &Node) -> Option<NamedType<'_>>
     ensures { result ≡ named_type (node_of node.now) }
 {
     match node {

@@ -2,6 +2,7 @@ use crate::field_tables::{field_tables, source_by};
 use crate::guided::Aim;
 use crate::pairs::{aim_after, first_match_after};
 use crate::symbol_tables::{symbol_by, symbol_tables};
+use crate::symbols::text_of;
 use crate::union_tables::{start_by, union_tables};
 use avro_schema::{Field, Memory, NodeId, Schema};
 use std::alloc::Global;
@@ -48,8 +49,8 @@ impl<'a> Names<'a> {
     ghost use Rattle.avro_schema.specs.SeenSchema.{schema_nodes};
     ghost use Rattle.avro_resolve.specs.Match.{first_match_at};
     ghost use Rattle.avro_resolve.specs.inside.NameTables.{StartsAt};
-    ghost use Rattle.avro_resolve.specs.Pairs.{IsSymbol, aim_at};
-    ghost use Rattle.avro_resolve.specs.Resolve.{enum_as, fields_at};
+    ghost use Rattle.avro_resolve.specs.Pairs.{IsAim, IsSymbol, aim_at};
+    ghost use Rattle.avro_resolve.specs.Resolve.{enum_as, fields_at, symbol_at};
     ghost use Rattle.avro_resolve.specs.Source.{source_of};
 
     /// The tables of two schemas.
@@ -110,9 +111,18 @@ impl<'a> Names<'a> {
         symbol_by(&self.symbols, self.reader, q, symbol)
     }
 
+    /// The reader's symbol for a symbol of a writer's enum.
+    pub(crate) fn symbol_for(&self, w: NodeId, symbol: u32, q: NodeId) -> Option<u32>
+        ensures { IsSymbol (enum_as (symbol_at (node_at (schema_nodes self.now.0) w.0) symbol) (node_at (schema_nodes self.now.1) q.0)) result }
+    {
+        self.symbol(text_of(self.writer, w, symbol), q)
+    }
+
     /// Where a pair of nodes leads.
     pub(crate) fn aim(&self, w: NodeId, r: NodeId) -> Aim
-        ensures { result ≡ aim_at (schema_nodes self.now.0) (schema_nodes self.now.1) w r }
+        ensures aims { result ≡ aim_at (schema_nodes self.now.0) (schema_nodes self.now.1) w r }
+        ensures leads { IsAim (schema_nodes self.now.0) (schema_nodes self.now.1)
+            (node_at (schema_nodes self.now.0) w.0) (node_at (schema_nodes self.now.1) r.0) result }
     {
         let start = self.start(w, r);
         aim_after(self.writer, w, self.reader, r, start)

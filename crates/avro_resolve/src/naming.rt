@@ -14,7 +14,7 @@ use std::collections::BTreeMap;
 /// # Errors
 ///
 /// Memory ran out.
-pub fn field_names<'f>(
+pub(crate) fn field_names<'f>(
     alloc: Global,
     fields: &'f [Field],
 ) -> Result<BTreeMap<&'f str, usize>, AllocError>
@@ -34,7 +34,7 @@ pub fn field_names<'f>(
 /// # Errors
 ///
 /// Memory ran out.
-pub fn symbol_names<'s>(
+pub(crate) fn symbol_names<'s>(
     alloc: Global,
     symbols: &'s [String],
 ) -> Result<BTreeMap<&'s str, usize>, AllocError>
@@ -57,7 +57,7 @@ fn index_in(names: &BTreeMap<&str, usize>, name: &str) -> Option<usize>
 }
 
 /// The index of the field that a reader's field takes its value from, by the names of the writer's fields.
-pub fn source_in(names: &BTreeMap<&str, usize>, writes: &[Field], f: &Field) -> Option<usize>
+pub(crate) fn source_in(names: &BTreeMap<&str, usize>, writes: &[Field], f: &Field) -> Option<usize>
     requires { FindsFields (seen_fields writes.now) names.now }
     ensures { result ≡ source_of (seen_fields writes.now) (field_of f.now) }
 {

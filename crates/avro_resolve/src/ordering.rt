@@ -39,7 +39,7 @@ fn index_in(order: &[IndexedPair], w: NodeId, r: NodeId) -> u32 {
 }
 
 /// How many parts a pair of nodes has: none where nothing is made of them.
-pub fn count_of_parts(writer: &Schema, pair: &Comparison) -> usize {
+pub(crate) fn count_of_parts(writer: &Schema, pair: &Comparison) -> usize {
     if !writer.has(pair.w) {
         return 0;
     }
@@ -68,7 +68,7 @@ fn count_inside(node: &Node, pair: &Comparison) -> usize {
 
 /// What a part of a pair of nodes is for: its items, its values, one of its branches or one of its fields,
 /// or the branch of the reader's that the pair leads to.
-pub fn part_at(writer: &Schema, reader: &Schema, pair: &Comparison, part: usize) -> At {
+pub(crate) fn part_at(writer: &Schema, reader: &Schema, pair: &Comparison, part: usize) -> At {
     if !writer.has(pair.w) {
         return At::Ignored;
     }
@@ -99,7 +99,7 @@ fn part_inside(node: &Node, reader: &Schema, pair: &Comparison, part: usize) -> 
 }
 
 /// The indices of the pairs of the parts of each pair, and the index of the roots' pair.
-pub fn indices_of(
+pub(crate) fn indices_of(
     alloc: Global,
     writer: &Schema,
     reader: &Schema,

@@ -22,7 +22,7 @@ pub fn first_match(writer: &Schema, w: NodeId, reader: &Schema, r: NodeId) -> Op
 }
 
 /// The same, where no branch before an index matches.
-pub fn first_match_after(
+pub(crate) fn first_match_after(
     writer: &Schema,
     w: NodeId,
     reader: &Schema,
@@ -70,7 +70,7 @@ fn first_matched(
 }
 
 /// Where a pair of nodes leads.
-pub fn aim(writer: &Schema, w: NodeId, reader: &Schema, r: NodeId) -> Aim
+pub(crate) fn aim(writer: &Schema, w: NodeId, reader: &Schema, r: NodeId) -> Aim
     ensures { IsAim (schema_nodes writer.now) (schema_nodes reader.now)
         (node_at (schema_nodes writer.now) w.0) (node_at (schema_nodes reader.now) r.0) result }
 {
@@ -78,7 +78,7 @@ pub fn aim(writer: &Schema, w: NodeId, reader: &Schema, r: NodeId) -> Aim
 }
 
 /// The same, where no branch before an index matches.
-pub fn aim_after(writer: &Schema, w: NodeId, reader: &Schema, r: NodeId, start: usize) -> Aim
+pub(crate) fn aim_after(writer: &Schema, w: NodeId, reader: &Schema, r: NodeId, start: usize) -> Aim
     requires { StartsAt (schema_nodes writer.now) (schema_nodes reader.now)
         (node_at (schema_nodes writer.now) w.0) (node_at (schema_nodes reader.now) r.0) start }
     ensures { result ≡ aim_at (schema_nodes writer.now) (schema_nodes reader.now) w r }

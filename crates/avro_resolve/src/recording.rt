@@ -17,7 +17,11 @@ use avro_binary::Build;
 use std::alloc::{AllocError, Global};
 
 /// What was made of no fields, and what the first is for.
-pub fn start_filling<B: Build>(alloc: Global, plan: &PlanRef<'_>, part: Part) -> Filling<B::Out>
+pub(crate) fn start_filling<B: Build>(
+    alloc: Global,
+    plan: &PlanRef<'_>,
+    part: Part,
+) -> Filling<B::Out>
     ensures { (nodes : List Node) (fs : List FieldNode) → FillsAs B.stands_for (schema_nodes plan.now.0) (schema_nodes plan.now.1) nodes fs part.at result [] }
 {
     let start = plan.index_of(part);
@@ -83,7 +87,7 @@ fn ignored() -> Part
 }
 
 /// Adds what was made of a field behind those before, and finds what the next is for.
-pub fn fill_next<B: Build>(
+pub(crate) fn fill_next<B: Build>(
     plan: &PlanRef<'_>,
     fields: &mut Filling<B::Out>,
     made: Made<B::Out>,
@@ -125,7 +129,7 @@ fn put_field<B: Build>(fields: &mut Slots<B::Out>, made: Made<B::Out>) -> Result
 }
 
 /// What was made of a record, of its fields: the reader's in its order.
-pub fn make_record<B: Build>(
+pub(crate) fn make_record<B: Build>(
     alloc: Global,
     builder: &mut B,
     plan: &PlanRef<'_>,

@@ -1,22 +1,26 @@
-ghost use Rattle.std.specs.Prelude.{◌≡◌, ◌++◌, [], ◌∷◌, IfOk, true, map, string_bytes};
+ghost use Rattle.std.specs.Prelude.{◌≡◌, ◌++◌, [], ◌∷◌, IfOk, List, true, map, string_bytes};
 ghost use Rattle.avro_schema.specs.Fits.{fits};
-ghost use Rattle.avro_schema.specs.Node.{node_at, root_of};
-ghost use Rattle.avro_schema.specs.Seen.{value_of, values_of as values_seen, entries_of as entries_seen, seen_fields, pair_of};
+ghost use Rattle.avro_schema.specs.Node.{FieldNode, node_at, root_of};
+ghost use Rattle.avro_schema.specs.Seen.{value_of, values_of as values_seen, entries_of as entries_seen, pair_of};
 ghost use Rattle.avro_schema.specs.SeenSchema.{schema_nodes};
 ghost use Rattle.avro_schema.specs.Value.{Value};
-ghost use Rattle.avro_resolve.specs.Resolve.{through, resolve as resolve_value, resolve_root, resolve_items, resolve_entries, resolve_sources};
+ghost use Rattle.avro_resolve.specs.Resolve.{fields_at, through, resolve as resolve_value, resolve_root, resolve_items, resolve_entries, resolve_sources};
 ghost use Rattle.avro_resolve.specs.Seen.{Answers};
+ghost use Rattle.avro_resolve.specs.Pairs.{field_for};
+ghost use Rattle.avro_resolve.specs.Planned.{AreInside};
 ghost use Rattle.avro_resolve.specs.Ends.{Ends, EndsFound, EndsSlot, field_step, taken_as};
 
+use crate::comparing::compare_inside;
+use crate::comparison::Comparison;
 use crate::error::{FaultKind, ResolveError};
 use crate::failing::{fault_here, fault_in, turn};
 use crate::filling::fill_data;
 use crate::guided::{Aim, At};
 use crate::leaves::{leaf, wrapped};
-use crate::pairs::aim;
+use crate::names::Names;
 use crate::parts::{branch_of, items_of, values_of};
-use crate::sourcing::{fields_of, missing, part_for};
-use avro_schema::{Datum, Field, NodeId, Schema};
+use crate::sourcing::{fields_of, part_among};
+use avro_schema::{Datum, NodeId, Schema};
 use std::alloc::{AllocError, Global};
 
 /// What a datum of the writer's schema is for the reader's schema (Avro 1.11, "Schema Resolution").
@@ -34,9 +38,10 @@ pub fn resolve(
     ensures answers { Answers result (resolve_root (schema_nodes writer.now) (schema_nodes reader.now) (value_of datum.now)) }
     ensures fitting { IfOk result (λ u. fits (schema_nodes reader.now) (root_of (schema_nodes reader.now)) (value_of u) ≡ true) }
 {
+    let names = Names::new(alloc, writer, reader)?;
     let w = writer.root();
     let r = reader.root();
-    match resolve_at(alloc, writer, w, reader, r, datum) {
+    match resolve_at(alloc, &names, w, r, datum) {
         Ok(resolved) => Ok(resolved),
         Err(ResolveError::Fault(fault)) => Err(ResolveError::Fault(turn(fault))),
         Err(ResolveError::Memory) => Err(ResolveError::Memory),
@@ -47,34 +52,33 @@ pub fn resolve(
 #[cycle(resolution)]
 fn resolve_at(
     alloc: Global,
-    writer: &Schema,
+    names: &Names,
     w: NodeId,
-    reader: &Schema,
     r: NodeId,
     datum: &Datum,
 ) -> Result<Datum, ResolveError>
-    ensures { Ends value_of result (resolve_value (schema_nodes writer.now) (schema_nodes reader.now)
-        (node_at (schema_nodes writer.now) w.0) (node_at (schema_nodes reader.now) r.0) (value_of datum.now)) }
+    ensures { Ends value_of result (resolve_value (schema_nodes names.now.0) (schema_nodes names.now.1)
+        (node_at (schema_nodes names.now.0) w.0) (node_at (schema_nodes names.now.1) r.0) (value_of datum.now)) }
 {
     match datum {
         Datum::Union(branch, value) => {
-            let part = branch_of(writer, w, *branch);
-            match resolve_at(alloc, writer, part, reader, r, value) {
+            let part = branch_of(names.writer(), w, *branch);
+            match resolve_at(alloc, names, part, r, value) {
                 Ok(resolved) => Ok(resolved),
                 Err(error) => Err(fault_in(0, error)),
             }
         }
-        Datum::Null => resolve_through(alloc, writer, w, reader, r, datum),
-        Datum::Bool(_) => resolve_through(alloc, writer, w, reader, r, datum),
-        Datum::Int(_) => resolve_through(alloc, writer, w, reader, r, datum),
-        Datum::Long(_) => resolve_through(alloc, writer, w, reader, r, datum),
-        Datum::Bytes(_) => resolve_through(alloc, writer, w, reader, r, datum),
-        Datum::Str(_) => resolve_through(alloc, writer, w, reader, r, datum),
-        Datum::Array(_) => resolve_through(alloc, writer, w, reader, r, datum),
-        Datum::Record(_) => resolve_through(alloc, writer, w, reader, r, datum),
-        Datum::Enum(_) => resolve_through(alloc, writer, w, reader, r, datum),
-        Datum::Fixed(_) => resolve_through(alloc, writer, w, reader, r, datum),
-        Datum::Map(_) => resolve_through(alloc, writer, w, reader, r, datum),
+        Datum::Null => resolve_through(alloc, names, w, r, datum),
+        Datum::Bool(_) => resolve_through(alloc, names, w, r, datum),
+        Datum::Int(_) => resolve_through(alloc, names, w, r, datum),
+        Datum::Long(_) => resolve_through(alloc, names, w, r, datum),
+        Datum::Bytes(_) => resolve_through(alloc, names, w, r, datum),
+        Datum::Str(_) => resolve_through(alloc, names, w, r, datum),
+        Datum::Array(_) => resolve_through(alloc, names, w, r, datum),
+        Datum::Record(_) => resolve_through(alloc, names, w, r, datum),
+        Datum::Enum(_) => resolve_through(alloc, names, w, r, datum),
+        Datum::Fixed(_) => resolve_through(alloc, names, w, r, datum),
+        Datum::Map(_) => resolve_through(alloc, names, w, r, datum),
     }
 }
 
@@ -82,20 +86,19 @@ fn resolve_at(
 #[cycle(resolution)]
 fn resolve_through(
     alloc: Global,
-    writer: &Schema,
+    names: &Names,
     w: NodeId,
-    reader: &Schema,
     r: NodeId,
     datum: &Datum,
 ) -> Result<Datum, ResolveError>
-    ensures { Ends value_of result (through (schema_nodes writer.now) (schema_nodes reader.now)
-        (node_at (schema_nodes writer.now) w.0) (node_at (schema_nodes reader.now) r.0)
-        (taken_as (schema_nodes writer.now) (schema_nodes reader.now) (node_at (schema_nodes writer.now) w.0) (value_of datum.now))) }
+    ensures { Ends value_of result (through (schema_nodes names.now.0) (schema_nodes names.now.1)
+        (node_at (schema_nodes names.now.0) w.0) (node_at (schema_nodes names.now.1) r.0)
+        (taken_as (schema_nodes names.now.0) (schema_nodes names.now.1) (node_at (schema_nodes names.now.0) w.0) (value_of datum.now))) }
 {
-    match aim(writer, w, reader, r) {
+    match names.aim(w, r) {
         Aim::Fault(kind) => Err(fault_here(alloc, kind)),
         Aim::To(branch, q) => {
-            let taken = take(alloc, writer, w, reader, q, datum);
+            let taken = take(alloc, names, w, q, datum);
             wrapped(alloc, branch, taken)
         }
     }
@@ -105,29 +108,28 @@ fn resolve_through(
 #[cycle(resolution)]
 fn take(
     alloc: Global,
-    writer: &Schema,
+    names: &Names,
     w: NodeId,
-    reader: &Schema,
     q: NodeId,
     datum: &Datum,
 ) -> Result<Datum, ResolveError>
-    ensures { Ends value_of result (taken_as (schema_nodes writer.now) (schema_nodes reader.now)
-        (node_at (schema_nodes writer.now) w.0) (value_of datum.now) (node_at (schema_nodes reader.now) q.0)) }
+    ensures { Ends value_of result (taken_as (schema_nodes names.now.0) (schema_nodes names.now.1)
+        (node_at (schema_nodes names.now.0) w.0) (value_of datum.now) (node_at (schema_nodes names.now.1) q.0)) }
 {
     match datum {
         Datum::Array(items) => {
-            let a = items_of(writer, w);
-            let b = items_of(reader, q);
-            let resolved_items = resolve_each(alloc, writer, a, reader, b, items)?;
+            let a = items_of(names.writer(), w);
+            let b = items_of(names.reader(), q);
+            let resolved_items = resolve_each(alloc, names, a, b, items)?;
             Ok(Datum::Array(resolved_items))
         }
         Datum::Map(entries) => {
-            let a = values_of(writer, w);
-            let b = values_of(reader, q);
-            let resolved_entries = resolve_values(alloc, writer, a, reader, b, entries)?;
+            let a = values_of(names.writer(), w);
+            let b = values_of(names.reader(), q);
+            let resolved_entries = resolve_values(alloc, names, a, b, entries)?;
             Ok(Datum::Map(resolved_entries))
         }
-        Datum::Record(values) => resolve_record(alloc, writer, w, reader, q, values),
+        Datum::Record(values) => resolve_record(alloc, names, w, q, values),
         Datum::Null
         | Datum::Bool(_)
         | Datum::Int(_)
@@ -136,7 +138,7 @@ fn take(
         | Datum::Str(_)
         | Datum::Union(_, _)
         | Datum::Enum(_)
-        | Datum::Fixed(_) => leaf(alloc, writer, w, reader, q, datum),
+        | Datum::Fixed(_) => leaf(alloc, names, w, q, datum),
     }
 }
 
@@ -144,22 +146,18 @@ fn take(
 #[cycle(resolution)]
 fn resolve_each(
     alloc: Global,
-    writer: &Schema,
+    names: &Names,
     w: NodeId,
-    reader: &Schema,
     r: NodeId,
     items: &[Datum],
 ) -> Result<Vec<Datum>, ResolveError>
-    ensures { Ends (λ v. values_seen v.items) result (resolve_items (schema_nodes writer.now) (schema_nodes reader.now)
-        (node_at (schema_nodes writer.now) w.0) (node_at (schema_nodes reader.now) r.0) 0 (values_seen items.now)) }
+    ensures { Ends (λ v. values_seen v.items) result (resolve_items (schema_nodes names.now.0) (schema_nodes names.now.1)
+        (node_at (schema_nodes names.now.0) w.0) (node_at (schema_nodes names.now.1) r.0) 0 (values_seen items.now)) }
 {
     let mut resolved = Vec::new(alloc);
     for index in 0..items.len() {
-        match resolve_at(alloc, writer, w, reader, r, &items[index]) {
-            Ok(item) => match resolved.push(item) {
-                Ok(()) => {}
-                Err(_) => return Err(ResolveError::Memory),
-            },
+        match resolve_at(alloc, names, w, r, &items[index]) {
+            Ok(item) => resolved.push(item)?,
             Err(error) => return Err(fault_in(index, error)),
         }
     }
@@ -170,22 +168,18 @@ fn resolve_each(
 #[cycle(resolution)]
 fn resolve_values(
     alloc: Global,
-    writer: &Schema,
+    names: &Names,
     w: NodeId,
-    reader: &Schema,
     r: NodeId,
     entries: &[(String, Datum)],
 ) -> Result<Vec<(String, Datum)>, ResolveError>
-    ensures { Ends (λ v. entries_seen v.items) result (resolve_entries (schema_nodes writer.now) (schema_nodes reader.now)
-        (node_at (schema_nodes writer.now) w.0) (node_at (schema_nodes reader.now) r.0) 0 (entries_seen entries.now)) }
+    ensures { Ends (λ v. entries_seen v.items) result (resolve_entries (schema_nodes names.now.0) (schema_nodes names.now.1)
+        (node_at (schema_nodes names.now.0) w.0) (node_at (schema_nodes names.now.1) r.0) 0 (entries_seen entries.now)) }
 {
     let mut resolved = Vec::new(alloc);
     for index in 0..entries.len() {
-        match resolve_at(alloc, writer, w, reader, r, &entries[index].1) {
-            Ok(value) => match keep(&mut resolved, &entries[index].0, value) {
-                Ok(()) => {}
-                Err(_) => return Err(ResolveError::Memory),
-            },
+        match resolve_at(alloc, names, w, r, &entries[index].1) {
+            Ok(value) => keep(&mut resolved, &entries[index].0, value)?,
             Err(error) => return Err(fault_in(index, error)),
         }
     }
@@ -200,29 +194,27 @@ fn keep(entries: &mut Vec<(String, Datum)>, key: &String, value: Datum) -> Resul
     Ok(())
 }
 
-/// What the values of a record are for a reader's node.
+/// What the values of a record are for a reader's node. The names of the two nodes are compared once.
 #[cycle(resolution)]
 fn resolve_record(
     alloc: Global,
-    writer: &Schema,
+    names: &Names,
     w: NodeId,
-    reader: &Schema,
     q: NodeId,
     values: &[Datum],
 ) -> Result<Datum, ResolveError>
-    ensures { Ends value_of result (taken_as (schema_nodes writer.now) (schema_nodes reader.now)
-        (node_at (schema_nodes writer.now) w.0) (Value.record_of (values_seen values.now)) (node_at (schema_nodes reader.now) q.0)) }
+    ensures { Ends value_of result (taken_as (schema_nodes names.now.0) (schema_nodes names.now.1)
+        (node_at (schema_nodes names.now.0) w.0) (Value.record_of (values_seen values.now)) (node_at (schema_nodes names.now.1) q.0)) }
 {
-    let writes = fields_of(writer, w);
-    let reads = fields_of(reader, q);
-    match missing(writes, reads) {
+    let inside = compare_inside(alloc, names, w, q, Aim::To(None, q))?;
+    match inside.missing {
         Some(field) => Err(fault_here(alloc, FaultKind::MissingField(field))),
         None => {
-            let slots = resolve_fields(alloc, writer, writes, reader, reads, values)?;
-            match fill_data(alloc, writes, reads, slots) {
-                Ok(filled) => Ok(Datum::Record(filled)),
-                Err(_) => Err(ResolveError::Memory),
-            }
+            let slots = resolve_fields(alloc, names, w, q, &inside, values)?;
+            let writes = fields_of(names.writer(), w);
+            let reads = fields_of(names.reader(), q);
+            let filled = fill_data(alloc, writes, reads, &inside.sources, slots)?;
+            Ok(Datum::Record(filled))
         }
     }
 }
@@ -232,24 +224,36 @@ fn resolve_record(
 #[cycle(resolution)]
 fn resolve_fields(
     alloc: Global,
-    writer: &Schema,
-    writes: &[Field],
-    reader: &Schema,
-    reads: &[Field],
+    names: &Names,
+    w: NodeId,
+    q: NodeId,
+    inside: &Comparison,
     values: &[Datum],
 ) -> Result<Vec<Option<Datum>>, ResolveError>
-    ensures { EndsFound result (resolve_sources (schema_nodes writer.now) (schema_nodes reader.now)
-        (seen_fields writes.now) (seen_fields reads.now) 0 (values_seen values.now)) }
+    requires { AreInside (node_at (schema_nodes names.now.0) w.0) (node_at (schema_nodes names.now.1) q.0) inside.now }
+    ensures { EndsFound result (resolve_sources (schema_nodes names.now.0) (schema_nodes names.now.1)
+        (fields_at (node_at (schema_nodes names.now.0) w.0)) (fields_at (node_at (schema_nodes names.now.1) q.0)) 0 (values_seen values.now)) }
 {
     let mut slots = Vec::new(alloc);
     for index in 0..values.len() {
-        let slot = resolve_field(alloc, writer, writes, reader, reads, index, &values[index])?;
-        match slots.push(slot) {
-            Ok(()) => {}
-            Err(_) => return Err(ResolveError::Memory),
-        }
+        let at = part_inside(names, w, q, inside, index);
+        let slot = resolve_field(alloc, names, at, index, &values[index])?;
+        slots.push(slot)?;
     }
     Ok(slots)
+}
+
+/// What the writer's field at an index is for.
+fn part_inside(names: &Names, w: NodeId, q: NodeId, inside: &Comparison, index: usize) -> At
+    requires { AreInside (node_at (schema_nodes names.now.0) w.0) (node_at (schema_nodes names.now.1) q.0) inside.now }
+    ensures { result ≡ field_for (fields_at (node_at (schema_nodes names.now.0) w.0)) (fields_at (node_at (schema_nodes names.now.1) q.0)) index }
+{
+    if index < inside.fields.len() {
+        return inside.fields[index];
+    }
+    let writes = fields_of(names.writer(), w);
+    let reads = fields_of(names.reader(), q);
+    part_among(writes, reads, &inside.sources, index)
 }
 
 /// What the value of the writer's field at an index is for the reader's field whose source it is, where
@@ -257,19 +261,17 @@ fn resolve_fields(
 #[cycle(resolution)]
 fn resolve_field(
     alloc: Global,
-    writer: &Schema,
-    writes: &[Field],
-    reader: &Schema,
-    reads: &[Field],
+    names: &Names,
+    at: At,
     index: usize,
     value: &Datum,
 ) -> Result<Option<Datum>, ResolveError>
-    ensures { EndsSlot index result (field_step (schema_nodes writer.now) (schema_nodes reader.now)
-        (seen_fields writes.now) (seen_fields reads.now) index (value_of value.now)) }
+    ensures { (ws rs : List FieldNode) → at ≡ field_for ws rs index
+        → EndsSlot index result (field_step (schema_nodes names.now.0) (schema_nodes names.now.1) ws rs index (value_of value.now)) }
 {
-    match part_for(writes, reads, index) {
+    match at {
         At::Ignored => Ok(None),
-        At::Pair(a, b) => match resolve_at(alloc, writer, a, reader, b, value) {
+        At::Pair(a, b) => match resolve_at(alloc, names, a, b, value) {
             Ok(resolved) => Ok(Some(resolved)),
             Err(error) => Err(fault_in(index, error)),
         },

@@ -13,7 +13,7 @@ use avro_binary::Build;
 use std::alloc::{AllocError, Global};
 
 /// What the next item or entry is for, whose pair may be kept at an index.
-pub fn next_part<I>(run: &Run<I>, index: u32) -> Part
+pub(crate) fn next_part<I>(run: &Run<I>, index: u32) -> Part
     ensures { result ≡ part_below (next_at run.now) index }
 {
     let at = match run {
@@ -29,7 +29,7 @@ pub fn next_part<I>(run: &Run<I>, index: u32) -> Part
 }
 
 /// What was made of no items: where a pair of nodes leads to a fault, that fault.
-pub fn start_items<B: Build>(
+pub(crate) fn start_items<B: Build>(
     alloc: Global,
     builder: &mut B,
     plan: &PlanRef<'_>,
@@ -53,7 +53,7 @@ pub fn start_items<B: Build>(
 }
 
 /// Adds what was made of an item behind those before.
-pub fn put_item<B: Build>(
+pub(crate) fn put_item<B: Build>(
     alloc: Global,
     builder: &mut B,
     items: &mut Run<B::Items>,
@@ -83,7 +83,7 @@ pub fn put_item<B: Build>(
 }
 
 /// What was made of an array, of its items.
-pub fn make_array<B: Build>(
+pub(crate) fn make_array<B: Build>(
     alloc: Global,
     builder: &mut B,
     items: Run<B::Items>,
@@ -102,7 +102,7 @@ pub fn make_array<B: Build>(
 }
 
 /// What was made of no entries: where a pair of nodes leads to a fault, that fault.
-pub fn start_entries<B: Build>(
+pub(crate) fn start_entries<B: Build>(
     alloc: Global,
     builder: &mut B,
     plan: &PlanRef<'_>,
@@ -126,7 +126,7 @@ pub fn start_entries<B: Build>(
 }
 
 /// Adds what was made of an entry's value behind those before.
-pub fn put_entry<B: Build>(
+pub(crate) fn put_entry<B: Build>(
     alloc: Global,
     builder: &mut B,
     entries: &mut Run<B::Entries>,
@@ -157,7 +157,7 @@ pub fn put_entry<B: Build>(
 }
 
 /// What was made of a map, of its entries.
-pub fn make_map<B: Build>(
+pub(crate) fn make_map<B: Build>(
     alloc: Global,
     builder: &mut B,
     entries: Run<B::Entries>,

@@ -11,7 +11,7 @@ ghost use Rattle.avro_resolve.specs.Pairs.{field_for};
 ghost use Rattle.avro_resolve.specs.Planned.{AreSources};
 
 use crate::guided::At;
-use avro_schema::{Field, Node, NodeId, RecordNode, Schema};
+use avro_schema::{Field, NodeId, RecordNode, Schema};
 
 /// The first index of a field of a name.
 fn index_named(fields: &[Field], name: &str) -> Option<usize>
@@ -34,7 +34,7 @@ pub fn source(writer: &RecordNode, field: &Field) -> Option<usize>
 }
 
 /// The same among some fields.
-pub fn source_among(fields: &[Field], f: &Field) -> Option<usize>
+pub(crate) fn source_among(fields: &[Field], f: &Field) -> Option<usize>
     ensures { result ≡ source_of (seen_fields fields.now) (field_of f.now) }
 {
     match index_named(fields, f.name.as_str()) {
@@ -51,14 +51,18 @@ pub fn source_among(fields: &[Field], f: &Field) -> Option<usize>
 }
 
 /// The first reader's field without a source and a default.
-pub fn missing(writer: &[Field], reader: &[Field]) -> Option<usize>
+pub(crate) fn missing(writer: &[Field], reader: &[Field]) -> Option<usize>
     ensures { result ≡ missing_field (seen_fields writer.now) (seen_fields reader.now) }
 {
     missing_among(writer, reader, &[])
 }
 
 /// The same, by the sources of the reader's fields as far as they are kept.
-pub fn missing_among(writer: &[Field], reader: &[Field], sources: &[Option<usize>]) -> Option<usize>
+pub(crate) fn missing_among(
+    writer: &[Field],
+    reader: &[Field],
+    sources: &[Option<usize>],
+) -> Option<usize>
     requires { AreSources (seen_fields writer.now) (seen_fields reader.now) sources.now }
     ensures { result ≡ missing_field (seen_fields writer.now) (seen_fields reader.now) }
 {
@@ -72,21 +76,18 @@ pub fn missing_among(writer: &[Field], reader: &[Field], sources: &[Option<usize
 }
 
 /// The fields of a node, and none where it has none.
-pub fn fields_of(schema: &Schema, id: NodeId) -> &[Field]
+pub(crate) fn fields_of(schema: &Schema, id: NodeId) -> &[Field]
     ensures seen { seen_fields result.now ≡ fields_at (node_at (schema_nodes schema.now) id.0) }
     ensures distinct { are_distinct bytes_eq (flat_map field_names (seen_fields result.now)) ≡ true }
 {
     if (id.0 as usize) >= schema.len() {
         return &[];
     }
-    match schema.node(id) {
-        Node::Record(record) => &record.fields,
-        _ => &[],
-    }
+    schema.node(id).fields().unwrap_or(&[])
 }
 
 /// The node of the field at an index.
-pub fn node_of_field(fields: &[Field], index: usize) -> NodeId
+pub(crate) fn node_of_field(fields: &[Field], index: usize) -> NodeId
     ensures { result.0 ≡ unwrap_or (slice_get (field_ids (seen_fields fields.now)) index) 0 }
 {
     if index < fields.len() {
@@ -97,7 +98,7 @@ pub fn node_of_field(fields: &[Field], index: usize) -> NodeId
 }
 
 /// The source of the reader's field at an index, as it is kept or else by name.
-pub fn source_kept(
+pub(crate) fn source_kept(
     writes: &[Field],
     sources: &[Option<usize>],
     index: usize,
@@ -129,14 +130,19 @@ fn source_at(
 }
 
 /// What a writer's field, by its index, is for.
-pub fn part_for(writer: &[Field], reader: &[Field], field: usize) -> At
+pub(crate) fn part_for(writer: &[Field], reader: &[Field], field: usize) -> At
     ensures { result ≡ field_for (seen_fields writer.now) (seen_fields reader.now) field }
 {
     part_among(writer, reader, &[], field)
 }
 
 /// The same, by the sources of the reader's fields as far as they are kept.
-pub fn part_among(writer: &[Field], reader: &[Field], sources: &[Option<usize>], field: usize) -> At
+pub(crate) fn part_among(
+    writer: &[Field],
+    reader: &[Field],
+    sources: &[Option<usize>],
+    field: usize,
+) -> At
     requires { AreSources (seen_fields writer.now) (seen_fields reader.now) sources.now }
     ensures { result ≡ field_for (seen_fields writer.now) (seen_fields reader.now) field }
 {

@@ -18,7 +18,7 @@ use std::collections::BTreeMap;
 
 /// The tables of the reader's enums with many symbols, sorted by the enums' nodes. Each maps the symbols to their
 /// indices.
-pub fn symbol_tables(
+pub(crate) fn symbol_tables(
     alloc: Global,
     reader: &Schema,
 ) -> Result<Vec<(NodeId, BTreeMap<&str, usize>)>, AllocError>
@@ -50,7 +50,7 @@ fn symbol_table(
 }
 
 /// The index of a symbol of a reader's enum, or of its default.
-pub fn symbol_by(
+pub(crate) fn symbol_by(
     tables: &[(NodeId, BTreeMap<&str, usize>)],
     reader: &Schema,
     q: NodeId,

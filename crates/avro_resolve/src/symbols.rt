@@ -48,7 +48,7 @@ fn symbol_in(node: &Node, symbol: &str) -> Option<u32>
 }
 
 /// The same of the node of an id.
-pub fn symbol_of_id(reader: &Schema, q: NodeId, symbol: &str) -> Option<u32>
+pub(crate) fn symbol_of_id(reader: &Schema, q: NodeId, symbol: &str) -> Option<u32>
     ensures { IsSymbol (enum_as symbol.now (node_at (schema_nodes reader.now) q.0)) result }
 {
     if (q.0 as usize) < reader.len() {
@@ -72,7 +72,7 @@ fn text_at(node: &Node, symbol: u32) -> &str
 }
 
 /// The reader's symbol for a writer's.
-pub fn symbol_for(
+pub(crate) fn symbol_for(
     writer: &Schema,
     w: NodeId,
     symbol: u32,
@@ -81,28 +81,32 @@ pub fn symbol_for(
 ) -> Option<u32>
     ensures { IsSymbol (enum_as (symbol_at (node_at (schema_nodes writer.now) w.0) symbol) (node_at (schema_nodes reader.now) q.0)) result }
 {
-    if writer.has(w) {
-        symbol_of_id(reader, q, text_at(writer.node(w), symbol))
+    symbol_of_id(reader, q, text_of(writer, w, symbol))
+}
+
+/// The text of a symbol of a node, and none where there is none.
+pub(crate) fn text_of(schema: &Schema, id: NodeId, symbol: u32) -> &str
+    ensures { result.now ≡ symbol_at (node_at (schema_nodes schema.now) id.0) symbol }
+{
+    if schema.has(id) {
+        text_at(schema.node(id), symbol)
     } else {
-        symbol_of_id(reader, q, "")
+        ""
     }
 }
 
 /// The symbols of a node, and none where it has none.
-pub fn symbols_of(schema: &Schema, id: NodeId) -> &[String]
+pub(crate) fn symbols_of(schema: &Schema, id: NodeId) -> &[String]
     ensures { texts_of result.now ≡ unwrap_or (texts_in (node_at (schema_nodes schema.now) id.0)) [] }
 {
     if !schema.has(id) {
         return &[];
     }
-    match schema.node(id) {
-        Node::Enum(enumeration) => &enumeration.symbols,
-        _ => &[],
-    }
+    schema.node(id).symbols().unwrap_or(&[])
 }
 
 /// The index of a reader's symbol, or its default, by the names of the reader's symbols.
-pub fn symbol_by_name(
+pub(crate) fn symbol_by_name(
     names: &BTreeMap<&str, usize>,
     reads: &[String],
     default: Option<u32>,

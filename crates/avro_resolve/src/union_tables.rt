@@ -16,7 +16,7 @@ use std::collections::BTreeMap;
 
 /// The tables of the reader's unions with many branches, sorted by the unions' nodes. Each maps a kind and a
 /// simple name to the first branch that has them.
-pub fn union_tables(
+pub(crate) fn union_tables(
     alloc: Global,
     reader: &Schema,
 ) -> Result<Vec<(NodeId, BTreeMap<(u64, &str), usize>)>, AllocError>
@@ -85,7 +85,7 @@ fn alias_count(reader: &Schema, id: NodeId) -> usize {
 }
 
 /// An index in a reader's union such that no branch before it matches the writer's node.
-pub fn start_by<'n>(
+pub(crate) fn start_by<'n>(
     tables: &[(NodeId, BTreeMap<(u64, &'n str), usize>)],
     writer: &'n Schema,
     w: NodeId,

@@ -13,7 +13,7 @@ use std::alloc::Global;
 
 /// What a plan keeps of the pairs of nodes that the roots lead to, and the indices of the pairs of their parts.
 /// The roots' pair is the first.
-pub fn compare_reached(
+pub(crate) fn compare_reached(
     alloc: Global,
     writer: &Schema,
     reader: &Schema,
