@@ -1,8 +1,11 @@
 -- Worked texts of certificates.
-use Rattle.std.proofs.Common.{◌≡◌, ℕ, true, false, List, [], ◌∷◌, refl}
+use Rattle.std.proofs.Common.{◌≡◌, ℕ, inr, true, false, List, [], ◌∷◌, refl, ap, ◌∙◌}
+use Rattle.std.proofs.lemmas.Bool.{false≢true}
 use Rattle.std.specs.Prelude.{codes}
 use Rattle.avro_certificate.specs.Closed.{Pair}
-use Rattle.avro_certificate.specs.CertificateText.{CertText, decimal, is_rising, is_before, are_small}
+use Rattle.avro_certificate.specs.CertificateText.{CertText, certificate_text, decimal, is_rising, is_before, are_small}
+use Rattle.avro_certificate.specs.CertificateRead.{HasGreatNumber, IsMalformed}
+use Rattle.avro_certificate.proofs.LineTexts.{text_same}
 
 p : ℕ → ℕ → Pair
 p w r = record { w = w; r = r }
@@ -52,3 +55,20 @@ great = refl
 greatest : are_small (4095 ∷ []) (p 4095 4095 ∷ []) ≡ true
 unfolding p
 greatest = refl
+
+-- the form of a text with a number over 4,095, which no bound asks for
+great_text : HasGreatNumber (codes "approval 1\npair 0 4096\nend\n")
+unfolding p
+great_text = record { dead = []; pairs = p 0 4096 ∷ []; written = refl; great = refl }
+
+-- no text, and one pair twice in a text
+nothing_written : IsMalformed []
+nothing_written = inr (λ dead pairs certified. is_no_text dead pairs certified.written)
+  where
+    is_no_text : (dead : List ℕ) (pairs : List Pair) → [] ≡ certificate_text dead pairs → ⊥
+    is_no_text dead pairs h = cc
+
+twice_written : IsMalformed (codes "approval 1\npair 0 0\npair 0 0\nend\n")
+unfolding p
+twice_written = inr (λ dead pairs certified. false≢true
+    (ap (is_rising is_before) (text_same [] dead (p 0 0 ∷ p 0 0 ∷ []) pairs certified.written).1 ∙ certified.rising_pairs))

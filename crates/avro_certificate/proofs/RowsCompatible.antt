@@ -1,47 +1,33 @@
--- Pairs of schemas that are compatible, and pairs with a least datum that errs.
-use Rattle.std.proofs.Common.{◌≡◌, refl, ◌≤◌, pos, true, [], ◌∷◌, Ok, Err, arith}
+-- Pairs of schemas that are compatible, pairs with a least datum that errs, and that datum beside limits of nodes and depth.
+use Rattle.std.proofs.Common.{◌≡◌, refl, ◌≤◌, ◌<◌, pos, true, [], ◌∷◌, Ok, Err, arith}
 use Rattle.std.proofs.lemmas.Bool.{false≢true, and_parts}
 use Rattle.std.specs.Str.{is_utf8, chars}
 use lib.Utf8.{encode}
-use Rattle.avro_schema.specs.Value.{Value, no_values, value, size}
+use Rattle.avro_schema.specs.Value.{Value, no_values, value, size, depth}
 use Rattle.avro_schema.specs.Node.{Node, root_of}
 use Rattle.avro_schema.specs.Fits.{fits}
+use Rattle.avro_schema.proofs.public.Parts.{size-positive, depth-positive}
 use Rattle.avro_schema.proofs.public.RowsSchemas.{one_value, array_of_int, array_of_string, record_of_itself, record_of_int}
 use Rattle.avro_resolve.specs.Fault.{no_match, not_utf8}
-use Rattle.avro_certificate.specs.Compatible.{AreCompatible, IsLeastToErr}
-
--- each datum has a node
-size_positive : (v : Value) → 1 ≤ size v
-size_positive Value.null = omega arith
-size_positive (Value.boolean b) = omega arith
-size_positive (Value.int i) = omega arith
-size_positive (Value.long i) = omega arith
-size_positive (Value.bytes b) = omega arith
-size_positive (Value.string t) = omega arith
-size_positive (Value.array vs) = omega arith
-size_positive (Value.map_of es) = omega arith
-size_positive (Value.union k v) = omega arith
-size_positive (Value.record_of vs) = omega arith
-size_positive (Value.enum k) = omega arith
-size_positive (Value.fixed b) = omega arith
+use Rattle.avro_certificate.specs.Compatible.{AreCompatible, IsLeastToErr, ErrsOnlyAbove, ErrsLeastDeep}
 
 long_refutes_int : IsLeastToErr (Node.long ∷ []) (Node.int ∷ []) (Value.long (pos 0))
 long_refutes_int = record {
   errs = (record { cause = no_match; path = [] }, record { fitting = refl; faulty = refl });
-  least = λ w fault e. size_positive w;
+  least = λ w fault e. size-positive w;
 }
 
 int_array_refutes_string_array : IsLeastToErr array_of_int array_of_string (Value.array no_values)
 int_array_refutes_string_array = record {
   errs = (record { cause = no_match; path = [] }, record { fitting = refl; faulty = refl });
-  least = λ w fault e. size_positive w;
+  least = λ w fault e. size-positive w;
 }
 
 bytes_refute_string : IsLeastToErr (Node.bytes ∷ []) (Node.string ∷ []) (Value.bytes (255 ∷ []))
 unfolding is_utf8 chars encode
 bytes_refute_string = record {
   errs = (record { cause = not_utf8; path = [] }, record { fitting = refl; faulty = refl });
-  least = λ w fault e. size_positive w;
+  least = λ w fault e. size-positive w;
 }
 
 -- a record of one int has two nodes
@@ -56,7 +42,7 @@ record_of_int-size (Value.array vs) e = absurd (false≢true (and_parts _ _ e).1
 record_of_int-size (Value.map_of es) e = absurd (false≢true (and_parts _ _ e).1)
 record_of_int-size (Value.union k v) e = absurd (false≢true e)
 record_of_int-size (Value.record_of no_values) e = absurd (false≢true e)
-record_of_int-size (Value.record_of (value v vs)) e = omega (arith, size_positive v)
+record_of_int-size (Value.record_of (value v vs)) e = omega (arith, size-positive v)
 record_of_int-size (Value.enum k) e = absurd (false≢true e)
 record_of_int-size (Value.fixed b) e = absurd (false≢true (and_parts _ _ e).1)
 
@@ -65,6 +51,45 @@ record_refutes_int = record {
   errs = (record { cause = no_match; path = [] }, record { fitting = refl; faulty = refl });
   least = λ w fault e. record_of_int-size w e.fitting;
 }
+
+-- it has two nodes: it is above a limit of one node, and not above two
+record_above_one_node : ErrsOnlyAbove record_of_int (Node.int ∷ []) 1
+record_above_one_node = record {
+  some = (Value.record_of (one_value (Value.int (pos 0))), record_refutes_int.errs);
+  above = λ v fault e. record_of_int-size v e.fitting;
+}
+
+record_within_two_nodes : ErrsOnlyAbove record_of_int (Node.int ∷ []) 2 → ⊥
+record_within_two_nodes h = omega (arith, h.above (Value.record_of (one_value (Value.int (pos 0)))) record_refutes_int.errs.0 record_refutes_int.errs.1)
+
+-- a record of one int is deeper than one level
+record_of_int-depth : (v : Value) → fits record_of_int (root_of record_of_int) v ≡ true → 1 < depth v
+record_of_int-depth Value.null e = absurd (false≢true e)
+record_of_int-depth (Value.boolean b) e = absurd (false≢true e)
+record_of_int-depth (Value.int i) e = absurd (false≢true e)
+record_of_int-depth (Value.long i) e = absurd (false≢true e)
+record_of_int-depth (Value.bytes b) e = absurd (false≢true e)
+record_of_int-depth (Value.string t) e = absurd (false≢true e)
+record_of_int-depth (Value.array vs) e = absurd (false≢true (and_parts _ _ e).1)
+record_of_int-depth (Value.map_of es) e = absurd (false≢true (and_parts _ _ e).1)
+record_of_int-depth (Value.union k v) e = absurd (false≢true e)
+record_of_int-depth (Value.record_of no_values) e = absurd (false≢true e)
+record_of_int-depth (Value.record_of (value v vs)) e = omega (arith, depth-positive v)
+record_of_int-depth (Value.enum k) e = absurd (false≢true e)
+record_of_int-depth (Value.fixed b) e = absurd (false≢true (and_parts _ _ e).1)
+
+-- its depth is two: too deep for a limit of one level, and not for two; and a limit of one node comes first
+record_too_deep : ErrsLeastDeep record_of_int (Node.int ∷ []) 2 1
+record_too_deep = record {
+  some = (Value.record_of (one_value (Value.int (pos 0))), record_refutes_int, omega arith);
+  deep = λ v least. record_of_int-depth v least.errs.1.fitting;
+}
+
+record_not_too_deep : ErrsLeastDeep record_of_int (Node.int ∷ []) 2 2 → ⊥
+record_not_too_deep h = omega (arith, h.deep (Value.record_of (one_value (Value.int (pos 0)))) record_refutes_int)
+
+record_of_more_nodes : ErrsLeastDeep record_of_int (Node.int ∷ []) 1 1 → ⊥
+record_of_more_nodes h = omega (arith, record_of_int-size h.some.0 h.some.1.errs.1.fitting, h.some.2)
 
 -- an int fits, and nothing else
 int_goes_with_long : AreCompatible (Node.int ∷ []) (Node.long ∷ [])
@@ -83,6 +108,10 @@ int_goes_with_long (Value.union k v) fault e = false≢true e.fitting
 int_goes_with_long (Value.record_of vs) fault e = false≢true e.fitting
 int_goes_with_long (Value.enum k) fault e = false≢true e.fitting
 int_goes_with_long (Value.fixed b) fault e = false≢true (and_parts _ _ e.fitting).1
+
+-- where no datum errs, none is above a limit
+none_above_zero_nodes : ErrsOnlyAbove (Node.int ∷ []) (Node.long ∷ []) 0 → ⊥
+none_above_zero_nodes h = int_goes_with_long h.some.0 h.some.1.0 h.some.1.1
 
 -- the record would hold a datum of its own
 record_of_itself-no_datum : (v : Value) → fits record_of_itself (root_of record_of_itself) v ≡ true → ⊥

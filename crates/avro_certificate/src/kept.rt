@@ -51,10 +51,7 @@ impl Certificate {
         if text.len() > Certificate::MAX_LEN {
             return Err(CertError::Malformed);
         }
-        let (dead, pairs) = match read_sets(alloc, text) {
-            Ok(sets) => sets,
-            Err(e) => return Err(e),
-        };
+        let (dead, pairs) = read_sets(alloc, text)?;
         if !are_small(&dead, &pairs) {
             return Err(CertError::NumberTooLarge);
         }
