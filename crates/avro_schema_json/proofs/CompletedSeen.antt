@@ -1,4 +1,4 @@
--- Nodes filled with their defaults are the completed nodes, and what is said of those.
+-- Nodes with their defaults are the completed nodes, and what is said of those.
 use Rattle.std.proofs.Common.{◌≡◌, ℕ, zero, suc, ◌<◌, Bool, false, ◌&&◌, List, [], ◌∷◌, length, map, refl, sym, ap, ◌∙◌, arith, nat_le, nat_lt}
 use Rattle.std.specs.Prelude.{Contains, slice_index_or}
 use Rattle.std.proofs.lemmas.Bool.{and_parts, false≢true, false_from_ne_true}
@@ -13,16 +13,16 @@ use Rattle.avro_schema_json.specs.DeclaredAttributes.{unless}
 use Rattle.avro_schema_json.specs.DeclaredFaults.{refusals_of_nodes, or_else}
 use Rattle.avro_schema_json.specs.DeclaredSchema.{field_default, completed_field, completed_node}
 use Rattle.avro_schema_json.specs.Refusals.{refusal_of_fault}
-use Rattle.avro_schema_json.specs.inside.SeenDefaults.{defaults_of_node, filled_fields, filled_nodes}
+use Rattle.avro_schema_json.specs.inside.SeenDefaults.{defaults_of_node, fields_with_defaults, nodes_with_defaults}
 
-filled-fields : (nodes : List Node) (fields : List RawField) → filled_fields fields (map (field_default nodes) fields) ≡ map (completed_field nodes) fields
-filled-fields nodes [] = refl
-filled-fields nodes (f ∷ fields) = ap (λ rest. completed_field nodes f ∷ rest) (filled-fields nodes fields)
+fields-completed : (nodes : List Node) (fields : List RawField) → fields_with_defaults fields (map (field_default nodes) fields) ≡ map (completed_field nodes) fields
+fields-completed nodes [] = refl
+fields-completed nodes (f ∷ fields) = ap (λ rest. completed_field nodes f ∷ rest) (fields-completed nodes fields)
 
-pub filled-completed : (nodes : List Node) (raws : List RawNode) → filled_nodes raws (map (defaults_of_node nodes) raws) ≡ map (completed_node nodes) raws
-filled-completed nodes [] = refl
-filled-completed nodes (RawNode.plain n ∷ raws) = ap (λ rest. n ∷ rest) (filled-completed nodes raws)
-filled-completed nodes (RawNode.record_of name aliases fields ∷ raws) = rw (filled-fields nodes fields, filled-completed nodes raws) refl
+pub nodes-completed : (nodes : List Node) (raws : List RawNode) → nodes_with_defaults raws (map (defaults_of_node nodes) raws) ≡ map (completed_node nodes) raws
+nodes-completed nodes [] = refl
+nodes-completed nodes (RawNode.plain n ∷ raws) = ap (λ rest. n ∷ rest) (nodes-completed nodes raws)
+nodes-completed nodes (RawNode.record_of name aliases fields ∷ raws) = rw (fields-completed nodes fields, nodes-completed nodes raws) refl
 
 -- a fault of the first list is one of both
 pub or_else-first : (xs ys : List SchemaError) (e : SchemaError) → Contains xs e → Contains (or_else xs ys) e

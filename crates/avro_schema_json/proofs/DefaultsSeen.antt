@@ -10,14 +10,14 @@ use Rattle.avro_schema.specs.declared.datum.Datum.{Datum}
 use Rattle.avro_schema.specs.declared.schema.NodeId.{NodeId}
 use Rattle.serde_json.specs.Data.{Data}
 use Rattle.avro_schema_json.specs.DeclaredDefaults.{by_first_fit, first_fit, default_of}
-use Rattle.avro_schema_json.specs.inside.OwnDefaults.{own_default, bare_of, bares_of}
+use Rattle.avro_schema_json.specs.inside.OwnDefaults.{own_default, without_defaults, all_without_defaults}
 use Rattle.avro_schema_json.specs.declared.raw.RawNode.{RawNode}
 
 -- the node of an id
-pub node_at-raws : (raws : List RawNode) (i : ℕ) (null : RawNode) → bare_of null ≡ Node.null → bare_of (get_or raws i null) ≡ node_at (bares_of raws) i
-node_at-raws [] i null h = h
-node_at-raws (r ∷ raws) zero null h = refl
-node_at-raws (r ∷ raws) (suc i) null h = node_at-raws raws i null h
+pub node_at-raws : (raws : List RawNode) (i : ℕ) (other : RawNode) → without_defaults other ≡ Node.null → without_defaults (get_or raws i other) ≡ node_at (all_without_defaults raws) i
+node_at-raws [] i other h = h
+node_at-raws (r ∷ raws) zero other h = refl
+node_at-raws (r ∷ raws) (suc i) other h = node_at-raws raws i other h
 
 -- a default is that of the node itself, or of a branch
 default_of-own : (nodes : List Node) (d : Data) (n : Node) → default_of nodes d n ≡ by_first_fit nodes n (own_default nodes d)

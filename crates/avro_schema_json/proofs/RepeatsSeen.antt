@@ -17,8 +17,8 @@ use Rattle.avro_schema.specs.SeenKind.{kind_at, has_kind}
 use Rattle.avro_schema.specs.WellFormed.{is_edge, is_union, BranchKind, unnamed, named, branch_kind, same_kind}
 use Rattle.avro_schema.proofs.public.NodeFaults.{broken-there}
 use Rattle.avro_schema_json.specs.Declares.{RawNode}
-use Rattle.avro_schema_json.specs.DeclaredSchema.{bare_node, completed_node}
-use Rattle.avro_schema_json.specs.inside.OwnDefaults.{bare_of, bares_of}
+use Rattle.avro_schema_json.specs.DeclaredSchema.{node_without_defaults, completed_node}
+use Rattle.avro_schema_json.specs.inside.OwnDefaults.{without_defaults, all_without_defaults}
 use Rattle.avro_schema_json.specs.declared.raw.RawNode.{RawNode as KeptNode}
 use Rattle.avro_schema_json.specs.inside.Repeats.{kind_code, code_by, Repeats, SomeRepeats}
 
@@ -98,34 +98,34 @@ module _ (nodes : List Node) where
 
 -- ---- from the nodes without their defaults to those with them
 
-completed_kind : (nodes : List Node) (raws : List RawNode) (m : ℕ) → branch_kind (node_at (map (completed_node nodes) raws) m) ≡ branch_kind (node_at (map bare_node raws) m)
+completed_kind : (nodes : List Node) (raws : List RawNode) (m : ℕ) → branch_kind (node_at (map (completed_node nodes) raws) m) ≡ branch_kind (node_at (map node_without_defaults raws) m)
 completed_kind nodes [] m = refl
 completed_kind nodes (RawNode.plain n ∷ raws) zero = refl
 completed_kind nodes (RawNode.record_of name aliases fields ∷ raws) zero = refl
 completed_kind nodes (RawNode.plain n ∷ raws) (suc m) = completed_kind nodes raws m
 completed_kind nodes (RawNode.record_of name aliases fields ∷ raws) (suc m) = completed_kind nodes raws m
 
-completed_branches : (nodes : List Node) (raws : List RawNode) (m : ℕ) → branches_of (node_at (map (completed_node nodes) raws) m) ≡ branches_of (node_at (map bare_node raws) m)
+completed_branches : (nodes : List Node) (raws : List RawNode) (m : ℕ) → branches_of (node_at (map (completed_node nodes) raws) m) ≡ branches_of (node_at (map node_without_defaults raws) m)
 completed_branches nodes [] m = refl
 completed_branches nodes (RawNode.plain n ∷ raws) zero = refl
 completed_branches nodes (RawNode.record_of name aliases fields ∷ raws) zero = refl
 completed_branches nodes (RawNode.plain n ∷ raws) (suc m) = completed_branches nodes raws m
 completed_branches nodes (RawNode.record_of name aliases fields ∷ raws) (suc m) = completed_branches nodes raws m
 
-completed_name : (nodes : List Node) (raws : List RawNode) (m : ℕ) → node_name (node_at (map (completed_node nodes) raws) m) ≡ node_name (node_at (map bare_node raws) m)
+completed_name : (nodes : List Node) (raws : List RawNode) (m : ℕ) → node_name (node_at (map (completed_node nodes) raws) m) ≡ node_name (node_at (map node_without_defaults raws) m)
 completed_name nodes [] m = refl
 completed_name nodes (RawNode.plain n ∷ raws) zero = refl
 completed_name nodes (RawNode.record_of name aliases fields ∷ raws) zero = refl
 completed_name nodes (RawNode.plain n ∷ raws) (suc m) = completed_name nodes raws m
 completed_name nodes (RawNode.record_of name aliases fields ∷ raws) (suc m) = completed_name nodes raws m
 
-completed_edge : (nodes : List Node) (raws : List RawNode) (m p : ℕ) → is_edge (map (completed_node nodes) raws) m p ≡ is_edge (map bare_node raws) m p
+completed_edge : (nodes : List Node) (raws : List RawNode) (m p : ℕ) → is_edge (map (completed_node nodes) raws) m p ≡ is_edge (map node_without_defaults raws) m p
 completed_edge nodes raws m p =
-    let count : length (map (completed_node nodes) raws) ≡ length (map bare_node raws) = simp length-map in
+    let count : length (map (completed_node nodes) raws) ≡ length (map node_without_defaults raws) = simp length-map in
     rw (count, completed_name nodes raws p) refl
 
 completed_edges : (nodes : List Node) (raws : List RawNode) (m : ℕ) (ids : List ℕ)
-    → list_all (is_edge (map (completed_node nodes) raws) m) ids ≡ list_all (is_edge (map bare_node raws) m) ids
+    → list_all (is_edge (map (completed_node nodes) raws) m) ids ≡ list_all (is_edge (map node_without_defaults raws) m) ids
 completed_edges nodes raws m [] = refl
 completed_edges nodes raws m (p ∷ ids) = rw (completed_edge nodes raws m p, completed_edges nodes raws m ids) refl
 
@@ -136,12 +136,12 @@ no_union nodes id (Node.union found) ids is edges h =
     rw (same, edges, h) refl
 no_union nodes id _ ids is edges h = absurd cc
 
-pub repeated-there : (nodes : List Node) (raws : List RawNode) → SomeRepeats (map bare_node raws) → IsThere invalid_union (map (completed_node nodes) raws)
+pub repeated-there : (nodes : List Node) (raws : List RawNode) → SomeRepeats (map node_without_defaults raws) → IsThere invalid_union (map (completed_node nodes) raws)
 repeated-there nodes raws some =
     let r = some.5 in
     let completed = map (completed_node nodes) raws in
-    let code : (p : ℕ) → code_by completed p ≡ code_by (map bare_node raws) p = λ p. ap (kind_code p) (completed_kind nodes raws p) in
-    let count : length completed ≡ length (map bare_node raws) = simp length-map in
+    let code : (p : ℕ) → code_by completed p ≡ code_by (map node_without_defaults raws) p = λ p. ap (kind_code p) (completed_kind nodes raws p) in
+    let count : length completed ≡ length (map node_without_defaults raws) = simp length-map in
     let broken = repeated_branch completed some.1 (r.0, r.1, r.2, r.3, r.4, r.5, r.6, code r.2 ∙ r.7 ∙ sym (code r.3)) in
     broken-there invalid_union completed some.0 (rw count some.2)
     (no_union completed some.0 (node_at completed some.0) some.1 (completed_branches nodes raws some.0 ∙ some.3) (completed_edges nodes raws some.0 some.1 ∙ some.4) broken)
@@ -173,18 +173,18 @@ repeat-next nodes ids old new i id code below is added are = λ m there.
       | inr same ↦ (i, (get_or ids i id).0, omega arith, id_at ids i id below, sym is ∙ sym same)
     ]
 
-node_here : (raws : List KeptNode) (i : ℕ) (raw : KeptNode) → i < length raws → node_at (bares_of raws) i ≡ bare_of (get_or raws i raw)
+node_here : (raws : List KeptNode) (i : ℕ) (raw : KeptNode) → i < length raws → node_at (all_without_defaults raws) i ≡ without_defaults (get_or raws i raw)
 node_here [] i raw below = absurd (omega (arith, below))
 node_here (x ∷ raws) zero raw below = refl
 node_here (x ∷ raws) (suc i) raw below = node_here raws i raw (omega (arith, below))
 
-as_many : (raws : List KeptNode) → length (bares_of raws) ≡ length raws
+as_many : (raws : List KeptNode) → length (all_without_defaults raws) ≡ length raws
 as_many [] = refl
 as_many (x ∷ raws) = ap suc (as_many raws)
 
 pub some-repeats : (raws : List KeptNode) (i : ℕ) (raw : KeptNode) (ids : List ℕ) → i < length raws → raw ≡ get_or raws i raw
-    → Some ids ≡ branches_of (bare_of raw) → list_all (is_edge (bares_of raws) i) ids ≡ true → Repeats (bares_of raws) ids
-    → SomeRepeats (bares_of raws)
+    → Some ids ≡ branches_of (without_defaults raw) → list_all (is_edge (all_without_defaults raws) i) ids ≡ true → Repeats (all_without_defaults raws) ids
+    → SomeRepeats (all_without_defaults raws)
 some-repeats raws i raw ids below at are edges repeats =
-    let here : node_at (bares_of raws) i ≡ bare_of raw = node_here raws i raw below ∙ ap bare_of (sym at) in
+    let here : node_at (all_without_defaults raws) i ≡ without_defaults raw = node_here raws i raw below ∙ ap without_defaults (sym at) in
     (i, ids, omega (arith, as_many raws, below), ap branches_of here ∙ sym are, edges, repeats)

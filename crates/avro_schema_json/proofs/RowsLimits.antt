@@ -7,7 +7,7 @@ use Rattle.avro_schema_json.specs.declared.error.SchemaError.{SchemaError}
 use Rattle.avro_schema_json.specs.Declares.{meaning_of}
 use Rattle.avro_schema_json.proofs.RowsDeclared.{declared_by}
 
--- so many arrays in one another, of null
+-- a number of arrays in one another, of null
 abbrev arrays_in_arrays : ℕ → List ℕ
 arrays_in_arrays zero = codes "\"null\""
 arrays_in_arrays (suc n) = codes "{\"type\":\"array\",\"items\":" ++ arrays_in_arrays n ++ codes "}"

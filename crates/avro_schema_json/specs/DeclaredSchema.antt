@@ -10,15 +10,15 @@ use Rattle.avro_schema_json.specs.Declares.{RawField, RawNode, made_of}
 use Rattle.avro_schema_json.specs.DeclaredDefaults.{default_of}
 
 -- a node without its defaults
-abbrev pub bare_field : RawField → FieldNode
-bare_field f = record { name = f.name; aliases = f.aliases; node = f.node; default = None }
+abbrev pub field_without_default : RawField → FieldNode
+field_without_default f = record { name = f.name; aliases = f.aliases; node = f.node; default = None }
 
-abbrev pub bare_node : RawNode → Node
-bare_node (RawNode.plain n) = n
-bare_node (RawNode.record_of name aliases fields) = Node.record_of name aliases (map bare_field fields)
+abbrev pub node_without_defaults : RawNode → Node
+node_without_defaults (RawNode.plain n) = n
+node_without_defaults (RawNode.record_of name aliases fields) = Node.record_of name aliases (map field_without_default fields)
 
-abbrev pub bare_nodes : List RawNode → List Node
-bare_nodes = map bare_node
+abbrev pub nodes_without_defaults : List RawNode → List Node
+nodes_without_defaults = map node_without_defaults
 
 -- the default of a field among these nodes
 abbrev pub field_default : List Node → RawField → Option Value
@@ -33,7 +33,7 @@ completed_node nodes (RawNode.plain n) = n
 completed_node nodes (RawNode.record_of name aliases fields) = Node.record_of name aliases (map (completed_field nodes) fields)
 
 abbrev pub completed_nodes : List RawNode → List Node
-completed_nodes raws = map (completed_node (bare_nodes raws)) raws
+completed_nodes raws = map (completed_node (nodes_without_defaults raws)) raws
 
 -- a field has no default, or one that is a datum
 abbrev pub is_default_read : List Node → RawField → Bool
@@ -44,7 +44,7 @@ are_defaults_read nodes (RawNode.plain n) = true
 are_defaults_read nodes (RawNode.record_of name aliases fields) = list_all (is_default_read nodes) fields
 
 abbrev pub are_all_defaults_read : List RawNode → Bool
-are_all_defaults_read raws = list_all (are_defaults_read (bare_nodes raws)) raws
+are_all_defaults_read raws = list_all (are_defaults_read (nodes_without_defaults raws)) raws
 
 abbrev pub is_empty : {A : Type 0} → List A → Bool
 is_empty [] = true

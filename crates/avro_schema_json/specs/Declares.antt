@@ -19,7 +19,7 @@ pub record RawField : Type 0 where
   pub node : ℕ
   pub default : Option Data
 
--- a node before its defaults are read; only a record has any
+-- a node before its defaults are read; only a record has any, and no rule below makes `plain` of a record
 pub data RawNode : Type 0 where
   plain : Node → RawNode
   record_of : Name → List Name → List RawField → RawNode
@@ -32,8 +32,7 @@ abbrev pub id_of : Name → Known → Option ℕ
 id_of name [] = None
 id_of name (definition ∷ known) = if same_name name definition.0 then Some definition.1 else id_of name known
 
--- what a part of a tree makes: what it is for the part around it, its nodes, the names that are known after it, and
--- its faults
+-- what a part of a tree makes: what it is for the part around it, its nodes, the names that are known then, and faults
 pub record Made (A : Type 0) : Type 0 where
   pub result : A
   pub nodes : List RawNode

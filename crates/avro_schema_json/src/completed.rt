@@ -10,8 +10,8 @@ ghost use Rattle.avro_schema.specs.declared.fault.DraftError.TheVariants.{LimitE
 ghost use Rattle.avro_schema_json.specs.DeclaredAttributes.{unless};
 ghost use Rattle.avro_schema_json.specs.DeclaredFaults.{refusals_of_nodes, or_else};
 ghost use Rattle.avro_schema_json.specs.DeclaredSchema.{field_default, is_default_read, are_defaults_read, are_all_defaults_read, completed_nodes};
-ghost use Rattle.avro_schema_json.specs.inside.OwnDefaults.{bares_of};
-ghost use Rattle.avro_schema_json.specs.inside.SeenDefaults.{data_seen, lists_seen, defaults_of_node as node_defaults_by, first_or, others_of, filled_fields, filled_node, filled_nodes};
+ghost use Rattle.avro_schema_json.specs.inside.OwnDefaults.{all_without_defaults};
+ghost use Rattle.avro_schema_json.specs.inside.SeenDefaults.{data_seen, lists_seen, defaults_of_node as node_defaults_by, first_or, others_of, fields_with_defaults, node_with_defaults, nodes_with_defaults};
 ghost use Rattle.avro_schema_json.specs.inside.SeenRaw.{raw_field_of, raw_fields_of, raw_record_of, raw_node_of, raw_nodes_of};
 ghost use Rattle.avro_schema_json.specs.declared.error.SchemaError.TheVariants.{InvalidDefault, OutOfMemory};
 
@@ -43,7 +43,7 @@ fn default_of_field(
     raws: &[RawNode],
     field: &RawField,
 ) -> Result<Option<Datum>, Memory>
-    ensures { IfOk result (λ datum. option_map value_of datum ≡ field_default (bares_of raws.now) (raw_field_of field.now)) }
+    ensures { IfOk result (λ datum. option_map value_of datum ≡ field_default (all_without_defaults raws.now) (raw_field_of field.now)) }
 {
     match field.default {
         Some(tree) => default_of(alloc, raws, tree, field.node),
@@ -57,8 +57,8 @@ fn defaults_of_fields(
     raws: &[RawNode],
     fields: &[RawField],
 ) -> Result<NodeDefaults, Memory>
-    ensures data { IfOk result (λ defaults. data_seen defaults.of_fields.items ≡ map (field_default (bares_of raws.now)) (raw_fields_of fields.now)) }
-    ensures read { IfOk result (λ defaults. defaults.are_read ≡ list_all (is_default_read (bares_of raws.now)) (raw_fields_of fields.now)) }
+    ensures data { IfOk result (λ defaults. data_seen defaults.of_fields.items ≡ map (field_default (all_without_defaults raws.now)) (raw_fields_of fields.now)) }
+    ensures read { IfOk result (λ defaults. defaults.are_read ≡ list_all (is_default_read (all_without_defaults raws.now)) (raw_fields_of fields.now)) }
 {
     let mut of_fields: Vec<Option<Datum>> = Vec::new(alloc);
     let mut are_read = true;
@@ -75,8 +75,8 @@ fn defaults_of_fields(
 
 /// The defaults of a node.
 fn defaults_of_node(alloc: Global, raws: &[RawNode], raw: &RawNode) -> Result<NodeDefaults, Memory>
-    ensures data { IfOk result (λ defaults. data_seen defaults.of_fields.items ≡ node_defaults_by (bares_of raws.now) (raw_node_of raw.now)) }
-    ensures read { IfOk result (λ defaults. defaults.are_read ≡ are_defaults_read (bares_of raws.now) (raw_node_of raw.now)) }
+    ensures data { IfOk result (λ defaults. data_seen defaults.of_fields.items ≡ node_defaults_by (all_without_defaults raws.now) (raw_node_of raw.now)) }
+    ensures read { IfOk result (λ defaults. defaults.are_read ≡ are_defaults_read (all_without_defaults raws.now) (raw_node_of raw.now)) }
 {
     match raw {
         RawNode::Record(record) => defaults_of_fields(alloc, raws, &record.fields),
@@ -89,7 +89,7 @@ fn defaults_of_node(alloc: Global, raws: &[RawNode], raw: &RawNode) -> Result<No
 
 /// The defaults of all nodes.
 fn defaults_of_nodes(alloc: Global, raws: &[RawNode]) -> Result<Defaults, Memory>
-    ensures data { IfOk result (λ defaults. lists_seen defaults.of_nodes.items ≡ map (node_defaults_by (bares_of raws.now)) (raw_nodes_of raws.now)) }
+    ensures data { IfOk result (λ defaults. lists_seen defaults.of_nodes.items ≡ map (node_defaults_by (all_without_defaults raws.now)) (raw_nodes_of raws.now)) }
     ensures read { IfOk result (λ defaults. defaults.are_read ≡ are_all_defaults_read (raw_nodes_of raws.now)) }
 {
     let mut of_nodes: Vec<Vec<Option<Datum>>> = Vec::new(alloc);
@@ -133,7 +133,7 @@ fn complete_fields(
     fields: Vec<RawField<'_>>,
     defaults: Vec<Option<Datum>>,
 ) -> Result<Vec<Field>, Memory>
-    ensures { IfOk result (λ completed. seen_fields completed.items ≡ filled_fields (raw_fields_of fields.entry.items) (data_seen defaults.items)) }
+    ensures { IfOk result (λ completed. seen_fields completed.items ≡ fields_with_defaults (raw_fields_of fields.entry.items) (data_seen defaults.items)) }
 {
     let mut completed: Vec<Field> = Vec::new(alloc);
     let mut rest = defaults.into_iter();
@@ -155,7 +155,7 @@ fn complete_record(
     raw: RawRecord<'_>,
     defaults: Vec<Option<Datum>>,
 ) -> Result<Node, Memory>
-    ensures { IfOk result (λ node. node_of node ≡ filled_node (raw_record_of raw.entry) (data_seen defaults.items)) }
+    ensures { IfOk result (λ node. node_of node ≡ node_with_defaults (raw_record_of raw.entry) (data_seen defaults.items)) }
 {
     let RawRecord {
         name,
@@ -176,7 +176,7 @@ fn complete_node(
     raw: RawNode<'_>,
     defaults: Vec<Option<Datum>>,
 ) -> Result<Node, Memory>
-    ensures { IfOk result (λ node. node_of node ≡ filled_node (raw_node_of raw.entry) (data_seen defaults.items)) }
+    ensures { IfOk result (λ node. node_of node ≡ node_with_defaults (raw_node_of raw.entry) (data_seen defaults.items)) }
 {
     match raw {
         RawNode::Null => Ok(Node::Null),
@@ -200,7 +200,7 @@ fn draft_of(
     raws: Vec<RawNode<'_>>,
     defaults: Vec<Vec<Option<Datum>>>,
 ) -> Result<Draft, DraftError>
-    ensures nodes { IfOk result (λ draft. draft_nodes draft ≡ filled_nodes (raw_nodes_of raws.entry.items) (lists_seen defaults.items)) }
+    ensures nodes { IfOk result (λ draft. draft_nodes draft ≡ nodes_with_defaults (raw_nodes_of raws.entry.items) (lists_seen defaults.items)) }
     ensures refused { IfErr result (λ e. (e ≡ DraftMemory) ⊎ ((e ≡ DraftLimit) × (4096 < length raws.entry.items))) }
 {
     let mut draft = Draft::new(alloc);

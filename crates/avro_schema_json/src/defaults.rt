@@ -6,7 +6,7 @@ ghost use Rattle.avro_schema.specs.Seen.{value_of, values_of, entries_of, ids_of
 ghost use Rattle.avro_schema.specs.Value.{Value as SeenValue};
 ghost use Rattle.avro_schema_json.specs.DeclaredDefaults.{default_of as default_by, each_default, entries_default as each_entry, default_under, fields_default as each_field, object_default as default_of_object, items_default as default_of_items, member_keys, first_fit};
 ghost use Rattle.avro_schema_json.specs.inside.Misfits.{AreMisfits};
-ghost use Rattle.avro_schema_json.specs.inside.OwnDefaults.{own_default as own_default_by, default_of_fields, bare_of, bares_of, fields_seen};
+ghost use Rattle.avro_schema_json.specs.inside.OwnDefaults.{own_default as own_default_by, default_of_fields, without_defaults, all_without_defaults, fields_seen};
 ghost use Rattle.serde_json.specs.View.{view, items_view, members_view};
 
 mod asks;
@@ -38,7 +38,7 @@ pub(crate) fn default_of(
     tree: &Value,
     id: NodeId,
 ) -> Result<Option<Datum>, Memory>
-    ensures { IfOk result (λ datum. option_map value_of datum ≡ default_by (bares_of raws.now) (view tree.now) (node_at (bares_of raws.now) id.0)) }
+    ensures { IfOk result (λ datum. option_map value_of datum ≡ default_by (all_without_defaults raws.now) (view tree.now) (node_at (all_without_defaults raws.now) id.0)) }
 {
     let null = RawNode::Null;
     let node = raw_at(&*raws, &null, id);
@@ -61,9 +61,9 @@ fn branch_default(
     ids: &[NodeId],
     misfits: &BTreeSet<u32>,
 ) -> Result<Option<Datum>, Memory>
-    requires { AreMisfits (bares_of raws.now) (view tree.now) misfits.now }
+    requires { AreMisfits (all_without_defaults raws.now) (view tree.now) misfits.now }
     ensures { IfOk result (λ datum. option_map value_of datum
-        ≡ first_fit (bares_of raws.now) (own_default_by (bares_of raws.now) (view tree.now)) 0 (ids_of ids.now)) }
+        ≡ first_fit (all_without_defaults raws.now) (own_default_by (all_without_defaults raws.now) (view tree.now)) 0 (ids_of ids.now)) }
 {
     for i in 0..ids.len() {
         let id = ids[i];
@@ -86,7 +86,7 @@ fn default_at(
     tree: &Value,
     id: NodeId,
 ) -> Result<Option<Datum>, Memory>
-    ensures { IfOk result (λ datum. option_map value_of datum ≡ own_default_by (bares_of raws.now) (view tree.now) (node_at (bares_of raws.now) id.0)) }
+    ensures { IfOk result (λ datum. option_map value_of datum ≡ own_default_by (all_without_defaults raws.now) (view tree.now) (node_at (all_without_defaults raws.now) id.0)) }
 {
     let null = RawNode::Null;
     let node = raw_at(&*raws, &null, id);
@@ -112,7 +112,7 @@ fn own_default(
     tree: &Value,
     node: &RawNode,
 ) -> Result<Option<Datum>, Memory>
-    ensures { IfOk result (λ datum. option_map value_of datum ≡ own_default_by (bares_of raws.now) (view tree.now) (bare_of node.now)) }
+    ensures { IfOk result (λ datum. option_map value_of datum ≡ own_default_by (all_without_defaults raws.now) (view tree.now) (without_defaults node.now)) }
 {
     match tree {
         Value::Null => Ok(null_default(node)),
@@ -133,7 +133,7 @@ fn items_default(
     node: &RawNode,
 ) -> Result<Option<Datum>, Memory>
     ensures { IfOk result (λ datum. option_map value_of datum
-        ≡ default_of_items (bares_of raws.now) (λ m. each_default (bares_of raws.now) (items_view items.now.items) m) (bare_of node.now)) }
+        ≡ default_of_items (all_without_defaults raws.now) (λ m. each_default (all_without_defaults raws.now) (items_view items.now.items) m) (without_defaults node.now)) }
 {
     match node {
         RawNode::Array(id) => match item_defaults(alloc, raws, items, *id)? {
@@ -153,7 +153,7 @@ fn item_defaults(
     id: NodeId,
 ) -> Result<Option<Vec<Datum>>, Memory>
     ensures { IfOk result (λ values. option_map (λ vs. values_of vs.items) values
-        ≡ each_default (bares_of raws.now) (items_view items.now.items) (node_at (bares_of raws.now) id.0)) }
+        ≡ each_default (all_without_defaults raws.now) (items_view items.now.items) (node_at (all_without_defaults raws.now) id.0)) }
 {
     let mut values: Vec<Datum> = Vec::new(alloc);
     for item in items {
@@ -174,8 +174,8 @@ fn object_default(
     node: &RawNode,
 ) -> Result<Option<Datum>, Memory>
     ensures { IfOk result (λ datum. option_map value_of datum
-        ≡ default_of_object (bares_of raws.now) (λ m. each_entry (bares_of raws.now) (members_view members.now.entries) m)
-        (λ key. default_under (bares_of raws.now) key (members_view members.now.entries)) (member_keys (members_view members.now.entries)) (bare_of node.now)) }
+        ≡ default_of_object (all_without_defaults raws.now) (λ m. each_entry (all_without_defaults raws.now) (members_view members.now.entries) m)
+        (λ key. default_under (all_without_defaults raws.now) key (members_view members.now.entries)) (member_keys (members_view members.now.entries)) (without_defaults node.now)) }
 {
     match node {
         RawNode::Map(id) => match entry_defaults(alloc, raws, members, *id)? {
@@ -196,7 +196,7 @@ fn entry_defaults(
     id: NodeId,
 ) -> Result<Option<Vec<(String, Datum)>>, Memory>
     ensures { IfOk result (λ entries. option_map (λ es. entries_of es.items) entries
-        ≡ each_entry (bares_of raws.now) (members_view members.now.entries) (node_at (bares_of raws.now) id.0)) }
+        ≡ each_entry (all_without_defaults raws.now) (members_view members.now.entries) (node_at (all_without_defaults raws.now) id.0)) }
 {
     let mut entries: Vec<(String, Datum)> = Vec::new(alloc);
     for (key, tree) in members.iter() {
@@ -217,7 +217,7 @@ fn record_default(
     fields: &[RawField],
 ) -> Result<Option<Datum>, Memory>
     ensures { IfOk result (λ datum. option_map value_of datum
-        ≡ default_of_fields (bares_of raws.now) (members_view members.now.entries) (fields_seen fields.now)) }
+        ≡ default_of_fields (all_without_defaults raws.now) (members_view members.now.entries) (fields_seen fields.now)) }
 {
     let Some(values) = field_defaults(alloc, raws, members, fields)? else {
         return Ok(None);
@@ -238,7 +238,7 @@ fn field_defaults(
     fields: &[RawField],
 ) -> Result<Option<Vec<Datum>>, Memory>
     ensures { IfOk result (λ values. option_map (λ vs. values_of vs.items) values
-        ≡ each_field (bares_of raws.now) (λ key. default_under (bares_of raws.now) key (members_view members.now.entries)) (fields_seen fields.now)) }
+        ≡ each_field (all_without_defaults raws.now) (λ key. default_under (all_without_defaults raws.now) key (members_view members.now.entries)) (fields_seen fields.now)) }
 {
     let mut values: Vec<Datum> = Vec::new(alloc);
     for field in fields {

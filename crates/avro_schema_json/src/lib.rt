@@ -1,5 +1,8 @@
 //! Avro schemas as JSON texts.
 //!
+//! [`read_schema`] reads the schema that a text declares, or says by a [`SchemaError`] why there is none. A [`ReaderText`]
+//! keeps the text beside its schema.
+//!
 //! Contracts speak of the tree that `serde_json` reads in a text.
 #![tactic(auto)]
 

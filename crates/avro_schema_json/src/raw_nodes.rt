@@ -5,7 +5,7 @@ ghost use Rattle.std.specs.List.{list_all};
 ghost use Rattle.avro_schema.specs.Node.{Node as SeenNode, node_at, node_name, branches_of as branches_in};
 ghost use Rattle.avro_schema.specs.Seen.{ids_of};
 ghost use Rattle.avro_schema.specs.WellFormed.{is_edge as is_good_edge};
-ghost use Rattle.avro_schema_json.specs.inside.OwnDefaults.{bare_of, bares_of};
+ghost use Rattle.avro_schema_json.specs.inside.OwnDefaults.{without_defaults, all_without_defaults};
 
 use crate::raw::RawNode;
 use avro_schema::NodeId;
@@ -16,15 +16,15 @@ pub(crate) fn raw_at<'a>(
     null: &'a RawNode<'a>,
     id: NodeId,
 ) -> &'a RawNode<'a>
-    requires { bare_of null.now ≡ SeenNode.null }
-    ensures { bare_of result.now ≡ node_at (bares_of raws.now) id.0 }
+    requires { without_defaults null.now ≡ SeenNode.null }
+    ensures { without_defaults result.now ≡ node_at (all_without_defaults raws.now) id.0 }
 {
     raws.get(id.0 as usize).unwrap_or(null)
 }
 
 /// The branches of a union.
 pub(crate) fn branches<'a>(node: &'a RawNode<'_>) -> Option<&'a [NodeId]>
-    ensures { option_map (λ ids. ids_of ids.now) result ≡ branches_in (bare_of node.now) }
+    ensures { option_map (λ ids. ids_of ids.now) result ≡ branches_in (without_defaults node.now) }
 {
     match node {
         RawNode::Union(ids) => Some(ids),
@@ -34,7 +34,7 @@ pub(crate) fn branches<'a>(node: &'a RawNode<'_>) -> Option<&'a [NodeId]>
 
 /// Whether a node is a record, an enum or a fixed.
 fn has_name(raw: &RawNode) -> bool
-    ensures { result ≡ is_some (node_name (bare_of raw.now)) }
+    ensures { result ≡ is_some (node_name (without_defaults raw.now)) }
 {
     matches!(
         raw,
@@ -44,7 +44,7 @@ fn has_name(raw: &RawNode) -> bool
 
 /// Whether an edge stays among the nodes, and goes to a later one or to a record, an enum or a fixed.
 fn is_edge(raws: &[RawNode], from: usize, to: NodeId) -> bool
-    ensures { result ≡ is_good_edge (bares_of raws.now) from to.0 }
+    ensures { result ≡ is_good_edge (all_without_defaults raws.now) from to.0 }
 {
     let index = to.0 as usize;
     if index >= raws.len() {
@@ -56,7 +56,7 @@ fn is_edge(raws: &[RawNode], from: usize, to: NodeId) -> bool
 
 /// Whether the edges of a union are good.
 pub(crate) fn are_edges(raws: &[RawNode], from: usize, branches: &[NodeId]) -> bool
-    ensures { result ≡ list_all (is_good_edge (bares_of raws.now) from) (ids_of branches.now) }
+    ensures { result ≡ list_all (is_good_edge (all_without_defaults raws.now) from) (ids_of branches.now) }
 {
     for branch in branches {
         if !is_edge(raws, from, *branch) {

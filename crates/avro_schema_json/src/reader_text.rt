@@ -54,14 +54,9 @@ impl ReaderText {
             ↔ (HasMemory result × (length text.now ≤ max_text) × IsNoJson text.now) }
         ensures refused { IfErr result (IsRefusalOf text.now) }
     {
-        let schema = match read_schema(alloc, text) {
-            Ok(schema) => schema,
-            Err(error) => return Err(error),
-        };
-        match Vec::from_slice(alloc, text) {
-            Ok(text) => Ok(ReaderText { text, schema }),
-            Err(_) => Err(SchemaError::OutOfMemory),
-        }
+        let schema = read_schema(alloc, text)?;
+        let text = Vec::from_slice(alloc, text)?;
+        Ok(ReaderText { text, schema })
     }
 
     /// The text.

@@ -5,7 +5,7 @@ ghost use Rattle.std.specs.Prelude.{◌≡◌, ◌⊎◌, ℕ, true, IfOk, OnOk}
 ghost use Rattle.std.specs.Ordering.{nat_cmp};
 ghost use Rattle.std.specs.BTreeSet.{contains};
 ghost use Rattle.avro_schema.specs.Seen.{ids_of};
-ghost use Rattle.avro_schema_json.specs.inside.OwnDefaults.{bares_of};
+ghost use Rattle.avro_schema_json.specs.inside.OwnDefaults.{all_without_defaults};
 ghost use Rattle.avro_schema_json.specs.inside.Repeats.{code_by, Repeats, SomeRepeats};
 
 use crate::raw::RawNode;
@@ -16,7 +16,7 @@ use std::collections::BTreeSet;
 
 /// The code of a branch: an even one for each kind without a name, an odd one for each other node.
 fn code_of(raws: &[RawNode], branch: NodeId) -> u64
-    ensures { result ≡ code_by (bares_of raws.now) branch.0 }
+    ensures { result ≡ code_by (all_without_defaults raws.now) branch.0 }
 {
     let null = RawNode::Null;
     match raw_at(&*raws, &null, branch) {
@@ -45,7 +45,7 @@ fn add(codes: &mut BTreeSet<u64>, code: u64) -> Result<(), Memory>
 
 /// Whether two branches have one code.
 fn repeats_branch(alloc: Global, raws: &[RawNode], branches: &[NodeId]) -> Result<bool, Memory>
-    ensures { IfOk result (λ answer. answer ≡ true → Repeats (bares_of raws.now) (ids_of branches.now)) }
+    ensures { IfOk result (λ answer. answer ≡ true → Repeats (all_without_defaults raws.now) (ids_of branches.now)) }
 {
     let mut codes: BTreeSet<u64> = BTreeSet::new(alloc);
     for branch in branches {
@@ -60,7 +60,7 @@ fn repeats_branch(alloc: Global, raws: &[RawNode], branches: &[NodeId]) -> Resul
 
 /// Whether a branch stands twice in one of the unions whose edges are good.
 pub(crate) fn has_repeated_branch(alloc: Global, raws: &[RawNode]) -> Result<bool, Memory>
-    ensures { IfOk result (λ answer. answer ≡ true → SomeRepeats (bares_of raws.now)) }
+    ensures { IfOk result (λ answer. answer ≡ true → SomeRepeats (all_without_defaults raws.now)) }
 {
     for i in 0..raws.len() {
         match branches(&raws[i]) {

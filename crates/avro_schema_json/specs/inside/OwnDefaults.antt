@@ -4,7 +4,7 @@ use Rattle.avro_schema.specs.Value.{Value}
 use Rattle.avro_schema.specs.Node.{Node, FieldNode}
 use Rattle.serde_json.specs.Data.{Data, Members}
 use Rattle.avro_schema_json.specs.DeclaredDefaults.{null_default, boolean_default, number_default, text_default, items_default, object_default, each_default, entries_default, default_under, fields_default, member_keys, names_only, only_if}
-use Rattle.avro_schema_json.specs.DeclaredSchema.{bare_field, bare_node, bare_nodes}
+use Rattle.avro_schema_json.specs.DeclaredSchema.{field_without_default, node_without_defaults, nodes_without_defaults}
 use Rattle.avro_schema_json.specs.inside.SeenRaw.{raw_node_of, raw_nodes_of, raw_fields_of}
 use Rattle.avro_schema_json.specs.declared.raw.RawNode.{RawNode}
 use Rattle.avro_schema_json.specs.declared.raw.RawField.{RawField}
@@ -18,15 +18,15 @@ own_default nodes (Data.array ds) n = items_default nodes (λ m. each_default no
 own_default nodes (Data.object ms) n = object_default nodes (λ m. entries_default nodes ms m) (λ key. default_under nodes key ms) (member_keys ms) n
 
 -- the nodes without their defaults, of the program
-abbrev pub bare_of : RawNode → Node
-bare_of raw = bare_node (raw_node_of raw)
+abbrev pub without_defaults : RawNode → Node
+without_defaults raw = node_without_defaults (raw_node_of raw)
 
-abbrev pub bares_of : List RawNode → List Node
-bares_of raws = bare_nodes (raw_nodes_of raws)
+abbrev pub all_without_defaults : List RawNode → List Node
+all_without_defaults raws = nodes_without_defaults (raw_nodes_of raws)
 
 -- the fields of a record without their defaults, of the program
 abbrev pub fields_seen : List RawField → List FieldNode
-fields_seen fields = map bare_field (raw_fields_of fields)
+fields_seen fields = map field_without_default (raw_fields_of fields)
 
 -- a record, by a member for each field and no other
 abbrev pub default_of_fields : List Node → Members → List FieldNode → Option Value

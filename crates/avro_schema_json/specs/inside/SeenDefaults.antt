@@ -29,15 +29,15 @@ others_of [] = []
 others_of (x ∷ xs) = xs
 
 -- fields with these defaults
-abbrev pub filled_fields : List RawField → List (Option Value) → List FieldNode
-filled_fields [] ds = []
-filled_fields (f ∷ fields) ds =
-    record { name = f.name; aliases = f.aliases; node = f.node; default = first_or None ds } ∷ filled_fields fields (others_of ds)
+abbrev pub fields_with_defaults : List RawField → List (Option Value) → List FieldNode
+fields_with_defaults [] ds = []
+fields_with_defaults (f ∷ fields) ds =
+    record { name = f.name; aliases = f.aliases; node = f.node; default = first_or None ds } ∷ fields_with_defaults fields (others_of ds)
 
-abbrev pub filled_node : RawNode → List (Option Value) → Node
-filled_node (RawNode.plain n) ds = n
-filled_node (RawNode.record_of name aliases fields) ds = Node.record_of name aliases (filled_fields fields ds)
+abbrev pub node_with_defaults : RawNode → List (Option Value) → Node
+node_with_defaults (RawNode.plain n) ds = n
+node_with_defaults (RawNode.record_of name aliases fields) ds = Node.record_of name aliases (fields_with_defaults fields ds)
 
-abbrev pub filled_nodes : List RawNode → List (List (Option Value)) → List Node
-filled_nodes [] ds = []
-filled_nodes (raw ∷ raws) ds = filled_node raw (first_or [] ds) ∷ filled_nodes raws (others_of ds)
+abbrev pub nodes_with_defaults : List RawNode → List (List (Option Value)) → List Node
+nodes_with_defaults [] ds = []
+nodes_with_defaults (raw ∷ raws) ds = node_with_defaults raw (first_or [] ds) ∷ nodes_with_defaults raws (others_of ds)

@@ -206,13 +206,13 @@ fn default_symbol(
         return Ok(None);
     };
     match value.as_str() {
-        Some(word) => match symbol_indices(alloc, symbols) {
-            Ok(indices) => match indices.get(word) {
+        Some(word) => {
+            let indices = symbol_indices(alloc, symbols)?;
+            match indices.get(word) {
                 Some(index) => Ok(Some(*index)),
                 None => Err(SchemaError::InvalidSymbols),
-            },
-            Err(_) => Err(SchemaError::OutOfMemory),
-        },
+            }
+        }
         None => Err(SchemaError::InvalidDeclaration),
     }
 }

@@ -5,7 +5,7 @@ ghost use Rattle.std.specs.List.{list_all};
 ghost use Rattle.avro_schema.specs.Node.{Node as SeenNode, node_at};
 ghost use Rattle.avro_schema.specs.Seen.{ids_of};
 ghost use Rattle.avro_schema_json.specs.inside.Misfits.{has_id, is_misfit as is_misfit_by, AreItemMisfits, AreMemberMisfits, IsMemberMisfit};
-ghost use Rattle.avro_schema_json.specs.inside.OwnDefaults.{own_default as own_default_by, default_of_fields, fields_seen, bares_of};
+ghost use Rattle.avro_schema_json.specs.inside.OwnDefaults.{own_default as own_default_by, default_of_fields, fields_seen, all_without_defaults};
 ghost use Rattle.avro_schema_json.specs.DeclaredDefaults.{each_default, entries_default};
 ghost use Rattle.serde_json.specs.Data.{Data, Items, Members};
 ghost use Rattle.serde_json.specs.View.{view, members_view};
@@ -23,7 +23,7 @@ use std::collections::{BTreeMap, BTreeSet};
 
 /// Whether the node of an id is among some, or a union of such nodes.
 pub(crate) fn is_misfit(raws: &[RawNode], ids: &BTreeSet<u32>, id: NodeId) -> bool
-    ensures { result ≡ is_misfit_by (bares_of raws.now) ids.now id.0 }
+    ensures { result ≡ is_misfit_by (all_without_defaults raws.now) ids.now id.0 }
 {
     let null = RawNode::Null;
     match branches(raw_at(&*raws, &null, id)) {
@@ -58,7 +58,7 @@ pub(crate) fn is_leaf_misfit(
     tree: &Value,
     id: NodeId,
 ) -> Result<bool, Memory>
-    ensures { IfOk result (λ answer. answer ≡ true → own_default_by (bares_of raws.now) (view tree.now) (node_at (bares_of raws.now) id.0) ≡ None) }
+    ensures { IfOk result (λ answer. answer ≡ true → own_default_by (all_without_defaults raws.now) (view tree.now) (node_at (all_without_defaults raws.now) id.0) ≡ None) }
 {
     let null = RawNode::Null;
     let node = raw_at(&*raws, &null, id);
@@ -74,8 +74,8 @@ pub(crate) fn is_leaf_misfit(
 
 /// Whether an array is no default of the node of an id, by the sets of its items.
 pub(crate) fn is_array_misfit(raws: &[RawNode], parts: &[BTreeSet<u32>], id: NodeId) -> bool
-    ensures { result ≡ true → (ds : Items) → AreItemMisfits (bares_of raws.now) ds parts.now
-        → own_default_by (bares_of raws.now) (Data.array ds) (node_at (bares_of raws.now) id.0) ≡ None }
+    ensures { result ≡ true → (ds : Items) → AreItemMisfits (all_without_defaults raws.now) ds parts.now
+        → own_default_by (all_without_defaults raws.now) (Data.array ds) (node_at (all_without_defaults raws.now) id.0) ≡ None }
 {
     let null = RawNode::Null;
     match raw_at(&*raws, &null, id) {
@@ -86,8 +86,8 @@ pub(crate) fn is_array_misfit(raws: &[RawNode], parts: &[BTreeSet<u32>], id: Nod
 
 /// Whether one of the items is no default of the node of an id.
 fn is_one_misfit(raws: &[RawNode], parts: &[BTreeSet<u32>], id: NodeId) -> bool
-    ensures { result ≡ true → (ds : Items) → AreItemMisfits (bares_of raws.now) ds parts.now
-        → each_default (bares_of raws.now) ds (node_at (bares_of raws.now) id.0) ≡ None }
+    ensures { result ≡ true → (ds : Items) → AreItemMisfits (all_without_defaults raws.now) ds parts.now
+        → each_default (all_without_defaults raws.now) ds (node_at (all_without_defaults raws.now) id.0) ≡ None }
 {
     for part in parts {
         if is_misfit(raws, part, id) {
@@ -105,8 +105,8 @@ pub(crate) fn is_object_misfit(
     parts: &BTreeMap<&str, BTreeSet<u32>>,
     id: NodeId,
 ) -> Result<bool, Memory>
-    ensures { IfOk result (λ answer. answer ≡ true → AreMemberMisfits (bares_of raws.now) (members_view members.now.entries) parts.now
-        → own_default_by (bares_of raws.now) (Data.object (members_view members.now.entries)) (node_at (bares_of raws.now) id.0) ≡ None) }
+    ensures { IfOk result (λ answer. answer ≡ true → AreMemberMisfits (all_without_defaults raws.now) (members_view members.now.entries) parts.now
+        → own_default_by (all_without_defaults raws.now) (Data.object (members_view members.now.entries)) (node_at (all_without_defaults raws.now) id.0) ≡ None) }
 {
     let null = RawNode::Null;
     match raw_at(&*raws, &null, id) {
@@ -123,8 +123,8 @@ fn is_map_misfit(
     parts: &BTreeMap<&str, BTreeSet<u32>>,
     id: NodeId,
 ) -> bool
-    ensures { result ≡ true → AreMemberMisfits (bares_of raws.now) (members_view members.now.entries) parts.now
-        → entries_default (bares_of raws.now) (members_view members.now.entries) (node_at (bares_of raws.now) id.0) ≡ None }
+    ensures { result ≡ true → AreMemberMisfits (all_without_defaults raws.now) (members_view members.now.entries) parts.now
+        → entries_default (all_without_defaults raws.now) (members_view members.now.entries) (node_at (all_without_defaults raws.now) id.0) ≡ None }
 {
     for (key, _) in members.iter() {
         if is_member_misfit(raws, parts, key.as_str(), id) {
@@ -141,7 +141,7 @@ fn is_member_misfit(
     key: &str,
     id: NodeId,
 ) -> bool
-    ensures { result ≡ true → (ms : Members) → AreMemberMisfits (bares_of raws.now) ms parts.now → IsMemberMisfit (bares_of raws.now) ms key.now id.0 }
+    ensures { result ≡ true → (ms : Members) → AreMemberMisfits (all_without_defaults raws.now) ms parts.now → IsMemberMisfit (all_without_defaults raws.now) ms key.now id.0 }
 {
     match parts.get(key) {
         Some(part) => is_misfit(raws, part, id),
@@ -157,8 +157,8 @@ fn is_record_misfit(
     parts: &BTreeMap<&str, BTreeSet<u32>>,
     fields: &[RawField],
 ) -> Result<bool, Memory>
-    ensures { IfOk result (λ answer. answer ≡ true → AreMemberMisfits (bares_of raws.now) (members_view members.now.entries) parts.now
-        → default_of_fields (bares_of raws.now) (members_view members.now.entries) (fields_seen fields.now) ≡ None) }
+    ensures { IfOk result (λ answer. answer ≡ true → AreMemberMisfits (all_without_defaults raws.now) (members_view members.now.entries) parts.now
+        → default_of_fields (all_without_defaults raws.now) (members_view members.now.entries) (fields_seen fields.now) ≡ None) }
 {
     if lacks_field(members, fields) {
         return Ok(true);
@@ -187,8 +187,8 @@ fn is_field_misfit(
     parts: &BTreeMap<&str, BTreeSet<u32>>,
     fields: &[RawField],
 ) -> bool
-    ensures { result ≡ true → (ms : Members) → AreMemberMisfits (bares_of raws.now) ms parts.now
-        → default_of_fields (bares_of raws.now) ms (fields_seen fields.now) ≡ None }
+    ensures { result ≡ true → (ms : Members) → AreMemberMisfits (all_without_defaults raws.now) ms parts.now
+        → default_of_fields (all_without_defaults raws.now) ms (fields_seen fields.now) ≡ None }
 {
     for field in fields {
         if is_member_misfit(raws, parts, field.name.as_str(), field.node) {

@@ -6,7 +6,7 @@ ghost use Rattle.std.specs.List.{list_all};
 ghost use Rattle.avro_schema.specs.Node.{node_at};
 ghost use Rattle.avro_schema.specs.Seen.{ids_of};
 ghost use Rattle.avro_schema_json.specs.inside.Misfits.{has_id, is_misfit as is_misfit_by, AreMisfits, AreItemMisfits, AreMemberMisfits};
-ghost use Rattle.avro_schema_json.specs.inside.OwnDefaults.{own_default as own_default_by, bares_of};
+ghost use Rattle.avro_schema_json.specs.inside.OwnDefaults.{own_default as own_default_by, all_without_defaults};
 ghost use Rattle.serde_json.specs.Data.{Data, Items};
 ghost use Rattle.serde_json.specs.View.{view, items_view, members_view};
 
@@ -26,7 +26,7 @@ pub(crate) fn skipped_branches(
     tree: &Value,
     ids: &[NodeId],
 ) -> Result<BTreeSet<u32>, Memory>
-    ensures { IfOk result (λ skipped. AreMisfits (bares_of raws.now) (view tree.now) skipped) }
+    ensures { IfOk result (λ skipped. AreMisfits (all_without_defaults raws.now) (view tree.now) skipped) }
 {
     if may_repeat(raws, tree, ids) {
         return misfits_of(alloc, raws, tree, ids);
@@ -42,7 +42,7 @@ fn misfits_of(
     tree: &Value,
     asked: &[NodeId],
 ) -> Result<BTreeSet<u32>, Memory>
-    ensures { IfOk result (λ ids. AreMisfits (bares_of raws.now) (view tree.now) ids) }
+    ensures { IfOk result (λ ids. AreMisfits (all_without_defaults raws.now) (view tree.now) ids) }
 {
     let own = own_ids(alloc, raws, asked)?;
     match tree {
@@ -66,7 +66,7 @@ fn item_misfits(
     items: &Vec<Value>,
     own: &[NodeId],
 ) -> Result<Vec<BTreeSet<u32>>, Memory>
-    ensures { IfOk result (λ parts. AreItemMisfits (bares_of raws.now) (items_view items.now.items) parts.items) }
+    ensures { IfOk result (λ parts. AreItemMisfits (all_without_defaults raws.now) (items_view items.now.items) parts.items) }
 {
     let asked = asked_items(alloc, raws, own)?;
     let mut parts: Vec<BTreeSet<u32>> = Vec::new(alloc);
@@ -85,7 +85,7 @@ fn member_misfits<'a>(
     members: &'a Map<String, Value>,
     own: &[NodeId],
 ) -> Result<BTreeMap<&'a str, BTreeSet<u32>>, Memory>
-    ensures { IfOk result (λ parts. AreMemberMisfits (bares_of raws.now) (members_view members.now.entries) parts) }
+    ensures { IfOk result (λ parts. AreMemberMisfits (all_without_defaults raws.now) (members_view members.now.entries) parts) }
 {
     let asked = asked_members(alloc, raws, members, own)?;
     let mut parts: BTreeMap<&'a str, BTreeSet<u32>> = BTreeMap::new(alloc);
@@ -120,7 +120,7 @@ fn leaf_misfits(
     tree: &Value,
     own: &[NodeId],
 ) -> Result<BTreeSet<u32>, Memory>
-    ensures { IfOk result (λ ids. AreMisfits (bares_of raws.now) (view tree.now) ids) }
+    ensures { IfOk result (λ ids. AreMisfits (all_without_defaults raws.now) (view tree.now) ids) }
 {
     let mut ids: BTreeSet<u32> = BTreeSet::new(alloc);
     for id in own {
@@ -139,8 +139,8 @@ fn array_misfits(
     parts: &[BTreeSet<u32>],
     own: &[NodeId],
 ) -> Result<BTreeSet<u32>, Memory>
-    ensures { IfOk result (λ ids. AreItemMisfits (bares_of raws.now) (items_view _items.now.items) parts.now
-        → AreMisfits (bares_of raws.now) (Data.array (items_view _items.now.items)) ids) }
+    ensures { IfOk result (λ ids. AreItemMisfits (all_without_defaults raws.now) (items_view _items.now.items) parts.now
+        → AreMisfits (all_without_defaults raws.now) (Data.array (items_view _items.now.items)) ids) }
 {
     let mut ids: BTreeSet<u32> = BTreeSet::new(alloc);
     for id in own {
@@ -159,8 +159,8 @@ fn object_misfits(
     parts: &BTreeMap<&str, BTreeSet<u32>>,
     own: &[NodeId],
 ) -> Result<BTreeSet<u32>, Memory>
-    ensures { IfOk result (λ ids. AreMemberMisfits (bares_of raws.now) (members_view members.now.entries) parts.now
-        → AreMisfits (bares_of raws.now) (Data.object (members_view members.now.entries)) ids) }
+    ensures { IfOk result (λ ids. AreMemberMisfits (all_without_defaults raws.now) (members_view members.now.entries) parts.now
+        → AreMisfits (all_without_defaults raws.now) (Data.object (members_view members.now.entries)) ids) }
 {
     let mut ids: BTreeSet<u32> = BTreeSet::new(alloc);
     for id in own {

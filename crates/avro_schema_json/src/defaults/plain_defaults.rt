@@ -7,7 +7,7 @@ ghost use Rattle.avro_schema.specs.Fits.{is_int};
 ghost use Rattle.avro_schema.specs.Seen.{value_of};
 ghost use Rattle.avro_schema.specs.Value.{Value};
 ghost use Rattle.avro_schema_json.specs.DeclaredDefaults.{null_default as default_of_null, boolean_default as default_of_boolean, number_default as default_of_number, text_default as default_of_text, bytes_of_text as bytes_in, only_if};
-ghost use Rattle.avro_schema_json.specs.inside.OwnDefaults.{bare_of};
+ghost use Rattle.avro_schema_json.specs.inside.OwnDefaults.{without_defaults};
 ghost use Rattle.serde_json.specs.View.{number_view};
 
 use crate::raw::RawNode;
@@ -19,7 +19,7 @@ use std::alloc::Global;
 
 /// The default that null is.
 pub(crate) fn null_default(node: &RawNode) -> Option<Datum>
-    ensures { option_map value_of result ≡ default_of_null (bare_of node.now) }
+    ensures { option_map value_of result ≡ default_of_null (without_defaults node.now) }
 {
     match node {
         RawNode::Null => Some(Datum::Null),
@@ -29,7 +29,7 @@ pub(crate) fn null_default(node: &RawNode) -> Option<Datum>
 
 /// The default that true or false is.
 pub(crate) fn boolean_default(value: bool, node: &RawNode) -> Option<Datum>
-    ensures { option_map value_of result ≡ default_of_boolean value (bare_of node.now) }
+    ensures { option_map value_of result ≡ default_of_boolean value (without_defaults node.now) }
 {
     match node {
         RawNode::Boolean => Some(Datum::Bool(value)),
@@ -39,7 +39,7 @@ pub(crate) fn boolean_default(value: bool, node: &RawNode) -> Option<Datum>
 
 /// The default that a number is: a whole one in range.
 pub(crate) fn number_default(number: Number, node: &RawNode) -> Option<Datum>
-    ensures { option_map value_of result ≡ default_of_number (number_view number) (bare_of node.now) }
+    ensures { option_map value_of result ≡ default_of_number (number_view number) (without_defaults node.now) }
 {
     match node {
         RawNode::Int => match number.as_i64() {
@@ -70,7 +70,7 @@ pub(crate) fn text_default(
     text: &str,
     node: &RawNode,
 ) -> Result<Option<Datum>, Memory>
-    ensures { IfOk result (λ datum. option_map value_of datum ≡ default_of_text text.now (bare_of node.now)) }
+    ensures { IfOk result (λ datum. option_map value_of datum ≡ default_of_text text.now (without_defaults node.now)) }
 {
     match node {
         RawNode::Str => Ok(Some(Datum::Str(copy_of_text(alloc, text)?))),

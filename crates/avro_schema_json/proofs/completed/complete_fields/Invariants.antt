@@ -1,11 +1,11 @@
 use Rattle.std.proofs.Common.{◌≡◌, ◌++◌}
 use Rattle.std.specs.Vec.Iter.{into_iter_items}
 use Rattle.avro_schema.specs.Seen.{seen_fields}
-use Rattle.avro_schema_json.specs.inside.SeenDefaults.{data_seen, filled_fields}
+use Rattle.avro_schema_json.specs.inside.SeenDefaults.{data_seen, fields_with_defaults}
 use Rattle.avro_schema_json.specs.inside.SeenRaw.{raw_fields_of}
 use Rattle.avro_schema_json.proofs.completed.complete_fields.Given as goal
 
 abbrev pub invariant-loop-field : goal.invariant-loop-field
 invariant-loop-field l =
-    seen_fields l.completed.items ++ filled_fields (raw_fields_of (into_iter_items l.field-iterator)) (data_seen (into_iter_items l.rest))
-    ≡ filled_fields (raw_fields_of l.fn.fields.items) (data_seen l.fn.defaults.items)
+    seen_fields l.completed.items ++ fields_with_defaults (raw_fields_of (into_iter_items l.field-iterator)) (data_seen (into_iter_items l.rest))
+    ≡ fields_with_defaults (raw_fields_of l.fn.fields.items) (data_seen l.fn.defaults.items)

@@ -1,14 +1,14 @@
 use Rattle.std.proofs.Common.{◌≡◌, ◌++◌, ◌&&◌, map, drop}
 use Rattle.std.specs.List.{list_all}
 use Rattle.avro_schema_json.specs.DeclaredSchema.{field_default, is_default_read}
-use Rattle.avro_schema_json.specs.inside.OwnDefaults.{bares_of}
+use Rattle.avro_schema_json.specs.inside.OwnDefaults.{all_without_defaults}
 use Rattle.avro_schema_json.specs.inside.SeenDefaults.{data_seen}
 use Rattle.avro_schema_json.specs.inside.SeenRaw.{raw_fields_of}
 use Rattle.avro_schema_json.proofs.completed.defaults_of_fields.Given as goal
 
 abbrev pub invariant-loop-field : goal.invariant-loop-field
 invariant-loop-field l =
-    let nodes = bares_of l.raws in
+    let nodes = all_without_defaults l.raws in
     let left = raw_fields_of (drop l.field-index l.fields) in
     (data_seen l.of_fields.items ++ map (field_default nodes) left ≡ map (field_default nodes) (raw_fields_of l.fields))
     × ((l.are_read && list_all (is_default_read nodes) left) ≡ list_all (is_default_read nodes) (raw_fields_of l.fields))

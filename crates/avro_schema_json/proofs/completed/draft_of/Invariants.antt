@@ -1,12 +1,12 @@
 use Rattle.std.proofs.Common.{◌≡◌, ◌+◌, ◌++◌, length}
 use Rattle.std.specs.Vec.Iter.{into_iter_items}
 use Rattle.avro_schema.specs.SeenSchema.{draft_nodes}
-use Rattle.avro_schema_json.specs.inside.SeenDefaults.{lists_seen, filled_nodes}
+use Rattle.avro_schema_json.specs.inside.SeenDefaults.{lists_seen, nodes_with_defaults}
 use Rattle.avro_schema_json.specs.inside.SeenRaw.{raw_nodes_of}
 use Rattle.avro_schema_json.proofs.completed.draft_of.Given as goal
 
 abbrev pub invariant-loop-raw : goal.invariant-loop-raw
 invariant-loop-raw l =
-    (draft_nodes l.draft ++ filled_nodes (raw_nodes_of (into_iter_items l.raw-iterator)) (lists_seen (into_iter_items l.rest))
-    ≡ filled_nodes (raw_nodes_of l.fn.raws.items) (lists_seen l.fn.defaults.items))
+    (draft_nodes l.draft ++ nodes_with_defaults (raw_nodes_of (into_iter_items l.raw-iterator)) (lists_seen (into_iter_items l.rest))
+    ≡ nodes_with_defaults (raw_nodes_of l.fn.raws.items) (lists_seen l.fn.defaults.items))
     × (length (draft_nodes l.draft) + length (into_iter_items l.raw-iterator) ≡ length l.fn.raws.items)

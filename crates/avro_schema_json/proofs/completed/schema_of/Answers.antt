@@ -13,24 +13,24 @@ use Rattle.avro_schema_json.specs.declared.raw.RawNode.{RawNode as KeptNode}
 use Rattle.avro_schema_json.specs.Declares.{RawNode}
 use Rattle.avro_schema_json.specs.DeclaredAttributes.{unless}
 use Rattle.avro_schema_json.specs.DeclaredFaults.{refusals_of_nodes, or_else}
-use Rattle.avro_schema_json.specs.DeclaredSchema.{bare_nodes, completed_nodes, are_all_defaults_read}
-use Rattle.avro_schema_json.specs.inside.OwnDefaults.{bares_of}
+use Rattle.avro_schema_json.specs.DeclaredSchema.{nodes_without_defaults, completed_nodes, are_all_defaults_read}
+use Rattle.avro_schema_json.specs.inside.OwnDefaults.{all_without_defaults}
 use Rattle.avro_schema_json.specs.Refusals.{refusal_of_fault, refusal_of}
-use Rattle.avro_schema_json.specs.inside.SeenDefaults.{lists_seen, defaults_of_node, filled_nodes}
+use Rattle.avro_schema_json.specs.inside.SeenDefaults.{lists_seen, defaults_of_node, nodes_with_defaults}
 use Rattle.avro_schema_json.specs.inside.SeenRaw.{raw_nodes_of}
 use Rattle.avro_schema_json.specs.inside.Repeats.{SomeRepeats}
 use Rattle.avro_schema_json.proofs.RepeatsSeen.{repeated-there}
 use Rattle.avro_schema_json.proofs.DeclarationLaws.{no_refusals-from_is_schema}
-use Rattle.avro_schema_json.proofs.CompletedSeen.{filled-completed, or_else-first, or_else-unread, too_many-there, refusal-contains}
+use Rattle.avro_schema_json.proofs.CompletedSeen.{nodes-completed, or_else-first, or_else-unread, too_many-there, refusal-contains}
 use Rattle.avro_schema_json.proofs.completed.schema_of.Goals as goal
 
 -- the nodes of the draft are the completed ones
 completed_draft : (raws read : List KeptNode) (lists : List (List (Option Value))) (nodes : List Node) → read ≡ raws
-    → lists ≡ map (defaults_of_node (bares_of read)) (raw_nodes_of read) → nodes ≡ filled_nodes (raw_nodes_of raws) lists
+    → lists ≡ map (defaults_of_node (all_without_defaults read)) (raw_nodes_of read) → nodes ≡ nodes_with_defaults (raw_nodes_of raws) lists
     → nodes ≡ completed_nodes (raw_nodes_of raws)
 completed_draft raws read lists nodes same listed is =
     let d = rw same at listed in
-    is ∙ ap (filled_nodes (raw_nodes_of raws)) d ∙ filled-completed (bares_of raws) (raw_nodes_of raws)
+    is ∙ ap (nodes_with_defaults (raw_nodes_of raws)) d ∙ nodes-completed (all_without_defaults raws) (raw_nodes_of raws)
 
 -- the refusals of nodes
 abbrev faults_with : List RawNode → List SchemaError
@@ -68,8 +68,8 @@ pub returns-then-branch-clause-refused : goal.returns-then-branch-clause-refused
 returns-then-branch-clause-refused c =
     let repeats = c.in_ok-has_repeated_branch.ensures c.if-branch.true in
     let raws = raw_nodes_of c.args.raws.items in
-    inr (of_fault raws invalid_union (repeated-there (bare_nodes raws) raws
-    (subst (λ (ns : List KeptNode). SomeRepeats (bares_of ns)) c.deref.ensures.value repeats)))
+    inr (of_fault raws invalid_union (repeated-there (nodes_without_defaults raws) raws
+    (subst (λ (ns : List KeptNode). SomeRepeats (all_without_defaults ns)) c.deref.ensures.value repeats)))
 
 pub returns-in_err-draft-clause-refused : goal.returns-in_err-draft-clause-refused
 returns-in_err-draft-clause-refused c =

@@ -6,7 +6,7 @@ use Rattle.avro_schema.proofs.public.DatumViews.{value_of-Map}
 use Rattle.serde_json.specs.View.{view, items_view, members_view}
 use Rattle.serde_json.proofs.Views.{view-lookup}
 use Rattle.avro_schema_json.specs.DeclaredDefaults.{each_default, entries_default}
-use Rattle.avro_schema_json.specs.inside.OwnDefaults.{bares_of, fields_seen}
+use Rattle.avro_schema_json.specs.inside.OwnDefaults.{all_without_defaults, fields_seen}
 use Rattle.avro_schema_json.proofs.DefaultsSeen.{default-union, entries_end}
 use Rattle.avro_schema_json.proofs.DefaultSteps.{item_next, items_end, entry_next, fields_left, field_next, field_stop, field_missing, fields_end}
 use Rattle.avro_schema_json.proofs.MisfitsSeen.{branch-skip}
@@ -15,7 +15,7 @@ use Rattle.avro_schema_json.proofs.defaults.+defaults.Goals as goal
 
 pub default_of-returns : goal.default_of-returns
 default_of-returns t c =
-    let nodes = bares_of c.args.raws.now in
+    let nodes = all_without_defaults c.args.raws.now in
     let n = node_at nodes c.args.id.0 in
     let ids = ids_of c.in-Some.ids.now in
     let here : branches_of n ≡ Some ids = ap branches_of (sym c.raw_at-node.ensures) ∙ sym c.in-Some.ensures in
@@ -23,13 +23,13 @@ default_of-returns t c =
 
 pub branch_default-loop-i-preserved-then-has : goal.branch_default-loop-i-preserved-then-has
 branch_default-loop-i-preserved-then-has t c =
-    branch-skip (bares_of c.args.raws.now) (view c.args.tree.now) c.args.ids.now c.loop-i.i _ c.args.misfits.now c.has.result _ c.loop-i-test.true
+    branch-skip (all_without_defaults c.args.raws.now) (view c.args.tree.now) c.args.ids.now c.loop-i.i _ c.args.misfits.now c.has.result _ c.loop-i-test.true
     c.has.ensures c.if-has.true c.requires c.loop-i.invariant
 
 pub item_defaults-loop-item-preserved : goal.item_defaults-loop-item-preserved
 item_defaults-loop-item-preserved t c =
     let l = c.loop-item in
-    let nodes = bares_of c.args.raws.now in
+    let nodes = all_without_defaults c.args.raws.now in
     let n = node_at nodes c.args.id.0 in
     let xs = c.deref-item-items.result.now in
     let read = ap (option_map value_of) (sym c.in-Some.is) ∙ c.in_ok-value.ensures in
@@ -39,7 +39,7 @@ item_defaults-loop-item-preserved t c =
 pub item_defaults-returns : goal.item_defaults-returns
 item_defaults-returns t c =
     let l = c.loop-item in
-    let nodes = bares_of c.args.raws.now in
+    let nodes = all_without_defaults c.args.raws.now in
     let n = node_at nodes c.args.id.0 in
     let xs = c.deref-item-items.result.now in
     items_end nodes n xs l.item-index (each_default nodes (items_view xs) n) l.values.items c.loop-item-test.false l.invariant
@@ -48,7 +48,7 @@ item_defaults-returns t c =
 pub entry_defaults-loop-key-preserved : goal.entry_defaults-loop-key-preserved
 entry_defaults-loop-key-preserved t c =
     let l = c.loop-key in
-    let nodes = bares_of c.args.raws.now in
+    let nodes = all_without_defaults c.args.raws.now in
     let n = node_at nodes c.args.id.0 in
     let read = ap (option_map value_of) (sym c.in-Some-2.is) ∙ c.in_ok-value.ensures in
     let same = c.in_ok-copy_of_text.ensures ∙ c.as_str.ensures.value in
@@ -58,7 +58,7 @@ entry_defaults-loop-key-preserved t c =
 pub entry_defaults-returns : goal.entry_defaults-returns
 entry_defaults-returns t c =
     let l = c.loop-key in
-    let nodes = bares_of c.args.raws.now in
+    let nodes = all_without_defaults c.args.raws.now in
     let n = node_at nodes c.args.id.0 in
     entries_end (entries_default nodes (members_view c.args.members.now.entries) n) l.entries.items (entries_default nodes (members_view l.key-iterator) n)
     l.invariant (ap (λ es. entries_default nodes (members_view es) n) c.in-None.ensures.steps.0)
@@ -66,7 +66,7 @@ entry_defaults-returns t c =
 pub field_defaults-returns-in_default : goal.field_defaults-returns-in_default
 field_defaults-returns-in_default t c =
     let l = c.loop-field in
-    let nodes = bares_of c.args.raws.now in
+    let nodes = all_without_defaults c.args.raws.now in
     let es = c.args.members.now.entries in
     let fs = c.args.fields.now in
     let key = c.as_str.result.now in
@@ -78,7 +78,7 @@ field_defaults-returns-in_default t c =
 pub field_defaults-returns-in_default-2 : goal.field_defaults-returns-in_default-2
 field_defaults-returns-in_default-2 t c =
     let l = c.loop-field in
-    let nodes = bares_of c.args.raws.now in
+    let nodes = all_without_defaults c.args.raws.now in
     let es = c.args.members.now.entries in
     let fs = c.args.fields.now in
     let key = c.as_str.result.now in
@@ -92,7 +92,7 @@ field_defaults-returns-in_default-2 t c =
 pub field_defaults-loop-field-preserved : goal.field_defaults-loop-field-preserved
 field_defaults-loop-field-preserved t c =
     let l = c.loop-field in
-    let nodes = bares_of c.args.raws.now in
+    let nodes = all_without_defaults c.args.raws.now in
     let es = c.args.members.now.entries in
     let fs = c.args.fields.now in
     let key = c.as_str.result.now in
@@ -106,7 +106,7 @@ field_defaults-loop-field-preserved t c =
 pub field_defaults-returns : goal.field_defaults-returns
 field_defaults-returns t c =
     let l = c.loop-field in
-    let nodes = bares_of c.args.raws.now in
+    let nodes = all_without_defaults c.args.raws.now in
     let es = c.args.members.now.entries in
     let fs = c.args.fields.now in
     fields_end nodes es (fields_seen fs) l.field-index (fields_left nodes es (fields_seen fs)) l.values.items (fields_past fs l.field-index c.loop-field-test.false) l.invariant

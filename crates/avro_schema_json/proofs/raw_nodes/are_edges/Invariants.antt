@@ -2,9 +2,9 @@ use Rattle.std.proofs.Common.{◌≡◌, drop}
 use Rattle.std.specs.List.{list_all}
 use Rattle.avro_schema.specs.Seen.{ids_of}
 use Rattle.avro_schema.specs.WellFormed.{is_edge}
-use Rattle.avro_schema_json.specs.inside.OwnDefaults.{bares_of}
+use Rattle.avro_schema_json.specs.inside.OwnDefaults.{all_without_defaults}
 use Rattle.avro_schema_json.proofs.raw_nodes.are_edges.Given as goal
 
 abbrev pub invariant-loop-branch : goal.invariant-loop-branch
 invariant-loop-branch l =
-    list_all (is_edge (bares_of l.raws) l.from) (ids_of l.branches) ≡ list_all (is_edge (bares_of l.raws) l.from) (ids_of (drop l.branch-index l.branches))
+    list_all (is_edge (all_without_defaults l.raws) l.from) (ids_of l.branches) ≡ list_all (is_edge (all_without_defaults l.raws) l.from) (ids_of (drop l.branch-index l.branches))

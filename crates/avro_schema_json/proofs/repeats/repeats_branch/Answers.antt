@@ -1,14 +1,14 @@
 use Rattle.std.proofs.Common.{sym, ◌∙◌}
-use Rattle.avro_schema_json.specs.inside.OwnDefaults.{bares_of}
+use Rattle.avro_schema_json.specs.inside.OwnDefaults.{all_without_defaults}
 use Rattle.avro_schema_json.proofs.RepeatsSeen.{repeat-found, repeat-next}
 use Rattle.avro_schema_json.proofs.repeats.repeats_branch.Goals as goal
 
 pub returns-then-contains : goal.returns-then-contains
 returns-then-contains c = λ holds.
-    repeat-found (bares_of c.args.raws.now) c.args.branches.now c.loop-branch.codes c.loop-branch.branch-index _ c.code_of-code.result c.loop-branch-test.true
+    repeat-found (all_without_defaults c.args.raws.now) c.args.branches.now c.loop-branch.codes c.loop-branch.branch-index _ c.code_of-code.result c.loop-branch-test.true
     c.code_of-code.ensures (sym c.contains.ensures ∙ c.if-contains.true) c.loop-branch.invariant
 
 pub loop-branch-preserved : goal.loop-branch-preserved
 loop-branch-preserved c =
-    repeat-next (bares_of c.args.raws.now) c.args.branches.now c.loop-branch.codes c.add.new.codes c.loop-branch.branch-index _ c.code_of-code.result
+    repeat-next (all_without_defaults c.args.raws.now) c.args.branches.now c.loop-branch.codes c.add.new.codes c.loop-branch.branch-index _ c.code_of-code.result
     c.loop-branch-test.true c.code_of-code.ensures c.in_ok-add.ensures c.loop-branch.invariant

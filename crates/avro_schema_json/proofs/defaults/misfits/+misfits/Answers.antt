@@ -3,14 +3,14 @@ use Rattle.std.proofs.lemmas.Map.Text.{btree_map_updates_str}
 use Rattle.avro_schema.specs.Node.{node_at}
 use Rattle.serde_json.specs.View.{view, items_view, members_view}
 use Rattle.serde_json.proofs.Views.{view-lookup}
-use Rattle.avro_schema_json.specs.inside.OwnDefaults.{bares_of}
+use Rattle.avro_schema_json.specs.inside.OwnDefaults.{all_without_defaults}
 use Rattle.avro_schema_json.proofs.MisfitsSeen.{misfit-default, item-misfit, items-push, members-put}
 use Rattle.avro_schema_json.proofs.defaults.misfits.+misfits.Goals as goal
 
 pub item_misfits-loop-item-preserved : goal.item_misfits-loop-item-preserved
 item_misfits-loop-item-preserved t c =
     let l = c.loop-item in
-    let nodes = bares_of c.args.raws.now in
+    let nodes = all_without_defaults c.args.raws.now in
     let xs = c.deref-item-items.result.now in
     let part = c.in_ok-part.part in
     rw c.in_ok-push.ensures.items (items-push nodes (items_view xs) l.parts.items part l.invariant
@@ -19,7 +19,7 @@ item_misfits-loop-item-preserved t c =
 
 pub member_misfits-loop-key-preserved-in_ok-insert-in-Some-get-2 : goal.member_misfits-loop-key-preserved-in_ok-insert-in-Some-get-2
 member_misfits-loop-key-preserved-in_ok-insert-in-Some-get-2 t c =
-    let nodes = bares_of c.args.raws.now in
+    let nodes = all_without_defaults c.args.raws.now in
     let es = c.args.members.now.entries in
     let key = c.as_str-key.result.now in
     let x = view c.in-Some-get-2.tree.now in
@@ -31,7 +31,7 @@ member_misfits-loop-key-preserved-in_ok-insert-in-Some-get-2 t c =
 
 pub member_misfits-loop-key-preserved-in_ok-insert-in-Some-get-2-2 : goal.member_misfits-loop-key-preserved-in_ok-insert-in-Some-get-2-2
 member_misfits-loop-key-preserved-in_ok-insert-in-Some-get-2-2 t c =
-    let nodes = bares_of c.args.raws.now in
+    let nodes = all_without_defaults c.args.raws.now in
     let es = c.args.members.now.entries in
     let key = c.as_str-key.result.now in
     let x = view c.in-Some-get-2.tree.now in
