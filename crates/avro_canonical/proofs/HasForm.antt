@@ -62,7 +62,7 @@ HasForm nodes written n = (f : Form) × IsForm nodes written n f
 abbrev left : List Node → List Name → ℕ
 left nodes written = unwritten written (map node_name nodes)
 
--- nodes that pass have forms, where at most so many names are not written
+-- nodes that pass have forms, where at most `k` names are not written
 abbrev HaveForms : List Node → ℕ → (ℕ → Bool) → Type 0
 HaveForms nodes k passes = (written : List Name) (q : ℕ) → passes q ≡ true → left nodes written ≤ k → HasForm nodes written (node_at nodes q)
 

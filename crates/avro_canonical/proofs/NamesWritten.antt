@@ -9,7 +9,7 @@ use Rattle.avro_name.specs.Name.{Name, same_name}
 use Rattle.avro_schema.specs.Node.{Node, node_name, node_at}
 use Rattle.avro_schema.specs.Distinct.{are_distinct}
 use Rattle.avro_canonical.specs.Canonical.{is_among}
-use Rattle.avro_canonical.specs.Pending.{is_name_written, is_written, marks_of}
+use Rattle.avro_canonical.specs.inside.Pending.{is_name_written, is_written, marks_of}
 use Rattle.avro_canonical.proofs.Words.{some-is}
 
 pub same-refl : (a : Name) → same_name a a ≡ true

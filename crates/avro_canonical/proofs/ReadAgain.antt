@@ -10,7 +10,7 @@ use Rattle.avro_schema.specs.WellFormed.{is_schema, max_nodes}
 use Rattle.serde_json.specs.Data.{Data}
 use Rattle.serde_json.specs.Written.{has_float, items_have_float}
 use Rattle.avro_schema_json.specs.Declares.{Known, Made, made_of, defining}
-use Rattle.avro_schema_json.specs.DeclaredSchema.{declared, DeclaresSchema, completed_field, completed_node, completed_nodes, is_default_read, are_defaults_read, are_all_defaults_read, bare_nodes}
+use Rattle.avro_schema_json.specs.DeclaredSchema.{declared, DeclaresSchema, completed_field, completed_node, completed_nodes, is_default_read, are_defaults_read, are_all_defaults_read, nodes_without_defaults}
 use Rattle.avro_canonical.specs.Form.{Form, Forms, FieldForms, no_forms, form, no_fields, field, form_text}
 use Rattle.avro_canonical.specs.Canonical.{IsForm, IsCanonical, primitive_word}
 use Rattle.avro_canonical.specs.CanonicalTree.{text_items, form_tree, form_trees, field_trees, nodes_in, keeps_names}
@@ -51,60 +51,60 @@ mutual
   field_floats (field name f fs) = rw (whole_floats f) (field_floats fs)
 
 -- the nodes that are laid have no defaults
-word_whole : (bare : List Node) (n : Node) (word : List ℕ) → primitive_word n ≡ Some word → (completed_node bare (raw_node n) ≡ n) × (are_defaults_read bare (raw_node n) ≡ true)
-word_whole bare =
-    by_word (λ n word. (completed_node bare (raw_node n) ≡ n) × (are_defaults_read bare (raw_node n) ≡ true)) (refl, refl) (refl, refl) (refl, refl) (refl, refl) (refl, refl) (refl, refl)
+word_whole : (base : List Node) (n : Node) (word : List ℕ) → primitive_word n ≡ Some word → (completed_node base (raw_node n) ≡ n) × (are_defaults_read base (raw_node n) ≡ true)
+word_whole base =
+    by_word (λ n word. (completed_node base (raw_node n) ≡ n) × (are_defaults_read base (raw_node n) ≡ true)) (refl, refl) (refl, refl) (refl, refl) (refl, refl) (refl, refl) (refl, refl)
 
-fields_whole : (bare : List Node) (known : Known) (next : ℕ) (fs : FieldForms) → map (completed_field bare) (map raw_field (laid_fields known next fs)) ≡ laid_fields known next fs
-fields_whole bare known next no_fields = refl
-fields_whole bare known next (field name f fs) =
-    ap (λ xs. record { name = name; aliases = []; node = laid_id known next f; default = None } ∷ xs) (fields_whole bare (known_after known next f) (next + nodes_in f) fs)
+fields_whole : (base : List Node) (known : Known) (next : ℕ) (fs : FieldForms) → map (completed_field base) (map raw_field (laid_fields known next fs)) ≡ laid_fields known next fs
+fields_whole base known next no_fields = refl
+fields_whole base known next (field name f fs) =
+    ap (λ xs. record { name = name; aliases = []; node = laid_id known next f; default = None } ∷ xs) (fields_whole base (known_after known next f) (next + nodes_in f) fs)
 
-fields_read_whole : (bare : List Node) (known : Known) (next : ℕ) (fs : FieldForms) → list_all (is_default_read bare) (map raw_field (laid_fields known next fs)) ≡ true
-fields_read_whole bare known next no_fields = refl
-fields_read_whole bare known next (field name f fs) = fields_read_whole bare (known_after known next f) (next + nodes_in f) fs
+fields_read_whole : (base : List Node) (known : Known) (next : ℕ) (fs : FieldForms) → list_all (is_default_read base) (map raw_field (laid_fields known next fs)) ≡ true
+fields_read_whole base known next no_fields = refl
+fields_read_whole base known next (field name f fs) = fields_read_whole base (known_after known next f) (next + nodes_in f) fs
 
 -- nodes that are what is read of them
 abbrev AreWhole : List Node → List Node → Type 0
-AreWhole bare nodes = (map (completed_node bare) (raw_nodes nodes) ≡ nodes) × (list_all (are_defaults_read bare) (raw_nodes nodes) ≡ true)
+AreWhole base nodes = (map (completed_node base) (raw_nodes nodes) ≡ nodes) × (list_all (are_defaults_read base) (raw_nodes nodes) ≡ true)
 
-whole_then : (bare : List Node) (n : Node) (nodes : List Node) → completed_node bare (raw_node n) ≡ n → are_defaults_read bare (raw_node n) ≡ true → AreWhole bare nodes → AreWhole bare (n ∷ nodes)
-whole_then bare n nodes one read rest =
-    (ap (λ m. m ∷ map (completed_node bare) (raw_nodes nodes)) one ∙ ap (λ ms. n ∷ ms) rest.0, and_from _ _ read rest.1)
+whole_then : (base : List Node) (n : Node) (nodes : List Node) → completed_node base (raw_node n) ≡ n → are_defaults_read base (raw_node n) ≡ true → AreWhole base nodes → AreWhole base (n ∷ nodes)
+whole_then base n nodes one read rest =
+    (ap (λ m. m ∷ map (completed_node base) (raw_nodes nodes)) one ∙ ap (λ ms. n ∷ ms) rest.0, and_from _ _ read rest.1)
 
-whole_append : (bare xs ys : List Node) → AreWhole bare xs → AreWhole bare ys → AreWhole bare (xs ++ ys)
-whole_append bare xs ys first later = (
-  ap (map (completed_node bare)) (map-append raw_node xs ys) ∙ map-append (completed_node bare) (raw_nodes xs) (raw_nodes ys)
-      ∙ ap (λ ms. ms ++ map (completed_node bare) (raw_nodes ys)) first.0 ∙ ap (λ ms. xs ++ ms) later.0,
-  ap (list_all (are_defaults_read bare)) (map-append raw_node xs ys) ∙ list_all-append (are_defaults_read bare) (raw_nodes xs) (raw_nodes ys) ∙ and_from _ _ first.1 later.1,
+whole_append : (base xs ys : List Node) → AreWhole base xs → AreWhole base ys → AreWhole base (xs ++ ys)
+whole_append base xs ys first later = (
+  ap (map (completed_node base)) (map-append raw_node xs ys) ∙ map-append (completed_node base) (raw_nodes xs) (raw_nodes ys)
+      ∙ ap (λ ms. ms ++ map (completed_node base) (raw_nodes ys)) first.0 ∙ ap (λ ms. xs ++ ms) later.0,
+  ap (list_all (are_defaults_read base)) (map-append raw_node xs ys) ∙ list_all-append (are_defaults_read base) (raw_nodes xs) (raw_nodes ys) ∙ and_from _ _ first.1 later.1,
 )
 
 mutual
-  laid_whole : (bare : List Node) (f : Form) (written : List Name) (known : Known) (next : ℕ) → WellMade written f → AreWhole bare (laid known next f)
-  laid_whole bare (Form.primitive word) written known next good =
-      let one = word_whole bare (node_of_word word) word good in whole_then bare (node_of_word word) [] one.0 one.1 (refl, refl)
-  laid_whole bare (Form.array f) written known next good = whole_then bare _ _ refl refl (laid_whole bare f written known (suc next) good)
-  laid_whole bare (Form.map_of f) written known next good = whole_then bare _ _ refl refl (laid_whole bare f written known (suc next) good)
-  laid_whole bare (Form.union fs) written known next good = whole_then bare _ _ refl refl (all_whole bare fs written known (suc next) good.1)
-  laid_whole bare (Form.record_of name fs) written known next good =
-      whole_then bare (Node.record_of name [] (laid_fields (defining name next known) (suc next) fs)) (laid_in_fields (defining name next known) (suc next) fs)
-      (ap (λ xs. Node.record_of name [] xs) (fields_whole bare (defining name next known) (suc next) fs)) (fields_read_whole bare (defining name next known) (suc next) fs)
-      (in_fields_whole bare fs (name ∷ written) (defining name next known) (suc next) good.3)
-  laid_whole bare (Form.enum name symbols) written known next good = (refl, refl)
-  laid_whole bare (Form.fixed name count) written known next good = (refl, refl)
-  laid_whole bare (Form.reference name) written known next good = (refl, refl)
+  laid_whole : (base : List Node) (f : Form) (written : List Name) (known : Known) (next : ℕ) → WellMade written f → AreWhole base (laid known next f)
+  laid_whole base (Form.primitive word) written known next good =
+      let one = word_whole base (node_of_word word) word good in whole_then base (node_of_word word) [] one.0 one.1 (refl, refl)
+  laid_whole base (Form.array f) written known next good = whole_then base _ _ refl refl (laid_whole base f written known (suc next) good)
+  laid_whole base (Form.map_of f) written known next good = whole_then base _ _ refl refl (laid_whole base f written known (suc next) good)
+  laid_whole base (Form.union fs) written known next good = whole_then base _ _ refl refl (all_whole base fs written known (suc next) good.1)
+  laid_whole base (Form.record_of name fs) written known next good =
+      whole_then base (Node.record_of name [] (laid_fields (defining name next known) (suc next) fs)) (laid_in_fields (defining name next known) (suc next) fs)
+      (ap (λ xs. Node.record_of name [] xs) (fields_whole base (defining name next known) (suc next) fs)) (fields_read_whole base (defining name next known) (suc next) fs)
+      (in_fields_whole base fs (name ∷ written) (defining name next known) (suc next) good.3)
+  laid_whole base (Form.enum name symbols) written known next good = (refl, refl)
+  laid_whole base (Form.fixed name count) written known next good = (refl, refl)
+  laid_whole base (Form.reference name) written known next good = (refl, refl)
 
-  all_whole : (bare : List Node) (fs : Forms) (written : List Name) (known : Known) (next : ℕ) → AreWellMade written fs → AreWhole bare (laid_all known next fs)
-  all_whole bare no_forms written known next good = (refl, refl)
-  all_whole bare (form f fs) written known next good =
-      whole_append bare (laid known next f) (laid_all (known_after known next f) (next + nodes_in f) fs) (laid_whole bare f written known next good.0)
-      (all_whole bare fs _ (known_after known next f) (next + nodes_in f) good.1)
+  all_whole : (base : List Node) (fs : Forms) (written : List Name) (known : Known) (next : ℕ) → AreWellMade written fs → AreWhole base (laid_all known next fs)
+  all_whole base no_forms written known next good = (refl, refl)
+  all_whole base (form f fs) written known next good =
+      whole_append base (laid known next f) (laid_all (known_after known next f) (next + nodes_in f) fs) (laid_whole base f written known next good.0)
+      (all_whole base fs _ (known_after known next f) (next + nodes_in f) good.1)
 
-  in_fields_whole : (bare : List Node) (fs : FieldForms) (written : List Name) (known : Known) (next : ℕ) → FieldsWellMade written fs → AreWhole bare (laid_in_fields known next fs)
-  in_fields_whole bare no_fields written known next good = (refl, refl)
-  in_fields_whole bare (field name f fs) written known next good =
-      whole_append bare (laid known next f) (laid_in_fields (known_after known next f) (next + nodes_in f) fs) (laid_whole bare f written known next good.0)
-      (in_fields_whole bare fs _ (known_after known next f) (next + nodes_in f) good.1)
+  in_fields_whole : (base : List Node) (fs : FieldForms) (written : List Name) (known : Known) (next : ℕ) → FieldsWellMade written fs → AreWhole base (laid_in_fields known next fs)
+  in_fields_whole base no_fields written known next good = (refl, refl)
+  in_fields_whole base (field name f fs) written known next good =
+      whole_append base (laid known next f) (laid_in_fields (known_after known next f) (next + nodes_in f) fs) (laid_whole base f written known next good.0)
+      (in_fields_whole base fs _ (known_after known next f) (next + nodes_in f) good.1)
 
 -- the root of a schema is no reference
 some_nodes : (f : Form) → WellMade [] f → 0 < nodes_in f
@@ -159,7 +159,7 @@ read_again nodes text formed c kept few =
     let f = c.form in
     let good = well_made formed (good_at nodes formed 0) c.formed in
     let again = laid [] 0 f in
-    let whole = laid_whole (bare_nodes (raw_nodes again)) f [] [] 0 good in
+    let whole = laid_whole (nodes_without_defaults (raw_nodes again)) f [] [] 0 good in
     let schema = laid_schema f good few in
     let same = laid_text f text good c.spelled in (
       again,

@@ -4,7 +4,7 @@ use Rattle.avro_name.specs.Name.{Name}
 use Rattle.avro_schema.specs.Node.{Node, FieldNode, node_name}
 use Rattle.avro_canonical.specs.Form.{Form, no_forms, form, no_fields, field, full_text, quoted, form_text, form_texts, field_texts, after_commas, with_commas, written_after}
 use Rattle.avro_canonical.specs.Canonical.{IsForm, is_among, no_branch, branch, no_field, next_field}
-use Rattle.avro_canonical.specs.Pending.{Pending, of_node, branches, fields, end, IsLeft, is_written, opening_of, opening_of_first, parts_of, first_field, first_branch}
+use Rattle.avro_canonical.specs.inside.Pending.{Pending, of_node, branches, fields, end, IsLeft, is_written, opening_of, opening_of_first, parts_of, first_field, first_branch}
 use Rattle.std.proofs.lemmas.List.{append_assoc, append-nil}
 
 around : (a t c last rest r : List ℕ) → rest ≡ t ++ r → r ≡ c ++ last → a ++ rest ≡ (a ++ t ++ c) ++ last

@@ -10,7 +10,7 @@ use Rattle.avro_schema.specs.Distinct.{are_distinct}
 use Rattle.avro_schema.specs.WellFormed.{is_schema, are_good_nodes, max_nodes}
 use Rattle.avro_canonical.specs.Form.{Form, full_text, form_text}
 use Rattle.avro_canonical.specs.Canonical.{IsForm, IsCanonical, is_among}
-use Rattle.avro_canonical.specs.Pending.{Pending, of_node, branches, fields, end, IsLeft, IsStep, is_name_written, marks_of, opening_of, parts_of, before_branch, next_branch, before_field, following_fields}
+use Rattle.avro_canonical.specs.inside.Pending.{Pending, of_node, branches, fields, end, IsLeft, IsStep, is_name_written, marks_of, opening_of, parts_of, before_branch, next_branch, before_field, following_fields}
 use Rattle.avro_canonical.proofs.NamesWritten.{marked, marks-seen, named-at}
 use Rattle.avro_canonical.proofs.Steps.{begun_name, opened, passed_end, passed_branches, passed_branch, passed_fields, passed_field}
 

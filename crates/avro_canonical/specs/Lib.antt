@@ -2,5 +2,4 @@ pub mod Form
 pub mod Canonical
 pub mod CanonicalTree
 pub mod Fingerprint
-pub mod Pending
 pub mod inside

@@ -1,2 +1,3 @@
+pub mod Pending
 pub mod Laid
 pub mod WellMade

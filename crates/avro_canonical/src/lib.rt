@@ -1,5 +1,7 @@
 //! The canonical form of a schema and its fingerprint (Avro 1.11, "Parsing Canonical Form for
 //! Schemas", "Schema Fingerprints").
+//!
+//! [`canonical`] makes the form, [`fingerprint`] the SHA-256 of its bytes, and [`fingerprint_text`] the digits of that.
 #![tactic(auto)]
 
 mod digest;

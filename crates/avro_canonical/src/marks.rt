@@ -1,6 +1,6 @@
 ghost use Rattle.std.specs.Prelude.{◌≡◌, true, false, slice_get, slice_set, unwrap_or, IfOk, []};
 ghost use Rattle.avro_schema.specs.SeenSchema.{schema_nodes};
-ghost use Rattle.avro_canonical.specs.Pending.{marks_of};
+ghost use Rattle.avro_canonical.specs.inside.Pending.{marks_of};
 
 use avro_schema::{Memory, NodeId, Schema};
 use std::alloc::Global;

@@ -1,6 +1,6 @@
 ghost use Rattle.std.specs.Prelude.{◌≡◌, ◌++◌, ◌∷◌, [], OnOk, string_bytes, codes};
 ghost use Rattle.avro_schema.specs.Seen.{node_of, seen_fields, field_of, ids_of};
-ghost use Rattle.avro_canonical.specs.Pending.{pendings_of, of_node, branches, fields as fields_left, end, head_text, opening_of, opening_of_first, parts_of, first_field, first_branch};
+ghost use Rattle.avro_canonical.specs.inside.Pending.{pendings_of, of_node, branches, fields as fields_left, end, head_text, opening_of, opening_of_first, parts_of, first_field, first_branch};
 
 use crate::part::Part;
 use crate::parts::put_part;

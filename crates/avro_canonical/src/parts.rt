@@ -1,5 +1,5 @@
 ghost use Rattle.std.specs.Prelude.{◌≡◌, ◌∷◌, [], OnOk, MatchOption};
-ghost use Rattle.avro_canonical.specs.Pending.{pending_of, pendings_of};
+ghost use Rattle.avro_canonical.specs.inside.Pending.{pending_of, pendings_of};
 
 use crate::part::Part;
 use avro_schema::Memory;

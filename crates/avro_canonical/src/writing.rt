@@ -2,7 +2,7 @@ ghost use Rattle.std.specs.Prelude.{◌≡◌, ◌++◌, ◌∷◌, true, OnOk, 
 ghost use Rattle.avro_schema.specs.Seen.{seen_fields, ids_of};
 ghost use Rattle.avro_schema.specs.SeenSchema.{schema_nodes};
 ghost use Rattle.avro_schema.specs.WellFormed.{is_schema};
-ghost use Rattle.avro_canonical.specs.Pending.{pending_of, pendings_of, of_node, before_branch, next_branch as branches_next, before_field, following_fields, IsStep};
+ghost use Rattle.avro_canonical.specs.inside.Pending.{pending_of, pendings_of, of_node, before_branch, next_branch as branches_next, before_field, following_fields, IsStep};
 
 use crate::marks::{is_marked, mark};
 use crate::opening::{open_branches, open_fields, open_node};

@@ -1,6 +1,6 @@
 use Rattle.std.proofs.Common.{string_bytes}
 use Rattle.avro_schema.specs.SeenSchema.{schema_nodes}
-use Rattle.avro_canonical.specs.Pending.{pendings_of}
+use Rattle.avro_canonical.specs.inside.Pending.{pendings_of}
 use Rattle.avro_canonical.proofs.StepsTaken.{Begins}
 use Rattle.avro_canonical.proofs.text.canonical.Given as goal
 

@@ -2,7 +2,7 @@ use Rattle.std.proofs.Common.{sym, ap, ◌∙◌, option_map, ◌++◌, ◌∷�
 use Rattle.avro_schema.specs.Seen.{node_of}
 use Rattle.avro_schema.specs.SeenSchema.{schema_nodes}
 use Rattle.avro_canonical.specs.Form.{full_text}
-use Rattle.avro_canonical.specs.Pending.{pendings_of, of_node, opening_of, parts_of}
+use Rattle.avro_canonical.specs.inside.Pending.{pendings_of, of_node, opening_of, parts_of}
 use Rattle.avro_canonical.proofs.StepsTaken.{ok-step, ok-text, past-end, step-out, step-unnamed, step-again, step-new}
 use Rattle.avro_canonical.proofs.writing.write_node.Goals as goal
 

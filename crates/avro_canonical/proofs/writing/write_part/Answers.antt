@@ -1,7 +1,7 @@
 use Rattle.std.proofs.Common.{◌++◌, ◌∷◌, string_bytes, codes}
 use Rattle.avro_schema.specs.Seen.{ids_of, seen_fields}
 use Rattle.avro_schema.specs.SeenSchema.{schema_nodes}
-use Rattle.avro_canonical.specs.Pending.{pendings_of, branches, fields, end, before_branch, next_branch, before_field, following_fields}
+use Rattle.avro_canonical.specs.inside.Pending.{pendings_of, branches, fields, end, before_branch, next_branch, before_field, following_fields}
 use Rattle.avro_canonical.proofs.StepsTaken.{ok-step, ok-text, step-branches, step-fields, step-end}
 use Rattle.avro_canonical.proofs.writing.write_part.Goals as goal
 
