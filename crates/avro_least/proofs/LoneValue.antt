@@ -13,7 +13,6 @@ use Rattle.avro_resolve.specs.Pairs.{IsSymbol, aim_of}
 use Rattle.avro_resolve.specs.Planned.{AreInside}
 use Rattle.avro_resolve.specs.Resolve.{enum_or_default}
 use Rattle.avro_resolve.specs.declared.error.FaultKind.TheVariants.{NoMatch}
-use Rattle.avro_resolve.specs.declared.guided.Aim.{Aim}
 use Rattle.avro_resolve.specs.declared.guided.Aim.TheVariants.{Fault, To}
 use Rattle.avro_resolve.specs.declared.comparison.Comparison.{Comparison}
 use Rattle.avro_certificate.proofs.public.Symbols.{lacks_here}

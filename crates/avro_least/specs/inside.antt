@@ -1,3 +1,4 @@
 -- What only proofs and private contracts need.
 pub mod Built
 pub mod Leaf
+pub mod Pending

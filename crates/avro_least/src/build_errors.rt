@@ -119,7 +119,7 @@ fn build_rows(alloc: Global, tables: &Tables, rows: &[FieldAsk], left: u32) -> R
     requires found { AreComparisons (schema_nodes tables.now.writer.now) (schema_nodes tables.now.reader.now) tables.now.reached.now.found.items }
     ensures { IfOk result (λ d. (w r more : ℕ) → more ≤ left + 1 → BuildsAsked (schema_nodes tables.now.writer.now) (schema_nodes tables.now.reader.now) tables.now.limit (least_in tables.now) (erring_in tables.now) more w r (Asked.fields (rows_of rows.now)) (value_of d)) }
 {
-    let k = best_row(tables, rows);
+    let k = best_row(alloc, tables, rows)?;
     let mut values = Vec::new(alloc);
     for i in 0..rows.len() {
         let value = build_row(alloc, tables, rows[i], i == k, left)?;

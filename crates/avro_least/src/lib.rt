@@ -17,6 +17,7 @@ mod made;
 mod pair_tables;
 mod reaching;
 mod selecting;
+mod waiting;
 
 pub use asking::{Ask, FieldAsk};
 pub use build_errors::build_error;

@@ -1,6 +1,6 @@
 //! The pairs of nodes that are reached from the roots.
 
-ghost use Rattle.std.specs.Prelude.{◌≡◌, ◌||◌, ◌<◌, ◌*◌, ◌/◌, ◌%◌, ℕ, Bool, true, List, [], ◌∷◌, ◌++◌, length, nat_lt, Some, IfOk, OnOk};
+ghost use Rattle.std.specs.Prelude.{◌≡◌, ◌||◌, ◌<◌, ◌*◌, ◌/◌, ◌%◌, ℕ, Bool, true, List, [], ◌∷◌, ◌++◌, length, nat_lt, slice_get, Some, IfOk, OnOk};
 ghost use Rattle.std.specs.List.{list_all};
 ghost use Rattle.indexmap.specs.IndexSet.{keys};
 ghost use Rattle.avro_schema.specs.SeenSchema.{schema_nodes};
@@ -145,7 +145,7 @@ fn ask_at(
 }
 
 /// The numbers of the pairs that a pair leads to, given its number.
-fn steps(
+pub(crate) fn steps(
     alloc: Global,
     writer: &Schema,
     reader: &Schema,
@@ -163,6 +163,14 @@ fn steps(
     let w = writers(writer, reader, key);
     let r = readers(reader, key);
     children(alloc, table, count, w, r, ask)
+}
+
+/// What the pair at an index asks for.
+pub(crate) fn ask_at_index(reached: &Reached, i: usize) -> &Ask
+    requires { i < length reached.now.asks.items }
+    ensures { slice_get reached.now.asks.items i ≡ Some result.now }
+{
+    &reached.asks[i]
 }
 
 /// All pairs that the roots lead to. A pair whose writer's node has no data, as the table of the writer's least data

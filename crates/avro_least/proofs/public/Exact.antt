@@ -16,7 +16,7 @@ use Rattle.avro_least.specs.Reached.{is_key}
 use Rattle.avro_certificate.proofs.public.Tests.{and_left, and_right, or_not, all_at}
 use Rattle.avro_least.proofs.AskedValue.{value_is}
 use Rattle.avro_least.proofs.public.Stepping.{children_at_within}
-use Rattle.avro_least.proofs.PairRounds.{step_shows, followed_known}
+use Rattle.avro_least.proofs.PairSteps.{step_shows, followed_known}
 use Rattle.avro_least.proofs.Fixed.{same_least, exact_errors}
 use Rattle.avro_least.proofs.LeastData.{at_most_data}
 use Rattle.avro_least.proofs.ShownErrors.{any_at}

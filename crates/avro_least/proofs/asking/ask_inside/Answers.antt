@@ -1,6 +1,6 @@
 use Rattle.std.proofs.Common.{◌≡◌, ◌∙◌, ap, sym, subst, cond, is_some}
 use Rattle.std.specs.Prelude.{IfOk}
-use Rattle.avro_schema.specs.Node.{Node, field_ids}
+use Rattle.avro_schema.specs.Node.{field_ids}
 use Rattle.avro_schema.specs.Seen.{node_of, seen_fields, texts_of}
 use Rattle.avro_schema.specs.declared.schema.Node.{Node as KeptNode}
 use Rattle.avro_resolve.specs.Planned.{AreInside}

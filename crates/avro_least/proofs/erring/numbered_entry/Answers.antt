@@ -1,7 +1,7 @@
 use Rattle.std.proofs.Common.{◌≡◌, ℕ, sym, ◌∙◌, ap, subst, Option, Some, refl}
 use Rattle.avro_least.specs.Tables.{reached_entry, no_parts}
 use Rattle.avro_least.specs.SeenLeast.{seen_all}
-use Rattle.avro_least.proofs.PairRounds.{given_is}
+use Rattle.avro_least.proofs.PairSteps.{given_is}
 use Rattle.avro_least.proofs.erring.numbered_entry.Goals as goal
 
 pub returns-in-None : goal.returns-in-None

@@ -15,6 +15,7 @@ use Rattle.avro_least.specs.SeenAsk.{ask_of, asks_of}
 use Rattle.avro_least.specs.declared.asking.Ask.{Ask}
 use Rattle.avro_least.proofs.public.Keys.{key_kept, followed_more, few_keys, none_pass, key_at, no_key, only_key}
 use Rattle.avro_certificate.proofs.public.Tests.{and_left, or_cases, all_at}
+use Rattle.avro_least.proofs.PairSteps.{below_at}
 use Rattle.avro_least.proofs.public.Stepping.{some_pairs, steps_below, asked_more}
 use Rattle.avro_least.proofs.reaching.reach.Goals as goal
 
@@ -38,9 +39,6 @@ more_stepped steps ks j k before there h = elim (or_cases (is_key ks k) (is_key 
   | inl m ↦ before k m
   | inr m ↦ one_step j k (before j there) m
 ]
-
-below_at : (n : ℕ) (ks : List ℕ) (i k : ℕ) → list_all (λ x. nat_lt x n) ks ≡ true → slice_get ks i ≡ Some k → k < n
-below_at n ks i k all here = ltb-true k n (all_at (λ x. nat_lt x n) ks i k all here)
 
 pub loop-next-init : goal.loop-next-init
 loop-next-init c =

@@ -1,10 +1,11 @@
--- A round over a table of pairs.
+-- A step over a table of pairs.
 use Rattle.std.proofs.Common.{◌≡◌, ℕ, zero, suc, ◌+◌, ◌*◌, ◌/◌, ◌%◌, ◌<◌, Bool, true, false, cond, ◌&&◌, ◌||◌, List, [], ◌∷◌, Option, Some, None, inl, inr, ◌⊎◌, length, get_or, refl, sym, ◌∙◌, ap, subst, arith}
 use Rattle.std.proofs.Math.ListN.{set, replicate}
-use Rattle.std.proofs.lemmas.Bool.{false≢true, and_from, ltb-true, eqb-true, cases_eq}
+use Rattle.std.proofs.lemmas.Bool.{false≢true, and_from, lt-ltb, ltb-true, eqb-true, cases_eq}
 use Rattle.std.proofs.lemmas.Nat.{div-mul-add, mod-mul-add}
-use Rattle.std.proofs.lemmas.Option.{slice_get-get_or, slice_get-map}
+use Rattle.std.proofs.lemmas.Option.{slice_get-get_or, slice_get-map, slice_get_within}
 use Rattle.std.proofs.lemmas.Iterator.Adapters.{position_from-zero}
+use Rattle.std.proofs.lemmas.List.{length-map}
 use Rattle.std.proofs.lemmas.List.Sums.{sum_by-set}
 use Rattle.std.proofs.lemmas.List.Quantifiers.{position-Some}
 use Rattle.std.specs.Prelude.{slice_get, unwrap_or, option_map, position, nat_lt, ◌==◌, is_some, is_none}
@@ -16,8 +17,10 @@ use Rattle.avro_least.specs.Tables.{Least, LeastTable, ErringTable, AtMost, AreD
 use Rattle.avro_least.specs.SeenLeast.{seen, seen_all, given_entry, improves, weight, weights}
 use Rattle.avro_least.specs.declared.kept.Least.{Least as KeptLeast}
 use Rattle.avro_least.specs.Reached.{is_key}
-use Rattle.avro_least.specs.Asked.{asked_at, asked_value, children_at, live_numbers, steps_at, is_known, ArePairsShown, IsLowAtIndex}
-use Rattle.avro_certificate.proofs.public.Tests.{and_left, and_right, or_from_left, or_from_right}
+use Rattle.avro_least.specs.Asked.{Asked, asked_at, asked_value, children_at, live_numbers, steps_at, is_known, AreAsked, ArePairsShown, IsLowAtIndex}
+use Rattle.avro_least.specs.SeenAsk.{ask_of, asks_of}
+use Rattle.avro_least.specs.declared.asking.Ask.{Ask}
+use Rattle.avro_certificate.proofs.public.Tests.{all_at, and_left, and_right, or_from_left, or_from_right}
 use Rattle.avro_least.proofs.Rounds.{set_here, set_other, weight_falls, improves_low}
 use Rattle.avro_least.proofs.AskedValue.{value_is, value_same}
 use Rattle.avro_least.proofs.AskedWithin.{is_within}
@@ -30,7 +33,7 @@ always [] = refl
 always (x ∷ xs) = always xs
 
 -- what has no position is not there
-no_position : (test : ℕ → Bool) (n : ℕ) (ks : List ℕ) → position_from test n ks ≡ None → list_any test ks ≡ false
+pub no_position : (test : ℕ → Bool) (n : ℕ) (ks : List ℕ) → position_from test n ks ≡ None → list_any test ks ≡ false
 no_position test n [] e = refl
 no_position test n (k ∷ ks) e = chosen (test k) e (no_position test (n + 1) ks)
   where
@@ -74,13 +77,24 @@ masked_shown writer reader limit known erring shown w r there some = chosen (kno
 masked_same : (known : Pair → Bool) (erring : ErringTable) (c : Pair) → known c ≡ true → erring c.w c.r ≡ masked known erring c.w c.r
 masked_same known erring c h = rw h refl
 
+-- the key at an index is below the bound of all keys
+pub below_at : (n : ℕ) (ks : List ℕ) (i k : ℕ) → list_all (λ x. nat_lt x n) ks ≡ true → slice_get ks i ≡ Some k → k < n
+below_at n ks i k all here = ltb-true k n (all_at (λ x. nat_lt x n) ks i k all here)
+
+-- what the pair at an index asks for
+pub own_ask : (writer reader : List Node) (ks : List ℕ) (asks : List Ask) (ask : Ask) (i k : ℕ) → AreAsked writer reader ks (asks_of asks) → slice_get ks i ≡ Some k
+    → slice_get asks i ≡ Some ask → ask_of ask ≡ asked_at writer reader k
+own_ask writer reader ks asks ask i k all here got =
+    some_same (ask_of ask) (asked_at writer reader k)
+    (sym (slice_get-map ask_of asks i ∙ ap (option_map ask_of) got)
+    ∙ all i k here (lt-ltb i (length (asks_of asks)) (omega (arith, slice_get_within asks i ask got, length-map asks ask_of))))
+  where
+    some_same : (a b : Asked) → Some a ≡ Some b → a ≡ b
+    some_same a b e = cc
+
 -- a step at a key
 module _ (writer reader : List Node) (limit : ℕ) (table : LeastTable) (keys : List ℕ) (entries : List (Option Least))
     (formed : is_schema writer ≡ true) (theirs : is_schema reader ≡ true) (data_shown : AreDataShown writer limit table) where
-  pub step_at : (k : ℕ) → asked_value limit table (erring_of (length reader) table keys entries) (k / length reader) (k % length reader) (asked_at writer reader k)
-      ≡ err_of writer reader limit table (erring_of (length reader) table keys entries) (k / length reader) (k % length reader) (node_at writer (k / length reader)) (node_at reader (k % length reader))
-  step_at k = value_is limit table (erring_of (length reader) table keys entries) writer reader (k / length reader) (k % length reader) (node_at writer (k / length reader)) (node_at reader (k % length reader))
-
   pub step_shows : (k : ℕ) → k < length writer * length reader → list_all (is_key keys) (steps_at writer reader table k) ≡ true
       → ArePairsShown writer reader limit table keys entries → (e : Option Least)
       → e ≡ asked_value limit table (erring_of (length reader) table keys entries) (k / length reader) (k % length reader) (asked_at writer reader k)
@@ -113,7 +127,7 @@ given_is es i = ap (λ (o : Option (Option Least)). unwrap_or o (Some no_parts))
 
 -- the entry of a pair, by the three things that it depends on
 module _ (count : ℕ) (table : LeastTable) (keys : List ℕ) (entries : List (Option Least)) (w r : ℕ) where
-  erring_none : table w ≡ None → erring_of count table keys entries w r ≡ None
+  pub erring_none : table w ≡ None → erring_of count table keys entries w r ≡ None
   erring_none e = rw e refl
 
   erring_past : (x : Least) → table w ≡ Some x → nat_lt r count ≡ false → erring_of count table keys entries w r ≡ Some no_parts
