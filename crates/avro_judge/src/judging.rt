@@ -5,36 +5,15 @@ ghost use Rattle.avro_schema.specs.Value.{Value, size, depth};
 ghost use Rattle.avro_resolve.specs.Fault.{ResolutionFault};
 ghost use Rattle.avro_resolve.specs.Seen.{fault_of};
 ghost use Rattle.avro_judge.specs.Answered.{IsApproved, IfApproved, IfRefuted, IsUndecided};
-ghost use Rattle.avro_certificate.specs.Compatible.{AreCompatible, Errs, ErrsWith, ErrsOnlyAbove, ErrsLeastDeep};
+ghost use Rattle.avro_certificate.specs.Compatible.{AreCompatible, ErrsWith, ErrsOnlyAbove, ErrsLeastDeep};
 
 use crate::approval::Approved;
 use crate::deciding::{Judged, decide};
+use crate::faults::fault_of_datum;
 use crate::limits::JudgeLimits;
 use crate::verdict::{Cause, Refutation, Verdict};
-use avro_resolve::{Fault, ResolveError, resolve};
-use avro_schema::{Datum, Memory, Schema};
+use avro_schema::{Memory, Schema};
 use std::alloc::Global;
-
-/// The fault of a datum of the writer's that errs.
-///
-/// # Errors
-///
-/// Memory ran out.
-fn fault_of_datum(
-    alloc: Global,
-    writer: &Schema,
-    reader: &Schema,
-    datum: &Datum,
-) -> Result<Fault, Memory>
-    requires { Errs (schema_nodes writer.now) (schema_nodes reader.now) (value_of datum.now) }
-    ensures { IfOk result (λ f. ErrsWith (schema_nodes writer.now) (schema_nodes reader.now) (value_of datum.now) (fault_of f)) }
-{
-    match resolve(alloc, writer, reader, datum) {
-        Err(ResolveError::Fault(fault)) => Ok(fault),
-        Err(ResolveError::Memory) => Err(Memory),
-        Ok(_) => unreachable!(),
-    }
-}
 
 /// Whether every datum of the writer's schema resolves into the reader's, of any size.
 ///
@@ -93,7 +72,7 @@ pub fn judge<'a>(
         Judged::Size => Ok(Verdict::Undecided(Cause::Size)),
         Judged::Depth => Ok(Verdict::Undecided(Cause::Depth)),
         Judged::Erring(datum) => {
-            let fault = fault_of_datum(alloc, writer, reader, &datum)?;
+            let fault = fault_of_datum(alloc, writer, reader, found, &limits.limits(), &datum)?;
             Ok(Verdict::Refuted(Refutation { datum, fault }))
         }
     }

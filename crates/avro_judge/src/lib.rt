@@ -9,6 +9,7 @@ mod approval;
 mod certifying;
 mod confirming;
 mod deciding;
+mod faults;
 mod judging;
 mod limits;
 mod refuting;

@@ -11,7 +11,7 @@ unread e = Err (ReadResolveError.Read e)
 abbrev refused : {A : Type 0} → ReadError → Result A ReadError
 refused e = Err e
 
--- an error of reading that is handed on is want of memory where it was
+-- an error of reading that is handed on says that memory ran out where it said so before
 only_memory : (A : Type 0) (e : ReadError) → UnlessNoMemory (unread {A = A} e) ⊥ → UnlessOutOfMemory (refused {A = A} e) ⊥
 only_memory A ReadError.OutOfMemory h = tt
 only_memory A _ h = h
