@@ -43,10 +43,8 @@ impl HistoryCert {
         let Some(lines) = after(text, b"history 1\n") else {
             return Err(CertError::Malformed);
         };
-        match read_certificates(alloc, lines) {
-            Ok(certificates) => Ok(HistoryCert { certificates }),
-            Err(e) => Err(e),
-        }
+        let certificates = read_certificates(alloc, lines)?;
+        Ok(HistoryCert { certificates })
     }
 
     /// The text, which [`HistoryCert::read`] reads again.
