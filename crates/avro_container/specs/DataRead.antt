@@ -19,7 +19,7 @@ abbrev pub reading : FileLimitValues → List Node → List ℕ → Option (List
 reading limits nodes sync reader =
     record { nodes = nodes; sync = sync; limits = limits; resolve = resolution reader nodes; copied = false }
 
--- so many data stand whole as these bytes, and each answer stands for what is made of its datum
+-- `count` data stand whole as `body`, and each answer stands for what is made of its datum
 pub record StandForData {O : Type 0} (stands : O → Value → Type 0) (r : BlockReading) (count : ℕ) (body : List ℕ) (outs : List O) : Type 0 where
   pub values : List Value
   pub whole : DataAreWhole r count body (values_from values)

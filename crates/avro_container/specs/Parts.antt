@@ -17,6 +17,6 @@ properties_of entries = map property_of entries
 abbrev pub header_part : List Property → List ℕ → List ℕ
 header_part properties sync = magic ++ (plain (metadata_value properties) ++ sync)
 
--- a block of so many data, which are these bytes
+-- a block of `count` data, whose bytes are `body`
 abbrev pub block_part : List ℕ → ℕ → List ℕ → List ℕ
 block_part sync count body = number_bytes (pos count) ++ (number_bytes (pos (length body)) ++ (body ++ sync))

@@ -19,7 +19,7 @@ use crate::planned::read_by_plan;
 use avro_binary::Build;
 use avro_resolve::laws::resolved_fits;
 use avro_resolve::{Plan, PlanRef};
-use avro_schema::{Memory, Schema};
+use avro_schema::Schema;
 use avro_schema_json::ReaderText;
 
 /// A block of a file, whose data are not read yet.
@@ -71,10 +71,8 @@ impl<'a> Block<'a> {
         let schema = self.header.schema();
         match reader {
             Some(reader) => {
-                match Plan::reached(*self.body.allocator(), schema, reader.schema()) {
-                    Ok(plan) => self.read_by(&plan, builder),
-                    Err(Memory) => Err(CopyError::OutOfMemory),
-                }
+                let plan = Plan::reached(*self.body.allocator(), schema, reader.schema())?;
+                self.read_by(&plan, builder)
             }
             None => self.read_data(schema, &None, builder),
         }
@@ -133,10 +131,7 @@ impl<'a> Block<'a> {
             let (_, rest) = self.body.split_at(start);
             match read_by_plan(alloc, schema, plan, rest, &limits, builder) {
                 Ok((answer, len)) => {
-                    match answers.push(answer) {
-                        Ok(()) => {}
-                        Err(_) => return Err(CopyError::OutOfMemory),
-                    }
+                    answers.push(answer)?;
                     start += len;
                     datum += 1;
                 }
@@ -160,7 +155,7 @@ fn made_data_fit(plan: &Option<PlanRef<'_>>)
     resolved_fits();
     match plan {
         Some(plan) => {
-            // its nodes are known to be a schema
+            // Its nodes are known to be a schema.
             let _ = plan.reader().len();
         }
         None => {}

@@ -73,13 +73,9 @@ pub(crate) fn copy_block<I: Input, O: Output>(
         Ok(None) => Ok(None),
         Ok(Some(head)) => {
             let sync = marker(task, header);
-            match put_block(output, &mut store.block, &sync, head.count, &store.packed) {
-                Ok(()) => {
-                    store.buffer.pass(head.start + head.size + 16);
-                    Ok(Some(head.count))
-                }
-                Err(error) => Err(error),
-            }
+            put_block(output, &mut store.block, &sync, head.count, &store.packed)?;
+            store.buffer.pass(head.start + head.size + 16);
+            Ok(Some(head.count))
         }
         Err(refused) => Err(refused),
     }

@@ -76,15 +76,12 @@ impl<'a> Blocks<'a> {
             &self.limits,
             header.sync(),
             reach,
-        ) {
-            Ok(None) => Ok(None),
-            Ok(Some(head)) => {
+        )? {
+            None => Ok(None),
+            Some(head) => {
                 let (_, data) = self.buffer.bytes().split_at(head.start);
                 let (data, _) = data.split_at(head.size);
-                let body = match Vec::from_slice(self.alloc, data) {
-                    Ok(body) => body,
-                    Err(_) => return Err(CopyError::OutOfMemory),
-                };
+                let body = Vec::from_slice(self.alloc, data)?;
                 self.number += 1;
                 Ok(Some(Block {
                     header,
@@ -94,7 +91,6 @@ impl<'a> Blocks<'a> {
                     body,
                 }))
             }
-            Err(error) => Err(error),
         }
     }
 

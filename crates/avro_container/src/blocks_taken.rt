@@ -55,10 +55,8 @@ pub(crate) fn take_block<I: Input>(
     ensures first { result ≢ Err CopyError.FailedBefore }
     ensures named { IfErr result IsNamed }
 {
-    match begins_block(input, buffer, number, reach) {
-        Ok(true) => {}
-        Ok(false) => return Ok(None),
-        Err(error) => return Err(error),
+    if !begins_block(input, buffer, number, reach)? {
+        return Ok(None);
     }
     if number >= MAX_BLOCKS {
         return Err(CopyError::LimitExceeded(LimitPlace::Block(number)));

@@ -129,25 +129,22 @@ impl<'a> Copier<'a> {
                     &self.task,
                     header,
                     &plan,
-                ) {
-                    Ok(Some(count)) => {
+                )? {
+                    Some(count) => {
                         self.blocks += 1;
                         Ok(Step::Block(u64::from(count)))
                     }
-                    Ok(None) => {
+                    None => {
                         self.ended = true;
                         Ok(Step::End)
                     }
-                    Err(error) => Err(error),
                 }
             }
-            None => match copy_header(self.alloc, input, output, &mut self.store, &self.task) {
-                Ok(opened) => {
-                    self.opened = Some(opened);
-                    Ok(Step::Header)
-                }
-                Err(error) => Err(error),
-            },
+            None => {
+                let opened = copy_header(self.alloc, input, output, &mut self.store, &self.task)?;
+                self.opened = Some(opened);
+                Ok(Step::Header)
+            }
         }
     }
 }

@@ -49,14 +49,13 @@ pub fn copy<'a, I: Input, O: Output>(
         blocks: 0,
     };
     loop {
-        match copier.step(input, output) {
-            Ok(Step::Header) => {}
-            Ok(Step::Block(count)) => {
+        match copier.step(input, output)? {
+            Step::Header => {}
+            Step::Block(count) => {
                 counts.items += count;
                 counts.blocks += 1;
             }
-            Ok(Step::End) => break,
-            Err(error) => return Err(error),
+            Step::End => break,
         }
     }
     match output.flush() {

@@ -3,7 +3,7 @@ use avro_resolve::Fault;
 use avro_schema::Memory;
 use avro_schema_json::SchemaError;
 use avro_zigzag::VarError;
-use std::alloc::AllocError;
+use std::alloc::{AllocError, AllocFailed};
 use thiserror::Error;
 
 /// Why a block's count or size is not a number of data or of bytes.
@@ -94,6 +94,17 @@ impl From<AllocError> for CopyError {
     ghost from_gives = { λ _ error. error ≡ OutOfMemory };
 
     fn from(_error: AllocError) -> CopyError {
+        CopyError::OutOfMemory
+    }
+}
+
+impl<T: Drop> From<AllocFailed<T>> for CopyError {
+    ghost use Rattle.std.specs.Prelude.{◌≡◌};
+    ghost use Rattle.avro_container.specs.declared.error.CopyError.TheVariants.{OutOfMemory};
+
+    ghost from_gives = { λ _ error. error ≡ OutOfMemory };
+
+    fn from(_error: AllocFailed<T>) -> CopyError {
         CopyError::OutOfMemory
     }
 }

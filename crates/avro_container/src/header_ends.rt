@@ -91,7 +91,7 @@ fn marker_of(bytes: &[u8]) -> [u8; 16]
     sync
 }
 
-/// Takes the marker that begins behind so many bytes.
+/// Takes the marker that begins at `at`.
 ///
 /// # Errors
 ///

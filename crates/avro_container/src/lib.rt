@@ -1,4 +1,8 @@
 //! Object container files (Avro 1.11, "Object Container Files").
+//!
+//! A file is read part by part: [`Header::read`] takes its header, [`Blocks::next`] a block, and [`Block::read`] reads the
+//! data of a block. A [`Sink`] puts a header and blocks. [`copy`] takes a whole file and puts its copy, and a [`Copier`] does
+//! the same a part a step. They take from an [`Input`] and put into an [`Output`].
 #![tactic(auto)]
 
 mod block;

@@ -21,7 +21,7 @@ use avro_binary::ReadError;
 use std::alloc::Global;
 use std::collections::BTreeSet;
 
-/// Whether a block that has so many bytes is of another size than its head says.
+/// Whether a block of `len` bytes is of another size than its head says.
 fn is_other_size(head: PropertiesHead, len: u64) -> bool
     ensures other { result ≡ true → (head.is_sized ≡ true) × (len ≢ head.size) }
     ensures same { result ≡ false → head.is_sized ≡ true → head.size ≡ len }
@@ -29,8 +29,8 @@ fn is_other_size(head: PropertiesHead, len: u64) -> bool
     head.is_sized && len != head.size
 }
 
-/// Takes the block of properties that begins behind so many bytes, and answers whether there is one and where it ends. Where
-/// there is none, the metadata ends there.
+/// Takes the block of properties that begins at `at`, and answers whether there is one and where it ends. Where there is none,
+/// the metadata ends there.
 ///
 /// # Errors
 ///

@@ -60,13 +60,13 @@ impl<'a> Opened<'a> {
         ensures reader { IfOk result (λ opened. opened.1 ≡ option_copied reader.entry) }
     {
         match reader {
-            Some(reader) => match PlanTable::reached(alloc, header.schema(), reader.schema()) {
-                Ok(table) => Ok(Opened {
+            Some(reader) => {
+                let table = PlanTable::reached(alloc, header.schema(), reader.schema())?;
+                Ok(Opened {
                     header,
                     target: Some(Target { reader, table }),
-                }),
-                Err(Memory) => Err(Memory),
-            },
+                })
+            }
             None => Ok(Opened {
                 header,
                 target: None,

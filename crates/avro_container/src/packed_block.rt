@@ -67,16 +67,13 @@ pub(crate) fn take_packed<I: Input>(
         limit: task.limits.block() as usize + 36,
         ahead: AHEAD,
     };
-    match take_block(input, buffer, number, &task.limits, header.sync(), reach) {
-        Ok(None) => Ok(None),
-        Ok(Some(head)) => {
+    match take_block(input, buffer, number, &task.limits, header.sync(), reach)? {
+        None => Ok(None),
+        Some(head) => {
             let (_, rest) = buffer.bytes().split_at(head.start);
             let (body, _) = rest.split_at(head.size);
-            match pack_data(task, header, plan, number, head.count, body, packed) {
-                Ok(()) => Ok(Some(head)),
-                Err(error) => Err(error),
-            }
+            pack_data(task, header, plan, number, head.count, body, packed)?;
+            Ok(Some(head))
         }
-        Err(error) => Err(error),
     }
 }

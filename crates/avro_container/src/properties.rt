@@ -117,13 +117,11 @@ fn take_property<I: Input>(
     let (_, rest) = buffer.bytes().split_at(start);
     let (content, _) = rest.split_at(end - start);
     keep_none(content);
-    match add_property(alloc, &mut properties.entries, name, content) {
-        Ok(()) => Ok(end),
-        Err(_) => Err(CopyError::OutOfMemory),
-    }
+    add_property(alloc, &mut properties.entries, name, content)?;
+    Ok(end)
 }
 
-/// Takes so many properties, and answers where they end.
+/// Takes `count` properties, and answers where they end.
 ///
 /// # Errors
 ///

@@ -29,7 +29,7 @@ pub(crate) struct PropertiesHead {
     pub(crate) offset: usize,
 }
 
-/// Takes the count of a block that begins behind so many bytes: whether it is negative, its magnitude, and how many bytes it takes.
+/// Takes the count of a block that begins at `at`: whether it is negative, its magnitude, and how many bytes it takes.
 ///
 /// # Errors
 ///
@@ -62,7 +62,7 @@ fn take_properties_count<I: Input>(
     Ok((count < 0, count.unsigned_abs(), len))
 }
 
-/// Takes the head of the block that begins behind so many bytes, or the 0 that ends the metadata.
+/// Takes the head of the block that begins at `at`, or the 0 that ends the metadata.
 ///
 /// # Errors
 ///

@@ -60,7 +60,7 @@ impl Sink {
         }
     }
 
-    /// Puts a block of so many data, whose encodings one after another are the body.
+    /// Puts a block of `count` data, whose encodings one after another are `body`.
     ///
     /// # Errors
     ///

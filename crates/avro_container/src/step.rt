@@ -3,7 +3,7 @@
 pub enum Step {
     /// It put the header.
     Header,
-    /// It put a block of so many data.
+    /// It put a block, which has this number of data.
     Block(u64),
     /// The input has ended.
     End,

@@ -8,13 +8,13 @@ use Rattle.avro_container.specs.File.{HeaderValue}
 use Rattle.avro_container.specs.FileFault.{FileFault, in_block, BlockFault}
 use Rattle.avro_container.specs.Steps.{IsBlockWithin, reading_of}
 
--- so many data stand whole as these bytes, and these are the plain encodings of what is made of them
+-- `count` data stand whole as `body`, and `packed` are the plain encodings of what is made of them
 pub record PacksData (r : BlockReading) (count : ℕ) (body packed : List ℕ) : Type 0 where
   pub made : Values
   pub whole : DataAreWhole r count body made
   pub packed_are : packed ≡ plain_values made
 
--- the bytes are a block of so many data within the limits, and these are the plain encodings of what is made of them
+-- the bytes are a block of `count` data within the limits, and `packed` are the plain encodings of what is made of them
 pub record PacksBlock (job : Job) (limits : FileLimitValues) (h : HeaderValue) (count : ℕ) (bytes packed : List ℕ) : Type 0 where
   pub values : Values
   pub made : Values

@@ -15,7 +15,7 @@ use Rattle.avro_resolve.specs.declared.error.ReadResolveError.{ReadResolveError}
 use Rattle.avro_container.specs.BlockFails.{datum_fault}
 use Rattle.avro_container.specs.FileFault.{FileFault, in_block, unresolved_datum}
 
--- An encoding of a datum within limits stands at the front, in so many bytes, and this is made of the datum.
+-- An encoding of a datum within limits stands at the front, in `len` bytes, and `resolved` is made of the datum.
 pub record MakesOf (nodes : List Node) (limits : LimitValues) (resolve : Value → Resolved) (bytes : List ℕ) (len : ℕ) (resolved : Resolved) : Type 0 where
   pub datum : Value
   pub in_bytes : len ≤ length bytes
@@ -41,7 +41,7 @@ place_in (wrong_block_size place) = place
 place_in (duplicate_key place) = place
 place_in limit_exceeded = 0
 
--- behind so many bytes the place is still a number of a machine
+-- behind `start` bytes the place is still a number of a machine
 abbrev pub FitsBehind : ℕ → ReadError → Type 0
 FitsBehind start e = IfSome (read_fault e) (λ f. start + place_in f < 2 ^ 64)
 
@@ -49,7 +49,7 @@ abbrev pub PlaceFits : ℕ → ReadResolveError → Type 0
 PlaceFits start (ReadResolveError.Read e) = FitsBehind start e
 PlaceFits start (ReadResolveError.Resolve f) = Unit {0}
 
--- the fault that an error of a datum is in its file: of the datum m of a block, which begins behind so many bytes of its data
+-- the fault that an error of a datum is in its file: of the datum m of a block, which begins behind `start` bytes of its data
 abbrev pub error_fault : ℕ → ℕ → ℕ → ReadResolveError → Option FileFault
 error_fault number m start (ReadResolveError.Read e) = option_map (λ f. in_block number (datum_fault m (behind start f))) (read_fault e)
 error_fault number m start (ReadResolveError.Resolve f) = Some (in_block number (unresolved_datum m (fault_of f)))

@@ -13,7 +13,7 @@ pub record BeginsHeader (limit : ℕ) (bytes : List ℕ) : Type 0 where
   pub begins : take 4 bytes ≡ magic
   pub fits : length bytes ≤ limit
 
--- The marker that should stand behind so many bytes is not there.
+-- The marker that should stand at `at` is not there.
 pub data MarkerStops (limit at : ℕ) (ended : Type 0) (bytes : List ℕ) : FileFault → Type 0 where
   too_long : length bytes < at + 16 → limit < at + 16 → MarkerStops limit at ended bytes (in_header long_header)
   is_cut : length bytes < at + 16 → at + 16 ≤ limit → ended → MarkerStops limit at ended bytes (in_header cut_header)

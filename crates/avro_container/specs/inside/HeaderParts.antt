@@ -60,7 +60,7 @@ pub record Stretch (from : ℕ) (front : List ℕ) (to : ℕ) (bytes : List ℕ)
   pub split : drop from bytes ≡ front ++ drop to bytes
   pub inside : to ≤ length bytes
 
--- A content of so many bytes stands behind its length.
+-- Behind its length, which begins at `at`, a content stands from `start` to `end`.
 pub record ContentFrom (at start end : ℕ) (bytes : List ℕ) : Type 0 where
   pub begins : at ≤ start
   pub ordered : start ≤ end
@@ -108,7 +108,7 @@ left_after left ps = record { nodes = left.nodes - length ps; keys = left.keys +
 abbrev pub PropertyBreaks : Left → List ℕ → ReadFault → Type 0
 PropertyBreaks left bytes f = EntryBreaks entry_limits (λ count m rest g. BreaksWithin metadata_nodes 1 count (2 ^ 63) m rest g) Node.bytes left bytes f
 
--- fewer properties than so many stand whole, and the next is stopped
+-- fewer properties than `count` stand whole, and the next is stopped
 pub record RunStops (item : Left → List ℕ → ReadFault → Type 0) (left : Left) (count : ℕ) (bytes : List ℕ) (f : ReadFault) : Type 0 where
   pub properties : List Property
   pub front : List ℕ

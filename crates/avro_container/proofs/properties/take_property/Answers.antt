@@ -34,8 +34,8 @@ returns-in_err-start-clause-refused g c =
     (stretch_grown g.I.Input.gives _ _ mid new c.args.at c.in_ok-name.middle name.front grown name.stretch) name.stands (name.fresh left.keys are) some
     (c.in_err-start.ensures.refused f (λ content. true) is))
 
-pub returns-in-Ok-clause-found : goal.returns-in-Ok-clause-found
-returns-in-Ok-clause-found g c =
+pub returns-clause-found : goal.returns-clause-found
+returns-clause-found g c =
     let mid = held c.take_name.new.buffer in
     let new = held c.take_content.new.buffer in
     let start = c.in_ok-start.start in
@@ -44,18 +44,21 @@ returns-in-Ok-clause-found g c =
     let behind : c.split_at.result.1.now ≡ drop start new = c.split_at.ensures.back ∙ ap (drop start) c.bytes.ensures in
     let content : c.split_at-2.result.0.now ≡ take (end - start) (drop start new) = c.split_at-2.ensures.front ∙ ap (take (end - start)) behind in
     takes_property g.I.Input.gives _ _ mid new _ _ c.args.at c.in_ok-name.middle start end (string_bytes c.in_ok-name.name) c.split_at-2.result.0.now _ _ took.grown c.in_ok-name.ensures.found
-    c.in_ok-start.ensures.found (omega (arith, took.limited, c.in_ok-name.ensures.took.limited, c.requires.fits, c.requires.small)) content c.keep_none.ensures c.in-Ok.ensures
+    c.in_ok-start.ensures.found (omega (arith, took.limited, c.in_ok-name.ensures.took.limited, c.requires.fits, c.requires.small)) content c.keep_none.ensures c.in_ok-add_property.ensures
 
-pub returns-in-Ok-clause-took : goal.returns-in-Ok-clause-took
-returns-in-Ok-clause-took g c =
+pub returns-clause-took : goal.returns-clause-took
+returns-clause-took g c =
     takes_then g.I.Input.gives g.I.Input.failures g.met.I.Input.chain c.args.reach.limit _ _ _ (held c.args.buffer.now) (held c.take_name.new.buffer) (held c.take_content.new.buffer)
     c.in_ok-name.ensures.took c.in_ok-start.ensures.took
 
-pub returns-in-Err-clause-lost : goal.returns-in-Err-clause-lost
-returns-in-Err-clause-lost g c =
-    memory_refused g.I.Input.gives g.I.Input.failures g.met.I.Input.chain c.args.reach.limit _ _ _ _
+pub returns-in_err-add_property-clause-lost : goal.returns-in_err-add_property-clause-lost
+returns-in_err-add_property-clause-lost g c =
+    let p = err_from_is_err_and c.from_residual-in_err-add_property.result c.from_residual-in_err-add_property.ensures.1 in
+    rw (p.1, p.2) (memory_refused g.I.Input.gives g.I.Input.failures g.met.I.Input.chain c.args.reach.limit _ _ _ _
     (takes_then g.I.Input.gives g.I.Input.failures g.met.I.Input.chain c.args.reach.limit _ _ _ (held c.args.buffer.now) (held c.take_name.new.buffer) (held c.take_content.new.buffer)
-    c.in_ok-name.ensures.took c.in_ok-start.ensures.took)
+    c.in_ok-name.ensures.took c.in_ok-start.ensures.took))
 
-pub returns-in-Err-clause-refused : goal.returns-in-Err-clause-refused
-returns-in-Err-clause-refused g c = λ f left is some are. absurd (none-some f is)
+pub returns-in_err-add_property-clause-refused : goal.returns-in_err-add_property-clause-refused
+returns-in_err-add_property-clause-refused g c =
+    let p = err_from_is_err_and c.from_residual-in_err-add_property.result c.from_residual-in_err-add_property.ensures.1 in
+    rw (p.1, p.2) (λ f left is some are. absurd (none-some f is))

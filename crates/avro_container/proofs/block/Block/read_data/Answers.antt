@@ -42,7 +42,7 @@ loop-datum-preserved g c =
     let stands = stand-more g.B.Build.stands_for r c.loop-datum.datum start len body c.loop-datum.answers.items answer refl c.loop-datum.invariant.2 found in (
       omega (arith, c.loop-datum.invariant.0, found.2.in_bytes, length-drop start body),
       omega (arith, c.loop-datum-test.true, c.count-count.ensures),
-      subst (λ outs. StandForData g.B.Build.stands_for r (c.loop-datum.datum + 1) (take (start + len) body) outs) (sym c.in-Ok-push.ensures.items) stands,
+      subst (λ outs. StandForData g.B.Build.stands_for r (c.loop-datum.datum + 1) (take (start + len) body) outs) (sym c.in_ok-push-in-Ok.ensures.items) stands,
     )
 
 pub datum_error-requires : goal.datum_error-requires
