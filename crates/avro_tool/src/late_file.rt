@@ -9,7 +9,7 @@ pub(crate) struct LateFile<'r, 'a, R: Files> {
     rt: &'r R,
     word: &'a str,
     file: Option<R::File>,
-    // making it failed for want of memory
+    // Making it failed because memory ran out.
     no_memory: bool,
 }
 
