@@ -1,6 +1,8 @@
 //! Copies: what is written of metadata and of blocks.
 
-use crate::files::{FIVE, FIVE_COPIED, LONG_OR_INT, copy_all, file_of, file_with, reader_of, told};
+use crate::files::{
+    FIVE, FIVE_COPIED, LONG_OR_INT, answer_text, copy_all, file_of, file_with, reader_of,
+};
 use avro_container::FileLimits;
 use std::test::Fail;
 
@@ -162,12 +164,12 @@ fn blocks_before_a_refused_one_are_copied(rt: HostRuntime) -> Result<(), Fail> {
     for (block, wanted) in REFUSED {
         let file = file_of(alloc, INT, &[b"\x02\x02\x0a", block])?;
         let (out, answer) = copy_all(alloc, &file, reader.as_ref(), &FileLimits::default());
-        let text = told(alloc, answer)?;
+        let text = answer_text(alloc, answer)?;
         assert_eq!(rt; text.as_str(), wanted);
         assert_eq!(rt; out.as_slice(), FIVE_COPIED, "{wanted}");
     }
     let (out, answer) = copy_all(alloc, FIVE, reader.as_ref(), &FileLimits::default());
-    let text = told(alloc, answer)?;
+    let text = answer_text(alloc, answer)?;
     assert_eq!(rt; text.as_str(), "data 1 blocks 1");
     assert_eq!(rt; out.as_slice(), FIVE_COPIED);
     Ok(())

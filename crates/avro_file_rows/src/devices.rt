@@ -13,7 +13,7 @@ use std::test::Fail;
 /// A number of a call that is never made.
 const NEVER: usize = 1_000_000;
 
-/// A reader of bytes, which gives so many a call, and fails in one call.
+/// A reader of bytes, which gives up to `size` a call, and fails in one call.
 #[derive(Drop)]
 struct Source<'a> {
     rest: &'a [u8],
@@ -81,7 +81,7 @@ impl Write for Kept {
     }
 }
 
-/// A copy of the file of one int, whose input gives so many bytes a call and fails in one.
+/// A copy of the file of one int, whose input gives up to `size` bytes a call and where one call fails.
 fn copied(
     alloc: Global,
     reader: Option<&ReaderText>,
@@ -103,11 +103,8 @@ fn copied(
     let limits = FileLimits::default();
     let mut input = ReadInput::new(&mut source);
     let mut output = WriteOutput::new(&mut kept);
-    let answer = match copy(alloc, &mut input, &mut output, reader, None, &limits) {
-        Ok(_) => Ok(()),
-        Err(error) => Err(error),
-    };
-    (kept.bytes, answer)
+    let answer = copy(alloc, &mut input, &mut output, reader, None, &limits);
+    (kept.bytes, answer.map(|_| ()))
 }
 
 #[test]

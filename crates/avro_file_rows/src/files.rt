@@ -62,10 +62,8 @@ pub(crate) fn reader_of(alloc: Global, text: &str) -> Result<Option<ReaderText>,
     if text.is_empty() {
         return Ok(None);
     }
-    match ReaderText::read(alloc, text.as_bytes()) {
-        Ok(reader) => Ok(Some(reader)),
-        Err(error) => Err(error),
-    }
+    let reader = ReaderText::read(alloc, text.as_bytes())?;
+    Ok(Some(reader))
 }
 
 /// Reads all data of a file.
@@ -113,7 +111,10 @@ pub(crate) fn copy_all(
 }
 
 /// What is answered of a file, as text.
-pub(crate) fn told(alloc: Global, answer: Result<Counts, CopyError>) -> Result<String, AllocError> {
+pub(crate) fn answer_text(
+    alloc: Global,
+    answer: Result<Counts, CopyError>,
+) -> Result<String, AllocError> {
     match answer {
         Ok(counts) => format!(in alloc; "data {} blocks {}", counts.items, counts.blocks),
         Err(error) => format!(in alloc; "{error}"),
@@ -127,9 +128,9 @@ pub(crate) fn answer_of(
     reader: Option<&ReaderText>,
     limits: &FileLimits,
 ) -> Result<String, Fail> {
-    let read = told(alloc, read_all(alloc, file, reader, limits))?;
+    let read = answer_text(alloc, read_all(alloc, file, reader, limits))?;
     let (_, answer) = copy_all(alloc, file, reader, limits);
-    let copied = told(alloc, answer)?;
+    let copied = answer_text(alloc, answer)?;
     if copied.as_str() != read.as_str() {
         return Err(Fail::new("reading and copying answer alike"));
     }

@@ -39,8 +39,8 @@ fn an_output_block_has_the_limit_of_a_block(rt: HostRuntime) -> Result<(), Fail>
     let Err(error) = copier.step(&mut input, &mut output) else {
         return Err(Fail::new("the block is over its limit"));
     };
-    let told = format!(in alloc; "{error}")?;
-    assert_eq!(rt; told.as_str(), "C9 block 0");
+    let found = format!(in alloc; "{error}")?;
+    assert_eq!(rt; found.as_str(), "C9 block 0");
     assert_eq!(rt;
         copier.step(&mut input, &mut output),
         Err(CopyError::FailedBefore)

@@ -39,8 +39,8 @@ fn names_of(alloc: Global, record: &RecordNode) -> Result<String, AllocError> {
     let name = &record.name;
     let mut text = format!(in alloc; "{} {}", name.namespace(), name.simple())?;
     for alias in &record.aliases {
-        let told = format!(in alloc; ", {} {}", alias.namespace(), alias.simple())?;
-        text.push_str(told.as_str())?;
+        let found = format!(in alloc; ", {} {}", alias.namespace(), alias.simple())?;
+        text.push_str(found.as_str())?;
     }
     Ok(text)
 }
@@ -49,17 +49,17 @@ fn names_of(alloc: Global, record: &RecordNode) -> Result<String, AllocError> {
 fn nodes_of(alloc: Global, schema: &Schema, record: &RecordNode) -> Result<String, AllocError> {
     let mut text = String::new(alloc);
     for field in &record.fields {
-        let told = format!(in alloc; " {}", field.node.0)?;
-        text.push_str(told.as_str())?;
+        let found = format!(in alloc; " {}", field.node.0)?;
+        text.push_str(found.as_str())?;
         if schema.has(field.node) {
-            text.push_str(branches_told(alloc, schema.node(field.node))?.as_str())?;
+            text.push_str(branches_text(alloc, schema.node(field.node))?.as_str())?;
         }
     }
     Ok(text)
 }
 
 /// The branches of a union of two.
-fn branches_told(alloc: Global, node: &Node) -> Result<String, AllocError> {
+fn branches_text(alloc: Global, node: &Node) -> Result<String, AllocError> {
     match node {
         Node::Union(branches) if branches.len() == 2 => {
             format!(in alloc; " ({} {})", branches[0].0, branches[1].0)
@@ -69,7 +69,7 @@ fn branches_told(alloc: Global, node: &Node) -> Result<String, AllocError> {
 }
 
 /// What the root of a text is.
-fn root_told(alloc: Global, text: &str) -> Result<String, Fail> {
+fn root_text(alloc: Global, text: &str) -> Result<String, Fail> {
     let schema = read_schema(alloc, text.as_bytes())?;
     let count = schema.len();
     match schema.node(schema.root()) {
@@ -85,8 +85,8 @@ fn root_told(alloc: Global, text: &str) -> Result<String, Fail> {
 #[test]
 fn texts_declare_their_roots(rt: HostRuntime) -> Result<(), Fail> {
     for (text, wanted) in &ROOTS[..] {
-        let told = root_told(rt.alloc(), text)?;
-        assert_eq!(rt; told.as_str(), *wanted);
+        let found = root_text(rt.alloc(), text)?;
+        assert_eq!(rt; found.as_str(), *wanted);
     }
     Ok(())
 }

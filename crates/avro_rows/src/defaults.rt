@@ -147,11 +147,11 @@ const REFUSED: [(&str, &str, &str); 15] = [
 fn defaults_are_read_or_refused(rt: HostRuntime) -> Result<(), Fail> {
     for rows in [&READ[..], &REFUSED[..]] {
         for (node, default, wanted) in rows {
-            let told = match default_read(rt.alloc(), node, default)? {
+            let found = match default_read(rt.alloc(), node, default)? {
                 Ok(datum) => format!(in rt.alloc(); "{datum:?}")?,
                 Err(error) => format!(in rt.alloc(); "{error}")?,
             };
-            assert_eq!(rt; told.as_str(), *wanted, "{node} {default}");
+            assert_eq!(rt; found.as_str(), *wanted, "{node} {default}");
         }
     }
     Ok(())

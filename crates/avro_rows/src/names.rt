@@ -22,7 +22,7 @@ const FULLNAMES: [(&str, &str, &str); 14] = [
 ];
 
 /// What a text means inside a namespace, or the refusal's code.
-fn fullname_told(alloc: Global, namespace: &str, text: &str) -> Result<String, Fail> {
+fn fullname_text(alloc: Global, namespace: &str, text: &str) -> Result<String, Fail> {
     let enclosing = Namespace::read(alloc, namespace)?;
     match FullName::read(alloc, text, &enclosing) {
         Ok(name) => {
@@ -40,8 +40,8 @@ fn fullname_told(alloc: Global, namespace: &str, text: &str) -> Result<String, F
 #[test]
 fn texts_mean_fullnames_or_are_refused(rt: HostRuntime) -> Result<(), Fail> {
     for (namespace, text, wanted) in &FULLNAMES[..] {
-        let told = fullname_told(rt.alloc(), namespace, text)?;
-        assert_eq!(rt; told.as_str(), *wanted, "{text}");
+        let found = fullname_text(rt.alloc(), namespace, text)?;
+        assert_eq!(rt; found.as_str(), *wanted, "{text}");
     }
     Ok(())
 }
@@ -57,7 +57,7 @@ const NAMESPACES: [(&str, &str); 6] = [
 ];
 
 /// The namespace of a text, or the refusal's code.
-fn namespace_told(alloc: Global, text: &str) -> Result<String, Fail> {
+fn namespace_text(alloc: Global, text: &str) -> Result<String, Fail> {
     match Namespace::read(alloc, text) {
         Ok(namespace) => {
             let copy = namespace.clone()?;
@@ -74,8 +74,8 @@ fn namespace_told(alloc: Global, text: &str) -> Result<String, Fail> {
 #[test]
 fn namespaces_are_names_joined_by_dots(rt: HostRuntime) -> Result<(), Fail> {
     for (text, wanted) in &NAMESPACES[..] {
-        let told = namespace_told(rt.alloc(), text)?;
-        assert_eq!(rt; told.as_str(), *wanted, "{text}");
+        let found = namespace_text(rt.alloc(), text)?;
+        assert_eq!(rt; found.as_str(), *wanted, "{text}");
     }
     Ok(())
 }

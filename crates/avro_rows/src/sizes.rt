@@ -13,9 +13,9 @@ enum Shape {
     Blanks,
     /// Arrays, each the items of the one around it, around an int.
     Arrays,
-    /// A record of so many ints.
+    /// A record of this number of ints.
     Fields,
-    /// A default of so many objects inside each other, each of a union of two records.
+    /// A default of this number of objects inside each other, each of a union of two records.
     Unions,
 }
 
@@ -51,7 +51,7 @@ fn repeated(alloc: Global, part: &str, count: usize) -> Result<String, AllocErro
     Ok(text)
 }
 
-/// A middle, with so many of one text before it and of another behind it.
+/// A middle, with `count` of one text before it and of another behind it.
 fn nested(
     alloc: Global,
     open: &str,
@@ -79,7 +79,7 @@ fn record_of_ints(alloc: Global, fields: usize) -> Result<String, AllocError> {
 }
 
 /// A record whose second field is of a record with a union, each branch of which has a union of both; the default of
-/// that union is so many objects inside each other, around a number that no branch takes.
+/// that union is `depth` objects inside each other, around a number that no branch takes.
 fn unions_with_default(alloc: Global, depth: usize) -> Result<String, AllocError> {
     let default = nested(alloc, "{\"f\":", "3", "}", depth)?;
     format!(in alloc;
@@ -87,7 +87,7 @@ fn unions_with_default(alloc: Global, depth: usize) -> Result<String, AllocError
     )
 }
 
-/// The text of a shape of so many parts.
+/// The text of a shape of `count` parts.
 fn built(alloc: Global, shape: Shape, count: usize) -> Result<String, AllocError> {
     match shape {
         Shape::Brackets => nested(alloc, "[", "", "]", count),
