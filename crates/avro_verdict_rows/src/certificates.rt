@@ -55,7 +55,7 @@ const TEXTS: [(&str, &str); 34] = [
 ];
 
 /// The code of a text's refusal, or nothing where it is read and written again as it is.
-fn refusal_told(alloc: Global, text: &str) -> Result<String, Fail> {
+fn refusal_text(alloc: Global, text: &str) -> Result<String, Fail> {
     match Certificate::read(alloc, text.as_bytes()) {
         Ok(certificate) => {
             if certificate.write(alloc)?.as_slice() == text.as_bytes() {
@@ -81,8 +81,8 @@ fn codes(alloc: Global) -> Result<String, AllocError> {
 #[test]
 fn texts_of_certificates_are_read_or_refused(rt: HostRuntime) -> Result<(), Fail> {
     for (text, refusal) in TEXTS {
-        let told = refusal_told(rt.alloc(), text)?;
-        assert_eq!(rt; told.as_str(), refusal, "{text}");
+        let found = refusal_text(rt.alloc(), text)?;
+        assert_eq!(rt; found.as_str(), refusal, "{text}");
     }
     assert_eq!(rt; codes(rt.alloc())?.as_str(), "G1 G2 G3");
     Ok(())
@@ -102,7 +102,7 @@ const FAULTS: [(FaultKind, &[usize], &str); 5] = [
 ];
 
 /// The fault of a datum that a refutation has, or nothing where it refutes nothing.
-fn fault_told(alloc: Global, writer: &str, reader: &str, datum: &Datum) -> Result<String, Fail> {
+fn fault_text(alloc: Global, writer: &str, reader: &str, datum: &Datum) -> Result<String, Fail> {
     let writer = read_schema(alloc, writer.as_bytes())?;
     let reader = read_schema(alloc, reader.as_bytes())?;
     match check_refutation(alloc, &writer, &reader, datum)? {
@@ -121,11 +121,11 @@ fn faults_are_shown_and_refutations_checked(rt: HostRuntime) -> Result<(), Fail>
         };
         assert_eq!(rt; format!(in alloc; "{fault}")?.as_str(), text);
     }
-    let told = fault_told(alloc, "\"long\"", "\"int\"", &Datum::Long(0))?;
-    assert_eq!(rt; told.as_str(), "NoMatch at /");
-    let told = fault_told(alloc, "\"long\"", "\"int\"", &Datum::Int(0))?;
-    assert_eq!(rt; told.as_str(), "");
-    let told = fault_told(alloc, "\"int\"", "\"long\"", &Datum::Int(0))?;
-    assert_eq!(rt; told.as_str(), "");
+    let found = fault_text(alloc, "\"long\"", "\"int\"", &Datum::Long(0))?;
+    assert_eq!(rt; found.as_str(), "NoMatch at /");
+    let found = fault_text(alloc, "\"long\"", "\"int\"", &Datum::Int(0))?;
+    assert_eq!(rt; found.as_str(), "");
+    let found = fault_text(alloc, "\"int\"", "\"long\"", &Datum::Int(0))?;
+    assert_eq!(rt; found.as_str(), "");
     Ok(())
 }

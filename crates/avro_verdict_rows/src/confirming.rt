@@ -37,13 +37,17 @@ const WRITER: &str = "certified_writer.avsc";
 
 const READER: &str = "certified_reader.avsc";
 
-const TWO: &str =
+/// A record of two ints.
+pub(crate) const TWO: &str =
     r#"{"type":"record","name":"R","fields":[{"name":"a","type":"int"},{"name":"b","type":"int"}]}"#;
 
-const ONE: &str = r#"{"type":"record","name":"R","fields":[{"name":"a","type":"long"}]}"#;
+/// The same with the first field alone, as a long.
+pub(crate) const ONE: &str =
+    r#"{"type":"record","name":"R","fields":[{"name":"a","type":"long"}]}"#;
 
 /// Pairs of schemas, and the certificate of their approval.
-const ROWS: [(&str, &str, &str); 9] = [
+const ROWS: [(&str, &str, &str); 10] = [
+    (TWO, ONE, "approval 1\npair 0 0\npair 1 1\nend\n"),
     (
         INT_LIST,
         LONG_LIST,
@@ -85,7 +89,7 @@ const ROWS: [(&str, &str, &str); 9] = [
 
 /// Pairs of schemas, certificates, and the certificate of the approval that they confirm, or nothing where they confirm
 /// none: those that are not closed.
-const GIVEN: [(&str, &str, &str, &str); 9] = [
+const GIVEN: [(&str, &str, &str, &str); 10] = [
     (
         TWO,
         ONE,
@@ -111,6 +115,7 @@ const GIVEN: [(&str, &str, &str, &str); 9] = [
         "",
     ),
     (HALF_DEAD, r#""string""#, "approval 1\ndead 0\nend\n", ""),
+    (HALF_DEAD, r#""string""#, "approval 1\nend\n", ""),
     (r#""int""#, r#""int""#, "approval 1\nend\n", ""),
     (
         OWN,

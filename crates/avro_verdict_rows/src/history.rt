@@ -48,7 +48,7 @@ const TEXTS: [(&str, &str); 18] = [
 ];
 
 /// The code of a text's refusal, or nothing where it is read and written again as it is.
-fn refusal_told(alloc: Global, text: &str) -> Result<String, Fail> {
+fn refusal_text(alloc: Global, text: &str) -> Result<String, Fail> {
     match HistoryCert::read(alloc, text.as_bytes()) {
         Ok(history) => {
             if history.write(alloc)?.as_slice() == text.as_bytes() {
@@ -65,8 +65,8 @@ fn refusal_told(alloc: Global, text: &str) -> Result<String, Fail> {
 fn texts_of_histories_are_read_or_refused(rt: HostRuntime) -> Result<(), Fail> {
     let alloc = rt.alloc();
     for (text, refusal) in TEXTS {
-        let told = refusal_told(alloc, text)?;
-        assert_eq!(rt; told.as_str(), refusal, "{text}");
+        let found = refusal_text(alloc, text)?;
+        assert_eq!(rt; found.as_str(), refusal, "{text}");
     }
     let empty = HistoryCert::new(Vec::new(alloc));
     let reader = read_schema(alloc, b"\"int\"".as_slice())?;

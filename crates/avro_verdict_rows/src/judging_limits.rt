@@ -1,21 +1,12 @@
 //! Verdicts at the limits of judging, and beyond them.
 
 use crate::judging::verdict;
-use crate::texts::{chain, doubled, record_of_ints};
+use crate::texts::{Text, built};
 use avro_judge::{JudgeLimits, Verdict, judge};
 use avro_schema::{Draft, Limits, Node};
 use avro_schema_json::read_schema;
-use std::alloc::{AllocError, Global};
+use std::alloc::Global;
 use std::test::Fail;
-
-/// The text of a schema, or what it is built of and how many.
-#[derive(Clone, Copy)]
-enum Text {
-    Plain(&'static str),
-    Doubled(u32),
-    Chain(u32),
-    Ints(u32),
-}
 
 /// A record without fields.
 const EMPTY: Text = Text::Plain(r#"{"type":"record","name":"X","fields":[]}"#);
@@ -134,16 +125,6 @@ const ROWS: [(Text, Text, u32, u32, u32, &str); 14] = [
     ),
 ];
 
-/// The text that is built.
-fn built(alloc: Global, text: Text) -> Result<String, AllocError> {
-    match text {
-        Text::Plain(text) => String::from_str(alloc, text),
-        Text::Doubled(count) => doubled(alloc, count),
-        Text::Chain(count) => chain(alloc, count),
-        Text::Ints(count) => record_of_ints(alloc, count),
-    }
-}
-
 /// Limits of depth, size and pairs.
 fn limits_of(depth: u32, size: u32, pairs: u32) -> Result<JudgeLimits, &'static str> {
     let limits = Limits::new(depth, 1_048_576, 16_777_216).ok_or("limits")?;
@@ -159,6 +140,25 @@ fn limits_are_exact(rt: HostRuntime) -> Result<(), Fail> {
         let found = verdict(rt.alloc(), writer.as_str(), reader.as_str(), &limits)?;
         assert!(rt; found.as_str().starts_with(text), "{found}");
     }
+    Ok(())
+}
+
+/// A record of a fixed of two bytes and an int, and the same with a string for the int.
+const FIXED_AND_INT: &str =
+    r#"{"type":"record","name":"R","fields":[{"name":"f","type":{"type":"fixed","name":"F","size":2}},{"name":"x","type":"int"}]}"#;
+
+const FIXED_AND_STRING: &str =
+    r#"{"type":"record","name":"R","fields":[{"name":"f","type":{"type":"fixed","name":"F","size":2}},{"name":"x","type":"string"}]}"#;
+
+#[test]
+fn contents_have_no_limit(rt: HostRuntime) -> Result<(), Fail> {
+    let limits = Limits::new(128, 1_048_576, 1).ok_or("limits")?;
+    let limits = JudgeLimits::new(4_194_304, 4096, limits).ok_or("limits of judging")?;
+    let found = verdict(rt.alloc(), FIXED_AND_INT, FIXED_AND_STRING, &limits)?;
+    assert_eq!(rt;
+        found.as_str(),
+        "no\nfault NoMatch at /1\nnodes 3\ndatum {\"f\":\"\\u0000\\u0000\",\"x\":0}\n"
+    );
     Ok(())
 }
 

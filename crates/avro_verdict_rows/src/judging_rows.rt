@@ -1,7 +1,14 @@
 //! Rows of verdicts.
 
+/// A record, and a union of it after another one of its simple name.
+const SHOP_ORDER: &str =
+    r#"{"type":"record","name":"shop.Order","fields":[{"name":"id","type":"int"}]}"#;
+
+const ARCHIVE_FIRST: &str =
+    r#"[{"type":"record","name":"archive.Order","fields":[{"name":"id","type":"string"}]},{"type":"record","name":"shop.Order","fields":[{"name":"id","type":"int"}]}]"#;
+
 /// Pairs of schemas, and their verdicts at the default limits.
-pub(crate) const ROWS: [(&str, &str, &str); 31] = [
+pub(crate) const ROWS: [(&str, &str, &str); 40] = [
     (r#""int""#, r#""long""#, "yes\n"),
     (
         r#""long""#,
@@ -132,5 +139,49 @@ pub(crate) const ROWS: [(&str, &str, &str); 31] = [
         r#"[{"type":"fixed","name":"q.H","size":2},{"type":"fixed","name":"E","size":1}]"#,
         r#"["null",{"type":"fixed","name":"p.A","size":1},{"type":"fixed","name":"p.B","size":1},{"type":"fixed","name":"p.C","size":1},{"type":"fixed","name":"p.D","size":1},{"type":"enum","name":"p.E","symbols":["x"]},{"type":"record","name":"p.F","fields":[]},{"type":"fixed","name":"p.G","aliases":["q.H"],"size":2}]"#,
         "no\nfault NoBranch at /0\nnodes 2\ndatum {\"E\":\"\\u0000\"}\n",
+    ),
+    // The fault is behind a record that has a default for the reader.
+    (
+        r#"{"type":"record","name":"W","fields":[{"name":"f","type":{"type":"record","name":"R","fields":[]}},{"name":"z","type":"int"}]}"#,
+        r#"{"type":"record","name":"W","fields":[{"name":"f","type":{"type":"record","name":"R","fields":[{"name":"d","type":{"type":"array","items":"int"},"default":[0,0]}]}},{"name":"z","type":"string"}]}"#,
+        "no\nfault NoMatch at /1\nnodes 3\ndatum {\"f\":{},\"z\":0}\n",
+    ),
+    // Of least data of equal branches the first, and the first symbol that is lacking.
+    (
+        r#"["int","long"]"#,
+        r#""string""#,
+        "no\nfault NoMatch at /0\nnodes 2\ndatum {\"int\":0}\n",
+    ),
+    (
+        r#"{"type":"enum","name":"E","symbols":["A","B","C"]}"#,
+        r#"{"type":"enum","name":"E","symbols":["A"]}"#,
+        "no\nfault NoSymbol at /\nnodes 1\ndatum \"B\"\n",
+    ),
+    (
+        r#"{"type":"record","name":"R","fields":[{"name":"u","type":["int","null"]}]}"#,
+        r#""int""#,
+        "no\nfault NoMatch at /\nnodes 3\ndatum {\"u\":{\"int\":0}}\n",
+    ),
+    // The first branch that matches takes the value, and not the one that would take all values.
+    (
+        r#""bytes""#,
+        r#"["string","bytes"]"#,
+        "no\nfault NotUtf8 at /\nnodes 1\ndatum \"\u{ff}\"\n",
+    ),
+    (r#""bytes""#, r#"["bytes","string"]"#, "yes\n"),
+    (
+        SHOP_ORDER,
+        ARCHIVE_FIRST,
+        "no\nfault NoMatch at /0\nnodes 2\ndatum {\"id\":0}\n",
+    ),
+    (
+        SHOP_ORDER,
+        r#"[{"type":"record","name":"shop.Order","fields":[{"name":"id","type":"int"}]},{"type":"record","name":"archive.Order","fields":[{"name":"id","type":"string"}]}]"#,
+        "yes\n",
+    ),
+    (
+        ARCHIVE_FIRST,
+        ARCHIVE_FIRST,
+        "no\nfault NoMatch at /0/0\nnodes 3\ndatum {\"shop.Order\":{\"id\":0}}\n",
     ),
 ];

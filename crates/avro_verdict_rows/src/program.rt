@@ -1,31 +1,57 @@
 //! Runs of the program: what it answers and writes.
 
-use crate::program_rows::{FILES, RUNS, USAGE};
-use crate::texts::{padded_int, record_of_ints, unions_with_default};
+use crate::program_rows::{BUILT, CONFIRMATIONS, FILES, SCHEMAS, USAGE, VERDICTS};
+use crate::texts::built;
 use avro_runs::{Full, outcome_of, words_of};
 use avro_tool::run;
 use std::fs;
 use std::test::Fail;
 
 #[test]
-fn runs_are_told(rt: HostRuntime) -> Result<(), Fail> {
-    let alloc = rt.alloc();
+fn verdicts_of_files_are_told(rt: HostRuntime) -> Result<(), Fail> {
     for (file, text) in FILES {
         fs::write(&rt, file, text)?;
     }
+    for (file, text) in BUILT {
+        fs::write(&rt, file, &built(rt.alloc(), text)?)?;
+    }
     fs::create_dir(&rt, "folder")?;
-    fs::write(&rt, "most.avsc", &padded_int(alloc, 1_048_576)?)?;
-    fs::write(&rt, "long.avsc", &padded_int(alloc, 1_048_577)?)?;
-    fs::write(&rt, "full.avsc", &record_of_ints(alloc, 4095)?)?;
-    fs::write(&rt, "over.avsc", &record_of_ints(alloc, 4096)?)?;
-    fs::write(&rt, "deep.avsc", &unions_with_default(alloc, 60)?)?;
-    for (line, status, out, err) in RUNS {
+    for (line, status, out, err) in VERDICTS {
         let ran = outcome_of(&rt, line)?;
         assert_eq!(rt; ran.status, status, "{line}");
         assert_eq!(rt; ran.out.as_slice(), out.as_bytes(), "{line}");
         assert_eq!(rt; ran.err.as_slice(), err.as_bytes(), "{line}");
     }
     assert!(rt; fs::read_to_string(&rt, "no.cert").is_err());
+    Ok(())
+}
+
+#[test]
+fn certificates_of_files_are_confirmed(rt: HostRuntime) -> Result<(), Fail> {
+    for (file, text) in FILES {
+        fs::write(&rt, file, text)?;
+    }
+    for (line, status, out, err) in CONFIRMATIONS {
+        let ran = outcome_of(&rt, line)?;
+        assert_eq!(rt; ran.status, status, "{line}");
+        assert_eq!(rt; ran.out.as_slice(), out.as_bytes(), "{line}");
+        assert_eq!(rt; ran.err.as_slice(), err.as_bytes(), "{line}");
+    }
+    Ok(())
+}
+
+#[test]
+fn schemas_at_their_limits_are_told(rt: HostRuntime) -> Result<(), Fail> {
+    fs::write(&rt, "unknown.avsc", "\"Foo\"")?;
+    for (file, text) in BUILT {
+        fs::write(&rt, file, &built(rt.alloc(), text)?)?;
+    }
+    for (line, status, out, err) in SCHEMAS {
+        let ran = outcome_of(&rt, line)?;
+        assert_eq!(rt; ran.status, status, "{line}");
+        assert_eq!(rt; ran.out.as_slice(), out.as_bytes(), "{line}");
+        assert_eq!(rt; ran.err.as_slice(), err.as_bytes(), "{line}");
+    }
     Ok(())
 }
 

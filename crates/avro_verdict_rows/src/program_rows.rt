@@ -1,23 +1,59 @@
 //! Rows of the program's runs.
 
-use crate::confirming::TEXT;
+use crate::confirming::{ONE, TEXT, TWO};
+use crate::texts::Text;
 
 /// A record whose second field is bytes, and not a text.
 const PLAIN: &str =
     r#"{"type":"record","name":"P","fields":[{"name":"a","type":"int"},{"name":"b","type":"bytes"},{"name":"d","type":"null"}]}"#;
 
 /// Files, and what they hold.
-pub(crate) const FILES: [(&str, &str); 6] = [
+pub(crate) const FILES: [(&str, &str); 16] = [
     ("int.avsc", "\"int\""),
     ("open.avsc", "{"),
     ("float.avsc", "\"float\""),
     ("unknown.avsc", "\"Foo\""),
     ("text.avsc", TEXT),
     ("plain.avsc", PLAIN),
+    ("two.avsc", TWO),
+    ("one.avsc", ONE),
+    (
+        "fieldless.avsc",
+        r#"{"type":"record","name":"X","fields":[]}"#,
+    ),
+    ("roots.cert", "approval 1\npair 0 0\nend\n"),
+    ("least.cert", "approval 1\npair 0 0\npair 1 1\nend\n"),
+    (
+        "more.cert",
+        "approval 1\npair 0 0\npair 1 1\npair 2 1\nend\n",
+    ),
+    (
+        "unmatched.cert",
+        "approval 1\npair 0 0\npair 1 0\npair 1 1\nend\n",
+    ),
+    ("outside.cert", "approval 1\npair 0 0\npair 0 5\nend\n"),
+    ("unended.cert", "approval 1\npair 0 0\n"),
+    (
+        "great_number.cert",
+        "approval 1\npair 0 0\npair 0 4096\nend\n",
+    ),
 ];
 
-/// The words of runs, and what they answer and write.
-pub(crate) const RUNS: [(&str, u8, &str, &str); 19] = [
+/// Files, and what their texts are built of.
+pub(crate) const BUILT: [(&str, Text); 9] = [
+    ("most.avsc", Text::Padded(1_048_576)),
+    ("long.avsc", Text::Padded(1_048_577)),
+    ("full.avsc", Text::Ints(4095)),
+    ("over.avsc", Text::Ints(4096)),
+    ("deep.avsc", Text::Defaults(60)),
+    ("large.avsc", Text::Doubled(11)),
+    ("chain.avsc", Text::Chain(200)),
+    ("shorter.avsc", Text::Chain(199)),
+    ("too_wide.avsc", Text::Ints(2048)),
+];
+
+/// The words of runs that judge, and what they answer and write.
+pub(crate) const VERDICTS: [(&str, u8, &str, &str); 16] = [
     ("judge most.avsc int.avsc", 0, "yes\n", ""),
     ("judge long.avsc int.avsc", 3, "", "avro: long.avsc: S12\n"),
     ("judge open.avsc int.avsc", 3, "", "avro: open.avsc: S1\n"),
@@ -64,6 +100,25 @@ pub(crate) const RUNS: [(&str, u8, &str, &str); 19] = [
         "no\nfault NotUtf8 at /1\nnodes 4\ndatum {\"a\":0,\"b\":\"\u{ff}\",\"d\":null}\n",
         "",
     ),
+    (
+        "judge large.avsc fieldless.avsc --certificate no.cert",
+        2,
+        "undecided Size\n",
+        "",
+    ),
+    (
+        "judge chain.avsc shorter.avsc --certificate no.cert",
+        2,
+        "undecided Depth\n",
+        "",
+    ),
+    (
+        "judge --certificate no.cert too_wide.avsc too_wide.avsc",
+        2,
+        "undecided Pairs\n",
+        "",
+    ),
+    ("judge large.avsc fieldless.avsc", 2, "undecided Size\n", ""),
     // A file that cannot be written is told after the verdict.
     (
         "judge --certificate folder int.avsc int.avsc",
@@ -77,6 +132,72 @@ pub(crate) const RUNS: [(&str, u8, &str, &str); 19] = [
         "yes\n",
         "avro: none/yes.cert: cannot write\n",
     ),
+];
+
+/// The words of runs that confirm, and what they answer and write.
+pub(crate) const CONFIRMATIONS: [(&str, u8, &str, &str); 11] = [
+    ("confirm two.avsc one.avsc least.cert", 0, "confirmed\n", ""),
+    ("confirm two.avsc one.avsc more.cert", 0, "confirmed\n", ""),
+    // The certificate of an int for an int, one with a pair that does not match, and one with a number of no node.
+    (
+        "confirm two.avsc one.avsc roots.cert",
+        1,
+        "not confirmed\n",
+        "",
+    ),
+    (
+        "confirm two.avsc one.avsc unmatched.cert",
+        1,
+        "not confirmed\n",
+        "",
+    ),
+    (
+        "confirm int.avsc int.avsc outside.cert",
+        1,
+        "not confirmed\n",
+        "",
+    ),
+    (
+        "confirm int.avsc int.avsc unended.cert",
+        3,
+        "",
+        "avro: unended.cert: G1\n",
+    ),
+    (
+        "confirm int.avsc int.avsc great_number.cert",
+        3,
+        "",
+        "avro: great_number.cert: G2\n",
+    ),
+    (
+        "confirm int.avsc int.avsc none.cert",
+        4,
+        "",
+        "avro: none.cert: cannot read\n",
+    ),
+    // Files are read in the order of the words.
+    (
+        "confirm open.avsc float.avsc unended.cert",
+        3,
+        "",
+        "avro: open.avsc: S1\n",
+    ),
+    (
+        "confirm int.avsc float.avsc unended.cert",
+        3,
+        "",
+        "avro: float.avsc: S10\n",
+    ),
+    (
+        "confirm int.avsc none.avsc unended.cert",
+        4,
+        "",
+        "avro: none.avsc: cannot read\n",
+    ),
+];
+
+/// The words of runs that read a schema, and what they answer and write.
+pub(crate) const SCHEMAS: [(&str, u8, &str, &str); 7] = [
     ("schema most.avsc", 0, "ok 1\n", ""),
     ("schema long.avsc", 3, "", "avro: long.avsc: S12\n"),
     ("schema full.avsc", 0, "ok 4096\n", ""),

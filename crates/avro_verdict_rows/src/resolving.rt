@@ -42,7 +42,7 @@ fn resolved(alloc: Global, writer: &Schema, reader: &Schema, bytes: &[u8]) -> Re
 
 /// What a reading answers with each builder, told once. Nothing where they differ, or where what is packed is neither
 /// the plain encoding of the datum nor these bytes.
-fn told(
+fn answer_text(
     alloc: Global,
     reader: &Schema,
     plain: &[u8],
@@ -100,7 +100,7 @@ fn planned(
     let tree = plan.read(alloc, bytes, &limits, &mut Tree);
     let packed = plan.read(alloc, bytes, &limits, &mut Packed);
     let walked = plan.read(alloc, bytes, &limits, &mut Nothing);
-    told(alloc, reader, plain, tree, packed, walked)
+    answer_text(alloc, reader, plain, tree, packed, walked)
 }
 
 /// What all readings answer of a row: without a plan, and with plans of no pair, of all pairs, of some of them again
@@ -114,7 +114,7 @@ fn answer(alloc: Global, row: &Row, all: &[(NodeId, NodeId)]) -> Result<String, 
     let tree = decode_resolved(alloc, &writer, &reader, bytes, &limits);
     let packed = read_resolved(alloc, &writer, &reader, bytes, &limits, &mut Packed);
     let walked = read_resolved(alloc, &writer, &reader, bytes, &limits, &mut Nothing);
-    let found = told(alloc, &reader, plain, tree, packed, walked)?;
+    let found = answer_text(alloc, &reader, plain, tree, packed, walked)?;
     if found != text {
         return Ok(format!(in alloc; "{text}, but read_resolved: {found}")?);
     }

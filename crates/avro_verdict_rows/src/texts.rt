@@ -2,8 +2,31 @@
 
 use std::alloc::{AllocError, Global};
 
+/// The text of a schema, or what it is built of and how many.
+#[derive(Clone, Copy)]
+pub(crate) enum Text {
+    Plain(&'static str),
+    Padded(usize),
+    Ints(u32),
+    Defaults(u32),
+    Doubled(u32),
+    Chain(u32),
+}
+
+/// The text that is built.
+pub(crate) fn built(alloc: Global, text: Text) -> Result<String, AllocError> {
+    match text {
+        Text::Plain(text) => String::from_str(alloc, text),
+        Text::Padded(len) => padded_int(alloc, len),
+        Text::Ints(count) => record_of_ints(alloc, count),
+        Text::Defaults(depth) => unions_with_default(alloc, depth),
+        Text::Doubled(count) => doubled(alloc, count),
+        Text::Chain(count) => chain(alloc, count),
+    }
+}
+
 /// The text of an int, with blanks up to a length.
-pub(crate) fn padded_int(alloc: Global, len: usize) -> Result<String, AllocError> {
+fn padded_int(alloc: Global, len: usize) -> Result<String, AllocError> {
     let mut text = String::from_str(alloc, "\"int\"")?;
     for _ in text.len()..len {
         text.push(' ')?;
@@ -27,7 +50,7 @@ pub(crate) fn record_of_ints(alloc: Global, fields: u32) -> Result<String, Alloc
 
 /// A record whose second field has a union as its type, each branch of which has a union of both; the field's default
 /// is that many objects inside each other, around a number that no branch takes.
-pub(crate) fn unions_with_default(alloc: Global, depth: u32) -> Result<String, AllocError> {
+fn unions_with_default(alloc: Global, depth: u32) -> Result<String, AllocError> {
     let mut text = String::from_str(
         alloc,
         r#"{"type":"record","name":"O","fields":[{"name":"a","type":{"type":"record","name":"A","fields":[{"name":"f","type":["A",{"type":"record","name":"B","fields":[{"name":"f","type":["A","B"]}]}]}]}},{"name":"x","type":["A","B"],"default":"#,
@@ -44,7 +67,7 @@ pub(crate) fn unions_with_default(alloc: Global, depth: u32) -> Result<String, A
 }
 
 /// Records of which each holds the one before twice; the first holds an enum of one symbol.
-pub(crate) fn doubled(alloc: Global, count: u32) -> Result<String, AllocError> {
+fn doubled(alloc: Global, count: u32) -> Result<String, AllocError> {
     let mut text = String::from_str(
         alloc,
         r#"{"type":"record","name":"R0","fields":[{"name":"f","type":{"type":"enum","name":"E","symbols":["S"]}}]}"#,
@@ -59,7 +82,7 @@ pub(crate) fn doubled(alloc: Global, count: u32) -> Result<String, AllocError> {
 }
 
 /// A union of records, the first without fields, each later one with a field of the one before.
-pub(crate) fn chain(alloc: Global, count: u32) -> Result<String, AllocError> {
+fn chain(alloc: Global, count: u32) -> Result<String, AllocError> {
     let mut text = String::from_str(alloc, r#"[{"type":"record","name":"A0","fields":[]}"#)?;
     for number in 1..count {
         let before = number.saturating_sub(1);
