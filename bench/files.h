@@ -24,7 +24,7 @@ struct input {
     size_t room;
 };
 
-/* Reads until so many bytes are there, or the file ends. */
+/* Reads until `want` bytes are there, or the file ends. */
 static int is_there(struct input *input, size_t want) {
     while (input->end - input->start < want) {
         if (input->room - input->end < GROWTH) {
@@ -65,7 +65,7 @@ struct header {
     uint8_t sync[SYNC];
 };
 
-/* Reads the data of a block, so many, and puts their copies; of a fault it tells the datum. */
+/* Reads the `count` data of a block, and puts their copies; of a fault it tells the datum. */
 typedef enum fault (*read_data)(struct walk *walk, uint64_t count, struct out *out, uint64_t *datum);
 
 /* The entries of the metadata; the header must be in the first bytes of the file. */

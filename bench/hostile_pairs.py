@@ -60,7 +60,7 @@ def enums(count, **more):
 
 
 def one_enum(count, symbols):
-    """So many fields of one enum of so many symbols."""
+    """`count` fields of one enum of `symbols` symbols."""
     fields = [("f0", enum([f"S{i}" for i in range(symbols)]))]
     return ["null", record("R", fields + [(f"f{i}", "E") for i in range(1, count)])]
 
@@ -73,6 +73,37 @@ def branches(count):
     return ["null", record("R", fields)]
 
 
+def doubled(count, fields, last):
+    """Records of which each later one has the one before twice, the first with some fields; and around them a last field."""
+    inner = {"type": "record", "name": "R0", "fields": fields}
+    for i in range(1, count):
+        inner = record(f"R{i}", [("a", inner), ("b", f"R{i - 1}")])
+    return ["null", record("W", [("f", inner), ("z", last)])]
+
+
+def long_default(items):
+    """A field whose default is an array of zeros."""
+    return {"name": "d", "type": {"type": "array", "items": "int"}, "default": [0] * items}
+
+
+def chain(count, fields):
+    """Fields of one union of records, each of which but the first has a field of the one before."""
+    links = [record("A", [], namespace="n0")]
+    links += [record("A", [("f", f"n{i - 1}.A")], namespace=f"n{i}") for i in range(1, count)]
+    head = record("V", [("u", links)])
+    return ["null", record("R", [("f0", head)] + [(f"f{i}", "V") for i in range(1, fields)])]
+
+
+def ring(number):
+    """A record of a record that holds itself."""
+    return record("V", [("u", record("A", [("f", "A")]))], namespace=f"n{number}")
+
+
+def rings(count):
+    """Fields of such records, each of a type of its own."""
+    return ["null", record("R", [(f"f{i}", ring(i)) for i in range(count)])]
+
+
 def pairs():
     """Each pair by its name: the writer's schema and the reader's."""
     yield "an alias table a union", ["null"], aliased(2_000)
@@ -81,6 +112,8 @@ def pairs():
     yield "enums against one long enum", enums(2_000), one_enum(2_000, 60_000)
     yield "one long enum against enums", one_enum(500, 60_000), enums(500, default="S0")
     yield "unions of 1,000 records", branches(1_000), branches(1_000)
+    yield "a long default a record", doubled(10, [], "int"), doubled(10, [long_default(100_000)], "string")
+    yield "chains against the order", chain(1_000, 1_000), rings(1_000)
 
 
 def number(n):

@@ -22,7 +22,7 @@ class Row:
         self.status = status
         # The files that it writes, with their bytes.
         self.written = {} if written is None else written
-        # A file that is made only after so many bytes of another were read.
+        # A file that is made only after a number of bytes of another were read.
         self.behind = behind
 
     def write_files(self):

@@ -85,7 +85,7 @@ def lengths(front):
 
 
 def counts(front, left):
-    """Counts of items that take bytes, behind some bytes, where so many nodes are left."""
+    """Counts of items that take bytes, behind some bytes, where `left` nodes are left."""
     for count in near(left):
         end = len(front) + len(number(count))
         is_over = count > left

@@ -30,9 +30,9 @@ def union(count):
     return [record(f"R{i}", [("f", "int")]) for i in range(count)]
 
 
-def wide(count):
-    """A record of int fields."""
-    return record("W", [(f"field_{i}", "int") for i in range(count)])
+def wide(count, last="int"):
+    """A record of int fields, but for the type of the last one."""
+    return record("W", [(f"field_{i}", "int") for i in range(count - 1)] + [(f"field_{count - 1}", last)])
 
 
 def nested(count):
@@ -59,9 +59,10 @@ def pairs():
         yield f"union {count} less one", union(count), union(count)[:-1]
     for count in (500, 1_000, 2_047):
         yield f"fields {count}", wide(count), wide(count)
+        yield f"fields {count} one unread", wide(count), wide(count, "string")
     for count in (10, 20, 30):
         yield f"nested {count}", nested(count), nested(count)
-    for count in (100, 200):
+    for count in (100, 200, 500, 1_000):
         yield f"chain {count}", chain(count), chain(count - 1)
     for count in (5_000, 10_000, 20_000):
         yield f"symbols {count} reversed", symbols(range(count)), symbols(reversed(range(count)))
