@@ -114,7 +114,7 @@ module _ (writer reader : List Node) (limit : ℕ) (table : LeastTable) (erring 
       }
 
   -- a writer's union
-  union_asked : (n q : Node) (ids : List ℕ) → Asked.branches ids ≡ asked writer reader n q → n ≡ Node.union ids
+  pub union_asked : (n q : Node) (ids : List ℕ) → Asked.branches ids ≡ asked writer reader n q → n ≡ Node.union ids
   union_asked (Node.union ps) q ids e = ap Node.union (sym (ap branches_in e))
     where
       branches_in : Asked → List ℕ
@@ -346,17 +346,17 @@ module _ (writer reader : List Node) (limit : ℕ) (table : LeastTable) (erring 
             (later (omega (arith, from, apart)) (omega (arith, to)))
 
   -- two records
-  record IsRecords (n q : Node) (rows : List Row) : Type 0 where
-    name : Name
-    other : Name
-    aliases : List Name
-    others : List Name
-    fields : List FieldNode
-    theirs : List FieldNode
-    from_is : n ≡ Node.record_of name aliases fields
-    to_is : q ≡ Node.record_of other others theirs
-    none : is_some (missing_field fields theirs) ≡ false
-    rows_is : rows ≡ rows_from fields theirs 0 (field_ids fields)
+  pub record IsRecords (n q : Node) (rows : List Row) : Type 0 where
+    pub name : Name
+    pub other : Name
+    pub aliases : List Name
+    pub others : List Name
+    pub fields : List FieldNode
+    pub theirs : List FieldNode
+    pub from_is : n ≡ Node.record_of name aliases fields
+    pub to_is : q ≡ Node.record_of other others theirs
+    pub none : is_some (missing_field fields theirs) ≡ false
+    pub rows_is : rows ≡ rows_from fields theirs 0 (field_ids fields)
 
   abbrev rows_in : Asked → List Row
   rows_in (Asked.fields rows) = rows
@@ -383,7 +383,7 @@ module _ (writer reader : List Node) (limit : ℕ) (table : LeastTable) (erring 
       chosen None s = grind arith
       chosen (Some k) s = grind arith
 
-  records_asked : (n q : Node) (rows : List Row) → Asked.fields rows ≡ asked writer reader n q → (is_match writer reader n q ≡ true) × IsRecords n q rows
+  pub records_asked : (n q : Node) (rows : List Row) → Asked.fields rows ≡ asked writer reader n q → (is_match writer reader n q ≡ true) × IsRecords n q rows
   records_asked (Node.union ids) q rows e = absurd (grind arith)
   records_asked n q rows e = by n q refl e
     where

@@ -14,7 +14,7 @@ use Rattle.avro_least.proofs.LeastErrors.{err_of_plain, err_of_none, err_of_some
 
 module _ (limit : ℕ) (table : LeastTable) (erring : ErringTable) where
   -- the nodes of the rows are those of the fields
-  row_nodes : (ws rs : List FieldNode) (index : ℕ) (ps : List ℕ) → map (λ r. r.node) (rows_from ws rs index ps) ≡ ps
+  pub row_nodes : (ws rs : List FieldNode) (index : ℕ) (ps : List ℕ) → map (λ r. r.node) (rows_from ws rs index ps) ≡ ps
   row_nodes ws rs index [] = refl
   row_nodes ws rs index (p ∷ ps) = ap (λ qs. p ∷ qs) (row_nodes ws rs (suc index) ps)
 

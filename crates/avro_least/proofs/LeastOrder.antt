@@ -35,7 +35,7 @@ and_not true b h e = h
 and_not false b h e = absurd (true≢false (sym e))
 
 -- what precedes is no more
-precedes_under : (a b : Least) (s d : ℕ) → precedes b a ≡ true → IsUnder a s d → IsUnder b s d
+pub precedes_under : (a b : Least) (s d : ℕ) → precedes b a ≡ true → IsUnder a s d → IsUnder b s d
 precedes_under a b s d p h = elim (or_cases (nat_lt b.nodes a.nodes) (b.nodes == a.nodes && nat_lt b.depth a.depth) p) [
   | inl first ↦ (let m = ltb-true b.nodes a.nodes first in record { fewer = omega (arith, m, h.fewer); shallower = λ k. absurd (omega (arith, m, k, h.fewer)) })
   | inr later ↦

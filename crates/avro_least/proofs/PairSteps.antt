@@ -192,55 +192,37 @@ pair_set_shown writer reader limit table keys es i k found within here shown own
       (own (subst (λ (o : Option Least). is_some o ≡ true) new.2 some))))
 ]
 
-pub pair_set_falls : (es : List (Option KeptLeast)) (i : ℕ) (found : Option KeptLeast) → i < length es → improves (seen found) (given_entry (slice_get es i)) ≡ true
-    → weights (set es i found) < weights es
-pair_set_falls es i found within better =
-    let lighter : weight found < weight (get_or es i None) =
-    weight_falls found (get_or es i None)
-    (subst (λ (o : Option (Option KeptLeast)). improves (seen found) (given_entry o) ≡ true) (slice_get-get_or es i None within) better) in
-    omega (arith, lighter, sum_by-set weight es i found None within)
+-- where no entry is known, no pair that was reached has one
+module _ (count n : ℕ) (table : LeastTable) (keys : List ℕ) (same : n ≡ length keys) (w r : ℕ) (known : is_known count table keys (record { w = w; r = r }) ≡ true) where
+  slice_get-replicate : (n p : ℕ) → p < n → slice_get (replicate {A = Option KeptLeast} n None) p ≡ Some None
+  slice_get-replicate zero p h = absurd (omega (arith, h))
+  slice_get-replicate (suc n) zero h = refl
+  slice_get-replicate (suc n) (suc p) h = slice_get-replicate n p (omega (arith, h))
 
-pub pair_stays_low : (writer reader : List Node) (limit : ℕ) (table : LeastTable) (keys : List ℕ) (es : List (Option KeptLeast)) (i key : ℕ) (found : Option KeptLeast)
-    → slice_get keys i ≡ Some key
-    → seen found ≡ asked_value limit table (erring_of (length reader) table keys (seen_all es)) (key / length reader) (key % length reader) (asked_at writer reader key)
-    → improves (seen found) (given_entry (slice_get es i)) ≡ false → IsLowAtIndex writer reader limit table keys (seen_all es) i
-pair_stays_low writer reader limit table keys es i key found here is worse k there s d m =
-    let same : k ≡ key = some_same k key (sym there ∙ here) in
-    subst (λ (e : Option Least). AtMost e s d) (sym (given_is es i))
-    (improves_low (seen found) (given_entry (slice_get es i)) s d worse
-    (subst (λ (e : Option Least). AtMost e s d)
-    (sym (is ∙ value_is limit table (erring_of (length reader) table keys (seen_all es)) writer reader (key / length reader) (key % length reader) (node_at writer (key / length reader)) (node_at reader (key % length reader))))
-    (subst (λ (n : ℕ). AtMost (err_of writer reader limit table (erring_of (length reader) table keys (seen_all es)) (n / length reader) (n % length reader) (node_at writer (n / length reader)) (node_at reader (n % length reader))) s d) same m)))
-  where
-    some_same : (a b : ℕ) → Some a ≡ Some b → a ≡ b
-    some_same a b e = cc
+  at : (x : Least) → table w ≡ Some x → nat_lt r count ≡ true → is_key keys (pair_number count w r) ≡ true
+      → (o : Option ℕ) → position (λ q. pair_number count w r == q) keys ≡ o
+      → erring_of count table keys (seen_all (replicate {A = Option KeptLeast} n None)) w r ≡ None
+  at x e m there None p = absurd (false≢true (sym (no_position (λ q. pair_number count w r == q) 0 keys
+      (sym (position_from-zero (λ q. pair_number count w r == q) keys) ∙ p)) ∙ there))
+  at x e m there (Some j) p =
+      erring_at count table keys (seen_all (replicate {A = Option KeptLeast} n None)) w r x (Some j) e m p
+      ∙ given_is (replicate {A = Option KeptLeast} n None) j
+      ∙ ap given_entry (slice_get-replicate n j (omega (arith, same, (position-Some (λ q. pair_number count w r == q) keys j 0 p).0)))
 
--- at the start no pair that was reached has an entry
+  by_node : (o : Option Least) → table w ≡ o → erring_of count table keys (seen_all (replicate {A = Option KeptLeast} n None)) w r ≡ None
+  by_node None e = erring_none count table keys (seen_all (replicate {A = Option KeptLeast} n None)) w r e
+  by_node (Some x) e =
+      let live : (nat_lt r count && is_key keys (pair_number count w r)) ≡ true =
+      subst (λ (o : Option Least). (is_none o || (nat_lt r count && is_key keys (pair_number count w r))) ≡ true) e known in
+      at x e (and_left (nat_lt r count) (is_key keys (pair_number count w r)) live)
+      (and_right (nat_lt r count) (is_key keys (pair_number count w r)) live)
+      (position (λ q. pair_number count w r == q) keys) refl
+
+  pub unknown_none : erring_of count table keys (seen_all (replicate {A = Option KeptLeast} n None)) w r ≡ None
+  unknown_none = by_node (table w) refl
+
+-- so each of them is shown
 pub start_pairs : (writer reader : List Node) (limit n : ℕ) (table : LeastTable) (keys : List ℕ) → n ≡ length keys
     → ArePairsShown writer reader limit table keys (seen_all (replicate {A = Option KeptLeast} n None))
 start_pairs writer reader limit n table keys same w r known some =
-    absurd (false≢true (subst (λ (o : Option Least). is_some o ≡ true) (none (table w) refl) some))
-  where
-    slice_get-replicate : (n p : ℕ) → p < n → slice_get (replicate {A = Option KeptLeast} n None) p ≡ Some None
-    slice_get-replicate zero p h = absurd (omega (arith, h))
-    slice_get-replicate (suc n) zero h = refl
-    slice_get-replicate (suc n) (suc p) h = slice_get-replicate n p (omega (arith, h))
-
-    at : (x : Least) → table w ≡ Some x → nat_lt r (length reader) ≡ true → is_key keys (pair_number (length reader) w r) ≡ true
-        → (o : Option ℕ) → position (λ q. pair_number (length reader) w r == q) keys ≡ o
-        → erring_of (length reader) table keys (seen_all (replicate {A = Option KeptLeast} n None)) w r ≡ None
-    at x e m there None p = absurd (false≢true (sym (no_position (λ q. pair_number (length reader) w r == q) 0 keys
-        (sym (position_from-zero (λ q. pair_number (length reader) w r == q) keys) ∙ p)) ∙ there))
-    at x e m there (Some j) p =
-        erring_at (length reader) table keys (seen_all (replicate {A = Option KeptLeast} n None)) w r x (Some j) e m p
-        ∙ given_is (replicate {A = Option KeptLeast} n None) j
-        ∙ ap given_entry (slice_get-replicate n j (omega (arith, same, (position-Some (λ q. pair_number (length reader) w r == q) keys j 0 p).0)))
-
-    none : (o : Option Least) → table w ≡ o → erring_of (length reader) table keys (seen_all (replicate {A = Option KeptLeast} n None)) w r ≡ None
-    none None e = erring_none (length reader) table keys (seen_all (replicate {A = Option KeptLeast} n None)) w r e
-    none (Some x) e =
-        let live : (nat_lt r (length reader) && is_key keys (pair_number (length reader) w r)) ≡ true =
-        subst (λ (o : Option Least). (is_none o || (nat_lt r (length reader) && is_key keys (pair_number (length reader) w r))) ≡ true) e known in
-        at x e (and_left (nat_lt r (length reader)) (is_key keys (pair_number (length reader) w r)) live)
-        (and_right (nat_lt r (length reader)) (is_key keys (pair_number (length reader) w r)) live)
-        (position (λ q. pair_number (length reader) w r == q) keys) refl
+    absurd (false≢true (subst (λ (o : Option Least). is_some o ≡ true) (unknown_none (length reader) n table keys same w r known) some))

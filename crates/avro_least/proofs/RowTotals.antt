@@ -58,14 +58,17 @@ module _ (limit : ℕ) where
   nothing_before : (a : Least) → both no_parts a ≡ a
   nothing_before a = same_least (both no_parts a) a (omega arith) (omega arith)
 
-  after_nothing : (a b : Option Least) → together limit (Some no_parts) (together limit a b) ≡ together limit a b
+  pub nothing_alone : together limit (Some no_parts) (Some no_parts) ≡ Some no_parts
+  nothing_alone = ap Some (is_few (both no_parts no_parts) (omega arith) ∙ nothing_before no_parts)
+
+  pub after_nothing : (a b : Option Least) → together limit (Some no_parts) (together limit a b) ≡ together limit a b
   after_nothing None b = refl
   after_nothing (Some a) None = refl
   after_nothing (Some a) (Some b) = ap Some (capped_behind no_parts (both a b) ∙ ap (capped limit) (nothing_before (both a b)))
 
   module _ (table : LeastTable) (erring : ErringTable) where
     pub total_at_first : (k : ℕ) (rows : List Row) → total_from limit table erring k 0 rows ≡ together limit (Some no_parts) (total_from limit table erring k 0 rows)
-    total_at_first k [] = sym (ap Some (is_few (both no_parts no_parts) (omega arith) ∙ nothing_before no_parts))
+    total_at_first k [] = sym nothing_alone
     total_at_first k (row ∷ rows) = sym (after_nothing (part_of_row table erring (0 == k) row) (total_from limit table erring k 1 rows))
 
     -- past the chosen field

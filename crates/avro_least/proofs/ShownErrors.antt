@@ -24,7 +24,7 @@ use Rattle.avro_certificate.proofs.public.Shapes.{plain_branch, first_match_with
 use Rattle.avro_certificate.proofs.public.SoundPairs.{source_child}
 use Rattle.avro_certificate.proofs.public.Resolving.{slice_get_of_drop, drop_more}
 use Rattle.avro_least.proofs.LeastErrors.{err_of_plain, err_of_none, err_of_some, through_is_matched}
-use Rattle.avro_least.proofs.ShownData.{exact_around, exact_together, around_some, together_some, lesser_either, best_is, shown_fields, empty_text}
+use Rattle.avro_least.proofs.ShownData.{ShowsFields, exact_around, exact_together, around_some, together_some, lesser_either, best_is, shown_fields, empty_text}
 
 -- a result that is a fault
 abbrev pub IsFault : {A : Type 0} → Result A ResolutionFault → Type 0
@@ -152,79 +152,108 @@ module _ (writer reader : List Node) where
   missing_errs a b xs ys fields theirs (Value.fixed c) h m = absurd (false≢true (and_right (are_bytes c) false h))
   missing_errs a b xs ys fields theirs _ h m = absurd (false≢true h)
 
-module _ (writer reader : List Node) (limit : ℕ) (table : LeastTable) (erring : ErringTable) (known : Pair → Bool) (formed : is_schema reader ≡ true)
-    (live : AreDataShown writer limit table) (errors : AreErrorsShown writer reader limit known erring) where
+module _ (writer reader : List Node) (limit : ℕ) where
   -- a datum whose result is a fault
   shows : (n q : Node) (e : Option Least) (v : Value) → fits writer n v ≡ true → IsFault (resolve writer reader n q v) → Exactly limit e (size v) (depth v)
       → ShowsError writer reader limit n q e
   shows n q e v h f x = let found = the_fault (resolve writer reader n q v) f in
       record { datum = v; fitting = h; fault = found.0; faulty = found.1; exact = x }
 
+  -- values of which one errs
+  pub record ErringFields (fields theirs : List FieldNode) (index : ℕ) (ps : List ℕ) (e : Option Least) : Type 0 where
+    pub values : Values
+    pub fitting : fields_fit writer ps values ≡ true
+    pub faulty : IsFault (resolve_sources writer reader fields theirs index values)
+    pub exact : Exactly limit e (values_size values) (values_depth values)
+
+  -- the first of them
+  pub first_errs : (fields theirs : List FieldNode) (index p : ℕ) (ps : List ℕ) (f : FieldNode) (e others : Option Least) → reader_field fields theirs index ≡ Some f
+      → slice_get (field_ids fields) index ≡ Some p → ShowsError writer reader limit (node_at writer p) (node_at reader f.node) e → ShowsFields writer limit ps others
+      → ErringFields fields theirs index (p ∷ ps) (together limit e others)
+  first_errs fields theirs index p ps f e others found here first rest = record {
+    values = value first.datum rest.values;
+    fitting = and_from (fits writer (node_at writer p) first.datum) (fields_fit writer ps rest.values) first.fitting rest.fitting;
+    faulty = field_faults writer reader fields theirs index p f first.datum rest.values found here
+        (is_fault (resolve writer reader (node_at writer p) (node_at reader f.node) first.datum) first.fault first.faulty);
+    exact = exact_together limit e others (size first.datum) (depth first.datum) (values_size rest.values) (values_depth rest.values) first.exact rest.exact;
+  }
+
+  -- a later one
+  pub later_errs : (fields theirs : List FieldNode) (index p : ℕ) (ps : List ℕ) (e later : Option Least) → ShowsData writer limit (node_at writer p) e
+      → ErringFields fields theirs (suc index) ps later → ErringFields fields theirs index (p ∷ ps) (together limit e later)
+  later_errs fields theirs index p ps e later first rest = record {
+    values = value first.datum rest.values;
+    fitting = and_from (fits writer (node_at writer p) first.datum) (fields_fit writer ps rest.values) first.fitting rest.fitting;
+    faulty = fault_later (reader_field fields theirs index) index _ (resolve_sources writer reader fields theirs (suc index) rest.values) rest.faulty;
+    exact = exact_together limit e later (size first.datum) (depth first.datum) (values_size rest.values) (values_depth rest.values) first.exact rest.exact;
+  }
+
+  -- a record of them
+  pub record_errs : (a b : _) (xs ys : _) (fields theirs : List FieldNode) (e : Option Least) → ErringFields fields theirs 0 (field_ids fields) e
+      → ShowsError writer reader limit (Node.record_of a xs fields) (Node.record_of b ys theirs) (around limit e)
+  record_errs a b xs ys fields theirs e parts =
+      shows (Node.record_of a xs fields) (Node.record_of b ys theirs) (around limit e) (Value.record_of parts.values) parts.fitting
+      (fault_matched writer reader (Node.record_of a xs fields) (Node.record_of b ys theirs)
+      (λ q. record_or_missing fields (fields_at q) (missing_field fields (fields_at q)) (resolve_sources writer reader fields (fields_at q) 0 parts.values))
+      (not_missing (missing_field fields theirs) (resolve_sources writer reader fields theirs 0 parts.values) parts.faulty))
+      (exact_around limit e (values_size parts.values) (values_depth parts.values) parts.exact)
+    where
+      not_missing : (o : Option ℕ) (x : Result Sourced ResolutionFault) → IsFault x → IsFault (record_or_missing fields theirs o x)
+      not_missing None x f = fault_map _ x f
+      not_missing (Some index) x f = tt
+
+  -- a branch that errs
+  pub branch_errs : (ids : List ℕ) (q : Node) (k p : ℕ) (e : Option Least) → slice_get ids k ≡ Some p → ShowsError writer reader limit (node_at writer p) q e
+      → ShowsError writer reader limit (Node.union ids) q (around limit e)
+  branch_errs ids q k p e here part =
+      shows (Node.union ids) q (around limit e) (Value.union k part.datum)
+      (rw here part.fitting)
+      (rw here (fault_inside 0 (resolve writer reader (node_at writer p) q part.datum)
+      (is_fault (resolve writer reader (node_at writer p) q part.datum) part.fault part.faulty)))
+      (exact_around limit e (size part.datum) (depth part.datum) part.exact)
+
+module _ (writer reader : List Node) (limit : ℕ) (table : LeastTable) (erring : ErringTable) (known : Pair → Bool) (formed : is_schema reader ≡ true)
+    (live : AreDataShown writer limit table) (errors : AreErrorsShown writer reader limit known erring) where
   -- where each datum of a plain node errs
   any_errs : (n q : Node) (e : Option Least) → branches_of n ≡ None → ((f : Node → Resolved) → IsFault (through writer reader n q f))
       → ShowsData writer limit n e → ShowsError writer reader limit n q e
   any_errs n q e plain faults d =
       let form = plain_form writer reader n d.datum (value_of_plain writer n d.datum plain d.fitting) in
-      shows n q e d.datum d.fitting (subst (λ (x : Resolved). IsFault x) (sym (form.1 q)) (faults form.0)) d.exact
+      shows writer reader limit n q e d.datum d.fitting (subst (λ (x : Resolved). IsFault x) (sym (form.1 q)) (faults form.0)) d.exact
 
-  -- values of which one errs
-  record ErringFields (fields theirs : List FieldNode) (index : ℕ) (ps : List ℕ) (e : Option Least) : Type 0 where
-    values : Values
-    fitting : fields_fit writer ps values ≡ true
-    faulty : IsFault (resolve_sources writer reader fields theirs index values)
-    exact : Exactly limit e (values_size values) (values_depth values)
-
+  -- fields of which one errs
   erring_fields : (fields theirs : List FieldNode) (index : ℕ) (ps : List ℕ) → drop index (field_ids fields) ≡ ps
       → list_all known (field_children fields theirs) ≡ true → is_some (err_of_fields limit table erring fields theirs index ps) ≡ true
-      → ErringFields fields theirs index ps (err_of_fields limit table erring fields theirs index ps)
+      → ErringFields writer reader limit fields theirs index ps (err_of_fields limit table erring fields theirs index ps)
   erring_fields fields theirs index [] e children h = absurd (false≢true h)
   erring_fields fields theirs index (p ∷ ps) e children h =
       elim (lesser_either (together limit (err_of_field erring p (reader_field fields theirs index)) (all_of limit table ps))
       (together limit (table p) (err_of_fields limit table erring fields theirs (suc index) ps)) h) [
         | inl first ↦
             let parts = together_some limit (err_of_field erring p (reader_field fields theirs index)) (all_of limit table ps) first.0 in
-            subst (λ (x : Option Least). ErringFields fields theirs index (p ∷ ps) x) (sym first.1)
+            subst (λ (x : Option Least). ErringFields writer reader limit fields theirs index (p ∷ ps) x) (sym first.1)
             (here_errs (reader_field fields theirs index) refl parts.0 parts.1)
         | inr later ↦
             let parts = together_some limit (table p) (err_of_fields limit table erring fields theirs (suc index) ps) later.0 in
-            subst (λ (x : Option Least). ErringFields fields theirs index (p ∷ ps) x) (sym later.1)
-            (later_errs (live p parts.0)
+            subst (λ (x : Option Least). ErringFields writer reader limit fields theirs index (p ∷ ps) x) (sym later.1)
+            (later_errs writer reader limit fields theirs index p ps (table p) (err_of_fields limit table erring fields theirs (suc index) ps) (live p parts.0)
             (erring_fields fields theirs (suc index) ps (drop_more (field_ids fields) ps index p e) children parts.1))
       ]
     where
       here_errs : (o : Option FieldNode) → reader_field fields theirs index ≡ o → is_some (err_of_field erring p o) ≡ true → is_some (all_of limit table ps) ≡ true
-          → ErringFields fields theirs index (p ∷ ps) (together limit (err_of_field erring p o) (all_of limit table ps))
+          → ErringFields writer reader limit fields theirs index (p ∷ ps) (together limit (err_of_field erring p o) (all_of limit table ps))
       here_errs None found some others = absurd (false≢true some)
       here_errs (Some f) found some others =
           let at_index = slice_get_of_drop (field_ids fields) ps index p e in
           let there = subst (λ (o : Option ℕ). known (record { w = unwrap_or o 0; r = f.node }) ≡ true) at_index (source_child known fields theirs index f found children) in
-          let first = errors p f.node there some in
-          let rest = shown_fields writer limit table live ps others in
-          record {
-            values = value first.datum rest.values;
-            fitting = and_from (fits writer (node_at writer p) first.datum) (fields_fit writer ps rest.values) first.fitting rest.fitting;
-            faulty = field_faults writer reader fields theirs index p f first.datum rest.values found at_index
-                (is_fault (resolve writer reader (node_at writer p) (node_at reader f.node) first.datum) first.fault first.faulty);
-            exact = exact_together limit (erring p f.node) (all_of limit table ps) (size first.datum) (depth first.datum) (values_size rest.values) (values_depth rest.values)
-                first.exact rest.exact;
-          }
-
-      later_errs : ShowsData writer limit (node_at writer p) (table p)
-          → ErringFields fields theirs (suc index) ps (err_of_fields limit table erring fields theirs (suc index) ps)
-          → ErringFields fields theirs index (p ∷ ps) (together limit (table p) (err_of_fields limit table erring fields theirs (suc index) ps))
-      later_errs first rest = record {
-        values = value first.datum rest.values;
-        fitting = and_from (fits writer (node_at writer p) first.datum) (fields_fit writer ps rest.values) first.fitting rest.fitting;
-        faulty = fault_later (reader_field fields theirs index) index _ (resolve_sources writer reader fields theirs (suc index) rest.values) rest.faulty;
-        exact = exact_together limit (table p) (err_of_fields limit table erring fields theirs (suc index) ps) (size first.datum) (depth first.datum)
-            (values_size rest.values) (values_depth rest.values) first.exact rest.exact;
-      }
+          first_errs writer reader limit fields theirs index p ps f (erring p f.node) (all_of limit table ps) found at_index (errors p f.node there some)
+          (shown_fields writer limit table live ps others)
 
   -- two nodes that match and are no unions
   inside_step : (w r : ℕ) (n q : Node) → (is_some (table w) ≡ true → ShowsData writer limit n (table w))
       → list_all known (children_of writer reader w r n q) ≡ true → is_some (err_inside limit table erring w n q) ≡ true
       → ShowsError writer reader limit n q (err_inside limit table erring w n q)
-  inside_step w r Node.bytes Node.string own children h = shows Node.bytes Node.string (Some one) (Value.bytes (255 ∷ [])) refl
+  inside_step w r Node.bytes Node.string own children h = shows writer reader limit Node.bytes Node.string (Some one) (Value.bytes (255 ∷ [])) refl
       (fault_matched writer reader Node.bytes Node.string (bytes_as (255 ∷ [])) (rw not_a_text tt)) (λ k. (refl, refl))
   inside_step w r (Node.enum a xs symbols x) (Node.enum b ys theirs y) own children h = chosen (lacks_symbol symbols theirs y) refl h
     where
@@ -232,7 +261,7 @@ module _ (writer reader : List Node) (limit : ℕ) (table : LeastTable) (erring 
           → ShowsError writer reader limit (Node.enum a xs symbols x) (Node.enum b ys theirs y) (cond t (Some one) None)
       chosen true e s =
           let found = lacking symbols theirs y e in
-          shows (Node.enum a xs symbols x) (Node.enum b ys theirs y) (Some one) (Value.enum found.0) found.1
+          shows writer reader limit (Node.enum a xs symbols x) (Node.enum b ys theirs y) (Some one) (Value.enum found.0) found.1
           (fault_matched writer reader (Node.enum a xs symbols x) (Node.enum b ys theirs y) (enum_as (symbol_at (Node.enum a xs symbols x) found.0)) found.2) (λ k. (refl, refl))
       chosen false e s = absurd (false≢true s)
   inside_step w r (Node.record_of a xs fields) (Node.record_of b ys theirs) own children h = chosen (is_some (missing_field fields theirs)) refl h
@@ -242,21 +271,12 @@ module _ (writer reader : List Node) (limit : ℕ) (table : LeastTable) (erring 
           → ShowsError writer reader limit (Node.record_of a xs fields) (Node.record_of b ys theirs)
           (cond t (table w) (around limit (err_of_fields limit table erring fields theirs 0 (field_ids fields))))
       chosen true e s = let d = own s in
-          shows (Node.record_of a xs fields) (Node.record_of b ys theirs) (table w) d.datum d.fitting (missing_errs writer reader a b xs ys fields theirs d.datum d.fitting e) d.exact
-      chosen false e s =
-          let parts = erring_fields fields theirs 0 (field_ids fields) refl children (around_some limit (err_of_fields limit table erring fields theirs 0 (field_ids fields)) s) in
-          shows (Node.record_of a xs fields) (Node.record_of b ys theirs) _ (Value.record_of parts.values) parts.fitting
-          (fault_matched writer reader (Node.record_of a xs fields) (Node.record_of b ys theirs)
-          (λ q. record_or_missing fields (fields_at q) (missing_field fields (fields_at q)) (resolve_sources writer reader fields (fields_at q) 0 parts.values))
-          (not_missing (missing_field fields theirs) (resolve_sources writer reader fields theirs 0 parts.values) parts.faulty))
-          (exact_around limit (err_of_fields limit table erring fields theirs 0 (field_ids fields)) (values_size parts.values) (values_depth parts.values) parts.exact)
-        where
-          not_missing : (o : Option ℕ) (x : Result Sourced ResolutionFault) → IsFault x → IsFault (record_or_missing fields theirs o x)
-          not_missing None x f = fault_map _ x f
-          not_missing (Some index) x f = tt
+          shows writer reader limit (Node.record_of a xs fields) (Node.record_of b ys theirs) (table w) d.datum d.fitting (missing_errs writer reader a b xs ys fields theirs d.datum d.fitting e) d.exact
+      chosen false e s = record_errs writer reader limit a b xs ys fields theirs (err_of_fields limit table erring fields theirs 0 (field_ids fields))
+          (erring_fields fields theirs 0 (field_ids fields) refl children (around_some limit (err_of_fields limit table erring fields theirs 0 (field_ids fields)) s))
   inside_step w r (Node.array a) (Node.array b) own children h =
       let part = errors a b (and_left (known (record { w = a; r = b })) true children) (around_some limit (erring a b) h) in
-      shows (Node.array a) (Node.array b) (around limit (erring a b)) (Value.array (value part.datum no_values))
+      shows writer reader limit (Node.array a) (Node.array b) (around limit (erring a b)) (Value.array (value part.datum no_values))
       (and_from (fits writer (node_at writer a) part.datum) true part.fitting refl)
       (fault_matched writer reader (Node.array a) (Node.array b)
       (λ q. result_map Value.array (resolve_items writer reader (node_at writer a) (part_at reader (items_node q)) 0 (value part.datum no_values)))
@@ -267,7 +287,7 @@ module _ (writer reader : List Node) (limit : ℕ) (table : LeastTable) (erring 
       (exact_around limit (erring a b) (size part.datum + 0) (max (depth part.datum) 0) (exact_single limit (erring a b) (size part.datum) (depth part.datum) part.exact))
   inside_step w r (Node.map_of a) (Node.map_of b) own children h =
       let part = errors a b (and_left (known (record { w = a; r = b })) true children) (around_some limit (erring a b) h) in
-      shows (Node.map_of a) (Node.map_of b) (around limit (erring a b)) (Value.map_of (entry [] part.datum no_entries))
+      shows writer reader limit (Node.map_of a) (Node.map_of b) (around limit (erring a b)) (Value.map_of (entry [] part.datum no_entries))
       (and_from _ (is_some_and (λ id. entries_fit writer (node_at writer id) (entry [] part.datum no_entries)) (Some a))
       (and_from (is_text [] && true) true (and_from (is_text []) true empty_text refl) refl)
       (and_from (fits writer (node_at writer a) part.datum) true part.fitting refl))
@@ -321,7 +341,7 @@ module _ (writer reader : List Node) (limit : ℕ) (table : LeastTable) (erring 
           let part = each (unwrap_or (slice_get ids k) 0) child (subst (λ (x : Option Least). is_some x ≡ true) is h) in
           let form = plain_form writer reader n part.datum (value_of_plain writer n part.datum plain part.fitting) in
           subst (λ (x : Option Least). ShowsError writer reader limit n (Node.union ids) x) (sym is)
-          (shows n (Node.union ids) (erring w (unwrap_or (slice_get ids k) 0)) part.datum part.fitting
+          (shows writer reader limit n (Node.union ids) (erring w (unwrap_or (slice_get ids k) 0)) part.datum part.fitting
           (subst (λ (x : Resolved). IsFault x) (sym (form.1 (Node.union ids)))
           (subst (λ (o : Option ℕ). IsFault (into_branch writer reader n ids o form.0)) (sym e)
           (fault_map (Value.union k) (matched writer reader n (branch_node reader ids k) form.0)
@@ -337,13 +357,9 @@ module _ (writer reader : List Node) (limit : ℕ) (table : LeastTable) (erring 
       let child = all_at (λ p. known (record { w = p; r = r })) ids best.branch best.id
       (sym (list_all-map known (λ p. record { w = p; r = r }) ids) ∙ children) best.here in
       let part = errors best.id r child (subst (λ (x : Option Least). is_some x ≡ true) best.is some) in
-      shows (Node.union ids) q (around limit (best_of (λ p. erring p r) ids)) (Value.union best.branch part.datum)
-      (rw best.here part.fitting)
-      (rw best.here (fault_inside 0 (resolve writer reader (node_at writer best.id) q part.datum)
-      (is_fault (resolve writer reader (node_at writer best.id) q part.datum) part.fault
-      (subst (λ (m : Node). resolve writer reader (node_at writer best.id) m part.datum ≡ Err part.fault) there part.faulty))))
-      (exact_around limit (best_of (λ p. erring p r) ids) (size part.datum) (depth part.datum)
-      (subst (λ (x : Option Least). Exactly limit x (size part.datum) (depth part.datum)) (sym best.is) part.exact))
+      subst (λ (x : Option Least). ShowsError writer reader limit (Node.union ids) q (around limit x)) (sym best.is)
+      (branch_errs writer reader limit ids q best.branch best.id (erring best.id r) best.here
+      (subst (λ (m : Node). ShowsError writer reader limit (node_at writer best.id) m (erring best.id r)) there part))
 
   -- a step of the table
   pub step_errs : (w r : ℕ) → list_all known (children_of writer reader w r (node_at writer w) (node_at reader r)) ≡ true

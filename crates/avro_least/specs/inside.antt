@@ -1,4 +1,6 @@
 -- What only proofs and private contracts need.
 pub mod Built
+pub mod Falling
+pub mod Leading
 pub mod Leaf
-pub mod Pending
+pub mod Parts

@@ -12,10 +12,11 @@ ghost use Rattle.avro_least.specs.Tables.{best_of, together};
 
 use crate::asking::FieldAsk;
 use crate::build::are_same;
-use crate::erring::{best_branch, best_field, entry_at, pair_entry, row_entry};
+use crate::erring::{best_branch, best_field, pair_entry, row_entry};
 use crate::kept::Least;
 use crate::least::{entry, together};
 use crate::pair_tables::Tables;
+use crate::search::entry_at;
 use avro_schema::{Memory, NodeId};
 use std::alloc::Global;
 

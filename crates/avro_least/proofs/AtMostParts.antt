@@ -1,0 +1,74 @@
+-- What a pair's entry is by the others is what it comes to alone or by one of its parts.
+use Rattle.std.proofs.Common.{◌≡◌, ℕ, suc, ◌+◌, true, List, [], ◌∷◌, Option, Some, None, ◌⊎◌, inl, inr, refl, sym, ◌∙◌, ap, subst, arith}
+use Rattle.std.proofs.lemmas.Bool.{false≢true}
+use Rattle.std.proofs.lemmas.Option.{slice_get-map}
+use Rattle.std.specs.Prelude.{max, slice_get, unwrap_or, option_map, map, is_some}
+use Rattle.avro_certificate.specs.Closed.{Pair}
+use Rattle.avro_least.specs.Tables.{Least, LeastTable, ErringTable, AtMost, capped, around, together, best_of, all_of}
+use Rattle.avro_least.specs.Asked.{Row, Asked, err_of_row, err_of_rows, asked_value}
+use Rattle.avro_least.specs.inside.Parts.{least_of_others, row_part, entry_of_part, part_at, value_alone, value_by_part}
+use Rattle.avro_least.proofs.ShownData.{together_some, lesser_either, best_is}
+use Rattle.avro_least.proofs.RowTotals.{together_around}
+
+-- what is around something is around an entry
+some_inside : (limit : ℕ) (e : Option Least) (s d : ℕ) → AtMost (around limit e) s d → is_some e ≡ true
+some_inside limit None s d h = absurd h
+some_inside limit (Some e) s d h = refl
+
+-- two stand side by side in either order
+together_swap : (limit : ℕ) (a b : Option Least) → together limit a b ≡ together limit b a
+together_swap limit None None = refl
+together_swap limit None (Some b) = refl
+together_swap limit (Some a) None = refl
+together_swap limit (Some a) (Some b) =
+    let nodes : a.nodes + b.nodes ≡ b.nodes + a.nodes = omega arith in
+    let depth : max a.depth b.depth ≡ max b.depth a.depth = omega arith in
+    λ i. Some (capped limit (record { nodes = nodes i; depth = depth i }))
+
+-- of three, too
+pub together_across : (limit : ℕ) (a b c : Option Least) → together limit a (together limit b c) ≡ together limit b (together limit a c)
+together_across limit a b c = together_around limit a b c ∙ ap (λ e. together limit e c) (together_swap limit a b) ∙ sym (together_around limit b a c)
+
+module _ (limit : ℕ) (table : LeastTable) (erring : ErringTable) where
+  -- a branch's pair
+  branch_entry : (w r : ℕ) (ids : List ℕ) (k p : ℕ) → slice_get ids k ≡ Some p → entry_of_part erring (part_at w r (Asked.branches ids) k) ≡ erring p r
+  branch_entry w r ids k p here = ap (λ (o : Option (Option Pair)). entry_of_part erring (unwrap_or o None))
+      (slice_get-map (λ (x : ℕ). Some (record { w = x; r = r })) ids k ∙ ap (option_map (λ (x : ℕ). Some (record { w = x; r = r }))) here)
+
+  -- a field's pair
+  row_entry : (p : ℕ) (o : Option ℕ) → err_of_row erring (record { node = p; theirs = o }) ≡ entry_of_part erring (row_part (record { node = p; theirs = o }))
+  row_entry p None = refl
+  row_entry p (Some q) = refl
+
+  -- one field, and the least data of the others
+  abbrev pub by_row : List Row → ℕ → Option Least
+  by_row rows k = together limit (entry_of_part erring (unwrap_or (slice_get (map row_part rows) k) None)) (least_of_others limit table (map (λ row. row.node) rows) k)
+
+  -- the least by the fields is that by one of them
+  row_chosen : (rows : List Row) → is_some (err_of_rows limit table erring rows) ≡ true → (k : ℕ) × (err_of_rows limit table erring rows ≡ by_row rows k)
+  row_chosen [] h = absurd (false≢true h)
+  row_chosen (row ∷ rows) h =
+      elim (lesser_either (together limit (err_of_row erring row) (all_of limit table (map (λ r. r.node) rows))) (together limit (table row.node) (err_of_rows limit table erring rows)) h) [
+        | inl first ↦ (0, first.1 ∙ ap (λ e. together limit e (all_of limit table (map (λ r. r.node) rows))) (row_entry row.node row.theirs))
+        | inr later ↦
+            let found = row_chosen rows (together_some limit (table row.node) (err_of_rows limit table erring rows) later.0).1 in (
+              suc found.0,
+              later.1 ∙ ap (together limit (table row.node)) found.1
+                  ∙ together_across limit (table row.node) (entry_of_part erring (unwrap_or (slice_get (map row_part rows) found.0) None)) (least_of_others limit table (map (λ r. r.node) rows) found.0),
+            )
+      ]
+
+  -- what a pair's entry is by the others is what it comes to alone or by one of its parts
+  pub at_most_parts : (w r : ℕ) (a : Asked) (s d : ℕ) → AtMost (asked_value limit table erring w r a) s d
+      → AtMost (value_alone table w a) s d ⊎ ((k : ℕ) × AtMost (value_by_part limit table erring w r a k) s d)
+  at_most_parts w r Asked.quiet s d h = absurd h
+  at_most_parts w r Asked.whole s d h = inl h
+  at_most_parts w r Asked.lone s d h = inl h
+  at_most_parts w r (Asked.same q) s d h = inr (0, h)
+  at_most_parts w r (Asked.part a b) s d h = inr (0, h)
+  at_most_parts w r (Asked.branches ids) s d h =
+      let best = best_is (λ p. erring p r) ids (some_inside limit (best_of (λ p. erring p r) ids) s d h) in
+      inr (best.branch, subst (λ (e : Option Least). AtMost (around limit e) s d) (best.is ∙ sym (branch_entry w r ids best.branch best.id best.here)) h)
+  at_most_parts w r (Asked.fields rows) s d h =
+      let found = row_chosen rows (some_inside limit (err_of_rows limit table erring rows) s d h) in
+      inr (found.0, subst (λ (e : Option Least). AtMost (around limit e) s d) found.1 h)

@@ -1,0 +1,131 @@
+-- The parts of pairs, as the code finds them.
+use Rattle.std.proofs.Common.{◌≡◌, ℕ, zero, suc, ◌+◌, ◌-◌, ◌<◌, ◌≤◌, Bool, true, false, ◌&&◌, ◌||◌, List, [], ◌∷◌, ◌++◌, drop, Option, Some, None, inl, inr, length, get_or, refl, sym, ◌∙◌, ap, subst, arith}
+use Rattle.std.proofs.Math.ListN.{set}
+use Rattle.std.proofs.lemmas.Bool.{and_from, cases_eq, eq-eqb}
+use Rattle.std.proofs.lemmas.List.{drop_more, drop-map, length-map}
+use Rattle.std.proofs.lemmas.List.Folds.{list_any-append}
+use Rattle.std.proofs.lemmas.Option.{slice_get-map, slice_get-get_or}
+use Rattle.std.specs.Prelude.{slice_get, unwrap_or, option_map, map, ◌==◌}
+use Rattle.std.specs.Global.{Vec}
+use Rattle.avro_schema.specs.Node.{Node, node_at, field_ids}
+use Rattle.avro_schema.specs.Seen.{ids_of, field_of, seen_fields}
+use Rattle.avro_schema.specs.declared.schema.NodeId.{NodeId}
+use Rattle.avro_schema.specs.declared.schema.Field.{Field}
+use Rattle.avro_certificate.specs.Closed.{Pair}
+use Rattle.avro_least.specs.Tables.{Least, LeastTable, ErringTable, together, all_of, no_parts}
+use Rattle.avro_least.specs.Asked.{Row, Asked, asked, rows_from}
+use Rattle.avro_least.specs.SeenAsk.{row_of, rows_of}
+use Rattle.avro_least.specs.declared.kept.Least.{Least as KeptLeast}
+use Rattle.avro_least.specs.declared.asking.FieldAsk.{FieldAsk}
+use Rattle.avro_least.specs.declared.leads.Lead.{Lead}
+use Rattle.avro_least.specs.inside.Parts.{least_of_others, nodes_of, row_part, parts_of, part_at, seen_pair, row_items, others_at, AreOthersOf, AreOthers}
+use Rattle.avro_least.specs.inside.Leading.{is_lead, leads_at}
+use Rattle.avro_certificate.proofs.public.Tests.{or_from_left, or_from_right}
+use Rattle.avro_least.proofs.AskedBuilds.{records_asked}
+use Rattle.avro_least.proofs.AskedValue.{row_nodes}
+use Rattle.avro_least.proofs.RowTotals.{after_nothing, get_each, nothing_alone, together_around}
+use Rattle.avro_least.proofs.Rounds.{set_here, set_other}
+
+-- the branch at an index
+abbrev pub against : ℕ → ℕ → Option Pair
+against r p = Some (record { w = p; r = r })
+
+pub branch_here : (ids : List NodeId) (r k : ℕ) (id : NodeId) → slice_get ids k ≡ Some id → unwrap_or (slice_get (map (against r) (ids_of ids)) k) None ≡ against r id.0
+branch_here ids r k id here =
+    ap (λ (x : Option (Option Pair)). unwrap_or x None)
+    (slice_get-map (against r) (ids_of ids) k ∙ ap (option_map (against r)) (slice_get-map (λ id. id.0) ids k ∙ ap (option_map (λ id. id.0)) here))
+
+-- the field at an index
+pub field_here : (rows : List FieldAsk) (k : ℕ) (row : FieldAsk) → slice_get rows k ≡ Some row → unwrap_or (slice_get (map row_part (rows_of rows)) k) None ≡ row_part (row_of row)
+field_here rows k row here = ap (λ (x : Option (Option Pair)). unwrap_or x None)
+    (slice_get-map row_part (rows_of rows) k ∙ ap (option_map row_part) (slice_get-map row_of rows k ∙ ap (option_map row_of) here))
+
+pub row_part_is : (row : FieldAsk) (o : Option NodeId) → row.theirs ≡ o → row_part (row_of row) ≡ option_map (λ id. record { w = row.node.0; r = id.0 }) o
+row_part_is row o e = ap (λ (x : Option NodeId). row_part (record { node = row.node.0; theirs = option_map (λ id. id.0) x })) e ∙ by_id o
+  where
+    by_id : (o : Option NodeId) → row_part (record { node = row.node.0; theirs = option_map (λ id. id.0) o }) ≡ option_map (λ id. record { w = row.node.0; r = id.0 }) o
+    by_id None = refl
+    by_id (Some id) = refl
+
+-- the ids of a part
+pub pair_given : (o : Option (NodeId × NodeId)) (a b : ℕ) → seen_pair o ≡ Some (record { w = a; r = b })
+    → (x : NodeId) × ((y : NodeId) × ((o ≡ Some (x, y)) × (x.0 ≡ a) × (y.0 ≡ b)))
+pair_given None a b e = absurd cc
+pair_given (Some c) a b e =
+    let same : record { w = c.0.0; r = c.1.0 } ≡ record { w = a; r = b } = pair_same (record { w = c.0.0; r = c.1.0 }) (record { w = a; r = b }) e in
+    (c.0, (c.1, (refl, ap (λ (q : Pair). q.w) same, ap (λ (q : Pair). q.r) same)))
+  where
+    pair_same : (p q : Pair) → Some p ≡ Some q → p ≡ q
+    pair_same p q e = cc
+
+-- past the last part there is none
+pub part_within : (w r : ℕ) (a : Asked) (k : ℕ) (c : Pair) → part_at w r a k ≡ Some c → k < length (parts_of w r a)
+part_within w r a k c is = by_parts (parts_of w r a) k is
+  where
+    by_parts : (ps : List (Option Pair)) (k : ℕ) → unwrap_or (slice_get ps k) None ≡ Some c → k < length ps
+    by_parts [] k e = absurd cc
+    by_parts (p ∷ ps) zero e = omega arith
+    by_parts (p ∷ ps) (suc k) e = omega (arith, by_parts ps k e)
+
+-- the nodes of the rows that records ask for are those of the writer's fields
+pub rows_nodes : (limit : ℕ) (table : LeastTable) (erring : ErringTable) (writer reader : List Node) (n q : Node) (rows : List Row) → Asked.fields rows ≡ asked writer reader n q
+    → map (λ row. row.node) rows ≡ nodes_of n
+rows_nodes limit table erring writer reader n q rows e =
+    let own = (records_asked writer reader limit table erring n q rows e).1 in
+    ap (map (λ row. row.node)) own.rows_is ∙ row_nodes limit table erring own.fields own.theirs 0 (field_ids own.fields) ∙ ap nodes_of (sym own.from_is)
+
+-- a row that grows
+module _ (rows : List (Vec Lead)) (j : ℕ) (lead : Lead) (row old : Vec Lead) (within : j < length rows) (is : row.items ≡ (get_or rows j old).items ++ lead ∷ []) where
+  pub lead_added : is_lead (leads_at (set rows j row) j) lead.pair lead.part ≡ true
+  lead_added = rw (set_here rows j row within, is)
+      (list_any-append (λ l. (lead.pair == l.pair) && (lead.part == l.part)) (get_or rows j old).items (lead ∷ [])
+      ∙ or_from_right (is_lead (get_or rows j old).items lead.pair lead.part) (((lead.pair == lead.pair) && (lead.part == lead.part)) || false)
+      (or_from_left ((lead.pair == lead.pair) && (lead.part == lead.part)) false
+      (and_from (lead.pair == lead.pair) (lead.part == lead.part) (eq-eqb lead.pair lead.pair refl) (eq-eqb lead.part lead.part refl))))
+
+  pub leads_kept : (k p n : ℕ) → is_lead (leads_at rows k) p n ≡ true → is_lead (leads_at (set rows j row) k) p n ≡ true
+  leads_kept k p n m = elim (cases_eq k j) [
+    | inl same ↦ rw (same, set_here rows j row within, is)
+        (list_any-append (λ l. (p == l.pair) && (n == l.part)) (get_or rows j old).items (lead ∷ [])
+        ∙ or_from_left (is_lead (get_or rows j old).items p n) (is_lead (lead ∷ []) p n) (rw (same, slice_get-get_or rows j old within) at m))
+    | inr apart ↦ rw (set_other rows j k row apart) m
+  ]
+
+-- the ids of the fields from one on
+pub field_rest : (fields : List Field) (i : ℕ) (d : Field) → i < length fields
+    → drop i (field_ids (seen_fields fields)) ≡ (get_or fields i d).node.0 ∷ drop (i + 1) (field_ids (seen_fields fields))
+field_rest fields i d h = ids_drop i ∙ ap (λ (xs : List Field). field_ids (seen_fields xs)) (drop_more fields i d h)
+    ∙ ap (λ (ids : List ℕ). (get_or fields i d).node.0 ∷ ids) (sym (ids_drop (i + 1)))
+  where
+    ids_drop : (n : ℕ) → drop n (field_ids (seen_fields fields)) ≡ field_ids (seen_fields (drop n fields))
+    ids_drop n = drop-map (λ f. f.node) n (seen_fields fields) ∙ ap field_ids (drop-map field_of n fields)
+
+pub fields_length : (fields : List Field) → length (field_ids (seen_fields fields)) ≡ length fields
+fields_length fields = length-map (seen_fields fields) (λ f. f.node) ∙ length-map fields field_of
+
+-- the least data of all but one: of those before it, and of those behind
+module _ (limit : ℕ) (table : LeastTable) where
+  pub others_at_first : (ps : List ℕ) → (k : ℕ) → k < length ps → least_of_others limit table ps k ≡ together limit (Some no_parts) (least_of_others limit table ps k)
+  others_at_first [] k h = absurd (omega (arith, h))
+  others_at_first (p ∷ ps) zero h = sym (all_alone ps)
+    where
+      all_alone : (qs : List ℕ) → together limit (Some no_parts) (all_of limit table qs) ≡ all_of limit table qs
+      all_alone [] = nothing_alone limit
+      all_alone (q ∷ qs) = after_nothing limit (table q) (all_of limit table qs)
+  others_at_first (p ∷ ps) (suc k) h = sym (after_nothing limit (table p) (least_of_others limit table ps k))
+
+  -- one more before
+  pub others_more : (ps : List ℕ) (p : ℕ) (rest : List ℕ) (k : ℕ) (a whole : Option Least) → ps ≡ p ∷ rest → whole ≡ together limit a (least_of_others limit table ps (suc k))
+      → whole ≡ together limit (together limit a (table p)) (least_of_others limit table rest k)
+  others_more ps p rest k a whole e is = is ∙ ap (λ (xs : List ℕ). together limit a (least_of_others limit table xs (suc k))) e
+      ∙ together_around limit a (table p) (least_of_others limit table rest k)
+
+  pub others_here : (ps : List ℕ) (p : ℕ) (rest : List ℕ) (a whole : Option Least) → ps ≡ p ∷ rest → whole ≡ together limit a (least_of_others limit table ps 0)
+      → whole ≡ together limit a (all_of limit table rest)
+  others_here ps p rest a whole e is = is ∙ ap (λ (xs : List ℕ). together limit a (least_of_others limit table xs 0)) e
+
+-- the entries of all but each, for one node more
+pub others_more_nodes : (writer : List Node) (limit : ℕ) (table : LeastTable) (old new : List (Vec (Option KeptLeast))) (row : Vec (Option KeptLeast)) (i : ℕ) → new ≡ old ++ row ∷ [] → length old ≡ i
+    → AreOthersOf limit table (nodes_of (node_at writer i)) row.items → AreOthers writer limit table i old → AreOthers writer limit table (i + 1) new
+others_more_nodes writer limit table old new row i is count own all p below =
+    get_each (λ n o. AreOthersOf limit table (nodes_of (node_at writer n)) (row_items o)) old new row i is count (λ j less. all j less) own p below

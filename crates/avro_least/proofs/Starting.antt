@@ -1,0 +1,137 @@
+-- The entries of a graph of pairs, from a table without entries on.
+use Rattle.std.proofs.Common.{◌≡◌, ◌⊎◌, inl, inr, ℕ, zero, suc, ◌+◌, ◌*◌, ◌/◌, ◌%◌, ◌<◌, Bool, true, false, cond, List, [], ◌∷◌, Option, Some, None, length, refl, sym, ◌∙◌, ap, subst, arith}
+use Rattle.std.proofs.Math.ListN.{set, replicate}
+use Rattle.std.proofs.lemmas.Bool.{false≢true}
+use Rattle.std.proofs.lemmas.List.{length-set}
+use Rattle.std.proofs.lemmas.List.Folds.{list_all-append, list_all-map}
+use Rattle.std.proofs.lemmas.Option.{slice_get-map, slice_get_within}
+use Rattle.std.specs.Prelude.{slice_get, unwrap_or, option_map, map, flat_map, is_some, nat_lt}
+use Rattle.std.specs.List.{list_all}
+use Rattle.indexmap.specs.IndexSet.{keys}
+use Rattle.avro_schema.specs.Node.{Node, node_at}
+use Rattle.avro_schema.specs.SeenSchema.{schema_nodes}
+use Rattle.avro_schema.specs.WellFormed.{is_schema}
+use Rattle.avro_certificate.specs.Closed.{Pair}
+use Rattle.avro_least.specs.Tables.{Least, LeastTable, ErringTable, AtMost, ShowsError, erring_of, no_parts}
+use Rattle.avro_least.specs.SeenLeast.{seen, seen_all, table_of, given_entry, improves}
+use Rattle.avro_least.specs.declared.kept.Least.{Least as KeptLeast}
+use Rattle.avro_least.specs.declared.graph.Graph.{Graph}
+use Rattle.avro_least.specs.declared.search.Search.{Search}
+use Rattle.avro_least.specs.Reached.{is_key}
+use Rattle.avro_least.specs.Asked.{Row, Asked, asked_at, asked_children, row_child, children_at, steps_at, is_known, ArePairsShown}
+use Rattle.avro_least.specs.inside.Parts.{part_at, parts_of, row_part, entry_of_part, around_part, value_by_part}
+use Rattle.avro_least.specs.inside.Falling.{lowered, IsSearch}
+use Rattle.avro_least.specs.inside.Leading.{PartWaits, IsTaken, AreTakenBut, IsGraph, IsSearchOf}
+use Rattle.avro_certificate.proofs.public.Tests.{and_left, and_right, all_at}
+use Rattle.avro_least.proofs.PairSteps.{below_at, followed_known, pair_set_shown, unknown_none}
+use Rattle.avro_least.proofs.public.Stepping.{children_at_within}
+
+-- around no entry is none
+pub around_none : (limit : ℕ) (table : LeastTable) (a : Asked) (k : ℕ) → around_part limit table a k None ≡ None
+around_none limit table (Asked.same q) k = refl
+around_none limit table (Asked.part a b) k = refl
+around_none limit table (Asked.branches ids) k = refl
+around_none limit table (Asked.fields rows) k = refl
+around_none limit table a k = refl
+
+-- what an entry comes to by a part, from the things that it is made of
+pub by_part_is : (limit : ℕ) (table : LeastTable) (erring : ErringTable) (w r x y k : ℕ) (a b : Asked) (o : Option Pair) (e found : Option Least)
+    → w ≡ x → r ≡ y → a ≡ b → o ≡ part_at w r a k → e ≡ entry_of_part erring o → found ≡ around_part limit table a k e → found ≡ value_by_part limit table erring x y b k
+by_part_is limit table erring w r x y k a b o e found first second third is entry around =
+    around ∙ ap (around_part limit table a k) (entry ∙ ap (entry_of_part erring) is)
+    ∙ ap (λ (n : ℕ). value_by_part limit table erring n r a k) first
+    ∙ ap (λ (n : ℕ). value_by_part limit table erring x n a k) second
+    ∙ ap (λ (c : Asked). value_by_part limit table erring x y c k) third
+
+-- what all children pass, a part passes
+pub part_passes : (test : Pair → Bool) (w r : ℕ) (a : Asked) (k : ℕ) (c : Pair) → list_all test (asked_children w r a) ≡ true → part_at w r a k ≡ Some c → test c ≡ true
+part_passes test w r (Asked.same q) zero c all is = subst (λ (x : Pair). test x ≡ true) (pair_same (record { w = w; r = q }) c is) (and_left (test (record { w = w; r = q })) true all)
+  where
+    pair_same : (a b : Pair) → Some a ≡ Some b → a ≡ b
+    pair_same a b e = cc
+part_passes test w r (Asked.same q) (suc k) c all is = absurd cc
+part_passes test w r (Asked.part a b) zero c all is = subst (λ (x : Pair). test x ≡ true) (pair_same (record { w = a; r = b }) c is) (and_left (test (record { w = a; r = b })) true all)
+  where
+    pair_same : (a b : Pair) → Some a ≡ Some b → a ≡ b
+    pair_same a b e = cc
+part_passes test w r (Asked.part a b) (suc k) c all is = absurd cc
+part_passes test w r (Asked.branches ids) k c all is = by_id (slice_get ids k) refl
+    (sym (ap (λ (o : Option (Option Pair)). unwrap_or o None) (slice_get-map (λ (p : ℕ). Some (record { w = p; r = r })) ids k)) ∙ is)
+  where
+    pair_same : (a b : Pair) → Some a ≡ Some b → a ≡ b
+    pair_same a b e = cc
+
+    by_id : (o : Option ℕ) → slice_get ids k ≡ o → unwrap_or (option_map (λ (p : ℕ). Some (record { w = p; r = r })) o) None ≡ Some c → test c ≡ true
+    by_id None here e = absurd cc
+    by_id (Some p) here e = subst (λ (x : Pair). test x ≡ true) (pair_same (record { w = p; r = r }) c e)
+        (all_at (λ p. test (record { w = p; r = r })) ids k p (sym (list_all-map test (λ p. record { w = p; r = r }) ids) ∙ all) here)
+part_passes test w r (Asked.fields rows) k c all is = by_rows rows k all is
+  where
+    pair_same : (a b : Pair) → Some a ≡ Some b → a ≡ b
+    pair_same a b e = cc
+
+    by_row : (p : ℕ) (o : Option ℕ) → list_all test (row_child (record { node = p; theirs = o })) ≡ true → row_part (record { node = p; theirs = o }) ≡ Some c → test c ≡ true
+    by_row p None h e = absurd cc
+    by_row p (Some q) h e = subst (λ (x : Pair). test x ≡ true) (pair_same (record { w = p; r = q }) c e) (and_left (test (record { w = p; r = q })) true h)
+
+    by_rows : (rows : List Row) (k : ℕ) → list_all test (flat_map row_child rows) ≡ true → unwrap_or (slice_get (map row_part rows) k) None ≡ Some c → test c ≡ true
+    by_rows [] k h e = absurd cc
+    by_rows (row ∷ rows) zero h e =
+        by_row row.node row.theirs (and_left (list_all test (row_child row)) (list_all test (flat_map row_child rows)) (sym (list_all-append test (row_child row) (flat_map row_child rows)) ∙ h)) e
+    by_rows (row ∷ rows) (suc k) h e =
+        by_rows rows k (and_right (list_all test (row_child row)) (list_all test (flat_map row_child rows)) (sym (list_all-append test (row_child row) (flat_map row_child rows)) ∙ h)) e
+part_passes test w r a k c all is = absurd cc
+
+-- at the start each pair has taken each of its parts
+pub unknown_taken : (writer reader : List Node) (limit n : ℕ) (table : LeastTable) (keys : List ℕ) (waiting : List Bool) → is_schema writer ≡ true → is_schema reader ≡ true
+    → n ≡ length keys → list_all (λ k. nat_lt k (length writer * length reader)) keys ≡ true
+    → ((i own : ℕ) → slice_get keys i ≡ Some own → list_all (is_key keys) (steps_at writer reader table own) ≡ true)
+    → AreTakenBut [] writer reader limit table keys (seen_all (replicate {A = Option KeptLeast} n None)) waiting
+unknown_taken writer reader limit n table keys waiting formed theirs same below followed i k =
+    inr (inr (λ own s d here m.
+    subst (λ (e : Option Least). AtMost e s d → AtMost (unwrap_or (slice_get (seen_all (replicate {A = Option KeptLeast} n None)) i) (Some no_parts)) s d) (sym (none own here)) (λ x. absurd x) m))
+  where
+    by_part : (own : ℕ) → slice_get keys i ≡ Some own → (o : Option Pair) → part_at (own / length reader) (own % length reader) (asked_at writer reader own) k ≡ o
+        → entry_of_part (erring_of (length reader) table keys (seen_all (replicate {A = Option KeptLeast} n None))) o ≡ None
+    by_part own here None e = refl
+    by_part own here (Some c) e = unknown_none (length reader) n table keys same c.w c.r
+        (part_passes (is_known (length reader) table keys) (own / length reader) (own % length reader) (asked_at writer reader own) k c
+        (followed_known writer reader table keys (children_at writer reader own)
+        (children_at_within writer reader table formed theirs own (below_at (length writer * length reader) keys i own below here)) (followed i own here)) e)
+
+    none : (own : ℕ) → slice_get keys i ≡ Some own
+        → value_by_part limit table (erring_of (length reader) table keys (seen_all (replicate {A = Option KeptLeast} n None))) (own / length reader) (own % length reader) (asked_at writer reader own) k ≡ None
+    none own here = ap (around_part limit table (asked_at writer reader own) k) (by_part own here (part_at (own / length reader) (own % length reader) (asked_at writer reader own) k) refl)
+        ∙ around_none limit table (asked_at writer reader own) k
+
+-- an entry that falls to that of a datum that errs
+pub lowered_shown : (writer reader : List Node) (limit : ℕ) (table : LeastTable) (keys : List ℕ) (es new : List (Option KeptLeast)) (i key : ℕ) (found : Option KeptLeast)
+    → i < length es → slice_get keys i ≡ Some key → new ≡ lowered es i found
+    → (is_some (seen found) ≡ true → ShowsError writer reader limit (node_at writer (key / length reader)) (node_at reader (key % length reader)) (seen found))
+    → ArePairsShown writer reader limit table keys (seen_all es) → ArePairsShown writer reader limit table keys (seen_all new)
+lowered_shown writer reader limit table keys es new i key found within here same own shown =
+    subst (λ (xs : List (Option KeptLeast)). ArePairsShown writer reader limit table keys (seen_all xs)) (sym same) (chosen (improves (seen found) (given_entry (slice_get es i))))
+  where
+    chosen : (t : Bool) → ArePairsShown writer reader limit table keys (seen_all (cond t (set es i found) es))
+    chosen true = pair_set_shown writer reader limit table keys es i key found within here shown own
+    chosen false = shown
+
+pub length_lowered : (es : List (Option KeptLeast)) (i : ℕ) (found : Option KeptLeast) → length (lowered es i found) ≡ length es
+length_lowered es i found = chosen (improves (seen found) (given_entry (slice_get es i)))
+  where
+    chosen : (t : Bool) → length (cond t (set es i found) es) ≡ length es
+    chosen true = length-set es i found
+    chosen false = refl
+
+-- a search of a graph whose entry falls so
+pub lowered_search : (g : Graph) (old new : Search) (i key : ℕ) (found : Option KeptLeast) → IsSearchOf g old → IsSearch new → slice_get (keys g.reached.now.known) i ≡ Some key
+    → new.entries.items ≡ lowered old.entries.items i found
+    → (is_some (seen found) ≡ true → ShowsError (schema_nodes g.writer.now) (schema_nodes g.reader.now) g.limit
+    (node_at (schema_nodes g.writer.now) (key / length (schema_nodes g.reader.now))) (node_at (schema_nodes g.reader.now) (key % length (schema_nodes g.reader.now))) (seen found))
+    → IsSearchOf g new
+lowered_search g old new i key found was is here same own = record {
+  search = is;
+  one_each = ap length same ∙ length_lowered old.entries.items i found ∙ was.one_each;
+  shown = lowered_shown (schema_nodes g.writer.now) (schema_nodes g.reader.now) g.limit (table_of g.table.now) (keys g.reached.now.known) old.entries.items new.entries.items i key found
+      (omega (arith, was.one_each, slice_get_within (keys g.reached.now.known) i key here)) here same own was.shown;
+}
