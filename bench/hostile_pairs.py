@@ -104,6 +104,24 @@ def rings(count):
     return ["null", record("R", [(f"f{i}", ring(i)) for i in range(count)])]
 
 
+def ladder(count, fields):
+    """Fields of one union of records, each of a link of a chain and of a pad, so that a later one has fewer nodes."""
+    links = [record("A", [], namespace="n0")]
+    links += [record("A", [("f", f"n{i - 1}.A")], namespace=f"n{i}") for i in range(1, count)]
+    pads = [record("P0", [], namespace="p")]
+    pads += [record(f"P{i}", [("x", f"P{i - 1}"), ("y", "P0")], namespace="p") for i in range(1, count)]
+    steps = [record("A", [("f", f"n{i}.A"), ("p", f"p.P{count - 1 - i}")], namespace=f"w{i}") for i in range(count)]
+    parts = record("T", [(f"l{i}", link) for i, link in enumerate(links)] + [(f"p{i}", pad) for i, pad in enumerate(pads)])
+    head = record("V", [("u", steps)])
+    return ["null", record("R", [("t", parts), ("f0", head)] + [(f"f{i}", "V") for i in range(1, fields)])]
+
+
+def wide_chain(count, fields):
+    """A union of records, each of which but the first has a field of the one before, and one of many fields of the last."""
+    links = [record("A0", [])] + [record(f"A{i}", [("f", f"A{i - 1}")]) for i in range(1, count)]
+    return links + [record("R", [(f"f{i}", f"A{count - 1}") for i in range(fields)])]
+
+
 def pairs():
     """Each pair by its name: the writer's schema and the reader's."""
     yield "an alias table a union", ["null"], aliased(2_000)
@@ -114,6 +132,8 @@ def pairs():
     yield "unions of 1,000 records", branches(1_000), branches(1_000)
     yield "a long default a record", doubled(10, [], "int"), doubled(10, [long_default(100_000)], "string")
     yield "chains against the order", chain(1_000, 1_000), rings(1_000)
+    yield "ladders against the order", ladder(1_000, 460), rings(460)
+    yield "a long chain and many fields", wide_chain(4_000, 20_000), "int"
 
 
 def number(n):

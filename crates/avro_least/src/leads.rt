@@ -119,7 +119,14 @@ fn add_parts(
     let ask = ask_at_index(reached, i);
     for k in 0..part_count(ask) {
         let part = part_at(w, r, ask, k);
-        add_part(table, count, &reached.known, part, Lead { pair: i, part: k }, rows)?;
+        add_part(
+            table,
+            count,
+            &reached.known,
+            part,
+            Lead { pair: i, part: k },
+            rows,
+        )?;
     }
     Ok(())
 }

@@ -36,8 +36,12 @@ returns-clause-added c ask j k a b here is live there =
     let part : part_at c.args.w.0 c.args.r.0 (ask_of c.ask_at_index-ask.result.now) k ≡ Some (record { w = a; r = b }) =
     subst (λ (x : Ask). part_at c.args.w.0 c.args.r.0 (ask_of x) k ≡ Some (record { w = a; r = b })) it is in
     c.loop-k.invariant.added j k a b
-    (omega (arith, part_within c.args.w.0 c.args.r.0 (ask_of c.ask_at_index-ask.result.now) k (record { w = a; r = b }) part,
-    c.part_count-k-end.ensures c.args.w.0 c.args.r.0, c.loop-k-test.false)) part live there
+    (omega (
+      arith,
+      part_within c.args.w.0 c.args.r.0 (ask_of c.ask_at_index-ask.result.now) k (record { w = a; r = b }) part,
+      c.part_count-k-end.ensures c.args.w.0 c.args.r.0,
+      c.loop-k-test.false,
+    )) part live there
   where
     ask_same : (x y : Ask) → Some x ≡ Some y → x ≡ y
     ask_same x y e = cc

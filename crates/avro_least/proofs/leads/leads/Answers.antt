@@ -40,7 +40,7 @@ loop-i-preserved c =
     let kept : (j p n : ℕ) → is_lead (leads_at c.loop-i.rows.items j) p n ≡ true → is_lead (leads_at rows j) p n ≡ true =
     subst (λ (old : List (Vec Lead)). (j p n : ℕ) → is_lead (leads_at old j) p n ≡ true → is_lead (leads_at rows j) p n ≡ true) c.deref_mut.ensures.value new.kept in
     let added : (j n a b : ℕ) → part_at (key / length qs) (key % length qs) (asked_at ns qs key) n ≡ Some (record { w = a; r = b }) → is_none (table_of c.args.table.now a) ≡ false
-        → position (λ q. pair_number (length qs) a b == q) ks ≡ Some j → is_lead (leads_at rows j) i n ≡ true =
+    → position (λ q. pair_number (length qs) a b == q) ks ≡ Some j → is_lead (leads_at rows j) i n ≡ true =
     λ j n a b is live there. new.added (get_or asks i Ask.Quiet) j n a b (slice_get-get_or asks i Ask.Quiet within)
     (ap (λ (m : ℕ). part_at m c.readers-r.result.0 (ask_of (get_or asks i Ask.Quiet)) n) c.writers-w.ensures.is
     ∙ ap (λ (m : ℕ). part_at (key / length qs) m (ask_of (get_or asks i Ask.Quiet)) n) c.readers-r.ensures.is

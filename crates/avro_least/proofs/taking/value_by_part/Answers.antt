@@ -39,8 +39,12 @@ around_part-requires-clause-others c rows fields =
     ap (λ (a : Asked). part_at w c.readers-r.result.0 a c.args.k) (sym fields) ∙ sym c.part_at.ensures ∙ ap seen_pair c.in-Some.is in
     let within : c.args.k < length (nodes_of (node_at ns w)) =
     subst (λ (ids : List ℕ). c.args.k < length ids) nodes
-    (omega (arith, part_within w c.readers-r.result.0 (Asked.fields rows) c.args.k (record { w = c.in-Some.a.0; r = c.in-Some.b.0 }) part,
-    length-map rows row_part, length-map rows (λ row. row.node))) in
+    (omega (
+      arith,
+      part_within w c.readers-r.result.0 (Asked.fields rows) c.args.k (record { w = c.in-Some.a.0; r = c.in-Some.b.0 }) part,
+      length-map rows row_part,
+      length-map rows (λ row. row.node),
+    )) in
     ap (λ (es : List (Option KeptLeast)). given_entry (slice_get es c.args.k)) c.others_at-others.ensures
     ∙ c.requires.graph.others w c.writers-w.ensures.within c.args.k within
     ∙ ap (λ (ids : List ℕ). least_of_others c.args.graph.now.limit (table_of c.args.graph.now.table.now) ids c.args.k) (sym nodes)
