@@ -1,21 +1,17 @@
--- A round over a table of least data.
-use Rattle.std.proofs.Common.{◌≡◌, cond, ℕ, zero, suc, ◌+◌, ◌*◌, ◌<◌, ◌≤◌, Bool, true, false, List, [], ◌∷◌, Option, Some, None, inl, inr, length, get_or, refl, sym, ◌∙◌, ap, subst, arith}
+-- Entries that are set, and tables at the start.
+use Rattle.std.proofs.Common.{◌≡◌, ℕ, zero, suc, ◌<◌, true, false, List, [], ◌∷◌, Option, Some, None, inl, inr, length, refl, sym, ◌∙◌, ap, subst, arith}
 use Rattle.std.proofs.Math.ListN.{set, replicate}
-use Rattle.std.proofs.lemmas.Bool.{false≢true, true≢false, ltb-true, eqb-true, cases_eq, cases_lt}
+use Rattle.std.proofs.lemmas.Bool.{false≢true, true≢false, ltb-true, eqb-true, cases_lt}
 use Rattle.std.proofs.lemmas.Option.{slice_get_past, slice_get-get_or}
 use Rattle.std.proofs.lemmas.List.{get_or-set_same, length-set, length-replicate}
-use Rattle.std.proofs.lemmas.List.Sums.{sum_by-set}
 use Rattle.std.specs.Prelude.{slice_get, unwrap_or, is_some, nat_lt, ◌==◌, ◌&&◌}
 use Rattle.avro_schema.specs.Value.{Value}
 use Rattle.avro_schema.specs.Node.{Node, node_at}
-use Rattle.avro_schema.specs.WellFormed.{is_schema}
-use Rattle.avro_least.specs.Tables.{Least, AtMost, AreDataShown, ShowsData, least_datum, one}
-use Rattle.avro_least.specs.SeenLeast.{seen, entry_of, table_of, improves, IsLowAt, weight, weights}
+use Rattle.avro_least.specs.Tables.{Least, AtMost, AreDataShown, ShowsData, one}
+use Rattle.avro_least.specs.SeenLeast.{seen, entry_of, table_of, improves, weight}
 use Rattle.avro_least.specs.declared.kept.Least.{Least as KeptLeast}
 use Rattle.avro_certificate.proofs.public.Tests.{and_left, and_right, or_cases}
-use Rattle.avro_certificate.proofs.public.Shapes.{meets_rules_at}
 use Rattle.avro_least.proofs.LeastOrder.{follows_under}
-use Rattle.avro_least.proofs.ShownData.{step_shown}
 
 -- the entry that was set
 pub set_here : {A : Type 0} (xs : List A) (i : ℕ) (x : A) → i < length xs → slice_get (set xs i x) i ≡ Some x
@@ -49,43 +45,6 @@ improves_low None b s d h m = absurd m
 improves_low (Some a) None s d h m = absurd (true≢false h)
 improves_low (Some a) (Some b) s d h m = follows_under b a s d h m
 
--- past the end stand nulls
-pub past_low : (writer : List Node) (limit : ℕ) (es : List (Option KeptLeast)) (p : ℕ) → length es ≡ length writer → length writer ≤ p
-    → IsLowAt writer limit (table_of es) p
-past_low writer limit es p same past s d m =
-    subst (λ (o : Option (Option KeptLeast)). AtMost (entry_of o) s d) (sym (slice_get_past es p (omega (arith, same, past))))
-    (subst (λ (o : Option Node). AtMost (least_datum limit (table_of es) (unwrap_or o Node.null)) s d) (slice_get_past writer p past) m)
-
-module _ (writer : List Node) (limit : ℕ) (es : List (Option KeptLeast)) (i : ℕ) (found : Option KeptLeast)
-    (is : seen found ≡ least_datum limit (table_of es) (node_at writer i)) where
-  -- an entry that a step gives has a datum
-  pub set_shown : i < length es → is_schema writer ≡ true → AreDataShown writer limit (table_of es) → AreDataShown writer limit (table_of (set es i found))
-  set_shown within formed shown p = elim (cases_eq p i) [
-    | inl same ↦ here same
-    | inr apart ↦ subst (λ (o : Option (Option KeptLeast)). is_some (entry_of o) ≡ true → ShowsData writer limit (node_at writer p) (entry_of o))
-        (sym (set_other es i p found apart)) (shown p)
-  ]
-    where
-      at_i : is_some (seen found) ≡ true → ShowsData writer limit (node_at writer i) (seen found)
-      at_i h = subst (λ (e : Option Least). is_some e ≡ true → ShowsData writer limit (node_at writer i) e) (sym is)
-          (step_shown writer limit (table_of es) shown (node_at writer i) (meets_rules_at writer i formed)) h
-
-      here : p ≡ i → is_some (table_of (set es i found) p) ≡ true → ShowsData writer limit (node_at writer p) (table_of (set es i found) p)
-      here same = subst (λ (q : ℕ). is_some (table_of (set es i found) q) ≡ true → ShowsData writer limit (node_at writer q) (table_of (set es i found) q)) (sym same)
-          (subst (λ (o : Option (Option KeptLeast)). is_some (entry_of o) ≡ true → ShowsData writer limit (node_at writer i) (entry_of o)) (sym (set_here es i found within)) at_i)
-
-  -- and the table weighs less
-  pub set_falls : i < length es → improves (seen found) (table_of es i) ≡ true → weights (set es i found) < weights es
-  set_falls within better =
-      let lighter : weight found < weight (get_or es i None) =
-      weight_falls found (get_or es i None)
-      (subst (λ (o : Option (Option KeptLeast)). improves (seen found) (entry_of o) ≡ true) (slice_get-get_or es i None within) better) in
-      omega (arith, lighter, sum_by-set weight es i found None within)
-
-  -- an entry that no step improves is low
-  pub stays_low : improves (seen found) (table_of es i) ≡ false → IsLowAt writer limit (table_of es) i
-  stays_low worse s d m = improves_low (seen found) (table_of es i) s d worse (subst (λ (e : Option Least). AtMost e s d) (sym is) m)
-
 -- at the start there is no entry but past the end
 pub start_shown : (writer : List Node) (limit n : ℕ) → n ≡ length writer → AreDataShown writer limit (table_of (replicate {A = Option KeptLeast} n None))
 start_shown writer limit n same p h = elim (cases_lt p n) [
@@ -99,8 +58,3 @@ start_shown writer limit n same p h = elim (cases_lt p n) [
     slice_get-replicate zero p h = absurd (omega (arith, h))
     slice_get-replicate (suc n) zero h = refl
     slice_get-replicate (suc n) (suc p) h = slice_get-replicate n p (omega (arith, h))
-
--- twice the weight and whether it may fall again
-pub measure_falls : (a b : ℕ) (changed : Bool) → (changed ≡ true → a < b) → (changed ≡ false → a ≡ b) → 2 * a + cond changed 1 0 < 2 * b + 1
-measure_falls a b true less same = omega (arith, less refl)
-measure_falls a b false less same = omega (arith, same refl)

@@ -1,8 +1,7 @@
 -- How contracts see the program's tables of least data.
 use Rattle.std.specs.Prelude.{ℕ, ◌+◌, ◌*◌, ◌^◌, Bool, true, false, List, Option, Some, None, slice_get, map}
 use Rattle.std.specs.List.{sum_by}
-use Rattle.avro_schema.specs.Node.{Node, node_at}
-use Rattle.avro_least.specs.Tables.{Least, LeastTable, AtMost, least_datum, one, no_parts, precedes}
+use Rattle.avro_least.specs.Tables.{Least, LeastTable, one, no_parts, precedes}
 use Rattle.avro_least.specs.declared.kept.Least.{Least as KeptLeast}
 
 abbrev pub seen : Option KeptLeast → Option Least
@@ -22,10 +21,6 @@ abbrev pub improves : Option Least → Option Least → Bool
 improves None b = false
 improves (Some a) None = true
 improves (Some a) (Some b) = precedes a b
-
--- no step lowers the entry of a node
-abbrev pub IsLowAt : List Node → ℕ → LeastTable → ℕ → Type 0
-IsLowAt nodes limit table p = (s d : ℕ) → AtMost (least_datum limit table (node_at nodes p)) s d → AtMost (table p) s d
 
 -- falls with each entry that is improved
 abbrev pub weight : Option KeptLeast → ℕ

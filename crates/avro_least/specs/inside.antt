@@ -4,3 +4,5 @@ pub mod Falling
 pub mod Leading
 pub mod Leaf
 pub mod Parts
+pub mod Settled
+pub mod Uses

@@ -1,13 +1,13 @@
 //! The least data of a schema's nodes.
 
-ghost use Rattle.std.specs.Prelude.{◌≡◌, ◌<◌, ◌≤◌, ℕ, true, false, length, IfOk, Some, None};
+ghost use Rattle.std.specs.Prelude.{◌≡◌, ◌≤◌, true, length, IfOk, Some, None};
 ghost use Rattle.std.proofs.Math.ListN.{replicate};
 ghost use Rattle.avro_schema.specs.Seen.{node_of, ids_of, seen_fields};
 ghost use Rattle.avro_schema.specs.Node.{field_ids};
 ghost use Rattle.avro_schema.specs.SeenSchema.{schema_nodes};
 ghost use Rattle.avro_schema.specs.WellFormed.{is_schema};
-ghost use Rattle.avro_least.specs.Tables.{capped, around, together, lesser, best_of, all_of, least_datum, IsLowForData, AreDataShown, Least as SeenLeast};
-ghost use Rattle.avro_least.specs.SeenLeast.{seen, table_of, improves, weights};
+ghost use Rattle.avro_least.specs.Tables.{capped, around, together, lesser, best_of, all_of, least_datum, Least as SeenLeast};
+ghost use Rattle.avro_least.specs.SeenLeast.{seen, table_of, improves};
 
 use crate::kept::Least;
 use avro_schema::{Field, Memory, Node, NodeId, Schema};
@@ -110,7 +110,7 @@ pub(crate) fn best_of(table: &[Option<Least>], ids: &[NodeId]) -> Option<Least>
 }
 
 /// The entry of the least data of all fields together.
-fn all_of(limit: u32, table: &[Option<Least>], fields: &[Field]) -> Option<Least>
+pub(crate) fn all_of(limit: u32, table: &[Option<Least>], fields: &[Field]) -> Option<Least>
     requires { limit ≤ 16777216 }
     ensures { seen result ≡ all_of limit (table_of table.now) (field_ids (seen_fields fields.now)) }
 {
@@ -124,7 +124,7 @@ fn all_of(limit: u32, table: &[Option<Least>], fields: &[Field]) -> Option<Least
 }
 
 /// The entry of a node, computed from those of its parts.
-fn least_of(limit: u32, table: &[Option<Least>], node: &Node) -> Option<Least>
+pub(crate) fn least_of(limit: u32, table: &[Option<Least>], node: &Node) -> Option<Least>
     requires { limit ≤ 16777216 }
     ensures { seen result ≡ least_datum limit (table_of table.now) (node_of node.now) }
 {
@@ -133,32 +133,6 @@ fn least_of(limit: u32, table: &[Option<Least>], node: &Node) -> Option<Least>
         Node::Record(record) => around(limit, all_of(limit, table, &record.fields)),
         _ => Some(Least { nodes: 1, depth: 1 }),
     }
-}
-
-/// Computes each entry from the others, from the last node to the first, and keeps those that are better than the
-/// old ones. Returns whether an entry has changed.
-fn round(writer: &Schema, limit: u32, table: &mut [Option<Least>]) -> bool
-    requires range { limit ≤ 16777216 }
-    requires one_each { length table.old ≡ length (schema_nodes writer.now) }
-    requires shown { AreDataShown (schema_nodes writer.now) limit (table_of table.old) }
-    ensures one_each { length table.new ≡ length (schema_nodes writer.now) }
-    ensures shown { AreDataShown (schema_nodes writer.now) limit (table_of table.new) }
-    ensures kept { result ≡ false → table.new ≡ table.old }
-    ensures falls { result ≡ true → weights table.new < weights table.old }
-    ensures low { result ≡ false → IsLowForData (schema_nodes writer.now) limit (table_of table.new) }
-{
-    let count = count(writer);
-    let mut changed = false;
-    let mut i = count;
-    while i > 0 {
-        i -= 1;
-        let found = least_of(limit, table, writer.node(NodeId(i)));
-        if improves(found, entry(table, NodeId(i))) {
-            table[i as usize] = found;
-            changed = true;
-        }
-    }
-    changed
 }
 
 /// The number of nodes of a schema.
@@ -176,25 +150,6 @@ pub(crate) fn unknown(alloc: Global, count: usize) -> Result<Vec<Option<Least>>,
     let mut table = Vec::new(alloc);
     for done in 0..count {
         table.push(None)?;
-    }
-    Ok(table)
-}
-
-/// The table of the least data of each node, where all data of more nodes than the limit count as the same.
-///
-/// # Errors
-///
-/// Memory ran out.
-pub fn least_data(alloc: Global, writer: &Schema, limit: u32) -> Result<Vec<Option<Least>>, Memory>
-    requires range { limit ≤ 16777216 }
-    ensures one_each { IfOk result (λ t. length t.items ≡ length (schema_nodes writer.now)) }
-    ensures shown { IfOk result (λ t. AreDataShown (schema_nodes writer.now) limit (table_of t.items)) }
-    ensures low { IfOk result (λ t. IsLowForData (schema_nodes writer.now) limit (table_of t.items)) }
-{
-    let mut table = unknown(alloc, writer.len())?;
-    let mut changed = true;
-    while changed {
-        changed = round(writer, limit, &mut table);
     }
     Ok(table)
 }

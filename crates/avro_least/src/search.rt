@@ -83,7 +83,7 @@ impl Search {
     }
 
     /// Whether the entry at an index waits.
-    fn waits(&self, i: usize) -> bool
+    pub(crate) fn waits(&self, i: usize) -> bool
         ensures { result ≡ is_waiting self.now.waiting.items i }
     {
         match self.waiting.get(i) {

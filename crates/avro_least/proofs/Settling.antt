@@ -1,0 +1,369 @@
+-- What stays settled while entries fall.
+use Rattle.std.proofs.Common.{◌≡◌, ◌⊎◌, ◌<◌, ◌≤◌, ℕ, suc, Bool, true, false, cond, ◌||◌, List, [], ◌∷◌, Option, Some, None, inl, inr, length, refl, sym, ◌∙◌, ap, subst, arith}
+use Rattle.std.proofs.Math.ListN.{set}
+use Rattle.std.proofs.lemmas.Bool.{false≢true, eq-eqb, eqb-true, leb-true, leb-false, cases_eq, cases_Bool}
+use Rattle.std.proofs.lemmas.List.{length-set}
+use Rattle.std.proofs.lemmas.Option.{slice_get_past, slice_get-get_or}
+use Rattle.std.specs.Prelude.{slice_get, unwrap_or, is_some, is_none, nat_le, ◌==◌}
+use Rattle.std.specs.List.{list_any}
+use Rattle.avro_schema.specs.Value.{Value}
+use Rattle.avro_schema.specs.Node.{Node, node_at, field_ids}
+use Rattle.avro_schema.specs.WellFormed.{is_schema}
+use Rattle.avro_least.specs.Tables.{Least, LeastTable, IsUnder, AtMost, AreDataShown, ShowsData, around, together, best_of, all_of, least_datum}
+use Rattle.avro_least.specs.SeenLeast.{seen, entry_of, table_of, given_entry, improves}
+use Rattle.avro_least.specs.declared.kept.Least.{Least as KeptLeast}
+use Rattle.avro_least.specs.Reached.{is_key}
+use Rattle.avro_least.specs.inside.Uses.{inner_ids}
+use Rattle.avro_least.specs.inside.Falling.{lowered}
+use Rattle.avro_least.specs.inside.Settled.{IsNoMore, IsSettledNode, IsSettled}
+use Rattle.avro_certificate.proofs.public.Tests.{or_cases, or_left, or_right, or_from_left, or_from_right}
+use Rattle.avro_certificate.proofs.public.Shapes.{meets_rules_at}
+use Rattle.avro_least.proofs.public.Keys.{key_at}
+use Rattle.avro_least.proofs.LeastOrder.{under_lesser_left, under_lesser_right}
+use Rattle.avro_least.proofs.ShownData.{exact_around, around_some, best_is, step_shown}
+use Rattle.avro_least.proofs.Searching.{lowered_better, lowered_worse}
+use Rattle.avro_least.proofs.Rounds.{set_here, set_other, improves_low}
+
+-- what is no more than an entry stays so inside one more node
+around_no_more : (limit : ℕ) (a b : Option Least) → IsNoMore a b → IsNoMore (around limit a) (around limit b)
+around_no_more limit a None less s d m = absurd m
+around_no_more limit None (Some b) less s d m = absurd (less b.nodes b.depth (record { fewer = omega arith; shallower = λ k. omega arith }))
+around_no_more limit (Some a) (Some b) less s d m = chosen (nat_le (suc a.nodes) limit) (nat_le (suc b.nodes) limit) refl refl m
+  where
+    under : IsUnder a b.nodes b.depth
+    under = less b.nodes b.depth (record { fewer = omega arith; shallower = λ k. omega arith })
+
+    chosen : (t u : Bool) → nat_le (suc a.nodes) limit ≡ t → nat_le (suc b.nodes) limit ≡ u
+        → IsUnder (cond u (record { nodes = suc b.nodes; depth = suc b.depth }) (record { nodes = suc limit; depth = 0 })) s d
+        → IsUnder (cond t (record { nodes = suc a.nodes; depth = suc a.depth }) (record { nodes = suc limit; depth = 0 })) s d
+    chosen true true e f h = record { fewer = omega (arith, under.fewer, h.fewer); shallower = λ k. omega (arith, under.shallower (omega (arith, k, under.fewer, h.fewer)), h.shallower (omega (arith, k, under.fewer, h.fewer))) }
+    chosen true false e f h = record { fewer = omega (arith, leb-true (suc a.nodes) limit e, h.fewer); shallower = λ k. absurd (omega (arith, k, leb-true (suc a.nodes) limit e, h.fewer)) }
+    chosen false true e f h = absurd (omega (arith, leb-false (suc a.nodes) limit e, leb-true (suc b.nodes) limit f, under.fewer))
+    chosen false false e f h = h
+
+-- the best is no more than the entry of one of the ids
+best_no_more : (table : LeastTable) (ids : List ℕ) (p : ℕ) → is_key ids p ≡ true → IsNoMore (best_of table ids) (table p)
+best_no_more table [] p h s d m = absurd (false≢true h)
+best_no_more table (q ∷ qs) p h s d m = elim (or_cases (p == q) (is_key qs p) h) [
+  | inl same ↦ under_lesser_left (table q) (best_of table qs) s d (subst (λ (x : ℕ). AtMost (table x) s d) (eqb-true p q same) m)
+  | inr later ↦ under_lesser_right (table q) (best_of table qs) s d (best_no_more table qs p later s d m)
+]
+
+-- what is no more than one around each of the ids is no more than one around the best
+no_more_best : (limit : ℕ) (table : LeastTable) (ids : List ℕ) (e : Option Least) → ((p : ℕ) → is_key ids p ≡ true → IsNoMore e (around limit (table p)))
+    → IsNoMore e (around limit (best_of table ids))
+no_more_best limit table ids e each = elim (cases_Bool (is_some (best_of table ids))) [
+  | inl some ↦
+      let best = best_is table ids some in
+      (λ s d m. each best.id (key_at ids best.branch best.id best.here) s d (subst (λ (x : Option Least). AtMost (around limit x) s d) best.is m))
+  | inr none ↦ (λ s d m. absurd (false≢true (sym none ∙ some_under (best_of table ids) s d m)))
+]
+  where
+    some_under : (x : Option Least) (s d : ℕ) → AtMost (around limit x) s d → is_some x ≡ true
+    some_under None s d m = absurd m
+    some_under (Some x) s d m = refl
+
+-- tables that have the same entries for some ids
+module _ (limit : ℕ) (old new : LeastTable) where
+  best_same : (ids : List ℕ) → ((p : ℕ) → is_key ids p ≡ true → new p ≡ old p) → best_of new ids ≡ best_of old ids
+  best_same [] same = refl
+  best_same (q ∷ qs) same = rw (same q (or_from_left (q == q) (is_key qs q) (eq-eqb q q refl)), best_same qs (λ p h. same p (or_from_right (p == q) (is_key qs p) h))) refl
+
+  all_same : (ids : List ℕ) → ((p : ℕ) → is_key ids p ≡ true → new p ≡ old p) → all_of limit new ids ≡ all_of limit old ids
+  all_same [] same = refl
+  all_same (q ∷ qs) same = rw (same q (or_from_left (q == q) (is_key qs q) (eq-eqb q q refl)), all_same qs (λ p h. same p (or_from_right (p == q) (is_key qs p) h))) refl
+
+  step_same : (n : Node) → ((p : ℕ) → is_key (inner_ids n) p ≡ true → new p ≡ old p) → least_datum limit new n ≡ least_datum limit old n
+  step_same (Node.union ids) same = ap (around limit) (best_same ids same)
+  step_same (Node.record_of name aliases fields) same = ap (around limit) (all_same (field_ids fields) same)
+  step_same _ same = refl
+
+-- one of some ids passes a test that it passed before
+any_kept : (before after : ℕ → Bool) (ids : List ℕ) → ((p : ℕ) → before p ≡ true → after p ≡ true) → list_any before ids ≡ true → list_any after ids ≡ true
+any_kept before after [] kept h = h
+any_kept before after (q ∷ qs) kept h = elim (or_cases (before q) (list_any before qs) h) [
+  | inl here ↦ or_from_left (after q) (list_any after qs) (kept q here)
+  | inr later ↦ or_from_right (after q) (list_any after qs) (any_kept before after qs kept later)
+]
+
+module _ (limit : ℕ) (old new : LeastTable) (before after : ℕ → Bool) (fallen : (p : ℕ) → (after p ≡ true) ⊎ (new p ≡ old p)) where
+  any_or_same : (ids : List ℕ) → (list_any after ids ≡ true) ⊎ ((p : ℕ) → is_key ids p ≡ true → new p ≡ old p)
+  any_or_same [] = inr (λ p h. absurd (false≢true h))
+  any_or_same (q ∷ qs) = elim (fallen q) [
+    | inl waits ↦ inl (or_from_left (after q) (list_any after qs) waits)
+    | inr here ↦ elim (any_or_same qs) [
+      | inl waits ↦ inl (or_from_right (after q) (list_any after qs) waits)
+      | inr later ↦ inr (λ p h. one_same p here later (or_cases (p == q) (is_key qs p) h))
+    ]
+  ]
+    where
+      one_same : (p : ℕ) → new q ≡ old q → ((k : ℕ) → is_key qs k ≡ true → new k ≡ old k) → ((p == q) ≡ true) ⊎ (is_key qs p ≡ true) → new p ≡ old p
+      one_same p here later (inl same) = subst (λ (k : ℕ). new k ≡ old k) (sym (eqb-true p q same)) here
+      one_same p here later (inr there) = later p there
+
+  -- what is no more than a step over the old entries
+  stepped : (n : Node) (e : Option Least) → IsNoMore e (least_datum limit old n) → (list_any after (inner_ids n) ≡ true) ⊎ IsNoMore e (least_datum limit new n)
+  stepped n e less = elim (any_or_same (inner_ids n)) [
+    | inl waits ↦ inl waits
+    | inr same ↦ inr (λ s d m. less s d (subst (λ (x : Option Least). AtMost x s d) (step_same limit old new n same) m))
+  ]
+
+  parted : (p : ℕ) (e : Option Least) → IsNoMore e (around limit (old p)) → (after p ≡ true) ⊎ IsNoMore e (around limit (new p))
+  parted p e less = elim (fallen p) [
+    | inl waits ↦ inl waits
+    | inr same ↦ inr (λ s d m. less s d (subst (λ (x : Option Least). AtMost (around limit x) s d) same m))
+  ]
+
+  -- a node that is lowered to what a step gives is settled
+  pub step_settles : (n : Node) (e : Option Least) → IsNoMore e (least_datum limit old n) → IsSettledNode limit new after n e
+  step_settles (Node.union ids) e less = λ p h.
+      parted p e (λ s d m. less s d (around_no_more limit (best_of old ids) (old p) (best_no_more old ids p h) s d m))
+  step_settles (Node.record_of name aliases fields) e less = stepped (Node.record_of name aliases fields) e less
+  step_settles Node.null e less = inr less
+  step_settles Node.boolean e less = inr less
+  step_settles Node.int e less = inr less
+  step_settles Node.long e less = inr less
+  step_settles Node.bytes e less = inr less
+  step_settles Node.string e less = inr less
+  step_settles (Node.array id) e less = inr less
+  step_settles (Node.map_of id) e less = inr less
+  step_settles (Node.enum name aliases symbols default) e less = inr less
+  step_settles (Node.fixed name aliases count) e less = inr less
+
+  module _ (kept : (p : ℕ) → before p ≡ true → after p ≡ true) where
+    others_kept : (n : Node) (e f : Option Least) → IsNoMore f e → (list_any before (inner_ids n) ≡ true) ⊎ IsNoMore e (least_datum limit old n)
+        → (list_any after (inner_ids n) ≡ true) ⊎ IsNoMore f (least_datum limit new n)
+    others_kept n e f less (inl waits) = inl (any_kept before after (inner_ids n) kept waits)
+    others_kept n e f less (inr low) = stepped n f (λ s d m. less s d (low s d m))
+
+    -- a settled node stays so while entries fall
+    pub settled_kept : (n : Node) (e f : Option Least) → IsNoMore f e → IsSettledNode limit old before n e → IsSettledNode limit new after n f
+    settled_kept (Node.union ids) e f less all = λ p h. elim (all p h) [
+      | inl waits ↦ inl (kept p waits)
+      | inr low ↦ parted p f (λ s d m. less s d (low s d m))
+    ]
+    settled_kept (Node.record_of name aliases fields) e f less all = others_kept (Node.record_of name aliases fields) e f less all
+    settled_kept Node.null e f less all = others_kept Node.null e f less all
+    settled_kept Node.boolean e f less all = others_kept Node.boolean e f less all
+    settled_kept Node.int e f less all = others_kept Node.int e f less all
+    settled_kept Node.long e f less all = others_kept Node.long e f less all
+    settled_kept Node.bytes e f less all = others_kept Node.bytes e f less all
+    settled_kept Node.string e f less all = others_kept Node.string e f less all
+    settled_kept (Node.array id) e f less all = others_kept (Node.array id) e f less all
+    settled_kept (Node.map_of id) e f less all = others_kept (Node.map_of id) e f less all
+    settled_kept (Node.enum name aliases symbols default) e f less all = others_kept (Node.enum name aliases symbols default) e f less all
+    settled_kept (Node.fixed name aliases count) e f less all = others_kept (Node.fixed name aliases count) e f less all
+
+    -- a union that is lowered to what stands around a branch is settled for that branch
+    pub branch_settles : (ids : List ℕ) (i : ℕ) (e f : Option Least) → IsNoMore f e → IsNoMore f (around limit (old i))
+        → IsSettledNode limit old (λ p. before p || p == i) (Node.union ids) e → IsSettledNode limit new after (Node.union ids) f
+    branch_settles ids i e f less found all p h = elim (all p h) [
+      | inl waits ↦ elim (or_cases (before p) (p == i) waits) [
+        | inl waited ↦ inl (kept p waited)
+        | inr here ↦ parted p f (subst (λ (q : ℕ). IsNoMore f (around limit (old q))) (sym (eqb-true p i here)) found)
+      ]
+      | inr low ↦ parted p f (λ s d m. less s d (low s d m))
+    ]
+
+-- a record with a field that is open is settled
+pub open_settles : (limit : ℕ) (table : LeastTable) (waits : ℕ → Bool) (ids : List ℕ) (e : Option Least)
+    → list_any (λ p. is_none (table p) || waits p) ids ≡ true → (list_any waits ids ≡ true) ⊎ IsNoMore e (around limit (all_of limit table ids))
+open_settles limit table waits ids e h = elim (waits_or_none ids h) [
+  | inl some ↦ inl some
+  | inr none ↦ inr (λ s d m. absurd (subst (λ (x : Option Least). AtMost (around limit x) s d) none m))
+]
+  where
+    none_is : (x : Option Least) → is_none x ≡ true → x ≡ None
+    none_is None m = refl
+    none_is (Some x) m = absurd (false≢true m)
+
+    together_none : (x : Option Least) → together limit x None ≡ None
+    together_none None = refl
+    together_none (Some x) = refl
+
+    waits_or_none : (ps : List ℕ) → list_any (λ p. is_none (table p) || waits p) ps ≡ true → (list_any waits ps ≡ true) ⊎ (all_of limit table ps ≡ None)
+    waits_or_none [] m = absurd (false≢true m)
+    waits_or_none (p ∷ ps) m = elim (or_cases (is_none (table p) || waits p) (list_any (λ q. is_none (table q) || waits q) ps) m) [
+      | inl here ↦ elim (or_cases (is_none (table p)) (waits p) here) [
+        | inl none ↦ inr (ap (λ x. together limit x (all_of limit table ps)) (none_is (table p) none))
+        | inr waited ↦ inl (or_from_left (waits p) (list_any waits ps) waited)
+      ]
+      | inr later ↦ elim (waits_or_none ps later) [
+        | inl waited ↦ inl (or_from_right (waits p) (list_any waits ps) waited)
+        | inr none ↦ inr (ap (together limit (table p)) none ∙ together_none (table p))
+      ]
+    ]
+
+-- what is made of other nodes is settled without one more
+module _ (limit : ℕ) (table : LeastTable) (waits : ℕ → Bool) (i : ℕ) where
+  others_wait : (ids : List ℕ) → is_key ids i ≡ false → list_any (λ p. waits p || p == i) ids ≡ true → list_any waits ids ≡ true
+  others_wait [] apart h = h
+  others_wait (q ∷ qs) apart h = elim (or_cases (waits q || q == i) (list_any (λ p. waits p || p == i) qs) h) [
+    | inl here ↦ elim (or_cases (waits q) (q == i) here) [
+      | inl waited ↦ or_from_left (waits q) (list_any waits qs) waited
+      | inr same ↦ absurd (false≢true (sym (or_left (i == q) (is_key qs i) apart) ∙ eq-eqb i q (sym (eqb-true q i same))))
+    ]
+    | inr later ↦ or_from_right (waits q) (list_any waits qs) (others_wait qs (or_right (i == q) (is_key qs i) apart) later)
+  ]
+
+  others_unused : (n : Node) (e : Option Least) → is_key (inner_ids n) i ≡ false
+      → (list_any (λ p. waits p || p == i) (inner_ids n) ≡ true) ⊎ IsNoMore e (least_datum limit table n)
+      → (list_any waits (inner_ids n) ≡ true) ⊎ IsNoMore e (least_datum limit table n)
+  others_unused n e apart (inl waited) = inl (others_wait (inner_ids n) apart waited)
+  others_unused n e apart (inr low) = inr low
+
+  pub settled_unused : (n : Node) (e : Option Least) → is_key (inner_ids n) i ≡ false → IsSettledNode limit table (λ p. waits p || p == i) n e
+      → IsSettledNode limit table waits n e
+  settled_unused (Node.union ids) e apart all = λ p h. elim (all p h) [
+    | inl waited ↦ elim (or_cases (waits p) (p == i) waited) [
+      | inl before ↦ inl before
+      | inr same ↦ absurd (false≢true (sym apart ∙ subst (λ (q : ℕ). is_key ids q ≡ true) (eqb-true p i same) h))
+    ]
+    | inr low ↦ inr low
+  ]
+  settled_unused (Node.record_of name aliases fields) e apart all = others_unused (Node.record_of name aliases fields) e apart all
+  settled_unused Node.null e apart all = others_unused Node.null e apart all
+  settled_unused Node.boolean e apart all = others_unused Node.boolean e apart all
+  settled_unused Node.int e apart all = others_unused Node.int e apart all
+  settled_unused Node.long e apart all = others_unused Node.long e apart all
+  settled_unused Node.bytes e apart all = others_unused Node.bytes e apart all
+  settled_unused Node.string e apart all = others_unused Node.string e apart all
+  settled_unused (Node.array id) e apart all = others_unused (Node.array id) e apart all
+  settled_unused (Node.map_of id) e apart all = others_unused (Node.map_of id) e apart all
+  settled_unused (Node.enum name aliases symbols default) e apart all = others_unused (Node.enum name aliases symbols default) e apart all
+  settled_unused (Node.fixed name aliases count) e apart all = others_unused (Node.fixed name aliases count) e apart all
+
+-- where none waits, a settled node is low
+module _ (limit : ℕ) (table : LeastTable) (waits : ℕ → Bool) (none : (p : ℕ) → waits p ≡ false) where
+  none_waits : (ids : List ℕ) → list_any waits ids ≡ true → ⊥
+  none_waits [] h = false≢true h
+  none_waits (q ∷ qs) h = elim (or_cases (waits q) (list_any waits qs) h) [
+    | inl here ↦ false≢true (sym (none q) ∙ here)
+    | inr later ↦ none_waits qs later
+  ]
+
+  others_low : (n : Node) (e : Option Least) → (list_any waits (inner_ids n) ≡ true) ⊎ IsNoMore e (least_datum limit table n) → IsNoMore e (least_datum limit table n)
+  others_low n e (inl waited) = absurd (none_waits (inner_ids n) waited)
+  others_low n e (inr low) = low
+
+  branch_low : (p : ℕ) (e : Option Least) → (waits p ≡ true) ⊎ IsNoMore e (around limit (table p)) → IsNoMore e (around limit (table p))
+  branch_low p e (inl waited) = absurd (false≢true (sym (none p) ∙ waited))
+  branch_low p e (inr low) = low
+
+  pub settled_low : (n : Node) (e : Option Least) → IsSettledNode limit table waits n e → IsNoMore e (least_datum limit table n)
+  settled_low (Node.union ids) e all = no_more_best limit table ids e (λ p h. branch_low p e (all p h))
+  settled_low (Node.record_of name aliases fields) e all = others_low (Node.record_of name aliases fields) e all
+  settled_low Node.null e all = others_low Node.null e all
+  settled_low Node.boolean e all = others_low Node.boolean e all
+  settled_low Node.int e all = others_low Node.int e all
+  settled_low Node.long e all = others_low Node.long e all
+  settled_low Node.bytes e all = others_low Node.bytes e all
+  settled_low Node.string e all = others_low Node.string e all
+  settled_low (Node.array id) e all = others_low (Node.array id) e all
+  settled_low (Node.map_of id) e all = others_low (Node.map_of id) e all
+  settled_low (Node.enum name aliases symbols default) e all = others_low (Node.enum name aliases symbols default) e all
+  settled_low (Node.fixed name aliases count) e all = others_low (Node.fixed name aliases count) e all
+
+-- past the end a node is settled
+pub past_settled : (nodes : List Node) (limit : ℕ) (es : List (Option KeptLeast)) (waits : ℕ → Bool) (w : ℕ) → length es ≡ length nodes → length nodes ≤ w
+    → IsSettled nodes limit (table_of es) waits w
+past_settled nodes limit es waits w same past =
+    subst (λ (o : Option Node). IsSettledNode limit (table_of es) waits (unwrap_or o Node.null) (table_of es w)) (sym (slice_get_past nodes w past))
+    (inr (λ s d m. subst (λ (o : Option (Option KeptLeast)). AtMost (entry_of o) s d) (sym (slice_get_past es w (omega (arith, same, past)))) m))
+
+-- an entry that falls, where one is found for it
+module _ (es : List (Option KeptLeast)) (i : ℕ) (found : Option KeptLeast) (within : i < length es) where
+  table_here : given_entry (slice_get es i) ≡ table_of es i
+  table_here = rw (slice_get-get_or es i None within) refl
+
+  pub lowered_length : length (lowered es i found) ≡ length es
+  lowered_length = chosen (improves (seen found) (given_entry (slice_get es i)))
+    where
+      chosen : (t : Bool) → length (cond t (set es i found) es) ≡ length es
+      chosen true = length-set es i found
+      chosen false = refl
+
+  better_here : improves (seen found) (given_entry (slice_get es i)) ≡ true → table_of (lowered es i found) i ≡ seen found
+  better_here better = ap (λ (ks : List (Option KeptLeast)). table_of ks i) (lowered_better es i found better) ∙ ap entry_of (set_here es i found within)
+
+  lowered_other : (p : ℕ) → (p ≡ i → ⊥) → table_of (lowered es i found) p ≡ table_of es p
+  lowered_other p apart = chosen (improves (seen found) (given_entry (slice_get es i)))
+    where
+      chosen : (t : Bool) → table_of (cond t (set es i found) es) p ≡ table_of es p
+      chosen true = ap entry_of (set_other es i p found apart)
+      chosen false = refl
+
+  lowered_worse_same : improves (seen found) (given_entry (slice_get es i)) ≡ false → (p : ℕ) → table_of (lowered es i found) p ≡ table_of es p
+  lowered_worse_same worse p = ap (λ (ks : List (Option KeptLeast)). table_of ks p) (lowered_worse es i found worse)
+
+  -- it is no more than what was found, nor than the old one
+  pub lowered_found : IsNoMore (table_of (lowered es i found) i) (seen found)
+  lowered_found s d m = elim (cases_Bool (improves (seen found) (given_entry (slice_get es i)))) [
+    | inl better ↦ subst (λ (e : Option Least). AtMost e s d) (sym (better_here better)) m
+    | inr worse ↦ subst (λ (e : Option Least). AtMost e s d) (table_here ∙ sym (lowered_worse_same worse i)) (improves_low (seen found) (given_entry (slice_get es i)) s d worse m)
+  ]
+
+  improves_less : (a b : Option Least) → improves a b ≡ true → IsNoMore a b
+  improves_less None b h s d m = absurd (false≢true h)
+  improves_less (Some a) None h s d m = absurd m
+  improves_less (Some a) (Some b) h s d m = subst (λ (e : Option Least). AtMost e s d) (ap (λ t. cond t (Some a) (Some b)) h) (under_lesser_left (Some b) (Some a) s d m)
+
+  pub lowered_less : (p : ℕ) → IsNoMore (table_of (lowered es i found) p) (table_of es p)
+  lowered_less p = elim (cases_eq p i) [
+    | inl same ↦ subst (λ (q : ℕ). IsNoMore (table_of (lowered es i found) q) (table_of es q)) (sym same) (elim (cases_Bool (improves (seen found) (given_entry (slice_get es i)))) [
+      | inl better ↦ (λ s d m. subst (λ (e : Option Least). AtMost e s d) (sym (better_here better))
+          (improves_less (seen found) (given_entry (slice_get es i)) better s d (subst (λ (e : Option Least). AtMost e s d) (sym table_here) m)))
+      | inr worse ↦ (λ s d m. subst (λ (e : Option Least). AtMost e s d) (sym (lowered_worse_same worse i)) m)
+    ])
+    | inr apart ↦ (λ s d m. subst (λ (e : Option Least). AtMost e s d) (sym (lowered_other p apart)) m)
+  ]
+
+  -- where it has fallen it waits
+  pub lowered_falls : (waits : ℕ → Bool) → (improves (seen found) (given_entry (slice_get es i)) ≡ true → waits i ≡ true)
+      → (p : ℕ) → (waits p ≡ true) ⊎ (table_of (lowered es i found) p ≡ table_of es p)
+  lowered_falls waits marked p = elim (cases_Bool (improves (seen found) (given_entry (slice_get es i)))) [
+    | inl better ↦ elim (cases_eq p i) [
+      | inl same ↦ inl (subst (λ (q : ℕ). waits q ≡ true) (sym same) (marked better))
+      | inr apart ↦ inr (lowered_other p apart)
+    ]
+    | inr worse ↦ inr (lowered_worse_same worse p)
+  ]
+
+  -- and is that of a datum
+  pub lowered_shown : (nodes : List Node) (limit : ℕ) → AreDataShown nodes limit (table_of es) → (is_some (seen found) ≡ true → ShowsData nodes limit (node_at nodes i) (seen found))
+      → AreDataShown nodes limit (table_of (lowered es i found))
+  lowered_shown nodes limit shown own p = elim (cases_eq p i) [
+    | inl same ↦ subst (λ (q : ℕ). is_some (table_of (lowered es i found) q) ≡ true → ShowsData nodes limit (node_at nodes q) (table_of (lowered es i found) q)) (sym same)
+        (elim (cases_Bool (improves (seen found) (given_entry (slice_get es i)))) [
+          | inl better ↦ subst (λ (e : Option Least). is_some e ≡ true → ShowsData nodes limit (node_at nodes i) e) (sym (better_here better)) own
+          | inr worse ↦ subst (λ (e : Option Least). is_some e ≡ true → ShowsData nodes limit (node_at nodes i) e) (sym (lowered_worse_same worse i)) (shown i)
+        ])
+    | inr apart ↦ subst (λ (e : Option Least). is_some e ≡ true → ShowsData nodes limit (node_at nodes p) e) (sym (lowered_other p apart)) (shown p)
+  ]
+
+-- the place of a key
+key_place : (ids : List ℕ) (p : ℕ) → is_key ids p ≡ true → (k : ℕ) × (slice_get ids k ≡ Some p)
+key_place [] p h = absurd (false≢true h)
+key_place (q ∷ qs) p h = elim (or_cases (p == q) (is_key qs p) h) [
+  | inl same ↦ (0, ap Some (sym (eqb-true p q same)))
+  | inr later ↦ (let found = key_place qs p later in (suc found.0, found.1))
+]
+
+-- what stands around a branch that has a datum
+pub branch_shown : (nodes : List Node) (limit : ℕ) (table : LeastTable) (ids : List ℕ) (i : ℕ) → AreDataShown nodes limit table → is_key ids i ≡ true
+    → is_some (around limit (table i)) ≡ true → ShowsData nodes limit (Node.union ids) (around limit (table i))
+branch_shown nodes limit table ids i shown h some =
+    let place = key_place ids i h in
+    let part = shown i (around_some limit (table i) some) in
+    record {
+      datum = Value.union place.0 part.datum;
+      fitting = rw place.1 part.fitting;
+      exact = exact_around limit (table i) _ _ part.exact;
+    }
+
+-- a step over entries that have data has a datum
+pub node_shown : (nodes : List Node) (limit : ℕ) (table : LeastTable) (w : ℕ) (n : Node) (e : Option Least) → is_schema nodes ≡ true → node_at nodes w ≡ n
+    → AreDataShown nodes limit table → e ≡ least_datum limit table n → is_some e ≡ true → ShowsData nodes limit (node_at nodes w) e
+node_shown nodes limit table w n e formed here shown is =
+    subst (λ (x : Option Least). is_some x ≡ true → ShowsData nodes limit (node_at nodes w) x) (sym (is ∙ ap (least_datum limit table) (sym here)))
+    (step_shown nodes limit table shown (node_at nodes w) (meets_rules_at nodes w formed))
