@@ -13,6 +13,7 @@ pub mod LeastData
 pub mod LeastErrors
 pub mod LeastOrder
 pub mod LoneValue
+pub mod LoweredNodes
 pub mod Lowering
 pub mod Others
 pub mod PairSteps

@@ -16,7 +16,9 @@ use Rattle.avro_least.specs.inside.Falling.{lowered, effort, IsSearch}
 use Rattle.avro_least.specs.inside.Settled.{IsNoMore, IsSettled, IsOver, AreSettled, AreSettledBut, HaveFallen, waits_in, waits_or, table_in}
 use Rattle.avro_least.specs.declared.search.Search.{Search}
 use Rattle.avro_certificate.proofs.public.Tests.{or_cases, or_from_left, or_from_right}
-use Rattle.avro_least.proofs.Settling.{settled_kept, settled_low, lowered_length, lowered_found, lowered_less, lowered_falls, lowered_shown}
+use Rattle.avro_least.proofs.LoweredNodes.{lowered_found, lowered_less, lowered_falls, lowered_shown}
+use Rattle.avro_least.proofs.Searching.{length_lowered}
+use Rattle.avro_least.proofs.Settling.{settled_kept, settled_low}
 
 -- a field whose node passes a test
 pub field_passes : (test : ℕ → Bool) (fields : List Field) (k : ℕ) (d : Field) → k < length fields → test (get_or fields k d).node.0 ≡ true
@@ -35,7 +37,7 @@ module _ (old new : Search) (i : ℕ) (found : Option KeptLeast) (within : i < l
       → IsOver nodes limit new
   lower_over nodes limit search over own = record {
     queued = search;
-    one_each = ap length is ∙ lowered_length old.entries.items i found within ∙ over.one_each;
+    one_each = ap length is ∙ length_lowered old.entries.items i found ∙ over.one_each;
     shown = subst (λ (es : List (Option KeptLeast)). AreDataShown nodes limit (table_of es)) (sym is) (lowered_shown old.entries.items i found within nodes limit over.shown own);
   }
 

@@ -98,3 +98,10 @@ set_weighs_less es i found within better =
     weight_falls found (get_or es i None)
     (subst (λ (o : Option (Option KeptLeast)). improves (seen found) (given_entry o) ≡ true) (slice_get-get_or es i None within) better) in
     omega (arith, lighter, sum_by-set weight es i found None within)
+
+pub length_lowered : (es : List (Option KeptLeast)) (i : ℕ) (found : Option KeptLeast) → length (lowered es i found) ≡ length es
+length_lowered es i found = chosen (improves (seen found) (given_entry (slice_get es i)))
+  where
+    chosen : (t : Bool) → length (cond t (set es i found) es) ≡ length es
+    chosen true = length-set es i found
+    chosen false = refl

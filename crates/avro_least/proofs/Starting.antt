@@ -24,6 +24,7 @@ use Rattle.avro_least.specs.inside.Falling.{lowered, IsSearch}
 use Rattle.avro_least.specs.inside.Leading.{PartWaits, IsTaken, AreTakenBut, IsGraph, IsSearchOf}
 use Rattle.avro_certificate.proofs.public.Tests.{and_left, and_right, all_at}
 use Rattle.avro_least.proofs.PairSteps.{below_at, followed_known, pair_set_shown, unknown_none}
+use Rattle.avro_least.proofs.Searching.{length_lowered}
 use Rattle.avro_least.proofs.public.Stepping.{children_at_within}
 
 -- around no entry is none
@@ -115,13 +116,6 @@ lowered_shown writer reader limit table keys es new i key found within here same
     chosen : (t : Bool) → ArePairsShown writer reader limit table keys (seen_all (cond t (set es i found) es))
     chosen true = pair_set_shown writer reader limit table keys es i key found within here shown own
     chosen false = shown
-
-pub length_lowered : (es : List (Option KeptLeast)) (i : ℕ) (found : Option KeptLeast) → length (lowered es i found) ≡ length es
-length_lowered es i found = chosen (improves (seen found) (given_entry (slice_get es i)))
-  where
-    chosen : (t : Bool) → length (cond t (set es i found) es) ≡ length es
-    chosen true = length-set es i found
-    chosen false = refl
 
 -- a search of a graph whose entry falls so
 pub lowered_search : (g : Graph) (old new : Search) (i key : ℕ) (found : Option KeptLeast) → IsSearchOf g old → IsSearch new → slice_get (keys g.reached.now.known) i ≡ Some key

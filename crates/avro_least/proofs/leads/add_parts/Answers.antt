@@ -1,8 +1,7 @@
-use Rattle.std.proofs.Common.{◌≡◌, ◌<◌, ◌+◌, ℕ, true, false, Some, length, inl, inr, arith, refl, sym, ◌∙◌, ap, subst}
+use Rattle.std.proofs.Common.{◌≡◌, ℕ, true, false, Some, inl, inr, arith, sym, ◌∙◌, ap, subst}
 use Rattle.std.proofs.lemmas.Bool.{cases_eq}
-use Rattle.std.specs.Prelude.{slice_get, is_none, position, ◌==◌}
+use Rattle.std.specs.Prelude.{is_none, position, ◌==◌}
 use Rattle.indexmap.specs.IndexSet.{keys}
-use Rattle.avro_certificate.specs.Closed.{Pair}
 use Rattle.avro_least.specs.Tables.{pair_number}
 use Rattle.avro_least.specs.SeenAsk.{ask_of}
 use Rattle.avro_least.specs.SeenLeast.{table_of}

@@ -1,5 +1,5 @@
 use Rattle.std.proofs.Common.{◌≡◌, ◌<◌, ℕ, true, false, Some, length}
-use Rattle.std.specs.Prelude.{slice_get, is_none, position, ◌==◌}
+use Rattle.std.specs.Prelude.{is_none, position, ◌==◌}
 use Rattle.indexmap.specs.IndexSet.{keys}
 use Rattle.avro_least.specs.Tables.{pair_number}
 use Rattle.avro_least.specs.SeenAsk.{ask_of}

@@ -1,13 +1,12 @@
-use Rattle.std.proofs.Common.{◌≡◌, ◌<◌, ◌≤◌, ◌+◌, ◌-◌, ℕ, ◌∷◌, List, Option, drop, length, get_or, inl, inr, sym, ◌∙◌, ap, ap₂, subst, arith}
+use Rattle.std.proofs.Common.{◌≡◌, ◌<◌, ◌+◌, ◌-◌, ℕ, drop, length, inl, inr, sym, ◌∙◌, ap, ap₂, arith}
 use Rattle.std.proofs.Math.ListN.{set}
 use Rattle.std.proofs.lemmas.Bool.{cases_eq}
 use Rattle.std.proofs.lemmas.List.{length-set}
 use Rattle.std.specs.Prelude.{slice_get}
 use Rattle.avro_schema.specs.Node.{field_ids}
 use Rattle.avro_schema.specs.Seen.{seen_fields}
-use Rattle.avro_least.specs.Tables.{Least, together, all_of}
+use Rattle.avro_least.specs.Tables.{together, all_of}
 use Rattle.avro_least.specs.SeenLeast.{given_entry, table_of}
-use Rattle.avro_least.specs.declared.kept.Least.{Least as KeptLeast}
 use Rattle.avro_least.proofs.Others.{field_rest}
 use Rattle.avro_least.proofs.Rounds.{set_here, set_other}
 use Rattle.avro_least.proofs.parts.behind.Goals as goal

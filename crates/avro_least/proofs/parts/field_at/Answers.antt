@@ -1,7 +1,4 @@
-use Rattle.std.proofs.Common.{None, Some, sym, ◌∙◌, ap}
-use Rattle.std.specs.Prelude.{option_map}
-use Rattle.avro_schema.specs.declared.schema.NodeId.{NodeId}
-use Rattle.avro_certificate.specs.Closed.{Pair}
+use Rattle.std.proofs.Common.{None, Some, sym, ◌∙◌}
 use Rattle.avro_least.proofs.Others.{field_here, row_part_is}
 use Rattle.avro_least.proofs.parts.field_at.Goals as goal
 

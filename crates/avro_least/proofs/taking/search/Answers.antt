@@ -1,4 +1,4 @@
-use Rattle.std.proofs.Common.{◌≡◌, ℕ, [], List, Option, length, sym, ◌∙◌, ap, subst}
+use Rattle.std.proofs.Common.{ℕ, List, Option, length, sym, subst}
 use Rattle.indexmap.specs.IndexSet.{keys}
 use Rattle.avro_schema.specs.Node.{Node}
 use Rattle.avro_schema.specs.SeenSchema.{schema_nodes}

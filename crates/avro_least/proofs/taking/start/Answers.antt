@@ -1,5 +1,4 @@
-use Rattle.std.proofs.Common.{◌≡◌, ◌<◌, ◌+◌, ◌*◌, ℕ, [], Some, None, List, Option, length, inl, inr, arith, sym, ◌∙◌, ap, subst}
-use Rattle.std.proofs.Math.ListN.{replicate}
+use Rattle.std.proofs.Common.{◌≡◌, ◌<◌, ◌*◌, ℕ, [], Some, None, List, Option, length, inl, inr, arith, sym, ◌∙◌, ap, subst}
 use Rattle.std.proofs.lemmas.Bool.{lt-ltb, cases_eq}
 use Rattle.std.proofs.lemmas.List.{length-replicate}
 use Rattle.std.proofs.lemmas.Option.{slice_get_within, slice_get-get_or}
@@ -8,11 +7,11 @@ use Rattle.indexmap.specs.IndexSet.{keys}
 use Rattle.avro_schema.specs.Node.{Node}
 use Rattle.avro_schema.specs.SeenSchema.{schema_nodes}
 use Rattle.avro_least.specs.Tables.{AtMost, no_parts}
-use Rattle.avro_least.specs.Asked.{ArePairsShown, asked_at}
+use Rattle.avro_least.specs.Asked.{ArePairsShown}
 use Rattle.avro_least.specs.SeenLeast.{seen, seen_all, table_of}
 use Rattle.avro_least.specs.declared.kept.Least.{Least as KeptLeast}
-use Rattle.avro_least.specs.inside.Falling.{is_waiting, lowered}
-use Rattle.avro_least.specs.inside.Leading.{AreTakenBut, HasTakenAlone}
+use Rattle.avro_least.specs.inside.Falling.{lowered}
+use Rattle.avro_least.specs.inside.Leading.{AreTakenBut}
 use Rattle.avro_least.proofs.PairSteps.{below_at, start_pairs}
 use Rattle.avro_least.proofs.ShownParts.{alone_shows}
 use Rattle.avro_least.proofs.Starting.{lowered_search, unknown_taken}

@@ -1,4 +1,4 @@
-use Rattle.std.proofs.Common.{◌≡◌, ◌<◌, ℕ, []}
+use Rattle.std.proofs.Common.{◌<◌, ℕ, []}
 use Rattle.avro_least.specs.inside.Leading.{HasTakenAlone, HaveTakenBut, IsSearchOf}
 use Rattle.avro_least.proofs.taking.start.Given as goal
 

@@ -1,4 +1,4 @@
-use Rattle.std.proofs.Common.{◌≡◌, ◌+◌, ℕ, List, drop, length, arith, sym, ◌∙◌, subst}
+use Rattle.std.proofs.Common.{◌+◌, List, drop, arith, subst}
 use Rattle.std.proofs.lemmas.List.{drop_more}
 use Rattle.avro_least.specs.declared.leads.Lead.{Lead}
 use Rattle.avro_least.specs.inside.Leading.{HaveTakenBut}

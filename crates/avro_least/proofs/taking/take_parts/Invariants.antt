@@ -1,4 +1,4 @@
-use Rattle.std.proofs.Common.{◌≡◌, ◌≤◌, ℕ, drop}
+use Rattle.std.proofs.Common.{◌≤◌, ℕ, drop}
 use Rattle.avro_least.specs.inside.Falling.{effort}
 use Rattle.avro_least.specs.inside.Leading.{HasTakenAlone, HaveTakenBut, IsSearchOf}
 use Rattle.avro_least.proofs.taking.take_parts.Given as goal

@@ -5,9 +5,8 @@ use Rattle.std.specs.Prelude.{slice_get, map}
 use Rattle.indexmap.specs.IndexSet.{keys}
 use Rattle.avro_schema.specs.Node.{Node, node_at}
 use Rattle.avro_schema.specs.SeenSchema.{schema_nodes}
-use Rattle.avro_certificate.specs.Closed.{Pair}
-use Rattle.avro_least.specs.Tables.{Least, ErringTable, erring_of}
-use Rattle.avro_least.specs.Asked.{Row, Asked, asked_at}
+use Rattle.avro_least.specs.Tables.{ErringTable, erring_of}
+use Rattle.avro_least.specs.Asked.{Asked, asked_at}
 use Rattle.avro_least.specs.SeenAsk.{ask_of}
 use Rattle.avro_least.specs.SeenLeast.{seen, seen_all, given_entry, table_of}
 use Rattle.avro_least.specs.declared.kept.Least.{Least as KeptLeast}

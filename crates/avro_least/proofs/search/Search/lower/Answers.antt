@@ -1,14 +1,11 @@
-use Rattle.std.proofs.Common.{◌≡◌, ◌<◌, ◌+◌, ◌*◌, ◌||◌, ◌⊎◌, ℕ, Bool, true, false, List, Option, inl, inr, Some, length, arith, refl, sym, ◌∙◌, ap, subst}
-use Rattle.std.proofs.Math.ListN.{set}
+use Rattle.std.proofs.Common.{◌≡◌, ◌||◌, ◌⊎◌, Bool, true, false, List, Option, inl, inr, Some, arith, refl, sym, ◌∙◌, ap}
 use Rattle.std.proofs.lemmas.Bool.{false≢true, eq-eqb}
 use Rattle.std.proofs.lemmas.List.{length-set}
 use Rattle.std.specs.Prelude.{slice_get, ◌==◌}
-use Rattle.std.specs.List.{list_any}
 use Rattle.std.specs.BinaryHeap.{heap_items}
-use Rattle.avro_least.specs.SeenLeast.{seen, given_entry, improves, weights}
+use Rattle.avro_least.specs.SeenLeast.{seen, given_entry, improves}
 use Rattle.avro_least.specs.declared.kept.Least.{Least as KeptLeast}
-use Rattle.avro_least.specs.inside.Falling.{is_waiting, lowered}
-use Rattle.avro_least.proofs.Searching.{mark_here, mark_kept, mark_was, queued_more, lowered_better, lowered_worse, set_weighs_less}
+use Rattle.avro_least.proofs.Searching.{mark_was, queued_more, set_weighs_less}
 use Rattle.avro_least.proofs.search.Search.lower.Goals as goal
 
 or_either : (a b : Bool) → (a ≡ true) ⊎ (b ≡ true) → (a || b) ≡ true
