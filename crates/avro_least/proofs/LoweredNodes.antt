@@ -1,26 +1,16 @@
 -- An entry of a node that falls, where one is found for it.
-use Rattle.std.proofs.Common.{◌≡◌, ◌⊎◌, ◌<◌, ◌≤◌, ℕ, suc, Bool, true, false, cond, ◌||◌, List, [], ◌∷◌, Option, Some, None, inl, inr, length, refl, sym, ◌∙◌, ap, subst, arith}
+use Rattle.std.proofs.Common.{◌≡◌, ◌⊎◌, ◌<◌, ℕ, Bool, true, false, cond, List, Option, Some, None, inl, inr, length, refl, sym, ◌∙◌, ap, subst}
 use Rattle.std.proofs.Math.ListN.{set}
-use Rattle.std.proofs.lemmas.Bool.{false≢true, eq-eqb, eqb-true, leb-true, leb-false, cases_eq, cases_Bool}
-use Rattle.std.proofs.lemmas.List.{length-set}
-use Rattle.std.proofs.lemmas.Option.{slice_get_past, slice_get-get_or}
-use Rattle.std.specs.Prelude.{slice_get, unwrap_or, is_some, is_none, nat_le, ◌==◌}
-use Rattle.std.specs.List.{list_any}
-use Rattle.avro_schema.specs.Value.{Value}
-use Rattle.avro_schema.specs.Node.{Node, node_at, field_ids}
-use Rattle.avro_schema.specs.WellFormed.{is_schema}
-use Rattle.avro_least.specs.Tables.{Least, LeastTable, IsUnder, AtMost, AreDataShown, ShowsData, around, together, best_of, all_of, least_datum}
+use Rattle.std.proofs.lemmas.Bool.{false≢true, cases_eq, cases_Bool}
+use Rattle.std.proofs.lemmas.Option.{slice_get-get_or}
+use Rattle.std.specs.Prelude.{slice_get, is_some}
+use Rattle.avro_schema.specs.Node.{Node, node_at}
+use Rattle.avro_least.specs.Tables.{Least, AtMost, AreDataShown, ShowsData}
 use Rattle.avro_least.specs.SeenLeast.{seen, entry_of, table_of, given_entry, improves}
 use Rattle.avro_least.specs.declared.kept.Least.{Least as KeptLeast}
-use Rattle.avro_least.specs.Reached.{is_key}
-use Rattle.avro_least.specs.inside.Uses.{inner_ids}
 use Rattle.avro_least.specs.inside.Falling.{lowered}
-use Rattle.avro_least.specs.inside.Settled.{IsNoMore, IsSettledNode, IsSettled}
-use Rattle.avro_certificate.proofs.public.Tests.{or_cases, or_left, or_right, or_from_left, or_from_right}
-use Rattle.avro_certificate.proofs.public.Shapes.{meets_rules_at}
-use Rattle.avro_least.proofs.public.Keys.{key_at}
-use Rattle.avro_least.proofs.LeastOrder.{under_lesser_left, under_lesser_right}
-use Rattle.avro_least.proofs.ShownData.{exact_around, around_some, best_is, step_shown}
+use Rattle.avro_least.specs.inside.Settled.{IsNoMore}
+use Rattle.avro_least.proofs.LeastOrder.{under_lesser_left}
 use Rattle.avro_least.proofs.Searching.{lowered_better, lowered_worse}
 use Rattle.avro_least.proofs.Rounds.{set_here, set_other, improves_low}
 use Rattle.avro_least.proofs.Searching.{lowered_better, lowered_worse}

@@ -1,5 +1,5 @@
 -- The parts of pairs, as the code finds them.
-use Rattle.std.proofs.Common.{◌≡◌, ℕ, zero, suc, ◌+◌, ◌-◌, ◌<◌, ◌≤◌, Bool, true, false, ◌&&◌, ◌||◌, List, [], ◌∷◌, ◌++◌, drop, Option, Some, None, inl, inr, length, get_or, refl, sym, ◌∙◌, ap, subst, arith}
+use Rattle.std.proofs.Common.{◌≡◌, ℕ, zero, suc, ◌+◌, ◌<◌, true, false, ◌&&◌, ◌||◌, List, [], ◌∷◌, ◌++◌, drop, Option, Some, None, inl, inr, length, get_or, refl, sym, ◌∙◌, ap, arith}
 use Rattle.std.proofs.Math.ListN.{set}
 use Rattle.std.proofs.lemmas.Bool.{and_from, cases_eq, eq-eqb}
 use Rattle.std.proofs.lemmas.List.{drop_more, drop-map, length-map}
@@ -13,12 +13,12 @@ use Rattle.avro_schema.specs.declared.schema.NodeId.{NodeId}
 use Rattle.avro_schema.specs.declared.schema.Field.{Field}
 use Rattle.avro_certificate.specs.Closed.{Pair}
 use Rattle.avro_least.specs.Tables.{Least, LeastTable, ErringTable, together, all_of, no_parts}
-use Rattle.avro_least.specs.Asked.{Row, Asked, asked, rows_from}
+use Rattle.avro_least.specs.Asked.{Row, Asked, asked}
 use Rattle.avro_least.specs.SeenAsk.{row_of, rows_of}
 use Rattle.avro_least.specs.declared.kept.Least.{Least as KeptLeast}
 use Rattle.avro_least.specs.declared.asking.FieldAsk.{FieldAsk}
 use Rattle.avro_least.specs.declared.leads.Lead.{Lead}
-use Rattle.avro_least.specs.inside.Parts.{least_of_others, nodes_of, row_part, parts_of, part_at, seen_pair, row_items, others_at, AreOthersOf, AreOthers}
+use Rattle.avro_least.specs.inside.Parts.{least_of_others, nodes_of, row_part, parts_of, part_at, seen_pair, row_items, AreOthersOf, AreOthers}
 use Rattle.avro_least.specs.inside.Leading.{is_lead, leads_at}
 use Rattle.avro_certificate.proofs.public.Tests.{or_from_left, or_from_right}
 use Rattle.avro_least.proofs.AskedBuilds.{records_asked}

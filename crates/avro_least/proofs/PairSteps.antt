@@ -6,22 +6,21 @@ use Rattle.std.proofs.lemmas.Nat.{div-mul-add, mod-mul-add}
 use Rattle.std.proofs.lemmas.Option.{slice_get-get_or, slice_get-map, slice_get_within}
 use Rattle.std.proofs.lemmas.Iterator.Adapters.{position_from-zero}
 use Rattle.std.proofs.lemmas.List.{length-map}
-use Rattle.std.proofs.lemmas.List.Sums.{sum_by-set}
 use Rattle.std.proofs.lemmas.List.Quantifiers.{position-Some}
 use Rattle.std.specs.Prelude.{slice_get, unwrap_or, option_map, position, nat_lt, ◌==◌, is_some, is_none}
 use Rattle.std.specs.List.{list_all, list_any, position_from}
 use Rattle.avro_schema.specs.Node.{Node, node_at}
 use Rattle.avro_schema.specs.WellFormed.{is_schema}
 use Rattle.avro_certificate.specs.Closed.{Pair, children_of}
-use Rattle.avro_least.specs.Tables.{Least, LeastTable, ErringTable, AtMost, AreDataShown, AreErrorsShown, ShowsError, no_parts, pair_number, reached_entry, erring_of, err_of}
-use Rattle.avro_least.specs.SeenLeast.{seen, seen_all, given_entry, improves, weight, weights}
+use Rattle.avro_least.specs.Tables.{Least, LeastTable, ErringTable, AreDataShown, AreErrorsShown, ShowsError, no_parts, pair_number, reached_entry, erring_of, err_of}
+use Rattle.avro_least.specs.SeenLeast.{seen, seen_all, given_entry}
 use Rattle.avro_least.specs.declared.kept.Least.{Least as KeptLeast}
 use Rattle.avro_least.specs.Reached.{is_key}
-use Rattle.avro_least.specs.Asked.{Asked, asked_at, asked_value, children_at, live_numbers, steps_at, is_known, AreAsked, ArePairsShown, IsLowAtIndex}
+use Rattle.avro_least.specs.Asked.{Asked, asked_at, asked_value, children_at, live_numbers, steps_at, is_known, AreAsked, ArePairsShown}
 use Rattle.avro_least.specs.SeenAsk.{ask_of, asks_of}
 use Rattle.avro_least.specs.declared.asking.Ask.{Ask}
 use Rattle.avro_certificate.proofs.public.Tests.{all_at, and_left, and_right, or_from_left, or_from_right}
-use Rattle.avro_least.proofs.Rounds.{set_here, set_other, weight_falls, improves_low}
+use Rattle.avro_least.proofs.Rounds.{set_here, set_other}
 use Rattle.avro_least.proofs.AskedValue.{value_is, value_same}
 use Rattle.avro_least.proofs.AskedWithin.{is_within}
 use Rattle.avro_least.proofs.public.Stepping.{children_at_within}

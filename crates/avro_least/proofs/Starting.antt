@@ -1,8 +1,6 @@
 -- The entries of a graph of pairs, from a table without entries on.
-use Rattle.std.proofs.Common.{◌≡◌, ◌⊎◌, inl, inr, ℕ, zero, suc, ◌+◌, ◌*◌, ◌/◌, ◌%◌, ◌<◌, Bool, true, false, cond, List, [], ◌∷◌, Option, Some, None, length, refl, sym, ◌∙◌, ap, subst, arith}
+use Rattle.std.proofs.Common.{◌≡◌, inr, ℕ, zero, suc, ◌*◌, ◌/◌, ◌%◌, ◌<◌, Bool, true, false, cond, List, [], ◌∷◌, Option, Some, None, length, refl, sym, ◌∙◌, ap, subst, arith}
 use Rattle.std.proofs.Math.ListN.{set, replicate}
-use Rattle.std.proofs.lemmas.Bool.{false≢true}
-use Rattle.std.proofs.lemmas.List.{length-set}
 use Rattle.std.proofs.lemmas.List.Folds.{list_all-append, list_all-map}
 use Rattle.std.proofs.lemmas.Option.{slice_get-map, slice_get_within}
 use Rattle.std.specs.Prelude.{slice_get, unwrap_or, option_map, map, flat_map, is_some, nat_lt}
@@ -19,9 +17,9 @@ use Rattle.avro_least.specs.declared.graph.Graph.{Graph}
 use Rattle.avro_least.specs.declared.search.Search.{Search}
 use Rattle.avro_least.specs.Reached.{is_key}
 use Rattle.avro_least.specs.Asked.{Row, Asked, asked_at, asked_children, row_child, children_at, steps_at, is_known, ArePairsShown}
-use Rattle.avro_least.specs.inside.Parts.{part_at, parts_of, row_part, entry_of_part, around_part, value_by_part}
+use Rattle.avro_least.specs.inside.Parts.{part_at, row_part, entry_of_part, around_part, value_by_part}
 use Rattle.avro_least.specs.inside.Falling.{lowered, IsSearch}
-use Rattle.avro_least.specs.inside.Leading.{PartWaits, IsTaken, AreTakenBut, IsGraph, IsSearchOf}
+use Rattle.avro_least.specs.inside.Leading.{AreTakenBut, IsSearchOf}
 use Rattle.avro_certificate.proofs.public.Tests.{and_left, and_right, all_at}
 use Rattle.avro_least.proofs.PairSteps.{below_at, followed_known, pair_set_shown, unknown_none}
 use Rattle.avro_least.proofs.Searching.{length_lowered}

@@ -1,25 +1,24 @@
 -- An entry that is set changes what other entries come to only by the parts that are its pair, which waits then.
-use Rattle.std.proofs.Common.{◌≡◌, ◌⊎◌, inl, inr, ℕ, zero, suc, ◌+◌, ◌*◌, ◌/◌, ◌%◌, ◌<◌, Bool, true, false, cond, ◌&&◌, ◌||◌, List, [], ◌∷◌, Option, Some, None, length, get_or, refl, sym, ◌∙◌, ap, subst, arith}
-use Rattle.std.proofs.Math.ListN.{set, replicate}
-use Rattle.std.proofs.lemmas.Bool.{false≢true, true≢false, and_from, eq-eqb, eqb-true, cases_eq, cases_lt, cases_Bool}
+use Rattle.std.proofs.Common.{◌≡◌, ◌⊎◌, inl, inr, ℕ, ◌+◌, ◌/◌, ◌%◌, ◌<◌, Bool, true, false, cond, ◌&&◌, List, [], ◌∷◌, Option, Some, None, length, get_or, refl, sym, ◌∙◌, ap, subst, arith}
+use Rattle.std.proofs.Math.ListN.{set}
+use Rattle.std.proofs.lemmas.Bool.{false≢true, true≢false, eq-eqb, eqb-true, cases_eq, cases_lt}
 use Rattle.std.proofs.lemmas.Iterator.Adapters.{position_from-zero}
 use Rattle.std.proofs.lemmas.List.Quantifiers.{position-Some}
 use Rattle.std.proofs.lemmas.Map.Keys.{apart_from_distinct}
 use Rattle.std.proofs.lemmas.Option.{get_or_from_slice_get, slice_get_within}
-use Rattle.std.specs.Prelude.{slice_get, unwrap_or, ◌==◌, is_none, is_some, nat_eq, position}
+use Rattle.std.specs.Prelude.{slice_get, unwrap_or, ◌==◌, is_none, nat_eq, position}
 use Rattle.std.specs.Global.{Vec}
-use Rattle.std.specs.List.{list_all, list_any, IsDistinct}
+use Rattle.std.specs.List.{IsDistinct}
 use Rattle.avro_schema.specs.Node.{Node, node_at}
 use Rattle.avro_certificate.specs.Closed.{Pair}
-use Rattle.avro_least.specs.Tables.{Least, LeastTable, ErringTable, AtMost, no_parts, pair_number, erring_of, err_of}
+use Rattle.avro_least.specs.Tables.{Least, LeastTable, AtMost, no_parts, pair_number, erring_of}
 use Rattle.avro_least.specs.SeenLeast.{seen, seen_all, given_entry, improves}
 use Rattle.avro_least.specs.declared.kept.Least.{Least as KeptLeast}
 use Rattle.avro_least.specs.declared.leads.Lead.{Lead}
-use Rattle.avro_least.specs.Reached.{is_key}
-use Rattle.avro_least.specs.Asked.{Asked, asked_at, asked_value, IsLowAtIndex}
-use Rattle.avro_least.specs.inside.Parts.{part_at, entry_of_part, around_part, value_by_part, value_alone}
+use Rattle.avro_least.specs.Asked.{asked_at, IsLowAtIndex}
+use Rattle.avro_least.specs.inside.Parts.{part_at, entry_of_part, around_part, value_by_part}
 use Rattle.avro_least.specs.inside.Falling.{is_waiting, lowered}
-use Rattle.avro_least.specs.inside.Leading.{is_lead, leads_at, LeadsBy, AreLeads, PartWaits, IsTaken, IsTakenAlone, AreTakenBut}
+use Rattle.avro_least.specs.inside.Leading.{is_lead, leads_at, AreLeads, PartWaits, IsTaken, IsTakenAlone, AreTakenBut}
 use Rattle.avro_certificate.proofs.public.Tests.{and_left, and_right, or_cases}
 use Rattle.avro_least.proofs.Rounds.{set_here, set_other, improves_low}
 use Rattle.avro_least.proofs.LeastOrder.{precedes_under}

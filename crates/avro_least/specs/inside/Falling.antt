@@ -1,11 +1,10 @@
 -- Tables whose entries fall, and which of these wait for what depends on them.
-use Rattle.std.specs.Prelude.{◌≡◌, ◌==◌, ℕ, ◌+◌, ◌*◌, Bool, true, false, cond, List, Option, None, length, slice_get, unwrap_or}
+use Rattle.std.specs.Prelude.{◌≡◌, ◌==◌, ℕ, ◌+◌, ◌*◌, Bool, true, false, cond, List, Option, length, slice_get, unwrap_or}
 use Rattle.std.specs.List.{list_any}
 use Rattle.std.specs.BinaryHeap.{heap_items, heap_len}
 use Rattle.std.proofs.Math.ListN.{set}
 use Rattle.avro_least.specs.SeenLeast.{seen, given_entry, improves, weights}
 use Rattle.avro_least.specs.declared.kept.Least.{Least as KeptLeast}
-use Rattle.avro_least.specs.declared.search.Fallen.{Fallen}
 use Rattle.avro_least.specs.declared.search.Search.{Search}
 
 -- whether the entry at an index waits

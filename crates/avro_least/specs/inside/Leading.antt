@@ -7,11 +7,11 @@ use Rattle.avro_schema.specs.Node.{Node}
 use Rattle.avro_schema.specs.SeenSchema.{schema_nodes}
 use Rattle.avro_schema.specs.WellFormed.{is_schema}
 use Rattle.avro_certificate.specs.Closed.{Pair}
-use Rattle.avro_least.specs.Tables.{Least, LeastTable, ErringTable, AtMost, AreDataShown, no_parts, pair_number, erring_of}
+use Rattle.avro_least.specs.Tables.{Least, LeastTable, AtMost, AreDataShown, no_parts, pair_number, erring_of}
 use Rattle.avro_least.specs.SeenLeast.{seen_all, table_of}
 use Rattle.avro_least.specs.SeenAsk.{asks_of}
 use Rattle.avro_least.specs.Reached.{AreFollowed}
-use Rattle.avro_least.specs.Asked.{Asked, asked_at, steps_at, AreAsked, ArePairsShown}
+use Rattle.avro_least.specs.Asked.{asked_at, steps_at, AreAsked, ArePairsShown}
 use Rattle.avro_least.specs.inside.Parts.{part_at, value_by_part, value_alone, AreOthers}
 use Rattle.avro_least.specs.inside.Falling.{is_waiting, IsSearch}
 use Rattle.avro_least.specs.declared.leads.Lead.{Lead}
