@@ -168,6 +168,17 @@ def branches(count):
     return text
 
 
+def texts(count):
+    """An array of texts of two characters, of a union of this many fixeds of one byte and string."""
+    def text(size):
+        of_all = [fixed("F%d" % k) for k in range(count)] + ["string"]
+        field = {"name": "f", "type": {"type": "array", "items": of_all}, "default": []}
+        schema = {"type": "record", "name": "R", "fields": [field]}
+        field["default"] = ["ab"] * ((size - len(written(schema))) // len('"ab",'))
+        return written(schema)
+    return text
+
+
 def records(count):
     """An array of objects, of a union of this many records, of which the last is theirs."""
     def text(size):
@@ -221,7 +232,8 @@ KINDS = {
     "plain": plain, "aliases": aliases, "definitions": definitions, "references": references,
     "long references": long_references, "unions": unions, "repeated": repeated, "fields": fields, "qualified": qualified,
     "twins": twins, "nested 60": nested(60), "nested 120": nested(120), "deep": deep, "choices": choices, "symbols": symbols,
-    "branches 100": branches(100), "branches 1000": branches(1000), "records 100": records(100), "tries": tries,
+    "branches 100": branches(100), "branches 1000": branches(1000), "texts 1000": texts(1000), "records 100": records(100),
+    "records 1000": records(1000), "tries": tries,
 }
 
 

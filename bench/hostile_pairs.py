@@ -6,18 +6,20 @@
 
 `measure` runs `PROGRAM judge WRITER READER` on each pair, and `PROGRAM show FILE --reader READER` on files of the writer's schema: one without a
 block, and one of 100,000 blocks of one null each. It prints the lengths of the two texts, seconds of the processor and the peak of memory
-in MB of each, and the answer of the first. A run ends after 60 seconds of the processor or 4 GB.
+in MB of each, and the answer of the first. A run ends after 60 seconds of the processor or 8 GB.
 """
 
+import itertools
 import json
 import os
 import resource
+import string
 import subprocess
 import sys
 import tempfile
 
 SECONDS = 60
-MEMORY = 4 << 30
+MEMORY = 8 << 30
 SYNC = bytes(range(16))
 
 
@@ -29,8 +31,8 @@ def record(name, fields, **more):
     return {"type": "record", "name": name, "fields": [{"name": f, "type": t} for f, t in fields], **more}
 
 
-def fixed(name, **more):
-    return {"type": "fixed", "name": name, "size": 1, **more}
+def fixed(name, size=1, **more):
+    return {"type": "fixed", "name": name, "size": size, **more}
 
 
 def aliased(unions):
@@ -50,6 +52,17 @@ def same_alias(unions):
     return ["null", record("R", fields, namespace="n" * 400_000)]
 
 
+def short_names(count):
+    """The shortest names, this many."""
+    first = string.ascii_letters + "_"
+    spelled = (
+        "".join(letters)
+        for length in itertools.count(1)
+        for letters in itertools.product(first, *[first + string.digits] * (length - 1))
+    )
+    return list(itertools.islice(spelled, count))
+
+
 def enum(symbols, **more):
     return {"type": "enum", "name": "E", "symbols": symbols, **more}
 
@@ -63,6 +76,23 @@ def one_enum(count, symbols):
     """`count` fields of one enum of `symbols` symbols."""
     fields = [("f0", enum([f"S{i}" for i in range(symbols)]))]
     return ["null", record("R", fields + [(f"f{i}", "E") for i in range(1, count)])]
+
+
+def many(types):
+    """Fields of these types, under the shortest names."""
+    return ["null", record("R", zip(short_names(len(types)), types))]
+
+
+def wide(fields, of):
+    """A record of many fields of one type, each a fixed without bytes, with what `of` says of each."""
+    names = short_names(fields)
+    first = {"name": names[0], "type": fixed("F", size=0), **of}
+    return {"type": "record", "name": "E", "fields": [first] + [{"name": name, "type": "F", **of} for name in names[1:]]}
+
+
+def bare(count):
+    """Records without fields, all of one simple name."""
+    return many([record("E", [], namespace=f"n{i}") for i in range(count)])
 
 
 def branches(count):
@@ -134,6 +164,11 @@ def pairs():
     yield "chains against the order", chain(1_000, 1_000), rings(1_000)
     yield "ladders against the order", ladder(1_000, 460), rings(460)
     yield "a long chain and many fields", wide_chain(4_000, 20_000), "int"
+    yield "the longest enum against enums", many([enum(short_names(155_000))] + ["E"] * 3_999), many(
+        [enum(["a"], namespace=f"n{i}", default="a") for i in range(4_000)]
+    )
+    yield "the longest record against records", many([wide(36_000, {})] + ["E"] * 3_999), bare(4_000)
+    yield "records against the longest record", bare(4_000), many([wide(24_000, {"default": ""})] + ["E"] * 3_999)
 
 
 def number(n):
