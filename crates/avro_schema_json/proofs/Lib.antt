@@ -19,3 +19,4 @@ pub mod MadeSound
 pub mod MisfitsSeen
 pub mod DefaultsFit
 pub mod RepeatsSeen
+pub mod TablesSeen

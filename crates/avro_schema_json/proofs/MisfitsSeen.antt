@@ -1,48 +1,33 @@
--- What sets of nodes that a JSON value is no default of say of the value, and of what holds it.
-use Rattle.std.proofs.Common.{◌≡◌, ℕ, zero, suc, ◌+◌, ◌<◌, drop, ◌⊎◌, inl, inr, Bool, true, false, cond, List, [], ◌∷◌, ◌++◌, length, Option, Some, None, option_map, option_and_then, get_or, refl, ap, sym, subst, ◌∙◌, arith, Ordering}
+-- What is kept of a JSON value, the nodes that it is no default of, says of the value and of what holds it.
+use Rattle.std.proofs.Common.{◌≡◌, ℕ, zero, suc, ◌+◌, ◌<◌, ◌≤◌, drop, ◌⊎◌, inl, inr, Bool, true, false, cond, List, [], ◌∷◌, ◌++◌, length, Option, Some, None, option_map, option_and_then, get_or, refl, sym, ap, subst, ◌∙◌, arith, Ordering}
 use Rattle.std.specs.Prelude.{slice_get, bytes_eq}
-use Rattle.std.specs.List.{list_all}
 use Rattle.std.specs.Ordering.{nat_cmp, is_eq}
 use Rattle.std.specs.Cmp.Lexicographic.{slice_cmp}
 use Rattle.std.specs.BTreeMap.{BTreeMap, get_by}
 use Rattle.std.specs.BTreeSet.{BTreeSet}
-use Rattle.std.proofs.lemmas.Bool.{and_parts}
+use Rattle.std.proofs.lemmas.Bool.{false≢true}
 use Rattle.std.proofs.lemmas.List.{drop_more}
 use Rattle.std.proofs.lemmas.Map.Lookups.{exact_unsigned}
 use Rattle.std.proofs.lemmas.Slice.Eq.{bytes_eq-Decides}
 use denote.Ref.{Bor}
-use Rattle.avro_schema.specs.Node.{Node, FieldNode, node_at, branches_of}
+use Rattle.avro_schema.specs.Node.{Node, FieldNode, node_at}
 use Rattle.avro_schema.specs.Seen.{ids_of}
 use Rattle.avro_schema.specs.declared.schema.NodeId.{NodeId}
 use Rattle.avro_schema.specs.Value.{Value, Values, value, entry}
 use Rattle.serde_json.specs.Data.{Data, Items, Members, no_members, member}
-use Rattle.serde_json.specs.Find.{get_member}
+use Rattle.serde_json.specs.Find.{get_item, get_member}
 use Rattle.serde_json.specs.View.{view, items_view}
 use Rattle.serde_json.specs.declared.value.Value.{Value as Tree}
+use Rattle.serde_json.proofs.Views.{get_item_within}
 use Rattle.avro_schema_json.specs.DeclaredDefaults.{default_of, default_under, each_default, entries_default, fields_default, first_fit, member_keys, names_only, only_if}
-use Rattle.avro_schema_json.specs.inside.Misfits.{has_id, is_misfit, AreMisfits, AreItemMisfits, AreMemberMisfits, IsMemberMisfit}
+use Rattle.avro_schema_json.specs.inside.Misfits.{has_id, AreMisfits, FitsNoBranch, IsMemberMisfit, AreItemMisfits, AreMemberMisfits}
 use Rattle.avro_schema_json.specs.inside.OwnDefaults.{own_default, default_of_fields}
-use Rattle.avro_schema_json.proofs.DefaultsSeen.{default-no_union, default-union, branch_next}
+use Rattle.avro_schema_json.proofs.DefaultsSeen.{branch_next, drop_past}
 use Rattle.avro_schema_json.proofs.DefaultSteps.{field_at-found}
 use Rattle.avro_schema_json.proofs.RawSeen.{name_and_node}
 use Rattle.avro_schema_json.proofs.DeclarationLaws.{default_under-found}
 
 -- ---- one set
-
-all_misfits : (nodes : List Node) (d : Data) (ids : BTreeSet ℕ) (k : ℕ) (branches : List ℕ) → AreMisfits nodes d ids
-    → list_all (has_id ids) branches ≡ true → first_fit nodes (own_default nodes d) k branches ≡ None
-all_misfits nodes d ids k [] good h = refl
-all_misfits nodes d ids k (b ∷ bs) good h =
-    let two = and_parts (has_id ids b) (list_all (has_id ids) bs) h in
-    rw (good b two.0) (all_misfits nodes d ids (suc k) bs good two.1)
-
-pub misfit-default : (nodes : List Node) (d : Data) (ids : BTreeSet ℕ) (m : ℕ) → AreMisfits nodes d ids → is_misfit nodes ids m ≡ true
-    → default_of nodes d (node_at nodes m) ≡ None
-misfit-default nodes d ids m good h = by_branches (branches_of (node_at nodes m)) refl
-  where
-    by_branches : (found : Option (List ℕ)) → branches_of (node_at nodes m) ≡ found → default_of nodes d (node_at nodes m) ≡ None
-    by_branches None e = let w = rw e at h in default-no_union nodes d (node_at nodes m) e ∙ good m w
-    by_branches (Some bs) e = let w = rw e at h in default-union nodes d (node_at nodes m) bs e ∙ all_misfits nodes d ids 0 bs good w
 
 pub added-id : (old new : BTreeSet ℕ) (p m : ℕ) → has_id new m ≡ cond (is_eq (nat_cmp p m)) true (has_id old m) → has_id new m ≡ true
     → (has_id old m ≡ true) ⊎ (m ≡ p)
@@ -75,19 +60,10 @@ item-misfit nodes (y ∷ ys) zero x n below at none = let w = rw at at none in r
 item-misfit nodes (y ∷ ys) (suc i) x n below at none =
     rw (item-misfit nodes ys i x n (omega arith) at none) (first-none (default_of nodes (view y) n))
 
-pushed : {A : Type 0} (xs : List A) (p : A) (i : ℕ) (q : A) → slice_get (xs ++ p ∷ []) i ≡ Some q → (slice_get xs i ≡ Some q) ⊎ (p ≡ q)
-pushed [] p zero q h = inr (cc)
-pushed [] p (suc i) q h = inl h
-pushed (x ∷ xs) p zero q h = inl h
-pushed (x ∷ xs) p (suc i) q h = pushed xs p i q h
-
-pub items-push : (nodes : List Node) (ds : Items) (sets : List (BTreeSet ℕ)) (p : BTreeSet ℕ) → AreItemMisfits nodes ds sets
-    → ((m : ℕ) → is_misfit nodes p m ≡ true → each_default nodes ds (node_at nodes m) ≡ None) → AreItemMisfits nodes ds (sets ++ p ∷ [])
-items-push nodes ds sets p good last = λ i q at m there.
-    elim (pushed sets p i q at) [
-      | inl before ↦ good i q before m there
-      | inr same ↦ last m (rw same there)
-    ]
+pub item-at : (xs ys : List Tree) (i j : ℕ) (x : Tree) → xs ≡ ys → j ≡ i → i < length xs → x ≡ get_or xs i x → get_item j (items_view ys) ≡ Some (view x)
+item-at xs ys i j x same number below at =
+    ap (λ k. get_item k (items_view ys)) number ∙ ap (λ (zs : List Tree). get_item i (items_view zs)) (sym same) ∙ sym (get_item_within xs i x below)
+    ∙ ap (λ y. Some (view y)) (sym at)
 
 -- ---- members
 
@@ -142,20 +118,6 @@ dropped (Some vs) = refl
 pub other-keys : (nodes : List Node) (ms : Members) (fields : List FieldNode) → names_only (member_keys ms) fields ≡ false → default_of_fields nodes ms fields ≡ None
 other-keys nodes ms fields h = rw h (dropped (fields_default nodes (λ key. default_under nodes key ms) fields))
 
--- one more member
-pub members-put : (nodes : List Node) (ms : Members) (old new : BTreeMap (Bor (List ℕ)) (BTreeSet ℕ)) (key : List ℕ) (p : BTreeSet ℕ) → AreMemberMisfits nodes ms old
-    → ((other : List ℕ) → get_by (λ k. slice_cmp nat_cmp other k.now) new ≡ cond (bytes_eq key other) (Some p) (get_by (λ k. slice_cmp nat_cmp other k.now) old))
-    → ((m : ℕ) → is_misfit nodes p m ≡ true → IsMemberMisfit nodes ms key m) → AreMemberMisfits nodes ms new
-members-put nodes ms old new key p good put last = λ other q at m there. by_key other q at m there (bytes_eq key other) refl
-  where
-    by_key : (other : List ℕ) (q : BTreeSet ℕ) → get_by (λ k. slice_cmp nat_cmp other k.now) new ≡ Some q → (m : ℕ) → is_misfit nodes q m ≡ true
-        → (b : Bool) → bytes_eq key other ≡ b → IsMemberMisfit nodes ms other m
-    by_key other q at m there false e = let found = rw e at (sym (put other) ∙ at) in good other q found m there
-    by_key other q at m there true e =
-        let found : Some p ≡ Some q = rw e at (sym (put other) ∙ at) in
-        let same : p ≡ q = cc in
-        subst (λ (k : List ℕ). IsMemberMisfit nodes ms k m) ((bytes_eq-Decides key other).0 e) (last m (rw same there))
-
 pub field-misfit_at : (nodes : List Node) (ms : Members) (fields : List FieldNode) (i : ℕ) (name : List ℕ) (id : ℕ)
     → Some (name, id) ≡ option_map name_and_node (slice_get fields i) → IsMemberMisfit nodes ms name id → default_of_fields nodes ms fields ≡ None
 field-misfit_at nodes ms fields i name id got w =
@@ -168,27 +130,89 @@ field-missing_at nodes ms fields i name id got none =
     let found = field_at-found fields i name id (slice_get fields i) refl got in
     field-missing nodes ms fields i found.0 found.1.at (rw found.1.named (sym none))
 
--- ---- each of some ids
-
-pub each-stop : (misfits : BTreeSet ℕ) (ids : List NodeId) (i : ℕ) (id : NodeId) (here all : Bool) → i < length ids → here ≡ has_id misfits (get_or ids i id).0
-    → here ≡ false → all ≡ list_all (has_id misfits) (ids_of (drop i ids)) → false ≡ all
-each-stop misfits ids i id here all below is fails whole =
-    let w = rw (drop_more ids i id below, ← is, fails) at whole in
-    sym w
-
-pub each-next : (misfits : BTreeSet ℕ) (ids : List NodeId) (i : ℕ) (id : NodeId) (here all : Bool) → i < length ids → here ≡ has_id misfits (get_or ids i id).0
-    → here ≡ true → all ≡ list_all (has_id misfits) (ids_of (drop i ids)) → all ≡ list_all (has_id misfits) (ids_of (drop (i + 1) ids))
-each-next misfits ids i id here all below is holds whole = rw (drop_more ids i id below, ← is, holds) at whole
-
--- ---- a branch that is known not to fit
+-- ---- branches in turn
 
 same-again : {A : Type 0} (xs : List A) (i : ℕ) (x : A) → get_or xs i x ≡ get_or xs i (get_or xs i x)
 same-again [] i x = refl
 same-again (y ∷ ys) zero x = refl
 same-again (y ∷ ys) (suc i) x = same-again ys i x
 
+-- a branch that is known not to fit
 pub branch-skip : (nodes : List Node) (d : Data) (ids : List NodeId) (i : ℕ) (id : NodeId) (misfits : BTreeSet ℕ) (here : Bool) (all : Option Value) → i < length ids
     → here ≡ has_id misfits (get_or ids i id).0 → here ≡ true → AreMisfits nodes d misfits
     → first_fit nodes (own_default nodes d) i (ids_of (drop i ids)) ≡ all → first_fit nodes (own_default nodes d) (i + 1) (ids_of (drop (i + 1) ids)) ≡ all
 branch-skip nodes d ids i id misfits here all below is holds good whole =
     branch_next nodes d ids i (get_or ids i id) all below (same-again ids i id) whole (good (get_or ids i id).0 (sym is ∙ holds))
+
+-- a branch that the JSON does not fit
+pub branch-pass : (nodes : List Node) (d : Data) (ids : List NodeId) (i : ℕ) (id : NodeId) (all : Option Value) → i < length ids
+    → own_default nodes d (node_at nodes (get_or ids i id).0) ≡ None
+    → first_fit nodes (own_default nodes d) i (ids_of (drop i ids)) ≡ all → first_fit nodes (own_default nodes d) (i + 1) (ids_of (drop (i + 1) ids)) ≡ all
+branch-pass nodes d ids i id all below none whole =
+    branch_next nodes d ids i (get_or ids i id) all below (same-again ids i id) whole none
+
+pub no_branch-end : (nodes : List Node) (d : Data) (ids : List NodeId) (i : ℕ) → length ids ≤ i → FitsNoBranch nodes d (drop i ids)
+no_branch-end nodes d ids i past = let none : drop i ids ≡ [] = drop_past ids i past in rw none (λ k. refl)
+
+pub no_branch-next : (nodes : List Node) (d : Data) (ids : List NodeId) (i : ℕ) (id : NodeId) → i < length ids
+    → own_default nodes d (node_at nodes (get_or ids i id).0) ≡ None → FitsNoBranch nodes d (drop (i + 1) ids) → FitsNoBranch nodes d (drop i ids)
+no_branch-next nodes d ids i id below none rest = λ k. rw (drop_more ids i id below, none) (rest (suc k))
+
+-- ---- what is kept of parts
+
+-- no nodes
+pub no_misfits : (nodes : List Node) (d : Data) (ids : BTreeSet ℕ) → ids.keys ≡ [] → AreMisfits nodes d ids
+no_misfits nodes d ids none = λ m there. let w : false ≡ true = rw none at there in absurd (false≢true w)
+
+-- one more item
+pushed : {A : Type 0} (xs : List A) (p : A) (i : ℕ) (q : A) → slice_get (xs ++ p ∷ []) i ≡ Some q → (slice_get xs i ≡ Some q) ⊎ ((length xs ≡ i) × (p ≡ q))
+pushed [] p zero q h = inr (refl, cc)
+pushed [] p (suc i) q h = inl h
+pushed (x ∷ xs) p zero q h = inl h
+pushed (x ∷ xs) p (suc i) q h = elim (pushed xs p i q h) [
+  | inl before ↦ inl before
+  | inr last ↦ inr (ap suc last.0, last.1)
+]
+
+pub items-push : (nodes : List Node) (ds : Items) (sets : List (BTreeSet ℕ)) (p : BTreeSet ℕ) (f : Data) → AreItemMisfits nodes ds sets
+    → get_item (length sets) ds ≡ Some f → AreMisfits nodes f p → AreItemMisfits nodes ds (sets ++ p ∷ [])
+items-push nodes ds sets p f good here last = λ i e q at there. by_place i e q at (pushed sets p i q there)
+  where
+    by_place : (i : ℕ) (e : Data) (q : BTreeSet ℕ) → get_item i ds ≡ Some e → (slice_get sets i ≡ Some q) ⊎ ((length sets ≡ i) × (p ≡ q)) → AreMisfits nodes e q
+    by_place i e q at (inl before) = good i e q at before
+    by_place i e q at (inr now) =
+        let found : get_item i ds ≡ Some f = subst (λ (k : ℕ). get_item k ds ≡ Some f) now.0 here in
+        let value : f ≡ e = cc in
+        subst (λ (x : Data). AreMisfits nodes x q) value (subst (λ (r : BTreeSet ℕ). AreMisfits nodes f r) now.1 last)
+
+-- the set of an item, or none
+found-or : {A : Type 0} (xs : List A) (i : ℕ) (x : A) → (slice_get xs i ≡ Some (get_or xs i x)) ⊎ (x ≡ get_or xs i x)
+found-or [] i x = inr refl
+found-or (y ∷ ys) zero x = inl refl
+found-or (y ∷ ys) (suc i) x = found-or ys i x
+
+pub item-set : (nodes : List Node) (ds : Items) (sets : List (BTreeSet ℕ)) (i : ℕ) (nothing : BTreeSet ℕ) (d : Data) → nothing.keys ≡ [] → AreItemMisfits nodes ds sets
+    → get_item i ds ≡ Some d → AreMisfits nodes d (get_or sets i nothing)
+item-set nodes ds sets i nothing d none good at = by_found (found-or sets i nothing)
+  where
+    by_found : (slice_get sets i ≡ Some (get_or sets i nothing)) ⊎ (nothing ≡ get_or sets i nothing) → AreMisfits nodes d (get_or sets i nothing)
+    by_found (inl there) = good i d (get_or sets i nothing) at there
+    by_found (inr same) = subst (λ (s : BTreeSet ℕ). AreMisfits nodes d s) same (no_misfits nodes d nothing none)
+
+-- one more member
+pub members-insert : (nodes : List Node) (ms : Members) (old new : BTreeMap (Bor (List ℕ)) (BTreeSet ℕ)) (key : List ℕ) (f : Data) (part : BTreeSet ℕ)
+    → AreMemberMisfits nodes ms old
+    → ((other : List ℕ) → get_by (λ k. slice_cmp nat_cmp other k.now) new ≡ cond (bytes_eq key other) (Some part) (get_by (λ k. slice_cmp nat_cmp other k.now) old))
+    → get_member key ms ≡ Some f → AreMisfits nodes f part → AreMemberMisfits nodes ms new
+members-insert nodes ms old new key f part good put here last = λ other e q at there. by_key other e q at there (bytes_eq key other) refl
+  where
+    by_key : (other : List ℕ) (e : Data) (q : BTreeSet ℕ) → get_member other ms ≡ Some e → get_by (λ k. slice_cmp nat_cmp other k.now) new ≡ Some q
+        → (b : Bool) → bytes_eq key other ≡ b → AreMisfits nodes e q
+    by_key other e q at there false h = let w = rw h at (sym (put other) ∙ there) in good other e q at w
+    by_key other e q at there true h =
+        let w : Some part ≡ Some q = rw h at (sym (put other) ∙ there) in
+        let same : part ≡ q = cc in
+        let name : key ≡ other = (bytes_eq-Decides key other).0 h in
+        let found : get_member other ms ≡ Some f = subst (λ (k : List ℕ). get_member k ms ≡ Some f) name here in
+        let value : f ≡ e = cc in
+        subst (λ (x : Data). AreMisfits nodes x q) value (subst (λ (r : BTreeSet ℕ). AreMisfits nodes f r) same last)

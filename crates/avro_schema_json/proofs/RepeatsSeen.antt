@@ -153,7 +153,7 @@ abbrev pub AreCodes : List Node → List NodeId → BTreeSet ℕ → ℕ → Typ
 AreCodes nodes ids codes i = (m : ℕ) → contains nat_cmp codes m ≡ true
     → (j : ℕ) × (y : ℕ) × (j < i) × (slice_get (ids_of ids) j ≡ Some y) × (code_by nodes y ≡ m)
 
-id_at : (ids : List NodeId) (i : ℕ) (id : NodeId) → i < length ids → slice_get (ids_of ids) i ≡ Some (get_or ids i id).0
+pub id_at : (ids : List NodeId) (i : ℕ) (id : NodeId) → i < length ids → slice_get (ids_of ids) i ≡ Some (get_or ids i id).0
 id_at [] i id below = absurd (omega (arith, below))
 id_at (x ∷ ids) zero id below = refl
 id_at (x ∷ ids) (suc i) id below = id_at ids i id (omega (arith, below))
@@ -173,7 +173,7 @@ repeat-next nodes ids old new i id code below is added are = λ m there.
       | inr same ↦ (i, (get_or ids i id).0, omega arith, id_at ids i id below, sym is ∙ sym same)
     ]
 
-node_here : (raws : List KeptNode) (i : ℕ) (raw : KeptNode) → i < length raws → node_at (all_without_defaults raws) i ≡ without_defaults (get_or raws i raw)
+pub node_here : (raws : List KeptNode) (i : ℕ) (raw : KeptNode) → i < length raws → node_at (all_without_defaults raws) i ≡ without_defaults (get_or raws i raw)
 node_here [] i raw below = absurd (omega (arith, below))
 node_here (x ∷ raws) zero raw below = refl
 node_here (x ∷ raws) (suc i) raw below = node_here raws i raw (omega (arith, below))

@@ -3,6 +3,8 @@ pub mod Reading
 pub mod KnownNames
 pub mod KnownSeen
 pub mod ReadingSeen
+pub mod BranchKeys
+pub mod Characters
 pub mod FieldNames
 pub mod Misfits
 pub mod NameRefusal

@@ -10,12 +10,15 @@ ghost use Rattle.avro_schema.specs.declared.fault.DraftError.TheVariants.{LimitE
 ghost use Rattle.avro_schema_json.specs.DeclaredAttributes.{unless};
 ghost use Rattle.avro_schema_json.specs.DeclaredFaults.{refusals_of_nodes, or_else};
 ghost use Rattle.avro_schema_json.specs.DeclaredSchema.{field_default, is_default_read, are_defaults_read, are_all_defaults_read, completed_nodes};
+ghost use Rattle.avro_schema_json.specs.inside.BranchKeys.{AreTables};
 ghost use Rattle.avro_schema_json.specs.inside.OwnDefaults.{all_without_defaults};
 ghost use Rattle.avro_schema_json.specs.inside.SeenDefaults.{data_seen, lists_seen, defaults_of_node as node_defaults_by, first_or, others_of, fields_with_defaults, node_with_defaults, nodes_with_defaults};
 ghost use Rattle.avro_schema_json.specs.inside.SeenRaw.{raw_field_of, raw_fields_of, raw_record_of, raw_node_of, raw_nodes_of};
 ghost use Rattle.avro_schema_json.specs.declared.error.SchemaError.TheVariants.{InvalidDefault, OutOfMemory};
 
 use crate::defaults::default_of;
+use crate::defaults::tables::tables_of;
+use crate::defaults::union_table::UnionTable;
 use crate::error::SchemaError;
 use crate::raw::{RawEnum, RawField, RawNode, RawRecord};
 use crate::repeats::has_repeated_branch;
@@ -41,12 +44,14 @@ struct Defaults {
 fn default_of_field(
     alloc: Global,
     raws: &[RawNode],
+    tables: &[UnionTable],
     field: &RawField,
 ) -> Result<Option<Datum>, Memory>
+    requires tables { AreTables (all_without_defaults raws.now) tables.now }
     ensures { IfOk result (λ datum. option_map value_of datum ≡ field_default (all_without_defaults raws.now) (raw_field_of field.now)) }
 {
     match field.default {
-        Some(tree) => default_of(alloc, raws, tree, field.node),
+        Some(tree) => default_of(alloc, raws, tables, tree, field.node),
         None => Ok(None),
     }
 }
@@ -55,15 +60,17 @@ fn default_of_field(
 fn defaults_of_fields(
     alloc: Global,
     raws: &[RawNode],
+    tables: &[UnionTable],
     fields: &[RawField],
 ) -> Result<NodeDefaults, Memory>
+    requires tables { AreTables (all_without_defaults raws.now) tables.now }
     ensures data { IfOk result (λ defaults. data_seen defaults.of_fields.items ≡ map (field_default (all_without_defaults raws.now)) (raw_fields_of fields.now)) }
     ensures read { IfOk result (λ defaults. defaults.are_read ≡ list_all (is_default_read (all_without_defaults raws.now)) (raw_fields_of fields.now)) }
 {
     let mut of_fields: Vec<Option<Datum>> = Vec::new(alloc);
     let mut are_read = true;
     for field in fields {
-        let default = default_of_field(alloc, raws, field)?;
+        let default = default_of_field(alloc, raws, tables, field)?;
         are_read = are_read && (default.is_some() || !field.default.is_some());
         of_fields.push(default)?;
     }
@@ -74,12 +81,18 @@ fn defaults_of_fields(
 }
 
 /// The defaults of a node.
-fn defaults_of_node(alloc: Global, raws: &[RawNode], raw: &RawNode) -> Result<NodeDefaults, Memory>
+fn defaults_of_node(
+    alloc: Global,
+    raws: &[RawNode],
+    tables: &[UnionTable],
+    raw: &RawNode,
+) -> Result<NodeDefaults, Memory>
+    requires tables { AreTables (all_without_defaults raws.now) tables.now }
     ensures data { IfOk result (λ defaults. data_seen defaults.of_fields.items ≡ node_defaults_by (all_without_defaults raws.now) (raw_node_of raw.now)) }
     ensures read { IfOk result (λ defaults. defaults.are_read ≡ are_defaults_read (all_without_defaults raws.now) (raw_node_of raw.now)) }
 {
     match raw {
-        RawNode::Record(record) => defaults_of_fields(alloc, raws, &record.fields),
+        RawNode::Record(record) => defaults_of_fields(alloc, raws, tables, &record.fields),
         _ => Ok(NodeDefaults {
             of_fields: Vec::new(alloc),
             are_read: true,
@@ -92,13 +105,14 @@ fn defaults_of_nodes(alloc: Global, raws: &[RawNode]) -> Result<Defaults, Memory
     ensures data { IfOk result (λ defaults. lists_seen defaults.of_nodes.items ≡ map (node_defaults_by (all_without_defaults raws.now)) (raw_nodes_of raws.now)) }
     ensures read { IfOk result (λ defaults. defaults.are_read ≡ are_all_defaults_read (raw_nodes_of raws.now)) }
 {
+    let tables = tables_of(alloc, raws)?;
     let mut of_nodes: Vec<Vec<Option<Datum>>> = Vec::new(alloc);
     let mut are_read = true;
     for raw in raws {
         let NodeDefaults {
             of_fields,
             are_read: are_these_read,
-        } = defaults_of_node(alloc, raws, raw)?;
+        } = defaults_of_node(alloc, raws, &tables, raw)?;
         are_read = are_read && are_these_read;
         of_nodes.push(of_fields)?;
     }

@@ -1,26 +1,34 @@
 //! Defaults of fields.
 
 ghost use Rattle.std.specs.Prelude.{◌≡◌, true, length, Some, option_map, IfOk};
-ghost use Rattle.avro_schema.specs.Node.{node_at};
+ghost use Rattle.avro_schema.specs.Node.{Node as SeenNode, node_at};
 ghost use Rattle.avro_schema.specs.Seen.{value_of, values_of, entries_of, ids_of};
 ghost use Rattle.avro_schema.specs.Value.{Value as SeenValue};
 ghost use Rattle.avro_schema_json.specs.DeclaredDefaults.{default_of as default_by, each_default, entries_default as each_entry, default_under, fields_default as each_field, object_default as default_of_object, items_default as default_of_items, member_keys, first_fit};
+ghost use Rattle.avro_schema_json.specs.inside.BranchKeys.{IsTable, AreTables};
 ghost use Rattle.avro_schema_json.specs.inside.Misfits.{AreMisfits};
 ghost use Rattle.avro_schema_json.specs.inside.OwnDefaults.{own_default as own_default_by, default_of_fields, without_defaults, all_without_defaults, fields_seen};
 ghost use Rattle.serde_json.specs.View.{view, items_view, members_view};
 
 mod asks;
 mod fields;
+mod known;
 mod misfit;
 mod misfits;
 mod plain_defaults;
+pub(crate) mod tables;
+mod unfit;
+pub(crate) mod union_table;
 
 use crate::defaults::fields::names_fields;
-use crate::defaults::misfit::has;
+use crate::defaults::known::has;
 use crate::defaults::misfits::skipped_branches;
 use crate::defaults::plain_defaults::{
     boolean_default, null_default, number_default, text_default,
 };
+use crate::defaults::tables::{first_branch, no_table, table_at};
+use crate::defaults::unfit::{characters_of, is_unfit};
+use crate::defaults::union_table::UnionTable;
 use crate::raw::{RawField, RawNode};
 use crate::raw_nodes::{branches, raw_at};
 use crate::texts::copy_of_text;
@@ -35,42 +43,57 @@ use std::collections::BTreeSet;
 pub(crate) fn default_of(
     alloc: Global,
     raws: &[RawNode],
+    tables: &[UnionTable],
     tree: &Value,
     id: NodeId,
 ) -> Result<Option<Datum>, Memory>
+    requires tables { AreTables (all_without_defaults raws.now) tables.now }
     ensures { IfOk result (λ datum. option_map value_of datum ≡ default_by (all_without_defaults raws.now) (view tree.now) (node_at (all_without_defaults raws.now) id.0)) }
 {
     let null = RawNode::Null;
     let node = raw_at(&*raws, &null, id);
     match branches(node) {
-        None => own_default(alloc, raws, tree, node),
+        None => own_default(alloc, raws, tables, tree, node),
         Some(ids) => {
             let misfits = skipped_branches(alloc, raws, tree, ids)?;
-            branch_default(alloc, raws, tree, ids, &misfits)
+            let nothing = no_table(alloc);
+            let table = table_at(raws, tables, &nothing, id, ids);
+            branch_default(alloc, raws, tables, table, &null, tree, ids, &misfits)
         }
     }
 }
 
 /// The default that JSON is for the first of some branches that it fits. Those that are known not to
-/// fit are not tried.
+/// fit are not tried, nor those that it does not fit by its kind; the table tells where to begin.
 #[cycle(defaults)]
 fn branch_default(
     alloc: Global,
     raws: &[RawNode],
+    tables: &[UnionTable],
+    table: &UnionTable,
+    null: &RawNode,
     tree: &Value,
     ids: &[NodeId],
     misfits: &BTreeSet<u32>,
 ) -> Result<Option<Datum>, Memory>
-    requires { AreMisfits (all_without_defaults raws.now) (view tree.now) misfits.now }
+    requires tables { AreTables (all_without_defaults raws.now) tables.now }
+    requires table { IsTable (all_without_defaults raws.now) (ids_of ids.now) table.now }
+    requires null { without_defaults null.now ≡ SeenNode.null }
+    requires misfits { AreMisfits (all_without_defaults raws.now) (view tree.now) misfits.now }
     ensures { IfOk result (λ datum. option_map value_of datum
         ≡ first_fit (all_without_defaults raws.now) (own_default_by (all_without_defaults raws.now) (view tree.now)) 0 (ids_of ids.now)) }
 {
-    for i in 0..ids.len() {
+    let characters = characters_of(tree);
+    let start = first_branch(table, tree, characters)?;
+    for i in start..ids.len() {
         let id = ids[i];
+        if is_unfit(raws, null, tree, characters, id) {
+            continue;
+        }
         if has(misfits, id) {
             continue;
         }
-        match default_at(alloc, raws, tree, id)? {
+        match default_at(alloc, raws, tables, tree, id)? {
             Some(datum) => return in_branch(alloc, i, datum),
             None => {}
         }
@@ -83,14 +106,16 @@ fn branch_default(
 fn default_at(
     alloc: Global,
     raws: &[RawNode],
+    tables: &[UnionTable],
     tree: &Value,
     id: NodeId,
 ) -> Result<Option<Datum>, Memory>
+    requires tables { AreTables (all_without_defaults raws.now) tables.now }
     ensures { IfOk result (λ datum. option_map value_of datum ≡ own_default_by (all_without_defaults raws.now) (view tree.now) (node_at (all_without_defaults raws.now) id.0)) }
 {
     let null = RawNode::Null;
     let node = raw_at(&*raws, &null, id);
-    own_default(alloc, raws, tree, node)
+    own_default(alloc, raws, tables, tree, node)
 }
 
 /// A datum as one of a union, of this branch. A branch past the range of numbers would be past any
@@ -109,9 +134,11 @@ fn in_branch(alloc: Global, branch: usize, datum: Datum) -> Result<Option<Datum>
 fn own_default(
     alloc: Global,
     raws: &[RawNode],
+    tables: &[UnionTable],
     tree: &Value,
     node: &RawNode,
 ) -> Result<Option<Datum>, Memory>
+    requires tables { AreTables (all_without_defaults raws.now) tables.now }
     ensures { IfOk result (λ datum. option_map value_of datum ≡ own_default_by (all_without_defaults raws.now) (view tree.now) (without_defaults node.now)) }
 {
     match tree {
@@ -119,8 +146,8 @@ fn own_default(
         Value::Bool(value) => Ok(boolean_default(*value, node)),
         Value::Number(number) => Ok(number_default(*number, node)),
         Value::String(text) => text_default(alloc, text.as_str(), node),
-        Value::Array(items) => items_default(alloc, raws, items, node),
-        Value::Object(members) => object_default(alloc, raws, members, node),
+        Value::Array(items) => items_default(alloc, raws, tables, items, node),
+        Value::Object(members) => object_default(alloc, raws, tables, members, node),
     }
 }
 
@@ -129,14 +156,16 @@ fn own_default(
 fn items_default(
     alloc: Global,
     raws: &[RawNode],
+    tables: &[UnionTable],
     items: &Vec<Value>,
     node: &RawNode,
 ) -> Result<Option<Datum>, Memory>
+    requires tables { AreTables (all_without_defaults raws.now) tables.now }
     ensures { IfOk result (λ datum. option_map value_of datum
         ≡ default_of_items (all_without_defaults raws.now) (λ m. each_default (all_without_defaults raws.now) (items_view items.now.items) m) (without_defaults node.now)) }
 {
     match node {
-        RawNode::Array(id) => match item_defaults(alloc, raws, items, *id)? {
+        RawNode::Array(id) => match item_defaults(alloc, raws, tables, items, *id)? {
             Some(values) => Ok(Some(Datum::Array(values))),
             None => Ok(None),
         },
@@ -149,15 +178,17 @@ fn items_default(
 fn item_defaults(
     alloc: Global,
     raws: &[RawNode],
+    tables: &[UnionTable],
     items: &Vec<Value>,
     id: NodeId,
 ) -> Result<Option<Vec<Datum>>, Memory>
+    requires tables { AreTables (all_without_defaults raws.now) tables.now }
     ensures { IfOk result (λ values. option_map (λ vs. values_of vs.items) values
         ≡ each_default (all_without_defaults raws.now) (items_view items.now.items) (node_at (all_without_defaults raws.now) id.0)) }
 {
     let mut values: Vec<Datum> = Vec::new(alloc);
     for item in items {
-        let Some(value) = default_of(alloc, raws, item, id)? else {
+        let Some(value) = default_of(alloc, raws, tables, item, id)? else {
             return Ok(None);
         };
         values.push(value)?;
@@ -170,19 +201,21 @@ fn item_defaults(
 fn object_default(
     alloc: Global,
     raws: &[RawNode],
+    tables: &[UnionTable],
     members: &Map<String, Value>,
     node: &RawNode,
 ) -> Result<Option<Datum>, Memory>
+    requires tables { AreTables (all_without_defaults raws.now) tables.now }
     ensures { IfOk result (λ datum. option_map value_of datum
         ≡ default_of_object (all_without_defaults raws.now) (λ m. each_entry (all_without_defaults raws.now) (members_view members.now.entries) m)
         (λ key. default_under (all_without_defaults raws.now) key (members_view members.now.entries)) (member_keys (members_view members.now.entries)) (without_defaults node.now)) }
 {
     match node {
-        RawNode::Map(id) => match entry_defaults(alloc, raws, members, *id)? {
+        RawNode::Map(id) => match entry_defaults(alloc, raws, tables, members, *id)? {
             Some(entries) => Ok(Some(Datum::Map(entries))),
             None => Ok(None),
         },
-        RawNode::Record(record) => record_default(alloc, raws, members, &record.fields),
+        RawNode::Record(record) => record_default(alloc, raws, tables, members, &record.fields),
         _ => Ok(None),
     }
 }
@@ -192,15 +225,17 @@ fn object_default(
 fn entry_defaults(
     alloc: Global,
     raws: &[RawNode],
+    tables: &[UnionTable],
     members: &Map<String, Value>,
     id: NodeId,
 ) -> Result<Option<Vec<(String, Datum)>>, Memory>
+    requires tables { AreTables (all_without_defaults raws.now) tables.now }
     ensures { IfOk result (λ entries. option_map (λ es. entries_of es.items) entries
         ≡ each_entry (all_without_defaults raws.now) (members_view members.now.entries) (node_at (all_without_defaults raws.now) id.0)) }
 {
     let mut entries: Vec<(String, Datum)> = Vec::new(alloc);
     for (key, tree) in members.iter() {
-        let Some(value) = default_of(alloc, raws, tree, id)? else {
+        let Some(value) = default_of(alloc, raws, tables, tree, id)? else {
             return Ok(None);
         };
         entries.push((copy_of_text(alloc, key.as_str())?, value))?;
@@ -213,13 +248,15 @@ fn entry_defaults(
 fn record_default(
     alloc: Global,
     raws: &[RawNode],
+    tables: &[UnionTable],
     members: &Map<String, Value>,
     fields: &[RawField],
 ) -> Result<Option<Datum>, Memory>
+    requires tables { AreTables (all_without_defaults raws.now) tables.now }
     ensures { IfOk result (λ datum. option_map value_of datum
         ≡ default_of_fields (all_without_defaults raws.now) (members_view members.now.entries) (fields_seen fields.now)) }
 {
-    let Some(values) = field_defaults(alloc, raws, members, fields)? else {
+    let Some(values) = field_defaults(alloc, raws, tables, members, fields)? else {
         return Ok(None);
     };
     if names_fields(alloc, members, fields)? {
@@ -234,9 +271,11 @@ fn record_default(
 fn field_defaults(
     alloc: Global,
     raws: &[RawNode],
+    tables: &[UnionTable],
     members: &Map<String, Value>,
     fields: &[RawField],
 ) -> Result<Option<Vec<Datum>>, Memory>
+    requires tables { AreTables (all_without_defaults raws.now) tables.now }
     ensures { IfOk result (λ values. option_map (λ vs. values_of vs.items) values
         ≡ each_field (all_without_defaults raws.now) (λ key. default_under (all_without_defaults raws.now) key (members_view members.now.entries)) (fields_seen fields.now)) }
 {
@@ -245,7 +284,7 @@ fn field_defaults(
         let Some(tree) = members.get(field.name.as_str()) else {
             return Ok(None);
         };
-        let Some(value) = default_of(alloc, raws, tree, field.node)? else {
+        let Some(value) = default_of(alloc, raws, tables, tree, field.node)? else {
             return Ok(None);
         };
         values.push(value)?;

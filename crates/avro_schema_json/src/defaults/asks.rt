@@ -34,6 +34,27 @@ impl Asked {
         Ok(())
     }
 
+    /// Asks of one more node, if JSON is looked into for it.
+    fn add_if_entered(&mut self, raws: &[RawNode], tree: &Value, id: NodeId) -> Result<(), Memory> {
+        if may_enter(raws, tree, id) {
+            self.add(id)?;
+        }
+        Ok(())
+    }
+
+    /// Asks of those of more nodes for which JSON is looked into.
+    fn add_entered(
+        &mut self,
+        raws: &[RawNode],
+        tree: &Value,
+        ids: &[NodeId],
+    ) -> Result<(), Memory> {
+        for id in ids {
+            self.add_if_entered(raws, tree, *id)?;
+        }
+        Ok(())
+    }
+
     /// Asks of more nodes.
     fn add_all(&mut self, ids: &[NodeId]) -> Result<(), Memory> {
         for id in ids {
@@ -89,7 +110,7 @@ fn are_leaves(items: &[Value]) -> bool {
 }
 
 /// Whether JSON is an array or an object.
-fn has_parts(tree: &Value) -> bool {
+pub(crate) fn has_parts(tree: &Value) -> bool {
     tree.is_array() || tree.is_object()
 }
 
@@ -104,17 +125,18 @@ fn may_enter(raws: &[RawNode], tree: &Value, id: NodeId) -> bool {
     }
 }
 
-/// The nodes that are asked, a union by its branches.
+/// The nodes that are asked, a union by its branches, for which JSON is looked into.
 pub(crate) fn own_ids(
     alloc: Global,
     raws: &[RawNode],
+    tree: &Value,
     asked: &[NodeId],
 ) -> Result<Vec<NodeId>, Memory> {
     let mut own = Asked::new(alloc);
     for id in asked {
         match raws.get(id.0 as usize) {
-            Some(RawNode::Union(branches)) => own.add_all(branches)?,
-            _ => own.add(*id)?,
+            Some(RawNode::Union(branches)) => own.add_entered(raws, tree, branches)?,
+            _ => own.add_if_entered(raws, tree, *id)?,
         }
     }
     Ok(own.ids)
@@ -148,7 +170,7 @@ fn asked_values(alloc: Global, raws: &[RawNode], own: &[NodeId]) -> Result<Vec<N
     Ok(asked.ids)
 }
 
-/// What is asked of each member: by maps, and by records that have a field of each key and no other.
+/// What is asked of each member that has parts: by maps, and by records that have a field of each key and no other.
 pub(crate) fn asked_members<'a>(
     alloc: Global,
     raws: &[RawNode],
@@ -170,17 +192,19 @@ pub(crate) fn asked_members<'a>(
     Ok(asked)
 }
 
-/// The same nodes asked of each member.
+/// The same nodes asked of each member that has parts.
 fn asked_of_each<'a>(
     alloc: Global,
     members: &'a Map<String, Value>,
     values: &[NodeId],
 ) -> Result<BTreeMap<&'a str, Asked>, Memory> {
     let mut asked: BTreeMap<&'a str, Asked> = BTreeMap::new(alloc);
-    for (key, _) in members.iter() {
-        let mut of_member = Asked::new(alloc);
-        of_member.add_all(values)?;
-        asked.insert(key.as_str(), of_member)?;
+    for (key, tree) in members.iter() {
+        if has_parts(tree) {
+            let mut of_member = Asked::new(alloc);
+            of_member.add_all(values)?;
+            asked.insert(key.as_str(), of_member)?;
+        }
     }
     Ok(asked)
 }

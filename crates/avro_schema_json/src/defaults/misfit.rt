@@ -1,19 +1,19 @@
 //! Whether one node is among those that a JSON value is no default of.
 
 ghost use Rattle.std.specs.Prelude.{◌≡◌, true, None, List, IfOk};
-ghost use Rattle.std.specs.List.{list_all};
 ghost use Rattle.avro_schema.specs.Node.{Node as SeenNode, node_at};
 ghost use Rattle.avro_schema.specs.Seen.{ids_of};
-ghost use Rattle.avro_schema_json.specs.inside.Misfits.{has_id, is_misfit as is_misfit_by, AreItemMisfits, AreMemberMisfits, IsMemberMisfit};
-ghost use Rattle.avro_schema_json.specs.inside.OwnDefaults.{own_default as own_default_by, default_of_fields, fields_seen, all_without_defaults};
-ghost use Rattle.avro_schema_json.specs.DeclaredDefaults.{each_default, entries_default};
-ghost use Rattle.serde_json.specs.Data.{Data, Items, Members};
-ghost use Rattle.serde_json.specs.View.{view, members_view};
+ghost use Rattle.avro_schema_json.specs.inside.Misfits.{AreMisfits, AreItemMisfits, AreMemberMisfits, IsMemberMisfit};
+ghost use Rattle.avro_schema_json.specs.inside.Characters.{characters_in};
+ghost use Rattle.avro_schema_json.specs.inside.OwnDefaults.{own_default as own_default_by, default_of_fields, fields_seen, all_without_defaults, without_defaults};
+ghost use Rattle.avro_schema_json.specs.DeclaredDefaults.{default_of as default_by, each_default, entries_default, first_fit, text_default as default_of_text};
+ghost use Rattle.serde_json.specs.Data.{Data};
+ghost use Rattle.serde_json.specs.View.{view, items_view, members_view};
 
 use crate::defaults::fields::names_fields;
-use crate::defaults::plain_defaults::{
-    boolean_default, null_default, number_default, text_default,
-};
+use crate::defaults::known::{has, next_index, of_item, of_member};
+use crate::defaults::plain_defaults::{number_default, text_default};
+use crate::defaults::unfit::{characters_of, is_unfit};
 use crate::raw::{RawField, RawNode};
 use crate::raw_nodes::{branches, raw_at};
 use avro_schema::{Memory, NodeId};
@@ -21,83 +21,146 @@ use serde_json::{Map, Value};
 use std::alloc::Global;
 use std::collections::{BTreeMap, BTreeSet};
 
-/// Whether the node of an id is among some, or a union of such nodes.
-pub(crate) fn is_misfit(raws: &[RawNode], ids: &BTreeSet<u32>, id: NodeId) -> bool
-    ensures { result ≡ is_misfit_by (all_without_defaults raws.now) ids.now id.0 }
-{
-    let null = RawNode::Null;
-    match branches(raw_at(&*raws, &null, id)) {
-        None => has(ids, id),
-        Some(branches) => has_each(ids, branches),
-    }
-}
-
-/// Whether an id is among some.
-pub(crate) fn has(ids: &BTreeSet<u32>, id: NodeId) -> bool
-    ensures { result ≡ has_id ids.now id.0 }
-{
-    ids.contains(&id.0)
-}
-
-/// Whether each of these ids is among some.
-fn has_each(ids: &BTreeSet<u32>, asked: &[NodeId]) -> bool
-    ensures { result ≡ list_all (has_id ids.now) (ids_of asked.now) }
-{
-    for id in asked {
-        if !has(ids, *id) {
-            return false;
-        }
-    }
-    true
-}
-
-/// Whether JSON without parts is no default of the node of an id.
-pub(crate) fn is_leaf_misfit(
+/// Whether JSON is no default of the node of an id, by what is known of it. Where it says no, the
+/// JSON may be none nevertheless.
+pub(crate) fn is_misfit(
     alloc: Global,
     raws: &[RawNode],
     tree: &Value,
+    known: &BTreeSet<u32>,
     id: NodeId,
 ) -> Result<bool, Memory>
-    ensures { IfOk result (λ answer. answer ≡ true → own_default_by (all_without_defaults raws.now) (view tree.now) (node_at (all_without_defaults raws.now) id.0) ≡ None) }
+    requires known { AreMisfits (all_without_defaults raws.now) (view tree.now) known.now }
+    ensures { IfOk result (λ answer. answer ≡ true → default_by (all_without_defaults raws.now) (view tree.now) (node_at (all_without_defaults raws.now) id.0) ≡ None) }
 {
     let null = RawNode::Null;
-    let node = raw_at(&*raws, &null, id);
-    match tree {
-        Value::Null => Ok(null_default(node).is_none()),
-        Value::Bool(value) => Ok(boolean_default(*value, node).is_none()),
-        Value::Number(number) => Ok(number_default(*number, node).is_none()),
-        Value::String(text) => Ok(text_default(alloc, text.as_str(), node)?.is_none()),
-        Value::Array(_) => Ok(false),
-        Value::Object(_) => Ok(false),
+    match branches(raw_at(&*raws, &null, id)) {
+        None => is_own_misfit(alloc, raws, &null, tree, characters_of(tree), known, id),
+        Some(ids) => fits_no_branch(alloc, raws, &null, tree, known, ids),
     }
 }
 
-/// Whether an array is no default of the node of an id, by the sets of its items.
-pub(crate) fn is_array_misfit(raws: &[RawNode], parts: &[BTreeSet<u32>], id: NodeId) -> bool
-    ensures { result ≡ true → (ds : Items) → AreItemMisfits (all_without_defaults raws.now) ds parts.now
-        → own_default_by (all_without_defaults raws.now) (Data.array ds) (node_at (all_without_defaults raws.now) id.0) ≡ None }
+/// Whether JSON is no default of any of some branches.
+fn fits_no_branch(
+    alloc: Global,
+    raws: &[RawNode],
+    null: &RawNode,
+    tree: &Value,
+    known: &BTreeSet<u32>,
+    ids: &[NodeId],
+) -> Result<bool, Memory>
+    requires null { without_defaults null.now ≡ SeenNode.null }
+    requires known { AreMisfits (all_without_defaults raws.now) (view tree.now) known.now }
+    ensures { IfOk result (λ answer. answer ≡ true
+        → first_fit (all_without_defaults raws.now) (own_default_by (all_without_defaults raws.now) (view tree.now)) 0 (ids_of ids.now) ≡ None) }
+{
+    let characters = characters_of(tree);
+    for id in ids {
+        if !is_own_misfit(alloc, raws, null, tree, characters, known, *id)? {
+            return Ok(false);
+        }
+    }
+    Ok(true)
+}
+
+/// Whether JSON, which has so many characters where it is a text, is no default of the node of an id itself:
+/// by its kind, by what is known of it, or, where it has no parts, by trying.
+fn is_own_misfit(
+    alloc: Global,
+    raws: &[RawNode],
+    null: &RawNode,
+    tree: &Value,
+    characters: usize,
+    known: &BTreeSet<u32>,
+    id: NodeId,
+) -> Result<bool, Memory>
+    requires null { without_defaults null.now ≡ SeenNode.null }
+    requires count { characters ≡ characters_in (view tree.now) }
+    requires known { AreMisfits (all_without_defaults raws.now) (view tree.now) known.now }
+    ensures { IfOk result (λ answer. answer ≡ true → own_default_by (all_without_defaults raws.now) (view tree.now) (node_at (all_without_defaults raws.now) id.0) ≡ None) }
+{
+    if is_unfit(raws, null, tree, characters, id) {
+        return Ok(true);
+    }
+    if has(known, id) {
+        return Ok(true);
+    }
+    is_leaf_misfit(alloc, raws, null, tree, id)
+}
+
+/// Whether JSON without parts is no default of the node of an id, which is of its kind.
+fn is_leaf_misfit(
+    alloc: Global,
+    raws: &[RawNode],
+    null: &RawNode,
+    tree: &Value,
+    id: NodeId,
+) -> Result<bool, Memory>
+    requires null { without_defaults null.now ≡ SeenNode.null }
+    ensures { IfOk result (λ answer. answer ≡ true → own_default_by (all_without_defaults raws.now) (view tree.now) (node_at (all_without_defaults raws.now) id.0) ≡ None) }
+{
+    let node = raw_at(&*raws, &*null, id);
+    match tree {
+        Value::Number(number) => Ok(number_default(*number, node).is_none()),
+        Value::String(text) => is_text_misfit(alloc, text.as_str(), node),
+        _ => Ok(false),
+    }
+}
+
+/// Whether a text is no default of a node. That of a string is not copied to find it.
+fn is_text_misfit(alloc: Global, text: &str, node: &RawNode) -> Result<bool, Memory>
+    ensures { IfOk result (λ answer. answer ≡ true → default_of_text text.now (without_defaults node.now) ≡ None) }
+{
+    match node {
+        RawNode::Str => Ok(false),
+        _ => Ok(text_default(alloc, text, node)?.is_none()),
+    }
+}
+
+/// Whether an array is no default of the node of an id, by what is known of its items.
+pub(crate) fn is_array_misfit(
+    alloc: Global,
+    raws: &[RawNode],
+    items: &Vec<Value>,
+    parts: &[BTreeSet<u32>],
+    id: NodeId,
+) -> Result<bool, Memory>
+    requires parts { AreItemMisfits (all_without_defaults raws.now) (items_view items.now.items) parts.now }
+    ensures { IfOk result (λ answer. answer ≡ true
+        → own_default_by (all_without_defaults raws.now) (Data.array (items_view items.now.items)) (node_at (all_without_defaults raws.now) id.0) ≡ None) }
 {
     let null = RawNode::Null;
     match raw_at(&*raws, &null, id) {
-        RawNode::Array(items) => is_one_misfit(raws, parts, *items),
-        _ => true,
+        RawNode::Array(of_items) => is_one_misfit(alloc, raws, items, parts, *of_items),
+        _ => Ok(true),
     }
 }
 
 /// Whether one of the items is no default of the node of an id.
-fn is_one_misfit(raws: &[RawNode], parts: &[BTreeSet<u32>], id: NodeId) -> bool
-    ensures { result ≡ true → (ds : Items) → AreItemMisfits (all_without_defaults raws.now) ds parts.now
-        → each_default (all_without_defaults raws.now) ds (node_at (all_without_defaults raws.now) id.0) ≡ None }
+fn is_one_misfit(
+    alloc: Global,
+    raws: &[RawNode],
+    items: &Vec<Value>,
+    parts: &[BTreeSet<u32>],
+    id: NodeId,
+) -> Result<bool, Memory>
+    requires parts { AreItemMisfits (all_without_defaults raws.now) (items_view items.now.items) parts.now }
+    ensures { IfOk result (λ answer. answer ≡ true
+        → each_default (all_without_defaults raws.now) (items_view items.now.items) (node_at (all_without_defaults raws.now) id.0) ≡ None) }
 {
-    for part in parts {
-        if is_misfit(raws, part, id) {
-            return true;
+    let nothing: BTreeSet<u32> = BTreeSet::new(alloc);
+    let mut index = 0usize;
+    for item in items {
+        let known = of_item(parts, &nothing, index);
+        if is_misfit(alloc, raws, item, known, id)? {
+            return Ok(true);
         }
+        index = next_index(index)?;
     }
-    false
+    Ok(false)
 }
 
-/// Whether an object is no default of the node of an id, by the sets of its members.
+/// Whether an object is no default of the node of an id, by what is known of its members.
 pub(crate) fn is_object_misfit(
     alloc: Global,
     raws: &[RawNode],
@@ -105,12 +168,13 @@ pub(crate) fn is_object_misfit(
     parts: &BTreeMap<&str, BTreeSet<u32>>,
     id: NodeId,
 ) -> Result<bool, Memory>
-    ensures { IfOk result (λ answer. answer ≡ true → AreMemberMisfits (all_without_defaults raws.now) (members_view members.now.entries) parts.now
+    requires parts { AreMemberMisfits (all_without_defaults raws.now) (members_view members.now.entries) parts.now }
+    ensures { IfOk result (λ answer. answer ≡ true
         → own_default_by (all_without_defaults raws.now) (Data.object (members_view members.now.entries)) (node_at (all_without_defaults raws.now) id.0) ≡ None) }
 {
     let null = RawNode::Null;
     match raw_at(&*raws, &null, id) {
-        RawNode::Map(values) => Ok(is_map_misfit(raws, members, parts, *values)),
+        RawNode::Map(values) => is_map_misfit(alloc, raws, members, parts, *values),
         RawNode::Record(record) => { is_record_misfit(alloc, raws, members, parts, &record.fields) }
         _ => Ok(true),
     }
@@ -118,34 +182,40 @@ pub(crate) fn is_object_misfit(
 
 /// Whether one of the members is no default of the node of an id.
 fn is_map_misfit(
+    alloc: Global,
     raws: &[RawNode],
     members: &Map<String, Value>,
     parts: &BTreeMap<&str, BTreeSet<u32>>,
     id: NodeId,
-) -> bool
-    ensures { result ≡ true → AreMemberMisfits (all_without_defaults raws.now) (members_view members.now.entries) parts.now
-        → entries_default (all_without_defaults raws.now) (members_view members.now.entries) (node_at (all_without_defaults raws.now) id.0) ≡ None }
+) -> Result<bool, Memory>
+    requires parts { AreMemberMisfits (all_without_defaults raws.now) (members_view members.now.entries) parts.now }
+    ensures { IfOk result (λ answer. answer ≡ true
+        → entries_default (all_without_defaults raws.now) (members_view members.now.entries) (node_at (all_without_defaults raws.now) id.0) ≡ None) }
 {
     for (key, _) in members.iter() {
-        if is_member_misfit(raws, parts, key.as_str(), id) {
-            return true;
+        if is_member_misfit(alloc, raws, members, parts, key.as_str(), id)? {
+            return Ok(true);
         }
     }
-    false
+    Ok(false)
 }
 
 /// Whether the member of a key is no default of the node of an id.
 fn is_member_misfit(
+    alloc: Global,
     raws: &[RawNode],
+    members: &Map<String, Value>,
     parts: &BTreeMap<&str, BTreeSet<u32>>,
     key: &str,
     id: NodeId,
-) -> bool
-    ensures { result ≡ true → (ms : Members) → AreMemberMisfits (all_without_defaults raws.now) ms parts.now → IsMemberMisfit (all_without_defaults raws.now) ms key.now id.0 }
+) -> Result<bool, Memory>
+    requires parts { AreMemberMisfits (all_without_defaults raws.now) (members_view members.now.entries) parts.now }
+    ensures { IfOk result (λ answer. answer ≡ true → IsMemberMisfit (all_without_defaults raws.now) (members_view members.now.entries) key.now id.0) }
 {
-    match parts.get(key) {
-        Some(part) => is_misfit(raws, part, id),
-        None => false,
+    let nothing: BTreeSet<u32> = BTreeSet::new(alloc);
+    match members.get(key) {
+        Some(tree) => is_misfit(alloc, raws, tree, of_member(parts, &nothing, key), id),
+        None => Ok(false),
     }
 }
 
@@ -157,13 +227,14 @@ fn is_record_misfit(
     parts: &BTreeMap<&str, BTreeSet<u32>>,
     fields: &[RawField],
 ) -> Result<bool, Memory>
-    ensures { IfOk result (λ answer. answer ≡ true → AreMemberMisfits (all_without_defaults raws.now) (members_view members.now.entries) parts.now
+    requires parts { AreMemberMisfits (all_without_defaults raws.now) (members_view members.now.entries) parts.now }
+    ensures { IfOk result (λ answer. answer ≡ true
         → default_of_fields (all_without_defaults raws.now) (members_view members.now.entries) (fields_seen fields.now) ≡ None) }
 {
     if lacks_field(members, fields) {
         return Ok(true);
     }
-    if is_field_misfit(raws, parts, fields) {
+    if is_field_misfit(alloc, raws, members, parts, fields)? {
         return Ok(true);
     }
     Ok(!names_fields(alloc, members, fields)?)
@@ -183,17 +254,20 @@ pub(crate) fn lacks_field(members: &Map<String, Value>, fields: &[RawField]) -> 
 
 /// Whether the member of one of the fields is no default of it.
 fn is_field_misfit(
+    alloc: Global,
     raws: &[RawNode],
+    members: &Map<String, Value>,
     parts: &BTreeMap<&str, BTreeSet<u32>>,
     fields: &[RawField],
-) -> bool
-    ensures { result ≡ true → (ms : Members) → AreMemberMisfits (all_without_defaults raws.now) ms parts.now
-        → default_of_fields (all_without_defaults raws.now) ms (fields_seen fields.now) ≡ None }
+) -> Result<bool, Memory>
+    requires parts { AreMemberMisfits (all_without_defaults raws.now) (members_view members.now.entries) parts.now }
+    ensures { IfOk result (λ answer. answer ≡ true
+        → default_of_fields (all_without_defaults raws.now) (members_view members.now.entries) (fields_seen fields.now) ≡ None) }
 {
     for field in fields {
-        if is_member_misfit(raws, parts, field.name.as_str(), field.node) {
-            return true;
+        if is_member_misfit(alloc, raws, members, parts, field.name.as_str(), field.node)? {
+            return Ok(true);
         }
     }
-    false
+    Ok(false)
 }

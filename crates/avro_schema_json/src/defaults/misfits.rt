@@ -1,17 +1,14 @@
 //! Which nodes a JSON value is no default of. Each value is looked at once, with all the nodes that are
-//! asked of it.
+//! asked of it; nothing is kept of one without parts.
 
-ghost use Rattle.std.specs.Prelude.{◌≡◌, ◌⊎◌, ℕ, true, None, IfOk, OnOk};
-ghost use Rattle.std.specs.List.{list_all};
-ghost use Rattle.avro_schema.specs.Node.{node_at};
-ghost use Rattle.avro_schema.specs.Seen.{ids_of};
-ghost use Rattle.avro_schema_json.specs.inside.Misfits.{has_id, is_misfit as is_misfit_by, AreMisfits, AreItemMisfits, AreMemberMisfits};
-ghost use Rattle.avro_schema_json.specs.inside.OwnDefaults.{own_default as own_default_by, all_without_defaults};
-ghost use Rattle.serde_json.specs.Data.{Data, Items};
+ghost use Rattle.std.specs.Prelude.{◌≡◌, ◌⊎◌, ℕ, true, IfOk, OnOk};
+ghost use Rattle.avro_schema_json.specs.inside.Misfits.{has_id, AreMisfits, AreItemMisfits, AreMemberMisfits};
+ghost use Rattle.avro_schema_json.specs.inside.OwnDefaults.{all_without_defaults};
+ghost use Rattle.serde_json.specs.Data.{Data};
 ghost use Rattle.serde_json.specs.View.{view, items_view, members_view};
 
-use crate::defaults::asks::{asked_items, asked_members, may_repeat, own_ids};
-use crate::defaults::misfit::{is_array_misfit, is_leaf_misfit, is_object_misfit};
+use crate::defaults::asks::{asked_items, asked_members, has_parts, may_repeat, own_ids};
+use crate::defaults::misfit::{is_array_misfit, is_object_misfit};
 use crate::raw::RawNode;
 use avro_schema::{Memory, NodeId};
 use serde_json::{Map, Value};
@@ -34,7 +31,8 @@ pub(crate) fn skipped_branches(
     Ok(BTreeSet::new(alloc))
 }
 
-/// The nodes that JSON is no default of, among those that are asked of it, unions by their branches.
+/// The nodes that JSON is no default of, among those that are asked of it, unions by their branches. Nothing is
+/// kept of JSON without parts: it is tried in place.
 #[cycle(misfits)]
 fn misfits_of(
     alloc: Global,
@@ -44,7 +42,10 @@ fn misfits_of(
 ) -> Result<BTreeSet<u32>, Memory>
     ensures { IfOk result (λ ids. AreMisfits (all_without_defaults raws.now) (view tree.now) ids) }
 {
-    let own = own_ids(alloc, raws, asked)?;
+    if !has_parts(tree) {
+        return Ok(BTreeSet::new(alloc));
+    }
+    let own = own_ids(alloc, raws, tree, asked)?;
     match tree {
         Value::Array(items) => {
             let parts = item_misfits(alloc, raws, items, &own)?;
@@ -54,11 +55,11 @@ fn misfits_of(
             let parts = member_misfits(alloc, raws, members, &own)?;
             object_misfits(alloc, raws, members, &parts, &own)
         }
-        _ => leaf_misfits(alloc, raws, tree, &own),
+        _ => Ok(BTreeSet::new(alloc)),
     }
 }
 
-/// For each item, the nodes that it is no default of.
+/// For each item, the nodes that it is no default of; none where it has no parts.
 #[cycle(misfits)]
 fn item_misfits(
     alloc: Global,
@@ -77,7 +78,7 @@ fn item_misfits(
     Ok(parts)
 }
 
-/// For each member, the nodes that it is no default of.
+/// For each member that has parts, the nodes that it is no default of.
 #[cycle(misfits)]
 fn member_misfits<'a>(
     alloc: Global,
@@ -113,38 +114,20 @@ fn add(ids: &mut BTreeSet<u32>, id: NodeId) -> Result<(), Memory>
     Ok(())
 }
 
-/// The nodes that JSON without parts is no default of.
-fn leaf_misfits(
-    alloc: Global,
-    raws: &[RawNode],
-    tree: &Value,
-    own: &[NodeId],
-) -> Result<BTreeSet<u32>, Memory>
-    ensures { IfOk result (λ ids. AreMisfits (all_without_defaults raws.now) (view tree.now) ids) }
-{
-    let mut ids: BTreeSet<u32> = BTreeSet::new(alloc);
-    for id in own {
-        if is_leaf_misfit(alloc, raws, tree, *id)? {
-            add(&mut ids, *id)?;
-        }
-    }
-    Ok(ids)
-}
-
 /// The nodes that an array is no default of, by the sets of its items.
 fn array_misfits(
     alloc: Global,
     raws: &[RawNode],
-    _items: &Vec<Value>,
+    items: &Vec<Value>,
     parts: &[BTreeSet<u32>],
     own: &[NodeId],
 ) -> Result<BTreeSet<u32>, Memory>
-    ensures { IfOk result (λ ids. AreItemMisfits (all_without_defaults raws.now) (items_view _items.now.items) parts.now
-        → AreMisfits (all_without_defaults raws.now) (Data.array (items_view _items.now.items)) ids) }
+    requires parts { AreItemMisfits (all_without_defaults raws.now) (items_view items.now.items) parts.now }
+    ensures { IfOk result (λ ids. AreMisfits (all_without_defaults raws.now) (Data.array (items_view items.now.items)) ids) }
 {
     let mut ids: BTreeSet<u32> = BTreeSet::new(alloc);
     for id in own {
-        if is_array_misfit(raws, parts, *id) {
+        if is_array_misfit(alloc, raws, items, parts, *id)? {
             add(&mut ids, *id)?;
         }
     }
@@ -159,8 +142,8 @@ fn object_misfits(
     parts: &BTreeMap<&str, BTreeSet<u32>>,
     own: &[NodeId],
 ) -> Result<BTreeSet<u32>, Memory>
-    ensures { IfOk result (λ ids. AreMemberMisfits (all_without_defaults raws.now) (members_view members.now.entries) parts.now
-        → AreMisfits (all_without_defaults raws.now) (Data.object (members_view members.now.entries)) ids) }
+    requires parts { AreMemberMisfits (all_without_defaults raws.now) (members_view members.now.entries) parts.now }
+    ensures { IfOk result (λ ids. AreMisfits (all_without_defaults raws.now) (Data.object (members_view members.now.entries)) ids) }
 {
     let mut ids: BTreeSet<u32> = BTreeSet::new(alloc);
     for id in own {

@@ -9,7 +9,8 @@ use Rattle.avro_schema_json.specs.DeclaredDefaults.{each_default, entries_defaul
 use Rattle.avro_schema_json.specs.inside.OwnDefaults.{all_without_defaults, fields_seen}
 use Rattle.avro_schema_json.proofs.DefaultsSeen.{default-union, entries_end}
 use Rattle.avro_schema_json.proofs.DefaultSteps.{item_next, items_end, entry_next, fields_left, field_next, field_stop, field_missing, fields_end}
-use Rattle.avro_schema_json.proofs.MisfitsSeen.{branch-skip}
+use Rattle.avro_schema_json.proofs.MisfitsSeen.{branch-skip, branch-pass}
+use Rattle.avro_schema_json.proofs.TablesSeen.{begins_late}
 use Rattle.avro_schema_json.proofs.RawSeen.{field_item, fields_past}
 use Rattle.avro_schema_json.proofs.defaults.+defaults.Goals as goal
 
@@ -21,10 +22,24 @@ default_of-returns t c =
     let here : branches_of n ≡ Some ids = ap branches_of (sym c.raw_at-node.ensures) ∙ sym c.in-Some.ensures in
     rw (default-union nodes (view c.args.tree.now) n ids here) c.branch_default.ensures
 
+pub default_of-table_at-table-requires-clause-union : goal.default_of-table_at-table-requires-clause-union
+default_of-table_at-table-requires-clause-union t c = ap branches_of (sym c.raw_at-node.ensures) ∙ sym c.in-Some.ensures
+
+pub branch_default-loop-i-init : goal.branch_default-loop-i-init
+branch_default-loop-i-init t c =
+    let nodes = all_without_defaults c.args.raws.now in
+    let ids = c.args.ids.now in
+    begins_late nodes (view c.args.tree.now) ids c.in_ok-start.start (c.in_ok-start.ensures nodes (ids_of ids) c.requires.table)
+
 pub branch_default-loop-i-preserved-then-has : goal.branch_default-loop-i-preserved-then-has
 branch_default-loop-i-preserved-then-has t c =
     branch-skip (all_without_defaults c.args.raws.now) (view c.args.tree.now) c.args.ids.now c.loop-i.i _ c.args.misfits.now c.has.result _ c.loop-i-test.true
-    c.has.ensures c.if-has.true c.requires c.loop-i.invariant
+    c.has.ensures c.if-has.true c.requires.misfits c.loop-i.invariant
+
+pub branch_default-loop-i-preserved-then-is_unfit : goal.branch_default-loop-i-preserved-then-is_unfit
+branch_default-loop-i-preserved-then-is_unfit t c =
+    branch-pass (all_without_defaults c.args.raws.now) (view c.args.tree.now) c.args.ids.now c.loop-i.i _ _ c.loop-i-test.true
+    (c.is_unfit.ensures c.if-is_unfit.true) c.loop-i.invariant
 
 pub item_defaults-loop-item-preserved : goal.item_defaults-loop-item-preserved
 item_defaults-loop-item-preserved t c =

@@ -1,21 +1,21 @@
-use Rattle.std.proofs.Common.{option_map, sym, ap, ◌∙◌}
+use Rattle.std.proofs.Common.{◌≡◌, ◌+◌, [], ◌∷◌, ◌++◌, arith, length, length-append, option_map, sym, ap, ◌∙◌}
 use Rattle.std.proofs.lemmas.Map.Text.{btree_map_updates_str}
-use Rattle.avro_schema.specs.Node.{node_at}
 use Rattle.serde_json.specs.View.{view, items_view, members_view}
 use Rattle.serde_json.proofs.Views.{view-lookup}
 use Rattle.avro_schema_json.specs.inside.OwnDefaults.{all_without_defaults}
-use Rattle.avro_schema_json.proofs.MisfitsSeen.{misfit-default, item-misfit, items-push, members-put}
+use Rattle.avro_schema_json.proofs.MisfitsSeen.{item-at, items-push, members-insert}
 use Rattle.avro_schema_json.proofs.defaults.misfits.+misfits.Goals as goal
 
 pub item_misfits-loop-item-preserved : goal.item_misfits-loop-item-preserved
 item_misfits-loop-item-preserved t c =
     let l = c.loop-item in
+    let x = c.item-item.result in
+    let ys = c.args.items.now.items in
+    let at = item-at c.deref-item-items.result.now ys l.item-index (length l.parts.items) x c.deref-item-items.ensures.value l.invariant.0 c.loop-item-test.true c.item-item.is in
     let nodes = all_without_defaults c.args.raws.now in
-    let xs = c.deref-item-items.result.now in
     let part = c.in_ok-part.part in
-    rw c.in_ok-push.ensures.items (items-push nodes (items_view xs) l.parts.items part l.invariant
-    (λ m there. item-misfit nodes xs l.item-index c.item-item.result (node_at nodes m) c.loop-item-test.true c.item-item.is
-    (misfit-default nodes (view c.item-item.result) part m c.in_ok-part.ensures there)))
+    let count : length (l.parts.items ++ part ∷ []) ≡ l.item-index + 1 = omega (arith, length-append l.parts.items (part ∷ []), l.invariant.0) in
+    rw c.in_ok-push.ensures.items (count, items-push nodes (items_view ys) l.parts.items part (view x) l.invariant.1 at c.in_ok-part.ensures)
 
 pub member_misfits-loop-key-preserved-in_ok-insert-in-Some-get-2 : goal.member_misfits-loop-key-preserved-in_ok-insert-in-Some-get-2
 member_misfits-loop-key-preserved-in_ok-insert-in-Some-get-2 t c =
@@ -25,9 +25,9 @@ member_misfits-loop-key-preserved-in_ok-insert-in-Some-get-2 t c =
     let x = view c.in-Some-get-2.tree.now in
     let part = c.in_ok-part-in-Some-get-2.part in
     let there = sym (ap (option_map view) c.in-Some-get-2.ensures.value ∙ view-lookup key es) in
-    members-put nodes (members_view es) c.loop-key.parts c.insert.new.self key part c.loop-key.invariant
+    members-insert nodes (members_view es) c.loop-key.parts c.insert.new.self key x part c.loop-key.invariant
     (λ other. btree_map_updates_str key c.loop-key.parts c.insert.new.self _ c.in_ok-insert-in-Some-get-2.ensures.updates other)
-    (λ m is. (x, there, misfit-default nodes x part m c.in_ok-part-in-Some-get-2.ensures is))
+    there c.in_ok-part-in-Some-get-2.ensures
 
 pub member_misfits-loop-key-preserved-in_ok-insert-in-Some-get-2-2 : goal.member_misfits-loop-key-preserved-in_ok-insert-in-Some-get-2-2
 member_misfits-loop-key-preserved-in_ok-insert-in-Some-get-2-2 t c =
@@ -37,6 +37,6 @@ member_misfits-loop-key-preserved-in_ok-insert-in-Some-get-2-2 t c =
     let x = view c.in-Some-get-2.tree.now in
     let part = c.in_ok-part-in-Some-get-2.part in
     let there = sym (ap (option_map view) c.in-Some-get-2.ensures.value ∙ view-lookup key es) in
-    members-put nodes (members_view es) c.loop-key.parts c.insert.new.self key part c.loop-key.invariant
+    members-insert nodes (members_view es) c.loop-key.parts c.insert.new.self key x part c.loop-key.invariant
     (λ other. btree_map_updates_str key c.loop-key.parts c.insert.new.self _ c.in_ok-insert-in-Some-get-2.ensures.updates other)
-    (λ m is. (x, there, misfit-default nodes x part m c.in_ok-part-in-Some-get-2.ensures is))
+    there c.in_ok-part-in-Some-get-2.ensures

@@ -1,7 +1,0 @@
-use Rattle.avro_schema_json.specs.inside.Misfits.{AreMisfits}
-use Rattle.avro_schema_json.specs.inside.OwnDefaults.{all_without_defaults}
-use Rattle.serde_json.specs.View.{view}
-use Rattle.avro_schema_json.proofs.defaults.misfits.leaf_misfits.Given as goal
-
-abbrev pub invariant-loop-id : goal.invariant-loop-id
-invariant-loop-id l = AreMisfits (all_without_defaults l.raws) (view l.tree) l.ids

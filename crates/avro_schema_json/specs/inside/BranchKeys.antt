@@ -1,0 +1,67 @@
+-- The keys of branches: JSON fits a branch of one of two keys alone.
+use Rattle.std.specs.Prelude.{◌≡◌, ◌+◌, ◌≤◌, ◌<◌, ℕ, List, [], ◌∷◌, length, slice_get, Some, None}
+use Rattle.std.specs.Option.{unwrap_or}
+use Rattle.std.specs.Ordering.{nat_cmp}
+use Rattle.std.specs.Str.{chars}
+use Rattle.std.specs.BTreeMap.{get}
+use Rattle.avro_schema.specs.Node.{Node, FieldNode, node_at, branches_of}
+use Rattle.serde_json.specs.Data.{Data, Members, no_members, member}
+use Rattle.avro_schema_json.specs.inside.OwnDefaults.{own_default}
+use Rattle.avro_schema_json.specs.declared.defaults.union_table.UnionTable.{UnionTable}
+
+-- a record without fields, and one with some
+abbrev pub fields_key : List FieldNode → ℕ
+fields_key [] = 7
+fields_key (f ∷ fields) = 8
+
+abbrev pub branch_key : Node → ℕ
+branch_key Node.null = 0
+branch_key Node.boolean = 1
+branch_key Node.int = 2
+branch_key Node.long = 2
+branch_key Node.bytes = 3
+branch_key Node.string = 3
+branch_key (Node.enum name aliases symbols default) = 3
+branch_key (Node.array id) = 4
+branch_key (Node.map_of id) = 5
+branch_key (Node.union ids) = 6
+branch_key (Node.record_of name aliases fields) = fields_key fields
+branch_key (Node.fixed name aliases count) = count + 9
+
+-- an object without members is no record with fields, and one with members none without
+abbrev pub members_key : Members → ℕ
+members_key no_members = 7
+members_key (member k d ms) = 8
+
+-- the two keys of JSON
+abbrev pub kind_key : Data → ℕ
+kind_key Data.null = 0
+kind_key (Data.boolean b) = 1
+kind_key (Data.number x) = 2
+kind_key (Data.string text) = 3
+kind_key (Data.array ds) = 4
+kind_key (Data.object ms) = 5
+
+abbrev pub size_key : Data → ℕ
+size_key Data.null = 0
+size_key (Data.boolean b) = 1
+size_key (Data.number x) = 2
+size_key (Data.string text) = length (chars text) + 9
+size_key (Data.array ds) = 4
+size_key (Data.object ms) = members_key ms
+
+-- no branch of a key stands from one index up to another
+abbrev pub Skips : List Node → List ℕ → ℕ → ℕ → ℕ → Type 0
+Skips nodes ids key from to = (j id : ℕ) → from ≤ j → j < to → slice_get ids j ≡ Some id → branch_key (node_at nodes id) ≡ key → ⊥
+
+-- no branch of a key stands before the index that a table has for it
+abbrev pub IsTable : List Node → List ℕ → UnionTable → Type 0
+IsTable nodes ids table = (key : ℕ) → Skips nodes ids key 0 (unwrap_or (get nat_cmp table.first key) table.other)
+
+-- one table for each union
+abbrev pub AreTables : List Node → List UnionTable → Type 0
+AreTables nodes tables = (m : ℕ) (ids : List ℕ) (table : UnionTable) → branches_of (node_at nodes m) ≡ Some ids → slice_get tables m ≡ Some table → IsTable nodes ids table
+
+-- the JSON is no default of a branch before an index
+abbrev pub FitsNoneBefore : List Node → Data → List ℕ → ℕ → Type 0
+FitsNoneBefore nodes d ids to = (j id : ℕ) → j < to → slice_get ids j ≡ Some id → own_default nodes d (node_at nodes id) ≡ None
