@@ -27,3 +27,4 @@ pub mod FieldsNoted
 pub mod NamedKeys
 pub mod NamedStarts
 pub mod NodeTables
+pub mod ByNumber

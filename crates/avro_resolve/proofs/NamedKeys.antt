@@ -1,33 +1,14 @@
 -- A table of names, as a branch is added.
 use Rattle.std.proofs.Common.{◌≡◌, ℕ, ◌+◌, ◌<◌, ◌≤◌, Bool, true, false, ◌&&◌, ◌||◌, ◌==◌, cond, List, ◌∷◌, length, Option, Some, None, drop, refl, sym, ap, ◌∙◌}
-use Rattle.std.specs.Prelude.{bytes_eq, slice_index_or, position}
+use Rattle.std.specs.Prelude.{slice_index_or, position}
 use Rattle.std.proofs.lemmas.Iterator.Adapters.{position_from-zero}
 use Rattle.std.specs.List.{position_from}
-use Rattle.std.specs.Cmp.{unsigned_ties, both_tied, both_ways}
-use Rattle.std.specs.Ordering.{is_eq, nat_cmp}
-use Rattle.std.specs.Cmp.Lexicographic.{slice_cmp}
-use Rattle.std.proofs.lemmas.Map.Text.{is_eq-slice_cmp}
-use Rattle.std.proofs.lemmas.Slice.Eq.{bytes_eq-Decides}
 use Rattle.std.proofs.Math.ListN.{drop_of_length-le}
 use Rattle.avro_name.specs.Name.{Name}
 use Rattle.avro_schema.specs.Seen.{ids_of}
 use Rattle.avro_schema.specs.declared.schema.NodeId.{NodeId}
-use Rattle.avro_resolve.specs.inside.NameTables.{NameKey, key_cmp, has_simple}
+use Rattle.avro_resolve.specs.inside.NameTables.{NameKey, NumberMap, number, is_number, has_number}
 use Rattle.avro_resolve.proofs.InOrder.{next_in}
-
--- ---- When two keys are the same
-
--- texts are equal either way round
-either_way : (xs ys : List ℕ) → bytes_eq xs ys ≡ bytes_eq ys xs
-either_way xs ys =
-    both_ways (bytes_eq xs ys) (bytes_eq ys xs)
-    (λ h. (bytes_eq-Decides ys xs).1 (sym ((bytes_eq-Decides xs ys).0 h)))
-    (λ h. (bytes_eq-Decides xs ys).1 (sym ((bytes_eq-Decides ys xs).0 h)))
-
-pub same_key : (a b : NameKey) → is_eq (key_cmp a b) ≡ (a.0 == b.0 && bytes_eq b.1.now a.1.now)
-same_key a b =
-    sym (both_tied (a.0 == b.0) (bytes_eq a.1.now b.1.now) (nat_cmp a.0 b.0) (slice_cmp nat_cmp a.1.now b.1.now) (unsigned_ties a.0 b.0) (sym (is_eq-slice_cmp a.1.now b.1.now)))
-    ∙ ap (λ same. a.0 == b.0 && same) (either_way a.1.now b.1.now)
 
 -- ---- One name more
 
@@ -37,24 +18,24 @@ either_put true true more branch before = refl
 either_put true false more branch before = refl
 
 -- what a key finds once the names of a type of a kind are put in for a branch
-abbrev pub named_at : ℕ → List Name → ℕ → NameKey → Option ℕ → Option ℕ
-named_at kind names branch key old = cond (kind == key.0 && has_simple key.1.now names) (Some branch) old
+abbrev pub named_at : NumberMap → ℕ → List Name → ℕ → NameKey → Option ℕ → Option ℕ
+named_at simples kind names branch key old = cond (kind == key.0 && has_number simples key.1 names) (Some branch) old
 
-name_first : (kind : ℕ) (name : Name) (names : List Name) (branch : ℕ) (key : NameKey) (old before after : Option ℕ) → before ≡ named_at kind names branch key old
-    → after ≡ cond (kind == key.0 && bytes_eq key.1.now name.simple) (Some branch) before → after ≡ named_at kind (name ∷ names) branch key old
-name_first kind name names branch key old before after known put =
-    put ∙ ap (λ o. cond (kind == key.0 && bytes_eq key.1.now name.simple) (Some branch) o) known
-    ∙ either_put (kind == key.0) (bytes_eq key.1.now name.simple) (has_simple key.1.now names) branch old
+name_first : (simples : NumberMap) (kind : ℕ) (name : Name) (names : List Name) (branch : ℕ) (key : NameKey) (old before after : Option ℕ) → before ≡ named_at simples kind names branch key old
+    → after ≡ cond (kind == key.0 && is_number key.1 (number simples name.simple)) (Some branch) before → after ≡ named_at simples kind (name ∷ names) branch key old
+name_first simples kind name names branch key old before after known put =
+    put ∙ ap (λ o. cond (kind == key.0 && is_number key.1 (number simples name.simple)) (Some branch) o) known
+    ∙ either_put (kind == key.0) (is_number key.1 (number simples name.simple)) (has_number simples key.1 names) branch old
 
-pub alias_next : (aliases : List Name) (n : ℕ) (alias : Name) (kind branch : ℕ) (key : NameKey) (old before after : Option ℕ) → n < length aliases → alias ≡ slice_index_or aliases n alias
-    → before ≡ named_at kind (drop (n + 1) aliases) branch key old
-    → after ≡ cond (kind == key.0 && bytes_eq key.1.now alias.simple) (Some branch) before → after ≡ named_at kind (drop n aliases) branch key old
-alias_next aliases n alias kind branch key old before after low is known put =
+pub alias_next : (simples : NumberMap) (aliases : List Name) (n : ℕ) (alias : Name) (kind branch : ℕ) (key : NameKey) (old before after : Option ℕ) → n < length aliases → alias ≡ slice_index_or aliases n alias
+    → before ≡ named_at simples kind (drop (n + 1) aliases) branch key old
+    → after ≡ cond (kind == key.0 && is_number key.1 (number simples alias.simple)) (Some branch) before → after ≡ named_at simples kind (drop n aliases) branch key old
+alias_next simples aliases n alias kind branch key old before after low is known put =
     let here : drop n aliases ≡ alias ∷ drop (n + 1) aliases = next_in aliases n alias low ∙ ap (λ (a : Name). a ∷ drop (n + 1) aliases) (sym is) in
-    name_first kind alias (drop (n + 1) aliases) branch key old before after known put ∙ ap (λ (names : List Name). named_at kind names branch key old) (sym here)
+    name_first simples kind alias (drop (n + 1) aliases) branch key old before after known put ∙ ap (λ (names : List Name). named_at simples kind names branch key old) (sym here)
 
-pub alias_none : (aliases : List Name) (n kind branch : ℕ) (key : NameKey) (old : Option ℕ) → length aliases ≤ n → old ≡ named_at kind (drop n aliases) branch key old
-alias_none aliases n kind branch key old high = neither (kind == key.0) ∙ ap (λ (names : List Name). named_at kind names branch key old) (sym (drop_of_length-le aliases high))
+pub alias_none : (simples : NumberMap) (aliases : List Name) (n kind branch : ℕ) (key : NameKey) (old : Option ℕ) → length aliases ≤ n → old ≡ named_at simples kind (drop n aliases) branch key old
+alias_none simples aliases n kind branch key old high = neither (kind == key.0) ∙ ap (λ (names : List Name). named_at simples kind names branch key old) (sym (drop_of_length-le aliases high))
   where
     neither : (here : Bool) → old ≡ cond (here && false) (Some branch) old
     neither true = refl

@@ -92,12 +92,16 @@ first_or_end test xs found all is counted = by (nat_lt (position_or_len test xs)
         let high : length xs ≤ first = ltb-false first (length xs) e in
         omega (arith, end, counted, high)
 
-module _ (writer reader : List Node) (w : Node) (t : NamedType) (is : named_type w ≡ Some t) where
+module _ (writer reader : List Node) (w : Node) (t : NamedType) (is : named_type w ≡ Some t) (test : NamedType → Bool) (tests : (u : NamedType) → test u ≡ is_named t.kind t.name.simple u) where
   abbrev named : ℕ → Bool
-  named = passes reader (is_named t.kind t.name.simple)
+  named = passes reader test
+
+  same_test : (o : Option NamedType) → is_some_and test o ≡ is_some_and (is_named t.kind t.name.simple) o
+  same_test None = refl
+  same_test (Some u) = tests u
 
   others : (b : ℕ) → named b ≡ false → (u : NamedType) → named_type w ≡ Some u → IsOther u (node_at reader b)
-  others b h u e = subst (λ (v : NamedType). IsOther v (node_at reader b)) (same_some is e) h
+  others b h u e = subst (λ (v : NamedType). IsOther v (node_at reader b)) (same_some is e) (sym (same_test (named_type (node_at reader b))) ∙ h)
 
   -- so many branches do not match where none of them is named so
   skipped : (n index : ℕ) (ids : List ℕ) → list_all (λ id. is_some (branch_kind (node_at reader id))) ids ≡ true → n ≤ position_or_len named ids
@@ -123,9 +127,9 @@ all_plain reader r formed = by (node_at reader r) (MeetRules-from_is_schema read
     by (Node.union ids) rules = of_union ids rules
     by _ rules = refl
 
-pub starts_at : (writer reader : List Node) (w r : Node) (t : NamedType) (n : ℕ) (ids : List ℕ) → ids ≡ branches_at r
-    → list_all (λ id. is_some (branch_kind (node_at reader id))) ids ≡ true → named_type w ≡ Some t → n ≤ position_or_len (passes reader (is_named t.kind t.name.simple)) ids
+pub starts_at : (writer reader : List Node) (w r : Node) (t : NamedType) (test : NamedType → Bool) (n : ℕ) (ids : List ℕ) → ((u : NamedType) → test u ≡ is_named t.kind t.name.simple u)
+    → ids ≡ branches_at r → list_all (λ id. is_some (branch_kind (node_at reader id))) ids ≡ true → named_type w ≡ Some t → n ≤ position_or_len (passes reader test) ids
     → StartsAt writer reader w r n
-starts_at writer reader w r t n ids same plain is h = λ found branches.
+starts_at writer reader w r t test n ids tests same plain is h = λ found branches.
     subst (λ (ps : List ℕ). first_match writer reader w ps ≡ first_match_from n writer reader w (drop n ps)) (same ∙ ap (λ o. unwrap_or o []) branches)
-    (skipped writer reader w t is n 0 ids plain h ∙ ap (λ (p : ℕ). first_match_from p writer reader w (drop n ids)) (omega arith))
+    (skipped writer reader w t is test tests n 0 ids plain h ∙ ap (λ (p : ℕ). first_match_from p writer reader w (drop n ids)) (omega arith))

@@ -16,6 +16,7 @@ use std::alloc::{AllocError, Global};
 use std::str::from_utf8;
 
 /// What was built, in a branch of the reader's union where there is one.
+#[inline(always)]
 pub(crate) fn wrap<B: Build>(
     alloc: Global,
     builder: &mut B,

@@ -1,5 +1,7 @@
 use crate::field_tables::{field_tables, source_by};
 use crate::guided::Aim;
+use crate::name_numbers::NameNumbers;
+use crate::numbering::{name_numbers, no_numbers};
 use crate::pairs::{aim_after, first_match_after};
 use crate::symbol_tables::{symbol_by, symbol_tables};
 use crate::symbols::text_of;
@@ -12,14 +14,16 @@ use std::marker::Model;
 /// A writer's schema and a reader's, with tables of names, by which names are found without a look at all that
 /// there are: the branches of the reader's unions, for the first match of a record, an enum or a fixed, the fields
 /// of the writer's records, and the symbols of the reader's enums. A union of few branches, or with more aliases
-/// than branches, a record of few fields and an enum of few symbols are looked through, and take no memory here.
+/// than branches, a record of few fields and an enum of few symbols are looked through, and take no memory here. The names and
+/// aliases of types are numbered, and compared by their numbers.
 /// Contracts see the two schemas.
 #[derive(Drop)]
 pub struct Names<'a> {
     writer: &'a Schema,
     reader: &'a Schema,
+    numbers: NameNumbers<'a>,
     // Each list rises by its nodes, so that a node's table is found by binary search.
-    unions: Vec<(NodeId, BTreeMap<(u64, &'a str), usize>)>,
+    unions: Vec<(NodeId, BTreeMap<(u64, u32), usize>)>,
     fields: Vec<(NodeId, BTreeMap<&'a str, usize>)>,
     symbols: Vec<(NodeId, BTreeMap<&'a str, usize>)>,
 }
@@ -30,6 +34,7 @@ impl<'a> Model for Names<'a> {
     ghost use Rattle.avro_schema.specs.declared.schema.Schema.{Schema};
     ghost use Rattle.avro_schema.specs.SeenSchema.{schema_nodes};
     ghost use Rattle.avro_resolve.specs.inside.NameTables.{AreUnionTables, AreFieldTables, AreSymbolTables};
+    ghost use Rattle.avro_resolve.specs.inside.NameNumbers.{AreNumbers};
 
     ghost Value = { Schema × Schema };
 
@@ -37,7 +42,8 @@ impl<'a> Model for Names<'a> {
 
     ghost view = { λ names. (names.writer.now, names.reader.now) };
 
-    ghost invariant = { λ names. AreUnionTables (schema_nodes names.reader.now) names.unions.items
+    ghost invariant = { λ names. AreNumbers (schema_nodes names.writer.now) (schema_nodes names.reader.now) names.numbers
+        × AreUnionTables names.numbers.table.simples (schema_nodes names.reader.now) names.unions.items
         × AreFieldTables (schema_nodes names.writer.now) names.fields.items
         × AreSymbolTables (schema_nodes names.reader.now) names.symbols.items };
 }
@@ -61,12 +67,14 @@ impl<'a> Names<'a> {
     pub fn new(alloc: Global, writer: &'a Schema, reader: &'a Schema) -> Result<Names<'a>, Memory>
         ensures { IfOk result (λ names. names ≡ (writer.now, reader.now)) }
     {
-        let unions = union_tables(alloc, reader)?;
+        let numbers = name_numbers(alloc, writer, reader)?;
+        let unions = union_tables(alloc, &numbers.table.simples, reader)?;
         let fields = field_tables(alloc, writer)?;
         let symbols = symbol_tables(alloc, reader)?;
         Ok(Names {
             writer,
             reader,
+            numbers,
             unions,
             fields,
             symbols,
@@ -80,6 +88,7 @@ impl<'a> Names<'a> {
         Names {
             writer,
             reader,
+            numbers: no_numbers(alloc),
             unions: Vec::new(alloc),
             fields: Vec::new(alloc),
             symbols: Vec::new(alloc),
@@ -93,7 +102,7 @@ impl<'a> Names<'a> {
             (node_at (schema_nodes self.now.0) w.0) (node_at (schema_nodes self.now.1) r.0) }
     {
         let start = self.start(w, r);
-        first_match_after(self.writer, w, self.reader, r, start)
+        first_match_after(Some(&self.numbers), self.writer, w, self.reader, r, start)
     }
 
     /// The index of the field of a writer's record that a reader's field takes its value from, as
@@ -125,7 +134,7 @@ impl<'a> Names<'a> {
             (node_at (schema_nodes self.now.0) w.0) (node_at (schema_nodes self.now.1) r.0) result }
     {
         let start = self.start(w, r);
-        aim_after(self.writer, w, self.reader, r, start)
+        aim_after(Some(&self.numbers), self.writer, w, self.reader, r, start)
     }
 
     /// The writer's schema.
@@ -147,6 +156,6 @@ impl<'a> Names<'a> {
         ensures { StartsAt (schema_nodes self.now.0) (schema_nodes self.now.1)
             (node_at (schema_nodes self.now.0) w.0) (node_at (schema_nodes self.now.1) r.0) result }
     {
-        start_by(&self.unions, self.writer, w, self.reader, r)
+        start_by(&self.unions, &self.numbers, self.writer, w, self.reader, r)
     }
 }

@@ -4,7 +4,7 @@ use Rattle.std.specs.List.{list_any}
 use Rattle.std.specs.Ordering.{nat_cmp, ordering_then}
 use Rattle.std.specs.Cmp.Lexicographic.{slice_cmp}
 use Rattle.std.specs.declared.cmp.Ordering.{Ordering}
-use Rattle.std.specs.BTreeMap.{BTreeMap, get}
+use Rattle.std.specs.BTreeMap.{BTreeMap, get, get_by}
 use denote.Ref.{Bor}
 use Rattle.avro_name.specs.Name.{Name}
 use Rattle.avro_schema.specs.Node.{Node, node_at, branches_of, symbols_of}
@@ -40,16 +40,34 @@ is_named kind simple t = t.kind == kind && has_simple simple (t.name ∷ t.alias
 abbrev pub passes : List Node → (NamedType → Bool) → ℕ → Bool
 passes reader test id = is_some_and test (named_type (node_at reader id))
 
--- a table's keys, and their order: by kinds first
+-- maps of texts to numbers
+abbrev pub NumberMap : Type 0
+NumberMap = BTreeMap (Bor (List ℕ)) ℕ
+
+abbrev pub number : NumberMap → List ℕ → Option ℕ
+number numbers text = get_by (λ k. slice_cmp nat_cmp text k.now) numbers
+
+abbrev pub is_number : ℕ → Option ℕ → Bool
+is_number k found = is_some_and (λ j. j == k) found
+
+-- one of some names has a simple part of this number
+abbrev pub has_number : NumberMap → ℕ → List Name → Bool
+has_number simples k names = list_any (λ n. is_number k (number simples n.simple)) names
+
+-- a type of this kind has a simple name of this number, or an alias with such a simple part
+abbrev pub is_numbered : NumberMap → ℕ → ℕ → NamedType → Bool
+is_numbered simples kind k t = t.kind == kind && has_number simples k (t.name ∷ t.aliases)
+
+-- a table's keys, two numbers each, and their order
 abbrev pub NameKey : Type 0
-NameKey = ℕ × Bor (List ℕ)
+NameKey = ℕ × ℕ
 
 abbrev pub key_cmp : NameKey → NameKey → Ordering
-key_cmp a b = ordering_then (nat_cmp a.0 b.0) (slice_cmp nat_cmp a.1.now b.1.now)
+key_cmp a b = ordering_then (nat_cmp a.0 b.0) (nat_cmp a.1 b.1)
 
--- a map finds the first branch of each kind and simple part, and no other
-abbrev pub FindsFirst : List Node → List ℕ → BTreeMap NameKey ℕ → Type 0
-FindsFirst reader ids first = (key : NameKey) → get key_cmp first key ≡ position (passes reader (is_named key.0 key.1.now)) ids
+-- a map finds the first branch of each kind and number of a simple name, and no other
+abbrev pub FindsFirst : NumberMap → List Node → List ℕ → BTreeMap NameKey ℕ → Type 0
+FindsFirst simples reader ids first = (key : NameKey) → get key_cmp first key ≡ position (passes reader (is_numbered simples key.0 key.1)) ids
 
 -- the branches of a node, and its symbols, and none where it has none
 abbrev pub branches_at : Node → List ℕ
@@ -59,8 +77,8 @@ abbrev pub symbols_at : Node → List (List ℕ)
 symbols_at n = unwrap_or (symbols_of n) []
 
 -- the tables of a reader's unions, of a writer's records, and of a reader's enums
-abbrev pub AreUnionTables : List Node → List (NodeId × BTreeMap NameKey ℕ) → Type 0
-AreUnionTables reader tables = EachTable (λ union_at first. FindsFirst reader (branches_at (node_at reader union_at)) first) tables
+abbrev pub AreUnionTables : NumberMap → List Node → List (NodeId × BTreeMap NameKey ℕ) → Type 0
+AreUnionTables simples reader tables = EachTable (λ union_at first. FindsFirst simples reader (branches_at (node_at reader union_at)) first) tables
 
 abbrev pub AreFieldTables : List Node → List (NodeId × BTreeMap (Bor (List ℕ)) ℕ) → Type 0
 AreFieldTables writer tables = EachTable (λ record_at names. FindsFields (fields_at (node_at writer record_at)) names) tables

@@ -1,13 +1,16 @@
-use Rattle.std.proofs.Common.{◌&&◌, ◌==◌, cond, List, Some, ap, ◌∙◌}
-use Rattle.std.specs.Prelude.{bytes_eq}
+use Rattle.std.proofs.Common.{◌≡◌, ℕ, List, ◌∙◌, ap, sym}
 use Rattle.std.specs.BTreeMap.{get}
-use Rattle.avro_resolve.specs.inside.NameTables.{key_cmp}
-use Rattle.avro_resolve.proofs.NamedKeys.{same_key}
+use Rattle.avro_resolve.specs.inside.NameTables.{key_cmp, number}
+use Rattle.avro_resolve.proofs.ByNumber.{branch_put, branch_none}
 use Rattle.avro_resolve.proofs.first_branches.add_name.Goals as goal
 
-pub returns : goal.returns
-returns c = λ key.
-    let before = get key_cmp c.args.first.now key in
-    c.in_ok-insert.ensures.updates.0 key
-    ∙ ap (λ same. cond same (Some c.args.branch) before)
-    (same_key (c.args.kind, c.simple.result) key ∙ ap (λ (simple : List _). c.args.kind == key.0 && bytes_eq key.1.now simple) c.simple.ensures.part)
+pub returns-in-None : goal.returns-in-None
+returns-in-None c = λ key.
+    branch_none (number c.args.simples.now c.args.name.now.simple) c.args.kind c.args.branch key (get key_cmp c.args.first.now key)
+    (sym (c.number.ensures ∙ ap (λ (text : List ℕ). number c.args.simples.now text) c.simple.ensures.part) ∙ c.in-None.is)
+
+pub returns-in_ok-insert-in-Some : goal.returns-in_ok-insert-in-Some
+returns-in_ok-insert-in-Some c = λ key.
+    branch_put (number c.args.simples.now c.args.name.now.simple) c.in-Some.simple c.args.kind c.args.branch key (get key_cmp c.args.first.now key) (get key_cmp c.insert.new.self key)
+    (sym (c.number.ensures ∙ ap (λ (text : List ℕ). number c.args.simples.now text) c.simple.ensures.part) ∙ c.in-Some.is)
+    (c.in_ok-insert-in-Some.ensures.updates.0 key)

@@ -1,9 +1,13 @@
 use Rattle.std.proofs.Common.{sym, subst}
-use Rattle.avro_schema.specs.Node.{node_at}
+use Rattle.avro_schema.specs.Node.{Node, node_at}
 use Rattle.avro_schema.specs.SeenSchema.{schema_nodes}
 use Rattle.avro_resolve.specs.Pairs.{IsStep}
+use Rattle.avro_resolve.specs.inside.NameNumbers.{TellsAlike}
 use Rattle.avro_resolve.proofs.Pairing.{node_unless}
 use Rattle.avro_resolve.proofs.matching.step.Goals as goal
+
+pub step_to-requires : goal.step_to-requires
+step_to-requires c = subst (λ (n : Node). TellsAlike n (node_at (schema_nodes c.args.reader.now) c.args.r.0) c.alike.result) (sym c.node.ensures) c.alike.ensures
 
 pub returns-then-has : goal.returns-then-has
 returns-then-has c =

@@ -1,9 +1,14 @@
 use Rattle.std.proofs.Common.{sym, subst}
+use Rattle.avro_schema.specs.Node.{Node}
 use Rattle.avro_schema.specs.Seen.{node_of}
 use Rattle.avro_schema.specs.SeenSchema.{schema_nodes}
 use Rattle.avro_resolve.specs.Pairs.{IsStep}
+use Rattle.avro_resolve.specs.inside.NameNumbers.{TellsAlike}
 use Rattle.avro_resolve.proofs.Pairing.{node_unless}
 use Rattle.avro_resolve.proofs.matching.step_to.Goals as goal
+
+pub step_of-requires : goal.step_of-requires
+step_of-requires c = subst (λ (n : Node). TellsAlike (node_of c.args.a.now) n c.args.known) (sym c.node.ensures) c.requires
 
 pub returns-then-has : goal.returns-then-has
 returns-then-has c = λ writer.

@@ -11,16 +11,16 @@ pub loop-index-init : goal.loop-index-init
 loop-index-init c =
     let ws = schema_nodes c.args.writer.now in
     let rs = schema_nodes c.args.reader.now in
-    c.requires (ids_of c.args.branches.now) refl ∙ ap (first_match_from c.args.start ws rs (node_at ws c.args.w.0)) (ids_from c.args.start c.args.branches.now)
+    c.requires.starts (ids_of c.args.branches.now) refl ∙ ap (first_match_from c.args.start ws rs (node_at ws c.args.w.0)) (ids_from c.args.start c.args.branches.now)
 
-pub returns-then-matches : goal.returns-then-matches
-returns-then-matches c =
+pub returns-then-matches_by : goal.returns-then-matches_by
+returns-then-matches_by c =
     let ws = schema_nodes c.args.writer.now in
     let rs = schema_nodes c.args.reader.now in
     let ids = c.args.branches.now in
     let i = c.loop-index.index in
     let got = slice_get-get_or ids i (record { 0 = 0 }) c.loop-index-test.true in
-    let yes = sym c.matches.ensures.test ∙ c.if-matches.true in (
+    let yes = sym c.matches_by.ensures ∙ c.if-matches_by.true in (
       c.loop-index.invariant ∙ found_here ws rs (node_at ws c.args.w.0) i i ids (slice_index_or ids i (record { 0 = 0 })) got yes,
       seen_get ids i (slice_index_or ids i (record { 0 = 0 })) got,
       yes,

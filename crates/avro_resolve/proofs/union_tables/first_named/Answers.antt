@@ -1,23 +1,21 @@
-use Rattle.std.proofs.Common.{◌≡◌, ◌≤◌, List, ◌∙◌, ap, sym, subst, rules}
+use Rattle.std.proofs.Common.{◌≡◌, ◌≤◌, ◌∙◌, ap, sym, subst, rules}
 use Rattle.std.specs.Prelude.{position}
 use Rattle.std.specs.List.{position_or_len}
 use Rattle.std.specs.BTreeMap.{get}
 use Rattle.avro_schema.specs.Seen.{ids_of}
-use Rattle.avro_resolve.specs.inside.NameTables.{NamedType, key_cmp, passes, is_named}
+use Rattle.avro_resolve.specs.inside.NameTables.{NamedType, key_cmp, passes, is_numbered}
 use Rattle.avro_resolve.proofs.NamedStarts.{first_or_end}
 use Rattle.avro_resolve.proofs.Pairing.{ids_count}
 use Rattle.avro_resolve.proofs.union_tables.first_named.Goals as goal
 
 pub returns : goal.returns
-returns c = λ reader finds.
+returns c = λ simples reader finds.
     let ids = ids_of c.args.branches.now in
-    let named = c.args.named.now in
+    let simple = c.args.simple in
     let inside = c.named.inside in
-    let is : c.copied.result ≡ get key_cmp c.args.first.now (inside.kind, c.simple.result) = search rules in
-    let test = passes reader (is_named named.kind named.name.simple) in
+    let is : c.copied.result ≡ get key_cmp c.args.first.now (inside.kind, simple) = search rules in
+    let test = passes reader (is_numbered simples c.args.named.now.kind simple) in
     subst (λ n. n ≤ position_or_len test ids) (sym c.unwrap_or.ensures)
     (first_or_end test ids c.copied.result _
-    (is ∙ finds (inside.kind, c.simple.result)
-    ∙ ap (λ (simple : List _). position (passes reader (is_named inside.kind simple)) ids) c.simple.ensures.part
-    ∙ ap (λ (t : NamedType). position (passes reader (is_named t.kind t.name.simple)) ids) c.named.view_is)
+    (is ∙ finds (inside.kind, simple) ∙ ap (λ (t : NamedType). position (passes reader (is_numbered simples t.kind simple)) ids) c.named.view_is)
     (sym (ids_count c.args.branches.now)))

@@ -1,7 +1,0 @@
-use Rattle.std.proofs.Common.{◌≡◌, drop}
-use Rattle.std.specs.List.{list_any}
-use Rattle.avro_name.specs.Name.{same_name}
-use Rattle.avro_resolve.proofs.matching.are_alike.Given as goal
-
-abbrev pub invariant-loop-alias : goal.invariant-loop-alias
-invariant-loop-alias l = list_any (same_name l.writer) l.aliases ≡ list_any (same_name l.writer) (drop l.alias-index l.aliases)
