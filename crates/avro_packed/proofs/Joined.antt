@@ -1,7 +1,7 @@
 -- Pieces one behind another, and what they are the plain encoding of.
-use Rattle.std.proofs.Common.{◌≡◌, ℕ, suc, ◌+◌, List, [], ◌∷◌, ◌++◌, length, map, refl, sym, ap, ◌∙◌, append_assoc, arith}
+use Rattle.std.proofs.Common.{◌≡◌, ℕ, suc, ◌+◌, List, [], ◌∷◌, ◌++◌, length, refl, sym, ap, ◌∙◌, append_assoc, arith}
 use Rattle.std.specs.Prelude.{Result, Ok, Err, OnOk}
-use Rattle.std.specs.List.{AllZip, concat}
+use Rattle.std.specs.List.{AllZip}
 use Rattle.std.specs.Global.{Vec}
 use Rattle.std.proofs.lemmas.List.{append-nil, length-append}
 use Rattle.avro_schema.specs.Value.{Value, values_count, entries_count}
@@ -48,11 +48,11 @@ entry_is_added (Err e) count more ps new before key first p es v one are named i
 entry_is_added (Ok u) count more ps new before key first p es v one are named is kept added =
     (omega (arith, one, are.0, length-append es ((key, v) ∷ [])), cc (added, kept, are.1, named, is, entries_with_one es key v))
 
-values_count-length : (vs : List Value) → values_count (values_from vs) ≡ length vs
+pub values_count-length : (vs : List Value) → values_count (values_from vs) ≡ length vs
 values_count-length [] = refl
 values_count-length (v ∷ vs) = ap suc (values_count-length vs)
 
-entries_count-length : (es : List (List ℕ × Value)) → entries_count (entries_from es) ≡ length es
+pub entries_count-length : (es : List (List ℕ × Value)) → entries_count (entries_from es) ≡ length es
 entries_count-length [] = refl
 entries_count-length (e ∷ es) = ap suc (entries_count-length es)
 

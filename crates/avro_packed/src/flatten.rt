@@ -65,7 +65,8 @@ fn append_each(parts: &[Pieces], out: &mut Vec<u8>) -> Result<(), AllocError>
 }
 
 /// Appends a byte.
-fn append_byte(byte: u8, out: &mut Vec<u8>) -> Result<(), AllocError>
+#[inline(always)]
+pub(crate) fn append_byte(byte: u8, out: &mut Vec<u8>) -> Result<(), AllocError>
     ensures appended { OnOk result (out.new.items ≡ out.old.items ++ byte ∷ []) }
     ensures kept { take (length out.old.items) out.new.items ≡ out.old.items }
 {
@@ -74,7 +75,8 @@ fn append_byte(byte: u8, out: &mut Vec<u8>) -> Result<(), AllocError>
 }
 
 /// Appends a number in its shortest spelling.
-fn append_number(number: i64, out: &mut Vec<u8>) -> Result<(), AllocError>
+#[inline(always)]
+pub(crate) fn append_number(number: i64, out: &mut Vec<u8>) -> Result<(), AllocError>
     ensures appended { OnOk result (out.new.items ≡ out.old.items ++ number_bytes number) }
     ensures kept { take (length out.old.items) out.new.items ≡ out.old.items }
 {

@@ -1,0 +1,72 @@
+-- What is gathered of items and entries, and what is moved.
+use Rattle.std.proofs.Common.{◌≡◌, ℕ, zero, suc, ◌+◌, List, [], ◌∷◌, ◌++◌, length, Option, refl, sym, ap, subst, ◌∙◌, append_assoc, arith, if◌then◌else◌}
+use Rattle.std.specs.Prelude.{Result, Ok, Err, OnOk, is_ok, pos}
+use Rattle.std.proofs.lemmas.List.{length-append}
+use Rattle.avro_schema.specs.Value.{Value}
+use Rattle.avro_schema.specs.Seen.{values_from, entries_from}
+use Rattle.avro_binary.specs.Encoding.{plain, plain_bytes, plain_blocks, plain_values, plain_entries}
+use Rattle.avro_packed.specs.Appended.{AreItems, AreEntries, Holds, StandsAt, branch_bytes}
+use Rattle.avro_zigzag.specs.Number.{number_bytes}
+use Rattle.avro_packed.specs.inside.Outputs.{stands_last}
+use Rattle.avro_packed.specs.declared.gathered.Gathered.{Gathered}
+use Rattle.avro_packed.specs.declared.written.Written.{Written}
+use Rattle.avro_packed.proofs.Joined.{values_with_one, entries_with_one, values_count-length, entries_count-length}
+
+-- one more item, and one more entry
+pub item_gathered : {T E : Type 0} (r : Result T E) (out : List ℕ) (at branch : Option ℕ) (count : ℕ) (new : Written) (old : Gathered) (vs : List Value) (v : Value)
+    → AreItems out at old vs → branch ≡ old.branch → count ≡ old.count + 1 → OnOk r (Holds out new (plain_values (values_from vs) ++ plain v))
+    → OnOk r ((branch ≡ at) × (count ≡ length (vs ++ v ∷ [])) × Holds out new (plain_values (values_from (vs ++ v ∷ []))))
+item_gathered (Err e) out at branch count new old vs v are same one holds = tt
+item_gathered (Ok u) out at branch count new old vs v are same one holds =
+    (same ∙ are.0, omega (arith, one, are.1, length-append vs (v ∷ [])), subst (λ (l : List ℕ). Holds out new l) (sym (values_with_one vs v)) holds)
+
+pub entry_gathered : {T E : Type 0} (r : Result T E) (out : List ℕ) (at branch : Option ℕ) (count : ℕ) (key : List ℕ) (new : Written) (old : Gathered) (es : List (List ℕ × Value)) (v : Value)
+    → AreEntries out at old es → branch ≡ old.branch → count ≡ old.count + 1 → OnOk r (Holds out new ((plain_entries (entries_from es) ++ plain_bytes key) ++ plain v))
+    → OnOk r ((branch ≡ at) × (count ≡ length (es ++ (key, v) ∷ [])) × Holds out new (plain_entries (entries_from (es ++ (key, v) ∷ []))))
+entry_gathered (Err e) out at branch count key new old es v are same one holds = tt
+entry_gathered (Ok u) out at branch count key new old es v are same one holds =
+    (same ∙ are.0, omega (arith, one, are.1, length-append es ((key, v) ∷ [])), subst (λ (l : List ℕ). Holds out new l) (sym (entries_with_one es key v)) holds)
+
+-- the one block of all
+pub block_of_items : (out : List ℕ) (at : Option ℕ) (g : Gathered) (vs : List Value) → AreItems out at g vs
+    → branch_bytes g.branch ++ plain_blocks g.count (plain_values (values_from vs)) ≡ branch_bytes at ++ plain (Value.array (values_from vs))
+block_of_items out at g vs are =
+    ap (λ b. branch_bytes b ++ plain_blocks g.count (plain_values (values_from vs))) are.0
+    ∙ ap (λ n. branch_bytes at ++ plain_blocks n (plain_values (values_from vs))) (are.1 ∙ sym (values_count-length vs))
+
+pub block_of_entries : (out : List ℕ) (at : Option ℕ) (g : Gathered) (es : List (List ℕ × Value)) → AreEntries out at g es
+    → branch_bytes g.branch ++ plain_blocks g.count (plain_entries (entries_from es)) ≡ branch_bytes at ++ plain (Value.map_of (entries_from es))
+block_of_entries out at g es are =
+    ap (λ b. branch_bytes b ++ plain_blocks g.count (plain_entries (entries_from es))) are.0
+    ∙ ap (λ n. branch_bytes at ++ plain_blocks n (plain_entries (entries_from es))) (are.1 ∙ sym (entries_count-length es))
+
+-- more behind what was moved
+pub moved_behind : {T E : Type 0} (r : Result T E) (old mid new front more bytes : List ℕ) → mid ≡ old ++ front → bytes ≡ front ++ more
+    → new ≡ (if is_ok r then mid ++ more else mid) → OnOk r (new ≡ old ++ bytes)
+moved_behind (Err e) old mid new front more bytes is splits added = tt
+moved_behind (Ok u) old mid new front more bytes is splits added =
+    added ∙ ap (λ (l : List ℕ). l ++ more) is ∙ append_assoc old front more ∙ ap (λ (l : List ℕ). old ++ l) (sym splits)
+
+-- one more field
+pub field_behind : {T E : Type 0} (r : Result T E) (front : List ℕ) (vs : List Value) (v : Value) (P : List ℕ → Type 0)
+    → OnOk r (P ((front ++ plain_values (values_from vs)) ++ plain v)) → OnOk r (P (front ++ plain_values (values_from (vs ++ v ∷ []))))
+field_behind r front vs v P h =
+    subst (λ (l : List ℕ). OnOk r (P l))
+    (append_assoc front (plain_values (values_from vs)) (plain v) ∙ ap (λ (l : List ℕ). front ++ l) (sym (values_with_one vs v))) h
+
+blocks_some : (count : ℕ) (bytes : List ℕ) → (count ≡ 0 → ⊥) → plain_blocks count bytes ≡ (number_bytes (pos count) ++ bytes) ++ 0 ∷ []
+blocks_some zero bytes some = absurd (some refl)
+blocks_some (suc count) bytes some = refl
+
+-- a number in the output, and behind it the items and the end in a room of their own
+pub block_apart : (out old front k items all bytes : List ℕ) (count start end : ℕ) → out ≡ (old ++ front) ++ k → start ≡ length old → end ≡ length out
+    → k ≡ number_bytes (pos count) → (count ≡ 0 → ⊥) → all ≡ items ++ 0 ∷ [] → items ≡ bytes
+    → (x : List ℕ) × StandsAt out start end x × (front ++ plain_blocks count bytes ≡ x ++ all)
+block_apart out old front k items all bytes count start end split starts ends named some added is = (
+  front ++ k,
+  stands_last out old (front ++ k) start end (split ∙ append_assoc old front k) starts ends,
+  ap (λ (l : List ℕ). front ++ l)
+      (blocks_some count bytes some ∙ ap (λ (n : List ℕ). (n ++ bytes) ++ 0 ∷ []) (sym named) ∙ ap (λ (i : List ℕ). (k ++ i) ++ 0 ∷ []) (sym is)
+      ∙ append_assoc k items (0 ∷ []) ∙ ap (λ (a : List ℕ). k ++ a) (sym added))
+      ∙ sym (append_assoc front k all),
+)

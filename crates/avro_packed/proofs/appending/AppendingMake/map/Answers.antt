@@ -1,0 +1,12 @@
+use Rattle.std.proofs.Common.{List, ℕ, subst}
+use Rattle.std.specs.Prelude.{IfOk}
+use Rattle.avro_schema.specs.Seen.{entries_from}
+use Rattle.avro_binary.specs.Encoding.{plain_entries}
+use Rattle.avro_packed.specs.Appended.{Holds}
+use Rattle.avro_packed.proofs.Gathering.{block_of_entries}
+use Rattle.avro_packed.proofs.appending.AppendingMake.map.Goals as goal
+
+pub returns-clause-stands : goal.returns-clause-stands
+returns-clause-stands c = λ nodes id at es are.
+    subst (λ (bytes : List ℕ). IfOk c.block.result (λ out. Holds c.block.new.self out bytes)) (block_of_entries c.args.self.now at c.args.entries es are)
+    (c.block.ensures.holds (plain_entries (entries_from es)) are.2)

@@ -1,0 +1,43 @@
+-- Where the bytes of a part of an encoding stand, while data are read into an output.
+use Rattle.std.specs.Prelude.{◌≡◌, ℕ, ◌+◌, List, [], ◌++◌, length, Option, None, Some, pos}
+use Rattle.avro_zigzag.specs.Number.{number_bytes}
+use Rattle.avro_schema.specs.Value.{Value}
+use Rattle.avro_schema.specs.Seen.{values_from, entries_from}
+use Rattle.avro_binary.specs.Encoding.{plain_values, plain_entries}
+use Rattle.avro_packed.specs.declared.gathered.Gathered.{Gathered}
+use Rattle.avro_packed.specs.declared.written.Written.{Written}
+
+-- an output has more behind what it had
+pub record Grows (before after : List ℕ) : Type 0 where
+  pub more : List ℕ
+  pub grown : after ≡ before ++ more
+
+-- these bytes stand in an output from one offset to another
+pub record StandsAt (out : List ℕ) (start end : ℕ) (bytes : List ℕ) : Type 0 where
+  pub before : List ℕ
+  pub rest : List ℕ
+  pub split : out ≡ before ++ bytes ++ rest
+  pub starts : start ≡ length before
+  pub ends : end ≡ start + length bytes
+
+-- what was written are these bytes
+abbrev pub Holds : List ℕ → Written → List ℕ → Type 0
+Holds out (Written.Range start end) bytes = StandsAt out start end bytes
+Holds out (Written.Apart start end more) bytes = (front : List ℕ) × StandsAt out start end front × (bytes ≡ front ++ more.items)
+
+-- the index of the branch that a value goes into, where there is one
+abbrev pub branch_bytes : Option ℕ → List ℕ
+branch_bytes None = []
+branch_bytes (Some k) = number_bytes (pos k)
+
+-- what the value of a branch is for: within another branch its own index is written by the union itself
+abbrev pub branch_in : Option ℕ → ℕ → Option ℕ
+branch_in None branch = Some branch
+branch_in (Some outer) branch = None
+
+-- so many items, and so many entries, that go into this branch
+abbrev pub AreItems : List ℕ → Option ℕ → Gathered → List Value → Type 0
+AreItems out at items vs = (items.branch ≡ at) × (items.count ≡ length vs) × Holds out items.written (plain_values (values_from vs))
+
+abbrev pub AreEntries : List ℕ → Option ℕ → Gathered → List (List ℕ × Value) → Type 0
+AreEntries out at entries es = (entries.branch ≡ at) × (entries.count ≡ length es) × Holds out entries.written (plain_entries (entries_from es))

@@ -1,0 +1,82 @@
+-- Outputs that grow, and what stands in them.
+use Rattle.std.proofs.Common.{◌≡◌, ℕ, List, [], ◌∷◌, ◌++◌, ◌-◌, ◌≤◌, length, take, drop, refl, sym, ap, ◌∙◌, append_assoc, length-append, arith}
+use Rattle.std.proofs.lemmas.List.{append-nil, take_at, drop_at}
+use Rattle.avro_packed.specs.Appended.{Grows, StandsAt, Holds}
+use Rattle.avro_packed.specs.declared.written.Written.{Written}
+
+pub grows_none : (s : List ℕ) → Grows s s
+grows_none s = record { more = []; grown = sym (append-nil s) }
+
+pub grows_on : (s t u : List ℕ) → Grows s t → Grows t u → Grows s u
+grows_on s t u before after = record {
+  more = before.more ++ after.more;
+  grown = after.grown ∙ ap (λ (l : List ℕ). l ++ after.more) before.grown ∙ append_assoc s before.more after.more;
+}
+
+pub stands_still : (s t : List ℕ) (start end : ℕ) (bytes : List ℕ) → Grows s t → StandsAt s start end bytes → StandsAt t start end bytes
+stands_still s t start end bytes kept stand = record {
+  before = stand.before;
+  rest = stand.rest ++ kept.more;
+  split = kept.grown ∙ ap (λ (l : List ℕ). l ++ kept.more) stand.split ∙ append_assoc (stand.before ++ bytes) stand.rest kept.more;
+  starts = stand.starts;
+  ends = stand.ends;
+}
+
+pub still_holds : (s t : List ℕ) (w : Written) (bytes : List ℕ) → Grows s t → Holds s w bytes → Holds t w bytes
+still_holds s t (Written.Range start end) bytes kept holds = stands_still s t start end bytes kept holds
+still_holds s t (Written.Apart start end more) bytes kept holds = (holds.0, stands_still s t start end holds.0 kept holds.1, holds.2)
+
+-- the end of an output
+pub stands_last : (out before bytes : List ℕ) (start end : ℕ) → out ≡ before ++ bytes → start ≡ length before → end ≡ length out → StandsAt out start end bytes
+stands_last out before bytes start end split starts ends = record {
+  before = before;
+  rest = [];
+  split = split ∙ sym (append-nil (before ++ bytes));
+  starts = starts;
+  ends = omega (arith, ends, starts, ap length split, length-append before bytes);
+}
+
+-- what stands in an output, as it is taken of it
+pub taken_at : (out : List ℕ) (start end : ℕ) (bytes : List ℕ) → StandsAt out start end bytes → take (end - start) (drop start out) ≡ bytes
+taken_at out start end bytes stand =
+    let back : drop start out ≡ bytes ++ stand.rest =
+    ap (drop start) (stand.split ∙ append_assoc stand.before bytes stand.rest) ∙ drop_at stand.before (bytes ++ stand.rest) start (sym stand.starts) in
+    ap (take (end - start)) back ∙ take_at bytes stand.rest (end - start) (omega (arith, stand.ends))
+
+pub ends_inside : (out : List ℕ) (start end : ℕ) (bytes : List ℕ) → StandsAt out start end bytes → (start ≤ end) × (end ≤ length out)
+ends_inside out start end bytes stand = (
+  omega (arith, stand.ends),
+  omega (arith, stand.ends, stand.starts, ap length stand.split, length-append (stand.before ++ bytes) stand.rest, length-append stand.before bytes),
+)
+
+-- two parts of which one ends where the other starts
+pub stands_joined : (out : List ℕ) (start middle end : ℕ) (a b : List ℕ) → StandsAt out start middle a → StandsAt out middle end b → StandsAt out start end (a ++ b)
+stands_joined out start middle end a b first second =
+    let lengths : length second.before ≡ length (first.before ++ a) = omega (arith, first.starts, first.ends, second.starts, length-append first.before a) in
+    let front : second.before ≡ first.before ++ a =
+    sym (take_at second.before (b ++ second.rest) (length second.before) refl)
+    ∙ ap (take (length second.before)) (sym (second.split ∙ append_assoc second.before b second.rest) ∙ first.split)
+    ∙ take_at (first.before ++ a) first.rest (length second.before) (sym lengths) in
+    record {
+      before = first.before;
+      rest = second.rest;
+      split = second.split ∙ ap (λ (l : List ℕ). (l ++ b) ++ second.rest) front ∙ ap (λ (l : List ℕ). l ++ second.rest) (append_assoc first.before a b);
+      starts = first.starts;
+      ends = omega (arith, first.ends, second.ends, length-append a b);
+    }
+
+-- what was written is joined with what starts where it ends
+pub holds_joined : (out : List ℕ) (start middle end : ℕ) (more : List ℕ) (a b front : List ℕ) → StandsAt out start middle a → StandsAt out middle end front → b ≡ front ++ more
+    → (whole : List ℕ) × StandsAt out start end whole × (a ++ b ≡ whole ++ more)
+holds_joined out start middle end more a b front first second is =
+    (a ++ front, stands_joined out start middle end a front first second, ap (λ (l : List ℕ). a ++ l) is ∙ sym (append_assoc a front more))
+
+-- what stands between two offsets that are one has no bytes
+pub none_between : (out : List ℕ) (start end : ℕ) (bytes : List ℕ) → StandsAt out start end bytes → start ≡ end → bytes ≡ []
+none_between out start end [] stand same = refl
+none_between out start end (b ∷ bytes) stand same = absurd (omega (arith, stand.ends, same))
+
+-- what was written apart, where the output has nothing of it
+pub apart_alone : (out : List ℕ) (start end : ℕ) (more bytes front : List ℕ) → StandsAt out start end front → bytes ≡ front ++ more → start ≡ end → more ≡ bytes
+apart_alone out start end more bytes front stand is same =
+    sym (is ∙ ap (λ (l : List ℕ). l ++ more) (none_between out start end front stand same))

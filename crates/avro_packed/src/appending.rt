@@ -1,0 +1,403 @@
+//! The maker that appends the plain encoding of what is read.
+
+ghost use Rattle.std.specs.Prelude.{◌≡◌, ◌++◌, [], ◌∷◌, List, ℕ, IfOk, OnOk, length, pos};
+ghost use Rattle.avro_zigzag.specs.Number.{number_bytes};
+ghost use Rattle.avro_binary.specs.Encoding.{plain_bytes, plain_blocks};
+ghost use Rattle.avro_packed.specs.Appended.{Grows, Holds, branch_bytes};
+
+use crate::flatten::{append_byte, append_number};
+use crate::gathered::Gathered;
+use crate::moving::{append_written, give_back, in_room, join, join_key};
+use crate::written::Written;
+use avro_binary::Make;
+use std::alloc::{AllocError, Global};
+use std::marker::Model;
+
+/// Appends the plain encoding of what is read to an output of its own, as it is read. What is for a branch of a union has
+/// the index of the branch in front.
+///
+/// Items of arrays and entries of maps are moved into a room of their own, since their number stands before them. Rooms are
+/// kept for later.
+#[derive(Drop)]
+pub struct Appending {
+    out: Vec<u8>,
+    spares: Vec<Vec<u8>>,
+}
+
+impl Model for Appending {
+    ghost use Rattle.std.specs.Prelude.{ℕ, List};
+
+    ghost Value = { List ℕ };
+
+    ghost view = { λ a. a.out.items };
+}
+
+impl Appending {
+    /// A maker whose output is empty.
+    pub fn new(alloc: Global) -> Appending
+        ensures { result ≡ [] }
+    {
+        Appending {
+            out: Vec::new(alloc),
+            spares: Vec::new(alloc),
+        }
+    }
+
+    /// Empties the output.
+    pub fn clear(&mut self)
+        ensures { self.new ≡ [] }
+    {
+        self.out.clear();
+    }
+
+    /// Appends what was written behind other bytes.
+    ///
+    /// # Errors
+    ///
+    /// Memory ran out.
+    pub fn append(&self, written: &Written, to: &mut Vec<u8>) -> Result<(), AllocError>
+        ensures { (bytes : List ℕ) → Holds self.now written.now bytes → OnOk result (to.new.items ≡ to.old.items ++ bytes) }
+    {
+        append_written(&self.out, written, to)
+    }
+
+    /// Keeps the room of what was written for later.
+    pub fn keep_room(&mut self, written: Written)
+        ensures { self.new ≡ self.old }
+    {
+        give_back(&mut self.spares, written);
+    }
+
+    /// Writes the index of a branch, where there is one, and answers where.
+    #[inline(always)]
+    fn begin(&mut self, branch: Option<u32>) -> Result<usize, AllocError>
+        ensures begun { OnOk result (self.new ≡ self.old ++ branch_bytes branch) }
+        ensures start { IfOk result (λ start. start ≡ length self.old) }
+    {
+        let start = self.out.len();
+        match branch {
+            Some(branch) => append_number(i64::from(branch), &mut self.out)?,
+            None => {}
+        }
+        Ok(start)
+    }
+
+    /// What was written from an offset on.
+    #[inline(always)]
+    fn since(&self, start: usize) -> Written
+        ensures { (before bytes : List ℕ) → self.now ≡ before ++ bytes → start ≡ length before → Holds self.now result bytes }
+    {
+        Written::Range(start, self.out.len())
+    }
+
+    /// Writes a number.
+    #[inline(always)]
+    fn number(&mut self, branch: Option<u32>, value: i64) -> Result<Written, AllocError>
+        ensures kept { OnOk result (Grows self.old self.new) }
+        ensures holds { IfOk result (λ out. Holds self.new out (branch_bytes branch ++ number_bytes value)) }
+    {
+        let start = self.begin(branch)?;
+        append_number(value, &mut self.out)?;
+        Ok(self.since(start))
+    }
+
+    /// Writes a length, and the bytes.
+    #[inline(always)]
+    fn measured(&mut self, branch: Option<u32>, content: &[u8]) -> Result<Written, AllocError>
+        ensures kept { OnOk result (Grows self.old self.new) }
+        ensures holds { IfOk result (λ out. Holds self.new out (branch_bytes branch ++ plain_bytes content.now)) }
+    {
+        let start = self.begin(branch)?;
+        append_number(content.len() as i64, &mut self.out)?;
+        self.out.extend_from_slice(content)?;
+        Ok(self.since(start))
+    }
+
+    /// No items or entries.
+    #[inline(always)]
+    fn gather(&self, branch: Option<u32>) -> Gathered
+        ensures branch { result.branch ≡ branch }
+        ensures count { result.count ≡ 0 }
+        ensures written { Holds self.now result.written [] }
+    {
+        let written = self.since(self.out.len());
+        Gathered {
+            branch,
+            count: 0,
+            written,
+        }
+    }
+
+    /// The one block of items or entries, where there are some, and the end.
+    fn block(&mut self, alloc: Global, gathered: Gathered) -> Result<Written, AllocError>
+        ensures kept { OnOk result (Grows self.old self.new) }
+        ensures holds { (bytes : List ℕ) → Holds self.old gathered.written bytes
+            → IfOk result (λ out. Holds self.new out (branch_bytes gathered.branch ++ plain_blocks gathered.count bytes)) }
+    {
+        if gathered.count == 0 {
+            let start = self.begin(gathered.branch)?;
+            append_byte(0, &mut self.out)?;
+            return Ok(self.since(start));
+        }
+        match i64::try_from(gathered.count) {
+            Ok(count) => {
+                let mut bytes = in_room(alloc, &self.out, &mut self.spares, gathered.written)?;
+                append_byte(0, &mut bytes)?;
+                let start = self.begin(gathered.branch)?;
+                append_number(count, &mut self.out)?;
+                Ok(Written::Apart(start, self.out.len(), bytes))
+            }
+            Err(_) => Err(AllocError),
+        }
+    }
+}
+
+impl Make for Appending {
+    ghost use Rattle.std.specs.Prelude.{◌≡◌, ◌++◌, List, ℕ, Option, None, Some, length, refl};
+    ghost use Rattle.avro_schema.specs.Node.{Node, FieldNode};
+    ghost use Rattle.avro_schema.specs.Seen.{values_from, entries_from};
+    ghost use Rattle.avro_schema.specs.Value.{Value};
+    ghost use Rattle.avro_binary.specs.Encoding.{plain, plain_values, plain_entries};
+    ghost use Rattle.avro_packed.specs.Appended.{Grows, Holds, branch_bytes, AreItems, AreEntries, branch_in};
+    ghost use Rattle.avro_packed.specs.inside.Outputs.{grows_none, grows_on, still_holds};
+
+    type At = Option<u32>;
+
+    type Out = Written;
+
+    type Items = Gathered;
+
+    type Entries = Gathered;
+
+    type Fields = Written;
+
+    ghost keeps = { Grows };
+
+    ghost stands_for = { λ m nodes n at out v. Holds m out (branch_bytes at ++ plain v) };
+
+    ghost items_stand_for = { λ m nodes id at items vs. AreItems m at items vs };
+
+    ghost entries_stand_for = { λ m nodes id at entries es. AreEntries m at entries es };
+
+    ghost fields_stand_for = { λ m nodes fs at fields vs. Holds m fields (branch_bytes at ++ plain_values (values_from vs)) };
+
+    ghost branch_at = { λ _ at branch. branch_in at branch };
+
+    ghost item_at = { λ _ items. None };
+
+    ghost entry_at = { λ _ entries. None };
+
+    ghost field_at = { λ _ fields. None };
+
+    ghost keeps_itself = { grows_none };
+
+    ghost keeps_on = { grows_on };
+
+    ghost items_kept = { λ s t nodes id at items vs kept stand. (stand.0, stand.1, still_holds s t items.written (plain_values (values_from vs)) kept stand.2) };
+
+    ghost entries_kept = { λ s t nodes id at entries es kept stand. (stand.0, stand.1, still_holds s t entries.written (plain_entries (entries_from es)) kept stand.2) };
+
+    ghost fields_kept = { λ s t nodes fs at fields vs kept stand. still_holds s t fields (branch_bytes at ++ plain_values (values_from vs)) kept stand };
+
+    ghost branch_at_kept = { λ s t at branch kept. refl };
+
+    ghost item_at_kept = { λ s t items kept. refl };
+
+    ghost entry_at_kept = { λ s t entries kept. refl };
+
+    ghost field_at_kept = { λ s t fields kept. refl };
+
+    #[inline(always)]
+    fn null(&mut self, _alloc: Global, at: Option<u32>) -> Result<Written, AllocError> {
+        let start = self.begin(at)?;
+        Ok(self.since(start))
+    }
+
+    #[inline(always)]
+    fn boolean(
+        &mut self,
+        _alloc: Global,
+        at: Option<u32>,
+        value: bool,
+    ) -> Result<Written, AllocError> {
+        let start = self.begin(at)?;
+        append_byte(u8::from(value), &mut self.out)?;
+        Ok(self.since(start))
+    }
+
+    #[inline(always)]
+    fn int(&mut self, _alloc: Global, at: Option<u32>, value: i32) -> Result<Written, AllocError> {
+        self.number(at, i64::from(value))
+    }
+
+    #[inline(always)]
+    fn long(&mut self, _alloc: Global, at: Option<u32>, value: i64) -> Result<Written, AllocError> {
+        self.number(at, value)
+    }
+
+    #[inline(always)]
+    fn bytes(
+        &mut self,
+        _alloc: Global,
+        at: Option<u32>,
+        content: &[u8],
+    ) -> Result<Written, AllocError> {
+        self.measured(at, content)
+    }
+
+    #[inline(always)]
+    fn string(
+        &mut self,
+        _alloc: Global,
+        at: Option<u32>,
+        text: &str,
+    ) -> Result<Written, AllocError> {
+        self.measured(at, text.as_bytes())
+    }
+
+    #[inline(always)]
+    fn fixed(
+        &mut self,
+        _alloc: Global,
+        at: Option<u32>,
+        content: &[u8],
+    ) -> Result<Written, AllocError> {
+        let start = self.begin(at)?;
+        self.out.extend_from_slice(content)?;
+        Ok(self.since(start))
+    }
+
+    #[inline(always)]
+    fn symbol(
+        &mut self,
+        _alloc: Global,
+        at: Option<u32>,
+        index: u32,
+    ) -> Result<Written, AllocError> {
+        self.number(at, i64::from(index))
+    }
+
+    #[inline(always)]
+    fn branch_at(&self, at: Option<u32>, branch: u32) -> Option<u32> {
+        match at {
+            None => Some(branch),
+            Some(_) => None,
+        }
+    }
+
+    #[inline(always)]
+    fn branch(
+        &mut self,
+        alloc: Global,
+        at: Option<u32>,
+        branch: u32,
+        value: Written,
+    ) -> Result<Written, AllocError> {
+        match at {
+            None => Ok(value),
+            Some(outer) => {
+                // no schema has a union within a union
+                let mut out = self.number(Some(outer), i64::from(branch))?;
+                join(alloc, &self.out, &mut self.spares, &mut out, value)?;
+                Ok(out)
+            }
+        }
+    }
+
+    #[inline(always)]
+    fn items(&mut self, _alloc: Global, at: Option<u32>) -> Result<Gathered, AllocError> {
+        Ok(self.gather(at))
+    }
+
+    #[inline(always)]
+    fn item_at(&self, _items: &Gathered) -> Option<u32> {
+        None
+    }
+
+    #[inline(always)]
+    fn item(
+        &mut self,
+        alloc: Global,
+        items: &mut Gathered,
+        value: Written,
+    ) -> Result<(), AllocError> {
+        items.count_one()?;
+        join(
+            alloc,
+            &self.out,
+            &mut self.spares,
+            &mut items.written,
+            value,
+        )
+    }
+
+    #[inline(always)]
+    fn array(&mut self, alloc: Global, items: Gathered) -> Result<Written, AllocError> {
+        self.block(alloc, items)
+    }
+
+    #[inline(always)]
+    fn entries(&mut self, _alloc: Global, at: Option<u32>) -> Result<Gathered, AllocError> {
+        Ok(self.gather(at))
+    }
+
+    #[inline(always)]
+    fn entry_at(&self, _entries: &Gathered) -> Option<u32> {
+        None
+    }
+
+    #[inline(always)]
+    fn entry(
+        &mut self,
+        alloc: Global,
+        entries: &mut Gathered,
+        key: &str,
+        value: Written,
+    ) -> Result<(), AllocError> {
+        entries.count_one()?;
+        join_key(
+            alloc,
+            &mut self.spares,
+            &mut entries.written,
+            key.as_bytes(),
+        )?;
+        join(
+            alloc,
+            &self.out,
+            &mut self.spares,
+            &mut entries.written,
+            value,
+        )
+    }
+
+    #[inline(always)]
+    fn map(&mut self, alloc: Global, entries: Gathered) -> Result<Written, AllocError> {
+        self.block(alloc, entries)
+    }
+
+    #[inline(always)]
+    fn fields(&mut self, _alloc: Global, at: Option<u32>) -> Result<Written, AllocError> {
+        let start = self.begin(at)?;
+        Ok(self.since(start))
+    }
+
+    #[inline(always)]
+    fn field_at(&self, _fields: &Written) -> Option<u32> {
+        None
+    }
+
+    #[inline(always)]
+    fn field(
+        &mut self,
+        alloc: Global,
+        fields: &mut Written,
+        value: Written,
+    ) -> Result<(), AllocError> {
+        join(alloc, &self.out, &mut self.spares, fields, value)
+    }
+
+    #[inline(always)]
+    fn record(&mut self, _alloc: Global, fields: Written) -> Result<Written, AllocError> {
+        Ok(fields)
+    }
+}

@@ -1,0 +1,30 @@
+use crate::written::Written;
+use std::alloc::AllocError;
+
+/// Items or entries one behind another, how many they are, and the branch that they go into, where there is one.
+#[derive(Debug, Drop)]
+pub struct Gathered {
+    pub(crate) branch: Option<u32>,
+    pub(crate) count: u64,
+    pub(crate) written: Written,
+}
+
+impl Gathered {
+    ghost use Rattle.std.specs.Prelude.{◌≡◌, ◌+◌, OnOk};
+
+    /// Counts one more. A count that no block can have is refused.
+    #[inline(always)]
+    pub(crate) fn count_one(&mut self) -> Result<(), AllocError>
+        ensures count { OnOk result (self.new.count ≡ self.old.count + 1) }
+        ensures branch { self.new.branch ≡ self.old.branch }
+        ensures written { self.new.written ≡ self.old.written }
+    {
+        match self.count.checked_add(1) {
+            Some(count) => {
+                self.count = count;
+                Ok(())
+            }
+            None => Err(AllocError),
+        }
+    }
+}

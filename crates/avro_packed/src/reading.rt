@@ -1,0 +1,42 @@
+//! Reading a datum, and appending its plain encoding.
+
+ghost use Rattle.std.specs.Prelude.{◌≡◌, ◌++◌, ◌≤◌, true, length, take, IfOk};
+ghost use Rattle.std.specs.Result.{IfErr};
+ghost use Rattle.std.specs.Option.{IfSome};
+ghost use Rattle.avro_schema.specs.Fits.{is_within};
+ghost use Rattle.avro_schema.specs.Node.{node_at};
+ghost use Rattle.avro_schema.specs.SeenSchema.{schema_nodes};
+ghost use Rattle.avro_schema.specs.Value.{Value};
+ghost use Rattle.avro_binary.specs.Breaks.{Breaks};
+ghost use Rattle.avro_binary.specs.Encoding.{Encodes, plain};
+ghost use Rattle.avro_binary.specs.Seen.{read_fault};
+
+use crate::appending::Appending;
+use avro_binary::{ReadError, read_made};
+use avro_schema::{Limits, Schema};
+use std::alloc::Global;
+
+/// Reads a datum of the root of the schema from the front of bytes, appends its plain encoding to an output, and answers the
+/// length of what was read. The room is kept from datum to datum; what it holds says nothing.
+///
+/// # Errors
+///
+/// Those of [`avro_binary::decode`].
+pub fn append_read(
+    alloc: Global,
+    schema: &Schema,
+    bytes: &[u8],
+    limits: &Limits,
+    room: &mut Appending,
+    out: &mut Vec<u8>,
+) -> Result<usize, ReadError>
+    ensures found { IfOk result (λ len. (v : Value) × (out.new.items ≡ out.old.items ++ plain v) × (len ≤ length bytes.now)
+        × Encodes (schema_nodes schema.now) (node_at (schema_nodes schema.now) 0) v (take len bytes.now) × (is_within limits.now v ≡ true)) }
+    ensures refused { IfErr result (λ e. IfSome (read_fault e) (Breaks (schema_nodes schema.now) limits.now (node_at (schema_nodes schema.now) 0) bytes.now)) }
+{
+    room.clear();
+    let (written, len) = read_made(alloc, schema, schema.root(), bytes, limits, room, None)?;
+    room.append(&written, out)?;
+    room.keep_room(written);
+    Ok(len)
+}

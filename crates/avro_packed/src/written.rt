@@ -1,0 +1,8 @@
+/// Where the bytes of a part stand that was read into an output.
+#[derive(Debug, Drop)]
+pub enum Written {
+    /// In the output, from one offset to another.
+    Range(usize, usize),
+    /// In the output, and behind these in a room of their own.
+    Apart(usize, usize, Vec<u8>),
+}
