@@ -103,6 +103,23 @@ begins_then nodes marks ps text marks-then then text-then (written, seen, begins
     let s = step written seen in
     (s.0, s.1, λ rest left. let m = s.2 rest left in subst (λ t. IsCanonical nodes t) m.2 (begins m.0 m.1))
 
+-- a step from the last part of a text is one from the whole text
+pub step-behind : (nodes : List Node) (marks : List Bool) (ps : List Pending) (hashed old : List ℕ) (marks-then : List Bool) (then : List Pending) (new : List ℕ)
+    → IsStep nodes marks ps old marks-then then new → IsStep nodes marks ps (hashed ++ old) marks-then then (hashed ++ new)
+step-behind nodes marks ps hashed old marks-then then new step written seen =
+    let s = step written seen in (
+      s.0,
+      s.1,
+      λ rest left.
+          let m = s.2 rest left in
+          (m.0, m.1, append_assoc hashed old m.0 ∙ ap (λ t. hashed ++ t) m.2 ∙ sym (append_assoc hashed new rest)),
+    )
+
+-- the same of equal marks and texts
+pub begins_as : (nodes : List Node) (marks same : List Bool) (ps : List Pending) (text then : List ℕ) → marks ≡ same → text ≡ then → Begins nodes same ps then → Begins nodes marks ps text
+begins_as nodes marks same ps text then e f begins =
+    subst (λ ms. Begins nodes ms ps text) (sym e) (subst (λ t. Begins nodes same ps t) (sym f) begins)
+
 pub begins_last : (nodes : List Node) (marks : List Bool) (ps : List Pending) (text : List ℕ) → ps ≡ [] → Begins nodes marks ps text → IsCanonical nodes text
 begins_last nodes marks ps text none (written, seen, begins) =
     subst (λ t. IsCanonical nodes t) (append-nil text) (begins [] (subst (λ qs. IsLeft nodes written qs []) (sym none) refl))
