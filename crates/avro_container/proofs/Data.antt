@@ -211,3 +211,17 @@ data_left r number count start body us f whole more is = (
   sym (same_Some _ _ is),
   DataFail.some_left (take start body) (drop start body) us whole (sym (take-append-drop start body)) (omega (arith, more, length-drop start body)),
 )
+
+-- one datum more, of which nothing is made
+pub walk-more : (r : BlockReading) (done start len : ℕ) (body : List ℕ) (us : Values) → r.copied ≡ false → DataAreWhole r done (take start body) us
+    → (u : Value) × Unit {0} × MakesOf r.nodes r.limits.datum r.resolve (drop start body) len (Ok u)
+    → (vs : Values) × DataAreWhole r (done + 1) (take (start + len) body) vs
+walk-more r done start len body us alone before found =
+    let u = found.0 in
+    let made = found.2 in
+    let whole = whole-more r done (take start body) (take len (drop start body)) us made.datum u before made.encoded made.within made.resolves (not_copied r _ alone) in
+    let one : suc done ≡ done + 1 = omega arith in (
+      add us u,
+      subst (λ n. DataAreWhole r n (take (start + len) body) (add us u)) one
+          (subst (λ front. DataAreWhole r (suc done) front (add us u)) (sym (take-add start len body)) whole),
+    )

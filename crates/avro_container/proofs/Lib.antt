@@ -22,6 +22,8 @@ pub mod BlocksPacked
 pub mod CopySteps
 pub mod HeadersCopied
 pub mod Naming
+pub mod EmptyData
+pub mod KnownEmpty
 pub mod PackedData
 pub mod StepLaws
 pub mod Stepping

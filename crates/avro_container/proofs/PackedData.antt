@@ -11,7 +11,7 @@ use Rattle.avro_container.specs.inside.DatumRead.{MakesOf}
 use Rattle.avro_container.specs.FileFault.{FileFault, in_block, limit_passed}
 use Rattle.avro_container.proofs.Data.{add, whole-more, whole-none, datum_stands}
 
-plain-add : (us : Values) (u : Value) → plain_values (add us u) ≡ plain_values us ++ plain u
+pub plain-add : (us : Values) (u : Value) → plain_values (add us u) ≡ plain_values us ++ plain u
 plain-add no_values u = append-nil (plain u)
 plain-add (value w us) u = ap (λ b. plain w ++ b) (plain-add us u) ∙ sym (append_assoc (plain w) (plain_values us) (plain u))
 

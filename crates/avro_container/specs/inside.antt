@@ -8,4 +8,5 @@ pub mod MetadataParts
 pub mod Filled
 pub mod Moved
 pub mod DatumRead
+pub mod NoBytes
 pub mod DeviceLaws

@@ -1,12 +1,13 @@
 //! A block, and reading its data.
 
-ghost use Rattle.std.specs.Prelude.{◌≡◌, None, Some, Ok, IfOk, List, true, option_map};
+ghost use Rattle.std.specs.Prelude.{◌≡◌, None, Some, Ok, IfOk, OnOk, List, true, option_map};
 ghost use Rattle.std.specs.Option.{IfSome, option_copied};
 ghost use Rattle.std.specs.Result.{IfErr};
 ghost use Rattle.avro_schema.specs.Fits.{fits};
 ghost use Rattle.avro_schema.specs.Node.{Node, root_of};
 ghost use Rattle.avro_schema.specs.SeenSchema.{schema_nodes};
-ghost use Rattle.avro_schema.specs.Value.{Value};
+ghost use Rattle.avro_schema.specs.Value.{Value, Values};
+ghost use Rattle.avro_container.specs.BlockFails.{DataAreWhole};
 ghost use Rattle.avro_container.specs.DataRead.{FitAll, IsDataFault, StandForData, read_nodes, reading, resolution};
 ghost use Rattle.avro_container.specs.FileFault.{FileFault};
 ghost use Rattle.avro_container.specs.FileSeen.{file_fault};
@@ -16,6 +17,7 @@ use crate::error::CopyError;
 use crate::header::Header;
 use crate::limits::FileLimits;
 use crate::planned::read_by_plan;
+use crate::walked::walk_data;
 use avro_binary::Build;
 use avro_resolve::laws::resolved_fits;
 use avro_resolve::{Plan, PlanRef};
@@ -100,6 +102,34 @@ impl<'a> Block<'a> {
         let plan = plan.by_ref();
         let schema = plan.writer();
         self.read_data(schema, &Some(plan), builder)
+    }
+
+    /// Reads the data one by one, and makes nothing of them: no memory is taken but for the keys of maps.
+    ///
+    /// # Errors
+    ///
+    /// Those of [`Block::read`] without a reader.
+    pub fn check(&self) -> Result<(), CopyError>
+        ensures found { OnOk result ((values : Values) × DataAreWhole
+            (reading self.now.limits (schema_nodes self.now.header.now.schema) self.now.header.now.sync None)
+            self.now.count self.now.body.items values) }
+        ensures refused { IfErr result (λ e. (f : FileFault) → file_fault e ≡ Some f → IsDataFault
+            (reading self.now.limits (schema_nodes self.now.header.now.schema) self.now.header.now.sync None)
+            self.now.number self.now.count self.now.body.items f) }
+        ensures memory { IfErr result (λ e. file_fault e ≡ None → e ≡ CopyError.OutOfMemory) }
+    {
+        let alloc = *self.body.allocator();
+        match walk_data(
+            alloc,
+            self.header,
+            &self.limits,
+            self.number,
+            self.count,
+            &self.body,
+        ) {
+            Ok(_) => Ok(()),
+            Err(error) => Err(error),
+        }
     }
 
     /// Reads the data one by one as data of a schema, by a plan where there is one.

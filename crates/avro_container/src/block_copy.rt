@@ -1,7 +1,7 @@
 //! Copying a block.
 
 ghost use Rattle.std.specs.Prelude.{◌≡◌, ◌≢◌, ◌⊎◌, ◌+◌, ◌<◌, ◌≤◌, [], length, OnOk, IfOk, IfSome, IfNone, Some, Err, option_map};
-ghost use Rattle.std.specs.Option.{option_copied};
+ghost use Rattle.std.specs.Option.{ForSome, option_copied};
 ghost use Rattle.std.specs.Result.{IfErr};
 ghost use Rattle.avro_schema.specs.SeenSchema.{schema_nodes};
 ghost use Rattle.avro_container.specs.inside.BlockCopied.{CopiesBlock, RefusesWithin};
@@ -10,8 +10,9 @@ ghost use Rattle.avro_container.specs.FileSeen.{file_fault};
 ghost use Rattle.avro_container.specs.Held.{held};
 ghost use Rattle.avro_container.specs.Named.{IsNamed};
 ghost use Rattle.avro_container.specs.inside.Moved.{Moved};
-ghost use Rattle.avro_container.specs.Steps.{Stored};
+ghost use Rattle.avro_container.specs.Steps.{Stored, reading_of};
 ghost use Rattle.avro_container.specs.HeaderTaken.{header_value};
+ghost use Rattle.avro_container.specs.inside.NoBytes.{PacksNoBytes};
 ghost use Rattle.avro_container.specs.TaskSeen.{job_of};
 
 use crate::device::{Input, Output};
@@ -38,10 +39,13 @@ pub(crate) fn copy_block<I: Input, O: Output>(
     task: &Task,
     header: &Header,
     plan: &Option<PlanRef<'_>>,
+    empty: &mut Option<Vec<u8>>,
 ) -> Result<Option<u32>, CopyError>
     requires near { length (held store.old.buffer) ≤ task.now.limits.block + 36 }
     requires of_writer { IfSome plan.now (λ p. p.0 ≡ header.now.schema) }
     requires of_reader { option_map (λ p. schema_nodes p.1) plan.now ≡ option_map (λ r. schema_nodes r.1) (option_copied task.now.reader) }
+    requires known { ForSome empty.old (λ unit. ∥ PacksNoBytes (reading_of (job_of task.now) task.now.limits (header_value header.now)) unit.items ∥₁) }
+    ensures known { ForSome empty.new (λ unit. ∥ PacksNoBytes (reading_of (job_of task.now) task.now.limits (header_value header.now)) unit.items ∥₁) }
     ensures block { IfOk result (λ found. IfSome found (λ count. Moved I.gives O.keeps input.old input.new output.old output.new
         (CopiesBlock (job_of task.now) task.now.limits (header_value header.now) number count (held store.old.buffer) (held store.new.buffer)))) }
     ensures few { IfOk result (λ found. IfSome found (λ count. number < max_blocks)) }
@@ -68,6 +72,7 @@ pub(crate) fn copy_block<I: Input, O: Output>(
         task,
         header,
         plan,
+        empty,
         &mut store.packed,
     ) {
         Ok(None) => Ok(None),

@@ -1,5 +1,6 @@
-ghost use Rattle.std.specs.Prelude.{◌≡◌, ◌≢◌, ◌+◌, [], true, false, OnOk, OnErr, IfOk, IfSome, IfNone, Some, None, Ok, Err};
+ghost use Rattle.std.specs.Prelude.{◌≡◌, ◌≢◌, ◌<◌, ◌+◌, [], true, false, OnOk, OnErr, IfOk, IfSome, IfNone, Some, None, Ok, Err};
 ghost use Rattle.std.specs.Result.{IfErr};
+ghost use Rattle.avro_container.specs.BlockFails.{max_blocks};
 ghost use Rattle.avro_container.specs.BlockTaken.{TakesBlock, TakesFault};
 ghost use Rattle.avro_container.specs.FileFault.{FileFault};
 ghost use Rattle.avro_container.specs.FileSeen.{file_fault};
@@ -50,6 +51,7 @@ impl<'a> Blocks<'a> {
     fn take_next<I: Input>(&mut self, input: &mut I) -> Result<Option<Block<'a>>, CopyError>
         ensures found { IfOk result (λ found. IfSome found (λ block. TakesBlock I.gives input.old input.new self.old.limits self.old.header.now.sync block.count block.body.items)) }
         ensures few { IfOk result (λ found. IfSome found (λ block. self.old.number ≡ block.number)) }
+        ensures limited { IfOk result (λ found. IfSome found (λ block. self.old.number < max_blocks)) }
         ensures none { IfOk result (λ found. IfNone found (I.gives input.old [] input.new)) }
         ensures told { IfOk result (λ found. IfNone found (I.ended input.new)) }
         ensures refused { IfErr result (λ e. (f : FileFault) → file_fault e ≡ Some f → TakesFault I.gives I.ended input.old input.new self.old.limits self.old.header.now.sync self.old.number f) }
@@ -57,6 +59,7 @@ impl<'a> Blocks<'a> {
         ensures kept { (self.new.header ≡ self.old.header) × (self.new.limits ≡ self.old.limits) × (self.new.failed ≡ self.old.failed) × (self.new.ended ≡ self.old.ended) }
         ensures works { OnOk result (I.failures input.new ≡ I.failures input.old) }
         ensures fails { result ≡ Err CopyError.InputFailed → I.failures input.new ≢ I.failures input.old }
+        ensures no_output { result ≢ Err CopyError.OutputFailed }
         ensures first { result ≢ Err CopyError.FailedBefore }
         ensures made { IfOk result (λ found. IfSome found (λ block. (block.header ≡ self.old.header) × (block.limits ≡ self.old.limits))) }
         ensures named { IfErr result IsNamed }
@@ -96,6 +99,9 @@ impl<'a> Blocks<'a> {
 
     /// Takes the next block, and no byte behind it; nothing where the input ends before it, and from then on.
     ///
+    /// Each call is to be handed the same input. A call after the end takes nothing of it, so that its end is told there
+    /// where it was told before: what another input has told is not known.
+    ///
     /// # Errors
     ///
     /// `LimitExceeded`, `InvalidCount`, `CutBlock`, `WrongMarker`; `InputFailed`, `OutOfMemory`. After an error `FailedBefore`.
@@ -105,11 +111,15 @@ impl<'a> Blocks<'a> {
         ensures found { IfOk result (λ found. IfSome found (λ block. TakesBlock I.gives input.old input.new self.old.limits self.old.header.now.sync block.count block.body.items)) }
         ensures numbered { IfOk result (λ found. IfSome found (λ block. self.old.number ≡ block.number)) }
         ensures counted { IfOk result (λ found. IfSome found (λ block. self.new.number ≡ self.old.number + 1)) }
-        ensures none { self.old.ended ≡ false → IfOk result (λ found. IfNone found (I.gives input.old [] input.new)) }
-        ensures told { self.old.ended ≡ false → IfOk result (λ found. IfNone found (I.ended input.new)) }
+        ensures none { IfOk result (λ found. IfNone found (I.gives input.old [] input.new)) }
+        ensures told { (self.old.ended ≡ true → I.ended input.old) → IfOk result (λ found. IfNone found (I.ended input.new)) }
         ensures ends { IfOk result (λ found. IfNone found (self.new.ended ≡ true)) }
         ensures refused { IfErr result (λ e. (f : FileFault) → file_fault e ≡ Some f → TakesFault I.gives I.ended input.old input.new self.old.limits self.old.header.now.sync self.old.number f) }
         ensures stays { OnErr result (self.new.failed ≡ true) }
+        ensures goes_on { OnOk result (self.new.failed ≡ false) }
+        ensures more { IfOk result (λ found. IfSome found (λ _. self.new.ended ≡ false)) }
+        ensures no_output { result ≢ Err CopyError.OutputFailed }
+        ensures few { IfOk result (λ found. IfSome found (λ _. self.old.number < max_blocks)) }
         ensures same { (self.new.header ≡ self.old.header) × (self.new.limits ≡ self.old.limits) }
         ensures works { OnOk result (I.failures input.new ≡ I.failures input.old) }
         ensures fails { result ≡ Err CopyError.InputFailed → I.failures input.new ≢ I.failures input.old }

@@ -6,6 +6,9 @@ ghost use Rattle.avro_container.specs.inside.Filled.{GrowsBy, TakesAtMost};
 use crate::device::Input;
 use std::alloc::{AllocError, Global};
 
+/// The most bytes that a buffer grows by ahead of what has come.
+pub(crate) const GROWTH: usize = 65_536;
+
 /// Why nothing was taken.
 #[derive(Clone, Copy, Debug)]
 pub(crate) enum TakeError {
@@ -84,7 +87,8 @@ impl Buffer {
         self.end = end - start;
     }
 
-    /// Makes room for a number of bytes more.
+    /// Makes room for a number of bytes more, and for [`GROWTH`] at least where there is too little, so that a buffer that is
+    /// asked for a few bytes again and again is not moved for each.
     fn make_room(&mut self, count: usize) -> Result<(), AllocError>
         requires { length (held self.old) + count < 2 ^ 64 }
         ensures same { held self.new ≡ held self.old }
@@ -94,7 +98,7 @@ impl Buffer {
             return Ok(());
         }
         self.move_to_front();
-        let end = self.end + count;
+        let end = self.end.saturating_add(count.max(GROWTH));
         if self.room.len() < end {
             self.room.reserve_exact(end - self.room.len())?;
             self.room.resize(end, 0)?;

@@ -46,6 +46,7 @@ impl<'a> Copier<'a> {
             opened: None,
             blocks: 0,
             store: Store::new(alloc),
+            empty: None,
             ended: false,
             failed: false,
         }
@@ -129,6 +130,7 @@ impl<'a> Copier<'a> {
                     &self.task,
                     header,
                     &plan,
+                    &mut self.empty,
                 )? {
                     Some(count) => {
                         self.blocks += 1;
@@ -142,6 +144,7 @@ impl<'a> Copier<'a> {
             }
             None => {
                 let opened = copy_header(self.alloc, input, output, &mut self.store, &self.task)?;
+                self.empty = None;
                 self.opened = Some(opened);
                 Ok(Step::Header)
             }

@@ -12,12 +12,14 @@ use crate::copier_type::Copier;
 use crate::device::{Input, Output};
 use crate::error::CopyError;
 use crate::limits::FileLimits;
+use crate::putting::put_rest;
 use crate::step::{Counts, Step};
 use avro_schema_json::ReaderText;
 use std::alloc::Global;
 
 /// Copies a whole file in one pass, and answers how many data and blocks it has: each datum as what it is for the reader,
-/// where there is one, and in its plain encoding. `sync` is the marker of the copy, or else it is the file's.
+/// where there is one, and in its plain encoding. `sync` is the marker of the copy, or else it is the file's. The last call of
+/// the output is a flush.
 ///
 /// # Errors
 ///
@@ -40,6 +42,7 @@ pub fn copy<'a, I: Input, O: Output>(
     ensures input_fails { result ≡ Err CopyError.InputFailed → I.failures input.new ≢ I.failures input.old }
     ensures output_fails { result ≡ Err CopyError.OutputFailed → (O.failures output.new ≢ O.failures output.old) ⊎ O.stuck output.new }
     ensures output_works { OnOk result (O.failures output.new ≡ O.failures output.old) }
+    ensures flushed { OnOk result (O.flushed output.new) }
     ensures first { result ≢ Err CopyError.FailedBefore }
     ensures input_works { OnOk result (I.failures input.new ≡ I.failures input.old) }
 {
@@ -58,8 +61,6 @@ pub fn copy<'a, I: Input, O: Output>(
             Step::End => break,
         }
     }
-    match output.flush() {
-        Ok(()) => Ok(counts),
-        Err(_fault) => Err(CopyError::OutputFailed),
-    }
+    put_rest(output)?;
+    Ok(counts)
 }

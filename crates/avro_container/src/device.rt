@@ -1,6 +1,6 @@
 //! What a file is read from and written to.
 
-ghost use Rattle.std.specs.Prelude.{◌≡◌, ◌≢◌, ℕ, ◌<◌, ◌≤◌, List, [], ◌++◌, length, take, IfOk, OnOk, OnErr};
+ghost use Rattle.std.specs.Prelude.{◌≡◌, ◌≢◌, ℕ, ◌+◌, ◌%◌, ◌^◌, ◌<◌, ◌≤◌, List, [], ◌++◌, length, take, IfOk, OnOk, OnErr};
 
 /// The device failed in this call.
 #[derive(Clone, Copy, Debug, PartialEq, Eq)]
@@ -17,7 +17,7 @@ pub trait Input {
     /// The last call reported the end.
     ghost ended: { Self → Type 0 };
 
-    /// The number of failed calls, which may wrap.
+    /// The number of failed calls, in 64 bits that wrap.
     ghost failures: { Self → ℕ };
 
     /// Takes some bytes, into the front of the buffer. No bytes, for a buffer that is not empty, is the end.
@@ -32,6 +32,7 @@ pub trait Input {
         ensures only_end { IfOk result (λ n. ended self.new → (n ≡ 0) × (0 < length buffer.new)) }
         ensures works { OnOk result (failures self.new ≡ failures self.old) }
         ensures fails { OnErr result (failures self.new ≢ failures self.old) }
+        ensures counts { OnErr result (failures self.new ≡ (failures self.old + 1) % 2 ^ 64) }
         ensures lost { OnErr result ((bytes : List ℕ) × gives self.old bytes self.new × (length bytes ≤ length buffer.new)) };
 
     /// Without a call no bytes are taken, and those of two runs of calls go together.
@@ -42,7 +43,8 @@ pub trait Input {
 
 /// Keeps the bytes of a file in turn.
 ///
-/// An implementation says by a relation which bytes a call has put, and how many calls have failed.
+/// An implementation says by a relation which bytes a call has put, whether the last call was a flush that went well, and how
+/// many calls have failed.
 pub trait Output {
     /// These bytes were put between two states.
     ghost keeps: { Self → List ℕ → Self → Type 0 };
@@ -50,7 +52,10 @@ pub trait Output {
     /// The last call took none of some bytes.
     ghost stuck: { Self → Type 0 };
 
-    /// The number of failed calls, which may wrap.
+    /// The last call was a flush that went well.
+    ghost flushed: { Self → Type 0 };
+
+    /// The number of failed calls, in 64 bits that wrap.
     ghost failures: { Self → ℕ };
 
     /// Puts some of the bytes, from their front on.
@@ -64,8 +69,10 @@ pub trait Output {
         ensures none { IfOk result (λ n. n ≡ 0 → 0 < length bytes.now → stuck self.new) }
         ensures only_none { IfOk result (λ n. stuck self.new → (n ≡ 0) × (0 < length bytes.now)) }
         ensures lost { OnErr result (keeps self.old [] self.new) }
+        ensures not_flushed { ¬ flushed self.new }
         ensures works { OnOk result (failures self.new ≡ failures self.old) }
-        ensures fails { OnErr result (failures self.new ≢ failures self.old) };
+        ensures fails { OnErr result (failures self.new ≢ failures self.old) }
+        ensures counts { OnErr result (failures self.new ≡ (failures self.old + 1) % 2 ^ 64) };
 
     /// Puts what the device holds back, if anything.
     ///
@@ -74,8 +81,11 @@ pub trait Output {
     /// The device failed.
     fn flush(&mut self) -> Result<(), DeviceFault>
         ensures none { keeps self.old [] self.new }
+        ensures told { OnOk result (flushed self.new) }
+        ensures only_told { OnErr result (¬ flushed self.new) }
         ensures works { OnOk result (failures self.new ≡ failures self.old) }
-        ensures fails { OnErr result (failures self.new ≢ failures self.old) };
+        ensures fails { OnErr result (failures self.new ≢ failures self.old) }
+        ensures counts { OnErr result (failures self.new ≡ (failures self.old + 1) % 2 ^ 64) };
 
     /// Without a call no bytes are put, and those of two runs of calls go together.
     ghost none: { (s : Self) → keeps s [] s };

@@ -4,12 +4,9 @@ ghost use Rattle.std.specs.Prelude.{◌≡◌, ◌≢◌, ◌+◌, ◌-◌, ◌^
 ghost use Rattle.avro_container.specs.inside.Filled.{GrowsBy, TakesAtMost, UnlessLost};
 ghost use Rattle.avro_container.specs.Held.{held};
 
-use crate::buffer::{Buffer, TakeError};
+use crate::buffer::{Buffer, GROWTH, TakeError};
 use crate::device::Input;
 use crate::part_error::PartError;
-
-/// The most bytes that a buffer grows by ahead of what has come.
-const GROWTH: usize = 65_536;
 
 /// How far an input is taken: no further than `limit` bytes in all, and `ahead` bytes beyond what is asked for.
 #[derive(Clone, Copy, Debug)]

@@ -1,7 +1,7 @@
 //! Taking a block, and packing its data.
 
 ghost use Rattle.std.specs.Prelude.{◌≡◌, ◌≢◌, ◌+◌, ◌-◌, ◌<◌, ◌≤◌, length, take, OnOk, OnErr, IfOk, IfSome, IfNone, Some, Err, option_map};
-ghost use Rattle.std.specs.Option.{option_copied};
+ghost use Rattle.std.specs.Option.{ForSome, option_copied};
 ghost use Rattle.std.specs.Result.{IfErr};
 ghost use Rattle.avro_schema.specs.SeenSchema.{schema_nodes};
 ghost use Rattle.avro_container.specs.BlockFails.{max_blocks};
@@ -12,6 +12,8 @@ ghost use Rattle.avro_container.specs.inside.Filled.{GrowsBy, TakesAtMost, Unles
 ghost use Rattle.avro_container.specs.Held.{held};
 ghost use Rattle.avro_container.specs.Named.{IsNamed};
 ghost use Rattle.avro_container.specs.HeaderTaken.{header_value};
+ghost use Rattle.avro_container.specs.inside.NoBytes.{PacksNoBytes};
+ghost use Rattle.avro_container.specs.Steps.{reading_of};
 ghost use Rattle.avro_container.specs.TaskSeen.{job_of};
 
 use crate::block_head::BlockHead;
@@ -21,7 +23,7 @@ use crate::device::Input;
 use crate::error::CopyError;
 use crate::filling::Reach;
 use crate::header::Header;
-use crate::packing::pack_data;
+use crate::known::pack_known;
 use crate::task::Task;
 use avro_resolve::PlanRef;
 
@@ -40,11 +42,14 @@ pub(crate) fn take_packed<I: Input>(
     task: &Task,
     header: &Header,
     plan: &Option<PlanRef<'_>>,
+    empty: &mut Option<Vec<u8>>,
     packed: &mut Vec<u8>,
 ) -> Result<Option<BlockHead>, CopyError>
     requires near { length (held buffer.old) ≤ task.now.limits.block + 36 }
     requires of_writer { IfSome plan.now (λ p. p.0 ≡ header.now.schema) }
     requires of_reader { option_map (λ p. schema_nodes p.1) plan.now ≡ option_map (λ r. schema_nodes r.1) (option_copied task.now.reader) }
+    requires known { ForSome empty.old (λ unit. ∥ PacksNoBytes (reading_of (job_of task.now) task.now.limits (header_value header.now)) unit.items ∥₁) }
+    ensures known { ForSome empty.new (λ unit. ∥ PacksNoBytes (reading_of (job_of task.now) task.now.limits (header_value header.now)) unit.items ∥₁) }
     ensures inside { IfOk result (λ found. IfSome found (λ head. head.start + head.size + 16 ≤ length (held buffer.new))) }
     ensures made { IfOk result (λ found. IfSome found (λ head. PacksBlock (job_of task.now) task.now.limits (header_value header.now) head.count
         (take (head.start + head.size + 16) (held buffer.new)) packed.new.items)) }
@@ -72,7 +77,7 @@ pub(crate) fn take_packed<I: Input>(
         Some(head) => {
             let (_, rest) = buffer.bytes().split_at(head.start);
             let (body, _) = rest.split_at(head.size);
-            pack_data(task, header, plan, number, head.count, body, packed)?;
+            pack_known(task, header, plan, number, head.count, body, empty, packed)?;
             Ok(Some(head))
         }
     }

@@ -1,12 +1,14 @@
 //! Packing the data of a block.
 
-ghost use Rattle.std.specs.Prelude.{◌≡◌, ◌++◌, ◌<◌, ◌≤◌, None, Some, OnOk, length, option_map, IfSome};
+ghost use Rattle.std.specs.Prelude.{◌≡◌, ◌++◌, ◌<◌, ◌≤◌, None, Some, OnOk, IfOk, IfNone, length, take, [], option_map, IfSome};
 ghost use Rattle.std.specs.Option.{option_copied};
 ghost use Rattle.std.specs.Result.{IfErr};
 ghost use Rattle.avro_schema.specs.SeenSchema.{schema_nodes};
-ghost use Rattle.avro_packed.specs.Pieces.{bytes_of};
+ghost use Rattle.avro_binary.specs.Encoding.{plain};
 ghost use Rattle.avro_container.specs.inside.DataPacked.{PacksData};
-ghost use Rattle.avro_container.specs.DataRead.{IsDataFault};
+ghost use Rattle.avro_container.specs.DataRead.{IsDataFault, resolution};
+ghost use Rattle.avro_container.specs.inside.DatumRead.{ReadsDatum};
+ghost use Rattle.avro_container.specs.inside.NoBytes.{PacksNoBytes};
 ghost use Rattle.avro_container.specs.FileFault.{FileFault, in_block, limit_passed};
 ghost use Rattle.avro_container.specs.FileSeen.{file_fault};
 ghost use Rattle.avro_container.specs.Steps.{reading_of};
@@ -16,36 +18,63 @@ ghost use Rattle.avro_container.specs.TaskSeen.{job_of};
 use crate::datum_read::datum_error;
 use crate::error::{CopyError, LimitPlace};
 use crate::header::Header;
-use crate::planned::read_by_plan;
 use crate::task::Task;
-use avro_packed::{Packed, Pieces, append};
-use avro_resolve::PlanRef;
+use avro_binary::ReadError;
+use avro_packed::{Appending, Packed, append, append_read};
+use avro_resolve::{PlanRef, ReadResolveError};
+use avro_schema::{Limits, Schema};
+use std::alloc::Global;
 
-/// Keeps the bytes of pieces behind those before.
-///
-/// # Errors
-///
-/// `LimitExceeded` where there are too many then; `OutOfMemory`.
-fn keep(pieces: Pieces, most: usize, number: u64, packed: &mut Vec<u8>) -> Result<(), CopyError>
-    ensures kept { OnOk result (packed.new.items ≡ packed.old.items ++ bytes_of pieces) }
-    ensures fits { OnOk result (length packed.new.items ≤ most) }
-    ensures over { IfErr result (λ e. (f : FileFault) → file_fault e ≡ Some f → most < length (packed.old.items ++ bytes_of pieces)) }
-    ensures fault { IfErr result (λ e. (f : FileFault) → file_fault e ≡ Some f → Some (in_block number limit_passed) ≡ Some f) }
-    ensures memory { IfErr result (λ e. file_fault e ≡ None → e ≡ CopyError.OutOfMemory) }
+/// Reads a datum from the front of bytes, by a plan where there is one, and keeps the plain encoding of what it is behind those
+/// before.
+fn pack_datum(
+    alloc: Global,
+    schema: &Schema,
+    plan: &Option<PlanRef<'_>>,
+    bytes: &[u8],
+    limits: &Limits,
+    room: &mut Appending,
+    packed: &mut Vec<u8>,
+) -> Result<((), usize), ReadResolveError>
+    requires { IfSome plan.now (λ p. p.0 ≡ schema.now) }
+    ensures { ReadsDatum (λ _ u. packed.new.items ≡ packed.old.items ++ plain u) (schema_nodes schema.now) limits.now (resolution (option_map (λ p. schema_nodes p.1) plan.now) (schema_nodes schema.now)) bytes.now result }
 {
-    append(&pieces, packed)?;
-    if packed.len() > most {
-        return Err(CopyError::LimitExceeded(LimitPlace::Block(number)));
+    match plan {
+        Some(plan) => pack_resolved(alloc, plan, bytes, limits, packed),
+        None => match append_read(alloc, schema, bytes, limits, room, packed) {
+            Ok(len) => Ok(((), len)),
+            Err(error) => Err(ReadResolveError::Read(error)),
+        },
     }
-    Ok(())
 }
 
-/// Reads the data of a block one by one, and keeps the plain encodings of what they are for the reader, one after another.
+/// Reads a datum from the front of bytes by a plan, and keeps the plain encoding of what it is for the reader behind those before.
+fn pack_resolved(
+    alloc: Global,
+    plan: &PlanRef<'_>,
+    bytes: &[u8],
+    limits: &Limits,
+    packed: &mut Vec<u8>,
+) -> Result<((), usize), ReadResolveError>
+    ensures { ReadsDatum (λ _ u. packed.new.items ≡ packed.old.items ++ plain u) (schema_nodes plan.now.0) limits.now (resolution (Some (schema_nodes plan.now.1)) (schema_nodes plan.now.0)) bytes.now result }
+{
+    match plan.read(alloc, bytes, limits, &mut Packed) {
+        Ok((pieces, len)) => match append(&pieces, packed) {
+            Ok(()) => Ok(((), len)),
+            Err(_) => Err(ReadResolveError::Read(ReadError::OutOfMemory)),
+        },
+        Err(error) => Err(error),
+    }
+}
+
+/// Reads the data of a block one by one, and keeps the plain encodings of what they are for the reader, one after another. It
+/// ends after a datum without bytes, whose plain encoding it answers: each further datum begins at the same byte, and is the
+/// same. It answers how many data and bytes it read, too.
 ///
 /// # Errors
 ///
-/// The first of `LimitExceeded`, `InvalidDatum` and `UnresolvedDatum`; `BytesLeft` behind the last datum; `OutOfMemory`.
-pub(crate) fn pack_data(
+/// The first of `LimitExceeded`, `InvalidDatum` and `UnresolvedDatum`; `OutOfMemory`.
+fn pack_each(
     task: &Task,
     header: &Header,
     plan: &Option<PlanRef<'_>>,
@@ -53,34 +82,184 @@ pub(crate) fn pack_data(
     count: u32,
     body: &[u8],
     packed: &mut Vec<u8>,
-) -> Result<(), CopyError>
+) -> Result<(u32, usize, Option<Vec<u8>>), CopyError>
     requires of_writer { IfSome plan.now (λ p. p.0 ≡ header.now.schema) }
     requires of_reader { option_map (λ p. schema_nodes p.1) plan.now ≡ option_map (λ r. schema_nodes r.1) (option_copied task.now.reader) }
-    ensures found { OnOk result (PacksData (reading_of (job_of task.now) task.now.limits (header_value header.now)) count body.now packed.new.items) }
+    requires none { packed.old.items ≡ [] }
+    ensures few { IfOk result (λ read. read.0 ≤ count) }
+    ensures inside { IfOk result (λ read. read.1 ≤ length body.now) }
+    ensures found { IfOk result (λ read. PacksData (reading_of (job_of task.now) task.now.limits (header_value header.now)) read.0 (take read.1 body.now) packed.new.items) }
+    ensures all { IfOk result (λ read. IfNone read.2 (read.0 ≡ count)) }
+    ensures empty { IfOk result (λ read. IfSome read.2 (λ unit. PacksNoBytes (reading_of (job_of task.now) task.now.limits (header_value header.now)) unit.items)) }
+    ensures refused { IfErr result (λ e. (f : FileFault) → file_fault e ≡ Some f
+        → IsDataFault (reading_of (job_of task.now) task.now.limits (header_value header.now)) number count body.now f) }
+    ensures memory { IfErr result (λ e. file_fault e ≡ None → e ≡ CopyError.OutOfMemory) }
+{
+    let alloc = *packed.allocator();
+    let schema = header.schema();
+    let limits = task.limits.datum();
+    let most = task.limits.block() as usize;
+    let mut room = Appending::new(alloc);
+    let mut start = 0;
+    let mut datum = 0;
+    while datum < count {
+        let (_, rest) = body.split_at(start);
+        let before = packed.len();
+        match pack_datum(alloc, schema, plan, rest, &limits, &mut room, packed) {
+            Ok((_, len)) => {
+                if packed.len() > most {
+                    return Err(CopyError::LimitExceeded(LimitPlace::Block(number)));
+                }
+                start += len;
+                datum += 1;
+                if len == 0 {
+                    let (_, unit) = packed.split_at(before);
+                    let unit = Vec::from_slice(alloc, unit)?;
+                    return Ok((datum, start, Some(unit)));
+                }
+            }
+            Err(error) => return Err(datum_error(number, datum, start, error)),
+        }
+    }
+    Ok((datum, start, None))
+}
+
+/// Keeps the plain encoding of what a datum without bytes is for the reader, once for each further datum of a block.
+///
+/// # Errors
+///
+/// `LimitExceeded`, `OutOfMemory`.
+fn pack_again(
+    task: &Task,
+    header: &Header,
+    number: u64,
+    count: u32,
+    body: &[u8],
+    start: usize,
+    done: u32,
+    unit: &[u8],
+    packed: &mut Vec<u8>,
+) -> Result<(), CopyError>
+    requires few { done ≤ count }
+    requires before { PacksData (reading_of (job_of task.now) task.now.limits (header_value header.now)) done (take start body.now) packed.old.items }
+    requires empty { PacksNoBytes (reading_of (job_of task.now) task.now.limits (header_value header.now)) unit.now }
+    ensures found { OnOk result (PacksData (reading_of (job_of task.now) task.now.limits (header_value header.now)) count (take start body.now) packed.new.items) }
+    ensures refused { IfErr result (λ e. (f : FileFault) → file_fault e ≡ Some f
+        → IsDataFault (reading_of (job_of task.now) task.now.limits (header_value header.now)) number count body.now f) }
+    ensures memory { IfErr result (λ e. file_fault e ≡ None → e ≡ CopyError.OutOfMemory) }
+{
+    if unit.is_empty() {
+        return Ok(());
+    }
+    let limit = task.limits.block() as usize;
+    let mut datum = done;
+    while datum < count {
+        packed.extend_from_slice(unit)?;
+        if packed.len() > limit {
+            return Err(CopyError::LimitExceeded(LimitPlace::Block(number)));
+        }
+        datum += 1;
+    }
+    Ok(())
+}
+
+/// Packs the rest of the data of a block, where they are those without bytes.
+///
+/// # Errors
+///
+/// `LimitExceeded`, `OutOfMemory`.
+fn pack_rest(
+    task: &Task,
+    header: &Header,
+    number: u64,
+    count: u32,
+    body: &[u8],
+    start: usize,
+    done: u32,
+    empty: &Option<Vec<u8>>,
+    packed: &mut Vec<u8>,
+) -> Result<(), CopyError>
+    requires few { done ≤ count }
+    requires before { PacksData (reading_of (job_of task.now) task.now.limits (header_value header.now)) done (take start body.now) packed.old.items }
+    requires all { IfNone empty.now (done ≡ count) }
+    requires known { IfSome empty.now (λ unit. PacksNoBytes (reading_of (job_of task.now) task.now.limits (header_value header.now)) unit.items) }
+    ensures found { OnOk result (PacksData (reading_of (job_of task.now) task.now.limits (header_value header.now)) count (take start body.now) packed.new.items) }
+    ensures refused { IfErr result (λ e. (f : FileFault) → file_fault e ≡ Some f
+        → IsDataFault (reading_of (job_of task.now) task.now.limits (header_value header.now)) number count body.now f) }
+    ensures memory { IfErr result (λ e. file_fault e ≡ None → e ≡ CopyError.OutOfMemory) }
+{
+    match empty {
+        Some(unit) => pack_again(task, header, number, count, body, start, done, unit, packed),
+        None => Ok(()),
+    }
+}
+
+/// Packs the data of a block up to the first without bytes, and none where such a datum is known.
+///
+/// # Errors
+///
+/// The first of `LimitExceeded`, `InvalidDatum` and `UnresolvedDatum`; `OutOfMemory`.
+fn pack_front(
+    task: &Task,
+    header: &Header,
+    plan: &Option<PlanRef<'_>>,
+    number: u64,
+    count: u32,
+    body: &[u8],
+    empty: &mut Option<Vec<u8>>,
+    packed: &mut Vec<u8>,
+) -> Result<(u32, usize), CopyError>
+    requires of_writer { IfSome plan.now (λ p. p.0 ≡ header.now.schema) }
+    requires of_reader { option_map (λ p. schema_nodes p.1) plan.now ≡ option_map (λ r. schema_nodes r.1) (option_copied task.now.reader) }
+    requires known { IfSome empty.old (λ unit. PacksNoBytes (reading_of (job_of task.now) task.now.limits (header_value header.now)) unit.items) }
+    ensures few { IfOk result (λ read. read.0 ≤ count) }
+    ensures inside { IfOk result (λ read. read.1 ≤ length body.now) }
+    ensures found { IfOk result (λ read. PacksData (reading_of (job_of task.now) task.now.limits (header_value header.now)) read.0 (take read.1 body.now) packed.new.items) }
+    ensures all { IfOk result (λ read. IfNone empty.new (read.0 ≡ count)) }
+    ensures known { IfSome empty.new (λ unit. PacksNoBytes (reading_of (job_of task.now) task.now.limits (header_value header.now)) unit.items) }
     ensures refused { IfErr result (λ e. (f : FileFault) → file_fault e ≡ Some f
         → IsDataFault (reading_of (job_of task.now) task.now.limits (header_value header.now)) number count body.now f) }
     ensures memory { IfErr result (λ e. file_fault e ≡ None → e ≡ CopyError.OutOfMemory) }
 {
     packed.clear();
-    let alloc = *packed.allocator();
-    let schema = header.schema();
-    let limits = task.limits.datum();
-    let most = task.limits.block() as usize;
-    let end = body.len();
-    let mut start = 0;
-    let mut datum = 0;
-    while datum < count {
-        let (_, rest) = body.split_at(start);
-        match read_by_plan(alloc, schema, plan, rest, &limits, &mut Packed) {
-            Ok((pieces, len)) => {
-                keep(pieces, most, number, packed)?;
-                start += len;
-                datum += 1;
-            }
-            Err(error) => return Err(datum_error(number, datum, start, error)),
-        }
+    if empty.is_some() {
+        return Ok((0, 0));
     }
-    if start < end {
+    let (done, start, unit) = pack_each(task, header, plan, number, count, body, packed)?;
+    *empty = unit;
+    Ok((done, start))
+}
+
+/// Reads the data of a block, and keeps the plain encodings of what they are for the reader, one after another. `empty` keeps
+/// that of a datum without bytes, where one was read: it is read once.
+///
+/// # Errors
+///
+/// The first of `LimitExceeded`, `InvalidDatum` and `UnresolvedDatum`; `BytesLeft` after the last datum; `OutOfMemory`.
+pub(crate) fn pack_data(
+    task: &Task,
+    header: &Header,
+    plan: &Option<PlanRef<'_>>,
+    number: u64,
+    count: u32,
+    body: &[u8],
+    empty: &mut Option<Vec<u8>>,
+    packed: &mut Vec<u8>,
+) -> Result<(), CopyError>
+    requires of_writer { IfSome plan.now (λ p. p.0 ≡ header.now.schema) }
+    requires of_reader { option_map (λ p. schema_nodes p.1) plan.now ≡ option_map (λ r. schema_nodes r.1) (option_copied task.now.reader) }
+    requires known { IfSome empty.old (λ unit. PacksNoBytes (reading_of (job_of task.now) task.now.limits (header_value header.now)) unit.items) }
+    ensures found { OnOk result (PacksData (reading_of (job_of task.now) task.now.limits (header_value header.now)) count body.now packed.new.items) }
+    ensures refused { IfErr result (λ e. (f : FileFault) → file_fault e ≡ Some f
+        → IsDataFault (reading_of (job_of task.now) task.now.limits (header_value header.now)) number count body.now f) }
+    ensures memory { IfErr result (λ e. file_fault e ≡ None → e ≡ CopyError.OutOfMemory) }
+    ensures known { IfSome empty.new (λ unit. PacksNoBytes (reading_of (job_of task.now) task.now.limits (header_value header.now)) unit.items) }
+{
+    let (done, start) = pack_front(task, header, plan, number, count, body, empty, packed)?;
+    pack_rest(
+        task, header, number, count, body, start, done, empty, packed,
+    )?;
+    if start < body.len() {
         return Err(CopyError::BytesLeft(number));
     }
     Ok(())

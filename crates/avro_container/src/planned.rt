@@ -1,12 +1,12 @@
-//! Reading a datum by a plan, where there is one.
+//! Reading a datum by a plan, where there is one, and walking over one.
 
-ghost use Rattle.std.specs.Prelude.{◌≡◌, option_map};
+ghost use Rattle.std.specs.Prelude.{◌≡◌, None, option_map};
 ghost use Rattle.std.specs.Option.{IfSome};
 ghost use Rattle.avro_schema.specs.SeenSchema.{schema_nodes};
 ghost use Rattle.avro_container.specs.DataRead.{resolution};
 ghost use Rattle.avro_container.specs.inside.DatumRead.{ReadsDatum};
 
-use avro_binary::{Build, read_own};
+use avro_binary::{Build, Nothing, read_made, read_own};
 use avro_resolve::{PlanRef, ReadResolveError};
 use avro_schema::{Limits, Schema};
 use std::alloc::Global;
@@ -29,5 +29,28 @@ pub(crate) fn read_by_plan<B: Build>(
             Ok(answer) => Ok(answer),
             Err(error) => Err(ReadResolveError::Read(error)),
         },
+    }
+}
+
+/// Walks over a datum at the front of bytes.
+pub(crate) fn walk_datum(
+    alloc: Global,
+    schema: &Schema,
+    bytes: &[u8],
+    limits: &Limits,
+) -> Result<((), usize), ReadResolveError>
+    ensures { ReadsDatum (λ _ u. Unit {0}) (schema_nodes schema.now) limits.now (resolution None (schema_nodes schema.now)) bytes.now result }
+{
+    match read_made(
+        alloc,
+        schema,
+        schema.root(),
+        bytes,
+        limits,
+        &mut Nothing,
+        (),
+    ) {
+        Ok(answer) => Ok(answer),
+        Err(error) => Err(ReadResolveError::Read(error)),
     }
 }

@@ -1,9 +1,10 @@
 //! Putting all of some bytes.
 
-ghost use Rattle.std.specs.Prelude.{◌≡◌, ◌≢◌, ◌⊎◌, OnOk, OnErr};
+ghost use Rattle.std.specs.Prelude.{◌≡◌, ◌≢◌, ◌⊎◌, [], OnOk, OnErr, Err};
 ghost use Rattle.avro_container.specs.PutFront.{PutsFrontOf};
 
 use crate::device::{DeviceFault, Output};
+use crate::error::CopyError;
 
 /// Puts all of the bytes, in as many calls as the output takes.
 ///
@@ -26,4 +27,22 @@ pub(crate) fn put_all<O: Output>(output: &mut O, bytes: &[u8]) -> Result<(), Dev
         rest = others;
     }
     Ok(())
+}
+
+/// Puts what the output holds back.
+///
+/// # Errors
+///
+/// `OutputFailed`.
+pub(crate) fn put_rest<O: Output>(output: &mut O) -> Result<(), CopyError>
+    ensures none { O.keeps output.old [] output.new }
+    ensures flushed { OnOk result (O.flushed output.new) }
+    ensures works { OnOk result (O.failures output.new ≡ O.failures output.old) }
+    ensures fails { OnErr result (O.failures output.new ≢ O.failures output.old) }
+    ensures only { OnErr result (result ≡ Err CopyError.OutputFailed) }
+{
+    match output.flush() {
+        Ok(()) => Ok(()),
+        Err(_fault) => Err(CopyError::OutputFailed),
+    }
 }

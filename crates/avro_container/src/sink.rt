@@ -75,6 +75,7 @@ impl Sink {
         ensures put { OnOk result (O.keeps output.old (block_part self.old.sync count body.now) output.new) }
         ensures front { self.old.failed ≡ false → OnErr result (PutsFrontOf O.keeps output.old output.new (block_part self.old.sync count body.now)) }
         ensures stays { OnErr result (self.new.failed ≡ true) }
+        ensures goes_on { OnOk result (self.new.failed ≡ false) }
         ensures told { IfErr result (λ e. file_fault e ≡ None) }
         ensures no_input { result ≢ Err CopyError.InputFailed }
         ensures works { OnOk result (O.failures output.new ≡ O.failures output.old) }

@@ -35,18 +35,19 @@ returns-in_err-step-clause-front g c =
     rw p.1 (HasRun-refused g.I.Input.gives g.O.Output.keeps g.met.I.Input.chain g.met.O.Output.chain _ _ _ _ _ _ _ _ _ _ c.step.new.self _ _ _
     c.loop-copier.invariant.0 c.in_err-step.ensures.moves)
 
-pub returns-in-Ok-clause-whole : goal.returns-in-Ok-clause-whole
-returns-in-Ok-clause-whole g c =
+pub returns-clause-whole : goal.returns-clause-whole
+returns-clause-whole g c =
     let step = c.in_ok-step.ensures in
     HasRun-end g.I.Input.gives g.O.Output.keeps g.met.I.Input.chain g.met.O.Output.chain _ _ _ _ _ _ _ _ _ _ _ c.step.new.self _ _
-    c.loop-copier.invariant.0 _ c.in-End.is step.moves c.flush.ensures.none
+    c.loop-copier.invariant.0 _ c.in-End.is step.moves c.in_ok-put_rest.ensures.none
 
-pub returns-clause-front : goal.returns-clause-front
-returns-clause-front g c =
+pub returns-in_err-put_rest-clause-front : goal.returns-in_err-put_rest-clause-front
+returns-in_err-put_rest-clause-front g c =
+    let p = err_from_is_err_and c.from_residual-in_err-put_rest.result c.from_residual-in_err-put_rest.ensures.1 in
     let step = c.in_ok-step.ensures in
-    CopiesFront-whole g.I.Input.gives g.O.Output.keeps _ _ _ _ _ _ _ _ _
+    rw p.1 (CopiesFront-whole g.I.Input.gives g.O.Output.keeps _ _ _ _ _ _ _ _ _
     (HasRun-end g.I.Input.gives g.O.Output.keeps g.met.I.Input.chain g.met.O.Output.chain _ _ _ _ _ _ _ _ _ _ _ c.step.new.self _ _
-    c.loop-copier.invariant.0 _ c.in-End.is step.moves c.flush.ensures.none)
+    c.loop-copier.invariant.0 _ c.in-End.is step.moves c.in_err-put_rest.ensures.none))
 
 pub returns-in_err-step-clause-fault : goal.returns-in_err-step-clause-fault
 returns-in_err-step-clause-fault g c =

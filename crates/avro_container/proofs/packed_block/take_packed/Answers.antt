@@ -11,8 +11,8 @@ use Rattle.avro_container.specs.TaskSeen.{job_of}
 use Rattle.avro_container.proofs.BlocksPacked.{block_packed, packing_fails}
 use Rattle.avro_container.proofs.packed_block.take_packed.Goals as goal
 
-pub returns-in_ok-pack_data-in-Some-clause-made : goal.returns-in_ok-pack_data-in-Some-clause-made
-returns-in_ok-pack_data-in-Some-clause-made g c =
+pub returns-in_ok-pack_known-in-Some-clause-made : goal.returns-in_ok-pack_known-in-Some-clause-made
+returns-in_ok-pack_known-in-Some-clause-made g c =
     let task = c.args.task.now in
     let header = c.args.header.now in
     let new = held c.take_block.new.buffer in
@@ -21,13 +21,13 @@ returns-in_ok-pack_data-in-Some-clause-made g c =
     let body : c.split_at-in-Some.result.0.now ≡ take head.size (drop head.start new) = c.split_at-in-Some.ensures.front ∙ ap (take head.size) rest in
     let stands = subst (λ (sync : List ℕ). BlockStands task.limits sync head.count (take head.size (drop head.start new)) (take (head.start + head.size + 16) new))
     c.sync.ensures (rw c.in-Some.is at c.in_ok-take_block.ensures.stands) in
-    let packs = subst (λ (b : List ℕ). PacksData (reading_of (job_of task) task.limits (header_value header)) head.count b c.pack_data.new.packed.items) body
-    c.in_ok-pack_data-in-Some.ensures.found in
+    let packs = subst (λ (b : List ℕ). PacksData (reading_of (job_of task) task.limits (header_value header)) head.count b c.pack_known.new.packed.items) body
+    c.in_ok-pack_known-in-Some.ensures.found in
     block_packed (job_of task) task.limits (header_value header) head.count _ _ _ (search rules) stands packs
 
-pub returns-in_err-pack_data-in-Some-clause-refused : goal.returns-in_err-pack_data-in-Some-clause-refused
-returns-in_err-pack_data-in-Some-clause-refused g c =
-    let p = err_from_is_err_and c.from_residual-in_err-pack_data-in-Some.result c.from_residual-in_err-pack_data-in-Some.ensures.1 in
+pub returns-in_err-pack_known-in-Some-clause-refused : goal.returns-in_err-pack_known-in-Some-clause-refused
+returns-in_err-pack_known-in-Some-clause-refused g c =
+    let p = err_from_is_err_and c.from_residual-in_err-pack_known-in-Some.result c.from_residual-in_err-pack_known-in-Some.ensures.1 in
     rw (p.1, p.2) (λ f is.
     let task = c.args.task.now in
     let header = c.args.header.now in
@@ -38,7 +38,7 @@ returns-in_err-pack_data-in-Some-clause-refused g c =
     let stands = subst (λ (sync : List ℕ). BlockStands task.limits sync head.count (take head.size (drop head.start new)) (take (head.start + head.size + 16) new))
     c.sync.ensures (rw c.in-Some.is at c.in_ok-take_block.ensures.stands) in
     let fault = subst (λ (b : List ℕ). IsDataFault (reading_of (job_of task) task.limits (header_value header)) c.args.number head.count b f) body
-    (c.in_err-pack_data-in-Some.ensures.refused f is) in
+    (c.in_err-pack_known-in-Some.ensures.refused f is) in
     packing_fails (job_of task) task.limits (header_value header) c.args.number (g.I.Input.ended c.take_block.new.input) head.count
     (head.start + head.size + 16) _ new f (search rules) (rw c.in-Some.is at c.in_ok-take_block.ensures.few) stands fault)
 

@@ -1,9 +1,14 @@
 -- The header or the next block is copied.
-use Rattle.std.proofs.Common.{◌≡◌, ◌∙◌, Some, refl, ap, sym, rules, arith}
+use Rattle.std.proofs.Common.{◌≡◌, ◌∙◌, Some, refl, ap, sym, subst, rules, arith}
+use Rattle.std.proofs.lemmas.Option.{same_Some, none-some}
 use Rattle.std.proofs.lemmas.Result.{err_from_is_err_and}
+use Rattle.std.specs.Option.{ForSome}
 use Rattle.std.specs.Prelude.{option_map}
 use Rattle.avro_container.specs.CopierSeen.{job_in, limits_in, stored_of}
 use Rattle.avro_container.specs.HeaderTaken.{header_value}
+use Rattle.avro_container.specs.Steps.{reading_of}
+use Rattle.avro_container.specs.TaskSeen.{job_of}
+use Rattle.avro_container.specs.inside.NoBytes.{PacksNoBytes}
 use Rattle.avro_container.proofs.Stepping.{block-gives, end-gives, header-gives}
 use Rattle.avro_container.proofs.copier_type.Copier.next_part.Goals as goal
 
@@ -44,3 +49,33 @@ returns-in_err-opened-in-None-clause-refused g c =
     let p = err_from_is_err_and c.from_residual-in_err-opened-in-None.result c.from_residual-in_err-opened-in-None.ensures.1 in
     rw (p.1, p.2)
     (c.in_err-opened-in-None.ensures.refused (stored_of self) (ap (option_map (λ o. header_value o.0)) c.in-None.is) (self.none_yet c.in-None.is))
+
+pub copy_block-requires-clause-known : goal.copy_block-requires-clause-known
+copy_block-requires-clause-known g c =
+    let self = c.args.self.now in
+    subst (λ h. ForSome self.empty (λ unit. ∥ PacksNoBytes (reading_of (job_of self.task) self.task.limits (header_value h)) unit.items ∥₁))
+    (sym c.header-header.ensures) (self.known c.in-Some.opened c.in-Some.is)
+
+pub invariant_of-self : goal.invariant_of-self
+invariant_of-self g c =
+    let self = c.args.self.now in
+    let task = self.task in
+    record {
+      near = c.copy_block.ensures.limited;
+      none_yet = λ none. absurd (none-some _ (sym none ∙ c.in-Some.is));
+      known = λ opened is. subst (λ h. ForSome c.copy_block.new.empty (λ unit. ∥ PacksNoBytes (reading_of (job_of task) task.limits (header_value h)) unit.items ∥₁))
+          (c.header-header.ensures ∙ ap (λ o. o.0) (same_Some _ _ (sym c.in-Some.is ∙ is))) c.copy_block.ensures.known;
+      same = self.same;
+    }
+
+pub invariant_of-self-in-Some-2-clause-known : goal.invariant_of-self-in-Some-2-clause-known
+invariant_of-self-in-Some-2-clause-known g c = λ opened is.
+    let task = c.args.self.now.task in
+    subst (λ h. ForSome c.copy_block.new.empty (λ unit. ∥ PacksNoBytes (reading_of (job_of task) task.limits (header_value h)) unit.items ∥₁))
+    (c.header-header.ensures ∙ ap (λ o. o.0) (same_Some _ _ (sym c.in-Some.is ∙ is))) c.copy_block.ensures.known
+
+pub invariant_of-self-in-None-2-clause-known : goal.invariant_of-self-in-None-2-clause-known
+invariant_of-self-in-None-2-clause-known g c = λ opened is.
+    let task = c.args.self.now.task in
+    subst (λ h. ForSome c.copy_block.new.empty (λ unit. ∥ PacksNoBytes (reading_of (job_of task) task.limits (header_value h)) unit.items ∥₁))
+    (c.header-header.ensures ∙ ap (λ o. o.0) (same_Some _ _ (sym c.in-Some.is ∙ is))) c.copy_block.ensures.known

@@ -4,7 +4,7 @@ use Rattle.avro_container.specs.inside.DataPacked.{PacksData}
 use Rattle.avro_container.specs.Steps.{reading_of}
 use Rattle.avro_container.specs.HeaderTaken.{header_value}
 use Rattle.avro_container.specs.TaskSeen.{job_of}
-use Rattle.avro_container.proofs.packing.pack_data.Given as goal
+use Rattle.avro_container.proofs.packing.pack_each.Given as goal
 
 abbrev pub invariant-loop-datum : goal.invariant-loop-datum
 invariant-loop-datum l =
