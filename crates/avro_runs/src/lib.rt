@@ -65,3 +65,40 @@ impl Write for Full {
         Ok(())
     }
 }
+
+/// A writer that takes all bytes, and counts the calls.
+#[derive(Drop)]
+pub struct Counted {
+    /// How many calls there were.
+    pub calls: usize,
+    /// How many bytes they took.
+    pub bytes: usize,
+    /// How many calls took bytes that end in the middle of a line.
+    pub torn: usize,
+}
+
+impl Counted {
+    /// A writer that has taken nothing.
+    pub fn new() -> Counted {
+        Counted {
+            calls: 0,
+            bytes: 0,
+            torn: 0,
+        }
+    }
+}
+
+impl Write for Counted {
+    fn write(&mut self, buf: &[u8]) -> io::Result<usize> {
+        self.calls = self.calls.saturating_add(1);
+        self.bytes = self.bytes.saturating_add(buf.len());
+        if !buf.ends_with(b"\n") {
+            self.torn = self.torn.saturating_add(1);
+        }
+        Ok(buf.len())
+    }
+
+    fn flush(&mut self) -> io::Result<()> {
+        Ok(())
+    }
+}

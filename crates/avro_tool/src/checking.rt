@@ -1,8 +1,7 @@
 use crate::Finding;
 use crate::container_file::{open_container, tell_counts};
 use crate::failure::Failure;
-use avro_binary::Nothing;
-use avro_container::{Blocks, CopyError, Counts, FileLimits, Header, Input};
+use avro_container::{Blocks, Checker, CopyError, Counts, FileLimits, Header, Input};
 use std::alloc::Global;
 use std::io::Write;
 use std::rt::Files;
@@ -25,6 +24,7 @@ fn count_data<I: Input>(alloc: Global, input: &mut I) -> Result<Counts, CopyErro
     let limits = FileLimits::default();
     let header = Header::read(alloc, input, &limits)?;
     let mut blocks = Blocks::new(alloc, &header, &limits);
+    let mut checker = Checker::new(alloc, &header, &limits);
     let mut counts = Counts {
         items: 0,
         blocks: 0,
@@ -33,7 +33,7 @@ fn count_data<I: Input>(alloc: Global, input: &mut I) -> Result<Counts, CopyErro
         let Some(block) = blocks.next(input)? else {
             break;
         };
-        block.read(None, &mut Nothing)?;
+        checker.check(&block)?;
         counts.items = counts.items.saturating_add(u64::from(block.count()));
         counts.blocks = counts.blocks.saturating_add(1);
     }

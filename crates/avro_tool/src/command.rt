@@ -1,5 +1,5 @@
 use crate::failure::Failure;
-use crate::grammar::program;
+use crate::grammar::{history_command, program};
 use clap::ArgMatches;
 use clap::error::ErrorKind;
 use std::alloc::{AllocError, Global};
@@ -84,10 +84,7 @@ pub(crate) fn request_of<'a>(
     if let Some(history) = matches.subcommand_matches("history") {
         return match history_in(alloc, history)? {
             Some(request) => Ok(request),
-            None => Err(Failure::Usage(command.error(
-                ErrorKind::TooFewValues,
-                "at least two schemas are required",
-            )?)),
+            None => Err(Failure::Usage(too_few_schemas(alloc)?)),
         };
     }
     match request_in(&matches) {
@@ -97,6 +94,12 @@ pub(crate) fn request_of<'a>(
             "a command is required",
         )?)),
     }
+}
+
+/// What is told of a history of one schema, with the usage of its command.
+fn too_few_schemas(alloc: Global) -> Result<clap::Error, AllocError> {
+    let mut command = history_command(alloc)?.bin_name("avro history")?;
+    command.error(ErrorKind::TooFewValues, "at least two schemas are required")
 }
 
 /// The request of words that have the form of the program's.

@@ -1,8 +1,8 @@
 use crate::Finding;
 use crate::failure::Failure;
+use crate::printing::print;
 use crate::schema_file::{bytes_of, read_schema_file};
 use avro_judge::{CertError, Certificate, confirm};
-use std::io;
 use std::io::Write;
 use std::rt::Files;
 
@@ -26,14 +26,12 @@ pub(crate) fn tell_confirmed<'a, O: Write>(
     out: &mut O,
     is_confirmed: bool,
 ) -> Result<Finding, Failure<'a>> {
-    let printed = if is_confirmed {
-        print_finding(out, "confirmed", Finding::Yes)
+    if is_confirmed {
+        print(out, "confirmed\n")?;
+        Ok(Finding::Yes)
     } else {
-        print_finding(out, "not confirmed", Finding::No)
-    };
-    match printed {
-        Ok(finding) => Ok(finding),
-        Err(_) => Err(Failure::CannotPrint),
+        print(out, "not confirmed\n")?;
+        Ok(Finding::No)
     }
 }
 
@@ -60,10 +58,4 @@ pub(crate) fn bytes_of_certificates<'a, R: Files + AllocGlobal>(
         return Err(Failure::of_certificate(word, CertError::Malformed));
     }
     Ok(bytes)
-}
-
-fn print_finding<O: Write>(out: &mut O, text: &str, finding: Finding) -> io::Result<Finding> {
-    writeln!(out, "{text}")?;
-    out.flush()?;
-    Ok(finding)
 }

@@ -1,12 +1,15 @@
 use crate::Finding;
 use crate::failure::Failure;
 use avro_container::{Counts, ReadInput};
-use std::io::{BufReader, Write};
+use std::io::{BufReader, Cursor, Write};
 use std::rt::Files;
 use std::{fs, io};
 
 /// How many bytes are read or written at once.
 pub(crate) const ROOM: usize = 65_536;
+
+/// How many bytes the line of two counts has at the most.
+const ROOM_OF_COUNTS: usize = 54;
 
 /// The container in a file, of which nothing is read yet.
 pub(crate) fn open_container<'a, R: Files + AllocGlobal>(
@@ -33,8 +36,12 @@ pub(crate) fn tell_counts<'a, O: Write>(
     }
 }
 
+/// Prints the line of two counts by one write.
 fn print_counts<O: Write>(out: &mut O, counts: Counts) -> io::Result<()> {
     let Counts { items, blocks } = counts;
-    writeln!(out, "data {items} blocks {blocks}")?;
+    let mut line = Cursor::new([0; ROOM_OF_COUNTS]);
+    writeln!(line, "data {items} blocks {blocks}")?;
+    let len = (line.position() as usize).min(ROOM_OF_COUNTS);
+    out.write_all(&line.get_ref()[..len])?;
     out.flush()
 }

@@ -1,6 +1,7 @@
 use crate::Finding;
 use crate::container_file::{open_container, tell_counts};
 use crate::failure::Failure;
+use crate::kept_files::is_one_file;
 use crate::late_file::LateFile;
 use crate::schema_file::read_reader;
 use avro_container::{CopyError, FileLimits, WriteOutput, copy};
@@ -22,6 +23,9 @@ pub(crate) fn copy_file<'a, R: Files + AllocGlobal, O: Write>(
         return Err(Failure::OneWord);
     }
     let sync = marker_of(sync)?;
+    if is_one_file(rt, input, output)? {
+        return Err(Failure::OneFile);
+    }
     let reader = read_reader(rt, reader)?;
     let mut source = open_container(rt, input)?;
     let mut file = LateFile::new(rt, output);

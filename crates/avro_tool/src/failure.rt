@@ -3,9 +3,8 @@ use avro_judge::CertError;
 use avro_schema::Memory;
 use avro_schema_json::SchemaError;
 use clap::error::ErrorKind;
-use std::alloc::AllocError;
+use std::alloc::{AllocError, Global};
 use std::io;
-use std::io::Write;
 
 /// Why the program ends without an answer. A word is the argument that names the file.
 #[derive(Debug, Drop)]
@@ -32,6 +31,12 @@ pub(crate) enum Failure<'a> {
     OneWord,
     /// The digits of a marker are not those of 16 bytes.
     NoMarker,
+    /// A file was to be copied into itself, by another name.
+    OneFile,
+    /// A file that an option asks for is one of those that are read.
+    IsRead(&'a str),
+    /// A file that an option asks for holds a schema.
+    IsSchema(&'a str),
 }
 
 impl<'a> Failure<'a> {
@@ -97,23 +102,37 @@ impl<'a> Failure<'a> {
             Failure::CannotRead(_) | Failure::CannotWrite(_) | Failure::CannotPrint => 4,
             Failure::OutOfMemory => 5,
             Failure::Usage(_) | Failure::NotText | Failure::OneWord | Failure::NoMarker => 64,
+            Failure::OneFile | Failure::IsRead(_) | Failure::IsSchema(_) => 64,
         }
     }
 
-    /// Writes the line of the failure, or the text of usage.
-    pub(crate) fn write_to<E: Write>(&self, err: &mut E) -> io::Result<()> {
+    /// The line of the failure, or the text of usage.
+    pub(crate) fn line(&self, alloc: Global) -> Result<String, AllocError> {
         match self {
-            Failure::Schema(word, error) => writeln!(err, "avro: {word}: {error}"),
-            Failure::Certificate(word, error) => writeln!(err, "avro: {word}: {error}"),
-            Failure::Container(word, error) => writeln!(err, "avro: {word}: {error}"),
-            Failure::CannotRead(word) => writeln!(err, "avro: {word}: cannot read"),
-            Failure::CannotWrite(word) => writeln!(err, "avro: {word}: cannot write"),
-            Failure::CannotPrint => writeln!(err, "avro: output: cannot write"),
-            Failure::OutOfMemory => writeln!(err, "avro: out of memory"),
-            Failure::Usage(text) => write!(err, "{text}"),
-            Failure::NotText => writeln!(err, "avro: an argument is not UTF-8"),
-            Failure::OneWord => writeln!(err, "avro: IN and OUT are one word"),
-            Failure::NoMarker => writeln!(err, "avro: --sync takes 32 hexadecimal digits"),
+            Failure::Schema(word, error) => format!(in alloc; "avro: {word}: {error}\n"),
+            Failure::Certificate(word, error) => format!(in alloc; "avro: {word}: {error}\n"),
+            Failure::Container(word, error) => format!(in alloc; "avro: {word}: {error}\n"),
+            Failure::CannotRead(word) => format!(in alloc; "avro: {word}: cannot read\n"),
+            Failure::CannotWrite(word) => format!(in alloc; "avro: {word}: cannot write\n"),
+            Failure::Usage(text) => format!(in alloc; "{text}"),
+            Failure::IsRead(word) => {
+                format!(in alloc; "avro: {word} is one of the files that are read\n")
+            }
+            Failure::IsSchema(word) => format!(in alloc; "avro: {word} is a schema\n"),
+            other => String::from_str(alloc, other.fixed_line()),
+        }
+    }
+
+    /// The line of a failure that names no word, which takes no memory; of other failures no text.
+    pub(crate) fn fixed_line(&self) -> &'static str {
+        match self {
+            Failure::CannotPrint => "avro: output: cannot write\n",
+            Failure::OutOfMemory => "avro: out of memory\n",
+            Failure::NotText => "avro: an argument is not UTF-8\n",
+            Failure::OneWord => "avro: IN and OUT are one word\n",
+            Failure::NoMarker => "avro: --sync takes 32 hexadecimal digits\n",
+            Failure::OneFile => "avro: IN and OUT are one file\n",
+            _ => "",
         }
     }
 }

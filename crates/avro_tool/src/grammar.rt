@@ -67,7 +67,7 @@ fn schema_command<'a>(alloc: Global) -> Result<Command<'a>, AllocError> {
 }
 
 /// The command over a history of schemas.
-fn history_command<'a>(alloc: Global) -> Result<Command<'a>, AllocError> {
+pub(crate) fn history_command<'a>(alloc: Global) -> Result<Command<'a>, AllocError> {
     let files = Arg::new(alloc, "files")
         .value_name("SCHEMA")
         .required(true)

@@ -3,14 +3,16 @@ use crate::command::Evidence;
 use crate::confirming::{bytes_of_certificates, tell_confirmed};
 use crate::failure::Failure;
 use crate::judging::name_of;
+use crate::kept_files::{refuse_read_file, refuse_schema_file};
+use crate::printing::print;
 use crate::schema_file::read_schema_file;
 use avro_history::{HistoryCert, confirm_history};
 use avro_judge::{Certificate, JudgeLimits, Verdict, judge};
 use avro_schema::{Memory, Schema};
 use std::alloc::Global;
+use std::fs;
 use std::io::Write;
 use std::rt::Files;
-use std::{fs, io};
 
 /// Tells of the schemas of several files whether that of the last one takes all data of each: by
 /// judging them, or by the certificates of a file.
@@ -21,6 +23,11 @@ pub(crate) fn history_of_files<'a, R: Files + AllocGlobal, O: Write>(
     evidence: Evidence<'a>,
     out: &mut O,
 ) -> Result<Finding, Failure<'a>> {
+    if let Evidence::Written(word) = evidence {
+        refuse_read_file(rt, Some(word), writers)?;
+        refuse_read_file(rt, Some(word), &[reader])?;
+        refuse_schema_file(rt, Some(word))?;
+    }
     let schemas = read_schema_files(rt, writers)?;
     let reader = read_schema_file(rt, reader)?;
     match evidence {
@@ -73,10 +80,7 @@ fn judge_each<'a, R: AllocGlobal, O: Write>(
     let mut certificates = Vec::new(rt.alloc());
     for (word, writer) in words.iter().zip(writers) {
         let verdict = judge(rt.alloc(), writer, reader, &limits)?;
-        match print_verdict(out, word, &verdict) {
-            Ok(found) => finding = finding.and(found),
-            Err(_) => return Err(Failure::CannotPrint),
-        }
+        finding = finding.and(tell_verdict(rt.alloc(), out, word, &verdict)?);
         if is_asked {
             keep_certificate(rt.alloc(), &verdict, &mut certificates)?;
         }
@@ -100,23 +104,24 @@ fn keep_certificate(
 }
 
 /// Prints the line of a writer's schema.
-fn print_verdict<O: Write>(out: &mut O, word: &str, verdict: &Verdict<'_>) -> io::Result<Finding> {
-    let finding = match verdict {
-        Verdict::Approved(_) => {
-            writeln!(out, "{word} yes")?;
-            Finding::Yes
-        }
-        Verdict::Refuted(_) => {
-            writeln!(out, "{word} no")?;
-            Finding::No
-        }
+fn tell_verdict<'a, O: Write>(
+    alloc: Global,
+    out: &mut O,
+    word: &str,
+    verdict: &Verdict<'_>,
+) -> Result<Finding, Failure<'a>> {
+    let (line, finding) = match verdict {
+        Verdict::Approved(_) => (format!(in alloc; "{word} yes\n")?, Finding::Yes),
+        Verdict::Refuted(_) => (format!(in alloc; "{word} no\n")?, Finding::No),
         Verdict::Undecided(cause) => {
             let name = name_of(*cause);
-            writeln!(out, "{word} undecided {name}")?;
-            Finding::Undecided
+            (
+                format!(in alloc; "{word} undecided {name}\n")?,
+                Finding::Undecided,
+            )
         }
     };
-    out.flush()?;
+    print(out, &line)?;
     Ok(finding)
 }
 

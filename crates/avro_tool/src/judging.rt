@@ -1,14 +1,17 @@
 use crate::Finding;
 use crate::failure::Failure;
+use crate::kept_files::{refuse_read_file, refuse_schema_file};
+use crate::printing::print;
 use crate::refutation_file::write_refutation_file;
 use crate::schema_file::{read_schema_file, read_text_file};
 use avro_display::show;
 use avro_judge::{Approved, Cause, JudgeLimits, Refutation, Verdict, judge};
 use avro_schema::size;
 use avro_schema_json::ReaderText;
+use std::alloc::{AllocError, Global};
+use std::fs;
 use std::io::Write;
 use std::rt::Files;
-use std::{fs, io};
 
 /// Judges the schemas of two files, and prints the verdict. After a yes the certificate is written
 /// where a file is named for it, and after a no the refutation.
@@ -20,6 +23,11 @@ pub(crate) fn judge_files<'a, R: Files + AllocGlobal, O: Write>(
     refutation: Option<&'a str>,
     out: &mut O,
 ) -> Result<Finding, Failure<'a>> {
+    let words = [writer, reader];
+    refuse_read_file(rt, certificate, &words)?;
+    refuse_read_file(rt, refutation, &words)?;
+    refuse_schema_file(rt, certificate)?;
+    refuse_schema_file(rt, refutation)?;
     let text = read_text_file(rt, writer)?;
     let writer = text.schema();
     let reader = read_schema_file(rt, reader)?;
@@ -29,10 +37,12 @@ pub(crate) fn judge_files<'a, R: Files + AllocGlobal, O: Write>(
             let display = show(rt.alloc(), writer, writer.root(), &found.datum)?;
             refute(rt, &text, &found, &display, refutation, out)
         }
-        Verdict::Undecided(cause) => match print_undecided(out, cause) {
-            Ok(finding) => Ok(finding),
-            Err(_) => Err(Failure::CannotPrint),
-        },
+        Verdict::Undecided(cause) => {
+            let name = name_of(cause);
+            let answer = format!(in rt.alloc(); "undecided {name}\n")?;
+            print(out, &answer)?;
+            Ok(Finding::Undecided)
+        }
     }
 }
 
@@ -43,9 +53,7 @@ fn approve<'a, R: Files + AllocGlobal, O: Write>(
     certificate: Option<&'a str>,
     out: &mut O,
 ) -> Result<Finding, Failure<'a>> {
-    if print_yes(out).is_err() {
-        return Err(Failure::CannotPrint);
-    }
+    print(out, "yes\n")?;
     if let Some(word) = certificate {
         write_certificate_file(rt, approved, word)?;
     }
@@ -61,9 +69,8 @@ fn refute<'a, R: Files + AllocGlobal, O: Write>(
     file: Option<&'a str>,
     out: &mut O,
 ) -> Result<Finding, Failure<'a>> {
-    if print_no(out, refutation, display).is_err() {
-        return Err(Failure::CannotPrint);
-    }
+    let answer = no_of(rt.alloc(), refutation, display)?;
+    print(out, &answer)?;
     if let Some(word) = file {
         write_refutation_file(rt, writer, &refutation.datum, word)?;
     }
@@ -84,23 +91,11 @@ fn write_certificate_file<'a, R: Files + AllocGlobal>(
     }
 }
 
-fn print_yes<O: Write>(out: &mut O) -> io::Result<()> {
-    writeln!(out, "yes")?;
-    out.flush()
-}
-
-fn print_no<O: Write>(out: &mut O, refutation: &Refutation, display: &str) -> io::Result<()> {
+/// The lines of a no.
+fn no_of(alloc: Global, refutation: &Refutation, display: &str) -> Result<String, AllocError> {
     let fault = &refutation.fault;
     let nodes = size(&refutation.datum);
-    writeln!(out, "no\nfault {fault}\nnodes {nodes}\ndatum {display}")?;
-    out.flush()
-}
-
-fn print_undecided<O: Write>(out: &mut O, cause: Cause) -> io::Result<Finding> {
-    let name = name_of(cause);
-    writeln!(out, "undecided {name}")?;
-    out.flush()?;
-    Ok(Finding::Undecided)
+    format!(in alloc; "no\nfault {fault}\nnodes {nodes}\ndatum {display}\n")
 }
 
 /// The name of a cause.

@@ -10,7 +10,9 @@ mod failure;
 mod grammar;
 mod history;
 mod judging;
+mod kept_files;
 mod late_file;
+mod printing;
 mod refutation_file;
 mod schema_file;
 mod showing;
@@ -18,6 +20,7 @@ mod showing_data;
 
 use command::{Request, request_of};
 use failure::Failure;
+use std::alloc::Global;
 use std::io;
 use std::io::Write;
 use std::rt::Files;
@@ -54,7 +57,9 @@ impl Finding {
 
 /// Tells that the words could not be taken from the system, and answers the status.
 pub fn refuse_words<E: Write>(error: &io::Error, err: &mut E) -> u8 {
-    report(&Failure::of_words(error), err)
+    let failure = Failure::of_words(error);
+    let _ = err.write_all(failure.fixed_line().as_bytes());
+    failure.status()
 }
 
 /// Runs the program over its words, without its name, and answers its status: 0 good or yes, 1 no,
@@ -68,14 +73,26 @@ pub fn run<R: Files + AllocGlobal, O: Write, E: Write>(
 ) -> u8 {
     match answer(rt, words, out) {
         Ok(finding) => finding.status(),
-        Err(failure) => report(&failure, err),
+        Err(failure) => report(rt.alloc(), &failure, err),
     }
 }
 
-/// Tells of a failure, and answers its status. Where the standard error fails too, the status is all
-/// that can be told.
-fn report<E: Write>(failure: &Failure<'_>, err: &mut E) -> u8 {
-    let _ = failure.write_to(err);
+/// Tells of a failure by one write, and answers its status. Where the standard error fails too, the status is
+/// all that can be told; where memory runs out for the line, that is told in its place.
+fn report<E: Write>(alloc: Global, failure: &Failure<'_>, err: &mut E) -> u8 {
+    match failure.line(alloc) {
+        Ok(line) => {
+            let _ = err.write_all(line.as_bytes());
+            failure.status()
+        }
+        Err(_) => report_memory(err),
+    }
+}
+
+/// Tells that memory ran out, which takes none.
+fn report_memory<E: Write>(err: &mut E) -> u8 {
+    let failure = Failure::OutOfMemory;
+    let _ = err.write_all(failure.fixed_line().as_bytes());
     failure.status()
 }
 

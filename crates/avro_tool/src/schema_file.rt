@@ -6,7 +6,7 @@ use std::rt::Files;
 use std::{fs, io};
 
 /// The greatest length of a schema's text.
-const MAX_TEXT: u64 = 1_048_576;
+pub(crate) const MAX_TEXT: u64 = 1_048_576;
 
 /// The schema in a file. At most one byte more than a text may have is read, once.
 pub(crate) fn read_schema_file<'a, R: Files + AllocGlobal>(
@@ -55,7 +55,12 @@ pub(crate) fn bytes_of<'a, R: Files + AllocGlobal>(
     }
 }
 
-fn read_bytes<R: Files + AllocGlobal>(rt: &R, path: &str, limit: u64) -> io::Result<Vec<u8>> {
+/// The bytes of a file, up to one more than a limit.
+pub(crate) fn read_bytes<R: Files + AllocGlobal>(
+    rt: &R,
+    path: &str,
+    limit: u64,
+) -> io::Result<Vec<u8>> {
     let mut bytes = Vec::new(rt.alloc());
     fs::open(rt, path)?
         .take(limit.saturating_add(1))

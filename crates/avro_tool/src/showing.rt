@@ -1,9 +1,9 @@
 use crate::Finding;
 use crate::command::Shown;
 use crate::failure::Failure;
+use crate::printing::print;
 use crate::schema_file::read_schema_file;
 use avro_canonical::{canonical, fingerprint_text};
-use std::io;
 use std::io::Write;
 use std::rt::Files;
 
@@ -15,23 +15,12 @@ pub(crate) fn show_schema<'a, R: Files + AllocGlobal, O: Write>(
     out: &mut O,
 ) -> Result<Finding, Failure<'a>> {
     let schema = read_schema_file(rt, file)?;
-    let printed = match shown {
-        Shown::Count => print_ok(out, schema.len()),
-        Shown::Canonical => print_line(out, canonical(rt.alloc(), &schema)?.as_str()),
-        Shown::Fingerprint => print_line(out, fingerprint_text(rt.alloc(), &schema)?.as_str()),
+    let mut line = match shown {
+        Shown::Count => format!(in rt.alloc(); "ok {}", schema.len())?,
+        Shown::Canonical => canonical(rt.alloc(), &schema)?,
+        Shown::Fingerprint => fingerprint_text(rt.alloc(), &schema)?,
     };
-    match printed {
-        Ok(()) => Ok(Finding::Good),
-        Err(_) => Err(Failure::CannotPrint),
-    }
-}
-
-fn print_ok<O: Write>(out: &mut O, nodes: usize) -> io::Result<()> {
-    writeln!(out, "ok {nodes}")?;
-    out.flush()
-}
-
-fn print_line<O: Write>(out: &mut O, line: &str) -> io::Result<()> {
-    writeln!(out, "{line}")?;
-    out.flush()
+    line.push('\n')?;
+    print(out, &line)?;
+    Ok(Finding::Good)
 }

@@ -1,19 +1,20 @@
-ghost use Rattle.std.specs.Prelude.{◌≡◌, true, IfOk, IfSome, option_map};
-ghost use Rattle.avro_container.specs.DataRead.{FitAll, read_nodes};
-ghost use Rattle.avro_schema.specs.Fits.{each_fits};
+ghost use Rattle.std.specs.Prelude.{◌≡◌, ◌≤◌, true, length, IfOk, option_map};
+ghost use Rattle.avro_container.specs.DataRead.{read_nodes};
+ghost use Rattle.avro_schema.specs.Fits.{fits};
 ghost use Rattle.avro_schema.specs.Node.{root_of};
-ghost use Rattle.avro_schema.specs.Seen.{value_of, values_of};
+ghost use Rattle.avro_schema.specs.Seen.{value_of};
 ghost use Rattle.avro_schema.specs.SeenSchema.{schema_nodes};
 
 use crate::Finding;
 use crate::container_file::{ROOM, open_container};
 use crate::failure::Failure;
 use crate::schema_file::read_reader;
-use avro_binary::Tree;
+use avro_binary::{Nothing, Tree, decode};
 use avro_container::{Block, Blocks, CopyError, FileLimits, Header, Input};
 use avro_display::show;
-use avro_resolve::Plan;
-use avro_schema::{Datum, Memory, Schema};
+use avro_resolve::laws::resolved_fits;
+use avro_resolve::{Plan, ReadResolveError};
+use avro_schema::{Datum, Limits, Memory, Schema};
 use avro_schema_json::ReaderText;
 use std::alloc::Global;
 use std::io::{BufWriter, Write};
@@ -57,7 +58,7 @@ fn show_data<'a, I: Input, O: Write>(
     show_blocks(alloc, input, word, &header, &plan, &limits, out)
 }
 
-/// Prints the data of the blocks behind a header, those of a block once the whole block was read.
+/// Prints the data of the blocks after a header.
 fn show_blocks<'a, I: Input, O: Write>(
     alloc: Global,
     input: &mut I,
@@ -67,11 +68,10 @@ fn show_blocks<'a, I: Input, O: Write>(
     limits: &FileLimits,
     out: &mut O,
 ) -> Result<Finding, Failure<'a>> {
-    let schema = shown_schema(header, plan);
     let mut blocks = Blocks::new(alloc, header, limits);
     for _ in 0..u64::MAX {
-        match next_data(&mut blocks, input, plan) {
-            Ok(Some(data)) => show_block(alloc, schema, &data, out)?,
+        match next_block(&mut blocks, input, plan) {
+            Ok(Some(block)) => show_block(alloc, &block, header, plan, &limits.datum(), out)?,
             Ok(None) => break,
             Err(error) => return Err(Failure::of_container(word, error)),
         }
@@ -91,59 +91,85 @@ fn plan_for<'a>(
     }
 }
 
+/// The next block, where there is one. All of its data were walked over, so that a block with a fault is not shown in part.
+fn next_block<'a, I: Input>(
+    blocks: &mut Blocks<'a>,
+    input: &mut I,
+    plan: &Option<Plan<'_>>,
+) -> Result<Option<Block<'a>>, CopyError> {
+    let Some(block) = blocks.next(input)? else {
+        return Ok(None);
+    };
+    match plan {
+        Some(plan) => {
+            block.read_by(plan, &mut Nothing)?;
+        }
+        None => block.check()?,
+    }
+    Ok(Some(block))
+}
+
+/// Prints the data of a block that was walked over, each once it was read by itself.
+fn show_block<'a, O: Write>(
+    alloc: Global,
+    block: &Block<'_>,
+    header: &Header,
+    plan: &Option<Plan<'_>>,
+    limits: &Limits,
+    out: &mut O,
+) -> Result<(), Failure<'a>> {
+    let schema = header.schema();
+    let shown = shown_schema(schema, plan);
+    let mut rest = block.body();
+    for _ in 0..block.count() {
+        // After the walk over the block memory alone is wanting.
+        let Ok((datum, len)) = read_datum(alloc, schema, plan, rest, limits) else {
+            return Err(Failure::OutOfMemory);
+        };
+        let mut line = show(alloc, shown, shown.root(), &datum)?;
+        line.push('\n')?;
+        if out.write_all(line.as_bytes()).is_err() {
+            return Err(Failure::CannotPrint);
+        }
+        let (_, others) = rest.split_at(len);
+        rest = others;
+    }
+    Ok(())
+}
+
 /// The schema of what is printed: the reader's, where there is one.
-fn shown_schema<'a>(header: &'a Header, plan: &'a Option<Plan<'_>>) -> &'a Schema
-    ensures { schema_nodes result.now ≡ read_nodes (schema_nodes header.now.schema) (option_map (λ p. schema_nodes p.1) plan.now) }
+fn shown_schema<'a>(schema: &'a Schema, plan: &'a Option<Plan<'_>>) -> &'a Schema
+    ensures { schema_nodes result.now ≡ read_nodes (schema_nodes schema.now) (option_map (λ p. schema_nodes p.1) plan.now) }
 {
     match plan {
         Some(plan) => plan.by_ref().reader(),
-        None => header.schema(),
+        None => schema,
     }
 }
 
-/// The data of the next block, where there is one: each is one of the schema that is printed.
-fn next_data<I: Input>(
-    blocks: &mut Blocks<'_>,
-    input: &mut I,
-    plan: &Option<Plan<'_>>,
-) -> Result<Option<Vec<Datum>>, CopyError>
-    ensures fit { IfOk result (λ found. IfSome found (λ all. each_fits
-        (read_nodes (schema_nodes blocks.old.header.now.schema) (option_map (λ p. schema_nodes p.1) plan.now))
-        (root_of (read_nodes (schema_nodes blocks.old.header.now.schema) (option_map (λ p. schema_nodes p.1) plan.now)))
-        (values_of all.items) ≡ true)) }
-    ensures same { blocks.new.header ≡ blocks.old.header }
-{
-    match blocks.next(input)? {
-        Some(block) => Ok(Some(read_block(&block, plan)?)),
-        None => Ok(None),
-    }
-}
-
-/// The data of a block.
-fn read_block(block: &Block<'_>, plan: &Option<Plan<'_>>) -> Result<Vec<Datum>, CopyError>
-    ensures { IfOk result (λ all. FitAll (λ d v. value_of d ≡ v)
-        (read_nodes (schema_nodes block.now.header.now.schema) (option_map (λ p. schema_nodes p.1) plan.now)) all.items) }
-{
-    match plan {
-        Some(plan) => block.read_by(plan, &mut Tree),
-        None => block.read(None, &mut Tree),
-    }
-}
-
-/// Prints the data of a block.
-fn show_block<'a, O: Write>(
+/// Reads a datum from the front of bytes, as what it is for a reader where there is one, and answers it with the
+/// length of its encoding.
+fn read_datum(
     alloc: Global,
     schema: &Schema,
-    all: &[Datum],
-    out: &mut O,
-) -> Result<(), Failure<'a>>
-    requires fitting { each_fits (schema_nodes schema.now) (root_of (schema_nodes schema.now)) (values_of all.now) ≡ true }
+    plan: &Option<Plan<'_>>,
+    bytes: &[u8],
+    limits: &Limits,
+) -> Result<(Datum, usize), ReadResolveError>
+    ensures fitting { IfOk result (λ r. fits (read_nodes (schema_nodes schema.now) (option_map (λ p. schema_nodes p.1) plan.now))
+        (root_of (read_nodes (schema_nodes schema.now) (option_map (λ p. schema_nodes p.1) plan.now))) (value_of r.0) ≡ true) }
+    ensures inside { IfOk result (λ r. r.1 ≤ length bytes.now) }
 {
-    for datum in all {
-        let line = show(alloc, schema, schema.root(), datum)?;
-        if writeln!(out, "{line}").is_err() {
-            return Err(Failure::CannotPrint);
+    resolved_fits();
+    match plan {
+        Some(plan) => {
+            // The reader's nodes are known to be a schema.
+            let _ = plan.by_ref().reader().len();
+            plan.read(alloc, bytes, limits, &mut Tree)
         }
+        None => match decode(alloc, schema, schema.root(), bytes, limits) {
+            Ok(answer) => Ok(answer),
+            Err(error) => Err(ReadResolveError::Read(error)),
+        },
     }
-    Ok(())
 }
