@@ -43,15 +43,27 @@ enum Failing {
     Never,
     Put(usize),
     None(usize),
-    Flush,
+    Flush(usize),
 }
 
-/// A writer that keeps one byte a call, and fails in one call.
+/// A writer that keeps one byte a call, and fails in one call. Writes and flushes are counted apart.
 #[derive(Drop)]
 struct Kept {
     bytes: Vec<u8>,
     calls: usize,
+    flushes: usize,
     failing: Failing,
+}
+
+impl Kept {
+    fn new(alloc: Global, failing: Failing) -> Kept {
+        Kept {
+            bytes: Vec::new(alloc),
+            calls: 0,
+            flushes: 0,
+            failing,
+        }
+    }
 }
 
 impl Write for Kept {
@@ -74,7 +86,9 @@ impl Write for Kept {
     }
 
     fn flush(&mut self) -> io::Result<()> {
-        if self.failing == Failing::Flush {
+        let call = self.flushes;
+        self.flushes = call.saturating_add(1);
+        if self.failing == Failing::Flush(call) {
             return Err(io::Error::from(io::ErrorKind::StorageFull));
         }
         Ok(())
@@ -88,23 +102,19 @@ fn copied(
     size: usize,
     take: usize,
     failing: Failing,
-) -> (Vec<u8>, Result<(), CopyError>) {
+) -> (Kept, Result<(), CopyError>) {
     let mut source = Source {
         rest: FIVE,
         size,
         calls: 0,
         failing: take,
     };
-    let mut kept = Kept {
-        bytes: Vec::new(alloc),
-        calls: 0,
-        failing,
-    };
+    let mut kept = Kept::new(alloc, failing);
     let limits = FileLimits::default();
     let mut input = ReadInput::new(&mut source);
     let mut output = WriteOutput::new(&mut kept);
     let answer = copy(alloc, &mut input, &mut output, reader, None, &limits);
-    (kept.bytes, answer.map(|_| ()))
+    (kept, answer.map(|_| ()))
 }
 
 #[test]
@@ -112,9 +122,10 @@ fn any_cut_gives_the_same_copy(rt: HostRuntime) -> Result<(), Fail> {
     let alloc = rt.alloc();
     let reader = reader_of(alloc, LONG_OR_INT)?;
     for size in [1, 2, 3, 7, 59] {
-        let (bytes, answer) = copied(alloc, reader.as_ref(), size, NEVER, Failing::Never);
+        let (kept, answer) = copied(alloc, reader.as_ref(), size, NEVER, Failing::Never);
         assert_eq!(rt; answer, Ok(()), "{size}");
-        assert_eq!(rt; bytes.as_slice(), FIVE_COPIED, "{size}");
+        assert_eq!(rt; kept.bytes.as_slice(), FIVE_COPIED, "{size}");
+        assert_eq!(rt; kept.flushes, 1, "{size}");
     }
     Ok(())
 }
@@ -125,15 +136,17 @@ fn failed_puts_are_told(rt: HostRuntime) -> Result<(), Fail> {
     let reader = reader_of(alloc, LONG_OR_INT)?;
     for call in 0..69 {
         for failing in [Failing::Put(call), Failing::None(call)] {
-            let (bytes, answer) = copied(alloc, reader.as_ref(), 1, NEVER, failing);
+            let (kept, answer) = copied(alloc, reader.as_ref(), 1, NEVER, failing);
             assert_eq!(rt; answer, Err(CopyError::OutputFailed), "{call}");
-            assert_eq!(rt; bytes.len(), call);
-            assert!(rt; FIVE_COPIED.starts_with(&bytes), "{call}");
+            assert_eq!(rt; kept.bytes.len(), call);
+            assert_eq!(rt; kept.calls, call + 1);
+            assert!(rt; FIVE_COPIED.starts_with(&kept.bytes), "{call}");
         }
     }
-    let (bytes, answer) = copied(alloc, reader.as_ref(), 1, NEVER, Failing::Flush);
+    let (kept, answer) = copied(alloc, reader.as_ref(), 1, NEVER, Failing::Flush(0));
     assert_eq!(rt; answer, Err(CopyError::OutputFailed));
-    assert_eq!(rt; bytes.as_slice(), FIVE_COPIED);
+    assert_eq!(rt; kept.bytes.as_slice(), FIVE_COPIED);
+    assert_eq!(rt; kept.flushes, 1);
     Ok(())
 }
 
@@ -142,10 +155,52 @@ fn failed_takes_are_told(rt: HostRuntime) -> Result<(), Fail> {
     let alloc = rt.alloc();
     let reader = reader_of(alloc, LONG_OR_INT)?;
     for call in 0..60 {
-        let (bytes, answer) = copied(alloc, reader.as_ref(), 1, call, Failing::Never);
+        let (kept, answer) = copied(alloc, reader.as_ref(), 1, call, Failing::Never);
         assert_eq!(rt; answer, Err(CopyError::InputFailed), "{call}");
-        assert!(rt; FIVE_COPIED.starts_with(&bytes), "{call}");
-        assert!(rt; call >= 40 || bytes.is_empty(), "{call}");
+        assert!(rt; FIVE_COPIED.starts_with(&kept.bytes), "{call}");
+        assert!(rt; call >= 40 || kept.bytes.is_empty(), "{call}");
+    }
+    Ok(())
+}
+
+#[test]
+fn a_failed_take_is_one_call(rt: HostRuntime) -> Result<(), Fail> {
+    for failing in 0..5 {
+        let mut source = Source {
+            rest: FIVE,
+            size: 1,
+            calls: 0,
+            failing,
+        };
+        let mut input = ReadInput::new(&mut source);
+        for call in 0..5 {
+            let answer = input.take(&mut [0; 4]);
+            assert_eq!(rt; answer.is_err(), call == failing, "{call} of {failing}");
+        }
+        assert_eq!(rt; source.calls, 5);
+    }
+    Ok(())
+}
+
+#[test]
+fn a_failed_put_or_flush_is_one_call(rt: HostRuntime) -> Result<(), Fail> {
+    for failing in 0..5 {
+        let mut kept = Kept::new(rt.alloc(), Failing::Put(failing));
+        let mut output = WriteOutput::new(&mut kept);
+        for call in 0..5 {
+            let answer = output.put(FIVE);
+            assert_eq!(rt; answer.is_err(), call == failing, "{call} of {failing}");
+        }
+        assert_eq!(rt; kept.calls, 5);
+        assert_eq!(rt; kept.bytes.len(), 4);
+        let mut kept = Kept::new(rt.alloc(), Failing::Flush(failing));
+        let mut output = WriteOutput::new(&mut kept);
+        for call in 0..5 {
+            let answer = output.flush();
+            assert_eq!(rt; answer.is_err(), call == failing, "{call} of {failing}");
+        }
+        assert_eq!(rt; kept.flushes, 5);
+        assert_eq!(rt; kept.calls, 0);
     }
     Ok(())
 }
@@ -181,11 +236,7 @@ fn a_copier_stays_failed(rt: HostRuntime) -> Result<(), Fail> {
                 calls: 0,
                 failing: take,
             });
-            let mut output = WriteOutput::new(Kept {
-                bytes: Vec::new(alloc),
-                calls: 0,
-                failing,
-            });
+            let mut output = WriteOutput::new(Kept::new(alloc, failing));
             let mut copier = Copier::new(alloc, None, None, &limits);
             let (first, second) = failed_steps(&mut copier, &mut input, &mut output);
             assert_eq!(rt; first, Err(wanted), "{call}");

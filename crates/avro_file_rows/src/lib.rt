@@ -7,9 +7,13 @@ mod copying;
 #[cfg(test)]
 mod devices;
 #[cfg(test)]
+mod empty;
+#[cfg(test)]
 mod files;
 #[cfg(test)]
 mod headers;
+#[cfg(test)]
+mod one_file;
 #[cfg(test)]
 mod parts;
 #[cfg(test)]

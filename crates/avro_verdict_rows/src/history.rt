@@ -1,6 +1,6 @@
 //! Histories of schemas: through the library, and through the program and its files.
 
-use crate::texts::record_of_ints;
+use crate::texts::{Text, built, record_of_ints};
 use avro_history::{HistoryCert, confirm_history};
 use avro_runs::outcome_of;
 use avro_schema_json::read_schema;
@@ -82,7 +82,7 @@ fn texts_of_histories_are_read_or_refused(rt: HostRuntime) -> Result<(), Fail> {
 }
 
 /// Files, and what they hold.
-const FILES: [(&str, &str); 12] = [
+const FILES: [(&str, &str); 13] = [
     ("int.avsc", r#""int""#),
     ("wide.avsc", r#""long""#),
     ("string.avsc", r#""string""#),
@@ -97,6 +97,10 @@ const FILES: [(&str, &str); 12] = [
         r#"{"type":"record","name":"R","fields":[{"name":"a","type":"string","default":""}]}"#,
     ),
     ("open.avsc", "{"),
+    (
+        "fieldless.avsc",
+        r#"{"type":"record","name":"X","fields":[]}"#,
+    ),
     ("two.cert", TWO),
     ("mixed.cert", MIXED),
     (
@@ -107,7 +111,7 @@ const FILES: [(&str, &str); 12] = [
 ];
 
 /// The words of runs, and what they answer and write.
-const RUNS: [(&str, u8, &str, &str); 17] = [
+const RUNS: [(&str, u8, &str, &str); 20] = [
     (
         "history int.avsc wide.avsc union.avsc",
         0,
@@ -205,6 +209,24 @@ const RUNS: [(&str, u8, &str, &str); 17] = [
         "old.avsc no\nempty.avsc yes\n",
         "",
     ),
+    (
+        "history big.avsc big.avsc --certificates unwritten.cert",
+        2,
+        "big.avsc undecided Pairs\n",
+        "",
+    ),
+    (
+        "history fieldless.avsc large.avsc fieldless.avsc --certificates unwritten.cert",
+        2,
+        "fieldless.avsc yes\nlarge.avsc undecided Size\n",
+        "",
+    ),
+    (
+        "history large.avsc fieldless.avsc fieldless.avsc --certificates unwritten.cert",
+        2,
+        "large.avsc undecided Size\nfieldless.avsc yes\n",
+        "",
+    ),
 ];
 
 #[test]
@@ -213,6 +235,7 @@ fn histories_are_judged_confirmed_and_written(rt: HostRuntime) -> Result<(), Fai
         fs::write(&rt, file, text)?;
     }
     fs::write(&rt, "big.avsc", &record_of_ints(rt.alloc(), 2048)?)?;
+    fs::write(&rt, "large.avsc", &built(rt.alloc(), Text::Doubled(11))?)?;
     for (line, status, out, err) in RUNS {
         let ran = outcome_of(&rt, line)?;
         assert_eq!(rt; ran.status, status, "{line}");

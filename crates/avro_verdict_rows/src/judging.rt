@@ -1,4 +1,4 @@
-use crate::judging_rows::ROWS;
+use crate::judging_rows::{EQUALS, ROWS};
 use avro_binary::Tree;
 use avro_display::show;
 use avro_judge::{Approved, JudgeLimits, Refutation, Verdict, confirm, judge};
@@ -34,6 +34,15 @@ pub(crate) fn verdict(
         Verdict::Refuted(refutation) => lines_of(alloc, &writer, &refutation),
         Verdict::Undecided(cause) => Ok(format!(in alloc; "undecided {cause:?}\n")?),
     }
+}
+
+#[test]
+fn the_first_of_equal_data_refutes(rt: HostRuntime) -> Result<(), Fail> {
+    for (writer, reader, text) in EQUALS {
+        let found = verdict(rt.alloc(), writer, reader, &JudgeLimits::default())?;
+        assert_eq!(rt; found.as_str(), text, "{writer} {reader}");
+    }
+    Ok(())
 }
 
 #[test]

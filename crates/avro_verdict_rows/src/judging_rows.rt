@@ -185,3 +185,77 @@ pub(crate) const ROWS: [(&str, &str, &str); 40] = [
         "no\nfault NoMatch at /0/0\nnodes 3\ndatum {\"shop.Order\":{\"id\":0}}\n",
     ),
 ];
+
+/// Pairs of schemas at which data are equally small and deep, and the verdict on the first of them.
+pub(crate) const EQUALS: [(&str, &str, &str); 13] = [
+    // Of least data of a union's branches the first of those with the fewest nodes, and of these with the least depth.
+    (
+        r#"{"type":"record","name":"R","fields":[{"name":"u","type":[{"type":"record","name":"A","fields":[{"name":"x","type":"int"}]},"long","int"]}]}"#,
+        r#""int""#,
+        "no\nfault NoMatch at /\nnodes 3\ndatum {\"u\":{\"long\":0}}\n",
+    ),
+    (
+        r#"{"type":"record","name":"R","fields":[{"name":"u","type":[{"type":"record","name":"A","fields":[{"name":"x","type":"int"}]},{"type":"record","name":"B","fields":[{"name":"y","type":"int"}]}]}]}"#,
+        r#""int""#,
+        "no\nfault NoMatch at /\nnodes 4\ndatum {\"u\":{\"A\":{\"x\":0}}}\n",
+    ),
+    (
+        r#"{"type":"record","name":"R","fields":[{"name":"u","type":[{"type":"record","name":"A","fields":[{"name":"p","type":{"type":"record","name":"B","fields":[{"name":"q","type":"int"}]}}]},{"type":"record","name":"C","fields":[{"name":"x","type":"int"},{"name":"y","type":"int"}]}]}]}"#,
+        r#""int""#,
+        "no\nfault NoMatch at /\nnodes 5\ndatum {\"u\":{\"C\":{\"x\":0,\"y\":0}}}\n",
+    ),
+    // Of refuting data of a union's branches likewise.
+    (
+        r#"[{"type":"record","name":"A","fields":[{"name":"x","type":"int"}]},"long","int"]"#,
+        r#""string""#,
+        "no\nfault NoMatch at /0\nnodes 2\ndatum {\"long\":0}\n",
+    ),
+    (
+        r#"[{"type":"record","name":"A","fields":[{"name":"x","type":"bytes"}]},{"type":"record","name":"B","fields":[{"name":"x","type":"bytes"}]}]"#,
+        r#"[{"type":"record","name":"A","fields":[{"name":"x","type":"string"}]},{"type":"record","name":"B","fields":[{"name":"x","type":"string"}]}]"#,
+        "no\nfault NotUtf8 at /0/0\nnodes 3\ndatum {\"A\":{\"x\":\"\u{ff}\"}}\n",
+    ),
+    (
+        r#"[{"type":"record","name":"A","fields":[{"name":"p","type":{"type":"record","name":"B","fields":[{"name":"q","type":"int"}]}}]},{"type":"record","name":"C","fields":[{"name":"x","type":"int"},{"name":"y","type":"int"}]}]"#,
+        r#""string""#,
+        "no\nfault NoMatch at /0\nnodes 4\ndatum {\"C\":{\"x\":0,\"y\":0}}\n",
+    ),
+    // Of the fields of a record the writer's first one of equals.
+    (
+        r#"{"type":"record","name":"R","fields":[{"name":"a","type":"bytes"},{"name":"b","type":"bytes"}]}"#,
+        r#"{"type":"record","name":"R","fields":[{"name":"a","type":"string"},{"name":"b","type":"string"}]}"#,
+        "no\nfault NotUtf8 at /0\nnodes 3\ndatum {\"a\":\"\u{ff}\",\"b\":\"\"}\n",
+    ),
+    (
+        r#"{"type":"record","name":"R","fields":[{"name":"a","type":"bytes"},{"name":"b","type":"bytes"}]}"#,
+        r#"{"type":"record","name":"R","fields":[{"name":"b","type":"string"},{"name":"a","type":"string"}]}"#,
+        "no\nfault NotUtf8 at /0\nnodes 3\ndatum {\"a\":\"\u{ff}\",\"b\":\"\"}\n",
+    ),
+    (
+        r#"{"type":"record","name":"R","fields":[{"name":"a","type":{"type":"array","items":"bytes"}},{"name":"b","type":"bytes"},{"name":"c","type":"bytes"}]}"#,
+        r#"{"type":"record","name":"R","fields":[{"name":"a","type":{"type":"array","items":"string"}},{"name":"b","type":"string"},{"name":"c","type":"string"}]}"#,
+        "no\nfault NotUtf8 at /1\nnodes 4\ndatum {\"a\":[],\"b\":\"\u{ff}\",\"c\":\"\"}\n",
+    ),
+    (
+        r#"{"type":"array","items":{"type":"record","name":"R","fields":[{"name":"a","type":"bytes"},{"name":"b","type":"bytes"}]}}"#,
+        r#"{"type":"array","items":{"type":"record","name":"R","fields":[{"name":"a","type":"string"},{"name":"b","type":"string"}]}}"#,
+        "no\nfault NotUtf8 at /0/0\nnodes 4\ndatum [{\"a\":\"\u{ff}\",\"b\":\"\"}]\n",
+    ),
+    // Of the symbols the writer's first one that the reader lacks.
+    (
+        r#"{"type":"enum","name":"E","symbols":["A","B","C","D"]}"#,
+        r#"{"type":"enum","name":"E","symbols":["B"]}"#,
+        "no\nfault NoSymbol at /\nnodes 1\ndatum \"A\"\n",
+    ),
+    (
+        r#"{"type":"enum","name":"E","symbols":["A","B","C","D"]}"#,
+        r#"{"type":"enum","name":"E","symbols":["D","A"]}"#,
+        "no\nfault NoSymbol at /\nnodes 1\ndatum \"B\"\n",
+    ),
+    // The least datum of an enum is its first symbol.
+    (
+        r#"{"type":"enum","name":"E","symbols":["B","A"]}"#,
+        r#""int""#,
+        "no\nfault NoMatch at /\nnodes 1\ndatum \"B\"\n",
+    ),
+];

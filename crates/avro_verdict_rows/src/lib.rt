@@ -15,6 +15,8 @@ mod judging_limits;
 #[cfg(test)]
 mod judging_rows;
 #[cfg(test)]
+mod kept_files;
+#[cfg(test)]
 mod program;
 #[cfg(test)]
 mod program_rows;
