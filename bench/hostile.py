@@ -219,6 +219,62 @@ def tries(size):
     return written(schema)
 
 
+def look_alikes(count, around):
+    """A default that two records want that differ in nothing but their names, each an array of a union of this many fixeds and
+    int, with as many objects of a union of two such records around it."""
+    def text(size):
+        first = [fixed("F%d" % k) for k in range(count)] + ["int"]
+        others = ["F%d" % k for k in range(count)] + ["int"]
+        def record(name, of_field):
+            return {"type": "record", "name": name, "fields": [{"name": "a", "type": of_field}]}
+        inner = [record("A", {"type": "array", "items": first}), record("B", {"type": "array", "items": others})]
+        names = ["A", "B"]
+        for k in range(around):
+            inner = [record("A%d" % k, inner), record("B%d" % k, names)]
+            names = ["A%d" % k, "B%d" % k]
+        schema = written({"type": "record", "name": "R", "fields": [{"name": "f", "type": inner, "default": 0}]})
+        start, end = '{"a":' * (around + 1), "}" * (around + 1)
+        items = (size - len(schema) - len(start) - len(end)) // 2
+        return schema.replace('"default":0', '"default":' + start + "[" + ",".join(["7"] * items) + "]" + end)
+    return text
+
+
+def of_union(branches, item):
+    """An array of one value again and again, of a union of these branches, as its default."""
+    def text(size):
+        field = {"name": "f", "type": {"type": "array", "items": branches}, "default": []}
+        schema = {"type": "record", "name": "R", "fields": [field]}
+        field["default"] = [item] * ((size - len(written(schema))) // (len(written(item)) + 1))
+        return written(schema)
+    return text
+
+
+def enums(count, item):
+    """The same of a union of this many enums of a symbol each and the item, of which it is of the last."""
+    return of_union([{"type": "enum", "name": "E%d" % k, "symbols": ["a%d" % k]} for k in range(count)], item)
+
+
+def empties(count):
+    """The same of empty objects, and this many records of a field each and one without."""
+    of_all = [{"type": "record", "name": "F%d" % k, "fields": [{"name": "a", "type": "int"}]} for k in range(count)]
+    return of_union(of_all + [{"type": "record", "name": "L", "fields": []}], {})
+
+
+def wide(count, item, last):
+    """The same of this many fixeds of one byte and a last branch."""
+    return of_union([fixed("F%d" % k) for k in range(count)] + [last], item)
+
+
+def long_text(count):
+    """One long text, of a union of this many fixeds and string."""
+    def text(size):
+        field = {"name": "f", "type": [fixed("F%d" % k) for k in range(count)] + ["string"], "default": ""}
+        schema = {"type": "record", "name": "R", "fields": [field]}
+        field["default"] = "x" * (size - len(written(schema)))
+        return written(schema)
+    return text
+
+
 def longest(size, text):
     """The greatest count whose text fits, where each count more adds the same or more."""
     one, many = len(text(0)), len(text(16))
@@ -234,6 +290,11 @@ KINDS = {
     "twins": twins, "nested 60": nested(60), "nested 120": nested(120), "deep": deep, "choices": choices, "symbols": symbols,
     "branches 100": branches(100), "branches 1000": branches(1000), "texts 1000": texts(1000), "records 100": records(100),
     "records 1000": records(1000), "tries": tries,
+    "look-alikes 100": look_alikes(100, 0), "look-alikes 1000": look_alikes(1000, 0),
+    "look-alikes 100 in 10": look_alikes(100, 10), "look-alikes 100 in 25": look_alikes(100, 25),
+    "look-alikes 1000 in 25": look_alikes(1000, 25),
+    "wide numbers": wide(2000, 7, "int"), "wide texts": wide(2000, "ab", "string"), "wide objects": empties(2000),
+    "wide symbols": enums(2000, "a1999"), "one long text": long_text(1000),
 }
 
 
@@ -267,4 +328,5 @@ def main():
                     break
 
 
-main()
+if __name__ == "__main__":
+    main()

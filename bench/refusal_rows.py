@@ -25,10 +25,12 @@ class Row:
         # A file that is made only after a number of bytes of another were read.
         self.behind = behind
 
-    def write_files(self):
-        for file, data in self.files.items():
-            with open(file, "wb") as out:
-                out.write(data)
+    def write_files(self, names):
+        """Writes those of its files that have these names."""
+        for file in names:
+            if file in self.files:
+                with open(file, "wb") as out:
+                    out.write(self.files[file])
 
 
 def text_bytes(text):
@@ -112,6 +114,24 @@ def judge_rows():
     yield Row("judge refutation", "judge w.avsc r.avsc --refutation o.avro", strings, no, status=1, written={"o.avro": file})
 
 
+def kept_rows():
+    """Files that options ask for: those that are read, those that hold a schema, and others."""
+    ints = {"a.avsc": '"int"', "b.avsc": '"long"', "c.avsc": OF_A}
+    text = "avro: a.avsc is one of the files that are read\n"
+    yield Row("judge read certificate", "judge a.avsc b.avsc --certificate a.avsc", ints, err=text, status=64)
+    yield Row("judge read refutation", "judge b.avsc a.avsc --refutation a.avsc", ints, err=text, status=64)
+    yield Row("history read certificates", "history a.avsc b.avsc --certificates a.avsc", ints, err=text, status=64)
+    text = "avro: c.avsc is a schema\n"
+    yield Row("judge schema certificate", "judge a.avsc b.avsc --certificate c.avsc", ints, err=text, status=64)
+    yield Row("judge schema refutation", "judge b.avsc a.avsc --refutation c.avsc", ints, err=text, status=64)
+    yield Row("history schema certificates", "history a.avsc b.avsc --certificates c.avsc", ints, err=text, status=64)
+    text = certificate((0, 0))
+    files = {**ints, "o.txt": "kept"}
+    yield Row("judge other certificate", "judge a.avsc b.avsc --certificate o.txt", files, "yes\n", written={"o.txt": text.encode()})
+    text = "history 1\n" + text + "end\n"
+    yield Row("history other certificates", "history a.avsc b.avsc --certificates o.txt", files, "a.avsc yes\n", written={"o.txt": text.encode()})
+
+
 def certificate_rows():
     """Certificates that are read again, and histories."""
     files = {"w.avsc": NODE % "int", "r.avsc": NODE % "long", "c.txt": certificate(*NODE_PAIRS), "d.txt": certificate()}
@@ -179,11 +199,13 @@ def copying_rows():
     yield Row("copy unresolved", "copy i.avro o.avro --reader r.avsc", files, "", text, 3, {made: header('"string"')}, (made, source, len(ints)))
     text = "avro: IN and OUT are one word\n"
     yield Row("copy one word", "copy i.avro i.avro", {source: file}, err=text, status=64)
+    text = "avro: IN and OUT are one file\n"
+    yield Row("copy one file", "copy i.avro ./i.avro", {source: file}, err=text, status=64)
     text = "avro: --sync takes 32 hexadecimal digits\n"
     yield Row("copy sync", "copy i.avro o.avro --sync 00", {source: file}, err=text, status=64, written={made: None})
 
 
 def rows():
     """All rows."""
-    for some in (schema_rows, judge_rows, certificate_rows, reading_rows, copying_rows):
+    for some in (schema_rows, judge_rows, kept_rows, certificate_rows, reading_rows, copying_rows):
         yield from some()

@@ -31,6 +31,7 @@ class Run:
         for file in [*row.written, "told"]:
             if os.path.exists(file):
                 os.remove(file)
+        row.write_files(row.written)
         done = subprocess.run([program, *row.words], env=environment, stdin=subprocess.DEVNULL, capture_output=True, timeout=SECONDS)
         self.status, self.out, self.err = done.returncode, done.stdout, done.stderr
         self.written = {file: contents(file) for file in row.written}
@@ -59,8 +60,10 @@ def is_own(row, run):
 
 
 def is_beginning(row, run):
-    """Whether what was printed and written is a beginning of the row's."""
-    files = all(bytes_ is None or (row.written[file] or b"").startswith(bytes_) for file, bytes_ in run.written.items())
+    """Whether what was printed and written is a beginning of the row's; a file that was there may be as it was."""
+    files = all(
+        bytes_ is None or bytes_ == row.files.get(file) or (row.written[file] or b"").startswith(bytes_) for file, bytes_ in run.written.items()
+    )
     return files and row.out.startswith(run.out)
 
 
@@ -70,8 +73,16 @@ def device_texts(row, kind, path):
         return [(row.status, row.err[:count]) for count in range(len(row.err) + 1)]
     if path == "-1":
         return [(4, b"avro: output: cannot write\n")]
-    verb = "write" if path in row.written else "read"
-    return [(4, f"avro: {path}: cannot {verb}\n".encode())]
+    return [(4, f"avro: {path}: cannot {verb}\n".encode()) for verb in verbs(row, kind, path)]
+
+
+def verbs(row, kind, path):
+    """What a failure at a path can keep the program from: a file that is written is read before where it is there."""
+    if path not in row.written:
+        return ["read"]
+    if path not in row.files:
+        return ["write"]
+    return {"open": ["read", "write"], "read": ["read"]}.get(kind, ["write"])
 
 
 def is_untouched(row, run, kind, path, moved):
@@ -136,7 +147,7 @@ def main(program, *names):
         library = build_library(folder)
         os.chdir(folder)
         for row in chosen:
-            row.write_files()
+            row.write_files(row.files)
             before, failed = count, 0
             for what, run in runs_of(row, program, library):
                 count += 1
