@@ -1,4 +1,4 @@
-# The schemas that `make try` and `make judge` judge.
+# The schemas that `make try` judges.
 WRITER ?= examples/int.avsc
 READER ?= examples/long.avsc
 
@@ -6,22 +6,60 @@ READER ?= examples/long.avsc
 FILE ?= examples/orders.avro
 FILE_READER ?= examples/order-2.avsc
 
-.PHONY: try judge files test
+# The crate that `make check` checks.
+CRATE ?= avro_name
 
-# Builds the program without any proof, and judges a writer's schema against a reader's.
-try:
-	cd crates/avro && rt try --data writer.avsc=$(abspath $(WRITER)) --data reader.avsc=$(abspath $(READER)) -- judge writer.avsc reader.avsc
+# Where `make install` puts the program.
+PREFIX ?= /usr/local
+DESTDIR ?=
 
-# Proves the program, builds it, and judges a writer's schema against a reader's.
-judge:
-	cd crates/avro && rt run -- judge $(abspath $(WRITER)) $(abspath $(READER))
+PROGRAM := crates/avro/out/avro
+TESTS := avro_rows avro_binary_rows avro_verdict_rows avro_file_rows
 
-# Builds the program without any proof, and checks, shows and copies a container.
-files:
-	cd crates/avro && rt try --data file.avro=$(abspath $(FILE)) -- check file.avro
-	cd crates/avro && rt try --data file.avro=$(abspath $(FILE)) --data reader.avsc=$(abspath $(FILE_READER)) -- show file.avro --reader reader.avsc
-	cd crates/avro && rt try --data file.avro=$(abspath $(FILE)) --data reader.avsc=$(abspath $(FILE_READER)) -- copy file.avro copy.avro --reader reader.avsc
+.DEFAULT_GOAL := help
+.PHONY: help try files program install quick test check fmt robust clean
 
-# Proves every crate from nothing, and runs its tests, the program and the edits that must fail.
-test:
+help: ## lists the targets
+	@awk -F ':.*## ' '/^[a-z]+:.*## / { printf "make %-8s %s\n", $$1, $$2 }' $(MAKEFILE_LIST)
+
+# A verdict of 1 or 2 is an answer, and no failure of the build.
+try: ## builds the program without any proof, and judges WRITER against READER (a minute or two)
+	@cd crates/avro && rt try --data writer.avsc=$(abspath $(WRITER)) --data reader.avsc=$(abspath $(READER)) \
+		-- judge writer.avsc reader.avsc || { status=$$?; echo "avro judge: exit status $$status" >&2; test $$status -le 2; }
+
+files: ## builds the program without any proof, and checks, shows and copies FILE
+	@cases=$$(mktemp -d) && trap 'rm -rf "$$cases"' EXIT && \
+	for command in check show copy; do cp $(FILE) "$$cases/$$command"; done && \
+	printf '%s\n' check {} > "$$cases/check.args" && \
+	printf '%s\n' show {} --reader reader.avsc > "$$cases/show.args" && \
+	printf '%s\n' copy {} copy.avro --reader reader.avsc > "$$cases/copy.args" && \
+	cd crates/avro && rt try --cases "$$cases" --data reader.avsc=$(abspath $(FILE_READER))
+
+program: ## proves the program and the crates below it, builds it, and says where it lies (an hour and more from nothing)
+	@cd crates/avro && rt run -- schema $(abspath examples/int.avsc)
+	@echo "the program is $(abspath $(PROGRAM))"
+
+$(PROGRAM):
+	@echo "run 'make program' first: it proves and builds $(PROGRAM)" >&2; false
+
+install: $(PROGRAM) ## installs the proved program as PREFIX/bin/avro
+	install -D -m 755 $(PROGRAM) $(DESTDIR)$(PREFIX)/bin/avro
+
+quick: ## runs all tests without any proof (some minutes)
+	@for crate in $(TESTS); do echo "== $$crate"; (cd crates/$$crate && rt try --test) || exit 1; done
+
+test: ## the gate: proves every crate from nothing, and runs its tests, the program and the edits that must fail
 	rt ci
+
+check: ## checks one crate, CRATE=avro_name
+	cd crates/$(CRATE) && rt check
+
+fmt: ## lays out the sources of every crate
+	@for crate in crates/*/; do (cd $$crate && rt fmt) || exit 1; done
+
+robust: $(PROGRAM) ## refuses each allocation, read and write of the program in turn, and tests the room it takes
+	bench/refusals.py $(PROGRAM)
+	bench/room.py $(PROGRAM)
+
+clean: ## removes what the checks and builds have kept
+	rm -rf crates/*/out
