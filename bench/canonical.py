@@ -58,6 +58,8 @@ def least(words):
 
 
 def main():
+    if len(sys.argv) != 2:
+        sys.exit(__doc__)
     with tempfile.TemporaryDirectory() as folder:
         path = os.path.join(folder, "schema.avsc")
         for kind in [definitions, references, namespace]:
@@ -69,4 +71,5 @@ def main():
                 print("| %s | %d | %d | %.1f | %.1f |" % (kind.__name__, nodes, form, least(words), least(words + ["--canonical"])), flush=True)
 
 
-main()
+if __name__ == "__main__":
+    main()

@@ -6,7 +6,7 @@
     containers.py instructions PROGRAM [FOLDER [KIND..]]
     containers.py large PROGRAM [FOLDER]
 
-`measure` writes files of 100 MB, runs PROGRAM and `copy.c` on them in turn, and prints for each command the least processor time
+`measure` writes files of 100 MB, runs PROGRAM and `c/copy.c` on them in turn, and prints for each command the least processor time
 of five runs, the peak of resident memory, the peak of PROGRAM's heap, and whether the two copies are the same bytes. `instructions`
 counts the instructions of one run each for files of 4 MB, by valgrind, which other work on the machine doesn't change. `large` measures
 once with a file of 1 GB of narrow records, where 12 GB of the disk stay free. The files go into FOLDER, or into a folder that is
@@ -21,11 +21,13 @@ import subprocess
 import sys
 import tempfile
 
+HERE = os.path.dirname(os.path.abspath(__file__))
+sys.path[:0] = [os.path.join(HERE, "gen"), os.path.join(HERE, "c")]
+
+from building import build_library, build_program
 from container_schemas import READERS, WRITERS
 from generate import LETTERS, WIDE, number, record
-from refusals import build_library
 
-HERE = os.path.dirname(os.path.abspath(__file__))
 KINDS = ("narrow", "wide", "strings")
 BLOCK = 65_536
 # How many blocks are made; a file holds them again and again.
@@ -130,8 +132,7 @@ def write(kind, path, megabytes="100"):
 def build(folder):
     """Builds the programs in C."""
     for name in ("copy", "watch"):
-        compiler = os.environ.get("CC", "clang")
-        subprocess.run([compiler, "-O2", "-o", os.path.join(folder, name), os.path.join(HERE, name + ".c")], check=True)
+        build_program(name, folder)
     build_library(folder)
 
 

@@ -311,6 +311,8 @@ def run(program, path):
 
 
 def main():
+    if len(sys.argv) != (3 if sys.argv[1:2] == ["measure"] else 4):
+        sys.exit(__doc__)
     if sys.argv[1] != "measure":
         with open(sys.argv[3], "w") as out:
             out.write(KINDS[sys.argv[1]](int(sys.argv[2])))

@@ -17,6 +17,8 @@ import subprocess
 import sys
 import tempfile
 
+sys.path.insert(0, os.path.join(os.path.dirname(os.path.abspath(__file__)), "gen"))
+
 import hostile
 from generate import number
 from hostile_pairs import fixed, record, short_names, written

@@ -12,8 +12,8 @@ here=$(cd "$(dirname "$0")" && pwd)
 work=${TMPDIR:-/tmp}/avro_bench
 ours=$here/../crates/avro_bench/out/avro_bench
 mkdir -p "$work"
-"${CC:-clang}" -O2 -o "$work/walk" "$here/walk.c"
-[ -e "$work/$kind" ] || python3 "$here/generate.py" "$kind" "$work/$kind"
+"${CC:-clang}" -O2 -o "$work/walk" "$here/c/walk.c"
+[ -e "$work/$kind" ] || python3 "$here/gen/generate.py" "$kind" "$work/$kind"
 
 # The least sum of user and system time of five runs of a command.
 measure() {

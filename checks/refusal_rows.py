@@ -4,6 +4,10 @@ What a row answers is written here by hand or from the rules, and never taken fr
 """
 
 import hashlib
+import os
+import sys
+
+sys.path.insert(0, os.path.join(os.path.dirname(os.path.abspath(__file__)), "..", "bench", "gen"))
 
 from generate import number
 

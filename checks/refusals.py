@@ -15,9 +15,11 @@ import subprocess
 import sys
 import tempfile
 
+sys.path.insert(0, os.path.join(os.path.dirname(os.path.abspath(__file__)), "..", "bench", "c"))
+
+from building import build_library
 from refusal_rows import rows
 
-HERE = os.path.dirname(os.path.abspath(__file__))
 SECONDS = 20
 
 
@@ -129,14 +131,6 @@ def runs_of(row, program, library):
     for kind in ("read", "write", "nothing"):
         for short in (False, True):
             yield from sweep(row, program, library, kind, short)
-
-
-def build_library(folder):
-    """Builds the library that refuses."""
-    library = os.path.join(folder, "refuse.so")
-    compiler = os.environ.get("CC", "clang")
-    subprocess.run([compiler, "-O2", "-shared", "-fPIC", "-o", library, os.path.join(HERE, "refuse.c")], check=True)
-    return library
 
 
 def main(program, *names):

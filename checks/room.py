@@ -16,9 +16,13 @@ import subprocess
 import sys
 import tempfile
 
+HERE = os.path.dirname(os.path.abspath(__file__))
+sys.path[:0] = [os.path.join(HERE, "..", "bench", "gen"), os.path.join(HERE, "..", "bench", "c")]
+
+from building import build_library
 from generate import number
 from refusal_rows import SYNC, block, header, text_bytes
-from refusals import build_library, contents
+from refusals import contents
 
 SPACE = 64 << 20
 CERTIFICATE = 268_435_456
