@@ -1,0 +1,37 @@
+# Completion of avro for bash: source it, or put it into bash-completion's folder as 'avro'.
+
+_avro_options() {
+    case $1 in
+        judge) echo --certificate --refutation --help ;;
+        confirm) echo --help ;;
+        history) echo --certificates --confirm --help ;;
+        schema) echo --canonical --fingerprint --help ;;
+        check) echo --help ;;
+        show) echo --reader --help ;;
+        copy) echo --reader --sync --help ;;
+        pipe) echo --reader --sync --counts --help ;;
+        header) echo --metadata --help ;;
+        *) echo --version --help ;;
+    esac
+}
+
+_avro() {
+    local word=${COMP_WORDS[COMP_CWORD]} before=${COMP_WORDS[COMP_CWORD - 1]}
+    local commands='judge confirm history schema check show copy pipe header help'
+    local choices=()
+    if ((COMP_CWORD == 1)); then
+        mapfile -t choices < <(compgen -W "$commands $(_avro_options)" -- "$word")
+    elif [[ ${COMP_WORDS[1]} == help ]]; then
+        ((COMP_CWORD > 2)) || mapfile -t choices < <(compgen -W "$commands" -- "$word")
+    elif [[ $before == --sync ]]; then
+        choices=()
+    elif [[ $word == -* ]]; then
+        mapfile -t choices < <(compgen -W "$(_avro_options "${COMP_WORDS[1]}")" -- "$word")
+    else
+        compopt -o filenames 2>/dev/null
+        mapfile -t choices < <(compgen -f -- "$word")
+    fi
+    COMPREPLY=("${choices[@]}")
+}
+
+complete -F _avro avro

@@ -1,0 +1,30 @@
+# Completion of avro for fish: put it into ~/.config/fish/completions.
+
+complete -c avro -n __fish_use_subcommand -f
+complete -c avro -n __fish_use_subcommand -l version -d 'print the version'
+complete -c avro -l help -d 'print the usage'
+
+complete -c avro -n __fish_use_subcommand -a judge -d 'judge whether one schema reads what another wrote'
+complete -c avro -n __fish_use_subcommand -a confirm -d 'recheck the certificate of a yes'
+complete -c avro -n __fish_use_subcommand -a history -d 'judge whether the last schema reads what each earlier one wrote'
+complete -c avro -n __fish_use_subcommand -a schema -d 'test a schema, and print its canonical form or fingerprint'
+complete -c avro -n __fish_use_subcommand -a check -d 'read each block of a container file'
+complete -c avro -n __fish_use_subcommand -a show -d 'print each datum of a container file'
+complete -c avro -n __fish_use_subcommand -a copy -d 'write a container file anew'
+complete -c avro -n __fish_use_subcommand -a pipe -d 'copy a container file from standard input to standard output'
+complete -c avro -n __fish_use_subcommand -a header -d 'print the schema in the header of a container file'
+complete -c avro -n __fish_use_subcommand -a help -d 'print the usage'
+
+complete -c avro -n '__fish_seen_subcommand_from judge' -l certificate -r -F -d 'write the certificate of a yes'
+complete -c avro -n '__fish_seen_subcommand_from judge' -l refutation -r -F -d 'write the datum of a no as a container file'
+complete -c avro -n '__fish_seen_subcommand_from history' -l certificates -r -F -d 'write the certificates'
+complete -c avro -n '__fish_seen_subcommand_from history' -l confirm -r -F -d 'recheck certificates, and judge nothing'
+complete -c avro -n '__fish_seen_subcommand_from schema' -l canonical -d 'print the canonical form'
+complete -c avro -n '__fish_seen_subcommand_from schema' -l fingerprint -d 'print the fingerprint'
+complete -c avro -n '__fish_seen_subcommand_from show' -l reader -r -F -d 'resolve the data to a schema'
+complete -c avro -n '__fish_seen_subcommand_from copy' -l reader -r -F -d 'resolve the data to a schema'
+complete -c avro -n '__fish_seen_subcommand_from copy' -l sync -x -d 'use this sync marker of 32 hexadecimal digits'
+complete -c avro -n '__fish_seen_subcommand_from pipe' -l reader -r -F -d 'resolve the data to a schema'
+complete -c avro -n '__fish_seen_subcommand_from pipe' -l sync -x -d 'use this sync marker of 32 hexadecimal digits'
+complete -c avro -n '__fish_seen_subcommand_from pipe' -l counts -d 'print the numbers of data and blocks'
+complete -c avro -n '__fish_seen_subcommand_from header' -l metadata -d 'print all metadata as JSON'

@@ -1,0 +1,56 @@
+#compdef avro
+# Completion of avro for zsh: put it into a folder of fpath as '_avro'.
+
+_avro() {
+    local -a commands
+    commands=(
+        "judge:judge whether one schema reads what another wrote"
+        "confirm:recheck the certificate of a yes"
+        "history:judge whether the last schema reads what each earlier one wrote"
+        "schema:test a schema, and print its canonical form or fingerprint"
+        "check:read each block of a container file"
+        "show:print each datum of a container file"
+        "copy:write a container file anew"
+        "pipe:copy a container file from standard input to standard output"
+        "header:print the schema in the header of a container file"
+        "help:print the usage"
+    )
+    if ((CURRENT == 2)); then
+        _describe command commands -- '(--version)--version:print the version' '--help:print the usage'
+        return
+    fi
+    local command=$words[2]
+    shift words
+    ((CURRENT--))
+    case $command in
+        judge)
+            _arguments '--certificate[write the certificate of a yes]:OUT:_files' \
+                '--refutation[write the datum of a no as a container file]:OUT:_files' \
+                '--help[print the usage]' ':WRITER:_files' ':READER:_files' ;;
+        confirm)
+            _arguments '--help[print the usage]' ':WRITER:_files' ':READER:_files' ':CERT:_files' ;;
+        history)
+            _arguments '--certificates[write the certificates]:OUT:_files' \
+                '--confirm[recheck certificates, and judge nothing]:CERT:_files' \
+                '--help[print the usage]' '*:SCHEMA:_files' ;;
+        schema)
+            _arguments '--canonical[print the canonical form]' '--fingerprint[print the fingerprint]' \
+                '--help[print the usage]' ':FILE:_files' ;;
+        check)
+            _arguments '--help[print the usage]' ':FILE:_files' ;;
+        show)
+            _arguments '--reader[resolve the data to a schema]:SCHEMA:_files' '--help[print the usage]' ':FILE:_files' ;;
+        copy)
+            _arguments '--reader[resolve the data to a schema]:SCHEMA:_files' '--sync[use this sync marker]:HEX32: ' \
+                '--help[print the usage]' ':IN:_files' ':OUT:_files' ;;
+        pipe)
+            _arguments '--reader[resolve the data to a schema]:SCHEMA:_files' '--sync[use this sync marker]:HEX32: ' \
+                '--counts[print the numbers of data and blocks]' '--help[print the usage]' ;;
+        header)
+            _arguments '--metadata[print all metadata as JSON]' '--help[print the usage]' ':FILE:_files' ;;
+        help)
+            _describe command commands ;;
+    esac
+}
+
+_avro "$@"
