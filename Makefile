@@ -9,7 +9,7 @@ FILE_READER ?= examples/order-2.avsc
 # The crate that `make check` checks.
 CRATE ?= avro_name
 
-# Where `make install` puts the program.
+# Where `make install` puts the program, its man page and its completions.
 PREFIX ?= /usr/local
 DESTDIR ?=
 
@@ -17,7 +17,7 @@ PROGRAM := crates/avro/out/avro
 TESTS := avro_rows avro_binary_rows avro_verdict_rows avro_file_rows
 
 .DEFAULT_GOAL := help
-.PHONY: help try files program install quick test check fmt robust clean
+.PHONY: help try files program install quick test check fmt bench robust words clean
 
 help: ## lists the targets
 	@awk -F ':.*## ' '/^[a-z]+:.*## / { printf "make %-8s %s\n", $$1, $$2 }' $(MAKEFILE_LIST)
@@ -42,8 +42,12 @@ program: ## proves the program and the crates below it, builds it, and says wher
 $(PROGRAM):
 	@echo "run 'make program' first: it proves and builds $(PROGRAM)" >&2; false
 
-install: $(PROGRAM) ## installs the proved program as PREFIX/bin/avro
+install: $(PROGRAM) ## installs the proved program, its man page and its completions below DESTDIR and PREFIX (a second)
 	install -D -m 755 $(PROGRAM) $(DESTDIR)$(PREFIX)/bin/avro
+	install -D -m 644 man/avro.1 $(DESTDIR)$(PREFIX)/share/man/man1/avro.1
+	install -D -m 644 completions/avro.bash $(DESTDIR)$(PREFIX)/share/bash-completion/completions/avro
+	install -D -m 644 completions/avro.zsh $(DESTDIR)$(PREFIX)/share/zsh/site-functions/_avro
+	install -D -m 644 completions/avro.fish $(DESTDIR)$(PREFIX)/share/fish/vendor_completions.d/avro.fish
 
 quick: ## runs all tests without any proof (some minutes)
 	@for crate in $(TESTS); do echo "== $$crate"; (cd crates/$$crate && rt try --test) || exit 1; done
@@ -57,9 +61,17 @@ check: ## checks one crate, CRATE=avro_name
 fmt: ## lays out the sources of every crate
 	@for crate in crates/*/; do (cd $$crate && rt fmt) || exit 1; done
 
-robust: $(PROGRAM) ## refuses each allocation, read and write of the program in turn, and tests the room it takes
-	bench/refusals.py $(PROGRAM)
-	bench/room.py $(PROGRAM)
+bench: $(PROGRAM) ## measures the proved program, in one table (an hour)
+	bench/all.sh $(PROGRAM)
+
+robust: $(PROGRAM) ## runs checks/ on the proved program: failing memory and devices, room, one file by many names, words
+	checks/refusals.py $(PROGRAM)
+	checks/room.py $(PROGRAM)
+	checks/one_file.py $(PROGRAM)
+	checks/words.py $(PROGRAM)
+
+words: ## tests that the man page and the completions have the program's words (a second)
+	checks/words.py
 
 clean: ## removes what the checks and builds have kept
 	rm -rf crates/*/out

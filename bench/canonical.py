@@ -60,6 +60,8 @@ def least(words):
 def main():
     if len(sys.argv) != 2:
         sys.exit(__doc__)
+    print("| Schema | nodes | bytes of the form | reading alone, ms | with the form, ms |")
+    print("|---|---|---|---|---|")
     with tempfile.TemporaryDirectory() as folder:
         path = os.path.join(folder, "schema.avsc")
         for kind in [definitions, references, namespace]:

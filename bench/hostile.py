@@ -317,6 +317,8 @@ def main():
         with open(sys.argv[3], "w") as out:
             out.write(KINDS[sys.argv[1]](int(sys.argv[2])))
         return
+    print("| Text | bytes | seconds | by the clock | MB | answer |")
+    print("|---|---|---|---|---|---|")
     with tempfile.TemporaryDirectory() as folder:
         for kind, text in KINDS.items():
             for size in SIZES:
