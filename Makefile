@@ -64,11 +64,12 @@ fmt: ## lays out the sources of every crate
 bench: $(PROGRAM) ## measures the proved program, in one table (an hour)
 	bench/all.sh $(PROGRAM)
 
-robust: $(PROGRAM) ## runs checks/ on the proved program: failing memory and devices, room, one file by many names, words
+robust: $(PROGRAM) ## runs the scripts of checks/ on the proved program, and compares it with another one, OLD=PROGRAM
 	checks/refusals.py $(PROGRAM)
 	checks/room.py $(PROGRAM)
 	checks/one_file.py $(PROGRAM)
 	checks/words.py $(PROGRAM)
+	$(if $(OLD),checks/compare.py $(OLD) $(PROGRAM))
 
 words: ## tests that the man page and the completions have the program's words (a second)
 	checks/words.py
