@@ -23,11 +23,11 @@ help: ## lists the targets
 	@awk -F ':.*## ' '/^[a-z]+:.*## / { printf "make %-8s %s\n", $$1, $$2 }' $(MAKEFILE_LIST)
 
 # A verdict of 1 or 2 is an answer, and no failure of the build.
-try: ## builds the program without any proof, and judges WRITER against READER (a minute or two)
+try: ## builds the program without any proof, and judges WRITER against READER (three minutes of a processor)
 	@cd crates/avro && rt try --data writer.avsc=$(abspath $(WRITER)) --data reader.avsc=$(abspath $(READER)) \
 		-- judge writer.avsc reader.avsc || { status=$$?; echo "avro judge: exit status $$status" >&2; test $$status -le 2; }
 
-files: ## builds the program without any proof, and checks, shows and copies FILE
+files: ## builds the program without any proof, and checks, shows and copies FILE (the same)
 	@cases=$$(mktemp -d) && trap 'rm -rf "$$cases"' EXIT && \
 	for command in check show copy; do cp $(FILE) "$$cases/$$command"; done && \
 	printf '%s\n' check {} > "$$cases/check.args" && \
@@ -35,7 +35,7 @@ files: ## builds the program without any proof, and checks, shows and copies FIL
 	printf '%s\n' copy {} copy.avro --reader reader.avsc > "$$cases/copy.args" && \
 	cd crates/avro && rt try --cases "$$cases" --data reader.avsc=$(abspath $(FILE_READER))
 
-program: ## proves the program and the crates below it, builds it, and says where it lies (an hour and more from nothing)
+program: ## proves and builds the program and the crates below it, and says where it lies (an hour and more)
 	@cd crates/avro && rt run -- schema $(abspath examples/int.avsc)
 	@echo "the program is $(abspath $(PROGRAM))"
 
@@ -52,19 +52,19 @@ install: $(PROGRAM) ## installs the proved program, its man page and its complet
 quick: ## runs all tests without any proof (some minutes)
 	@for crate in $(TESTS); do echo "== $$crate"; (cd crates/$$crate && rt try --test) || exit 1; done
 
-test: ## the gate: proves every crate from nothing, and runs its tests, the program and the edits that must fail
+test: ## the gate: each proof, test, program and must-fail edit, from nothing (two to five processor hours)
 	rt ci
 
-check: ## checks one crate, CRATE=avro_name
+check: ## checks one crate, CRATE=avro_name (1 to 3 minutes a thousand lines; after an edit 5 to 60 seconds)
 	cd crates/$(CRATE) && rt check
 
-fmt: ## lays out the sources of every crate
+fmt: ## lays out the sources of every crate (ten seconds)
 	@for crate in crates/*/; do (cd $$crate && rt fmt) || exit 1; done
 
-bench: $(PROGRAM) ## measures the proved program, in one table (an hour)
+bench: $(PROGRAM) ## measures the proved program, in one table (each run up to a minute of a processor)
 	bench/all.sh $(PROGRAM)
 
-robust: $(PROGRAM) ## runs the scripts of checks/ on the proved program, and compares it with another one, OLD=PROGRAM
+robust: $(PROGRAM) ## runs checks/ on the proved program, and compares it with another, OLD=PROGRAM (some minutes)
 	checks/refusals.py $(PROGRAM)
 	checks/room.py $(PROGRAM)
 	checks/one_file.py $(PROGRAM)
@@ -74,5 +74,6 @@ robust: $(PROGRAM) ## runs the scripts of checks/ on the proved program, and com
 words: ## tests that the man page and the completions have the program's words (a second)
 	checks/words.py
 
-clean: ## removes what the checks and builds have kept
+clean: ## removes what the checks and builds have kept (seconds)
 	rm -rf crates/*/out
+	rm -rf bench/__pycache__ bench/*/__pycache__ checks/__pycache__
