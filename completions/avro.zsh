@@ -2,7 +2,7 @@
 # Completion of avro for zsh: put it into a folder of fpath as '_avro'.
 
 _avro() {
-    local -a commands
+    local -a commands options
     commands=(
         "judge:judge whether one schema reads what another wrote"
         "confirm:recheck the certificate of a yes"
@@ -15,8 +15,13 @@ _avro() {
         "header:print the schema in the header of a container file"
         "help:print the usage"
     )
+    options=(
+        "--version:print the version"
+        "--help:print the usage"
+    )
     if ((CURRENT == 2)); then
-        _describe command commands -- '(--version)--version:print the version' '--help:print the usage'
+        _describe command commands
+        _describe -o option options
         return
     fi
     local command=$words[2]
