@@ -1,16 +1,18 @@
 #!/usr/bin/env python3
 """Measures `pipe` between two pipes, and against `copy`.
 
-    pipe.py [PROGRAM] [--megabytes N] [--kinds KIND..] [--peak MB] [--runs N]
+    pipe.py [PROGRAM] [--megabytes N] [--compared N] [--blocks N] [--kinds KIND..] [--peak MB] [--runs N]
 
-PROGRAM is $AVRO where it is not given, and else avro on the PATH. A container is a header and 64 blocks of about 64 KiB, again and again; its kind is
-narrow, wide or strings, as in `containers.py`. First `copy` and `pipe` take one file of up to 100 MB in turn, --runs times (3), and the rows have the
-least times. Then `pipe` reads N megabytes (5,000) from one pipe and writes into another; no file is as long. Whatever is written is compared byte for byte with what
+PROGRAM is $AVRO where it is not given, and else avro on the PATH. A container is a header and --blocks blocks (64) of about 64 KiB, again and again; its kind is
+narrow, wide or strings, as in `containers.py`. First `copy` and `pipe` take one file of --compared megabytes (100) in turn, --runs times (3), and the
+rows have the least times. Then `pipe` reads --megabytes (5,000) from one pipe and writes into another; no file is as long. Sizes are rounded up to whole turns
+of the blocks. Whatever is written is compared byte for byte with what
 `copy` makes of the header and of one turn of the blocks, put together again. The peak of resident memory must be under --peak megabytes (4). All of this is done
 without a reader's schema and with one. The status is 1 where an output differs, or a peak is too high.
 """
 
 import argparse
+import math
 import os
 import random
 import shutil
@@ -27,7 +29,6 @@ from container_schemas import READERS
 from containers import BLOCKS, KINDS, block, header
 
 HERE = os.path.dirname(os.path.abspath(__file__))
-COMPARED = 100
 TAKE = 1 << 20
 
 
@@ -47,7 +48,7 @@ class Cycled:
         """Whether a source holds exactly so many cycles; it is read to its end."""
         if source.read(len(self.head)) != self.head:
             return False
-        window = self.cycle + self.cycle[:TAKE]
+        window = self.cycle * (1 + -(-TAKE // len(self.cycle)))
         left, at, is_same = cycles * len(self.cycle), 0, True
         while part := source.read(TAKE):
             is_same = is_same and len(part) <= left and window[at:at + len(part)] == part
@@ -64,8 +65,8 @@ class Case:
     given: Cycled
     wanted: Cycled
 
-    def cycles(self, megabytes: int) -> int:
-        return -(-megabytes * 1_000_000 // len(self.given.cycle))
+    def cycles(self, megabytes: float) -> int:
+        return math.ceil(megabytes * 1_000_000 / len(self.given.cycle))
 
 
 @dataclass
@@ -107,7 +108,7 @@ def feed(parts: Iterator[bytes], pipe: BinaryIO) -> None:
         pass
 
 
-def between_pipes(starter: str, program: str, case: Case, megabytes: int) -> Run:
+def between_pipes(starter: str, program: str, case: Case, megabytes: float) -> Run:
     """Sends a stream through `pipe`."""
     cycles = case.cycles(megabytes)
 
@@ -122,14 +123,14 @@ def between_pipes(starter: str, program: str, case: Case, megabytes: int) -> Run
     return run(starter, [program, "pipe", *case.words], subprocess.PIPE, subprocess.PIPE, use)
 
 
-def of_files(starter: str, program: str, folder: str, case: Case, command: str) -> Run:
-    """Runs `copy` or `pipe` on the file source.avro of a folder."""
+def of_files(starter: str, program: str, folder: str, case: Case, command: str, cycles: int) -> Run:
+    """Runs `copy` or `pipe` on the file source.avro of a folder, which has so many cycles."""
     source, made = os.path.join(folder, "source.avro"), os.path.join(folder, "made.avro")
     names = [source, made] if command == "copy" else []
     with open(source, "rb") as given, open(os.devnull if names else made, "wb") as taken:
         found = run(starter, [program, command, *names, *case.words], given, taken, lambda process: process.wait() == 0)
     with open(made, "rb") as file:
-        found.is_wanted = case.wanted.is_read(file, case.cycles(COMPARED))
+        found.is_wanted = case.wanted.is_read(file, cycles)
     os.remove(made)
     return found
 
@@ -144,10 +145,10 @@ def copy_of(program: str, folder: str, data: bytes, words: list[str]) -> bytes:
         return file.read()
 
 
-def cases(program: str, folder: str, kind: str) -> Iterator[Case]:
+def cases(program: str, folder: str, kind: str, blocks: int) -> Iterator[Case]:
     """The containers of a kind, without a reader's schema and with one."""
     choose = random.Random(1)
-    given = Cycled(header(kind), b"".join(block(choose, kind) for _ in range(BLOCKS)))
+    given = Cycled(header(kind), b"".join(block(choose, kind) for _ in range(blocks)))
     reader = os.path.join(folder, "reader.avsc")
     with open(reader, "w", encoding="ascii") as file:
         file.write(READERS[kind])
@@ -159,14 +160,14 @@ def cases(program: str, folder: str, kind: str) -> Iterator[Case]:
         yield Case(name, words, given, Cycled(head, whole[len(head):]))
 
 
-def tell(case: Case, what: str, megabytes: int, runs: list[Run], most: float) -> bool:
+def tell(case: Case, what: str, megabytes: float, runs: list[Run], most: float) -> bool:
     """Prints a row, and says whether all is as it must be."""
     processor, clock = min(run.processor for run in runs), min(run.clock for run in runs)
     peak = max(run.peak for run in runs) / 1000
     answers = [] if all(run.is_wanted for run in runs) else ["ANOTHER OUTPUT"]
     answers += [] if peak < most else ["TOO MUCH MEMORY"]
     size = case.cycles(megabytes) * len(case.given.cycle) / 1_000_000
-    print(f"| {case.name} | {what} | {size:,.0f} MB | {processor:.2f} s | {clock:.2f} s | {size / processor:,.0f} MB/s | {peak:.2f} MB "
+    print(f"| {case.name} | {what} | {size:,.1f} MB | {processor:.2f} s | {clock:.2f} s | {size / processor:,.1f} MB/s | {peak:.2f} MB "
           f"| {' '.join(answers) or 'good'} |", flush=True)
     return not answers
 
@@ -175,12 +176,13 @@ def measure(program: str, folder: str, kind: str, given: argparse.Namespace) -> 
     """The rows of a kind."""
     starter = os.path.join(folder, "watch")
     are_good = True
-    for case in cases(program, folder, kind):
+    for case in cases(program, folder, kind, given.blocks):
+        cycles = case.cycles(given.compared)
         with open(os.path.join(folder, "source.avro"), "wb") as file:
-            file.writelines(case.given.parts(case.cycles(COMPARED)))
-        pairs = [[of_files(starter, program, folder, case, command) for command in ("copy", "pipe")] for _ in range(given.runs)]
+            file.writelines(case.given.parts(cycles))
+        pairs = [[of_files(starter, program, folder, case, command, cycles) for command in ("copy", "pipe")] for _ in range(given.runs)]
         for what, at in ("`copy`", 0), ("`pipe < IN > OUT`", 1):
-            are_good &= tell(case, what, COMPARED, [pair[at] for pair in pairs], given.peak)
+            are_good &= tell(case, what, given.compared, [pair[at] for pair in pairs], given.peak)
         stream = between_pipes(starter, program, case, given.megabytes)
         are_good &= tell(case, "`.. \\| pipe \\| ..`", given.megabytes, [stream], given.peak)
     return are_good
@@ -189,7 +191,9 @@ def measure(program: str, folder: str, kind: str, given: argparse.Namespace) -> 
 def read_words() -> argparse.Namespace:
     words = argparse.ArgumentParser(description=__doc__, formatter_class=argparse.RawDescriptionHelpFormatter)
     words.add_argument("program", nargs="?", default=os.environ.get("AVRO", "avro"))
-    words.add_argument("--megabytes", type=int, default=5_000)
+    words.add_argument("--megabytes", type=float, default=5_000)
+    words.add_argument("--compared", type=float, default=100)
+    words.add_argument("--blocks", type=int, default=BLOCKS)
     words.add_argument("--kinds", nargs="+", choices=KINDS, default=KINDS[:1])
     words.add_argument("--peak", type=float, default=4)
     words.add_argument("--runs", type=int, default=3)

@@ -72,7 +72,7 @@ check_others() {
 check_two() {
   cmp two lines || fail "the joblog names $(paste -sd ' ' lines)"
   [ "$failed" = 2 ] || fail "parallel ended with $failed"
-  awk -F '\t' '($7 != 0 || $8 != 0) && $7 $8 != "30" { exit 1 }' ran || fail "a job did not end with 3: $(cat ran)"
+  awk -F '\t' '($7 != 0 || $8 != 0) && $7 $8 != "30" { print $7, $8; exit 1 }' ran > ended || fail "a job ended with $(cat ended), and not with 3"
   [ "$(wc -l < errors)" = 2 ] || fail "the jobs said: $(cat errors)"
   while read -r name; do
     cmp -n "$(stat -c %s "out/$name")" "want/$name" "out/$name" || fail "$name: what was left is no beginning"
