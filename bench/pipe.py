@@ -23,7 +23,7 @@ import threading
 import time
 from collections.abc import Callable, Iterator
 from dataclasses import dataclass
-from typing import BinaryIO
+from typing import IO
 
 from container_schemas import READERS
 from containers import BLOCKS, KINDS, block, header
@@ -44,7 +44,7 @@ class Cycled:
         for _ in range(cycles):
             yield self.cycle
 
-    def is_read(self, source: BinaryIO, cycles: int) -> bool:
+    def is_read(self, source: IO[bytes], cycles: int) -> bool:
         """Whether a source holds exactly so many cycles; it is read to its end."""
         if source.read(len(self.head)) != self.head:
             return False
@@ -79,7 +79,7 @@ class Run:
     is_wanted: bool
 
 
-Given = BinaryIO | int
+Given = IO[bytes] | int
 Use = Callable[["subprocess.Popen[bytes]"], bool]
 
 
@@ -99,7 +99,7 @@ def run(starter: str, words: list[str], given: Given, taken: Given, use: Use) ->
     return Run(float(user) + float(system), clock, int(peak), is_wanted)
 
 
-def feed(parts: Iterator[bytes], pipe: BinaryIO) -> None:
+def feed(parts: Iterator[bytes], pipe: IO[bytes]) -> None:
     """Writes the parts. A program that ends before the last one is told of by its status."""
     try:
         with pipe:
@@ -152,7 +152,8 @@ def cases(program: str, folder: str, kind: str, blocks: int) -> Iterator[Case]:
     reader = os.path.join(folder, "reader.avsc")
     with open(reader, "w", encoding="ascii") as file:
         file.write(READERS[kind])
-    for name, words in (kind, []), (f"{kind}, --reader", ["--reader", reader]):
+    rows: list[tuple[str, list[str]]] = [(kind, []), (f"{kind}, --reader", ["--reader", reader])]
+    for name, words in rows:
         head = copy_of(program, folder, given.head, words)
         whole = copy_of(program, folder, given.head + given.cycle, words)
         if not whole.startswith(head):
