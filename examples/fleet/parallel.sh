@@ -14,8 +14,8 @@ if [[ $(parallel --version 2>/dev/null || true) != "GNU parallel"* ]]; then
   echo "GNU parallel is missing: installing the Debian package parallel"
   as_root=()
   [ "$(id -u)" = 0 ] || as_root=(sudo)
-  "${as_root[@]}" apt-get -qq update
-  "${as_root[@]}" env DEBIAN_FRONTEND=noninteractive apt-get -qq --no-install-recommends install parallel
+  "${as_root[@]}" apt-get -qq update > /dev/null
+  "${as_root[@]}" env DEBIAN_FRONTEND=noninteractive apt-get -qq --no-install-recommends install parallel > /dev/null
 fi
 
 fail() {
