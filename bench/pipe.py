@@ -25,10 +25,13 @@ from collections.abc import Callable, Iterator
 from dataclasses import dataclass
 from typing import IO
 
+HERE = os.path.dirname(os.path.abspath(__file__))
+sys.path[:0] = [os.path.join(HERE, "gen"), os.path.join(HERE, "c")]
+
+from building import build_program
 from container_schemas import READERS
 from containers import BLOCKS, KINDS, block, header
 
-HERE = os.path.dirname(os.path.abspath(__file__))
 TAKE = 1 << 20
 
 
@@ -207,8 +210,7 @@ def main() -> None:
     if program is None:
         sys.exit(f"{given.program}: no such program")
     with tempfile.TemporaryDirectory() as folder:
-        starter = [os.environ.get("CC", "cc"), "-O2", "-o", os.path.join(folder, "watch"), os.path.join(HERE, "watch.c")]
-        subprocess.run(starter, check=True)
+        build_program("watch", folder)
         print("| Container | command | size | processor | clock | of the processor | peak | answer |")
         print("|---|---|---|---|---|---|---|---|")
         rows = [measure(os.path.abspath(program), folder, kind, given) for kind in given.kinds]
