@@ -15,19 +15,21 @@ SYNC = bytes(range(16))
 
 
 class Row:
-    """A command, its files, what it prints and writes, and its status."""
+    """A command, its files and what is on its standard input, what it prints and writes, and its status."""
 
-    def __init__(self, name, words, files, out="", err="", status=0, written=None, behind=None):
+    def __init__(self, name, words, files, out="", err="", status=0, written=None, behind=None, given=None):
         self.name = name
         self.words = words.split(" ")
         self.files = {file: text.encode() if isinstance(text, str) else text for file, text in files.items()}
-        self.out = out.encode()
+        self.out = out.encode() if isinstance(out, str) else out
         self.err = err.encode()
         self.status = status
         # The files that it writes, with their bytes.
         self.written = {} if written is None else written
         # A file that is made only after a number of bytes of another were read.
         self.behind = behind
+        # The bytes on standard input, or None where there are none.
+        self.given = given
 
     def write_files(self, names):
         """Writes those of its files that have these names."""
@@ -209,7 +211,41 @@ def copying_rows():
     yield Row("copy sync", "copy i.avro o.avro --sync 00", {source: file}, err=text, status=64, written={made: None})
 
 
+def piping_rows():
+    """Containers that are copied from the standard input to the standard output."""
+    ints = header('"int"')
+    file = ints + block(1, b"\x0a")
+    readers = {"r.avsc": '["long","int"]'}
+    copied = header('["long","int"]') + block(1, b"\0\x0a")
+    yield Row("pipe", "pipe", {}, file, given=file)
+    yield Row("pipe counts", "pipe --counts", {}, file, "data 1 blocks 1\n", given=file)
+    yield Row("pipe reader", "pipe --reader r.avsc --sync 000102030405060708090a0b0c0d0e0f", readers, copied, given=file)
+    broken = file + number(2) + number(1) + b"\x0a" + SYNC
+    text = "avro: -: C10 block 1 datum 1: B1 at 1\n"
+    yield Row("pipe refused", "pipe --counts", {}, file, text, 3, given=broken)
+    yield Row("pipe cut", "pipe", {}, ints, "avro: -: C16 block 0\n", 3, given=file[:-1])
+    yield Row("pipe empty", "pipe", {}, "", "avro: -: C1\n", 3)
+    text = "avro: -: C11 block 0 datum 0: NoMatch at /\n"
+    yield Row("pipe unresolved", "pipe --reader r.avsc", {"r.avsc": '"string"'}, header('"string"'), text, 3, given=file)
+    text = "avro: --sync takes 32 hexadecimal digits\n"
+    yield Row("pipe sync", "pipe --sync 00", {}, err=text, status=64, given=file)
+
+
+def header_rows():
+    """Headers that are shown, and the version."""
+    entries = text_bytes("avro.schema") + text_bytes('"Foo"') + text_bytes("avro.codec") + text_bytes("deflate")
+    files = {"f.avro": b"Obj\x01" + number(2) + entries + b"\0" + SYNC}
+    yield Row("header", "header f.avro", files, '"Foo"\n')
+    text = '{"avro.codec":"deflate","avro.schema":"\\"Foo\\""}\n'
+    yield Row("header metadata", "header f.avro --metadata", files, text)
+    entries = text_bytes("avro.codec") + text_bytes("null")
+    files = {"f.avro": b"Obj\x01" + number(1) + entries + b"\0" + SYNC}
+    yield Row("header no schema", "header f.avro", files, err="avro: f.avro: C3\n", status=3)
+    yield Row("header cut", "header f.avro --metadata", {"f.avro": files["f.avro"][:-1]}, err="avro: f.avro: C16\n", status=3)
+    yield Row("version", "--version", {}, "avro 1.0.0\n")
+
+
 def rows():
     """All rows."""
-    for some in (schema_rows, judge_rows, kept_rows, certificate_rows, reading_rows, copying_rows):
+    for some in (schema_rows, judge_rows, kept_rows, certificate_rows, reading_rows, copying_rows, piping_rows, header_rows):
         yield from some()

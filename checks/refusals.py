@@ -34,7 +34,8 @@ class Run:
             if os.path.exists(file):
                 os.remove(file)
         row.write_files(row.written)
-        done = subprocess.run([program, *row.words], env=environment, stdin=subprocess.DEVNULL, capture_output=True, timeout=SECONDS)
+        given = {"stdin": subprocess.DEVNULL} if row.given is None else {"input": row.given}
+        done = subprocess.run([program, *row.words], env=environment, capture_output=True, timeout=SECONDS, **given)
         self.status, self.out, self.err = done.returncode, done.stdout, done.stderr
         self.written = {file: contents(file) for file in row.written}
         told = contents("told") or b""
@@ -75,6 +76,8 @@ def device_texts(row, kind, path):
         return [(row.status, row.err[:count]) for count in range(len(row.err) + 1)]
     if path == "-1":
         return [(4, b"avro: output: cannot write\n")]
+    if path == "-0":
+        return [(4, b"avro: -: cannot read\n")]
     return [(4, f"avro: {path}: cannot {verb}\n".encode()) for verb in verbs(row, kind, path)]
 
 

@@ -153,7 +153,7 @@ frame_header limit end bytes sync ps nodes s says =
 
 -- ---- Into a buffer that held nothing
 
-all_taken : {I : Type 0} (gives : I → List ℕ → I → Type 0) (a b : I) (old new : List ℕ) → old ≡ [] → GrowsBy gives a b old new → gives a new b
+pub all_taken : {I : Type 0} (gives : I → List ℕ → I → Type 0) (a b : I) (old new : List ℕ) → old ≡ [] → GrowsBy gives a b old new → gives a new b
 all_taken gives a b old new none p = subst (λ (bytes : List ℕ). gives a bytes b) (sym (p.grown ∙ ap (λ (front : List ℕ). front ++ p.bytes) none)) p.taken
 
 pub fault_taken : {I : Type 0} (gives : I → List ℕ → I → Type 0) (ended : I → Type 0) (a b : I) (old new : List ℕ) (limit : ℕ) (f : FileFault) → old ≡ [] → GrowsBy gives a b old new

@@ -17,6 +17,7 @@ pub mod MetadataRuns
 pub mod MetadataTaken
 pub mod HeaderStops
 pub mod HeaderEnds
+pub mod Framed
 pub mod BlocksCopied
 pub mod BlocksPacked
 pub mod CopySteps

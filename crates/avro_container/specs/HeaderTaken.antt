@@ -1,10 +1,12 @@
 -- What taking a header moves, where `gives` says which bytes an input moved between two states.
-use Rattle.std.specs.Prelude.{◌≡◌, ℕ, ◌≤◌, List, length}
+use Rattle.std.specs.Prelude.{◌≡◌, ℕ, ◌≤◌, Bool, true, false, List, Some, length}
 use Rattle.avro_schema.specs.SeenSchema.{schema_nodes}
-use Rattle.avro_container.specs.File.{HeaderValue, IsHeader}
-use Rattle.avro_container.specs.FileFault.{FileFault, HeaderFault, in_header}
-use Rattle.avro_container.specs.HeaderFails.{HeaderFails}
+use Rattle.avro_container.specs.File.{HeaderValue, IsHeader, Property}
+use Rattle.avro_container.specs.FileFault.{FileFault, HeaderFault, in_header, in_block, no_magic, invalid_metadata, no_schema, refused_schema, unknown_codec, long_header, cut_header}
+use Rattle.avro_container.specs.FileSeen.{file_fault}
+use Rattle.avro_container.specs.HeaderFails.{HeaderFails, MetadataStands}
 use Rattle.avro_container.specs.Parts.{properties_of}
+use Rattle.avro_container.specs.declared.error.CopyError.{CopyError}
 use Rattle.avro_container.specs.declared.header.Header.{Header}
 
 -- what a header says, as contracts see it
@@ -26,3 +28,28 @@ pub record TakesHeaderFault {I : Type 0} (gives : I → List ℕ → I → Type 
   pub bytes : List ℕ
   pub taken : gives from bytes to
   pub stands : IsHeaderFault limit (ended to) bytes fault
+
+-- exactly the magic, this metadata and a marker were taken, whatever the metadata say
+pub record TakesMetadata {I : Type 0} (gives : I → List ℕ → I → Type 0) (from to : I) (limit : ℕ) (properties : List Property) : Type 0 where
+  pub bytes : List ℕ
+  pub metadata : List ℕ
+  pub sync : List ℕ
+  pub taken : gives from bytes to
+  pub stands : MetadataStands properties bytes metadata sync
+  pub marker : length sync ≡ 16
+  pub within : length bytes ≤ limit
+
+-- a fault of the magic, the metadata or the marker, and none of what the metadata say
+abbrev pub is_of_frame : FileFault → Bool
+is_of_frame (in_header no_magic) = true
+is_of_frame (in_header (invalid_metadata f)) = true
+is_of_frame (in_header no_schema) = false
+is_of_frame (in_header (refused_schema e)) = false
+is_of_frame (in_header unknown_codec) = false
+is_of_frame (in_header long_header) = true
+is_of_frame (in_header cut_header) = true
+is_of_frame (in_block n f) = false
+
+-- an error reports no other fault
+abbrev pub IsOfFrame : CopyError → Type 0
+IsOfFrame e = (f : FileFault) → file_fault e ≡ Some f → is_of_frame f ≡ true

@@ -7,7 +7,7 @@ ghost use Rattle.avro_container.specs.FileFault.{FileFault};
 ghost use Rattle.avro_container.specs.FileSeen.{file_fault};
 ghost use Rattle.avro_container.specs.inside.HeaderEnds.{BeginsHeader, MarkerStops};
 ghost use Rattle.avro_container.specs.inside.HeaderParts.{Refused, Takes};
-ghost use Rattle.avro_container.specs.HeaderTaken.{IsHeaderFault};
+ghost use Rattle.avro_container.specs.HeaderTaken.{IsHeaderFault, IsOfFrame};
 ghost use Rattle.avro_container.specs.Held.{held};
 ghost use Rattle.avro_container.specs.Named.{IsNamed};
 
@@ -37,6 +37,7 @@ fn magic_error(error: PartError) -> CopyError
     ensures named { IsNamed result }
     ensures no_output { result ≢ CopyError.OutputFailed }
     ensures first { result ≢ CopyError.FailedBefore }
+    ensures framed { IsOfFrame result }
 {
     match error {
         PartError::Device => CopyError::InputFailed,
@@ -62,6 +63,7 @@ pub(crate) fn take_magic<I: Input>(
     ensures took { OnOk result (Takes I.gives I.failures (max 4 reach.limit) input.old input.new (held buffer.old) (held buffer.new)) }
     ensures lost { IfErr result (λ e. Refused I.gives I.failures (max 4 reach.limit) input.old input.new (held buffer.old) (held buffer.new) e) }
     ensures refused { IfErr result (λ e. (f : FileFault) → file_fault e ≡ Some f → IsHeaderFault reach.limit (I.ended input.new) (held buffer.new) f) }
+    ensures framed { IfErr result IsOfFrame }
 {
     let first = Reach {
         limit: reach.limit.max(4),

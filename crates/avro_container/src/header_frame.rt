@@ -6,7 +6,7 @@ ghost use Rattle.avro_container.specs.FileFault.{FileFault};
 ghost use Rattle.avro_container.specs.FileSeen.{file_fault};
 ghost use Rattle.avro_container.specs.inside.HeaderEnds.{FrameStands};
 ghost use Rattle.avro_container.specs.inside.HeaderParts.{Refused, Takes};
-ghost use Rattle.avro_container.specs.HeaderTaken.{IsHeaderFault};
+ghost use Rattle.avro_container.specs.HeaderTaken.{IsHeaderFault, IsOfFrame};
 ghost use Rattle.avro_container.specs.Held.{held};
 ghost use Rattle.avro_container.specs.Parts.{properties_of};
 
@@ -44,6 +44,7 @@ pub(crate) fn take_frame<I: Input>(
     ensures took { IfOk result (λ _. Takes I.gives I.failures (max 4 reach.limit) input.old input.new (held buffer.old) (held buffer.new)) }
     ensures lost { IfErr result (λ e. Refused I.gives I.failures (max 4 reach.limit) input.old input.new (held buffer.old) (held buffer.new) e) }
     ensures refused { IfErr result (λ e. (f : FileFault) → file_fault e ≡ Some f → IsHeaderFault reach.limit (I.ended input.new) (held buffer.new) f) }
+    ensures framed { IfErr result IsOfFrame }
 {
     take_magic(input, buffer, reach)?;
     let (metadata, at) = take_metadata(alloc, input, buffer, reach)?;

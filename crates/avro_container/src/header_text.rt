@@ -29,6 +29,14 @@ fn content_of<'a>(properties: &'a [(String, Vec<u8>)], name: &str) -> Option<&'a
     None
 }
 
+/// The text of the schema among the metadata of a header, if there is one. It need not declare a schema.
+pub fn schema_text(metadata: &[(String, Vec<u8>)]) -> Option<&[u8]>
+    ensures some { IfSome result (λ text. property (codes "avro.schema") (properties_of metadata.now) ≡ Some text.now) }
+    ensures none { IfNone result (property (codes "avro.schema") (properties_of metadata.now) ≡ None) }
+{
+    content_of(metadata, "avro.schema")
+}
+
 /// Whether the codec is `null`, or not given.
 fn has_plain_codec(properties: &[(String, Vec<u8>)]) -> bool
     ensures { result ≡ is_plain_codec (property (codes "avro.codec") (properties_of properties.now)) }

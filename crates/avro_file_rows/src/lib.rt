@@ -17,6 +17,8 @@ mod one_file;
 #[cfg(test)]
 mod parts;
 #[cfg(test)]
+mod piped;
+#[cfg(test)]
 mod program;
 #[cfg(test)]
 mod program_copies;
@@ -24,3 +26,5 @@ mod program_copies;
 mod reading;
 #[cfg(test)]
 mod refutations;
+#[cfg(test)]
+mod shown_headers;

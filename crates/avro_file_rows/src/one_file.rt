@@ -1,7 +1,7 @@
 //! Copies of a file into itself by another name, and how the program writes what it tells of files.
 
 use crate::files::{FIVE, NULLS, file_of};
-use avro_runs::{Counted, outcome_of, words_of};
+use avro_runs::{Counted, Given, outcome_of, words_of};
 use avro_tool::run;
 use std::alloc::{AllocError, Global};
 use std::fs;
@@ -110,7 +110,7 @@ fn lines_are_written_whole(rt: HostRuntime) -> Result<(), Fail> {
         let words = words_of(&rt, line)?;
         let mut out = Counted::new();
         let mut err = Counted::new();
-        let _ = run(&rt, &words, &mut out, &mut err);
+        let _ = run(&rt, &words, &mut Given::all(&[]), &mut out, &mut err);
         assert_eq!(rt; out.calls, outs, "{line}");
         assert_eq!(rt; err.calls, errs, "{line}");
         assert_eq!(rt; out.bytes, bytes, "{line}");

@@ -1,7 +1,7 @@
 //! Containers through the program: what it checks and shows, and the texts of its faults.
 
 use crate::files::{FIVE, LONG_OR_INT, NULL_HEADER, NULLS, file_of};
-use avro_runs::{Full, outcome_of, words_of};
+use avro_runs::{Full, Given, outcome_of, words_of};
 use avro_tool::run;
 use std::fs;
 use std::test::Fail;
@@ -212,7 +212,14 @@ fn a_full_output_is_told(rt: HostRuntime) -> Result<(), Fail> {
     ] {
         let words = words_of(&rt, line)?;
         let mut err = Vec::new(rt.alloc());
-        assert_eq!(rt; run(&rt, &words, &mut Full { room }, &mut err), 4, "{line}");
+        let status = run(
+            &rt,
+            &words,
+            &mut Given::all(&[]),
+            &mut Full { room },
+            &mut err,
+        );
+        assert_eq!(rt; status, 4, "{line}");
         assert_eq!(rt; err.as_slice(), "avro: output: cannot write\n".as_bytes());
     }
     let copied = fs::read(&rt, "copied.avro")?;

@@ -1,10 +1,10 @@
-//! Runs of the program `avro` within tests: what it answers and writes.
+//! Runs of the program `avro` within tests: what it reads, answers and writes.
 #![tactic(auto)]
 
 use avro_tool::run;
 use std::alloc::AllocError;
 use std::io;
-use std::io::Write;
+use std::io::{Read, Write};
 use std::rt::Files;
 
 /// What a run of the program answered and wrote.
@@ -24,10 +24,23 @@ pub struct Outcome {
 ///
 /// Memory ran out before the run.
 pub fn outcome_of<R: Files + AllocGlobal>(rt: &R, line: &str) -> Result<Outcome, AllocError> {
+    outcome_from(rt, line, &mut Given::all(&[]))
+}
+
+/// A run of the program over the words of a line, and what it reads from its standard input.
+///
+/// # Errors
+///
+/// Memory ran out before the run.
+pub fn outcome_from<R: Files + AllocGlobal, I: Read>(
+    rt: &R,
+    line: &str,
+    input: &mut I,
+) -> Result<Outcome, AllocError> {
     let mut out = Vec::new(rt.alloc());
     let mut err = Vec::new(rt.alloc());
     let words = words_of(rt, line)?;
-    let status = run(rt, &words, &mut out, &mut err);
+    let status = run(rt, &words, input, &mut out, &mut err);
     Ok(Outcome { status, out, err })
 }
 
@@ -42,6 +55,45 @@ pub fn words_of<R: AllocGlobal>(rt: &R, line: &str) -> Result<Vec<String>, Alloc
         list.push(String::from_str(rt.alloc(), word)?)?;
     }
     Ok(list)
+}
+
+/// A reader that gives some bytes, a number of them at once, and then ends or fails. It counts the calls.
+#[derive(Drop)]
+pub struct Given<'a> {
+    /// What it still gives.
+    pub rest: &'a [u8],
+    /// How many bytes it gives at once.
+    pub most: usize,
+    /// Whether it fails at the end.
+    pub fails: bool,
+    /// How many calls there were.
+    pub calls: usize,
+}
+
+impl<'a> Given<'a> {
+    /// A reader that gives these bytes, as many as are asked for, and ends.
+    pub fn all(bytes: &'a [u8]) -> Given<'a> {
+        Given {
+            rest: bytes,
+            most: usize::MAX,
+            fails: false,
+            calls: 0,
+        }
+    }
+}
+
+impl Read for Given<'_> {
+    fn read(&mut self, buf: &mut [u8]) -> io::Result<usize> {
+        self.calls = self.calls.saturating_add(1);
+        if self.fails && self.rest.is_empty() {
+            return Err(io::Error::from(io::ErrorKind::Other));
+        }
+        let given = self.most.min(buf.len()).min(self.rest.len());
+        let (front, others) = self.rest.split_at(given);
+        buf[..given].copy_from_slice(front);
+        self.rest = others;
+        Ok(given)
+    }
 }
 
 /// A writer that takes a number of bytes, and then fails.

@@ -45,11 +45,25 @@ pub(crate) enum Request<'a> {
     /// A copy of a container, whose data are what they are for a reader's schema where there is one, and
     /// the digits of its marker where they are given.
     Copy {
-        input: &'a str,
+        source: &'a str,
         output: &'a str,
         reader: Option<&'a str>,
         sync: Option<&'a str>,
     },
+    /// A copy of the container on standard input, likewise, on standard output; and whether its numbers of
+    /// data and blocks are told.
+    Pipe {
+        reader: Option<&'a str>,
+        sync: Option<&'a str>,
+        is_counted: bool,
+    },
+    /// The schema's text in a container's header, or all of its metadata.
+    Header {
+        file: &'a str,
+        is_metadata: bool,
+    },
+    /// The version of the program.
+    Version,
 }
 
 /// What is done with the certificates of a history.
@@ -80,7 +94,11 @@ pub(crate) fn request_of<'a>(
     words: &'a [String],
 ) -> Result<Request<'a>, Failure<'a>> {
     let mut command = program(alloc)?;
-    let matches = command.try_get_matches_from_mut(words)?;
+    let matches = match command.try_get_matches_from_mut(words) {
+        Ok(matches) => matches,
+        Err(e) if e.kind() == ErrorKind::DisplayVersion => return Ok(Request::Version),
+        Err(e) => return Err(Failure::from(e)),
+    };
     if let Some(history) = matches.subcommand_matches("history") {
         return match history_in(alloc, history)? {
             Some(request) => Ok(request),
@@ -147,11 +165,30 @@ fn container_request_in<'a>(matches: &ArgMatches<'a>) -> Option<Request<'a>> {
             reader: show.get_str("reader"),
         });
     }
+    if let Some(header) = matches.subcommand_matches("header") {
+        let file = header.get_str("file")?;
+        return Some(Request::Header {
+            file,
+            is_metadata: header.get_flag("metadata"),
+        });
+    }
+    copy_request_in(matches)
+}
+
+/// The request for a copy, of words that have the form of the program's.
+fn copy_request_in<'a>(matches: &ArgMatches<'a>) -> Option<Request<'a>> {
+    if let Some(pipe) = matches.subcommand_matches("pipe") {
+        return Some(Request::Pipe {
+            reader: pipe.get_str("reader"),
+            sync: pipe.get_str("sync"),
+            is_counted: pipe.get_flag("counts"),
+        });
+    }
     let copy = matches.subcommand_matches("copy")?;
-    let input = copy.get_str("input")?;
+    let source = copy.get_str("input")?;
     let output = copy.get_str("output")?;
     Some(Request::Copy {
-        input,
+        source,
         output,
         reader: copy.get_str("reader"),
         sync: copy.get_str("sync"),

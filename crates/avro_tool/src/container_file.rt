@@ -37,7 +37,7 @@ pub(crate) fn tell_counts<'a, O: Write>(
 }
 
 /// Prints the line of two counts by one write.
-fn print_counts<O: Write>(out: &mut O, counts: Counts) -> io::Result<()> {
+pub(crate) fn print_counts<O: Write>(out: &mut O, counts: Counts) -> io::Result<()> {
     let Counts { items, blocks } = counts;
     let mut line = Cursor::new([0; ROOM_OF_COUNTS]);
     writeln!(line, "data {items} blocks {blocks}")?;

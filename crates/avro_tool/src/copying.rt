@@ -45,7 +45,7 @@ pub(crate) fn copy_file<'a, R: Files + AllocGlobal, O: Write>(
 }
 
 /// The marker of these digits, where they are given.
-fn marker_of<'a>(digits: Option<&str>) -> Result<Option<[u8; 16]>, Failure<'a>> {
+pub(crate) fn marker_of<'a>(digits: Option<&str>) -> Result<Option<[u8; 16]>, Failure<'a>> {
     let Some(digits) = digits else {
         return Ok(None);
     };

@@ -1,5 +1,6 @@
 //! The words that the program takes.
 
+use crate::version::VERSION;
 use clap::{Arg, ArgAction, Command};
 use std::alloc::{AllocError, Global};
 
@@ -7,6 +8,7 @@ use std::alloc::{AllocError, Global};
 pub(crate) fn program<'a>(alloc: Global) -> Result<Command<'a>, AllocError> {
     Command::new(alloc, "avro")
         .about("Checks Avro schemas and container files")
+        .version(VERSION)
         .no_binary_name(true)
         .bin_name("avro")?
         .subcommand_required(true)
@@ -16,7 +18,9 @@ pub(crate) fn program<'a>(alloc: Global) -> Result<Command<'a>, AllocError> {
         .subcommand(schema_command(alloc)?)?
         .subcommand(check_command(alloc)?)?
         .subcommand(show_command(alloc)?)?
-        .subcommand(copy_command(alloc)?)
+        .subcommand(copy_command(alloc)?)?
+        .subcommand(pipe_command(alloc)?)?
+        .subcommand(header_command(alloc)?)
 }
 
 /// The command over two schemas.
@@ -50,15 +54,12 @@ fn confirm_command<'a>(alloc: Global) -> Result<Command<'a>, AllocError> {
 /// The command over one schema.
 fn schema_command<'a>(alloc: Global) -> Result<Command<'a>, AllocError> {
     let file = named_file(alloc, "file", "FILE").help("File of the schema");
-    let canonical = Arg::new(alloc, "canonical")
-        .long("canonical")
-        .action(ArgAction::SetTrue)
+    let canonical = flag(alloc, "canonical")
         .help("Shows the canonical form in place of the number of nodes")
         .conflicts_with("fingerprint")?;
-    let fingerprint = Arg::new(alloc, "fingerprint")
-        .long("fingerprint")
-        .action(ArgAction::SetTrue)
-        .help("Shows the fingerprint in place of the number of nodes");
+    let fingerprint = flag(alloc, "fingerprint").help(
+        "Shows the fingerprint in place of the number of nodes",
+    );
     Command::new(alloc, "schema")
         .about("Tells whether a text is a schema, and its number of nodes")
         .arg(file)?
@@ -109,17 +110,33 @@ fn show_command<'a>(alloc: Global) -> Result<Command<'a>, AllocError> {
 
 /// The command that copies a container.
 fn copy_command<'a>(alloc: Global) -> Result<Command<'a>, AllocError> {
-    let sync = Arg::new(alloc, "sync")
-        .long("sync")
-        .value_name("HEX32")
-        .action(ArgAction::Set)
-        .help("Marker behind each block of the copy, in place of the container's");
     Command::new(alloc, "copy")
         .about("Copies a container, with each datum in its plain encoding")
         .arg(named_file(alloc, "input", "IN").help("File of the container"))?
         .arg(named_file(alloc, "output", "OUT").help("File that the copy goes into"))?
         .arg(reader_option(alloc))?
-        .arg(sync)
+        .arg(sync_option(alloc))
+}
+
+/// The command that copies a container from the standard input to the standard output.
+fn pipe_command<'a>(alloc: Global) -> Result<Command<'a>, AllocError> {
+    let counts = flag(alloc, "counts").help(
+        "Tells how many data and blocks there were, on the standard error",
+    );
+    Command::new(alloc, "pipe")
+        .about("Copies a container from the standard input to the standard output")
+        .arg(reader_option(alloc))?
+        .arg(sync_option(alloc))?
+        .arg(counts)
+}
+
+/// The command that shows what a container's header says.
+fn header_command<'a>(alloc: Global) -> Result<Command<'a>, AllocError> {
+    let metadata = flag(alloc, "metadata").help("Shows all of the metadata in place of the schema");
+    Command::new(alloc, "header")
+        .about("Shows the text of a container's schema, whatever its codec")
+        .arg(named_file(alloc, "file", "FILE").help("File of the container"))?
+        .arg(metadata)
 }
 
 /// The argument for the writer's schema.
@@ -138,6 +155,20 @@ fn named_file<'a>(alloc: Global, id: &'a str, name: &'a str) -> Arg<'a> {
         .value_name(name)
         .required(true)
         .action(ArgAction::Set)
+}
+
+/// The option of a copy's marker.
+fn sync_option<'a>(alloc: Global) -> Arg<'a> {
+    Arg::new(alloc, "sync")
+        .long("sync")
+        .value_name("HEX32")
+        .action(ArgAction::Set)
+        .help("Marker behind each block of the copy, in place of the container's")
+}
+
+/// An option without a value.
+fn flag<'a>(alloc: Global, id: &'a str) -> Arg<'a> {
+    Arg::new(alloc, id).long(id).action(ArgAction::SetTrue)
 }
 
 /// The option of a reader's schema.

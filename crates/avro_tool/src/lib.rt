@@ -1,4 +1,4 @@
-//! The program `avro`, as a function over its words and two writers.
+//! The program `avro`, as a function over its words, a reader and two writers.
 #![tactic(auto)]
 
 mod checking;
@@ -8,21 +8,24 @@ mod container_file;
 mod copying;
 mod failure;
 mod grammar;
+mod header;
 mod history;
 mod judging;
 mod kept_files;
 mod late_file;
+mod piping;
 mod printing;
 mod refutation_file;
 mod schema_file;
 mod showing;
 mod showing_data;
+mod version;
 
 use command::{Request, request_of};
 use failure::Failure;
 use std::alloc::Global;
 use std::io;
-use std::io::Write;
+use std::io::{Read, Write};
 use std::rt::Files;
 
 /// What a command found. Its status is the program's.
@@ -64,14 +67,15 @@ pub fn refuse_words<E: Write>(error: &io::Error, err: &mut E) -> u8 {
 
 /// Runs the program over its words, without its name, and answers its status: 0 good or yes, 1 no,
 /// 2 undecided, 3 refused input, 4 a file's fault, 5 out of memory, 64 usage. What it finds goes to
-/// `out`; faults and the texts of usage go to `err`.
-pub fn run<R: Files + AllocGlobal, O: Write, E: Write>(
+/// `out`; faults and the texts of usage go to `err`. `input` is read by the command that copies it alone.
+pub fn run<R: Files + AllocGlobal, I: Read, O: Write, E: Write>(
     rt: &R,
     words: &[String],
+    input: &mut I,
     out: &mut O,
     err: &mut E,
 ) -> u8 {
-    match answer(rt, words, out) {
+    match answer(rt, words, input, out, err) {
         Ok(finding) => finding.status(),
         Err(failure) => report(rt.alloc(), &failure, err),
     }
@@ -97,10 +101,12 @@ fn report_memory<E: Write>(err: &mut E) -> u8 {
 }
 
 /// Does what the words ask for.
-fn answer<'a, R: Files + AllocGlobal, O: Write>(
+fn answer<'a, R: Files + AllocGlobal, I: Read, O: Write, E: Write>(
     rt: &R,
     words: &'a [String],
+    input: &mut I,
     out: &mut O,
+    err: &mut E,
 ) -> Result<Finding, Failure<'a>> {
     match request_of(rt.alloc(), words)? {
         Request::Judge {
@@ -123,10 +129,20 @@ fn answer<'a, R: Files + AllocGlobal, O: Write>(
         Request::Check { file } => checking::check_file(rt, file, out),
         Request::Show { file, reader } => showing_data::show_file(rt, file, reader, out),
         Request::Copy {
-            input,
+            source,
             output,
             reader,
             sync,
-        } => copying::copy_file(rt, input, output, reader, sync, out),
+        } => copying::copy_file(rt, source, output, reader, sync, out),
+        Request::Pipe {
+            reader,
+            sync,
+            is_counted,
+        } => {
+            let counts = piping::pipe_container(rt, reader, sync, input, out)?;
+            piping::tell_piped(err, counts, is_counted)
+        }
+        Request::Header { file, is_metadata } => header::show_header(rt, file, is_metadata, out),
+        Request::Version => version::tell_version(rt.alloc(), out),
     }
 }

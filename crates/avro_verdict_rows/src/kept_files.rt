@@ -1,6 +1,6 @@
 //! Files that options ask for: those that are read and those that hold a schema are kept.
 
-use avro_runs::{Counted, outcome_of, words_of};
+use avro_runs::{Counted, Given, outcome_of, words_of};
 use avro_tool::run;
 use std::fs;
 use std::os::unix::fs::symlink;
@@ -273,7 +273,7 @@ fn each_line_is_one_write(rt: HostRuntime) -> Result<(), Fail> {
         let words = words_of(&rt, line)?;
         let mut out = Counted::new();
         let mut err = Counted::new();
-        let _ = run(&rt, &words, &mut out, &mut err);
+        let _ = run(&rt, &words, &mut Given::all(&[]), &mut out, &mut err);
         assert_eq!(rt; out.calls, outs, "{line}");
         assert_eq!(rt; err.calls, errs, "{line}");
         assert_eq!(rt; out.torn, 0, "{line}");

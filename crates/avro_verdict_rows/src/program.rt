@@ -2,7 +2,7 @@
 
 use crate::program_rows::{BUILT, CONFIRMATIONS, FILES, SCHEMAS, USAGE, VERDICTS};
 use crate::texts::built;
-use avro_runs::{Full, outcome_of, words_of};
+use avro_runs::{Full, Given, outcome_of, words_of};
 use avro_tool::run;
 use std::fs;
 use std::test::Fail;
@@ -79,12 +79,18 @@ fn a_full_output_is_told(rt: HostRuntime) -> Result<(), Fail> {
         let words = words_of(&rt, line)?;
         let mut out = Full { room };
         let mut err = Vec::new(rt.alloc());
-        assert_eq!(rt; run(&rt, &words, &mut out, &mut err), 4);
+        let status = run(&rt, &words, &mut Given::all(&[]), &mut out, &mut err);
+        assert_eq!(rt; status, 4);
         assert_eq!(rt; err.as_slice(), "avro: output: cannot write\n".as_bytes());
-        assert_eq!(rt;
-            run(&rt, &words, &mut Full { room: 0 }, &mut Full { room: 0 }),
-            4
+        let mut none = Given::all(&[]);
+        let status = run(
+            &rt,
+            &words,
+            &mut none,
+            &mut Full { room: 0 },
+            &mut Full { room: 0 },
         );
+        assert_eq!(rt; status, 4);
     }
     Ok(())
 }

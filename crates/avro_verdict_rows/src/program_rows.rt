@@ -217,7 +217,7 @@ pub(crate) const USAGE: [&str; 21] = [
     "",
     "weigh",
     "--help",
-    "--version",
+    "--Version",
     "judge",
     "judge --help",
     "judge int.avsc",

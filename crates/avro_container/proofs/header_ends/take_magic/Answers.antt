@@ -1,7 +1,9 @@
 -- Why a magic is not taken.
-use Rattle.std.proofs.Common.{◌≡◌, ◌≤◌, length, take, Err, ap, sym, ◌∙◌, arith}
+use Rattle.std.proofs.Common.{◌≡◌, ◌≤◌, length, take, Err, refl, ap, sym, ◌∙◌, arith}
 use Rattle.std.proofs.lemmas.Bool.{false≢true}
+use Rattle.avro_container.specs.FileFault.{in_header, no_magic, long_header}
 use Rattle.avro_container.specs.Held.{held}
+use Rattle.avro_container.proofs.Framed.{framed}
 use Rattle.avro_container.proofs.HeaderEnds.{magic_stops, magic_differs, magic_long}
 use Rattle.avro_container.proofs.header_ends.take_magic.Goals as goal
 
@@ -37,3 +39,9 @@ returns-clause-begins g c =
     let limited = c.in-Ok.ensures.limited in
     let most = c.max.ensures in
     record { there = c.in-Ok.ensures.there; begins = sym front ∙ c.is_magic.ensures.0 c.if-not-is_magic.false; fits = omega (arith, limited, none, room, most) }
+
+pub returns-then-not-is_magic-clause-framed : goal.returns-then-not-is_magic-clause-framed
+returns-then-not-is_magic-clause-framed g c = λ f is. framed f (in_header no_magic) refl is
+
+pub returns-then-reach-lt4-clause-framed : goal.returns-then-reach-lt4-clause-framed
+returns-then-reach-lt4-clause-framed g c = λ f is. framed f (in_header long_header) refl is

@@ -4,6 +4,7 @@ use Rattle.std.proofs.lemmas.Result.{err_from_is_err_and}
 use Rattle.avro_container.specs.Held.{held}
 use Rattle.avro_container.specs.Parts.{properties_of}
 use Rattle.avro_container.proofs.Behind.{then_refused, takes_then, takes_wider, refused_wider, reports_not_failed}
+use Rattle.avro_container.proofs.Framed.{part_framed, marker_framed}
 use Rattle.avro_container.proofs.HeaderEnds.{begins_grown, metadata_grown, marker_stops, frame_stands}
 use Rattle.avro_container.proofs.HeaderStops.{header_stops}
 use Rattle.avro_container.proofs.header_frame.take_frame.Goals as goal
@@ -76,3 +77,13 @@ returns-clause-within g c =
     let third = c.in_ok-sync.ensures.within in
     let offset = c.in_ok-metadata.ensures.found.stretch.offset in
     omega (arith, first, second, third, offset)
+
+pub returns-in_err-metadata-clause-framed : goal.returns-in_err-metadata-clause-framed
+returns-in_err-metadata-clause-framed g c =
+    let p = err_from_is_err_and c.from_residual-in_err-metadata.result c.from_residual-in_err-metadata.ensures.1 in
+    rw (p.1, p.2) (λ f is. part_framed _ _ _ _ _ _ f (c.in_err-metadata.ensures.refused f is))
+
+pub returns-in_err-sync-clause-framed : goal.returns-in_err-sync-clause-framed
+returns-in_err-sync-clause-framed g c =
+    let p = err_from_is_err_and c.from_residual-in_err-sync.result c.from_residual-in_err-sync.ensures.1 in
+    rw (p.1, p.2) (λ f is. marker_framed _ _ _ _ f (c.in_err-sync.ensures.refused f is))

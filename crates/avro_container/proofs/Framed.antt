@@ -1,0 +1,49 @@
+-- Faults of the magic, the metadata and the marker, and what is left of bytes that are these alone.
+use Rattle.std.proofs.Common.{◌≡◌, ℕ, ◌+◌, ◌≤◌, List, [], ◌++◌, length, drop, Some, true, refl, sym, subst, ◌∙◌, ap, arith, append_nil}
+use Rattle.std.proofs.lemmas.List.{length-drop}
+use Rattle.std.proofs.lemmas.Option.{same_Some}
+use Rattle.avro_binary.specs.Fault.{ReadFault}
+use Rattle.avro_container.specs.File.{Property}
+use Rattle.avro_container.specs.FileFault.{FileFault}
+use Rattle.avro_container.specs.HeaderFails.{MetadataStands}
+use Rattle.avro_container.specs.HeaderTaken.{TakesMetadata, is_of_frame}
+use Rattle.avro_container.specs.inside.Filled.{GrowsBy}
+use Rattle.avro_container.specs.inside.HeaderEnds.{FrameStands, MarkerStops}
+use Rattle.avro_container.specs.inside.HeaderParts.{PartStops}
+use Rattle.avro_container.proofs.HeaderEnds.{all_taken}
+
+pub framed : (f g : FileFault) → is_of_frame g ≡ true → Some g ≡ Some f → is_of_frame f ≡ true
+framed f g h is = subst (λ (x : FileFault). is_of_frame x ≡ true) (same_Some _ _ is) h
+
+-- what stops the metadata
+pub part_framed : (limit at : ℕ) (ended : Type 0) (bytes : List ℕ) (breaks wants : List ℕ → ReadFault → Type 0) (f : FileFault)
+    → PartStops limit at ended bytes breaks wants f → is_of_frame f ≡ true
+part_framed limit at ended bytes breaks wants f (PartStops.broken g b none is) = subst (λ (x : FileFault). is_of_frame x ≡ true) (sym is) refl
+part_framed limit at ended bytes breaks wants _ (PartStops.too_long there w over) = refl
+part_framed limit at ended bytes breaks wants _ (PartStops.is_cut there w near told) = refl
+
+-- what stops the marker
+pub marker_framed : (limit at : ℕ) (ended : Type 0) (bytes : List ℕ) (f : FileFault) → MarkerStops limit at ended bytes f → is_of_frame f ≡ true
+marker_framed limit at ended bytes _ (MarkerStops.too_long short over) = refl
+marker_framed limit at ended bytes _ (MarkerStops.is_cut short near told) = refl
+
+-- bytes that end where the marker does
+pub frame_alone : {I : Type 0} (gives : I → List ℕ → I → Type 0) (a b : I) (old new : List ℕ) (limit end : ℕ) (sync : List ℕ) (ps : List Property) → old ≡ []
+    → GrowsBy gives a b old new → FrameStands limit new ps sync end → length new ≤ end → TakesMetadata gives a b limit ps
+frame_alone gives a b old new limit end sync ps none p s short =
+    let within = s.within in
+    record {
+      bytes = new;
+      metadata = s.metadata;
+      sync = sync;
+      taken = all_taken gives a b old new none p;
+      stands = subst (λ (rest : List ℕ). MetadataStands ps new s.metadata rest) (ap (λ (rest : List ℕ). sync ++ rest) (drop_all new end short) ∙ append_nil sync) s.stands;
+      marker = s.marker;
+      within = omega (arith, within, short);
+    }
+  where
+    drop_all : (bytes : List ℕ) (n : ℕ) → length bytes ≤ n → drop n bytes ≡ []
+    drop_all bytes n few = no_bytes (drop n bytes) (omega (arith, length-drop n bytes, few))
+
+    no_bytes : (bytes : List ℕ) → length bytes ≡ 0 → bytes ≡ []
+    no_bytes [] h = refl

@@ -1,0 +1,226 @@
+//! The command that shows what the header of a container says.
+
+use crate::files::{FIVE, MARK, NULL_HEADER, NULLS, file_with};
+use avro_runs::{Full, Given, outcome_of, words_of};
+use avro_tool::run;
+use std::alloc::{AllocError, Global};
+use std::fs;
+use std::test::Fail;
+
+/// The metadata of a file behind the magic, what `check` tells of it, and what is shown.
+const TEXTS: [(&[u8], &str, &[u8]); 8] = [
+    (b"\x02\x16avro.schema\x0a\"int\"\x00", "", b"\"int\"\n"),
+    (
+        b"\x02\x16avro.schema\x10 \"int\" \n\x00",
+        "",
+        b" \"int\" \n\n",
+    ),
+    (
+        b"\x04\x16avro.schema\x0a\"int\"\x14avro.codec\x08null\x00",
+        "",
+        b"\"int\"\n",
+    ),
+    // Another codec, a text that is refused, and one that is no text.
+    (
+        b"\x04\x14avro.codec\x0edeflate\x16avro.schema\x0a\"int\"\x00",
+        "C5",
+        b"\"int\"\n",
+    ),
+    (
+        b"\x02\x16avro.schema\x0a\"Foo\"\x02\x14avro.codec\x0csnappy\x00",
+        "C5",
+        b"\"Foo\"\n",
+    ),
+    (
+        b"\x02\x16avro.schema\x0a\"Foo\"\x00",
+        "C4: S2",
+        b"\"Foo\"\n",
+    ),
+    (
+        b"\x02\x16avro.schema\x04\xff\x00\x00",
+        "C4: S1",
+        b"\xff\x00\n",
+    ),
+    (b"\x02\x16avro.schema\x00\x00", "C4: S1", b"\n"),
+];
+
+/// The line of a code.
+fn line_of(alloc: Global, code: &str) -> Result<String, AllocError> {
+    if code.is_empty() {
+        return String::from_str(alloc, "");
+    }
+    format!(in alloc; "avro: head.avro: {code}\n")
+}
+
+#[test]
+fn schemas_of_headers_are_shown(rt: HostRuntime) -> Result<(), Fail> {
+    for (metadata, code, out) in TEXTS {
+        let file = file_with(rt.alloc(), metadata, &[])?;
+        fs::write(&rt, "head.avro", &file)?;
+        let shown = outcome_of(&rt, "header head.avro")?;
+        assert_eq!(rt; shown.status, 0, "{code}");
+        assert_eq!(rt; shown.out.as_slice(), out, "{code}");
+        assert!(rt; shown.err.is_empty(), "{code}");
+        let checked = outcome_of(&rt, "check head.avro")?;
+        let line = line_of(rt.alloc(), code)?;
+        assert_eq!(rt; checked.err.as_slice(), line.as_bytes(), "{code}");
+    }
+    Ok(())
+}
+
+/// Files whose headers are refused, and what `check` and `header` tell of them.
+const REFUSED: [(&[u8], &str); 12] = [
+    (b"", "C1"),
+    (b"Obj", "C1"),
+    (b"Obj\x02\x00", "C1"),
+    (b"Obj\x01", "C16"),
+    (b"Obj\x01\x00\x00\x01\x02", "C16"),
+    (b"Obj\x01\x02\x16avro.schema\x0a\"int", "C16"),
+    (b"Obj\x01\x02\x02\xff", "C2: B4 at 6"),
+    (b"Obj\x01\x02\x01", "C2: B6 at 5"),
+    (b"Obj\x01\x04\x02a\x00\x02a\x00\x00", "C2: B8 at 8"),
+    (b"Obj\x01\x01\x02\x02a\x00\x00", "C2: B7 at 5"),
+    (b"Obj\x01\x02\x02a\x80\x80\x80\x04", "C9"),
+    (
+        b"Obj\x01\x02\x14avro.codec\x0edeflate\x00\x00\x01\x02\x03\x04\x05\x06\x07\x08\x09\x0a\x0b\x0c\x0d\x0e\x0f",
+        "C3",
+    ),
+];
+
+#[test]
+fn refused_headers_are_told(rt: HostRuntime) -> Result<(), Fail> {
+    for (file, code) in REFUSED {
+        fs::write(&rt, "head.avro", file)?;
+        let line = line_of(rt.alloc(), code)?;
+        for words in [
+            "check head.avro",
+            "header head.avro",
+            "header head.avro --metadata",
+        ] {
+            let ran = outcome_of(&rt, words)?;
+            assert_eq!(rt; ran.status, 3, "{words} {code}");
+            assert_eq!(rt; ran.err.as_slice(), line.as_bytes(), "{words}");
+            assert!(rt; ran.out.is_empty(), "{words} {code}");
+        }
+    }
+    Ok(())
+}
+
+/// Metadata behind the magic, and how all of them are shown: the keys in the order of their bytes.
+const METADATA: [(&[u8], &str); 5] = [
+    (
+        b"\x02\x16avro.schema\x0a\"int\"\x00",
+        r#"{"avro.schema":"\"int\""}"#,
+    ),
+    (
+        b"\x04\x16avro.schema\x0a\"int\"\x14avro.codec\x0edeflate\x00",
+        r#"{"avro.codec":"deflate","avro.schema":"\"int\""}"#,
+    ),
+    (
+        b"\x02\x02b\x02c\x02\x16avro.schema\x02x\x02\x02a\x00\x00",
+        r#"{"a":"","avro.schema":"x","b":"c"}"#,
+    ),
+    (
+        b"\x04\x16avro.schema\x00\x04\xc3\xa9\x08\x00\x0aA\xff\x00",
+        "{\"avro.schema\":\"\",\"\u{e9}\":\"\\u0000\\nA\u{ff}\"}",
+    ),
+    (
+        b"\x04\x16avro.schema\x04\xc3\xa9\x04\"\\\x04\"\\\x00",
+        "{\"\\\"\\\\\":\"\\\"\\\\\",\"avro.schema\":\"\u{c3}\u{a9}\"}",
+    ),
+];
+
+#[test]
+fn metadata_are_shown(rt: HostRuntime) -> Result<(), Fail> {
+    for (metadata, out) in METADATA {
+        let file = file_with(rt.alloc(), metadata, &[])?;
+        fs::write(&rt, "head.avro", &file)?;
+        for words in ["header head.avro --metadata", "header --metadata head.avro"] {
+            let shown = outcome_of(&rt, words)?;
+            assert_eq!(rt; shown.status, 0, "{out}");
+            let line = format!(in rt.alloc(); "{out}\n")?;
+            assert_eq!(rt; shown.out.as_slice(), line.as_bytes(), "{out}");
+            assert!(rt; shown.err.is_empty(), "{out}");
+        }
+    }
+    Ok(())
+}
+
+/// Words, and what they answer and write: a block that is refused is not looked at.
+const RUNS: [(&str, u8, &str, &str); 6] = [
+    ("header nulls.head", 0, "\"null\"\n", ""),
+    ("header five.head", 0, "\"int\"\n", ""),
+    ("header spoiled.head", 0, "\"null\"\n", ""),
+    ("header no.head", 4, "", "avro: no.head: cannot read\n"),
+    (
+        "header head_folder",
+        4,
+        "",
+        "avro: head_folder: cannot read\n",
+    ),
+    (
+        "header head_folder --metadata",
+        4,
+        "",
+        "avro: head_folder: cannot read\n",
+    ),
+];
+
+#[test]
+fn headers_of_files_are_shown(rt: HostRuntime) -> Result<(), Fail> {
+    fs::write(&rt, "nulls.head", NULLS)?;
+    fs::write(&rt, "five.head", FIVE)?;
+    let mut spoiled = Vec::from_slice(rt.alloc(), NULL_HEADER)?;
+    spoiled.extend_from_slice(&MARK)?;
+    fs::write(&rt, "spoiled.head", &spoiled)?;
+    fs::create_dir(&rt, "head_folder")?;
+    for (line, status, out, err) in RUNS {
+        let ran = outcome_of(&rt, line)?;
+        assert_eq!(rt; ran.status, status, "{line}");
+        assert_eq!(rt; ran.out.as_slice(), out.as_bytes(), "{line}");
+        assert_eq!(rt; ran.err.as_slice(), err.as_bytes(), "{line}");
+    }
+    Ok(())
+}
+
+/// Words that have not the form of the program's.
+const OTHER_WORDS: [&str; 6] = [
+    "header",
+    "header x y",
+    "header --metadata",
+    "header x --reader y",
+    "header x --counts",
+    "header x --version",
+];
+
+#[test]
+fn other_words_of_headers_are_usage(rt: HostRuntime) -> Result<(), Fail> {
+    for line in OTHER_WORDS {
+        let ran = outcome_of(&rt, line)?;
+        assert_eq!(rt; ran.status, 64, "{line}");
+        assert!(rt; !ran.err.is_empty() && ran.out.is_empty(), "{line}");
+    }
+    Ok(())
+}
+
+#[test]
+fn a_full_output_of_headers_is_told(rt: HostRuntime) -> Result<(), Fail> {
+    fs::write(&rt, "full.head", NULLS)?;
+    for (line, room) in [
+        ("header full.head", 0),
+        ("header full.head", 6),
+        ("header full.head --metadata", 9),
+    ] {
+        let words = words_of(&rt, line)?;
+        let mut err = Vec::new(rt.alloc());
+        let mut none = Given::all(&[]);
+        let status = run(&rt, &words, &mut none, &mut Full { room }, &mut err);
+        assert_eq!(rt; status, 4, "{line}");
+        assert_eq!(rt;
+            err.as_slice(),
+            b"avro: output: cannot write\n".as_slice(),
+            "{line}"
+        );
+    }
+    Ok(())
+}

@@ -1,0 +1,55 @@
+//! A container from one stream to another.
+
+use crate::Finding;
+use crate::container_file::{ROOM, print_counts};
+use crate::copying::marker_of;
+use crate::failure::Failure;
+use crate::schema_file::read_reader;
+use avro_container::{CopyError, Counts, FileLimits, ReadInput, WriteOutput, copy};
+use std::io::{BufReader, Read, Write};
+use std::rt::Files;
+
+/// The word for the standard input.
+const INPUT: &str = "-";
+
+/// Copies a container from a reader to a writer, and answers how many data and blocks it has.
+pub(crate) fn pipe_container<'a, R: Files + AllocGlobal, I: Read, O: Write>(
+    rt: &R,
+    reader: Option<&'a str>,
+    sync: Option<&'a str>,
+    input: &mut I,
+    out: &mut O,
+) -> Result<Counts, Failure<'a>> {
+    let sync = marker_of(sync)?;
+    let reader = read_reader(rt, reader)?;
+    let mut source = match BufReader::with_capacity(rt.alloc(), ROOM, input) {
+        Ok(input) => ReadInput::new(input),
+        Err(_) => return Err(Failure::OutOfMemory),
+    };
+    let copied = copy(
+        rt.alloc(),
+        &mut source,
+        &mut WriteOutput::new(out),
+        reader.as_ref(),
+        sync,
+        &FileLimits::default(),
+    );
+    match copied {
+        Ok(counts) => Ok(counts),
+        Err(CopyError::OutputFailed) => Err(Failure::CannotPrint),
+        Err(error) => Err(Failure::of_container(INPUT, error)),
+    }
+}
+
+/// Tells of a copy that is whole how many data and blocks it has, where that is asked for. Where the
+/// standard error fails, the copy is whole all the same.
+pub(crate) fn tell_piped<'a, E: Write>(
+    err: &mut E,
+    counts: Counts,
+    is_counted: bool,
+) -> Result<Finding, Failure<'a>> {
+    if is_counted {
+        let _ = print_counts(err, counts);
+    }
+    Ok(Finding::Good)
+}

@@ -1,0 +1,20 @@
+//! The version of the program.
+
+use crate::Finding;
+use crate::failure::Failure;
+use crate::printing::print;
+use std::alloc::Global;
+use std::io::Write;
+
+/// The version.
+pub(crate) const VERSION: &str = "1.0.0";
+
+/// Prints the version.
+pub(crate) fn tell_version<'a, O: Write>(
+    alloc: Global,
+    out: &mut O,
+) -> Result<Finding, Failure<'a>> {
+    let line = format!(in alloc; "avro {VERSION}\n")?;
+    print(out, &line)?;
+    Ok(Finding::Good)
+}
