@@ -1,3 +1,4 @@
 pub mod Answered
+pub mod Headline
 pub mod JudgeRanges
 pub mod inside

@@ -11,6 +11,7 @@ mod confirming;
 mod deciding;
 mod faults;
 mod judging;
+pub mod laws;
 mod limits;
 mod refuting;
 mod verdict;

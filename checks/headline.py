@@ -1,0 +1,150 @@
+#!/usr/bin/env python3
+"""Lists the definitions that the headline rests on, file by file, and compares them with the table of docs/HEADLINE.md.
+
+usage: checks/headline.py [--print]
+
+With --print the table is printed, and nothing is compared. Else the exit status is 0 where the table of the page is the
+one that the definitions give, and 1 where it is another.
+"""
+
+from __future__ import annotations
+
+import re
+import sys
+from functools import lru_cache
+from pathlib import Path
+from typing import NamedTuple
+
+ROOT = Path(__file__).resolve().parent.parent
+PAGE = ROOT / "docs" / "HEADLINE.md"
+ROOTS = (
+    ("Rattle.avro_judge.specs.Headline", "IsRight"),
+    ("Rattle.avro_judge.specs.Headline", "ReadsRight"),
+)
+# The crates and their files in the order in which each rests on those before it.
+CRATES = ("name", "schema", "zigzag", "binary", "resolve", "certificate", "judge")
+WORD = re.compile(r"[A-Za-z_][\w\-]*")
+HEAD = re.compile(r"(?:abbrev )?(?:pub )?(?:abbrev )?(?:record |data |type )?(?:pub )?([A-Za-z_][\w\-]*)")
+USE = re.compile(r"^use (Rattle\.[\w.]+)\.\{([^}]*)\}", re.MULTILINE)
+
+
+class Module(NamedTuple):
+    """What a file imports, by the name it has there, and the lines of each of its definitions."""
+
+    imports: dict[str, tuple[str, str]]
+    lines: dict[str, list[str]]
+
+
+def file_of(module: str) -> Path | None:
+    """The file of a module of definitions; none for a module of the kit or one that is derived from code."""
+    parts = module.split(".")
+    if len(parts) < 4 or parts[2] != "specs" or parts[3] in ("declared", "contracts"):
+        return None
+    file = ROOT / "crates" / parts[1] / "specs" / ("/".join(parts[3:]) + ".antt")
+    return file if file.exists() else None
+
+
+def imports_of(text: str) -> dict[str, tuple[str, str]]:
+    """The imports of a file."""
+    found: dict[str, tuple[str, str]] = {}
+    for use in USE.finditer(text):
+        for item in use.group(2).split(","):
+            own, _, other = item.strip().partition(" as ")
+            found[other or own] = (use.group(1), own)
+    return found
+
+
+def lines_of(text: str) -> dict[str, list[str]]:
+    """The lines of each definition of a file, without comments."""
+    found: dict[str, list[str]] = {}
+    name, mutual = None, False
+    for line in text.splitlines():
+        words = line.strip()
+        if not words or words.startswith(("--", "use ")):
+            continue
+        indent = len(line) - len(line.lstrip())
+        if indent == 0:
+            mutual = re.match(r"(abbrev )?mutual\b", words) is not None
+        if mutual and indent == 0:
+            name = None
+        elif indent == (2 if mutual else 0):
+            head = HEAD.match(words)
+            name = head.group(1) if head else None
+        if name:
+            found.setdefault(name, []).append(line)
+    return found
+
+
+@lru_cache(maxsize=None)
+def read(file: Path) -> Module:
+    """A file of definitions."""
+    text = file.read_text(encoding="utf-8")
+    return Module(imports_of(text), lines_of(text))
+
+
+def owner(module: Module, name: str) -> str | None:
+    """The definition that a name is, or that it is a part of, as a constructor or a field."""
+    if name in module.lines:
+        return name
+    word = re.compile(r"(?<![\w\-])" + re.escape(name) + r"(?![\w\-])")
+    return next((own for own, lines in module.lines.items() if word.search("\n".join(lines))), None)
+
+
+def reached() -> list[tuple[Path, str]]:
+    """The definitions that the roots reach."""
+    found: dict[tuple[Path, str], None] = {}
+    waiting = list(ROOTS)
+    while waiting:
+        module_name, name = waiting.pop()
+        file = file_of(module_name)
+        if file is None:
+            continue
+        module = read(file)
+        own = owner(module, name)
+        if own is None or (file, own) in found:
+            continue
+        found[(file, own)] = None
+        words = set(WORD.findall("\n".join(module.lines[own])))
+        waiting += [module.imports[word] for word in words if word in module.imports]
+        waiting += [(module_name, word) for word in words if word in module.lines]
+    return list(found)
+
+
+def rank(file: Path) -> tuple[int, str]:
+    """Where a file stands in the table."""
+    crate = file.relative_to(ROOT / "crates").parts[0].removeprefix("avro_")
+    return (CRATES.index(crate), file.stem)
+
+
+def table() -> str:
+    """The table, a row a file in the order of reading, and a last row of sums."""
+    names: dict[Path, list[str]] = {}
+    for file, name in reached():
+        names.setdefault(file, []).append(name)
+    rows, total = [], [0, 0]
+    for file in sorted(names, key=rank):
+        order = [name for name in read(file).lines if name in names[file]]
+        count = sum(len(read(file).lines[name]) for name in order)
+        total = [total[0] + len(order), total[1] + count]
+        shown = ", ".join(f"`{name}`" for name in order)
+        rows.append(f"| `{file.relative_to(ROOT / 'crates')}` | {count} | {shown} |")
+    rows.append(f"| {len(names)} files | {total[1]} | {total[0]} definitions |")
+    return "\n".join(["| File | Lines | Definitions |", "|---|---|---|", *rows])
+
+
+def main() -> int:
+    """Prints the table, or compares it."""
+    if sys.argv[1:] == ["--print"]:
+        print(table())
+        return 0
+    if sys.argv[1:]:
+        print(__doc__, file=sys.stderr)
+        return 64
+    if table() in PAGE.read_text(encoding="utf-8"):
+        return 0
+    print(f"{PAGE.name}: its table is not what checks/headline.py --print gives", file=sys.stderr)
+    return 1
+
+
+if __name__ == "__main__":
+    sys.exit(main())
