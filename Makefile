@@ -71,8 +71,9 @@ robust: $(PROGRAM) ## runs checks/ on the proved program, and compares it with a
 	checks/words.py $(PROGRAM)
 	$(if $(OLD),checks/compare.py $(OLD) $(PROGRAM))
 
-words: ## tests that the man page and the completions have the program's words (a second)
+words: ## tests the words of man page and completions, and the table of the headline (a second)
 	checks/words.py
+	checks/headline.py
 
 clean: ## removes what the checks and builds have kept (seconds)
 	rm -rf crates/*/out
