@@ -1,6 +1,6 @@
 -- Faults of the magic, the metadata and the marker, and what is left of bytes that are these alone.
-use Rattle.std.proofs.Common.{◌≡◌, ℕ, ◌+◌, ◌≤◌, List, [], ◌++◌, length, drop, Some, true, refl, sym, subst, ◌∙◌, ap, arith, append_nil}
-use Rattle.std.proofs.lemmas.List.{length-drop}
+use Rattle.std.proofs.Common.{◌≡◌, ℕ, ◌≤◌, List, [], ◌++◌, length, Some, true, refl, sym, subst, ◌∙◌, arith, append-nil}
+use Rattle.std.proofs.lemmas.List.{at_drop_all}
 use Rattle.std.proofs.lemmas.Option.{same_Some}
 use Rattle.avro_binary.specs.Fault.{ReadFault}
 use Rattle.avro_container.specs.File.{Property}
@@ -37,13 +37,7 @@ frame_alone gives a b old new limit end sync ps none p s short =
       metadata = s.metadata;
       sync = sync;
       taken = all_taken gives a b old new none p;
-      stands = subst (λ (rest : List ℕ). MetadataStands ps new s.metadata rest) (ap (λ (rest : List ℕ). sync ++ rest) (drop_all new end short) ∙ append_nil sync) s.stands;
+      stands = subst (λ (rest : List ℕ). MetadataStands ps new s.metadata rest) (at_drop_all (λ (rest : List ℕ). sync ++ rest) new end short ∙ append-nil sync) s.stands;
       marker = s.marker;
       within = omega (arith, within, short);
     }
-  where
-    drop_all : (bytes : List ℕ) (n : ℕ) → length bytes ≤ n → drop n bytes ≡ []
-    drop_all bytes n few = no_bytes (drop n bytes) (omega (arith, length-drop n bytes, few))
-
-    no_bytes : (bytes : List ℕ) → length bytes ≡ 0 → bytes ≡ []
-    no_bytes [] h = refl

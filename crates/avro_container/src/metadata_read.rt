@@ -40,10 +40,11 @@ pub fn read_metadata<I: Input>(
     let mut buffer = Buffer::new(alloc);
     let limit = limits.header() as usize;
     let reach = Reach { limit, ahead: 0 };
+    let frame = take_frame(alloc, input, &mut buffer, reach)?;
     let Frame {
         metadata,
         sync: _,
         end: _,
-    } = take_frame(alloc, input, &mut buffer, reach)?;
+    } = frame;
     Ok(metadata)
 }

@@ -101,9 +101,10 @@ fn of_front(len: usize) -> (&'static str, &'static [u8]) {
 
 #[test]
 fn cut_inputs_are_told(rt: HostRuntime) -> Result<(), Fail> {
-    for len in 0..NULLS.len() + 1 {
+    for len in 0..60 {
+        let (front, _) = NULLS.split_at(len.min(NULLS.len()));
         let (err, out) = of_front(len);
-        let ran = outcome_from(&rt, "pipe", &mut Given::all(&NULLS[..len]))?;
+        let ran = outcome_from(&rt, "pipe", &mut Given::all(front))?;
         assert_eq!(rt; ran.status == 0, err.is_empty(), "{len}");
         assert_eq!(rt; ran.err.as_slice(), err.as_bytes(), "{len}");
         assert_eq!(rt; ran.out.as_slice(), out, "{len}");
@@ -160,7 +161,7 @@ const FAILING: [(usize, usize, &[u8]); 6] = [
 #[test]
 fn a_failing_input_is_told(rt: HostRuntime) -> Result<(), Fail> {
     for (len, most, out) in FAILING {
-        let mut input = Given::all(&NULLS[..len]);
+        let mut input = Given::all(NULLS.get(..len).unwrap_or(NULLS));
         input.most = most;
         input.fails = true;
         let ran = outcome_from(&rt, "pipe --counts", &mut input)?;
