@@ -69,6 +69,8 @@ robust: $(PROGRAM) ## runs checks/ on the proved program, and compares it with a
 	checks/room.py $(PROGRAM)
 	checks/one_file.py $(PROGRAM)
 	checks/words.py $(PROGRAM)
+	checks/confirm.py $(PROGRAM)
+	checks/explain.py $(PROGRAM)
 	$(if $(OLD),checks/compare.py $(OLD) $(PROGRAM))
 
 words: ## tests the words of man page and completions, and the table of the headline (a second)
@@ -77,4 +79,4 @@ words: ## tests the words of man page and completions, and the table of the head
 
 clean: ## removes what the checks and builds have kept (seconds)
 	rm -rf crates/*/out
-	rm -rf bench/__pycache__ bench/*/__pycache__ checks/__pycache__
+	rm -rf bench/__pycache__ bench/*/__pycache__ checks/__pycache__ examples/__pycache__

@@ -38,7 +38,7 @@ ENOUGH = 20
 MEGABYTES = "100"
 FEW_MEGABYTES = "4"
 FREE = 12 << 30
-GOALS = {"check": 1.2, "copy": 2.0, "copy --reader": 2.8}
+GOALS = {"check": 1.2, "copy": 2.0, "copy --reader": 2.5}
 SYNC = bytes(range(100, 116))
 
 

@@ -4,9 +4,9 @@
     verdicts.py write FOLDER
     verdicts.py measure PROGRAM [FOLDER]
 
-`measure` runs `PROGRAM judge WRITER READER` on each pair, then with a certificate asked for, and after a yes `PROGRAM confirm` with that
-certificate. It prints the least processor time of five runs each in milliseconds, the peak of memory in MB, and the answer. A run ends after
-60 seconds of the processor.
+`measure` runs `PROGRAM judge WRITER READER` on each pair, then with a certificate asked for, after a yes `PROGRAM confirm` with that
+certificate, and `PROGRAM explain`. It prints the least processor time of five runs each in milliseconds, the peak of memory in MB, and the
+answers. A run ends after 60 seconds of the processor.
 """
 
 import json
@@ -35,6 +35,11 @@ def wide(count, last="int"):
     return record("W", [(f"field_{i}", "int") for i in range(count - 1)] + [(f"field_{count - 1}", last)])
 
 
+def renamed(count):
+    """A record whose fields have none of the names of `wide`."""
+    return record("W", [(f"other_{i}", "int") for i in range(count)])
+
+
 def nested(count):
     """A union of records, each but the first with a map whose values are null or the one before."""
     maps = [("m", {"type": "map", "values": ["null", f"N{i}"]}) for i in range(count - 1)]
@@ -60,12 +65,15 @@ def pairs():
     for count in (500, 1_000, 2_047):
         yield f"fields {count}", wide(count), wide(count)
         yield f"fields {count} one unread", wide(count), wide(count, "string")
+        yield f"fields {count} none known", wide(count), renamed(count)
     for count in (10, 20, 30):
         yield f"nested {count}", nested(count), nested(count)
     for count in (100, 200, 500, 1_000):
         yield f"chain {count}", chain(count), chain(count - 1)
     for count in (5_000, 10_000, 20_000):
         yield f"symbols {count} reversed", symbols(range(count)), symbols(reversed(range(count)))
+    for count in (1_000, 2_000, 4_000):
+        yield f"symbols {count} none known", symbols(range(count)), symbols(range(count, 2 * count))
 
 
 def write(folder):
@@ -105,13 +113,15 @@ def least(words):
 def measure(program, folder):
     """Prints a row for each pair."""
     certificate = os.path.join(folder, "out.cert")
-    print("| Pair | milliseconds | MB | answer | with a certificate | `confirm` |")
-    print("|---|---|---|---|---|---|")
+    print("| Pair | milliseconds | MB | answer | with a certificate | `confirm` | `explain` | MB | answer |")
+    print("|---|---|---|---|---|---|---|---|---|")
     for name, writer, reader in write(folder):
         time, memory, answer = least([program, "judge", writer, reader])
         certified, _, _ = least([program, "judge", writer, reader, "--certificate", certificate])
         checked = confirmed(program, writer, reader, certificate) if answer == "yes" else "-"
-        print(f"| {name} | {time:.1f} | {memory:.1f} | {answer} | {certified:.1f} | {checked} |", flush=True)
+        told, room, found = least([program, "explain", writer, reader])
+        row = [f"{time:.1f}", f"{memory:.1f}", answer, f"{certified:.1f}", checked, f"{told:.1f}", f"{room:.1f}", found.split(" $")[0]]
+        print("|", name, "|", " | ".join(row), "|", flush=True)
 
 
 def confirmed(program, writer, reader, certificate):

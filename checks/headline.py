@@ -1,10 +1,11 @@
 #!/usr/bin/env python3
-"""Lists the definitions that the headline rests on, file by file, and compares them with the table of docs/HEADLINE.md.
+"""Lists the definitions that the headline rests on, file by file, and those that a `confirmed` alone rests on, and
+compares both with the tables of docs/HEADLINE.md.
 
 usage: checks/headline.py [--print]
 
-With --print the table is printed, and nothing is compared. Else the exit status is 0 where the table of the page is the
-one that the definitions give, and 1 where it is another.
+With --print the tables are printed, and nothing is compared. Else the exit status is 0 where the tables of the page are
+those that the definitions give, and 1 where one is another.
 """
 
 from __future__ import annotations
@@ -17,12 +18,14 @@ from typing import NamedTuple
 
 ROOT = Path(__file__).resolve().parent.parent
 PAGE = ROOT / "docs" / "HEADLINE.md"
-ROOTS = (
+Roots = tuple[tuple[str, str], ...]
+HEADLINE: Roots = (
     ("Rattle.avro_judge.specs.Headline", "IsRight"),
     ("Rattle.avro_judge.specs.Headline", "ReadsRight"),
 )
+CONFIRMED: Roots = (("Rattle.avro_certificate.specs.Compatible", "AreCompatible"),)
 # The crates and their files in the order in which each rests on those before it.
-CRATES = ("name", "schema", "zigzag", "binary", "resolve", "certificate", "judge")
+CRATES = ("name", "schema", "zigzag", "binary", "compare", "resolve", "certificate", "judge")
 WORD = re.compile(r"[A-Za-z_][\w\-]*")
 HEAD = re.compile(r"(?:abbrev )?(?:pub )?(?:abbrev )?(?:record |data |type )?(?:pub )?([A-Za-z_][\w\-]*)")
 USE = re.compile(r"^use (Rattle\.[\w.]+)\.\{([^}]*)\}", re.MULTILINE)
@@ -90,10 +93,10 @@ def owner(module: Module, name: str) -> str | None:
     return next((own for own, lines in module.lines.items() if word.search("\n".join(lines))), None)
 
 
-def reached() -> list[tuple[Path, str]]:
+def reached(roots: Roots) -> list[tuple[Path, str]]:
     """The definitions that the roots reach."""
     found: dict[tuple[Path, str], None] = {}
-    waiting = list(ROOTS)
+    waiting = list(roots)
     while waiting:
         module_name, name = waiting.pop()
         file = file_of(module_name)
@@ -116,10 +119,10 @@ def rank(file: Path) -> tuple[int, str]:
     return (CRATES.index(crate), file.stem)
 
 
-def table() -> str:
-    """The table, a row a file in the order of reading, and a last row of sums."""
+def table(roots: Roots) -> str:
+    """The table of what the roots reach, a row a file in the order of reading, and a last row of sums."""
     names: dict[Path, list[str]] = {}
-    for file, name in reached():
+    for file, name in reached(roots):
         names.setdefault(file, []).append(name)
     rows, total = [], [0, 0]
     for file in sorted(names, key=rank):
@@ -135,14 +138,15 @@ def table() -> str:
 def main() -> int:
     """Prints the table, or compares it."""
     if sys.argv[1:] == ["--print"]:
-        print(table())
+        print(table(HEADLINE), table(CONFIRMED), sep="\n\n")
         return 0
     if sys.argv[1:]:
         print(__doc__, file=sys.stderr)
         return 64
-    if table() in PAGE.read_text(encoding="utf-8"):
+    page = PAGE.read_text(encoding="utf-8")
+    if all(table(roots) in page for roots in (HEADLINE, CONFIRMED)):
         return 0
-    print(f"{PAGE.name}: its table is not what checks/headline.py --print gives", file=sys.stderr)
+    print(f"{PAGE.name}: a table is not what checks/headline.py --print gives", file=sys.stderr)
     return 1
 
 

@@ -120,6 +120,42 @@ def judge_rows():
     yield Row("judge refutation", "judge w.avsc r.avsc --refutation o.avro", strings, no, status=1, written={"o.avro": file})
 
 
+def option_rows():
+    """Answers as JSON, other limits, and modes of histories."""
+    ints = {"int.avsc": '"int"', "long.avsc": '"long"'}
+    fault = '{"kind":"NoMatch","path":[],"at":"$"}'
+    no = f'{{"verdict":"no","fault":{fault},"nodes":1,"datum":0}}\n'
+    yield Row("judge json yes", "judge int.avsc long.avsc --json", ints, '{"verdict":"yes"}\n')
+    yield Row("judge json no", "judge long.avsc int.avsc --json", ints, no, status=1)
+    arrays = {"w.avsc": OF_A, "r.avsc": OF_A_AND_B}
+    no = '{"verdict":"no","fault":{"kind":"MissingField","field":"b","path":[0],"at":"$[0]"},"nodes":3,"datum":[{"a":0}]}\n'
+    yield Row("judge json field", "judge w.avsc r.avsc --json", arrays, no, status=1)
+    undecided = '{"verdict":"undecided","cause":"Size"}\n'
+    yield Row("judge json undecided", "judge w.avsc r.avsc --json --max-size 2", arrays, undecided, status=2)
+    yield Row("judge limits", "judge w.avsc r.avsc --max-depth 2", arrays, "undecided Depth\n", status=2)
+    text = "avro: --max-pairs takes 1 to 16777216\n"
+    yield Row("judge no limit", "judge w.avsc r.avsc --max-pairs 0", arrays, err=text, status=64)
+    files = {**ints, "c.txt": certificate((0, 0))}
+    yield Row("confirm json", "confirm int.avsc long.avsc c.txt --json", files, '{"confirmed":true}\n')
+    both = "int.avsc backward yes\nint.avsc forward no\n"
+    yield Row("history full", "history int.avsc long.avsc --mode full --next", ints, both, status=1)
+    lines = f'{{"file":"int.avsc","mode":"backward","verdict":"yes"}}\n{{"file":"int.avsc","mode":"forward","verdict":"no","fault":{fault}}}\n'
+    yield Row("history json", "history int.avsc long.avsc --mode full --json", ints, lines, status=1)
+
+
+def explain_rows():
+    """All faults, by names."""
+    arrays = {"w.avsc": OF_A, "r.avsc": OF_A_AND_B}
+    reason = "R of the writer has no such field, and there is no default"
+    yield Row("explain", "explain w.avsc r.avsc", arrays, f"no 1\n$[].b: MissingField: {reason} (writer's $[])\n", status=1)
+    places = ",".join(f'"{side}":{{"node":1,"at":"$[]","type":"R"}}' for side in ("writer", "reader"))
+    fault = f'{{"fault":"MissingField","field":"b",{places}}}'
+    line = f'{{"verdict":"no","faults":[{fault}]}}\n'
+    yield Row("explain json", "explain w.avsc r.avsc --json", arrays, line, status=1)
+    yield Row("explain yes", "explain r.avsc w.avsc", arrays, "yes\n")
+    yield Row("explain undecided", "explain w.avsc r.avsc --max-pairs 1", arrays, "undecided Pairs\n", status=2)
+
+
 def kept_rows():
     """Files that options ask for: those that are read, those that hold a schema, and others."""
     ints = {"a.avsc": '"int"', "b.avsc": '"long"', "c.avsc": OF_A}
@@ -169,6 +205,8 @@ def reading_rows():
     files = {"f.avro": header('"null"') + block(3, b"")}
     yield Row("show nulls", "show f.avro", files, "null\nnull\nnull\n")
     yield Row("check nulls", "check f.avro", files, "data 3 blocks 1\n")
+    yield Row("check json", "check f.avro --json", files, '{"file":"f.avro","data":3,"blocks":1}\n')
+    yield Row("show limit", "show f.avro --limit 2", files, "null\nnull\n")
     broken = header('"int"') + block(1, b"\x0a") + number(2) + number(1) + b"\x0a" + SYNC
     text = "avro: f.avro: C10 block 1 datum 1: B1 at 1\n"
     yield Row("check refused", "check f.avro", {"f.avro": broken}, err=text, status=3)
@@ -247,5 +285,5 @@ def header_rows():
 
 def rows():
     """All rows."""
-    for some in (schema_rows, judge_rows, kept_rows, certificate_rows, reading_rows, copying_rows, piping_rows, header_rows):
+    for some in (schema_rows, judge_rows, option_rows, explain_rows, kept_rows, certificate_rows, reading_rows, copying_rows, piping_rows, header_rows):
         yield from some()

@@ -108,7 +108,7 @@ def usages_of_program(program):
         if line is None:
             sys.exit(f"{program}: no text of usage for {' '.join(words) or 'the program'}")
         arguments = [name + dots for name, dots in re.findall(r"<(\w+)>(\.\.\.)?", line[1]) if name != "COMMAND"]
-        options = [(name, value or None) for name, value in re.findall(r"^ +(?:-\w, )?--(\w+)(?: <(\w+)>)?", text, re.MULTILINE)]
+        options = [(name, value or None) for name, value in re.findall(r"^ +(?:-\w, )?--([\w-]+)(?: <(\w+)>)?", text, re.MULTILINE)]
         return Usage(arguments, [it for it in options if it[0] != HELP]), text
 
     whole, text = usage()
@@ -138,7 +138,7 @@ def sections_of_man(text):
     found = {}
     for section in sections:
         name, _, body = section.partition("\n")
-        options = re.findall(r"^\.TP\n\.B[I]? \\-\\-(\w+)", body, re.MULTILINE)
+        options = re.findall(r"^\.TP\n\.B[I]? --([\w-]+)", body.replace("\\-", "-"), re.MULTILINE)
         if name.islower() or name == "OPTIONS":
             found[NONE if name == "OPTIONS" else name] = sorted(options)
     return found
@@ -167,7 +167,7 @@ def words_of_zsh():
     """The commands and options of zsh's completion."""
     text = text_of(ZSH)
     commands = re.findall(r'^        "(\w+):', text, re.MULTILINE)
-    options = {name: re.findall(r"'--(\w+)\[", body) for name, body in re.findall(r"^        (\w+)\)\n(.*?);;", text, re.MULTILINE | re.DOTALL)}
+    options = {name: re.findall(r"'--([\w-]+)\[", body) for name, body in re.findall(r"^        (\w+)\)\n(.*?);;", text, re.MULTILINE | re.DOTALL)}
     options.pop(HELP, None)
     options[NONE] = re.findall(r"--(\w+):", text)
     return commands, options
@@ -180,7 +180,7 @@ def words_of_fish():
     every = re.findall(r"^complete -c avro -l (\w+)", text, re.MULTILINE)
     options = {name: list(every) for name in commands if name != HELP}
     options[NONE] = every + re.findall(r"__fish_use_subcommand -l (\w+)", text)
-    for name, option in re.findall(r"__fish_seen_subcommand_from (\w+)' -l (\w+)", text):
+    for name, option in re.findall(r"__fish_seen_subcommand_from (\w+)' -l ([\w-]+)", text):
         options.setdefault(name, []).append(option)
     return commands, options
 

@@ -2,12 +2,13 @@
 
 _avro_options() {
     case $1 in
-        judge) echo --certificate --refutation --help ;;
-        confirm) echo --help ;;
-        history) echo --certificates --confirm --help ;;
+        judge) echo --certificate --refutation --max-pairs --max-size --max-depth --json --help ;;
+        explain) echo --max-pairs --json --help ;;
+        confirm) echo --json --help ;;
+        history) echo --certificates --confirm --mode --next --max-pairs --max-size --max-depth --json --help ;;
         schema) echo --canonical --fingerprint --help ;;
-        check) echo --help ;;
-        show) echo --reader --help ;;
+        check) echo --json --help ;;
+        show) echo --reader --limit --help ;;
         copy) echo --reader --sync --help ;;
         pipe) echo --reader --sync --counts --help ;;
         header) echo --metadata --help ;;
@@ -17,13 +18,15 @@ _avro_options() {
 
 _avro() {
     local word=${COMP_WORDS[COMP_CWORD]} before=${COMP_WORDS[COMP_CWORD - 1]}
-    local commands='judge confirm history schema check show copy pipe header help'
+    local commands='judge explain confirm history schema check show copy pipe header help'
     local choices=()
     if ((COMP_CWORD == 1)); then
         mapfile -t choices < <(compgen -W "$commands $(_avro_options)" -- "$word")
     elif [[ ${COMP_WORDS[1]} == help ]]; then
         ((COMP_CWORD > 2)) || mapfile -t choices < <(compgen -W "$commands" -- "$word")
-    elif [[ $before == --sync ]]; then
+    elif [[ $before == --mode ]]; then
+        mapfile -t choices < <(compgen -W 'backward forward full' -- "$word")
+    elif [[ $before =~ ^--(sync|limit|max-pairs|max-size|max-depth)$ ]]; then
         choices=()
     elif [[ $word == -* ]]; then
         mapfile -t choices < <(compgen -W "$(_avro_options "${COMP_WORDS[1]}")" -- "$word")

@@ -4,8 +4,8 @@ use crate::walking::{field, schema_of};
 use anyhow::{Context, bail, ensure};
 use avro_binary::{Build, Nothing, Tree};
 use avro_name::{FullName, Namespace};
-use avro_packed::Packed;
-use avro_resolve::{Plan, ReadResolveError, read_resolved};
+use avro_packed::{Appending, Packed, append_resolved};
+use avro_resolve::{Plan, PlanRef, ReadResolveError, read_resolved};
 use avro_schema::{Draft, Limits, Node, NodeId, RecordNode, Schema};
 use std::alloc::Global;
 use std::fs;
@@ -44,11 +44,17 @@ pub(crate) fn print_resolved(rt: &HostRuntime, path: &str, builder: &str) -> any
     print_read(rt, path, builder, &Way::Names(&writer, &reader))
 }
 
-/// The same by a plan.
+/// The same by a plan. What is packed is appended to an output, as a copy of a file is.
 pub(crate) fn print_planned(rt: &HostRuntime, path: &str, builder: &str) -> anyhow::Result<()> {
     let writer = schema_of(rt.alloc(), "records")?;
     let reader = reader(rt.alloc())?;
     let plan = Plan::reached(rt.alloc(), &writer, &reader)?;
+    if builder == "packed" {
+        let bytes = fs::read(rt, path)?;
+        let data = count_appended(rt.alloc(), &plan.by_ref(), &bytes)?;
+        println!(rt; "data {data} bytes {}", bytes.len())?;
+        return Ok(());
+    }
     print_read(rt, path, builder, &Way::Plan(&plan))
 }
 
@@ -79,6 +85,28 @@ fn count_read<B: Build>(
         let (_out, len) = way
             .read(alloc, rest, &limits, builder)
             .context(format_args!("datum {data}"))?;
+        ensure!(len > 0, "datum {data} has no bytes");
+        let Some(others) = rest.get(len..) else {
+            bail!("datum {data} is longer than its bytes");
+        };
+        rest = others;
+        data += 1;
+    }
+    Ok(data)
+}
+
+/// The same, with the plain encoding of each datum for the reader appended to an output that is then emptied.
+fn count_appended(alloc: Global, plan: &PlanRef<'_>, bytes: &[u8]) -> anyhow::Result<usize> {
+    let limits = Limits::default();
+    let mut room = Appending::new(alloc);
+    let mut out = Vec::new(alloc);
+    let mut rest = bytes;
+    let mut data = 0;
+    while !rest.is_empty() {
+        out.clear();
+        let len = append_resolved(alloc, plan, rest, &limits, &mut room, &mut out).context(
+            format_args!("datum {data}"),
+        )?;
         ensure!(len > 0, "datum {data} has no bytes");
         let Some(others) = rest.get(len..) else {
             bail!("datum {data} is longer than its bytes");

@@ -22,7 +22,7 @@ use Rattle.avro_binary.specs.Breaks.{ChildBreaks, BooleanBreaks, FixedBreaks, In
 use Rattle.avro_binary.proofs.Front.{told}
 use Rattle.avro_binary.proofs.Fronts.{same_behind, same_from_pos}
 use Rattle.avro_binary.proofs.KindOf.{bytes_value, string_value, array_value, map_value, union_value, record_value, enum_value, fixed_value}
-use Rattle.avro_binary.proofs.public.Choices.{HasFewChoices, HasFewChoices-from_is_schema}
+use Rattle.avro_schema.proofs.public.Choices.{HasFewChoices, HasFewChoices-from_is_schema}
 use Rattle.avro_binary.proofs.NoFrontBlocks.{behind_limit, blocks_none}
 use Rattle.avro_binary.proofs.NoFrontItems.{IsSmall, AreSmall, AreSmall-first, AreSmall-others, NoneAt, ValuesFollow, values_follow, EntriesFollow, entries_follow, is_text-short, is_text-valid}
 use Rattle.avro_binary.proofs.NoFrontParts.{below-from_test, content_none, index_none}

@@ -9,7 +9,7 @@ use Rattle.avro_schema.specs.Fits.{fields_fit, LimitValues}
 use Rattle.avro_schema.specs.WellFormed.{is_schema}
 use Rattle.avro_binary.specs.Fault.{ReadFault}
 use Rattle.avro_binary.specs.Breaks.{ChildBreaks, IndexBreaks, BranchBreaks, FieldsBreak, ItemsAreWhole, EntriesAreWhole, EntryBreaks, NodeBreaks, BreaksWithin, Breaks}
-use Rattle.avro_binary.proofs.public.Choices.{HasFewChoices, HasFewChoices-from_is_schema}
+use Rattle.avro_schema.proofs.public.Choices.{HasFewChoices, HasFewChoices-from_is_schema}
 use Rattle.avro_binary.proofs.Front.{fields_same, fields_told}
 use Rattle.avro_binary.proofs.Fronts.{same_front, same_behind, same_from_pos}
 use Rattle.avro_binary.proofs.NoFront.{none_within, fields_none}

@@ -15,7 +15,7 @@ use Rattle.avro_schema.specs.WellFormed.{is_schema}
 use Rattle.avro_schema.proofs.public.FitsParts.{is_count-below, ArrayFits-from_fits, MapFits-from_fits, UnionFits-from_fits, RecordFits-from_fits}
 use Rattle.avro_binary.specs.Blocks.{IsInBlocks, no_more, counted}
 use Rattle.avro_binary.specs.Encoding.{SpellsBytes, Spells, EachSpelled, EntriesSpelled, Encodes, plain_bytes, plain_blocks, plain, plain_values, plain_entries}
-use Rattle.avro_binary.proofs.public.Choices.{HasFewChoices, HasFewChoices-from_is_schema}
+use Rattle.avro_schema.proofs.public.Choices.{HasFewChoices, HasFewChoices-from_is_schema}
 use Rattle.avro_binary.proofs.NoFrontParts.{pos-int, below-from_test}
 
 -- the plain encodings of values, one by one

@@ -19,4 +19,6 @@ mod padded_numbers;
 #[cfg(test)]
 mod reading;
 #[cfg(test)]
+mod resolved;
+#[cfg(test)]
 mod trees;

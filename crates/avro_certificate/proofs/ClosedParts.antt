@@ -9,13 +9,13 @@ use Rattle.avro_schema.specs.declared.schema.NodeId.{NodeId}
 use Rattle.std.specs.declared.alloc.Global.{Global}
 use Rattle.std.proofs.lemmas.Bool.{true≢false, false≢true}
 use Rattle.avro_schema.specs.declared.schema.Field.{Field}
-use Rattle.avro_resolve.specs.Match.{first_match, is_match}
-use Rattle.avro_resolve.specs.Pairs.{aim_of, branch_aim}
-use Rattle.avro_resolve.specs.declared.error.FaultKind.{FaultKind}
-use Rattle.avro_resolve.specs.declared.error.FaultKind.TheVariants.{NoMatch}
-use Rattle.avro_resolve.specs.declared.guided.Aim.{Aim}
-use Rattle.avro_resolve.specs.declared.guided.Aim.TheVariants.{Fault, To}
-use Rattle.avro_resolve.specs.Source.{source_of, missing_field_from}
+use Rattle.avro_compare.specs.Match.{first_match, is_match}
+use Rattle.avro_compare.specs.Pairs.{aim_of, branch_aim}
+use Rattle.avro_compare.specs.declared.error.FaultKind.{FaultKind}
+use Rattle.avro_compare.specs.declared.error.FaultKind.TheVariants.{NoMatch}
+use Rattle.avro_compare.specs.declared.guided.Aim.{Aim}
+use Rattle.avro_compare.specs.declared.guided.Aim.TheVariants.{Fault, To}
+use Rattle.avro_compare.specs.Source.{source_of, missing_field_from}
 use Rattle.avro_certificate.specs.Closed.{Pair, is_among, has_local_fault, has_fault_of_kind, children_of, field_children, is_closed_at}
 use Rattle.avro_certificate.specs.SeenPair.{pair_of, pairs_of}
 use Rattle.avro_certificate.specs.inside.ClosedParts.{stands, closed_fields, closed_inside, closed_live}

@@ -8,7 +8,7 @@ use Rattle.avro_schema.specs.Node.{Node, root_of}
 use Rattle.avro_schema.specs.Fits.{fits}
 use Rattle.avro_schema.proofs.public.Parts.{size-positive, depth-positive}
 use Rattle.avro_schema.proofs.public.RowsSchemas.{one_value, array_of_int, array_of_string, record_of_itself, record_of_int}
-use Rattle.avro_resolve.specs.Fault.{no_match, not_utf8}
+use Rattle.avro_compare.specs.Fault.{no_match, not_utf8}
 use Rattle.avro_certificate.specs.Compatible.{AreCompatible, IsLeastToErr, ErrsOnlyAbove, ErrsLeastDeep}
 
 long_refutes_int : IsLeastToErr (Node.long ∷ []) (Node.int ∷ []) (Value.long (pos 0))

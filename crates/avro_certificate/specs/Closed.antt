@@ -2,8 +2,8 @@
 use Rattle.std.specs.Prelude.{ℕ, Bool, true, false, not, ◌&&◌, ◌||◌, List, [], ◌∷◌, Option, Some, None, length, slice_get, nat_lt, ◌==◌, map, is_some, is_none, flat_map, bytes_eq, unwrap_or}
 use Rattle.std.specs.List.{list_all, list_any}
 use Rattle.avro_schema.specs.Node.{Node, FieldNode, node_at, field_ids}
-use Rattle.avro_resolve.specs.Match.{is_match, first_match}
-use Rattle.avro_resolve.specs.Source.{source_of, missing_field}
+use Rattle.avro_compare.specs.Match.{is_match, first_match}
+use Rattle.avro_compare.specs.Source.{source_of, missing_field}
 
 -- membership, by a test
 abbrev pub is_among : List ℕ → ℕ → Bool

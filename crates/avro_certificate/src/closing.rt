@@ -6,8 +6,8 @@ ghost use Rattle.std.specs.List.{list_all, list_any};
 ghost use Rattle.avro_schema.specs.Node.{node_at, field_ids};
 ghost use Rattle.avro_schema.specs.Seen.{node_of, ids_of, seen_fields, field_of};
 ghost use Rattle.avro_schema.specs.SeenSchema.{schema_nodes};
-ghost use Rattle.avro_resolve.specs.Planned.{AreInside, AreComparisons, AreSources, IsComparison};
-ghost use Rattle.avro_resolve.specs.Source.{source_of};
+ghost use Rattle.avro_compare.specs.Planned.{AreInside, AreComparisons, AreSources, IsComparison};
+ghost use Rattle.avro_compare.specs.Source.{source_of};
 ghost use Rattle.avro_certificate.specs.Closed.{is_among, is_dead, is_dead_node, is_closed, is_closed_at};
 ghost use Rattle.avro_certificate.specs.inside.ClosedParts.{stands, closed_inside, closed_fields, closed_live, closed_source};
 ghost use Rattle.avro_certificate.specs.SeenCertificate.{dead_of, pairs_in};
@@ -15,7 +15,7 @@ ghost use Rattle.avro_certificate.specs.SeenPair.{pair_of};
 
 use crate::kept::Certificate;
 use crate::lookup::{has, has_dead};
-use avro_resolve::{Aim, Comparison, Names, compare};
+use avro_compare::{Aim, Comparison, Names, compare};
 use avro_schema::{Field, Memory, Node, NodeId, Schema};
 use std::alloc::Global;
 

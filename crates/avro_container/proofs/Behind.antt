@@ -1,4 +1,4 @@
--- Faults behind bytes, and parts that are stopped behind others.
+-- Faults after bytes, and parts that are stopped after others.
 use Rattle.std.proofs.Common.{◌≡◌, ◌≢◌, ℕ, Bool, ◌+◌, ◌-◌, ◌^◌, ◌<◌, ◌≤◌, max, ℤ, ◌<ℤ◌, pos, List, [], ◌++◌, length, take, drop, Some, append-nil, refl, sym, ap, subst, ◌∙◌, arith, inl, inr, length-take-le}
 use Rattle.std.proofs.lemmas.List.{drop-drop, length-drop, take-append-le}
 use Rattle.std.proofs.lemmas.Option.{same_Some, none-some}
@@ -20,7 +20,7 @@ use Rattle.avro_container.proofs.Cut.{grown-behind}
 use Rattle.avro_container.proofs.Heads.{starts-grown}
 use Rattle.avro_container.proofs.Stopping.{below_zero}
 
--- what is no end of input is none behind other bytes
+-- what is not an end of the input is not one after other bytes
 still_no_end : (k : ℕ) (f : ReadFault) → ((place : ℕ) → f ≢ end_of_input place) → (place : ℕ) → behind k f ≢ end_of_input place
 still_no_end k (end_of_input there) h place e = h there refl
 still_no_end k (invalid_number there) h place e = cc
@@ -32,7 +32,7 @@ still_no_end k (wrong_block_size there) h place e = cc
 still_no_end k (duplicate_key there) h place e = cc
 still_no_end k limit_exceeded h place e = cc
 
--- ---- Calls, one behind another
+-- ---- Calls, one after another
 
 module _ {I : Type 0} (gives : I → List ℕ → I → Type 0) (failures : I → ℕ) (chain : (s t u : I) (front back : List ℕ) → gives s front t → gives t back u → gives s (front ++ back) u) (limit : ℕ) where
   pub takes_then : (a b c : I) (old mid new : List ℕ) → Takes gives failures limit a b old mid → Takes gives failures limit b c mid new → Takes gives failures limit a c old new
@@ -67,7 +67,7 @@ module _ {I : Type 0} (gives : I → List ℕ → I → Type 0) (failures : I �
     named = named;
   }
 
-  -- memory ran out behind it
+  -- memory ran out after it
   pub memory_refused : (a b : I) (old new : List ℕ) → Takes gives failures limit a b old new → Refused gives failures limit a b old new CopyError.OutOfMemory
   memory_refused a b old new p = own_refused a b old new CopyError.OutOfMemory (λ q. cc) (λ q. cc) (λ q. cc) (inr (inr (inl refl))) p
 
@@ -104,7 +104,7 @@ refused_wider gives failures limit wider a b old new e more p = record {
 
 -- ---- Parts that are stopped
 
--- a part at the front of a whole, behind what stands before it
+-- a part at the front of a whole, after what stands before it
 pub stops-whole : (limit at from : ℕ) (ended : Type 0) (bytes front : List ℕ) (P Q P' Q' : List ℕ → ReadFault → Type 0) (f : FileFault)
     → from ≡ at + length front → drop at bytes ≡ front ++ drop from bytes
     → ((rest : List ℕ) (g : ReadFault) → P rest g → P' (front ++ rest) (behind (length front) g))
@@ -164,7 +164,7 @@ length_first limit at ended bytes is_content f stops =
     wants : (g : ReadFault) → LengthWants (drop at bytes) g → ContentWants (drop at bytes) g
     wants _ (LengthWants.in_number cut) = ContentWants.in_length cut
 
--- a content behind its length
+-- a content after its length
 pub content_from : {I : Type 0} (gives : I → List ℕ → I → Type 0) (a b : I) (mid new : List ℕ) (at count len : ℕ) → GrowsBy gives a b mid new → at + len ≤ length mid
     → StartsWithLong (pos count) (drop at mid) (take len (drop at mid)) (drop len (drop at mid)) → StartsWithLong (pos count) (drop at new) (take len (drop at new)) (drop (at + len) new)
 content_from gives a b mid new at count len p inside s =

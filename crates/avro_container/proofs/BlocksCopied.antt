@@ -3,7 +3,7 @@ use Rattle.std.proofs.Common.{◌≡◌, ℕ, suc, ◌+◌, ◌-◌, ◌<◌, �
 use Rattle.std.proofs.lemmas.List.{take-append-drop}
 use Rattle.std.proofs.lemmas.Option.{none-some}
 use Rattle.avro_schema.specs.Value.{Value, Values, no_values, value, values_count}
-use Rattle.avro_resolve.specs.Resolve.{Resolved}
+use Rattle.avro_compare.specs.Resolve.{Resolved}
 use Rattle.avro_container.specs.declared.error.CopyError.{CopyError}
 use Rattle.avro_container.specs.inside.BlockCopied.{CopiesBlock, RefusesWithin}
 use Rattle.avro_container.specs.BlockFails.{FileLimitValues, BlockFails, max_blocks}
@@ -108,7 +108,7 @@ refuses-block {T = T} gives keeps none i i' o job limits h number ended old new 
           };
         }
 
--- a front of the copy was put
+-- a prefix of the copy was put
 pub refuses-putting : {I O : Type 0} (gives : I → List ℕ → I → Type 0) (keeps : O → List ℕ → O → Type 0) (i i' : I) (o o' : O) (job : Job)
     (limits : FileLimitValues) (h : HeaderValue) (number : ℕ) (ended : Type 0) (count n : ℕ) (old mid packed sync : List ℕ) (e : CopyError) (before : Stored)
     → before.header ≡ Some h → before.blocks < max_blocks → before.ahead ≡ old → length mid ≤ limits.block + 36 → sync ≡ or_else job.sync h.sync → GrowsBy gives i i' old mid

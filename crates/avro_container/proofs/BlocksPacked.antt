@@ -43,7 +43,7 @@ block_packed job limits h count body bytes packed marker stands packs =
       small = whole.small refl;
     }
 
--- a fault of the data is one of the block, with bytes behind it
+-- a fault of the data is one of the block, with bytes after it
 pub packing_fails : (job : Job) (limits : FileLimitValues) (h : HeaderValue) (number : ℕ) (ended : Type 0) (count n : ℕ) (body new : List ℕ) (f : FileFault)
     → length h.sync ≡ 16 → number < max_blocks → BlockStands limits h.sync count body (take n new)
     → IsDataFault (reading_of job limits h) number count body f → IsCopyFault job limits h number ended new f

@@ -1,4 +1,4 @@
--- The data of a block behind its count and its size.
+-- The data of a block after its count and its size.
 use Rattle.std.proofs.Common.{◌≡◌, ℕ, ◌+◌, ◌<◌, ◌≤◌, List, ◌++◌, length, take, drop, Some, refl, sym, ap, subst, ◌∙◌, arith, append_assoc}
 use Rattle.std.proofs.lemmas.List.{drop-drop, length-drop}
 use Rattle.std.proofs.lemmas.Option.{same_Some, none-some}
@@ -50,7 +50,7 @@ body_stops gives a b old new limits sync number ended count size start PartError
 body_stops gives a b old new limits sync number ended count size start PartError.Device f few inside begins counted sized out over told short grown is = absurd (none-some f is)
 body_stops gives a b old new limits sync number ended count size start PartError.OutOfMemory f few inside begins counted sized out over told short grown is = absurd (none-some f is)
 
--- another marker behind them
+-- another marker after them
 pub marker_fails : (new : List ℕ) (limits : FileLimitValues) (sync : List ℕ) (number : ℕ) (ended : Type 0) (count size start : ℕ) (f : FileFault)
     → number < max_blocks → BlockBegins new count size (drop start new) → count ≤ limits.per_block → size ≤ limits.block
     → start + size + 16 ≤ length new → (take 16 (drop (start + size) new) ≡ sync → ⊥) → Some (in_block number other_marker) ≡ Some f

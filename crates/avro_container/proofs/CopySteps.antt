@@ -70,7 +70,7 @@ step-of gives keeps i0 i i' o0 o o' job limits ended c c' items blocks outcome r
     subst (λ l. Steps job l ended (stored_of c) (stored_of c') m.taken m.put outcome) r.same_limits
     (subst (λ j. Steps j (limits_in c) ended (stored_of c) (stored_of c') m.taken m.put outcome) r.same_job m.does)
 
--- all that was taken and put, when a step was made behind a run
+-- all that was taken and put, when a step was made after a run
 moved-on : {I O : Type 0} (gives : I → List ℕ → I → Type 0) (keeps : O → List ℕ → O → Type 0) → Chains gives → Chains keeps → (i0 i i' : I) (o0 o o' : O)
     (taken put more out : List ℕ) (holds : List ℕ → List ℕ → Type 0) → gives i0 taken i → keeps o0 put o → gives i more i' → keeps o out o'
     → holds (taken ++ more) (put ++ out) → Moved gives keeps i0 i' o0 o' holds
@@ -148,7 +148,7 @@ HasRun-end gives keeps chain_i chain_o i0 i i' o0 o o' o'' job limits ended c c'
     (subst (λ k. CopiedWhole job limits ended (sum r.counts) k (r.taken ++ m.taken) (r.put ++ m.put)) r.blocks_are
     (CopiedWhole-end job limits (stored_of c) (stored_of c') r.counts ended r.taken r.put m.taken m.put r.done (does.gives r.goes_on.0 r.goes_on.1))))
 
--- what was copied whole is a front of it
+-- what was copied whole is a prefix of it
 pub CopiesFront-whole : {I O : Type 0} (gives : I → List ℕ → I → Type 0) (keeps : O → List ℕ → O → Type 0) (i0 i : I) (o0 o : O) (job : Job)
     (limits : FileLimitValues) (ended : Type 0) (items blocks : ℕ) → CopiesFile gives keeps i0 i o0 o job limits ended items blocks
     → CopiesFront gives keeps i0 i o0 o job limits

@@ -1,4 +1,4 @@
--- Numbers that are cut, and what grows behind what is held.
+-- Numbers that are cut, and what grows after what is held.
 use Rattle.std.proofs.Common.{◌≡◌, ℕ, ◌+◌, ◌<◌, ◌≤◌, ℤ, List, [], ◌∷◌, ◌++◌, length, drop, sym, ap, ◌∙◌, arith, append-nil, length-append, refl, ◌⊎◌, inl, inr}
 use Rattle.std.proofs.lemmas.List.{drop-append-le}
 use Rattle.avro_zigzag.specs.Number.{SpellsLong}
@@ -39,7 +39,7 @@ grown-none gives a b old new p short =
     let long : length new ≡ length old + length p.bytes = ap length p.grown ∙ length-append old p.bytes in
     p.grown ∙ ap (λ more. old ++ more) (no_bytes p.bytes (omega (arith, long, short))) ∙ append-nil old
 
--- what stands behind an offset goes on in what has grown
+-- what stands after an offset goes on in what has grown
 pub grown-behind : {I : Type 0} (gives : I → List ℕ → I → Type 0) (a b : I) (old new : List ℕ) (at : ℕ) (p : GrowsBy gives a b old new) → at ≤ length old
     → drop at new ≡ drop at old ++ p.bytes
 grown-behind gives a b old new at p inside = ap (drop at) p.grown ∙ drop-append-le at old p.bytes inside

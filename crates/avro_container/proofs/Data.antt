@@ -17,8 +17,8 @@ use Rattle.avro_binary.specs.Fault.{ReadFault, behind}
 use Rattle.avro_binary.specs.Breaks.{Breaks}
 use Rattle.avro_binary.specs.Seen.{read_fault}
 use Rattle.avro_binary.proofs.public.Zipped.{zipped-push}
-use Rattle.avro_resolve.specs.Resolve.{Resolved}
-use Rattle.avro_resolve.specs.Seen.{fault_of}
+use Rattle.avro_compare.specs.Resolve.{Resolved}
+use Rattle.avro_compare.specs.Seen.{fault_of}
 use Rattle.avro_resolve.specs.declared.error.ReadResolveError.{ReadResolveError}
 use Rattle.avro_container.specs.BlockFails.{BlockReading, DataAreWhole, DataFail, IsNotTooMuch, datum_fault, each_within, DatumStands}
 use Rattle.avro_container.specs.Copied.{EachResolved}
@@ -27,7 +27,7 @@ use Rattle.avro_container.specs.inside.DatumRead.{MakesOf, PlaceFits, ReadsDatum
 use Rattle.avro_container.specs.FileFault.{FileFault, in_block, bytes_left, unresolved_datum}
 use Rattle.avro_container.proofs.Places.{breaks_inside}
 
--- ---- One more datum behind others
+-- ---- One more datum after others
 
 abbrev pub add : Values → Value → Values
 add no_values v = value v no_values
@@ -100,7 +100,7 @@ whole-more r done front bytes us v u whole encoded within made small = record {
 pub not_copied : (r : BlockReading) (bytes : List ℕ) → r.copied ≡ false → IsNotTooMuch r bytes
 not_copied r bytes alone = λ copied. absurd (false≢true (sym alone ∙ copied))
 
--- what is made of the next datum stands behind what was made
+-- what is made of the next datum stands after what was made
 pub stand-more : {O : Type 0} (stands : O → Value → Type 0) (r : BlockReading) (done start len : ℕ) (body : List ℕ) (outs : List O) (out : O)
     → r.copied ≡ false → StandForData stands r done (take start body) outs
     → (u : Value) × stands out u × MakesOf r.nodes r.limits.datum r.resolve (drop start body) len (Ok u)
@@ -131,7 +131,7 @@ each-fit nodes target resolve (value v vs) us law fit (first, others, made, more
 
 -- ---- Faults
 
--- a datum that is no encoding, behind data that are whole
+-- a datum that is not an encoding, after data that are whole
 data_break : (r : BlockReading) (number count m start : ℕ) (body : List ℕ) (us : Values) (g : ReadFault) (f : FileFault) → m < count → start ≤ length body
     → DataAreWhole r m (take start body) us → Breaks r.nodes r.limits.datum (root_of r.nodes) (drop start body) g
     → Some (in_block number (datum_fault m (behind start g))) ≡ Some f → IsDataFault r number count body f
@@ -148,7 +148,7 @@ data_break r number count m start body us g f few inside whole breaks is = (
       }) refl,
 )
 
--- the datum behind data that are whole, of which something was made
+-- the datum after data that are whole, of which something was made
 pub datum_stands : (r : BlockReading) (start len : ℕ) (body : List ℕ) (outcome : Resolved) (made : MakesOf r.nodes r.limits.datum r.resolve (drop start body) len outcome)
     → DatumStands r (take start body) body made.datum
 datum_stands r start len body outcome made = record {
@@ -183,7 +183,7 @@ pub same_said : (P : List Node → LimitValues → List ℕ → Type 0) (ns ms :
     → P ns l xs → P ms k ys
 same_said P ns ms l k xs ys p q e h = subst (λ n. P n k ys) p (subst (λ a. P ns a ys) q (subst (λ b. P ns l b) e h))
 
--- the place of its fault is among the data
+-- the offset of its fault is among the data
 pub datum_place : {O : Type 0} (stands : O → Value → Type 0) (nodes : List Node) (limits : LimitValues) (resolve : Value → Resolved) (start : ℕ) (bytes : List ℕ) (e : ReadResolveError)
     → ReadsDatum stands nodes limits resolve bytes (Err e) → start + length bytes < 2 ^ 64 → PlaceFits start e
 datum_place stands nodes limits resolve start bytes (ReadResolveError.Read e) reads small = go (read_fault e) reads.refused
@@ -203,7 +203,7 @@ stand-none stands r outs none = record {
   stand = subst (λ made. AllZip stands made []) (sym none) tt;
 }
 
--- bytes behind all data
+-- bytes after all data
 pub data_left : (r : BlockReading) (number count start : ℕ) (body : List ℕ) (us : Values) (f : FileFault) → DataAreWhole r count (take start body) us → start < length body
     → Some (in_block number bytes_left) ≡ Some f → IsDataFault r number count body f
 data_left r number count start body us f whole more is = (

@@ -1,11 +1,11 @@
--- Data without bytes, which stand behind others.
+-- Data without bytes, which stand after others.
 use Rattle.std.proofs.Common.{◌≡◌, ℕ, zero, suc, ◌+◌, ◌<◌, ◌-◌, ◌≤◌, true, false, List, [], ◌++◌, length, take, drop, Some, Ok, refl, sym, ap, subst, ◌∙◌, arith, append-nil}
 use Rattle.std.proofs.lemmas.List.{nil_from_length}
 use Rattle.avro_schema.specs.Fits.{LimitValues}
 use Rattle.avro_schema.specs.Node.{Node}
 use Rattle.avro_schema.specs.Value.{Value, Values, no_values}
 use Rattle.avro_binary.specs.Encoding.{plain_values}
-use Rattle.avro_resolve.specs.Resolve.{Resolved}
+use Rattle.avro_compare.specs.Resolve.{Resolved}
 use Rattle.avro_container.specs.BlockFails.{BlockReading, DataAreWhole, IsNotTooMuch}
 use Rattle.avro_container.specs.DataRead.{IsDataFault}
 use Rattle.avro_container.specs.inside.DataPacked.{PacksData}
@@ -73,7 +73,7 @@ empty-left r number count body f alone none more is =
     let whole = empty-whole r count [] alone none refl in
     data_left r number count 0 body whole.0 f whole.1 more is
 
--- the rest of the data of a block, behind a datum without bytes
+-- the rest of the data of a block, after a datum without bytes
 pub walk-rest : (r : BlockReading) (done count start : ℕ) (body : List ℕ) (us : Values) → done ≤ count → r.copied ≡ false → DataAreWhole r done (take start body) us
     → HasNoBytes r → (vs : Values) × DataAreWhole r count (take start body) vs
 walk-rest r done count start body us few alone whole none =

@@ -25,7 +25,7 @@ count_stops limit at nodes ended bytes f stops =
     wants : (g : ReadFault) → LengthWants (drop at bytes) g → HeadBreaks nodes (drop at bytes) g
     wants _ (LengthWants.in_number cut) = HeadBreaks.count_fails (EndOfInput, cut, refl)
 
--- the size behind a count
+-- the size after a count
 pub size_stops : (limit at middle nodes count : ℕ) (ended : Type 0) (bytes front : List ℕ) (f : FileFault) → Stretch at front middle bytes → SpellsLong (neg_ℤ (pos count)) front
     → 0 < count → count < 2 ^ 63 → 2 ^ 63 ≤ nodes → PartStops limit middle ended bytes LengthBreaks LengthWants f → PartStops limit at ended bytes (HeadBreaks nodes) (HeadBreaks nodes) f
 size_stops limit at middle nodes zero ended bytes front f stretch spelled some small many stops = absurd (omega (arith, some))

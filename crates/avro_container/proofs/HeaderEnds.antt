@@ -112,7 +112,7 @@ whole_within limit end bytes sync ps s =
     let within = s.within in
     record { metadata = s.metadata; sync = sync; rest = drop end bytes; stands = s.stands; marker = s.marker; within = omega (arith, offset, within) }
 
--- the text is no schema
+-- the text is not a schema
 pub schema_stops : {T : Type 0} (r : Result T CopyError) (text : List ℕ) (ps : List Property) → property (codes "avro.schema") ps ≡ Some text
     → is_plain_codec (property (codes "avro.codec") ps) ≡ true → IfErr r (λ e. (f : FileFault) → file_fault e ≡ Some f → IsNoSchema text f)
     → IfErr r (λ e. (f : FileFault) → file_fault e ≡ Some f → SayNone ps f)
@@ -151,7 +151,7 @@ frame_header limit end bytes sync ps nodes s says =
       split = ap (take end) split ∙ front;
     }
 
--- ---- Into a buffer that held nothing
+-- ---- Into an empty buffer
 
 pub all_taken : {I : Type 0} (gives : I → List ℕ → I → Type 0) (a b : I) (old new : List ℕ) → old ≡ [] → GrowsBy gives a b old new → gives a new b
 all_taken gives a b old new none p = subst (λ (bytes : List ℕ). gives a bytes b) (sym (p.grown ∙ ap (λ (front : List ℕ). front ++ p.bytes) none)) p.taken

@@ -84,7 +84,7 @@ refuses-header {T = T} gives keeps none i i' o job limits ended old new e before
           };
         }
 
--- a front of the copy was put
+-- a prefix of the copy was put
 pub refuses-putting : {I O : Type 0} (gives : I → List ℕ → I → Type 0) (keeps : O → List ℕ → O → Type 0) (i i' : I) (o o' : O) (job : Job)
     (limits : FileLimitValues) (h : HeaderValue) (ended : Type 0) (len : ℕ) (old mid : List ℕ) (e : CopyError) (before : Stored)
     → before.header ≡ None → before.ahead ≡ [] → old ≡ [] → length mid ≤ max 4 limits.header → GrowsBy gives i i' old mid → len ≤ length mid → len ≤ limits.header

@@ -1,4 +1,4 @@
--- The blocks of a header's metadata, one behind another.
+-- The blocks of a header's metadata, one after another.
 use Rattle.std.proofs.Common.{◌≡◌, ℕ, ◌+◌, ◌-◌, ◌^◌, ◌<◌, ◌≤◌, pos, true, false, ◌&&◌, List, [], ◌∷◌, ◌++◌, length, refl, sym, ap, subst, ◌∙◌, arith, append_assoc, append-nil, length-append, bytes_eq}
 use Rattle.std.specs.List.{concat, list_all}
 use Rattle.std.proofs.lemmas.Bool.{and_from}
@@ -51,7 +51,7 @@ pub head_few : (left : ℕ) (head : Head) → IsHead left head → head_count he
 head_few left (counted count count_bytes) is = is.2
 head_few left (sized count size count_bytes size_bytes) is = is.2
 
--- what breaks behind a block breaks it and what follows
+-- what breaks after a block breaks it and what follows
 block_later : (item : Left → List ℕ → ReadFault → Type 0) (left : Left) (b : BlockRun left) (rest : List ℕ) (f : ReadFault)
     → Blocks item (left_after left b.properties) rest f → Blocks item left ((head_bytes b.head ++ b.body) ++ rest) (behind (length (head_bytes b.head ++ b.body)) f)
 block_later item left b rest f later =

@@ -198,7 +198,7 @@ head_small at bytes h (TakesHead.at_end front none stretch spelled) = omega (ari
 head_small at bytes h (TakesHead.counted front positive small plain stretch spelled) = small
 head_small at bytes h (TakesHead.sized front size positive small is_sized stretch spelled sizes short offset) = small
 
--- nothing behind the magic yet
+-- nothing after the magic yet
 pub metadata_start : (bytes : List ℕ) (names : BTreeSet (String Global)) (ps : List Property) → 4 ≤ length bytes → ((word : List ℕ) → contains_text names word ≡ false) → ps ≡ []
     → MetadataSoFar 4 bytes names ps
 metadata_start bytes names ps inside none is = subst (λ (qs : List Property). MetadataSoFar 4 bytes names qs) (sym is) (record {

@@ -1,4 +1,4 @@
--- Properties of a header's metadata, one behind another.
+-- Properties of a header's metadata, one after another.
 use Rattle.std.proofs.Common.{◌≡◌, ℕ, suc, ◌+◌, ◌-◌, ◌^◌, ◌≤◌, true, false, List, [], ◌∷◌, ◌++◌, length, drop, refl, sym, ap, subst, ◌∙◌, arith, append_assoc, append-nil, length-append, bytes_eq}
 use Rattle.std.specs.List.{concat, list_any, list_all}
 use Rattle.std.proofs.lemmas.Bool.{and_parts, and_from}

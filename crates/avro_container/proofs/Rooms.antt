@@ -4,7 +4,7 @@ use Rattle.std.proofs.lemmas.List.{append-nil, take_at, drop_at, take-append-le,
 use borrow.Rule.Slice.PartMut.{put_mid, post_of}
 use lib.Seq.{take-add}
 
--- so many bytes of a take stand behind what was held
+-- so many bytes of a take stand after what was held
 pub taken_behind : (room more : List ℕ) (start end k n : ℕ) → start ≤ end → end ≤ length room → n ≤ length more
     → slice_range (put_mid end k room more) start (end + n) ≡ slice_range room start end ++ take n more
 taken_behind room more start end k n ordered within fits =

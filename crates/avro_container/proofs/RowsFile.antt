@@ -80,7 +80,7 @@ null_is_header = record {
 is_file_41 : IsFile null_header [] file_41
 is_file_41 = record { header = file_41; rest = []; is_header = null_is_header; are_blocks = refl; split = refl }
 
--- with a block of three nulls behind it: 59 bytes
+-- with a block of three nulls after it: 59 bytes
 abbrev three_nulls : Values
 three_nulls = value Value.null (value Value.null (value Value.null no_values))
 

@@ -74,7 +74,7 @@ BeginsWith-header limits h header bytes rest is within e = record {
   split = e ∙ ap (λ front. front ++ rest) (sym (append-nil header));
 }
 
--- more bytes behind them
+-- more bytes after them
 BeginsWith-more : (limits : FileLimitValues) (h : HeaderValue) (blocks : List Values) (bytes rest more : List ℕ) → BeginsWith limits h blocks bytes rest
     → BeginsWith limits h blocks (bytes ++ more) (rest ++ more)
 BeginsWith-more limits h blocks bytes rest more b = record {
@@ -231,7 +231,7 @@ pub PutInAll-whole : (job : Job) (limits : FileLimitValues) (ended : Type 0) (it
 PutInAll-whole job limits ended items blocks taken put w =
     PutInAll.front w.header w.blocks [] put [] w.within (omega arith) w.is_copy (sym (append-nil put))
 
--- a fault of a step stands behind all that was copied before it
+-- a fault of a step stands after all that was copied before it
 FaultStands-done : (job : Job) (limits : FileLimitValues) (s : Stored) (ended : Type 0) (counts taken put more out : List ℕ)
     (f : FileFault) → Done job limits s counts taken put → HasFault job limits ended s (s.ahead ++ more) f → out ≡ []
     → FaultStands job limits ended (taken ++ more) (put ++ out) f

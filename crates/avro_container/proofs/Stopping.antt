@@ -26,7 +26,7 @@ pub below_zero : (v : ℤ) → v <ℤ pos 0 → (n : ℕ) × (v ≡ negsuc n)
 below_zero (pos n) h = absurd (grind (arith, ints))
 below_zero (negsuc n) h = (n, refl)
 
--- a number below 0 is no count
+-- a number below 0 is not a count
 pub negative_stops : (number : ℕ) (ended : Type 0) (bytes : List ℕ) (v : ℤ) (front rest : List ℕ) (f : FileFault) → v <ℤ pos 0
     → StartsWithLong v bytes front rest → Some (in_block number (invalid_count negative)) ≡ Some f → CountStops number ended bytes f
 negative_stops number ended bytes v front rest f below starts is =

@@ -88,7 +88,7 @@ takes_name before after at start end bytes name c small is valid none added = re
   added = names-added before after name added;
 }
 
--- a name that is no text, and one that stands before
+-- a name that is not text, and one that stands before
 pub no_text_stops : (limit at start end : ℕ) (ended : Type 0) (bytes content : List ℕ) (keys : List (List ℕ)) (f : FileFault) → ContentFrom at start end bytes → length bytes < 2 ^ 62
     → content ≡ take (end - start) (drop start bytes) → is_utf8 content ≡ false → f ≡ in_header (invalid_metadata (invalid_text start))
     → PartStops limit at ended bytes (KeyBreaks keys (2 ^ 63)) ContentWants f
@@ -189,7 +189,7 @@ pub content_key_stops : (limit at : ℕ) (ended : Type 0) (bytes : List ℕ) (ke
 content_key_stops limit at ended bytes keys f stops =
     stops-as limit at ended bytes (ContentBreaks is_utf8 (2 ^ 63)) ContentWants (KeyBreaks keys (2 ^ 63)) ContentWants f (λ g b. KeyBreaks.string_breaks b) (λ g w. w) stops
 
--- a property behind its name
+-- a property after its name
 pub takes_property : {I : Type 0} (gives : I → List ℕ → I → Type 0) (s t : I) (mid new : List ℕ) (names then_names : BTreeSet (String Global)) (at middle start end : ℕ)
     (name content : List ℕ) (before after : List Property) → GrowsBy gives s t mid new → TakesName names then_names at middle mid name → ContentFrom middle start end new
     → length new < 2 ^ 62 → content ≡ take (end - start) (drop start new) → ((i : ℕ) → get_or content i 0 < 2 ^ 8)

@@ -1,4 +1,4 @@
--- Takes go together, behind what is held.
+-- Takes go together, after what is held.
 use Rattle.std.proofs.Common.{◌≡◌, ◌≢◌, refl, ℕ, ◌+◌, ◌-◌, ◌≤◌, max, List, [], ◌++◌, length, take, drop, sym, ap, ◌∙◌, arith, append_assoc, append-nil, length-append}
 use Rattle.std.proofs.lemmas.List.{take-append-drop}
 use Rattle.avro_container.specs.declared.error.CopyError.{CopyError}
@@ -15,7 +15,7 @@ GrowsBy-chain gives chain a b c old mid new p q = record {
   grown = q.grown ∙ ap (λ m. m ++ q.bytes) p.grown ∙ append_assoc old p.bytes q.bytes;
 }
 
--- a call behind another
+-- a call after another
 pub TakesAtMost-behind : {I : Type 0} (gives : I → List ℕ → I → Type 0)
     → ((s t u : I) (front back : List ℕ) → gives s front t → gives t back u → gives s (front ++ back) u)
     → (a b c : I) (old mid : List ℕ) (room most : ℕ) → GrowsBy gives a b old mid → TakesAtMost gives b c room → length mid + room ≤ length old + most

@@ -26,12 +26,12 @@ abbrev pub CopiesFile : {I O : Type 0} → (I → List ℕ → I → Type 0) →
 CopiesFile gives keeps input input_after output output_after job limits ended items blocks =
     Moved gives keeps input input_after output output_after (CopiedWhole job limits ended items blocks)
 
--- Nothing was put, or a front of the copy of the header and the blocks with which the bytes that were taken begin.
+-- Nothing was put, or a prefix of the copy of the header and the blocks with which the bytes that were taken begin.
 abbrev pub CopiesFront : {I O : Type 0} → (I → List ℕ → I → Type 0) → (O → List ℕ → O → Type 0) → I → I → O → O → Job → FileLimitValues → Type 0
 CopiesFront gives keeps input input_after output output_after job limits =
     Moved gives keeps input input_after output output_after (PutInAll job limits)
 
--- A fault of the file was told: it stands there, and exactly what stands before it was copied.
+-- A fault of the file was reported: it stands there, and exactly what stands before it was copied.
 abbrev pub CopiesUpTo : {I O : Type 0} → (I → List ℕ → I → Type 0) → (O → List ℕ → O → Type 0) → I → I → O → O → Job → FileLimitValues → Type 0 → FileFault → Type 0
 CopiesUpTo gives keeps input input_after output output_after job limits ended fault =
     Moved gives keeps input input_after output output_after (λ taken put. FaultStands job limits ended taken put fault)

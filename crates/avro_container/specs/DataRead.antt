@@ -9,7 +9,7 @@ use Rattle.avro_container.specs.BlockFails.{FileLimitValues, BlockReading, DataA
 use Rattle.avro_container.specs.Copied.{Resolution, unchanged, into}
 use Rattle.avro_container.specs.FileFault.{FileFault, in_block, BlockFault}
 
--- into a reader's schema, where there is one
+-- into a reader's schema, if there is one
 abbrev pub resolution : Option (List Node) → Resolution
 resolution None = unchanged
 resolution (Some reader) = into reader
@@ -25,7 +25,7 @@ pub record StandForData {O : Type 0} (stands : O → Value → Type 0) (r : Bloc
   pub whole : DataAreWhole r count body (values_from values)
   pub stand : AllZip stands outs values
 
--- the schema of what is read: the reader's, where there is one
+-- the schema of what is read: the reader's, if there is one
 abbrev pub read_nodes : List Node → Option (List Node) → List Node
 read_nodes nodes None = nodes
 read_nodes nodes (Some reader) = reader

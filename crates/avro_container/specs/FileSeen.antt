@@ -2,7 +2,7 @@
 use Rattle.std.specs.Prelude.{ℕ, Option, Some, None, option_map}
 use Rattle.avro_binary.specs.Fault.{invalid_number}
 use Rattle.avro_binary.specs.Seen.{read_fault}
-use Rattle.avro_resolve.specs.Seen.{fault_of}
+use Rattle.avro_compare.specs.Seen.{fault_of}
 use Rattle.avro_container.specs.declared.error.CopyError.{CopyError}
 use Rattle.avro_container.specs.declared.error.CountError.{CountError}
 use Rattle.avro_container.specs.declared.error.LimitPlace.{LimitPlace}

@@ -25,7 +25,7 @@ entry_limits = record { depth = 1; nodes = 2 ^ 64 - 1; blob = 2 ^ 63 }
 abbrev pub MetadataBreaks : List ℕ → ReadFault → Type 0
 MetadataBreaks bytes f = Breaks metadata_nodes no_limits (root_of metadata_nodes) bytes f
 
--- this metadata stands behind the magic, and then these bytes
+-- this metadata stands after the magic, and then these bytes
 pub record MetadataStands (properties : List Property) (bytes : List ℕ) (metadata rest : List ℕ) : Type 0 where
   pub spelled : Encodes metadata_nodes (root_of metadata_nodes) (metadata_value properties) metadata
   pub split : bytes ≡ magic ++ metadata ++ rest
@@ -54,7 +54,7 @@ pub data EndsIn (bytes : List ℕ) (need : ℕ) : Type 0 where
   in_marker : (properties : List Property) (metadata rest : List ℕ) → MetadataStands properties bytes metadata rest
       → length rest < 16 → need ≡ 4 + length metadata + 16 → EndsIn bytes need
 
--- a text that is no schema has this fault
+-- a text that is not a schema has this fault
 abbrev pub HasSchemaFault : List ℕ → SchemaError → Type 0
 HasSchemaFault text e = (e ≢ SchemaError.OutOfMemory) × (e ≡ SchemaError.NotJson → IsNoJson text) × IsRefusalOf text e
 
@@ -67,7 +67,7 @@ pub record IsWholeWithin (limit : ℕ) (properties : List Property) (bytes : Lis
   pub marker : length sync ≡ 16
   pub within : 4 + length metadata + 16 ≤ limit
 
--- `ended` says that the input told its end behind the bytes
+-- `ended` says that the input reported its end after the bytes
 pub data HeaderFails (limit : ℕ) (ended : Type 0) (bytes : List ℕ) : HeaderFault → Type 0 where
   other_magic : 4 ≤ length bytes → take 4 bytes ≢ magic → HeaderFails limit ended bytes no_magic
   short_magic : length bytes < 4 → ended → HeaderFails limit ended bytes no_magic

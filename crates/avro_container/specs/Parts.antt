@@ -13,7 +13,7 @@ property_of e = record { name = string_bytes e.0; content = e.1.items }
 abbrev pub properties_of : List (String Global × Vec ℕ Global) → List Property
 properties_of entries = map property_of entries
 
--- the metadata, in order, in one block where there is some, and the marker
+-- the metadata, in order, in one block if there is any, and the marker
 abbrev pub header_part : List Property → List ℕ → List ℕ
 header_part properties sync = magic ++ (plain (metadata_value properties) ++ sync)
 

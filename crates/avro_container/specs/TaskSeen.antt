@@ -8,7 +8,7 @@ use Rattle.avro_container.specs.declared.task.Task.{Task}
 use Rattle.avro_container.specs.Copied.{Job}
 use Rattle.avro_container.specs.DataRead.{resolution}
 
--- a reader's text and schema, where there is one, and a marker
+-- a reader's text and schema, if there is one, and a marker
 abbrev pub job_from : Option (Bor (List ℕ × Schema)) → Option (List ℕ) → Job
 job_from reader sync = record {
   text = option_map (λ r. r.0) (option_copied reader);

@@ -49,12 +49,12 @@ impl<'a> Block<'a> {
         &self.body
     }
 
-    /// Reads the data one by one, and answers what a builder builds of each: of what it is for the reader where there is
+    /// Reads the data one by one, and answers what a builder builds of each: of what it is for the reader if there is
     /// one, and else of the datum itself. A plan is made for the reader; [`Block::read_by`] reads by one that is kept.
     ///
     /// # Errors
     ///
-    /// The first of `LimitExceeded`, `InvalidDatum` and `UnresolvedDatum`; `BytesLeft` behind the last datum; `OutOfMemory`.
+    /// The first of `LimitExceeded`, `InvalidDatum` and `UnresolvedDatum`; `BytesLeft` after the last datum; `OutOfMemory`.
     pub fn read<B: Build>(
         &self,
         reader: Option<&ReaderText>,
@@ -132,7 +132,7 @@ impl<'a> Block<'a> {
         }
     }
 
-    /// Reads the data one by one as data of a schema, by a plan where there is one.
+    /// Reads the data one by one as data of a schema, by a plan if there is one.
     fn read_data<B: Build>(
         &self,
         schema: &Schema,

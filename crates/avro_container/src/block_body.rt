@@ -24,7 +24,7 @@ fn is_marker(bytes: &[u8], sync: &[u8; 16]) -> bool
     bytes == sync.as_slice()
 }
 
-/// Takes the data of a block and the marker behind them, which is compared.
+/// Takes the data of a block and the marker after them, which is compared.
 ///
 /// # Errors
 ///

@@ -25,7 +25,7 @@ use crate::store::Store;
 use crate::task::Task;
 use avro_resolve::PlanRef;
 
-/// Takes the next block, behind a number of others, puts its copy, and answers how many data it has; nothing where the input
+/// Takes the next block, after a number of others, puts its copy, and answers how many data it has; nothing if the input
 /// ends before it.
 ///
 /// # Errors

@@ -14,7 +14,7 @@ use crate::error::CopyError;
 use crate::filling::{Reach, fill};
 use crate::part_error::PartError;
 
-/// Whether a byte of a next block is there; where it is not, the input has ended.
+/// Whether there is a byte of another block; if not, the input has reported its end.
 ///
 /// # Errors
 ///

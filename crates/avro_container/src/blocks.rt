@@ -16,7 +16,7 @@ use crate::header::Header;
 use crate::limits::FileLimits;
 use std::alloc::Global;
 
-/// The blocks of a file behind its header, taken one by one (Avro 1.11, "Object Container Files").
+/// The blocks of a file after its header, taken one by one (Avro 1.11, "Object Container Files").
 #[derive(Drop)]
 pub struct Blocks<'a> {
     alloc: Global,
@@ -29,7 +29,7 @@ pub struct Blocks<'a> {
 }
 
 impl<'a> Blocks<'a> {
-    /// The blocks behind a header. No block is taken yet.
+    /// The blocks after a header. No block is taken yet.
     pub fn new(alloc: Global, header: &'a Header, limits: &FileLimits) -> Blocks<'a>
         ensures header { result.header ≡ header.entry }
         ensures limits { result.limits ≡ limits.now }
@@ -47,7 +47,7 @@ impl<'a> Blocks<'a> {
         }
     }
 
-    /// Takes the next block, and no byte behind it.
+    /// Takes the next block, and no byte after it.
     fn take_next<I: Input>(&mut self, input: &mut I) -> Result<Option<Block<'a>>, CopyError>
         ensures found { IfOk result (λ found. IfSome found (λ block. TakesBlock I.gives input.old input.new self.old.limits self.old.header.now.sync block.count block.body.items)) }
         ensures few { IfOk result (λ found. IfSome found (λ block. self.old.number ≡ block.number)) }
@@ -97,10 +97,10 @@ impl<'a> Blocks<'a> {
         }
     }
 
-    /// Takes the next block, and no byte behind it; nothing where the input ends before it, and from then on.
+    /// Takes the next block, and no byte after it; nothing if the input ends before it, and from then on.
     ///
-    /// Each call is to be handed the same input. A call after the end takes nothing of it, so that its end is told there
-    /// where it was told before: what another input has told is not known.
+    /// Each call is to be handed the same input. A call after the end takes nothing of it, so that its end is reported there
+    /// where it was reported before: what another input has reported is not known.
     ///
     /// # Errors
     ///

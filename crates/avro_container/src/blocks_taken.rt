@@ -22,7 +22,7 @@ use crate::limits::FileLimits;
 /// The most blocks of a file.
 const MAX_BLOCKS: u64 = 4_294_967_296;
 
-/// Takes the next block whole, behind a number of others; nothing where the input ends before it.
+/// Takes the next block whole, after a number of others; nothing if the input ends before it.
 ///
 /// # Errors
 ///

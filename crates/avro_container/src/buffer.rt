@@ -1,4 +1,4 @@
-//! What was taken of an input and is not done with.
+//! Bytes that were taken from an input and are not used yet.
 
 ghost use Rattle.std.specs.Prelude.{◌≡◌, ◌≢◌, ◌+◌, ◌^◌, ◌<◌, ◌≤◌, [], length, drop, IfOk, OnOk, OnErr, Err};
 ghost use Rattle.avro_container.specs.inside.Filled.{GrowsBy, TakesAtMost};
@@ -6,7 +6,7 @@ ghost use Rattle.avro_container.specs.inside.Filled.{GrowsBy, TakesAtMost};
 use crate::device::Input;
 use std::alloc::{AllocError, Global};
 
-/// The most bytes that a buffer grows by ahead of what has come.
+/// The most bytes that a buffer grows by ahead of what has arrived.
 pub(crate) const GROWTH: usize = 65_536;
 
 /// Why nothing was taken.
@@ -43,7 +43,7 @@ pub(crate) struct Buffer {
 impl Buffer {
     ghost use Rattle.avro_container.specs.Held.{held, free};
 
-    /// A buffer that holds nothing.
+    /// An empty buffer.
     pub(crate) fn new(alloc: Global) -> Buffer
         ensures { held result ≡ [] }
     {
@@ -68,7 +68,7 @@ impl Buffer {
         self.end - self.start
     }
 
-    /// Lets go of a number of bytes at the front.
+    /// Drops a number of bytes at the front.
     pub(crate) fn pass(&mut self, count: usize)
         requires { count ≤ length (held self.old) }
         ensures { held self.new ≡ drop count (held self.old) }
@@ -87,7 +87,7 @@ impl Buffer {
         self.end = end - start;
     }
 
-    /// Makes room for a number of bytes more, and for [`GROWTH`] at least where there is too little, so that a buffer that is
+    /// Makes room for a number of bytes more, and for [`GROWTH`] at least if there is too little, so that a buffer that is
     /// asked for a few bytes again and again is not moved for each.
     fn make_room(&mut self, count: usize) -> Result<(), AllocError>
         requires { length (held self.old) + count < 2 ^ 64 }
@@ -106,7 +106,7 @@ impl Buffer {
         Ok(())
     }
 
-    /// One take of at most a number of bytes, behind those that it holds.
+    /// One take of at most a number of bytes, after those that it holds.
     ///
     /// # Errors
     ///

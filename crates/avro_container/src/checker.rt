@@ -8,7 +8,7 @@ use crate::walked::walk_data;
 use std::alloc::Global;
 use std::marker::Model;
 
-/// Reads the data of blocks of a file, one block after another, and makes nothing of them. Where a datum of the file's schema has
+/// Reads the data of blocks of a file, one block after another, and makes nothing of them. If a datum of the file's schema has
 /// no bytes, it is read once: each later block takes one step, however many data it has.
 ///
 /// Contracts see the header and the limits by which it reads.

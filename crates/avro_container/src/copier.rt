@@ -24,7 +24,7 @@ use avro_schema_json::ReaderText;
 use std::alloc::Global;
 
 impl<'a> Copier<'a> {
-    /// A copier of a file of which nothing was taken yet: into a reader's schema, where there is one, and with a marker, or else
+    /// A copier of a file of which nothing was taken yet: into a reader's schema, if there is one, and with a marker, or else
     /// with the file's.
     pub fn new(
         alloc: Global,
@@ -60,7 +60,7 @@ impl<'a> Copier<'a> {
         self.store.buffer.bytes()
     }
 
-    /// Reads the header or the next block, and puts its copy. Once the input has ended, it stays so.
+    /// Reads the header or the next block, and puts its copy. Once the input has reported its end, it stays so.
     ///
     /// # Errors
     ///

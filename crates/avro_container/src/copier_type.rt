@@ -21,7 +21,7 @@ pub struct Copier<'a> {
     pub(crate) opened: Option<Opened<'a>>,
     pub(crate) blocks: u64,
     pub(crate) store: Store,
-    // the plain encoding of what a datum without bytes is for the reader, where one was read
+    // the plain encoding of what a datum without bytes is for the reader, if one was read
     pub(crate) empty: Option<Vec<u8>>,
     pub(crate) ended: bool,
     pub(crate) failed: bool,

@@ -10,7 +10,7 @@ use crate::error::{CopyError, LimitPlace};
 use avro_binary::ReadError;
 use avro_resolve::ReadResolveError;
 
-/// The same error of bytes that stand behind `start` others.
+/// The same error of bytes that stand after `start` others.
 fn moved(error: ReadError, start: usize) -> ReadError
     requires fits { FitsBehind start error }
     ensures moved { read_fault result ≡ option_map (behind start) (read_fault error) }
@@ -45,7 +45,7 @@ fn moved(error: ReadError, start: usize) -> ReadError
     }
 }
 
-/// The error of a file where a datum is not read, which begins behind `start` bytes of its block's data.
+/// The error of a file for a datum that is not read and begins after `start` bytes of its block's data.
 pub(crate) fn datum_error(
     number: u64,
     datum: u32,

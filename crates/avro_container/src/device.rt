@@ -6,7 +6,7 @@ ghost use Rattle.std.specs.Prelude.{◌≡◌, ◌≢◌, ℕ, ◌+◌, ◌%◌,
 #[derive(Clone, Copy, Debug, PartialEq, Eq)]
 pub struct DeviceFault;
 
-/// Gives the bytes of a file in turn.
+/// Gives the bytes of a file in order.
 ///
 /// An implementation says by a relation which bytes a call has moved, where the end was reported, and how many calls have
 /// failed.
@@ -35,30 +35,30 @@ pub trait Input {
         ensures counts { OnErr result (failures self.new ≡ (failures self.old + 1) % 2 ^ 64) }
         ensures lost { OnErr result ((bytes : List ℕ) × gives self.old bytes self.new × (length bytes ≤ length buffer.new)) };
 
-    /// Without a call no bytes are taken, and those of two runs of calls go together.
+    /// Without a call no bytes are taken; those of two runs of calls are joined.
     ghost none: { (s : Self) → gives s [] s };
 
     ghost chain: { (s t u : Self) (front back : List ℕ) → gives s front t → gives t back u → gives s (front ++ back) u };
 }
 
-/// Keeps the bytes of a file in turn.
+/// Takes the bytes of a file in order.
 ///
-/// An implementation says by a relation which bytes a call has put, whether the last call was a flush that went well, and how
+/// An implementation says by a relation which bytes a call has put, whether the last call was a flush that succeeded, and how
 /// many calls have failed.
 pub trait Output {
     /// These bytes were put between two states.
     ghost keeps: { Self → List ℕ → Self → Type 0 };
 
-    /// The last call took none of some bytes.
+    /// The last call took none of the bytes.
     ghost stuck: { Self → Type 0 };
 
-    /// The last call was a flush that went well.
+    /// The last call was a flush that succeeded.
     ghost flushed: { Self → Type 0 };
 
     /// The number of failed calls, in 64 bits that wrap.
     ghost failures: { Self → ℕ };
 
-    /// Puts some of the bytes, from their front on.
+    /// Puts some of the bytes, from the first on.
     ///
     /// # Errors
     ///
@@ -74,7 +74,7 @@ pub trait Output {
         ensures fails { OnErr result (failures self.new ≢ failures self.old) }
         ensures counts { OnErr result (failures self.new ≡ (failures self.old + 1) % 2 ^ 64) };
 
-    /// Puts what the device holds back, if anything.
+    /// Flushes what the device holds back, if anything.
     ///
     /// # Errors
     ///
@@ -87,7 +87,7 @@ pub trait Output {
         ensures fails { OnErr result (failures self.new ≢ failures self.old) }
         ensures counts { OnErr result (failures self.new ≡ (failures self.old + 1) % 2 ^ 64) };
 
-    /// Without a call no bytes are put, and those of two runs of calls go together.
+    /// Without a call no bytes are put; those of two runs of calls are joined.
     ghost none: { (s : Self) → keeps s [] s };
 
     ghost chain: { (s t u : Self) (front back : List ℕ) → keeps s front t → keeps t back u → keeps s (front ++ back) u };

@@ -37,13 +37,13 @@ pub enum CopyError {
     /// The file does not begin with the four bytes of the magic.
     #[error("C1")]
     NoMagic,
-    /// The metadata is no map of bytes; the place is from the file's first byte.
+    /// The metadata is not a map of bytes; the offset is from the file's first byte.
     #[error("C2: {0}")]
     InvalidMetadata(ReadError),
     /// The metadata has no `avro.schema`.
     #[error("C3")]
     NoSchema,
-    /// `avro.schema` is no schema.
+    /// `avro.schema` is not a schema.
     #[error("C4: {0}")]
     InvalidSchema(SchemaError),
     /// `avro.codec` is not `null`.
@@ -52,16 +52,16 @@ pub enum CopyError {
     /// A block's count or size is not a number of data or of bytes.
     #[error("C6 block {0}: {1}")]
     InvalidCount(u64, CountError),
-    /// Bytes are left in a block behind its data.
+    /// A block has bytes left after its data.
     #[error("C7 block {0}")]
     BytesLeft(u64),
-    /// The marker behind a block is another than the header's.
+    /// The marker after a block differs from the header's.
     #[error("C8 block {0}")]
     WrongMarker(u64),
     /// A limit is passed.
     #[error("{0}")]
     LimitExceeded(LimitPlace),
-    /// A datum of a block is not validly encoded; the place is from the block's first byte of data.
+    /// A datum of a block is not validly encoded; the offset is from the block's first byte of data.
     #[error("C10 block {0} datum {1}: {2}")]
     InvalidDatum(u64, u32, ReadError),
     /// A datum of a block does not resolve.
@@ -70,7 +70,7 @@ pub enum CopyError {
     /// The input failed in this call.
     #[error("cannot read")]
     InputFailed,
-    /// The output failed in this call, or took none of some bytes.
+    /// The output failed in this call, or took none of the bytes.
     #[error("cannot write")]
     OutputFailed,
     /// Memory ran out.

@@ -19,7 +19,7 @@ pub(crate) struct Reach {
 ///
 /// # Errors
 ///
-/// `Limit` where they are more than the limit, `Ended` where the input ends before; `Device`, `OutOfMemory`.
+/// `Limit` if they are more than the limit, `Ended` if the input ends before; `Device`, `OutOfMemory`.
 pub(crate) fn fill<I: Input>(
     input: &mut I,
     buffer: &mut Buffer,

@@ -25,7 +25,7 @@ impl Header {
         &self.metadata
     }
 
-    /// The marker behind the header and each block.
+    /// The marker after the header and each block.
     pub fn sync(&self) -> &[u8; 16]
         ensures { result.now ≡ self.now.sync }
     {

@@ -26,7 +26,7 @@ pub(crate) struct Frame {
     pub(crate) end: usize,
 }
 
-/// Takes the parts of a header into a buffer that holds nothing.
+/// Takes the parts of a header into an empty buffer.
 ///
 /// # Errors
 ///

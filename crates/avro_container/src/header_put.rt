@@ -55,7 +55,7 @@ pub(crate) fn put_header<O: Output>(
     Ok(())
 }
 
-/// The metadata, with the reader's text in place of the schema's where there is one.
+/// The metadata, with the reader's text in place of the schema's if there is one.
 fn copied_metadata(
     alloc: Global,
     metadata: &[(String, Vec<u8>)],
@@ -70,7 +70,7 @@ fn copied_metadata(
     Ok(all)
 }
 
-/// An entry of the metadata, with the reader's text in place of the schema's where there is one.
+/// An entry of the metadata, with the reader's text in place of the schema's if there is one.
 fn copied_entry(
     alloc: Global,
     entry: &(String, Vec<u8>),

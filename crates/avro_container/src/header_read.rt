@@ -16,12 +16,12 @@ use crate::limits::FileLimits;
 use std::alloc::Global;
 
 impl Header {
-    /// Takes the header of a file, and no byte behind it.
+    /// Takes the header of a file, and no byte after it.
     ///
     /// # Errors
     ///
-    /// `NoMagic`; then from left to right `InvalidMetadata`, `LimitExceeded` of a part that would go past the limit, or
-    /// `CutHeader` where the input ends; then `NoSchema`, `UnknownCodec`, `InvalidSchema`. `InputFailed`, `OutOfMemory`.
+    /// `NoMagic`; then from left to right `InvalidMetadata`, `LimitExceeded` of a part that would pass the limit, or
+    /// `CutHeader` if the input ends; then `NoSchema`, `UnknownCodec`, `InvalidSchema`. `InputFailed`, `OutOfMemory`.
     pub fn read<I: Input>(
         alloc: Global,
         input: &mut I,

@@ -1,4 +1,4 @@
-//! Packing the data of a block where a datum without bytes may be known from a block before.
+//! Packing the data of a block when a datum without bytes may be known from a block before.
 
 ghost use Rattle.std.specs.Prelude.{◌≡◌, None, Some, OnOk, option_map, IfSome};
 ghost use Rattle.std.specs.Option.{ForSome, option_copied};
@@ -21,7 +21,7 @@ use avro_binary::laws::{plain_encodes, prefix};
 use avro_resolve::PlanRef;
 
 /// Reads the data of a block, and keeps the plain encodings of what they are for the reader, one after another. `empty` keeps
-/// that of a datum without bytes from block to block, where one was read.
+/// that of a datum without bytes from block to block, if one was read.
 ///
 /// # Errors
 ///

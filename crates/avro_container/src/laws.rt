@@ -15,21 +15,21 @@ pub fn run_copies()
     ensures { (job : Job) (limits : FileLimitValues) (s : Stored) (counts taken put : List ℕ) → Run job limits s counts taken put → Done job limits s counts taken put }
 {}
 
-/// Where the end is answered behind a run, a whole file within the limits was taken, and its copy put.
+/// Where the end is answered after a run, a whole file within the limits was taken, and its copy put.
 pub fn run_ends<I: Input>()
     ensures { (input : I) (job : Job) (limits : FileLimitValues) (s t : Stored) (counts taken put more out : List ℕ) → Run job limits s counts taken put
         → EndStep (I.ended input) s t more out → CopiedWhole job limits (I.ended input) (sum counts) s.blocks (taken ++ more) (put ++ out) }
 {}
 
-/// Where a step is refused behind a run, what was put is a front of the copy of what was taken; and a fault of the file that
-/// is told stands behind exactly what was put.
+/// Where a step is refused after a run, what was put is a prefix of the copy of what was taken; and a fault of the file that
+/// is reported stands after exactly what was put.
 pub fn run_refused<I: Input>()
     ensures { (input : I) (job : Job) (limits : FileLimitValues) (s t : Stored) (counts taken put more out : List ℕ) (fault : Option FileFault) → Run job limits s counts taken put
         → RefusedStep job limits (I.ended input) s t more out fault → length (s.ahead ++ more) ≤ most_ahead limits → PutInAll job limits (taken ++ more) (put ++ out)
         × ((f : FileFault) → fault ≡ Some f → FaultStands job limits (I.ended input) (taken ++ more) (put ++ out) f) }
 {}
 
-/// At the end of any step behind a run, what was taken in all exceeds the header and the blocks that were put before the step
+/// At the end of any step after a run, what was taken in all exceeds the header and the blocks that were put before the step
 /// by no more bytes than may be held.
 pub fn run_bounded<I: Input>()
     ensures { (input : I) (job : Job) (limits : FileLimitValues) (s t : Stored) (counts taken put more out : List ℕ) (outcome : Outcome) → Run job limits s counts taken put

@@ -46,7 +46,7 @@ impl FileLimits {
     /// The greatest number that a limit may be.
     pub const MAX: u32 = 16_777_216;
 
-    /// Limits, or nothing where one of the first three is 0 or too large.
+    /// Limits, or nothing if one of the first three is 0 or too large.
     pub fn new(header: u32, block: u32, per_block: u32, datum: Limits) -> Option<FileLimits>
         ensures { SomeIff result (AreFileLimits (record { header = header; block = block; per_block = per_block; datum = datum })) (record { header = header; block = block; per_block = per_block; datum = datum }) }
     {

@@ -29,7 +29,7 @@ fn is_other_size(head: PropertiesHead, len: u64) -> bool
     head.is_sized && len != head.size
 }
 
-/// Takes the block of properties that begins at `at`, and answers whether there is one and where it ends. Where there is none,
+/// Takes the block of properties that begins at `at`, and answers whether there is one and where it ends. If there is none,
 /// the metadata ends there.
 ///
 /// # Errors
@@ -69,7 +69,7 @@ fn take_metadata_block<I: Input>(
     Ok((true, end))
 }
 
-/// Takes the metadata behind the magic, and answers its properties in order and where it ends.
+/// Takes the metadata after the magic, and answers its properties in order and where it ends.
 ///
 /// # Errors
 ///

@@ -16,13 +16,13 @@ use crate::header_frame::{Frame, take_frame};
 use crate::limits::FileLimits;
 use std::alloc::Global;
 
-/// Takes the header of a file, and no byte behind it, and answers its metadata in the file's order. What they say is not
+/// Takes the header of a file, and no byte after it, and answers its metadata in the file's order. What they say is not
 /// looked at: the codec may be any, and there need be no schema.
 ///
 /// # Errors
 ///
-/// `NoMagic`; then from left to right `InvalidMetadata`, `LimitExceeded` of a part that would go past the limit, or
-/// `CutHeader` where the input ends. `InputFailed`, `OutOfMemory`.
+/// `NoMagic`; then from left to right `InvalidMetadata`, `LimitExceeded` of a part that would pass the limit, or
+/// `CutHeader` if the input ends. `InputFailed`, `OutOfMemory`.
 pub fn read_metadata<I: Input>(
     alloc: Global,
     input: &mut I,

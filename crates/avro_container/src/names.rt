@@ -7,12 +7,12 @@ ghost use Rattle.std.specs.Str.{is_utf8};
 use std::alloc::{AllocError, Global};
 use std::collections::BTreeSet;
 
-/// Why some bytes are no next name.
+/// Why bytes are not a new name.
 #[derive(Clone, Copy, Debug)]
 pub(crate) enum NameError {
-    /// They are no UTF-8.
+    /// They are not UTF-8.
     NoText,
-    /// The name stands before.
+    /// The name is already there.
     Twice,
     /// Memory ran out.
     OutOfMemory,
@@ -44,7 +44,7 @@ fn text_of(content: &[u8]) -> Option<&str>
 ///
 /// # Errors
 ///
-/// It is no text, or stands before; memory ran out.
+/// It is not UTF-8, or is already there; memory ran out.
 pub(crate) fn add_name(
     alloc: Global,
     names: &mut BTreeSet<String>,

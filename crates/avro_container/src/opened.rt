@@ -14,7 +14,7 @@ struct Target<'a> {
     table: PlanTable,
 }
 
-/// A header that was read, and what its data are read for. Contracts see the header, and the reader's text and schema where
+/// A header that was read, and what its data are read for. Contracts see the header, and the reader's text and schema if
 /// there is one.
 #[derive(Drop)]
 pub(crate) struct Opened<'a> {
@@ -46,7 +46,7 @@ impl<'a> Opened<'a> {
     ghost use Rattle.std.specs.Option.{IfSome, option_copied};
     ghost use Rattle.avro_schema.specs.SeenSchema.{schema_nodes};
 
-    /// A header whose data are read for this reader, where there is one, or else as they are.
+    /// A header whose data are read for this reader, if there is one, or else as they are.
     ///
     /// # Errors
     ///
@@ -81,7 +81,7 @@ impl<'a> Opened<'a> {
         &self.header
     }
 
-    /// The plan by which its data are read, where there is a reader.
+    /// The plan by which its data are read, if there is a reader.
     pub(crate) fn plan(&self) -> Option<PlanRef<'_>>
         ensures of_writer { IfSome result (λ p. p.0 ≡ self.now.0.schema) }
         ensures of_reader { option_map (λ p. schema_nodes p.1) result ≡ option_map (λ r. schema_nodes r.1) self.now.1 }

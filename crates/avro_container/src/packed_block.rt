@@ -30,7 +30,7 @@ use avro_resolve::PlanRef;
 /// How many bytes an input is taken ahead of a block.
 const AHEAD: usize = 65_536;
 
-/// Takes the next block whole, behind a number of others, and packs its data; nothing where the input ends before it.
+/// Takes the next block whole, after a number of others, and packs its data; nothing if the input ends before it.
 ///
 /// # Errors
 ///

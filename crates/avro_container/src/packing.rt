@@ -19,14 +19,13 @@ use crate::datum_read::datum_error;
 use crate::error::{CopyError, LimitPlace};
 use crate::header::Header;
 use crate::task::Task;
-use avro_binary::ReadError;
-use avro_packed::{Appending, Packed, append, append_read};
+use avro_packed::{Appending, append_read, append_resolved};
 use avro_resolve::{PlanRef, ReadResolveError};
 use avro_schema::{Limits, Schema};
 use std::alloc::Global;
 
-/// Reads a datum from the front of bytes, by a plan where there is one, and keeps the plain encoding of what it is behind those
-/// before.
+/// Reads a datum from the front of bytes, by a plan if there is one, and adds the plain encoding of what it is to the earlier
+/// ones.
 fn pack_datum(
     alloc: Global,
     schema: &Schema,
@@ -40,7 +39,7 @@ fn pack_datum(
     ensures { ReadsDatum (λ _ u. packed.new.items ≡ packed.old.items ++ plain u) (schema_nodes schema.now) limits.now (resolution (option_map (λ p. schema_nodes p.1) plan.now) (schema_nodes schema.now)) bytes.now result }
 {
     match plan {
-        Some(plan) => pack_resolved(alloc, plan, bytes, limits, packed),
+        Some(plan) => pack_resolved(alloc, plan, bytes, limits, room, packed),
         None => match append_read(alloc, schema, bytes, limits, room, packed) {
             Ok(len) => Ok(((), len)),
             Err(error) => Err(ReadResolveError::Read(error)),
@@ -48,21 +47,19 @@ fn pack_datum(
     }
 }
 
-/// Reads a datum from the front of bytes by a plan, and keeps the plain encoding of what it is for the reader behind those before.
+/// Reads a datum from the front of bytes by a plan, and adds the plain encoding of what it is for the reader.
 fn pack_resolved(
     alloc: Global,
     plan: &PlanRef<'_>,
     bytes: &[u8],
     limits: &Limits,
+    room: &mut Appending,
     packed: &mut Vec<u8>,
 ) -> Result<((), usize), ReadResolveError>
     ensures { ReadsDatum (λ _ u. packed.new.items ≡ packed.old.items ++ plain u) (schema_nodes plan.now.0) limits.now (resolution (Some (schema_nodes plan.now.1)) (schema_nodes plan.now.0)) bytes.now result }
 {
-    match plan.read(alloc, bytes, limits, &mut Packed) {
-        Ok((pieces, len)) => match append(&pieces, packed) {
-            Ok(()) => Ok(((), len)),
-            Err(_) => Err(ReadResolveError::Read(ReadError::OutOfMemory)),
-        },
+    match append_resolved(alloc, plan, bytes, limits, room, packed) {
+        Ok(len) => Ok(((), len)),
         Err(error) => Err(error),
     }
 }
@@ -163,7 +160,7 @@ fn pack_again(
     Ok(())
 }
 
-/// Packs the rest of the data of a block, where they are those without bytes.
+/// Packs the rest of the data of a block, if they have no bytes.
 ///
 /// # Errors
 ///
@@ -194,7 +191,7 @@ fn pack_rest(
     }
 }
 
-/// Packs the data of a block up to the first without bytes, and none where such a datum is known.
+/// Packs the data of a block up to the first without bytes, and none if such a datum is known.
 ///
 /// # Errors
 ///
@@ -231,7 +228,7 @@ fn pack_front(
 }
 
 /// Reads the data of a block, and keeps the plain encodings of what they are for the reader, one after another. `empty` keeps
-/// that of a datum without bytes, where one was read: it is read once.
+/// that of a datum without bytes, if one was read: it is read once.
 ///
 /// # Errors
 ///

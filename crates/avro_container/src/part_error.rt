@@ -3,7 +3,7 @@
 pub(crate) enum PartError {
     /// A number is too large.
     OutOfRange,
-    /// It goes past a limit.
+    /// It passes a limit.
     Limit,
     /// The input ends in it.
     Ended,

@@ -1,4 +1,4 @@
-//! Reading a datum by a plan, where there is one, and walking over one.
+//! Reading a datum by a plan, if there is one, and walking over one.
 
 ghost use Rattle.std.specs.Prelude.{◌≡◌, None, option_map};
 ghost use Rattle.std.specs.Option.{IfSome};
@@ -11,7 +11,7 @@ use avro_resolve::{PlanRef, ReadResolveError};
 use avro_schema::{Limits, Schema};
 use std::alloc::Global;
 
-/// Reads a datum from the front of bytes, by a plan where there is one.
+/// Reads a datum from the front of bytes, by a plan if there is one.
 pub(crate) fn read_by_plan<B: Build>(
     alloc: Global,
     schema: &Schema,
@@ -32,7 +32,7 @@ pub(crate) fn read_by_plan<B: Build>(
     }
 }
 
-/// Walks over a datum at the front of bytes.
+/// Walks over the datum at the front of bytes.
 pub(crate) fn walk_datum(
     alloc: Global,
     schema: &Schema,

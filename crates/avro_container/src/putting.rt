@@ -10,7 +10,7 @@ use crate::error::CopyError;
 ///
 /// # Errors
 ///
-/// The device failed, or took none of some bytes. A front of the bytes was put.
+/// The device failed, or took none of the bytes. A prefix of the bytes was put.
 pub(crate) fn put_all<O: Output>(output: &mut O, bytes: &[u8]) -> Result<(), DeviceFault>
     ensures put { OnOk result (O.keeps output.old bytes.now output.new) }
     ensures works { OnOk result (O.failures output.new ≡ O.failures output.old) }
@@ -29,7 +29,7 @@ pub(crate) fn put_all<O: Output>(output: &mut O, bytes: &[u8]) -> Result<(), Dev
     Ok(())
 }
 
-/// Puts what the output holds back.
+/// Flushes the output.
 ///
 /// # Errors
 ///

@@ -17,7 +17,7 @@ use crate::putting::put_all;
 use avro_zigzag::write_long;
 use std::alloc::{AllocError, Global};
 
-/// A file that is put: behind its header, block by block (Avro 1.11, "Object Container Files").
+/// A file that is put: its header, then block by block (Avro 1.11, "Object Container Files").
 #[derive(Drop)]
 pub struct Sink {
     sync: [u8; 16],
@@ -97,7 +97,7 @@ impl Sink {
     }
 }
 
-/// Puts a block at once, by way of a room that is kept from block to block.
+/// Puts a block in one call, from a buffer that is kept from block to block.
 pub(crate) fn put_block<O: Output>(
     output: &mut O,
     room: &mut Vec<u8>,
@@ -135,7 +135,7 @@ fn append_header(
     out.extend_from_slice(sync)
 }
 
-/// Appends the metadata in one block, where there is some, and the end.
+/// Appends the metadata in one block, if there is any, and the end.
 fn append_metadata(metadata: &[(String, Vec<u8>)], out: &mut Vec<u8>) -> Result<(), AllocError>
     ensures { OnOk result (out.new.items ≡ out.old.items ++ plain (metadata_value (properties_of metadata.now))) }
 {

@@ -5,7 +5,7 @@ pub enum Step {
     Header,
     /// It put a block, which has this number of data.
     Block(u64),
-    /// The input has ended.
+    /// The input has reported its end.
     End,
 }
 

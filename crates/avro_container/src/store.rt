@@ -13,7 +13,7 @@ impl Store {
     ghost use Rattle.std.specs.Prelude.{◌≡◌, []};
     ghost use Rattle.avro_container.specs.Held.{held};
 
-    /// A store in which nothing is.
+    /// An empty store.
     pub(crate) fn new(alloc: Global) -> Store
         ensures { held result.buffer ≡ [] }
     {
@@ -24,7 +24,7 @@ impl Store {
         }
     }
 
-    /// Lets go of what was taken.
+    /// Drops what was taken.
     pub(crate) fn forget(&mut self)
         ensures { held self.new.buffer ≡ [] }
     {

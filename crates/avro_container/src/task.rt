@@ -1,7 +1,7 @@
 use crate::limits::FileLimits;
 use avro_schema_json::ReaderText;
 
-/// What is asked of a copy: the reader's text and the marker, where they are given, and the limits.
+/// What is asked of a copy: the reader's text and the marker, if they are given, and the limits.
 #[derive(Clone, Copy)]
 pub(crate) struct Task<'a> {
     pub(crate) reader: Option<&'a ReaderText>,

@@ -13,6 +13,8 @@ mod files;
 #[cfg(test)]
 mod headers;
 #[cfg(test)]
+mod many_checks;
+#[cfg(test)]
 mod one_file;
 #[cfg(test)]
 mod parts;
@@ -28,3 +30,5 @@ mod reading;
 mod refutations;
 #[cfg(test)]
 mod shown_headers;
+#[cfg(test)]
+mod shown_limits;

@@ -16,7 +16,7 @@ use Rattle.avro_history.specs.ConfirmedHistory.{are_closed, nodes_of_all}
 use Rattle.avro_history.specs.SeenHistory.{set_of}
 use Rattle.avro_history.proofs.Written.{from_index}
 
--- what is known of an answer, where there is one
+-- what is known of an answer, if there is one
 pub some_at : {A : Type 0} (o : Option A) (a : A) (P : A → Type 0) → o ≡ Some a → IfSome o P → P a
 some_at o a P is h = subst (λ x. IfSome x P) is h
 

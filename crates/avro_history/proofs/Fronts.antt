@@ -91,7 +91,7 @@ ends_at text i here n first s more e = elim (cases_order i (length (front_of s))
 pub no_end : (text : List ℕ) → ((k : ℕ) → k < length text → get_or text k 0 ≡ 110 → ⊥) → (s : Sets) (more : List ℕ) → text ≡ sets_text s ++ more → ⊥
 no_end text none s more e = none (length (front_of s)) (omega (arith, (lengths text s more e).1)) (n_at text s more e)
 
--- a text, parted behind what stands at its front
+-- a text, split after what stands at its front
 pub parted_at : (text front more : List ℕ) (k : ℕ) → k ≡ length front → text ≡ front ++ more → (take k text ≡ front) × (drop k text ≡ more)
 parted_at text front more k same e = (
   ap (λ j. take j text) same ∙ ap (take (length front)) e ∙ take-append_seam front more,

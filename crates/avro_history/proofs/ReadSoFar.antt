@@ -16,7 +16,7 @@ flat_map-append : {A : Type 0} (f : A → List ℕ) (xs ys : List A) → flat_ma
 flat_map-append f [] ys = refl
 flat_map-append f (x ∷ xs) ys = ap (λ l. f x ++ l) (flat_map-append f xs ys) ∙ sym (append_assoc (f x) (flat_map f xs) (flat_map f ys))
 
--- one behind the others
+-- one after the others
 flat_map-push : (sets : List Sets) (s : Sets) → flat_map sets_text (sets ++ (s ∷ [])) ≡ flat_map sets_text sets ++ sets_text s
 flat_map-push sets s = flat_map-append sets_text sets (s ∷ []) ∙ ap (λ l. flat_map sets_text sets ++ l) (append-nil (sets_text s))
 
@@ -50,7 +50,7 @@ read_none text = record {
   left = λ sets lines. record { later = sets; lines = lines; small = λ s. (refl, s, refl) };
 }
 
--- how a text is parted
+-- how a text is split
 abbrev pub PartedFirst : List ℕ → List ℕ → List ℕ → Type 0
 PartedFirst rest front more = (s : Sets) (m : List ℕ) → rest ≡ sets_text s ++ m → (front ≡ sets_text s) × (more ≡ m)
 

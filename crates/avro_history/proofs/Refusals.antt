@@ -20,7 +20,7 @@ not_great e P is h = subst (λ (x : CertError). UnlessOutOfMemory (Err x) P) is 
 pub not_malformed : (e : CertError) (P : Certificate → Type 0) → e ≡ CertError.Malformed → UnlessOutOfMemory (Err e) P → ⊥
 not_malformed e P is h = subst (λ (x : CertError). UnlessOutOfMemory (Err x) P) is h
 
--- the lines behind the first
+-- the lines after the first
 pub lines_in : (text rest : List ℕ) (sets : List Sets) → text ≡ codes "history 1\n" ++ rest → HistoryText sets text → AreLines sets rest
 lines_in text rest sets e h = record { rising = h.rising; written = ap (drop 10) (sym e ∙ h.written) }
 

@@ -4,7 +4,7 @@ use Rattle.std.specs.declared.result.Result.{Result}
 use Rattle.avro_certificate.specs.declared.error.CertError.{CertError}
 use Rattle.avro_history.specs.HistoryText.{Sets, HistoryText, history_text, all_small}
 
--- the text is no history's, or longer than any certificate's that is read
+-- the text is not a history's, or longer than any certificate's that is read
 abbrev pub IsMalformed : List ℕ → Type 0
 IsMalformed text = (268435456 < length text) ⊎ ((sets : List Sets) → HistoryText sets text → ⊥)
 

@@ -1,4 +1,4 @@
--- The text of a history: the texts of several certificates, one behind the other, between two lines of its own.
+-- The text of a history: the texts of several certificates, one after the other, between two lines of its own.
 use Rattle.std.specs.Prelude.{◌≡◌, ℕ, Bool, true, ◌&&◌, nat_lt, List, ◌++◌, flat_map, codes}
 use Rattle.std.specs.List.{list_all}
 use Rattle.avro_certificate.specs.Closed.{Pair}

@@ -14,7 +14,7 @@ use avro_judge::{Approved, Certificate, confirm};
 use avro_schema::{Memory, Schema};
 use std::alloc::Global;
 
-/// Approves a reader's schema for several writers' by a history: there are approvals exactly where
+/// Approves a reader's schema for several writers' by a history: there are approvals exactly when
 /// there is a certificate for each writer, in order, and each is closed. Whoever made the history, no
 /// datum of any of the writers' then fails.
 ///

@@ -3,7 +3,7 @@
 ghost use Rattle.std.specs.Prelude.{◌≡◌, ◌≤◌, List, ℕ, ◌++◌, length};
 ghost use Rattle.avro_history.specs.HistoryText.{Sets, sets_text};
 
-/// Parts a text behind the certificate at its front. A text without one is parted somewhere.
+/// Splits a text after the certificate at its front. A text without one is split anywhere.
 pub(crate) fn split_certificate(text: &[u8]) -> (&[u8], &[u8])
     ensures whole { text.now ≡ result.0.now ++ result.1.now }
     ensures parted { (s : Sets) (more : List ℕ) → text.now ≡ sets_text s ++ more → (result.0.now ≡ sets_text s) × (result.1.now ≡ more) }

@@ -18,8 +18,8 @@ pub(crate) fn after<'a>(text: &'a [u8], line: &[u8]) -> Option<&'a [u8]>
     text.strip_prefix(line)
 }
 
-/// The certificates of a text that ends with a line `end` of its own. A number that is too large is told
-/// only where the whole text has its form.
+/// The certificates of a text that ends with a line `end` of its own. A number that is too large is reported
+/// only if the whole text has its form.
 pub(crate) fn read_certificates(alloc: Global, text: &[u8]) -> Result<Vec<Certificate>, CertError>
     ensures found { IfOk result (λ v. AreLines (map set_of v.items) text.now) }
     ensures small { IfOk result (λ v. all_small (map set_of v.items) ≡ true) }

@@ -11,10 +11,10 @@ use Rattle.avro_name.specs.Name.{is_simple_name}
 use Rattle.avro_schema.specs.Node.{Node, FieldNode, branches_of, field_ids}
 use Rattle.avro_schema.specs.Distinct.{are_distinct}
 use Rattle.avro_schema.specs.WellFormed.{field_names, meets_its_rules, has_good_default}
-use Rattle.avro_resolve.specs.Match.{is_match, first_match}
-use Rattle.avro_resolve.specs.Source.{reader_field, source_of}
-use Rattle.avro_resolve.specs.Ends.{IsField, here, later}
-use Rattle.avro_resolve.proofs.public.Sources.{first_index-named, reader_field-source}
+use Rattle.avro_compare.specs.Match.{is_match, first_match}
+use Rattle.avro_compare.specs.Source.{reader_field, source_of}
+use Rattle.avro_compare.specs.Fields.{IsField, here, later}
+use Rattle.avro_compare.proofs.public.Sources.{first_index-named, reader_field-source}
 use Rattle.avro_certificate.specs.Closed.{Pair, children_of, field_children, has_local_fault, has_fault_of_kind}
 use Rattle.avro_least.specs.Asked.{Row, Asked, rows_from, asked_inside, asked_branch, asked, row_child, asked_children}
 use Rattle.avro_certificate.proofs.public.Tests.{and_left, and_right, or_left, or_right, not_false}

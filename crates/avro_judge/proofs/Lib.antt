@@ -1,6 +1,6 @@
 pub mod AskedCovers
 pub mod AskedTaken
-pub mod Certified
+pub mod CertifiedTables
 pub mod DeadIds
 pub mod Evidence
 pub mod Exclusive

@@ -6,7 +6,7 @@ use Rattle.avro_schema.specs.Node.{Node, root_of}
 use Rattle.avro_schema.specs.Value.{Value}
 use Rattle.avro_binary.specs.Encoding.{Encodes}
 use Rattle.avro_resolve.specs.Reading.{ReadsAs}
-use Rattle.avro_resolve.specs.Resolve.{Resolved, resolve_root}
+use Rattle.avro_compare.specs.Resolve.{Resolved, resolve_root}
 
 -- no encoding begins another
 abbrev pub NoneBeginsAnother : Type 0

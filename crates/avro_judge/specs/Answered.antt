@@ -9,12 +9,12 @@ abbrev pub IsApproved : Verdict → Type 0
 IsApproved (Verdict.Approved a) = Unit {0}
 IsApproved v = ⊥
 
--- P of the approval, where the verdict is one
+-- P of the approval, if the verdict is one
 abbrev pub IfApproved : Verdict → (Approved → Type 0) → Type 0
 IfApproved (Verdict.Approved a) P = P a
 IfApproved v P = Unit {0}
 
--- P of the refutation, where the verdict is one
+-- P of the refutation, if the verdict is one
 abbrev pub IfRefuted : Verdict → (Refutation → Type 0) → Type 0
 IfRefuted (Verdict.Refuted r) P = P r
 IfRefuted v P = Unit {0}

@@ -9,9 +9,9 @@ use Rattle.avro_schema.specs.declared.schema.Schema.{Schema}
 use Rattle.avro_binary.specs.Encoding.{Encodes}
 use Rattle.avro_binary.specs.Seen.{UnlessOutOfMemory}
 use Rattle.avro_binary.specs.declared.error.ReadError.{ReadError}
-use Rattle.avro_resolve.specs.Fault.{ResolutionFault}
-use Rattle.avro_resolve.specs.Resolve.{resolve_root}
-use Rattle.avro_resolve.specs.Seen.{fault_of}
+use Rattle.avro_compare.specs.Fault.{ResolutionFault}
+use Rattle.avro_compare.specs.Resolve.{resolve_root}
+use Rattle.avro_compare.specs.Seen.{fault_of}
 use Rattle.avro_certificate.specs.Compatible.{AreCompatible, ErrsWith, ErrsOnlyAbove, ErrsLeastDeep}
 use Rattle.avro_judge.specs.Answered.{IsApproved, IfApproved, IfRefuted, IsUndecided}
 use Rattle.avro_judge.specs.JudgeRanges.{JudgeLimitValues}

@@ -1,4 +1,3 @@
-use crate::deciding::certify;
 use avro_binary::{Build, ReadError};
 use avro_certificate::Certificate;
 use avro_resolve::{Comparison, Plan, PlanTable, ReadResolveError};
@@ -7,7 +6,7 @@ use std::alloc::Global;
 use std::marker::Model;
 
 /// Two schemas of which every datum of the first resolves into the second, with a plan of reading that
-/// keeps the pairs of nodes that the roots lead to, and the certificate where it was made. Contracts see the two schemas.
+/// keeps the pairs of nodes that the roots lead to, and the certificate if it was made. Contracts see the two schemas.
 #[derive(Drop)]
 pub struct Approved<'a> {
     writer: &'a Schema,
@@ -48,17 +47,14 @@ impl<'a> Approved<'a> {
     ghost use Rattle.avro_binary.specs.Encoding.{Encodes};
     ghost use Rattle.avro_binary.specs.Fault.{ReadFault};
     ghost use Rattle.avro_binary.specs.Seen.{read_fault, UnlessOutOfMemory, Reports};
-    ghost use Rattle.avro_resolve.specs.Planned.{AreComparisons};
+    ghost use Rattle.avro_compare.specs.Planned.{AreComparisons};
     ghost use Rattle.avro_resolve.specs.Reading.{ReadsAs};
-    ghost use Rattle.avro_resolve.specs.Resolve.{resolve_root};
-    ghost use Rattle.avro_certificate.specs.Closed.{is_closed};
+    ghost use Rattle.avro_compare.specs.Resolve.{resolve_root};
     ghost use Rattle.avro_certificate.specs.Compatible.{AreCompatible};
-    ghost use Rattle.avro_certificate.specs.Evidence.{IsEvidence};
     ghost use Rattle.avro_judge.specs.inside.Judged.{IsCertificateOf};
-    ghost use Rattle.avro_certificate.specs.SeenCertificate.{dead_of, pairs_in};
 
     /// The approval of two compatible schemas, by what was found by names of pairs of their nodes, and with their
-    /// certificate where it was made.
+    /// certificate if it was made.
     ///
     /// # Errors
     ///
@@ -97,7 +93,7 @@ impl<'a> Approved<'a> {
         limits: &Limits,
         builder: &mut B,
     ) -> Result<(B::Out, usize), ReadError>
-        // Where the bytes begin with an encoding of a writer's datum within limits, whatever follows it, the answer stands for
+        // If the bytes begin with an encoding of a writer's datum within limits, whatever follows it, the answer stands for
         // what resolution gives of the datum, and has that encoding's length.
         ensures begins { (v : Value) (front rest : List ℕ) → Encodes (schema_nodes self.now.0) (root_of (schema_nodes self.now.0)) v front
             → is_within limits.now v ≡ true → bytes.now ≡ front ++ rest
@@ -117,21 +113,18 @@ impl<'a> Approved<'a> {
         }
     }
 
-    /// The certificate of the two schemas, by which [`confirm`](crate::confirm) approves them again. It
-    /// depends on the schemas alone.
-    ///
-    /// # Errors
-    ///
-    /// Memory ran out.
-    pub fn certificate(&self, alloc: Global) -> Result<Certificate, Memory>
-        // All nodes of the writer's schema that no datum has, and the pairs that the roots lead to, no others.
-        ensures evidence { IfOk result (λ c. IsEvidence (schema_nodes self.now.0) (schema_nodes self.now.1) (dead_of c) (pairs_in c)) }
-        // It shows that the schemas are compatible.
-        ensures confirmed { IfOk result (λ c. is_closed (schema_nodes self.now.0) (schema_nodes self.now.1) (dead_of c) (pairs_in c) ≡ true) }
+    /// The writer's schema and the reader's.
+    pub(crate) fn schemas(&self) -> (&'a Schema, &'a Schema)
+        ensures these { self.now ≡ (result.0.now, result.1.now) }
+        ensures compatible { AreCompatible (schema_nodes self.now.0) (schema_nodes self.now.1) }
     {
-        match &self.certificate {
-            Some(certificate) => certificate.try_clone(alloc),
-            None => certify(alloc, self.writer, self.reader),
-        }
+        (self.writer, self.reader)
+    }
+
+    /// The certificate, if judging made it.
+    pub(crate) fn made_certificate(&self) -> Option<&Certificate>
+        ensures { IfSome result (λ c. IsCertificateOf (schema_nodes self.now.0) (schema_nodes self.now.1) c.now) }
+    {
+        self.certificate.as_ref()
     }
 }

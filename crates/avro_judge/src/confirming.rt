@@ -9,7 +9,7 @@ use avro_certificate::{Certificate, find_closed};
 use avro_schema::{Memory, Schema};
 use std::alloc::Global;
 
-/// Approves two schemas by a certificate: there is an approval exactly where each number is that of a
+/// Approves two schemas by a certificate: there is an approval exactly when each number is that of a
 /// node of its schema, and the two sets are closed. Whoever made the certificate, no datum of the
 /// writer's then fails.
 ///

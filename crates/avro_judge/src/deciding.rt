@@ -7,7 +7,7 @@ ghost use Rattle.avro_schema.specs.SeenSchema.{schema_nodes};
 ghost use Rattle.avro_least.specs.Asked.{ArePairsShown, steps_at};
 ghost use Rattle.avro_certificate.specs.Compatible.{AreCompatible};
 ghost use Rattle.avro_judge.specs.inside.Judged.{IsCertificateOf, IsJudged};
-ghost use Rattle.avro_resolve.specs.Planned.{AreComparisons};
+ghost use Rattle.avro_compare.specs.Planned.{AreComparisons};
 ghost use Rattle.avro_least.specs.Tables.{AreDataShown, AreLow, erring_of};
 ghost use Rattle.avro_least.specs.Reached.{AreFollowed, IsSteppedTo, is_key};
 ghost use Rattle.avro_least.specs.SeenLeast.{seen_all, table_of};

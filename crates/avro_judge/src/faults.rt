@@ -6,8 +6,8 @@ ghost use Rattle.avro_schema.specs.Node.{root_of};
 ghost use Rattle.avro_schema.specs.Seen.{value_of};
 ghost use Rattle.avro_schema.specs.SeenSchema.{schema_nodes};
 ghost use Rattle.avro_binary.specs.Encoding.{Encodes};
-ghost use Rattle.avro_resolve.specs.Planned.{AreComparisons};
-ghost use Rattle.avro_resolve.specs.Seen.{fault_of};
+ghost use Rattle.avro_compare.specs.Planned.{AreComparisons};
+ghost use Rattle.avro_compare.specs.Seen.{fault_of};
 ghost use Rattle.avro_certificate.specs.Compatible.{Errs, ErrsWith};
 
 use avro_binary::laws::{plain_encodes, prefix};

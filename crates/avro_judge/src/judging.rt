@@ -2,8 +2,8 @@ ghost use Rattle.std.specs.Prelude.{◌≡◌, ◌↔◌, ◌<◌, ◌≤◌, �
 ghost use Rattle.avro_schema.specs.Seen.{value_of};
 ghost use Rattle.avro_schema.specs.SeenSchema.{schema_nodes};
 ghost use Rattle.avro_schema.specs.Value.{Value, size, depth};
-ghost use Rattle.avro_resolve.specs.Fault.{ResolutionFault};
-ghost use Rattle.avro_resolve.specs.Seen.{fault_of};
+ghost use Rattle.avro_compare.specs.Fault.{ResolutionFault};
+ghost use Rattle.avro_compare.specs.Seen.{fault_of};
 ghost use Rattle.avro_judge.specs.Answered.{IsApproved, IfApproved, IfRefuted, IsUndecided};
 ghost use Rattle.avro_certificate.specs.Compatible.{AreCompatible, ErrsWith, ErrsOnlyAbove, ErrsLeastDeep};
 
@@ -17,7 +17,7 @@ use std::alloc::Global;
 
 /// Whether every datum of the writer's schema resolves into the reader's, of any size.
 ///
-/// Up to the pair limit the two schemas are approved exactly where they are compatible; else a least
+/// Up to the pair limit the two schemas are approved exactly when they are compatible; else a least
 /// datum that fails is answered, within the size and the depth limit, or the limit that none is within.
 /// Among least data the choice is by depth, then the first branch, symbol or field, which tests show.
 ///
@@ -31,7 +31,7 @@ pub fn judge<'a>(
     reader: &'a Schema,
     limits: &JudgeLimits,
 ) -> Result<Verdict<'a>, Memory>
-    // The pair limit is passed exactly where the product of the numbers of nodes is over it.
+    // The pair limit is passed exactly when the product of the numbers of nodes is over it.
     ensures pairs { IfOk result (λ v. IsUndecided v Cause.Pairs
         ↔ (limits.now.pairs < length (schema_nodes writer.now) * length (schema_nodes reader.now))) }
 

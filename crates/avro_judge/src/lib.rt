@@ -6,6 +6,7 @@
 #![tactic(auto)]
 
 mod approval;
+mod certified;
 mod certifying;
 mod confirming;
 mod deciding;

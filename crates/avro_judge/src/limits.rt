@@ -44,7 +44,7 @@ impl JudgeLimits {
     /// The greatest pair limit.
     pub const MAX_PAIRS: u32 = 16_777_216;
 
-    /// Limits, or nothing where the pairs are 0 or too many, or the size is 0 or over `limits.nodes`.
+    /// Limits, or nothing if the pairs are 0 or too many, or the size is 0 or over `limits.nodes`.
     pub fn new(pairs: u32, size: u32, limits: Limits) -> Option<JudgeLimits>
         ensures { SomeIff result (AreJudgeLimits (record { pairs = pairs; size = size; limits = limits })) (record { pairs = pairs; size = size; limits = limits }) }
     {

@@ -2,15 +2,15 @@ ghost use Rattle.std.specs.Prelude.{IfOk};
 ghost use Rattle.std.specs.Option.{IfSome, IfNone};
 ghost use Rattle.avro_schema.specs.Seen.{value_of};
 ghost use Rattle.avro_schema.specs.SeenSchema.{schema_nodes};
-ghost use Rattle.avro_resolve.specs.Seen.{fault_of};
+ghost use Rattle.avro_compare.specs.Seen.{fault_of};
 ghost use Rattle.avro_certificate.specs.Compatible.{ErrsWith, Errs};
 
 use avro_resolve::{Fault, ResolveError, resolve};
 use avro_schema::{Datum, Memory, Schema, fits};
 use std::alloc::Global;
 
-/// The fault that a datum of the writer's has for the reader; none where it resolves, and where it is
-/// no datum of the writer's.
+/// The fault that a datum of the writer's has for the reader; none if it resolves, or if it is
+/// not a datum of the writer's.
 ///
 /// # Errors
 ///

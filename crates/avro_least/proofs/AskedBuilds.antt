@@ -10,11 +10,11 @@ use Rattle.avro_schema.specs.Value.{Value, value, size, depth, values_size, valu
 use Rattle.avro_schema.specs.Seen.{values_from}
 use Rattle.avro_schema.specs.Node.{Node, FieldNode, node_at, branches_of, field_ids}
 use Rattle.avro_schema.specs.Fits.{fits, fields_fit}
-use Rattle.avro_binary.proofs.public.Choices.{HasFewChoices-from_is_schema}
-use Rattle.avro_resolve.specs.Fault.{ResolutionFault}
-use Rattle.avro_resolve.specs.Match.{is_match, first_match}
-use Rattle.avro_resolve.specs.Source.{reader_field, missing_field}
-use Rattle.avro_resolve.specs.Resolve.{Resolved, Sourced, matched, into_branch, fields_at, branch_node, record_or_missing, resolve, resolve_sources}
+use Rattle.avro_schema.proofs.public.Choices.{HasFewChoices-from_is_schema}
+use Rattle.avro_compare.specs.Fault.{ResolutionFault}
+use Rattle.avro_compare.specs.Match.{is_match, first_match}
+use Rattle.avro_compare.specs.Source.{reader_field, missing_field}
+use Rattle.avro_compare.specs.Resolve.{Resolved, Sourced, matched, into_branch, fields_at, branch_node, record_or_missing, resolve, resolve_sources}
 use Rattle.avro_certificate.specs.Closed.{Pair, lacks_symbol}
 use Rattle.avro_least.specs.Tables.{Least, LeastTable, ErringTable, IsWithin, count_of, around, together, best_of, all_of, no_parts, one}
 use Rattle.avro_least.specs.Asked.{Row, row_child, Asked, rows_from, asked_inside, asked_branch, asked, err_of_row, err_of_rows, asked_value, asked_children}

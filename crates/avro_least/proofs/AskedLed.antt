@@ -6,15 +6,15 @@ use Rattle.avro_schema.specs.Node.{Node, FieldNode, branches_of, field_ids}
 use Rattle.avro_schema.specs.declared.schema.NodeId.{NodeId}
 use Rattle.avro_schema.specs.declared.schema.Node.{Node as KeptNode}
 use Rattle.avro_schema.specs.Seen.{node_of}
-use Rattle.avro_resolve.specs.Match.{is_match, first_match}
-use Rattle.avro_resolve.specs.Pairs.{aim_of, branch_aim, part_to}
-use Rattle.avro_resolve.specs.Planned.{AreFor}
-use Rattle.avro_resolve.specs.Source.{reader_field}
-use Rattle.avro_resolve.specs.declared.error.FaultKind.{FaultKind}
-use Rattle.avro_resolve.specs.declared.error.FaultKind.TheVariants.{NoMatch}
-use Rattle.avro_resolve.specs.declared.guided.Aim.{Aim}
-use Rattle.avro_resolve.specs.declared.guided.Aim.TheVariants.{Fault, To}
-use Rattle.avro_resolve.specs.declared.guided.At.{At}
+use Rattle.avro_compare.specs.Match.{is_match, first_match}
+use Rattle.avro_compare.specs.Pairs.{aim_of, branch_aim, part_to}
+use Rattle.avro_compare.specs.Planned.{AreFor}
+use Rattle.avro_compare.specs.Source.{reader_field}
+use Rattle.avro_compare.specs.declared.error.FaultKind.{FaultKind}
+use Rattle.avro_compare.specs.declared.error.FaultKind.TheVariants.{NoMatch}
+use Rattle.avro_compare.specs.declared.guided.Aim.{Aim}
+use Rattle.avro_compare.specs.declared.guided.Aim.TheVariants.{Fault, To}
+use Rattle.avro_compare.specs.declared.guided.At.{At}
 use Rattle.avro_least.specs.Asked.{Asked, Row, asked, asked_branch, asked_inside, rows_from}
 use Rattle.avro_least.specs.SeenAsk.{rows_by, theirs_at, theirs_in}
 

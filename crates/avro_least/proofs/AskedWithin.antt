@@ -5,8 +5,8 @@ use Rattle.std.specs.Prelude.{slice_get, unwrap_or, is_some, map, flat_map, nat_
 use Rattle.std.specs.List.{list_all}
 use Rattle.avro_schema.specs.Node.{Node, FieldNode, node_at, field_ids, edges_of}
 use Rattle.avro_schema.specs.WellFormed.{is_schema, is_edge, is_good_node, are_good_nodes}
-use Rattle.avro_resolve.specs.Match.{is_match, first_match}
-use Rattle.avro_resolve.specs.Source.{reader_field, missing_field, is_index, source_of}
+use Rattle.avro_compare.specs.Match.{is_match, first_match}
+use Rattle.avro_compare.specs.Source.{reader_field, missing_field, is_index, source_of}
 use Rattle.avro_certificate.specs.Closed.{Pair, lacks_symbol}
 use Rattle.avro_least.specs.Asked.{Asked, rows_from, asked_inside, asked_branch, asked, row_child, asked_children}
 use Rattle.avro_certificate.proofs.public.Tests.{and_left, and_right}

@@ -20,7 +20,7 @@ use Rattle.avro_certificate.proofs.public.Tests.{and_left}
 use Rattle.std.proofs.Math.ListN.{replicate}
 use Rattle.std.proofs.lemmas.List.{length-replicate}
 use Rattle.avro_least.proofs.Building.{around_is, together_is}
-use Rattle.avro_binary.proofs.public.Choices.{HasFewChoices, HasFewChoices-from_is_schema}
+use Rattle.avro_schema.proofs.public.Choices.{HasFewChoices, HasFewChoices-from_is_schema}
 use Rattle.std.proofs.lemmas.Option.{slice_get_within}
 use Rattle.avro_least.proofs.Choosing.{leaf_least, branch_least, step_is}
 

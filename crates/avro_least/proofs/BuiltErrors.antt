@@ -7,11 +7,11 @@ use Rattle.avro_schema.specs.Value.{Value, no_values, value, no_entries, entry, 
 use Rattle.avro_schema.specs.Node.{Node, node_at, branches_of, items_node, values_node, field_ids}
 use Rattle.avro_schema.specs.Fits.{fits, entries_fit, is_some_and, is_text}
 use Rattle.avro_schema.specs.WellFormed.{is_schema}
-use Rattle.avro_binary.proofs.public.Choices.{HasFewChoices, HasFewChoices-from_is_schema}
-use Rattle.avro_resolve.specs.Fault.{fault_here, no_match}
-use Rattle.avro_resolve.specs.Match.{is_match, first_match}
-use Rattle.avro_resolve.specs.Source.{missing_field}
-use Rattle.avro_resolve.specs.Resolve.{Resolved, inside, result_map, into_branch, bytes_as, enum_as, enum_or_default, part_at, symbol_at, resolve, resolve_items, resolve_entries}
+use Rattle.avro_schema.proofs.public.Choices.{HasFewChoices, HasFewChoices-from_is_schema}
+use Rattle.avro_compare.specs.Fault.{fault_here, no_match}
+use Rattle.avro_compare.specs.Match.{is_match, first_match}
+use Rattle.avro_compare.specs.Source.{missing_field}
+use Rattle.avro_compare.specs.Resolve.{Resolved, inside, result_map, into_branch, bytes_as, enum_as, enum_or_default, part_at, symbol_at, resolve, resolve_items, resolve_entries}
 use Rattle.avro_certificate.specs.Closed.{lacks_symbol}
 use Rattle.avro_least.specs.Asked.{Asked, rows_from, asked_inside, asked_branch, asked}
 use Rattle.avro_least.specs.BuiltErrors.{first_from, is_lacking, IsLone, part_value, is_same}

@@ -1,8 +1,8 @@
 -- What follows where a result is a fault.
 use Rattle.std.proofs.Common.{◌≡◌, refl, ℕ, ℤ, List, ◌∷◌, Option, Some, None, Result, Ok, Err}
 use Rattle.avro_schema.specs.Node.{Node, FieldNode}
-use Rattle.avro_resolve.specs.Fault.{ResolutionFault}
-use Rattle.avro_resolve.specs.Resolve.{Resolved, inside, result_map, both, int_as, string_as, with_sourced, Sourced}
+use Rattle.avro_compare.specs.Fault.{ResolutionFault}
+use Rattle.avro_compare.specs.Resolve.{Resolved, inside, result_map, both, int_as, string_as, with_sourced, Sourced}
 
 -- P, where the result is a fault
 abbrev pub OnErr : {A : Type 0} → Result A ResolutionFault → Type 0 → Type 0

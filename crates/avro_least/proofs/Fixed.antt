@@ -3,7 +3,7 @@ use Rattle.std.proofs.Common.{◌≡◌, ℕ, ◌≤◌, true, List, Option, Som
 use Rattle.avro_schema.specs.Value.{size, depth}
 use Rattle.avro_schema.specs.Node.{Node, node_at}
 use Rattle.avro_schema.specs.WellFormed.{is_schema}
-use Rattle.avro_resolve.specs.Resolve.{Resolved}
+use Rattle.avro_compare.specs.Resolve.{Resolved}
 use Rattle.avro_least.specs.Tables.{Least, LeastTable, ErringTable, IsUnder, AtMost, IsLowForData, AreLow, ShowsData, ShowsError, least_datum, err_of}
 use Rattle.avro_least.proofs.Faults.{OnErr}
 use Rattle.avro_least.proofs.LeastData.{step_data}

@@ -6,10 +6,10 @@ use Rattle.avro_schema.specs.Value.{Value, Values, Entries, no_values, value, no
 use Rattle.avro_schema.specs.Node.{Node, FieldNode, node_at, branches_of, items_node, values_node, fields_of, symbols_of, field_ids}
 use Rattle.avro_schema.specs.Fits.{fits, each_fits, entries_fit, fields_fit, is_some_and, is_count, are_bytes, is_bytes_node}
 use Rattle.avro_schema.specs.WellFormed.{is_schema}
-use Rattle.avro_resolve.specs.Fault.{ResolutionFault, fault_here, no_match}
-use Rattle.avro_resolve.specs.Match.{is_match, match_within, first_match}
-use Rattle.avro_resolve.specs.Source.{reader_field, missing_field}
-use Rattle.avro_resolve.specs.Resolve.{Resolved, inside, result_map, matched, into_branch, through, int_as, bytes_as, string_as, enum_as, part_at, symbol_at, fields_at, branch_node, record_or_missing, resolve, resolve_items, resolve_entries, resolve_sources}
+use Rattle.avro_compare.specs.Fault.{ResolutionFault, fault_here, no_match}
+use Rattle.avro_compare.specs.Match.{is_match, match_within, first_match}
+use Rattle.avro_compare.specs.Source.{reader_field, missing_field}
+use Rattle.avro_compare.specs.Resolve.{Resolved, inside, result_map, matched, into_branch, through, int_as, bytes_as, string_as, enum_as, part_at, symbol_at, fields_at, branch_node, record_or_missing, resolve, resolve_items, resolve_entries, resolve_sources}
 use Rattle.avro_least.specs.Tables.{Least, LeastTable, ErringTable, AtMost, AreLow, err_of, err_inside, err_of_fields, err_of_field, best_of, all_of, around, together, one}
 use Rattle.avro_certificate.specs.Closed.{lacks_symbol}
 use Rattle.avro_certificate.proofs.public.Tests.{and_left, and_right}

@@ -8,13 +8,13 @@ use Rattle.avro_schema.specs.Seen.{node_of, texts_of}
 use Rattle.avro_schema.specs.declared.schema.EnumNode.{EnumNode}
 use Rattle.avro_schema.specs.declared.schema.NodeId.{NodeId}
 use Rattle.avro_schema.specs.declared.schema.Node.{Node as KeptNode}
-use Rattle.avro_resolve.specs.Match.{is_match}
-use Rattle.avro_resolve.specs.Pairs.{IsSymbol, aim_of}
-use Rattle.avro_resolve.specs.Planned.{AreInside}
-use Rattle.avro_resolve.specs.Resolve.{enum_or_default}
-use Rattle.avro_resolve.specs.declared.error.FaultKind.TheVariants.{NoMatch}
-use Rattle.avro_resolve.specs.declared.guided.Aim.TheVariants.{Fault, To}
-use Rattle.avro_resolve.specs.declared.comparison.Comparison.{Comparison}
+use Rattle.avro_compare.specs.Match.{is_match}
+use Rattle.avro_compare.specs.Pairs.{IsSymbol, aim_of}
+use Rattle.avro_compare.specs.Planned.{AreInside}
+use Rattle.avro_compare.specs.Resolve.{enum_or_default}
+use Rattle.avro_compare.specs.declared.error.FaultKind.TheVariants.{NoMatch}
+use Rattle.avro_compare.specs.declared.guided.Aim.TheVariants.{Fault, To}
+use Rattle.avro_compare.specs.declared.comparison.Comparison.{Comparison}
 use Rattle.avro_certificate.proofs.public.Symbols.{lacks_here}
 use Rattle.avro_least.specs.Asked.{Asked, asked, asked_inside}
 use Rattle.avro_least.specs.BuiltErrors.{IsLone, first_from, is_lacking}

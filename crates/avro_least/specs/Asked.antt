@@ -1,8 +1,8 @@
 -- What a pair of nodes asks for, once all names are compared.
 use Rattle.std.specs.Prelude.{◌≡◌, true, ℕ, suc, cond, List, [], ◌∷◌, Option, Some, None, slice_get, unwrap_or, option_map, map, is_some, is_none, Bool, ◌||◌, ◌&&◌, nat_lt, length, ◌/◌, ◌%◌, flat_map}
 use Rattle.avro_schema.specs.Node.{Node, FieldNode, node_at, field_ids}
-use Rattle.avro_resolve.specs.Match.{is_match, first_match}
-use Rattle.avro_resolve.specs.Source.{reader_field, missing_field}
+use Rattle.avro_compare.specs.Match.{is_match, first_match}
+use Rattle.avro_compare.specs.Source.{reader_field, missing_field}
 use Rattle.avro_certificate.specs.Closed.{Pair, lacks_symbol}
 use Rattle.avro_least.specs.Tables.{Least, LeastTable, ErringTable, one, around, together, lesser, best_of, all_of, pair_number, AreErrorsShown, erring_of, IsLowPair, no_parts}
 use Rattle.avro_least.specs.Reached.{is_key}

@@ -5,8 +5,8 @@ use Rattle.avro_schema.specs.Value.{Value, no_values, value, no_entries, entry, 
 use Rattle.avro_schema.specs.Node.{Node, node_at}
 use Rattle.avro_schema.specs.Fits.{fits}
 use Rattle.avro_schema.specs.WellFormed.{is_schema}
-use Rattle.avro_resolve.specs.Fault.{ResolutionFault}
-use Rattle.avro_resolve.specs.Resolve.{resolve}
+use Rattle.avro_compare.specs.Fault.{ResolutionFault}
+use Rattle.avro_compare.specs.Resolve.{resolve}
 use Rattle.avro_certificate.specs.Closed.{Pair}
 use Rattle.avro_least.specs.Asked.{Row, Asked, asked, asked_value, asked_children, err_of_row}
 use Rattle.avro_least.specs.inside.Built.{Builds}

@@ -1,7 +1,7 @@
 -- How contracts see what a pair asks for.
 use Rattle.std.specs.Prelude.{ℕ, suc, List, [], ◌∷◌, Option, Some, None, option_map, map, slice_get}
 use Rattle.avro_schema.specs.Seen.{ids_of}
-use Rattle.avro_resolve.specs.declared.guided.At.{At}
+use Rattle.avro_compare.specs.declared.guided.At.{At}
 use Rattle.avro_least.specs.Asked.{Row, Asked}
 use Rattle.avro_least.specs.declared.asking.FieldAsk.{FieldAsk}
 use Rattle.avro_least.specs.declared.asking.Ask.{Ask}

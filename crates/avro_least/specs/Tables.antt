@@ -3,10 +3,10 @@ use Rattle.std.specs.Prelude.{◌≡◌, ℕ, suc, ◌+◌, max, ◌≤◌, Bool
 use Rattle.avro_schema.specs.Value.{Value, size, depth}
 use Rattle.avro_schema.specs.Node.{Node, FieldNode, node_at, field_ids}
 use Rattle.avro_schema.specs.Fits.{fits}
-use Rattle.avro_resolve.specs.Match.{is_match, first_match}
-use Rattle.avro_resolve.specs.Source.{reader_field, missing_field}
-use Rattle.avro_resolve.specs.Fault.{ResolutionFault}
-use Rattle.avro_resolve.specs.Resolve.{resolve}
+use Rattle.avro_compare.specs.Match.{is_match, first_match}
+use Rattle.avro_compare.specs.Source.{reader_field, missing_field}
+use Rattle.avro_compare.specs.Fault.{ResolutionFault}
+use Rattle.avro_compare.specs.Resolve.{resolve}
 use Rattle.avro_certificate.specs.Closed.{Pair, lacks_symbol}
 
 -- the number of nodes of a datum, and its depth

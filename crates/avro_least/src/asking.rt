@@ -5,11 +5,11 @@ ghost use Rattle.std.specs.List.{list_any};
 ghost use Rattle.avro_schema.specs.Node.{Node as SeenNode, node_at, field_ids};
 ghost use Rattle.avro_schema.specs.Seen.{node_of, seen_fields};
 ghost use Rattle.avro_schema.specs.SeenSchema.{schema_nodes};
-ghost use Rattle.avro_resolve.specs.Planned.{AreInside, IsComparison};
+ghost use Rattle.avro_compare.specs.Planned.{AreInside, IsComparison};
 ghost use Rattle.avro_least.specs.Asked.{Asked, asked, asked_inside};
 ghost use Rattle.avro_least.specs.SeenAsk.{ask_of, rows_by, rows_of, theirs_at};
 
-use avro_resolve::{Aim, At, Comparison};
+use avro_compare::{Aim, At, Comparison};
 use avro_schema::{Field, Memory, Node, NodeId, Schema};
 use std::alloc::Global;
 

@@ -3,7 +3,7 @@
 ghost use Rattle.std.specs.Prelude.{◌+◌, ◌≤◌, ℕ, IfOk};
 ghost use Rattle.avro_schema.specs.Seen.{ids_of, value_of};
 ghost use Rattle.avro_schema.specs.SeenSchema.{schema_nodes};
-ghost use Rattle.avro_resolve.specs.Planned.{AreComparisons};
+ghost use Rattle.avro_compare.specs.Planned.{AreComparisons};
 ghost use Rattle.avro_least.specs.Asked.{Asked};
 ghost use Rattle.avro_least.specs.BuiltErrors.{BuildsAsked, BuildsError, BuildsRow};
 ghost use Rattle.avro_least.specs.SeenAsk.{ask_of, row_of, rows_of};

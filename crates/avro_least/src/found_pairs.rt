@@ -4,7 +4,7 @@ ghost use Rattle.std.specs.Prelude.{◌≡◌, List, IfOk, IfSome, is_none};
 ghost use Rattle.avro_schema.specs.Node.{Node as SeenNode, node_at};
 ghost use Rattle.avro_schema.specs.Seen.{value_of};
 ghost use Rattle.avro_schema.specs.SeenSchema.{schema_nodes};
-ghost use Rattle.avro_resolve.specs.Planned.{AreComparisons, IsComparison};
+ghost use Rattle.avro_compare.specs.Planned.{AreComparisons, IsComparison};
 ghost use Rattle.avro_least.specs.Asked.{asked};
 ghost use Rattle.avro_least.specs.BuiltErrors.{BuildsLone, first_from};
 ghost use Rattle.avro_least.specs.SeenAsk.{ask_of};
@@ -13,7 +13,7 @@ use crate::asking::{Ask, ask_of_pair, node_or};
 use crate::made::{one_byte, symbol};
 use crate::pair_tables::Tables;
 use crate::reaching::{Reached, number};
-use avro_resolve::{Comparison, Names, compare};
+use avro_compare::{Comparison, Names, compare};
 use avro_schema::{Datum, Memory, Node, NodeId};
 use std::alloc::Global;
 

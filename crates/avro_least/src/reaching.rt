@@ -4,7 +4,7 @@ ghost use Rattle.std.specs.Prelude.{◌≡◌, ◌||◌, ◌<◌, ◌*◌, ◌/�
 ghost use Rattle.std.specs.List.{list_all};
 ghost use Rattle.indexmap.specs.IndexSet.{keys};
 ghost use Rattle.avro_schema.specs.SeenSchema.{schema_nodes};
-ghost use Rattle.avro_resolve.specs.Planned.{AreComparisons};
+ghost use Rattle.avro_compare.specs.Planned.{AreComparisons};
 ghost use Rattle.avro_least.specs.Tables.{pair_number};
 ghost use Rattle.avro_least.specs.SeenLeast.{table_of};
 ghost use Rattle.avro_least.specs.Reached.{is_key, AreFollowed, IsSteppedTo};
@@ -14,7 +14,7 @@ ghost use Rattle.avro_least.specs.SeenAsk.{ask_of, asks_of};
 use crate::asking::{Ask, ask_of_pair};
 use crate::kept::Least;
 use crate::least::{count, entry};
-use avro_resolve::{Comparison, Names, compare};
+use avro_compare::{Comparison, Names, compare};
 use avro_schema::{Memory, NodeId, Schema};
 use indexmap::IndexSet;
 use std::alloc::Global;

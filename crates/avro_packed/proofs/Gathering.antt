@@ -40,7 +40,7 @@ block_of_entries out at g es are =
     ap (λ b. branch_bytes b ++ plain_blocks g.count (plain_entries (entries_from es))) are.0
     ∙ ap (λ n. branch_bytes at ++ plain_blocks n (plain_entries (entries_from es))) (are.1 ∙ sym (entries_count-length es))
 
--- more behind what was moved
+-- more after what was moved
 pub moved_behind : {T E : Type 0} (r : Result T E) (old mid new front more bytes : List ℕ) → mid ≡ old ++ front → bytes ≡ front ++ more
     → new ≡ (if is_ok r then mid ++ more else mid) → OnOk r (new ≡ old ++ bytes)
 moved_behind (Err e) old mid new front more bytes is splits added = tt
@@ -58,7 +58,7 @@ blocks_some : (count : ℕ) (bytes : List ℕ) → (count ≡ 0 → ⊥) → pla
 blocks_some zero bytes some = absurd (some refl)
 blocks_some (suc count) bytes some = refl
 
--- a number in the output, and behind it the items and the end in a room of their own
+-- a number in the output, and after it the items and the end in a room of their own
 pub block_apart : (out old front k items all bytes : List ℕ) (count start end : ℕ) → out ≡ (old ++ front) ++ k → start ≡ length old → end ≡ length out
     → k ≡ number_bytes (pos count) → (count ≡ 0 → ⊥) → all ≡ items ++ 0 ∷ [] → items ≡ bytes
     → (x : List ℕ) × StandsAt out start end x × (front ++ plain_blocks count bytes ≡ x ++ all)

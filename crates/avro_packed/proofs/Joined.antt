@@ -1,4 +1,4 @@
--- Pieces one behind another, and what they are the plain encoding of.
+-- Pieces one after another, and what they are the plain encoding of.
 use Rattle.std.proofs.Common.{◌≡◌, ℕ, suc, ◌+◌, List, [], ◌∷◌, ◌++◌, length, refl, sym, ap, ◌∙◌, append_assoc, arith}
 use Rattle.std.specs.Prelude.{Result, Ok, Err, OnOk}
 use Rattle.std.specs.List.{AllZip}
@@ -14,7 +14,7 @@ use Rattle.avro_packed.specs.declared.pieces.Pieces.TheViews as view
 use Rattle.avro_packed.specs.declared.pieces.Pieces.TheVariants as variants
 use Rattle.avro_packed.specs.declared.pieces.Pieces.TheFolds.{fold-roll-Pieces}
 
--- one more behind the others
+-- one more after the others
 pub bytes_with_one : (ps : List Pieces) (p : Pieces) → bytes_of_all (ps ++ p ∷ []) ≡ bytes_of_all ps ++ bytes_of p
 bytes_with_one [] p = append-nil (bytes_of p)
 bytes_with_one (q ∷ ps) p =

@@ -7,7 +7,7 @@ use Rattle.avro_binary.specs.Encoding.{plain_values, plain_entries}
 use Rattle.avro_packed.specs.declared.gathered.Gathered.{Gathered}
 use Rattle.avro_packed.specs.declared.written.Written.{Written}
 
--- an output has more behind what it had
+-- an output has more after what it had
 pub record Grows (before after : List ℕ) : Type 0 where
   pub more : List ℕ
   pub grown : after ≡ before ++ more
@@ -25,7 +25,7 @@ abbrev pub Holds : List ℕ → Written → List ℕ → Type 0
 Holds out (Written.Range start end) bytes = StandsAt out start end bytes
 Holds out (Written.Apart start end more) bytes = (front : List ℕ) × StandsAt out start end front × (bytes ≡ front ++ more.items)
 
--- the index of the branch that a value goes into, where there is one
+-- the index of the branch that a value goes into, if there is one
 abbrev pub branch_bytes : Option ℕ → List ℕ
 branch_bytes None = []
 branch_bytes (Some k) = number_bytes (pos k)

@@ -24,7 +24,7 @@ bytes_step (Pieces-F.Block count parts) = number_bytes count ++ concat parts.ite
 abbrev pub bytes_of : Pieces → List ℕ
 bytes_of = fold-Pieces (List ℕ) bytes_step
 
--- those of pieces one behind another
+-- those of pieces one after another
 abbrev pub bytes_of_all : List Pieces → List ℕ
 bytes_of_all ps = concat (map bytes_of ps)
 

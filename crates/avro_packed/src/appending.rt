@@ -20,8 +20,9 @@ use std::marker::Model;
 /// kept for later.
 #[derive(Drop)]
 pub struct Appending {
-    out: Vec<u8>,
-    spares: Vec<Vec<u8>>,
+    pub(crate) out: Vec<u8>,
+    pub(crate) spares: Vec<Vec<u8>>,
+    pub(crate) slots: Vec<Vec<Option<Written>>>,
 }
 
 impl Model for Appending {
@@ -40,6 +41,7 @@ impl Appending {
         Appending {
             out: Vec::new(alloc),
             spares: Vec::new(alloc),
+            slots: Vec::new(alloc),
         }
     }
 
@@ -50,7 +52,7 @@ impl Appending {
         self.out.clear();
     }
 
-    /// Appends what was written behind other bytes.
+    /// Appends to other bytes what was written.
     ///
     /// # Errors
     ///
@@ -68,9 +70,9 @@ impl Appending {
         give_back(&mut self.spares, written);
     }
 
-    /// Writes the index of a branch, where there is one, and answers where.
+    /// Writes the index of a branch, if there is one, and answers where.
     #[inline(always)]
-    fn begin(&mut self, branch: Option<u32>) -> Result<usize, AllocError>
+    pub(crate) fn begin(&mut self, branch: Option<u32>) -> Result<usize, AllocError>
         ensures begun { OnOk result (self.new ≡ self.old ++ branch_bytes branch) }
         ensures start { IfOk result (λ start. start ≡ length self.old) }
     {
@@ -84,7 +86,7 @@ impl Appending {
 
     /// What was written from an offset on.
     #[inline(always)]
-    fn since(&self, start: usize) -> Written
+    pub(crate) fn since(&self, start: usize) -> Written
         ensures { (before bytes : List ℕ) → self.now ≡ before ++ bytes → start ≡ length before → Holds self.now result bytes }
     {
         Written::Range(start, self.out.len())
@@ -92,7 +94,7 @@ impl Appending {
 
     /// Writes a number.
     #[inline(always)]
-    fn number(&mut self, branch: Option<u32>, value: i64) -> Result<Written, AllocError>
+    pub(crate) fn number(&mut self, branch: Option<u32>, value: i64) -> Result<Written, AllocError>
         ensures kept { OnOk result (Grows self.old self.new) }
         ensures holds { IfOk result (λ out. Holds self.new out (branch_bytes branch ++ number_bytes value)) }
     {
@@ -115,7 +117,7 @@ impl Appending {
 
     /// No items or entries.
     #[inline(always)]
-    fn gather(&self, branch: Option<u32>) -> Gathered
+    pub(crate) fn gather(&self, branch: Option<u32>) -> Gathered
         ensures branch { result.branch ≡ branch }
         ensures count { result.count ≡ 0 }
         ensures written { Holds self.now result.written [] }
@@ -128,8 +130,8 @@ impl Appending {
         }
     }
 
-    /// The one block of items or entries, where there are some, and the end.
-    fn block(&mut self, alloc: Global, gathered: Gathered) -> Result<Written, AllocError>
+    /// The one block of items or entries, if there are any, and the end.
+    pub(crate) fn block(&mut self, alloc: Global, gathered: Gathered) -> Result<Written, AllocError>
         ensures kept { OnOk result (Grows self.old self.new) }
         ensures holds { (bytes : List ℕ) → Holds self.old gathered.written bytes
             → IfOk result (λ out. Holds self.new out (branch_bytes gathered.branch ++ plain_blocks gathered.count bytes)) }

@@ -27,7 +27,7 @@ pub fn append(pieces: &Pieces, out: &mut Vec<u8>) -> Result<(), AllocError>
     }
 }
 
-/// Appends the bytes of pieces; where memory runs out, a part of them.
+/// Appends the bytes of pieces; if memory runs out, a part of them.
 #[cycle(flattening)]
 fn append_piece(pieces: &Pieces, out: &mut Vec<u8>) -> Result<(), AllocError>
     ensures appended { OnOk result (out.new.items ≡ out.old.items ++ bytes_of pieces.now) }
@@ -52,7 +52,7 @@ fn append_piece(pieces: &Pieces, out: &mut Vec<u8>) -> Result<(), AllocError>
     }
 }
 
-/// Appends the bytes of pieces one behind another.
+/// Appends the bytes of pieces one after another.
 #[cycle(flattening)]
 fn append_each(parts: &[Pieces], out: &mut Vec<u8>) -> Result<(), AllocError>
     ensures appended { OnOk result (out.new.items ≡ out.old.items ++ bytes_of_all parts.now) }

@@ -1,7 +1,7 @@
 use crate::written::Written;
 use std::alloc::AllocError;
 
-/// Items or entries one behind another, how many they are, and the branch that they go into, where there is one.
+/// Items or entries one after another, how many they are, and the branch that they go into, if there is one.
 #[derive(Debug, Drop)]
 pub struct Gathered {
     pub(crate) branch: Option<u32>,
@@ -11,6 +11,20 @@ pub struct Gathered {
 
 impl Gathered {
     ghost use Rattle.std.specs.Prelude.{◌≡◌, ◌+◌, OnOk};
+
+    /// The same, that go into a branch.
+    #[inline(always)]
+    pub(crate) fn within(self, branch: Option<u32>) -> Gathered
+        ensures branch { result.branch ≡ branch }
+        ensures count { result.count ≡ self.count }
+        ensures written { result.written ≡ self.written }
+    {
+        Gathered {
+            branch,
+            count: self.count,
+            written: self.written,
+        }
+    }
 
     /// Counts one more. A count that no block can have is refused.
     #[inline(always)]

@@ -1,6 +1,6 @@
 //! Moving what was written.
 
-ghost use Rattle.std.specs.Prelude.{◌≡◌, ◌++◌, List, ℕ, IfOk, OnOk};
+ghost use Rattle.std.specs.Prelude.{◌≡◌, ◌++◌, [], List, ℕ, true, IfOk, OnOk};
 ghost use Rattle.avro_binary.specs.Encoding.{plain_bytes};
 ghost use Rattle.avro_packed.specs.Appended.{Holds, StandsAt};
 
@@ -9,7 +9,7 @@ use crate::spares::{give, room};
 use crate::written::Written;
 use std::alloc::{AllocError, Global};
 
-/// Appends the bytes of an output from one offset to another behind others.
+/// Appends the bytes of an output between two offsets to other bytes.
 #[inline(always)]
 fn append_range(out: &[u8], start: usize, end: usize, to: &mut Vec<u8>) -> Result<(), AllocError>
     ensures { (bytes : List ℕ) → StandsAt out.now start end bytes → OnOk result (to.new.items ≡ to.old.items ++ bytes) }
@@ -22,7 +22,7 @@ fn append_range(out: &[u8], start: usize, end: usize, to: &mut Vec<u8>) -> Resul
     to.extend_from_slice(bytes)
 }
 
-/// Appends what was written behind other bytes.
+/// Appends to other bytes what was written.
 pub(crate) fn append_written(
     out: &[u8],
     written: &Written,
@@ -76,7 +76,18 @@ pub(crate) fn in_room(
     }
 }
 
-/// Puts what was written behind what was written before.
+/// Whether these are no bytes, where none is apart.
+#[inline(always)]
+fn is_nothing(written: &Written) -> bool
+    ensures { (out bytes : List ℕ) → result ≡ true → Holds out written.now bytes → bytes ≡ [] }
+{
+    match written {
+        Written::Range(start, end) => *start == *end,
+        Written::Apart(_, _, _) => false,
+    }
+}
+
+/// Puts what was written after what was written before.
 #[inline(always)]
 pub(crate) fn join(
     alloc: Global,
@@ -87,6 +98,10 @@ pub(crate) fn join(
 ) -> Result<(), AllocError>
     ensures { (a b : List ℕ) → Holds out.now first.old a → Holds out.now second b → OnOk result (Holds out.now first.new (a ++ b)) }
 {
+    if is_nothing(first) {
+        *first = second;
+        return Ok(());
+    }
     match first {
         Written::Range(start, end) => match second {
             Written::Range(from, to) => {
@@ -122,7 +137,7 @@ pub(crate) fn join(
     }
 }
 
-/// Puts a key behind what was written before.
+/// Puts a key after what was written before.
 #[inline(always)]
 pub(crate) fn join_key(
     alloc: Global,

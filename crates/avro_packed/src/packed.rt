@@ -158,7 +158,7 @@ impl Parts {
         }
     }
 
-    /// Adds pieces behind those before.
+    /// Adds pieces after the earlier ones.
     #[tactic(auto, using(crate::proofs::Joined::bytes_with_one))]
     fn push(&mut self, piece: Pieces) -> Result<(), AllocError>
         ensures count { self.new.count ≡ self.old.count }
@@ -174,7 +174,7 @@ impl Parts {
     }
 }
 
-/// The one block of items or entries, where there are some, and the end.
+/// The one block of items or entries, if there are any, and the end.
 fn block(parts: Parts) -> Result<Pieces, AllocError>
     ensures { IfOk result (λ out. bytes_of out ≡ plain_blocks parts.count (bytes_of_all parts.pieces.items)) }
 {
@@ -195,7 +195,7 @@ fn measured(alloc: Global, content: &[u8]) -> Result<Pieces, AllocError>
     pieces_of(alloc, &number[..len], content)
 }
 
-/// Bytes, and others behind them.
+/// Bytes, and others after them.
 fn pieces_of(alloc: Global, first: &[u8], second: &[u8]) -> Result<Pieces, AllocError>
     ensures { IfOk result (λ out. bytes_of out ≡ first.now ++ second.now) }
 {
@@ -207,7 +207,7 @@ fn pieces_of(alloc: Global, first: &[u8], second: &[u8]) -> Result<Pieces, Alloc
     Ok(Pieces::Long(bytes))
 }
 
-/// The index of a branch and the bytes of its value behind it, where these are few.
+/// The index of a branch and the bytes of its value after it, if these are few.
 fn behind_branch(index: u32, value: &Pieces) -> Option<Short>
     ensures { IfSome result (λ short. short ≡ number_bytes (pos index) ++ bytes_of value.now) }
 {

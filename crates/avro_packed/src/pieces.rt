@@ -15,7 +15,7 @@ pub enum Pieces {
     Long(Vec<u8>),
     /// The index of a union's branch, and its value.
     Branch(u32, Box<Pieces>),
-    /// Pieces one behind another.
+    /// Pieces one after another.
     Whole(Vec<Pieces>),
     /// A block of this number of items, and the 0 that ends the blocks.
     Block(i64, Vec<Pieces>),

@@ -1,6 +1,6 @@
 use std::marker::Model;
 
-/// Up to 23 bytes, which stand where the value stands: no room is made for them.
+/// Up to 23 bytes, kept in the value itself: no memory is taken for them.
 #[derive(Debug, Drop)]
 pub struct Short {
     len: u8,
@@ -20,7 +20,7 @@ impl Model for Short {
 impl Short {
     ghost use Rattle.std.specs.Prelude.{◌≡◌, ◌++◌, ◌<◌, [], ◌∷◌, length, IfSome, T};
 
-    /// The bytes of `first` and those of `second` behind them, or nothing where they are over 23.
+    /// The bytes of `first` and those of `second` after them, or nothing if they are over 23.
     pub fn of(first: &[u8], second: &[u8]) -> Option<Short>
         ensures { IfSome result (λ short. short ≡ first.now ++ second.now) }
     {

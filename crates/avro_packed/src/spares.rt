@@ -1,7 +1,8 @@
-//! Rooms that are kept for later, so that memory is not asked for each array and map.
+//! Buffers that are kept for later, so that an array or a map need not take memory of its own.
 
 ghost use Rattle.std.specs.Prelude.{◌≡◌, []};
 
+use crate::written::Written;
 use std::alloc::Global;
 
 /// How many rooms are kept at most, and how many bytes each has room for at most.
@@ -23,10 +24,43 @@ pub(crate) fn room(alloc: Global, spares: &mut Vec<Vec<u8>>) -> Vec<u8>
     }
 }
 
-/// Keeps a room for later, where few are kept and it is small. Where memory runs out it is let go.
+/// Keeps a room for later, if few are kept and it is small. If memory runs out it is dropped.
 pub(crate) fn give(spares: &mut Vec<Vec<u8>>, bytes: Vec<u8>) {
     if bytes.capacity() <= BYTES && spares.len() < ROOMS {
         match spares.push(bytes) {
+            Ok(()) => {}
+            Err(_) => {}
+        }
+    }
+}
+
+/// How many lists of slots are kept at most, and how many slots each has room for at most.
+const LISTS: usize = 16;
+
+const SLOTS: usize = 256;
+
+/// An empty list of slots.
+#[inline(always)]
+pub(crate) fn slots(alloc: Global, kept: &mut Vec<Vec<Option<Written>>>) -> Vec<Option<Written>>
+    ensures { result.items ≡ [] }
+{
+    match kept.pop() {
+        Some(slots) => {
+            let mut slots = slots;
+            slots.clear();
+            slots
+        }
+        None => Vec::new(alloc),
+    }
+}
+
+/// Keeps a list of slots for later, where few are kept and it is small. Where memory runs out it is let go.
+#[inline(always)]
+pub(crate) fn give_slots(kept: &mut Vec<Vec<Option<Written>>>, slots: Vec<Option<Written>>) {
+    if slots.capacity() <= SLOTS && kept.len() < LISTS {
+        let mut slots = slots;
+        slots.clear();
+        match kept.push(slots) {
             Ok(()) => {}
             Err(_) => {}
         }

@@ -3,6 +3,6 @@
 pub enum Written {
     /// In the output, from one offset to another.
     Range(usize, usize),
-    /// In the output, and behind these in a room of their own.
+    /// In the output, and after these in a room of their own.
     Apart(usize, usize, Vec<u8>),
 }

@@ -1,7 +1,7 @@
 -- Items of an array that are resolved as they are read.
 use Rattle.std.proofs.Common.{◌≡◌, ℕ, suc, ◌+◌, ◌-◌, ◌≤◌, ◌^◌, List, [], ◌∷◌, ◌++◌, length, Option, Result, Ok, Err, refl, sym, ap, ◌∙◌, subst, arith}
-use Rattle.std.specs.Prelude.{IfOk, min}
-use Rattle.std.specs.declared.alloc.AllocError.{AllocError}
+use Rattle.std.specs.Prelude.{min}
+use Rattle.std.specs.Global.{Box}
 use Rattle.std.proofs.lemmas.List.{append-nil, append_assoc}
 use Rattle.avro_schema.specs.Value.{Value, Values, value, size, values_size}
 use Rattle.avro_schema.specs.Node.{Node, node_at, items_node}
@@ -9,16 +9,18 @@ use Rattle.avro_schema.specs.Seen.{values_from}
 use Rattle.avro_schema.specs.declared.schema.NodeId.{NodeId}
 use Rattle.avro_schema.proofs.public.Parts.{size-positive}
 use Rattle.avro_resolve.specs.Ends.{turned, values_before}
-use Rattle.avro_resolve.specs.Fault.{ResolutionFault, fault_in}
+use Rattle.avro_compare.specs.Fault.{ResolutionFault, fault_in}
 use Rattle.avro_resolve.specs.inside.Guided.{MadeAs, StandsAs, IsSmall, ItemsGood, ItemsStandAs}
-use Rattle.avro_resolve.specs.Pairs.{wrapped, item_id}
-use Rattle.avro_resolve.specs.Resolve.{Resolved, resolve, resolve_items, both, inside, result_map, part_at}
-use Rattle.avro_resolve.specs.declared.error.Fault.{Fault}
-use Rattle.avro_resolve.specs.declared.guided.At.{At}
-use Rattle.avro_resolve.specs.declared.guided.At.TheVariants.{Ignored, Pair}
+use Rattle.avro_resolve.specs.IntoBranch.{in_branch}
+use Rattle.avro_compare.specs.Pairs.{wrapped, item_id}
+use Rattle.avro_compare.specs.Resolve.{Resolved, resolve, resolve_items, both, inside, result_map, part_at}
+use Rattle.avro_compare.specs.declared.error.Fault.{Fault}
+use Rattle.avro_compare.specs.declared.guided.At.{At}
+use Rattle.avro_compare.specs.declared.guided.At.TheVariants.{Ignored, Pair}
 use Rattle.avro_resolve.specs.declared.guided.Made.{Made}
 use Rattle.avro_resolve.specs.declared.guided.Run.{Run}
-use Rattle.avro_resolve.proofs.Guiding.{as_fault, good_made, smaller, wrapped_fault, one_longer, so_far_more, so_far_fails, so_far_whole}
+use Rattle.avro_compare.proofs.public.Lists.{one_longer}
+use Rattle.avro_resolve.proofs.Guiding.{as_fault, good_made, made_in, smaller, wrapped_fault, so_far_more, so_far_fails, so_far_whole}
 use Rattle.avro_resolve.proofs.InOrder.{values_before-none, values_before-more}
 
 -- ---- Sizes
@@ -86,12 +88,12 @@ module _ {I : Type 0} (S : I → List Value → Type 0) (writer reader : List No
 -- ---- Items of a run
 
 module _ {I O : Type 0} (S : I → List Value → Type 0) (SO : O → Value → Type 0) (writer reader nodes : List Node) (id : ℕ) (vs : List Value) (v : Value) where
-  pub good_item : (at : At) (old new : I) (count next : ℕ) (branch : Option ℕ) (a b : NodeId) (out : O) → ((us : List Value) (u : Value) → S old us → SO out u → S new (us ++ u ∷ []))
+  pub good_item : (SN : I → List Value → Type 0) (at : At) (old new : I) (count next : ℕ) (branch : Option ℕ) (a b : NodeId) (out : O) → ((us : List Value) (u : Value) → S old us → SO out u → SN new (us ++ u ∷ []))
       → next ≡ min (count + 1) (2 ^ 64 - 1)
       → ItemsStandAs S writer reader nodes id at (Run.Good old count branch a b) vs → StandsAs SO writer reader nodes (node_at nodes id) (Pair a b) (Made.Good out) v
-      → ItemsStandAs S writer reader nodes id at (Run.Good new next branch a b) (vs ++ v ∷ [])
-  good_item Ignored old new count next branch a b out law up h stands = absurd h
-  good_item (Pair w r) old new count next branch a b out law up h stands = λ are is small.
+      → ItemsStandAs SN writer reader nodes id at (Run.Good new next branch a b) (vs ++ v ∷ [])
+  good_item SN Ignored old new count next branch a b out law up h stands = absurd h
+  good_item SN (Pair w r) old new count next branch a b out law up h stands = λ are is small.
       let wn = node_at writer w.0 in
       let rn = node_at reader r.0 in
       let good = h are is (smaller (values_size (values_from vs)) (values_size (values_from (vs ++ v ∷ []))) (size_front vs (v ∷ [])) small) in
@@ -109,7 +111,7 @@ module _ {I O : Type 0} (S : I → List Value → Type 0) (SO : O → Value → 
         stands = law good.made made.0 good.stands made.2;
       }
 
-  pub faulty_item : (at : At) (old : I) (count : ℕ) (branch : Option ℕ) (a b : NodeId) (fault outer : Fault) → turned outer ≡ fault_in count (turned fault)
+  pub faulty_item : (at : At) (old : I) (count : ℕ) (branch : Option ℕ) (a b : NodeId) (fault outer : Box Fault) → turned outer.value ≡ fault_in count (turned fault.value)
       → ItemsStandAs S writer reader nodes id at (Run.Good old count branch a b) vs → StandsAs SO writer reader nodes (node_at nodes id) (Pair a b) (Made.Faulty fault) v
       → ItemsStandAs S writer reader nodes id at (Run.Faulty outer) (vs ++ v ∷ [])
   faulty_item Ignored old count branch a b fault outer step h stands = absurd h
@@ -119,7 +121,7 @@ module _ {I O : Type 0} (S : I → List Value → Type 0) (SO : O → Value → 
       let small = smaller (values_size (values_from (vs ++ v ∷ []))) (values_size (values_from ((vs ++ v ∷ []) ++ more))) (size_front (vs ++ v ∷ []) more) few in
       let good = h are is (smaller (values_size (values_from vs)) (values_size (values_from (vs ++ v ∷ []))) (size_front vs (v ∷ [])) small) in
       let bad = stands are (node_there S writer reader wn rn old count branch a b vs good nodes id are is) (smaller (size v) (values_size (values_from (vs ++ v ∷ []))) (size_item vs v []) small) in
-      array_fails S writer reader wn rn old count branch a b vs good v (turned fault) bad more ∙ ap as_fault (sym step)
+      array_fails S writer reader wn rn old count branch a b vs good v (turned fault.value) bad more ∙ ap as_fault (sym step)
 
   pub no_item : (at : At) (old : I) (count : ℕ) (branch : Option ℕ) (a b : NodeId)
       → ItemsStandAs S writer reader nodes id at (Run.Good old count branch a b) vs → StandsAs SO writer reader nodes (node_at nodes id) (Pair a b) Made.Nothing v
@@ -130,31 +132,29 @@ module _ {I O : Type 0} (S : I → List Value → Type 0) (SO : O → Value → 
       absurd (stands are (node_there S writer reader (node_at writer w.0) (node_at reader r.0) old count branch a b vs good nodes id are is)
       (smaller (size v) (values_size (values_from (vs ++ v ∷ []))) (size_item vs v []) small))
 
-  pub item_after_fault : (at : At) (fault : Fault) → ItemsStandAs S writer reader nodes id at (Run.Faulty fault) vs → ItemsStandAs S writer reader nodes id at (Run.Faulty fault) (vs ++ v ∷ [])
+  pub item_after_fault : (at : At) (fault : Box Fault) → ItemsStandAs S writer reader nodes id at (Run.Faulty fault) vs → ItemsStandAs S writer reader nodes id at (Run.Faulty fault) (vs ++ v ∷ [])
   item_after_fault Ignored fault h = absurd h
   item_after_fault (Pair w r) fault h = λ are is more.
-      subst (λ (xs : List Value). IsSmall (values_size (values_from xs)) → resolve writer reader (node_at writer w.0) (node_at reader r.0) (Value.array (values_from xs)) ≡ Err (turned fault)) (sym (append_assoc vs (v ∷ []) more))
+      subst (λ (xs : List Value). IsSmall (values_size (values_from xs)) → resolve writer reader (node_at writer w.0) (node_at reader r.0) (Value.array (values_from xs)) ≡ Err (turned fault.value)) (sym (append_assoc vs (v ∷ []) more))
       (h are is (v ∷ more))
 
 -- ---- Arrays
 
 module _ {I O : Type 0} (S : I → List Value → Type 0) (SO : O → Value → Type 0) (writer reader nodes : List Node) (id : ℕ) (vs : List Value) where
-  pub good_array : (at : At) (kept : I) (count : ℕ) (branch : Option ℕ) (a b : NodeId) (out : O) (result : Result (Made O) AllocError)
-      → ((us : List Value) → S kept us → SO out (Value.array (values_from us)))
-      → ((u : Value) → SO out u → IfOk result (λ made. MadeAs SO made (wrapped branch (Ok u))))
-      → ItemsStandAs S writer reader nodes id at (Run.Good kept count branch a b) vs → IfOk result (λ made. StandsAs SO writer reader nodes (Node.array id) at made (Value.array (values_from vs)))
-  good_array at kept count branch a b out (Err e) law wrap h = tt
-  good_array Ignored kept count branch a b out (Ok made) law wrap h = absurd h
-  good_array (Pair w r) kept count branch a b out (Ok made) law wrap h = λ are is small.
+  pub good_array : (at : At) (kept : I) (count : ℕ) (branch : Option ℕ) (a b : NodeId) (out : O)
+      → ((us : List Value) → S kept us → SO out (in_branch branch (Value.array (values_from us))))
+      → ItemsStandAs S writer reader nodes id at (Run.Good kept count branch a b) vs → StandsAs SO writer reader nodes (Node.array id) at (Made.Good out) (Value.array (values_from vs))
+  good_array Ignored kept count branch a b out law h = absurd h
+  good_array (Pair w r) kept count branch a b out law h = λ are is small.
       let less : values_size (values_from vs) ≤ suc (values_size (values_from vs)) = omega arith in
       let good = h are is (smaller (values_size (values_from vs)) (suc (values_size (values_from vs))) less small) in
-      subst (MadeAs SO made) (sym (array_whole S writer reader (node_at writer w.0) (node_at reader r.0) kept count branch a b vs good))
-      (wrap (Value.array (values_from good.made)) (law good.made good.stands))
+      subst (MadeAs SO (Made.Good out)) (sym (array_whole S writer reader (node_at writer w.0) (node_at reader r.0) kept count branch a b vs good))
+      (made_in SO branch out (Value.array (values_from good.made)) (law good.made good.stands))
 
-  pub faulty_array : (at : At) (fault : Fault) → ItemsStandAs S writer reader nodes id at (Run.Faulty fault) vs
+  pub faulty_array : (at : At) (fault : Box Fault) → ItemsStandAs S writer reader nodes id at (Run.Faulty fault) vs
       → StandsAs SO writer reader nodes (Node.array id) at (Made.Faulty fault) (Value.array (values_from vs))
   faulty_array Ignored fault h = absurd h
   faulty_array (Pair w r) fault h = λ are is small.
       let less : values_size (values_from vs) ≤ suc (values_size (values_from vs)) = omega arith in
-      subst (λ (xs : List Value). IsSmall (values_size (values_from xs)) → resolve writer reader (node_at writer w.0) (node_at reader r.0) (Value.array (values_from xs)) ≡ Err (turned fault)) (append-nil vs) (h are is [])
+      subst (λ (xs : List Value). IsSmall (values_size (values_from xs)) → resolve writer reader (node_at writer w.0) (node_at reader r.0) (Value.array (values_from xs)) ≡ Err (turned fault.value)) (append-nil vs) (h are is [])
       (smaller (values_size (values_from vs)) (suc (values_size (values_from vs))) less small)

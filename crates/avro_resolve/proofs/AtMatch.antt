@@ -10,9 +10,9 @@ use Rattle.avro_schema.specs.Value.{Value}
 use Rattle.avro_schema.specs.Node.{Node, FieldNode, items_node, values_node, fields_of, fixed_length}
 use Rattle.avro_schema.specs.Fits.{is_int, is_long, is_count, are_bytes, is_text, is_some_and, fits}
 use Rattle.avro_schema.specs.WellFormed.{branch_kind, meets_its_rules, is_enum}
-use Rattle.avro_resolve.specs.Match.{Matches, nulls, booleans, ints, longs, int_to_long, bytes_alike, strings, string_to_bytes, bytes_to_string, arrays, maps, records, fixeds}
-use Rattle.avro_resolve.specs.Fault.{fault_here, not_utf8}
-use Rattle.avro_resolve.specs.Resolve.{int_as, bytes_as, string_as, enum_as, enum_or_default, fields_at}
+use Rattle.avro_compare.specs.Match.{Matches, nulls, booleans, ints, longs, int_to_long, bytes_alike, strings, string_to_bytes, bytes_to_string, arrays, maps, records, fixeds}
+use Rattle.avro_compare.specs.Fault.{fault_here, not_utf8}
+use Rattle.avro_compare.specs.Resolve.{int_as, bytes_as, string_as, enum_as, enum_or_default, fields_at}
 use Rattle.avro_resolve.proofs.TextBytes.{below-from_is_utf8}
 use Rattle.avro_resolve.proofs.Outcomes.{IfOk-cond}
 

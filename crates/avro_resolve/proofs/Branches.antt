@@ -7,13 +7,13 @@ use Rattle.avro_schema.specs.Value.{Value}
 use Rattle.avro_schema.specs.Node.{Node, node_at}
 use Rattle.avro_schema.specs.Fits.{fits, is_some_and}
 use Rattle.avro_schema.specs.WellFormed.{branch_kind, is_union, meets_its_rules}
-use Rattle.avro_resolve.specs.Match.{Matches, is_match, first_match, first_match_from}
-use Rattle.avro_resolve.specs.Fault.{fault_here, no_match}
-use Rattle.avro_resolve.specs.Resolve.{Resolved, matched, branch_node, into_branch, through}
+use Rattle.avro_compare.specs.Match.{Matches, is_match, first_match, first_match_from}
+use Rattle.avro_compare.specs.Fault.{fault_here, no_match}
+use Rattle.avro_compare.specs.Resolve.{Resolved, matched, branch_node, into_branch, through}
 use Rattle.avro_resolve.proofs.Outcomes.{IfOk-cond, IfOk-result_map}
-use Rattle.avro_resolve.proofs.MatchTest.{match_within-sound}
+use Rattle.avro_compare.proofs.public.MatchTest.{match_within-sound}
 use Rattle.avro_resolve.proofs.AtMatch.{FitsAt, IsPlain}
-use Rattle.avro_resolve.proofs.Rules.{MeetRules}
+use Rattle.avro_compare.proofs.public.Rules.{MeetRules}
 
 -- the first match stands among the branches
 first_match-within : (index : ℕ) (writer reader : List Node) (w : Node) (bs : List ℕ) (k : ℕ) → first_match_from index writer reader w bs ≡ Some k → k < index + length bs

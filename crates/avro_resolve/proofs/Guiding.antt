@@ -1,20 +1,23 @@
 -- What is resolved as it is read.
 use Rattle.std.proofs.Common.{◌≡◌, ℕ, suc, ◌≤◌, List, [], ◌∷◌, ◌++◌, length, Option, Some, None, Result, Ok, Err, refl, sym, ap, ◌∙◌, subst, arith}
 use Rattle.std.specs.Prelude.{IfOk, slice_get, unwrap_or}
+use Rattle.std.specs.Global.{Box}
 use Rattle.std.specs.declared.alloc.AllocError.{AllocError}
 use Rattle.std.proofs.lemmas.List.{append-nil, append_assoc}
 use Rattle.avro_schema.specs.Value.{Value, size}
 use Rattle.avro_schema.specs.Node.{Node, node_at}
 use Rattle.avro_schema.specs.declared.schema.NodeId.{NodeId}
 use Rattle.avro_resolve.specs.Ends.{turned}
-use Rattle.avro_resolve.specs.Fault.{ResolutionFault, fault_in}
+use Rattle.avro_compare.specs.Fault.{ResolutionFault, fault_in}
 use Rattle.avro_resolve.specs.inside.Guided.{MadeAs, IsNothing, StandsAs, SoFar, IsSmall, branch_for}
-use Rattle.avro_resolve.specs.Pairs.{IsAim, wrapped, branch_id}
-use Rattle.avro_resolve.specs.Resolve.{Resolved, resolve, inside, result_map, through}
-use Rattle.avro_resolve.specs.declared.error.Fault.{Fault}
-use Rattle.avro_resolve.specs.declared.guided.Aim.{Aim}
-use Rattle.avro_resolve.specs.declared.guided.At.{At}
-use Rattle.avro_resolve.specs.declared.guided.At.TheVariants.{Ignored, Pair}
+use Rattle.avro_resolve.specs.IntoBranch.{in_branch}
+use Rattle.avro_compare.specs.Pairs.{IsAim, wrapped, branch_id}
+use Rattle.avro_compare.specs.Resolve.{Resolved, resolve, inside, result_map, through}
+use Rattle.avro_compare.specs.declared.error.Fault.{Fault}
+use Rattle.avro_compare.specs.declared.guided.Aim.{Aim}
+use Rattle.avro_compare.specs.declared.guided.At.{At}
+use Rattle.avro_compare.specs.declared.guided.At.TheVariants.{Ignored, Pair}
+use Rattle.avro_compare.proofs.public.Lists.{one_longer}
 use Rattle.avro_resolve.specs.declared.guided.Made.{Made}
 
 abbrev pub as_fault : ResolutionFault → Resolved
@@ -25,6 +28,20 @@ as_fault f = Err f
 pub good_made : {O : Type 0} (S : O → Value → Type 0) (out : O) (q : Resolved) → MadeAs S (Made.Good out) q → (u : Value) × (q ≡ Ok u) × S out u
 good_made S out (Ok u) h = (u, refl, h)
 good_made S out (Err f) h = absurd h
+
+-- what is made of a datum in a branch, of what is resolved within
+pub made_in : {O : Type 0} (S : O → Value → Type 0) (branch : Option ℕ) (out : O) (v : Value) → S out (in_branch branch v) → MadeAs S (Made.Good out) (wrapped branch (Ok v))
+made_in S None out v h = h
+made_in S (Some k) out v h = h
+
+-- of a leaf that each reader's node takes as it is
+pub leaf_same : {O : Type 0} (S : O → Value → Type 0) (writer reader nodes : List Node) (n : Node) (at : At) (w r : NodeId) (branch : Option ℕ) (q : NodeId) (v : Value) (out : O)
+    → at ≡ Pair w r → resolve writer reader (node_at writer w.0) (node_at reader r.0) v ≡ through writer reader (node_at writer w.0) (node_at reader r.0) (λ m. Ok v)
+    → IsAim writer reader (node_at writer w.0) (node_at reader r.0) (Aim.To branch q) → S out (in_branch branch v)
+    → StandsAs S writer reader nodes n at (Made.Good out) v
+leaf_same S writer reader nodes n at w r branch q v out pair goes leads h =
+    subst (λ (x : At). StandsAs S writer reader nodes n x (Made.Good out) v) (sym pair)
+    (λ are same small. subst (MadeAs S (Made.Good out)) (sym (goes ∙ leads (λ m. Ok v))) (made_in S branch out v h))
 
 -- of a leaf, by what a pair leads to
 pub leaf_made : {O : Type 0} (S : O → Value → Type 0) (writer reader nodes : List Node) (n : Node) (at : At) (w r : NodeId) (branch : Option ℕ) (q : NodeId) (v : Value) (f : Node → Resolved) (result : Result (Made O) AllocError)
@@ -55,7 +72,7 @@ branch_made S writer reader nodes ids k p v (Pair w r) made outer e none step h 
     step (resolve writer reader (node_at writer (branch_id (node_at writer w.0) k)) (node_at reader r.0) v)
     (h are (ap (λ (ns : List Node). node_at ns p) are ∙ ap (node_at writer) there) (smaller (size v) (suc (size v)) less small))
 
-pub branch_bad : (fault outer : Fault) (q : Resolved) → turned outer ≡ fault_in 0 (turned fault) → q ≡ Err (turned fault) → inside 0 q ≡ Err (turned outer)
+pub branch_bad : (fault outer : Box Fault) (q : Resolved) → turned outer.value ≡ fault_in 0 (turned fault.value) → q ≡ Err (turned fault.value) → inside 0 q ≡ Err (turned outer.value)
 branch_bad fault outer q step e = ap (inside 0) e ∙ ap as_fault (sym step)
 
 pub wrapped_fault : (branch : Option ℕ) (f : ResolutionFault) → wrapped branch (Err f) ≡ Err f
@@ -63,10 +80,6 @@ wrapped_fault None f = refl
 wrapped_fault (Some k) f = refl
 
 -- ---- Parts so far
-
-pub one_longer : {E : Type 0} (xs : List E) (x : E) → length (xs ++ x ∷ []) ≡ suc (length xs)
-one_longer [] x = refl
-one_longer (y ∷ xs) x = ap suc (one_longer xs x)
 
 module _ {E A M : Type 0} (run : ℕ → List E → Result A ResolutionFault) (join : M → A → A) where
   pub so_far_none : (made : M) → ((a : A) → join made a ≡ a) → SoFar run join [] made

@@ -7,23 +7,12 @@ use Rattle.avro_schema.specs.Value.{Value, Values, Entries, no_values, value, no
 use Rattle.avro_schema.specs.Node.{Node, node_at}
 use Rattle.avro_schema.specs.Seen.{value_of, values_of, entries_of, values_from, entries_from, pair_of}
 use Rattle.avro_schema.specs.declared.datum.Datum.{Datum}
-use Rattle.avro_resolve.specs.Fault.{ResolutionFault}
-use Rattle.avro_resolve.specs.Resolve.{Resolved, resolve, resolve_items, resolve_entries, both, inside, result_map}
-use Rattle.avro_resolve.specs.Pairs.{value_id}
+use Rattle.avro_compare.specs.Fault.{ResolutionFault}
+use Rattle.avro_compare.specs.Resolve.{Resolved, resolve, resolve_items, resolve_entries, both, inside, result_map}
+use Rattle.avro_compare.specs.Pairs.{value_id}
+use Rattle.avro_compare.proofs.public.Lists.{next_in}
 use Rattle.avro_resolve.specs.Ends.{Fails, taken_as, values_before, entries_before}
 use Rattle.avro_resolve.specs.declared.error.ResolveError.{ResolveError}
-
--- a list from an index on, of which there is one more
-pub next_in : {A : Type 0} (xs : List A) (i : ℕ) (d : A) → i < length xs → drop i xs ≡ slice_index_or xs i d ∷ drop (i + 1) xs
-next_in xs i d low = subst (λ (j : ℕ). drop i xs ≡ slice_index_or xs i d ∷ drop j xs) (same i) (step xs i d low)
-  where
-    same : (i : ℕ) → suc i ≡ i + 1
-    same i = omega arith
-
-    step : {A : Type 0} (xs : List A) (i : ℕ) (d : A) → i < length xs → drop i xs ≡ slice_index_or xs i d ∷ drop (suc i) xs
-    step [] i d low = absurd (omega (arith, low))
-    step (x ∷ xs) zero d low = refl
-    step (x ∷ xs) (suc i) d low = step xs i d (omega (arith, low))
 
 -- which one stands at an index is the same, whatever stands past the end
 same_at : {A : Type 0} (xs : List A) (i : ℕ) (d e : A) → i < length xs → slice_index_or xs i d ≡ slice_index_or xs i e

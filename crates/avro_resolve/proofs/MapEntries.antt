@@ -1,7 +1,7 @@
 -- Entries of a map that are resolved as they are read.
 use Rattle.std.proofs.Common.{◌≡◌, ℕ, suc, ◌+◌, ◌-◌, ◌≤◌, ◌^◌, List, [], ◌∷◌, ◌++◌, length, Option, Result, Ok, Err, refl, sym, ap, ◌∙◌, subst, arith}
-use Rattle.std.specs.Prelude.{IfOk, min}
-use Rattle.std.specs.declared.alloc.AllocError.{AllocError}
+use Rattle.std.specs.Prelude.{min}
+use Rattle.std.specs.Global.{Box}
 use Rattle.std.proofs.lemmas.List.{append-nil, append_assoc}
 use Rattle.avro_schema.specs.Value.{Value, Entries, entry, size, entries_size}
 use Rattle.avro_schema.specs.Node.{Node, node_at, values_node}
@@ -9,16 +9,18 @@ use Rattle.avro_schema.specs.Seen.{entries_from}
 use Rattle.avro_schema.specs.declared.schema.NodeId.{NodeId}
 use Rattle.avro_schema.proofs.public.Parts.{size-positive}
 use Rattle.avro_resolve.specs.Ends.{turned, entries_before}
-use Rattle.avro_resolve.specs.Fault.{ResolutionFault, fault_in}
+use Rattle.avro_compare.specs.Fault.{ResolutionFault, fault_in}
 use Rattle.avro_resolve.specs.inside.Guided.{MadeAs, StandsAs, IsSmall, EntriesGood, EntriesStandAs}
-use Rattle.avro_resolve.specs.Pairs.{wrapped, value_id}
-use Rattle.avro_resolve.specs.Resolve.{Resolved, resolve, resolve_entries, both, inside, result_map, part_at}
-use Rattle.avro_resolve.specs.declared.error.Fault.{Fault}
-use Rattle.avro_resolve.specs.declared.guided.At.{At}
-use Rattle.avro_resolve.specs.declared.guided.At.TheVariants.{Ignored, Pair}
+use Rattle.avro_resolve.specs.IntoBranch.{in_branch}
+use Rattle.avro_compare.specs.Pairs.{wrapped, value_id}
+use Rattle.avro_compare.specs.Resolve.{Resolved, resolve, resolve_entries, both, inside, result_map, part_at}
+use Rattle.avro_compare.specs.declared.error.Fault.{Fault}
+use Rattle.avro_compare.specs.declared.guided.At.{At}
+use Rattle.avro_compare.specs.declared.guided.At.TheVariants.{Ignored, Pair}
 use Rattle.avro_resolve.specs.declared.guided.Made.{Made}
 use Rattle.avro_resolve.specs.declared.guided.Run.{Run}
-use Rattle.avro_resolve.proofs.Guiding.{as_fault, good_made, smaller, wrapped_fault, one_longer, so_far_more, so_far_fails, so_far_whole}
+use Rattle.avro_compare.proofs.public.Lists.{one_longer}
+use Rattle.avro_resolve.proofs.Guiding.{as_fault, good_made, made_in, smaller, wrapped_fault, so_far_more, so_far_fails, so_far_whole}
 use Rattle.avro_resolve.proofs.InOrder.{entries_before-none, entries_before-more}
 
 -- ---- Sizes
@@ -86,12 +88,12 @@ module _ {I : Type 0} (S : I → List (List ℕ × Value) → Type 0) (writer re
 -- ---- Items of a run
 
 module _ {I O : Type 0} (S : I → List (List ℕ × Value) → Type 0) (SO : O → Value → Type 0) (writer reader nodes : List Node) (id : ℕ) (vs : List (List ℕ × Value)) (key : List ℕ) (v : Value) where
-  pub good_entry : (at : At) (old new : I) (count next : ℕ) (branch : Option ℕ) (a b : NodeId) (out : O) → ((us : List (List ℕ × Value)) (u : Value) → S old us → SO out u → S new (us ++ (key, u) ∷ []))
+  pub good_entry : (SN : I → List (List ℕ × Value) → Type 0) (at : At) (old new : I) (count next : ℕ) (branch : Option ℕ) (a b : NodeId) (out : O) → ((us : List (List ℕ × Value)) (u : Value) → S old us → SO out u → SN new (us ++ (key, u) ∷ []))
       → next ≡ min (count + 1) (2 ^ 64 - 1)
       → EntriesStandAs S writer reader nodes id at (Run.Good old count branch a b) vs → StandsAs SO writer reader nodes (node_at nodes id) (Pair a b) (Made.Good out) v
-      → EntriesStandAs S writer reader nodes id at (Run.Good new next branch a b) (vs ++ (key, v) ∷ [])
-  good_entry Ignored old new count next branch a b out law up h stands = absurd h
-  good_entry (Pair w r) old new count next branch a b out law up h stands = λ are is small.
+      → EntriesStandAs SN writer reader nodes id at (Run.Good new next branch a b) (vs ++ (key, v) ∷ [])
+  good_entry SN Ignored old new count next branch a b out law up h stands = absurd h
+  good_entry SN (Pair w r) old new count next branch a b out law up h stands = λ are is small.
       let wn = node_at writer w.0 in
       let rn = node_at reader r.0 in
       let good = h are is (smaller (entries_size (entries_from vs)) (entries_size (entries_from (vs ++ (key, v) ∷ []))) (size_front vs ((key, v) ∷ [])) small) in
@@ -109,7 +111,7 @@ module _ {I O : Type 0} (S : I → List (List ℕ × Value) → Type 0) (SO : O 
         stands = law good.made made.0 good.stands made.2;
       }
 
-  pub faulty_entry : (at : At) (old : I) (count : ℕ) (branch : Option ℕ) (a b : NodeId) (fault outer : Fault) → turned outer ≡ fault_in count (turned fault)
+  pub faulty_entry : (at : At) (old : I) (count : ℕ) (branch : Option ℕ) (a b : NodeId) (fault outer : Box Fault) → turned outer.value ≡ fault_in count (turned fault.value)
       → EntriesStandAs S writer reader nodes id at (Run.Good old count branch a b) vs → StandsAs SO writer reader nodes (node_at nodes id) (Pair a b) (Made.Faulty fault) v
       → EntriesStandAs S writer reader nodes id at (Run.Faulty outer) (vs ++ (key, v) ∷ [])
   faulty_entry Ignored old count branch a b fault outer step h stands = absurd h
@@ -119,7 +121,7 @@ module _ {I O : Type 0} (S : I → List (List ℕ × Value) → Type 0) (SO : O 
       let small = smaller (entries_size (entries_from (vs ++ (key, v) ∷ []))) (entries_size (entries_from ((vs ++ (key, v) ∷ []) ++ more))) (size_front (vs ++ (key, v) ∷ []) more) few in
       let good = h are is (smaller (entries_size (entries_from vs)) (entries_size (entries_from (vs ++ (key, v) ∷ []))) (size_front vs ((key, v) ∷ [])) small) in
       let bad = stands are (node_there S writer reader wn rn old count branch a b vs good nodes id are is) (smaller (size v) (entries_size (entries_from (vs ++ (key, v) ∷ []))) (size_entry vs key v []) small) in
-      map_fails S writer reader wn rn old count branch a b vs good key v (turned fault) bad more ∙ ap as_fault (sym step)
+      map_fails S writer reader wn rn old count branch a b vs good key v (turned fault.value) bad more ∙ ap as_fault (sym step)
 
   pub no_entry : (at : At) (old : I) (count : ℕ) (branch : Option ℕ) (a b : NodeId)
       → EntriesStandAs S writer reader nodes id at (Run.Good old count branch a b) vs → StandsAs SO writer reader nodes (node_at nodes id) (Pair a b) Made.Nothing v
@@ -130,31 +132,29 @@ module _ {I O : Type 0} (S : I → List (List ℕ × Value) → Type 0) (SO : O 
       absurd (stands are (node_there S writer reader (node_at writer w.0) (node_at reader r.0) old count branch a b vs good nodes id are is)
       (smaller (size v) (entries_size (entries_from (vs ++ (key, v) ∷ []))) (size_entry vs key v []) small))
 
-  pub entry_after_fault : (at : At) (fault : Fault) → EntriesStandAs S writer reader nodes id at (Run.Faulty fault) vs → EntriesStandAs S writer reader nodes id at (Run.Faulty fault) (vs ++ (key, v) ∷ [])
+  pub entry_after_fault : (at : At) (fault : Box Fault) → EntriesStandAs S writer reader nodes id at (Run.Faulty fault) vs → EntriesStandAs S writer reader nodes id at (Run.Faulty fault) (vs ++ (key, v) ∷ [])
   entry_after_fault Ignored fault h = absurd h
   entry_after_fault (Pair w r) fault h = λ are is more.
-      subst (λ (xs : List (List ℕ × Value)). IsSmall (entries_size (entries_from xs)) → resolve writer reader (node_at writer w.0) (node_at reader r.0) (Value.map_of (entries_from xs)) ≡ Err (turned fault)) (sym (append_assoc vs ((key, v) ∷ []) more))
+      subst (λ (xs : List (List ℕ × Value)). IsSmall (entries_size (entries_from xs)) → resolve writer reader (node_at writer w.0) (node_at reader r.0) (Value.map_of (entries_from xs)) ≡ Err (turned fault.value)) (sym (append_assoc vs ((key, v) ∷ []) more))
       (h are is ((key, v) ∷ more))
 
 -- ---- Arrays
 
 module _ {I O : Type 0} (S : I → List (List ℕ × Value) → Type 0) (SO : O → Value → Type 0) (writer reader nodes : List Node) (id : ℕ) (vs : List (List ℕ × Value)) where
-  pub good_map : (at : At) (kept : I) (count : ℕ) (branch : Option ℕ) (a b : NodeId) (out : O) (result : Result (Made O) AllocError)
-      → ((us : List (List ℕ × Value)) → S kept us → SO out (Value.map_of (entries_from us)))
-      → ((u : Value) → SO out u → IfOk result (λ made. MadeAs SO made (wrapped branch (Ok u))))
-      → EntriesStandAs S writer reader nodes id at (Run.Good kept count branch a b) vs → IfOk result (λ made. StandsAs SO writer reader nodes (Node.map_of id) at made (Value.map_of (entries_from vs)))
-  good_map at kept count branch a b out (Err e) law wrap h = tt
-  good_map Ignored kept count branch a b out (Ok made) law wrap h = absurd h
-  good_map (Pair w r) kept count branch a b out (Ok made) law wrap h = λ are is small.
+  pub good_map : (at : At) (kept : I) (count : ℕ) (branch : Option ℕ) (a b : NodeId) (out : O)
+      → ((us : List (List ℕ × Value)) → S kept us → SO out (in_branch branch (Value.map_of (entries_from us))))
+      → EntriesStandAs S writer reader nodes id at (Run.Good kept count branch a b) vs → StandsAs SO writer reader nodes (Node.map_of id) at (Made.Good out) (Value.map_of (entries_from vs))
+  good_map Ignored kept count branch a b out law h = absurd h
+  good_map (Pair w r) kept count branch a b out law h = λ are is small.
       let less : entries_size (entries_from vs) ≤ suc (entries_size (entries_from vs)) = omega arith in
       let good = h are is (smaller (entries_size (entries_from vs)) (suc (entries_size (entries_from vs))) less small) in
-      subst (MadeAs SO made) (sym (map_whole S writer reader (node_at writer w.0) (node_at reader r.0) kept count branch a b vs good))
-      (wrap (Value.map_of (entries_from good.made)) (law good.made good.stands))
+      subst (MadeAs SO (Made.Good out)) (sym (map_whole S writer reader (node_at writer w.0) (node_at reader r.0) kept count branch a b vs good))
+      (made_in SO branch out (Value.map_of (entries_from good.made)) (law good.made good.stands))
 
-  pub faulty_map : (at : At) (fault : Fault) → EntriesStandAs S writer reader nodes id at (Run.Faulty fault) vs
+  pub faulty_map : (at : At) (fault : Box Fault) → EntriesStandAs S writer reader nodes id at (Run.Faulty fault) vs
       → StandsAs SO writer reader nodes (Node.map_of id) at (Made.Faulty fault) (Value.map_of (entries_from vs))
   faulty_map Ignored fault h = absurd h
   faulty_map (Pair w r) fault h = λ are is small.
       let less : entries_size (entries_from vs) ≤ suc (entries_size (entries_from vs)) = omega arith in
-      subst (λ (xs : List (List ℕ × Value)). IsSmall (entries_size (entries_from xs)) → resolve writer reader (node_at writer w.0) (node_at reader r.0) (Value.map_of (entries_from xs)) ≡ Err (turned fault)) (append-nil vs) (h are is [])
+      subst (λ (xs : List (List ℕ × Value)). IsSmall (entries_size (entries_from xs)) → resolve writer reader (node_at writer w.0) (node_at reader r.0) (Value.map_of (entries_from xs)) ≡ Err (turned fault.value)) (append-nil vs) (h are is [])
       (smaller (entries_size (entries_from vs)) (suc (entries_size (entries_from vs))) less small)

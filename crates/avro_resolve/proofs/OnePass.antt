@@ -1,6 +1,7 @@
 -- Reading with resolution in one pass is exact.
 use Rattle.std.proofs.Common.{◌≡◌, ℕ, ◌<◌, ◌≤◌, ◌^◌, true, List, Some, Result, Ok, Err, refl, sym, ap, ◌∙◌, subst, arith}
 use Rattle.std.specs.Prelude.{nat_le, ◌&&◌}
+use Rattle.std.specs.Global.{Box}
 use Rattle.std.proofs.lemmas.Bool.{and_parts, leb-true}
 use Rattle.avro_schema.specs.Value.{Value, size, depth, longest_blob}
 use Rattle.avro_schema.specs.Node.{Node, node_at, root_of}
@@ -13,11 +14,12 @@ use Rattle.avro_binary.specs.declared.error.ReadError.{ReadError}
 use Rattle.avro_resolve.specs.Ends.{turned, IsSeen}
 use Rattle.avro_resolve.specs.inside.Guided.{MadeAs, StandsAs, IsSmall}
 use Rattle.avro_resolve.specs.Reading.{ReadsAs, BuildsResolved, ReadsResolved}
-use Rattle.avro_resolve.specs.Resolve.{Resolved, resolve, resolve_root}
-use Rattle.avro_resolve.specs.Seen.{fault_of, UnlessOutOfMemory}
-use Rattle.avro_resolve.specs.declared.error.Fault.{Fault}
+use Rattle.avro_compare.specs.Resolve.{Resolved, resolve, resolve_root}
+use Rattle.avro_compare.specs.Seen.{fault_of}
+use Rattle.avro_resolve.specs.Seen.{UnlessOutOfMemory}
+use Rattle.avro_compare.specs.declared.error.Fault.{Fault}
 use Rattle.avro_resolve.specs.declared.error.ReadResolveError.{ReadResolveError}
-use Rattle.avro_resolve.specs.declared.guided.At.TheVariants.{Pair}
+use Rattle.avro_compare.specs.declared.guided.At.TheVariants.{Pair}
 use Rattle.avro_resolve.specs.declared.guided.Made.{Made}
 use Rattle.avro_resolve.proofs.Guiding.{as_fault, good_made}
 
@@ -83,7 +85,7 @@ module _ {O : Type 0} (S : O → Value → Type 0) (writer reader : List Node) (
         breaks = λ fault broken. b.breaks fault broken;
       }
 
-  pub unresolved : (fault from_root : Fault) (len : ℕ) → BuildsExactly stands writer n limits bytes (Ok (Made.Faulty fault, len)) → MakesResolved S writer reader stands → fault_of from_root ≡ turned fault
+  pub unresolved : (fault : Box Fault) (from_root : Fault) (len : ℕ) → BuildsExactly stands writer n limits bytes (Ok (Made.Faulty fault, len)) → MakesResolved S writer reader stands → fault_of from_root ≡ turned fault.value
       → BuildsResolved S writer reader limits bytes (Err (ReadResolveError.Resolve from_root))
   unresolved fault from_root len there law same =
       let b = at_root (Ok (Made.Faulty fault, len)) there in

@@ -2,8 +2,8 @@
 use Rattle.std.proofs.Common.{◌≡◌, ℕ, Bool, true, cond, Result, Ok, Err}
 use Rattle.std.specs.Prelude.{IfOk}
 use Rattle.std.proofs.lemmas.Bool.{cond_both}
-use Rattle.avro_resolve.specs.Fault.{ResolutionFault}
-use Rattle.avro_resolve.specs.Resolve.{inside, result_map, both}
+use Rattle.avro_compare.specs.Fault.{ResolutionFault}
+use Rattle.avro_compare.specs.Resolve.{inside, result_map, both}
 
 pub IfOk-inside : {A : Type 0} (P : A → Type 0) (step : ℕ) (r : Result A ResolutionFault) → IfOk r P → IfOk (inside step r) P
 IfOk-inside P step (Ok v) h = h

@@ -9,11 +9,11 @@ use Rattle.avro_schema.specs.Node.{Node, FieldNode, node_at, field_ids}
 use Rattle.avro_schema.specs.Distinct.{are_distinct}
 use Rattle.avro_schema.specs.Fits.{fits, fields_fit}
 use Rattle.avro_schema.specs.WellFormed.{field_names, has_good_default, are_fields}
-use Rattle.avro_resolve.specs.Source.{source_of, reader_field, missing_field, missing_field_from}
-use Rattle.avro_resolve.specs.Fault.{ResolutionFault}
-use Rattle.avro_resolve.specs.Resolve.{Resolved, Sourced, inside, with_sourced, sourced_at, field_value, field_values}
-use Rattle.avro_resolve.specs.Ends.{IsField, here, later}
-use Rattle.avro_resolve.proofs.public.Sources.{first_index-named, reader_field-source}
+use Rattle.avro_compare.specs.Source.{source_of, reader_field, missing_field, missing_field_from}
+use Rattle.avro_compare.specs.Fault.{ResolutionFault}
+use Rattle.avro_compare.specs.Resolve.{Resolved, Sourced, inside, with_sourced, sourced_at, field_value, field_values}
+use Rattle.avro_compare.specs.Fields.{IsField, here, later}
+use Rattle.avro_compare.proofs.public.Sources.{first_index-named, reader_field-source}
 use Rattle.avro_resolve.proofs.Outcomes.{IfOk-inside, IfOk-both}
 use Rattle.avro_resolve.proofs.AtMatch.{FitsAt}
 

@@ -1,8 +1,7 @@
 -- Fields of a record that are resolved as they are read.
 use Rattle.std.proofs.Common.{◌≡◌, ℕ, suc, ◌+◌, ◌≤◌, List, [], ◌∷◌, ◌++◌, length, Option, Some, None, Result, Ok, Err, refl, sym, ap, ◌∙◌, subst, arith}
-use Rattle.std.specs.Prelude.{IfOk, slice_get, unwrap_or}
-use Rattle.std.specs.Global.{Vec}
-use Rattle.std.specs.declared.alloc.AllocError.{AllocError}
+use Rattle.std.specs.Prelude.{slice_get, unwrap_or}
+use Rattle.std.specs.Global.{Vec, Box}
 use Rattle.std.proofs.lemmas.List.{append-nil, append_assoc}
 use Rattle.avro_name.specs.Name.{Name}
 use Rattle.avro_schema.specs.Value.{Value, size, values_size}
@@ -10,18 +9,20 @@ use Rattle.avro_schema.specs.Node.{Node, FieldNode, node_at, field_ids}
 use Rattle.avro_schema.specs.Seen.{values_from}
 use Rattle.avro_schema.specs.declared.schema.NodeId.{NodeId}
 use Rattle.avro_resolve.specs.Ends.{turned, before, AllBelow, SlotsAre}
-use Rattle.avro_resolve.specs.Fault.{ResolutionFault, fault_in}
+use Rattle.avro_compare.specs.Fault.{ResolutionFault, fault_in}
 use Rattle.avro_resolve.specs.inside.Guided.{MadeAs, StandsAs, IsSmall, Leads, FieldsGood, FieldsStandAs}
-use Rattle.avro_resolve.specs.Pairs.{wrapped, part_to, field_for}
-use Rattle.avro_resolve.specs.Resolve.{Resolved, Sourced, resolve, resolve_sources, with_sourced, both, inside, result_map, field_values, fields_at, record_or_missing}
-use Rattle.avro_resolve.specs.Source.{missing_field, reader_field}
-use Rattle.avro_resolve.specs.declared.error.Fault.{Fault}
-use Rattle.avro_resolve.specs.declared.guided.At.{At}
-use Rattle.avro_resolve.specs.declared.guided.At.TheVariants.{Ignored, Pair}
+use Rattle.avro_resolve.specs.IntoBranch.{in_branch}
+use Rattle.avro_compare.specs.Pairs.{wrapped, part_to, field_for}
+use Rattle.avro_compare.specs.Resolve.{Resolved, Sourced, resolve, resolve_sources, with_sourced, both, inside, result_map, field_values, fields_at, record_or_missing}
+use Rattle.avro_compare.specs.Source.{missing_field, reader_field}
+use Rattle.avro_compare.specs.declared.error.Fault.{Fault}
+use Rattle.avro_compare.specs.declared.guided.At.{At}
+use Rattle.avro_compare.specs.declared.guided.At.TheVariants.{Ignored, Pair}
 use Rattle.avro_resolve.specs.declared.guided.Made.{Made}
 use Rattle.avro_resolve.specs.declared.guided.Slots.{Slots}
 use Rattle.avro_resolve.proofs.ArrayItems.{size_front, size_item}
-use Rattle.avro_resolve.proofs.Guiding.{as_fault, good_made, smaller, wrapped_fault, one_longer, so_far_none, so_far_more, so_far_fails, so_far_whole}
+use Rattle.avro_compare.proofs.public.Lists.{one_longer}
+use Rattle.avro_resolve.proofs.Guiding.{as_fault, good_made, made_in, smaller, wrapped_fault, so_far_none, so_far_more, so_far_fails, so_far_whole}
 use Rattle.avro_resolve.proofs.Slots.{below_more, below_last, slots_none, slots_some}
 
 -- ---- Steps over the writer's fields
@@ -55,11 +56,11 @@ module _ (writer reader : List Node) (ws rs : List FieldNode) (k : ℕ) (v : Val
   field_none found is = ap (λ (o : Option FieldNode). result_map (before found) (with_sourced o k value_for sources_after)) is
 
 -- no fields yet, where a pair leads to a record of which no field is missing
-pub no_slots : {O : Type 0} (S : O → Value → Type 0) (writer reader nodes : List Node) (fs : List FieldNode) (at : At) (w r : NodeId) (slots : Vec (Option O)) (branch : Option ℕ) (q : NodeId)
-    → at ≡ Pair w r → slots.items ≡ [] → Leads writer reader (node_at writer w.0) (node_at reader r.0) branch q.0
-    → missing_field (fields_at (node_at writer w.0)) (fields_at (node_at reader q.0)) ≡ None → FieldsStandAs S writer reader nodes fs at (Slots.Good slots branch w q) []
-no_slots {O = O} S writer reader nodes fs at w r slots branch q pair none leads complete =
-    subst (λ (x : At). FieldsStandAs S writer reader nodes fs x (Slots.Good slots branch w q) []) (sym pair) (λ are same small. record {
+pub no_slots : {O F : Type 0} (S : O → Value → Type 0) (T : Option ℕ → F → List Value → Type 0) (writer reader nodes : List Node) (fs : List FieldNode) (at : At) (w r : NodeId) (slots : Vec (Option O)) (start : F) (branch : Option ℕ) (q : NodeId)
+    → at ≡ Pair w r → slots.items ≡ [] → T branch start [] → Leads writer reader (node_at writer w.0) (node_at reader r.0) branch q.0
+    → missing_field (fields_at (node_at writer w.0)) (fields_at (node_at reader q.0)) ≡ None → FieldsStandAs S T writer reader nodes fs at (Slots.Good slots start branch w q) []
+no_slots {O = O} S T writer reader nodes fs at w r slots start branch q pair none starts leads complete =
+    subst (λ (x : At). FieldsStandAs S T writer reader nodes fs x (Slots.Good slots start branch w q) []) (sym pair) (λ are same small. record {
       leads = leads;
       of_writer = refl;
       complete = complete;
@@ -68,11 +69,12 @@ no_slots {O = O} S writer reader nodes fs at w r slots branch q pair none leads 
       below = tt;
       so_far = so_far_none (λ (k : ℕ) (us : List Value). resolve_sources writer reader (fields_at (node_at writer w.0)) (fields_at (node_at reader q.0)) k (values_from us)) before [] (λ a. refl);
       stands = subst (λ (xs : List (Option O)). SlotsAre S [] xs) (sym none) (λ k. refl);
+      starts = starts;
     })
 
 -- ---- What a good run of fields leads to
 
-module _ {O : Type 0} (S : O → Value → Type 0) (writer reader : List Node) (w r : Node) (slots : List (Option O)) (branch : Option ℕ) (a b : NodeId) (vs : List Value) (good : FieldsGood S writer reader w r slots branch a b vs) where
+module _ {O F : Type 0} (S : O → Value → Type 0) (T : Option ℕ → F → List Value → Type 0) (writer reader : List Node) (w r : Node) (slots : List (Option O)) (start : F) (branch : Option ℕ) (a b : NodeId) (vs : List Value) (good : FieldsGood S T writer reader w r slots start branch a b vs) where
   abbrev pub writes : List FieldNode
   writes = fields_at (node_at writer a.0)
 
@@ -124,8 +126,8 @@ module _ {O : Type 0} (S : O → Value → Type 0) (writer reader nodes : List N
       let made = good_made S out (resolve writer reader (node_at writer j) (node_at reader f.node) v) (h are there small) in
       (f, made.0, refl, made.1, made.2)
 
-  sourced_bad : (o : Option FieldNode) (fault : Fault) → StandsAs S writer reader nodes n (part_to j o) (Made.Faulty fault) v
-      → (f : FieldNode) × (o ≡ Some f) × (resolve writer reader (node_at writer j) (node_at reader f.node) v ≡ Err (turned fault))
+  sourced_bad : (o : Option FieldNode) (fault : Box Fault) → StandsAs S writer reader nodes n (part_to j o) (Made.Faulty fault) v
+      → (f : FieldNode) × (o ≡ Some f) × (resolve writer reader (node_at writer j) (node_at reader f.node) v ≡ Err (turned fault.value))
   sourced_bad None fault h = absurd h
   sourced_bad (Some f) fault h = (f, refl, h are there small)
 
@@ -135,7 +137,7 @@ module _ {O : Type 0} (S : O → Value → Type 0) (writer reader nodes : List N
 
 -- ---- Fields of a run
 
-module _ {O : Type 0} (S : O → Value → Type 0) (writer reader nodes : List Node) (fs : List FieldNode) (id : ℕ) (vs : List Value) (v : Value) (is_field : slice_get (field_ids fs) (length vs) ≡ Some id) where
+module _ {O F : Type 0} (S : O → Value → Type 0) (T : Option ℕ → F → List Value → Type 0) (writer reader nodes : List Node) (fs : List FieldNode) (id : ℕ) (vs : List Value) (v : Value) (is_field : slice_get (field_ids fs) (length vs) ≡ Some id) where
   abbrev stands_at : NodeId → NodeId → ℕ → Made O → Type 0
   stands_at a b k made = StandsAs S writer reader nodes (node_at nodes id) (field_for (fields_at (node_at writer a.0)) (fields_at (node_at reader b.0)) k) made v
 
@@ -148,66 +150,68 @@ module _ {O : Type 0} (S : O → Value → Type 0) (writer reader nodes : List N
   at_count : (a b : NodeId) (made : Made O) (k : ℕ) → k ≡ length vs → stands_at a b k made → stands_at a b (length vs) made
   at_count a b made k e h = subst (λ (i : ℕ). stands_at a b i made) e h
 
-  pub good_field : (at : At) (slots after : Vec (Option O)) (branch : Option ℕ) (a b : NodeId) (out : O) → after.items ≡ slots.items ++ Some out ∷ []
-      → FieldsStandAs S writer reader nodes fs at (Slots.Good slots branch a b) vs → stands_at a b (length slots.items) (Made.Good out)
-      → FieldsStandAs S writer reader nodes fs at (Slots.Good after branch a b) (vs ++ v ∷ [])
-  good_field Ignored slots after branch a b out pushed h stands = absurd h
-  good_field (Pair w r) slots after branch a b out pushed h stands = λ are of_record small.
+  pub good_field : (at : At) (slots after : Vec (Option O)) (start : F) (branch : Option ℕ) (a b : NodeId) (out : O) → after.items ≡ slots.items ++ Some out ∷ []
+      → FieldsStandAs S T writer reader nodes fs at (Slots.Good slots start branch a b) vs → stands_at a b (length slots.items) (Made.Good out)
+      → FieldsStandAs S T writer reader nodes fs at (Slots.Good after start branch a b) (vs ++ v ∷ [])
+  good_field Ignored slots after start branch a b out pushed h stands = absurd h
+  good_field (Pair w r) slots after start branch a b out pushed h stands = λ are of_record small.
       let wn = node_at writer w.0 in
       let rn = node_at reader r.0 in
       let ws = fields_at (node_at writer a.0) in
       let rs = fields_at (node_at reader b.0) in
       let good = h are of_record (front_small small) in
       let got = sourced_good S writer reader nodes (node_at nodes id) (unwrap_or (slice_get (field_ids ws) (length vs)) 0) v are
-      (field_there S writer reader wn rn slots.items branch a b vs good nodes fs id are of_record is_field) (field_small small)
+      (field_there S T writer reader wn rn slots.items start branch a b vs good nodes fs id are of_record is_field) (field_small small)
       (reader_field ws rs (length vs)) out (at_count a b (Made.Good out) (length slots.items) good.counted stands) in
       let found = good.found ++ (length vs, got.1) ∷ [] in
       let one : length vs + 1 ≡ length (vs ++ v ∷ []) = omega (arith, one_longer vs v) in
-      subst (λ (xs : List (Option O)). FieldsGood S writer reader wn rn xs branch a b (vs ++ v ∷ [])) (sym pushed)
+      subst (λ (xs : List (Option O)). FieldsGood S T writer reader wn rn xs start branch a b (vs ++ v ∷ [])) (sym pushed)
       (record {
         leads = good.leads;
         of_writer = good.of_writer;
         complete = good.complete;
-        counted = counted_more S writer reader wn rn slots.items branch a b vs good (Some out) v;
+        counted = counted_more S T writer reader wn rn slots.items start branch a b vs good (Some out) v;
         found = found;
         below = subst (λ (m : ℕ). AllBelow m found) one (below_last (length vs) good.found got.1 good.below);
         so_far = so_far_more (λ k us. resolve_sources writer reader ws rs k (values_from us)) before vs v good.found found good.so_far
             (λ more. field_good writer reader ws rs (length vs) v more good.found got.0 got.1 got.2 got.3);
         stands = slots_some S good.found slots.items (length vs) good.counted good.below good.stands out got.1 got.4;
+        starts = good.starts;
       })
 
-  pub no_field : (at : At) (slots after : Vec (Option O)) (branch : Option ℕ) (a b : NodeId) → after.items ≡ slots.items ++ None ∷ []
-      → FieldsStandAs S writer reader nodes fs at (Slots.Good slots branch a b) vs → stands_at a b (length slots.items) Made.Nothing
-      → FieldsStandAs S writer reader nodes fs at (Slots.Good after branch a b) (vs ++ v ∷ [])
-  no_field Ignored slots after branch a b pushed h stands = absurd h
-  no_field (Pair w r) slots after branch a b pushed h stands = λ are of_record small.
+  pub no_field : (at : At) (slots after : Vec (Option O)) (start : F) (branch : Option ℕ) (a b : NodeId) → after.items ≡ slots.items ++ None ∷ []
+      → FieldsStandAs S T writer reader nodes fs at (Slots.Good slots start branch a b) vs → stands_at a b (length slots.items) Made.Nothing
+      → FieldsStandAs S T writer reader nodes fs at (Slots.Good after start branch a b) (vs ++ v ∷ [])
+  no_field Ignored slots after start branch a b pushed h stands = absurd h
+  no_field (Pair w r) slots after start branch a b pushed h stands = λ are of_record small.
       let wn = node_at writer w.0 in
       let rn = node_at reader r.0 in
       let ws = fields_at (node_at writer a.0) in
       let rs = fields_at (node_at reader b.0) in
       let good = h are of_record (front_small small) in
       let none = sourced_none S writer reader nodes (node_at nodes id) (unwrap_or (slice_get (field_ids ws) (length vs)) 0) v are
-      (field_there S writer reader wn rn slots.items branch a b vs good nodes fs id are of_record is_field) (field_small small)
+      (field_there S T writer reader wn rn slots.items start branch a b vs good nodes fs id are of_record is_field) (field_small small)
       (reader_field ws rs (length vs)) (at_count a b Made.Nothing (length slots.items) good.counted stands) in
       let one : length vs + 1 ≡ length (vs ++ v ∷ []) = omega (arith, one_longer vs v) in
-      subst (λ (xs : List (Option O)). FieldsGood S writer reader wn rn xs branch a b (vs ++ v ∷ [])) (sym pushed)
+      subst (λ (xs : List (Option O)). FieldsGood S T writer reader wn rn xs start branch a b (vs ++ v ∷ [])) (sym pushed)
       (record {
         leads = good.leads;
         of_writer = good.of_writer;
         complete = good.complete;
-        counted = counted_more S writer reader wn rn slots.items branch a b vs good None v;
+        counted = counted_more S T writer reader wn rn slots.items start branch a b vs good None v;
         found = good.found;
         below = subst (λ (m : ℕ). AllBelow m good.found) one (below_more (length vs) good.found good.below);
         so_far = so_far_more (λ k us. resolve_sources writer reader ws rs k (values_from us)) before vs v good.found good.found good.so_far
             (λ more. field_none writer reader ws rs (length vs) v more good.found none);
         stands = slots_none S good.found slots.items (length vs) good.counted good.below good.stands;
+        starts = good.starts;
       })
 
-  pub faulty_field : (at : At) (slots : Vec (Option O)) (branch : Option ℕ) (a b : NodeId) (fault outer : Fault) → turned outer ≡ fault_in (length slots.items) (turned fault)
-      → FieldsStandAs S writer reader nodes fs at (Slots.Good slots branch a b) vs → stands_at a b (length slots.items) (Made.Faulty fault)
-      → FieldsStandAs S writer reader nodes fs at (Slots.Faulty outer) (vs ++ v ∷ [])
-  faulty_field Ignored slots branch a b fault outer step h stands = absurd h
-  faulty_field (Pair w r) slots branch a b fault outer step h stands = λ are of_record more few.
+  pub faulty_field : (at : At) (slots : Vec (Option O)) (start : F) (branch : Option ℕ) (a b : NodeId) (fault outer : Box Fault) → turned outer.value ≡ fault_in (length slots.items) (turned fault.value)
+      → FieldsStandAs S T writer reader nodes fs at (Slots.Good slots start branch a b) vs → stands_at a b (length slots.items) (Made.Faulty fault)
+      → FieldsStandAs S T writer reader nodes fs at (Slots.Faulty outer) (vs ++ v ∷ [])
+  faulty_field Ignored slots start branch a b fault outer step h stands = absurd h
+  faulty_field (Pair w r) slots start branch a b fault outer step h stands = λ are of_record more few.
       let wn = node_at writer w.0 in
       let rn = node_at reader r.0 in
       let ws = fields_at (node_at writer a.0) in
@@ -215,35 +219,35 @@ module _ {O : Type 0} (S : O → Value → Type 0) (writer reader nodes : List N
       let small = smaller (values_size (values_from (vs ++ v ∷ []))) (values_size (values_from ((vs ++ v ∷ []) ++ more))) (size_front (vs ++ v ∷ []) more) few in
       let good = h are of_record (front_small small) in
       let got = sourced_bad S writer reader nodes (node_at nodes id) (unwrap_or (slice_get (field_ids ws) (length vs)) 0) v are
-      (field_there S writer reader wn rn slots.items branch a b vs good nodes fs id are of_record is_field) (field_small small)
+      (field_there S T writer reader wn rn slots.items start branch a b vs good nodes fs id are of_record is_field) (field_small small)
       (reader_field ws rs (length vs)) fault (at_count a b (Made.Faulty fault) (length slots.items) good.counted stands) in
-      record_fails S writer reader wn rn slots.items branch a b vs good v got.0 (turned fault) got.1 got.2 more ∙ ap as_fault (sym step)
+      record_fails S T writer reader wn rn slots.items start branch a b vs good v got.0 (turned fault.value) got.1 got.2 more ∙ ap as_fault (sym step)
 
-  pub field_after_fault : (at : At) (fault : Fault) → FieldsStandAs S writer reader nodes fs at (Slots.Faulty fault) vs → FieldsStandAs S writer reader nodes fs at (Slots.Faulty fault) (vs ++ v ∷ [])
+  pub field_after_fault : (at : At) (fault : Box Fault) → FieldsStandAs S T writer reader nodes fs at (Slots.Faulty fault) vs → FieldsStandAs S T writer reader nodes fs at (Slots.Faulty fault) (vs ++ v ∷ [])
   field_after_fault Ignored fault h = absurd h
   field_after_fault (Pair w r) fault h = λ are of_record more.
-      subst (λ (xs : List Value). IsSmall (values_size (values_from xs)) → resolve writer reader (node_at writer w.0) (node_at reader r.0) (Value.record_of (values_from xs)) ≡ Err (turned fault)) (sym (append_assoc vs (v ∷ []) more))
+      subst (λ (xs : List Value). IsSmall (values_size (values_from xs)) → resolve writer reader (node_at writer w.0) (node_at reader r.0) (Value.record_of (values_from xs)) ≡ Err (turned fault.value)) (sym (append_assoc vs (v ∷ []) more))
       (h are of_record (v ∷ more))
 
 -- ---- Records
 
-module _ {O : Type 0} (S : O → Value → Type 0) (writer reader nodes : List Node) (name : Name) (aliases : List Name) (fs : List FieldNode) (vs : List Value) where
-  pub good_record : (at : At) (slots : Vec (Option O)) (branch : Option ℕ) (a b : NodeId) (result : Result (Made O) AllocError)
-      → ((found : Sourced) → SlotsAre S found slots.items
-      → IfOk result (λ made. MadeAs S made (wrapped branch (Ok (Value.record_of (field_values (fields_at (node_at writer a.0)) found (fields_at (node_at reader b.0))))))))
-      → FieldsStandAs S writer reader nodes fs at (Slots.Good slots branch a b) vs
-      → IfOk result (λ made. StandsAs S writer reader nodes (Node.record_of name aliases fs) at made (Value.record_of (values_from vs)))
-  good_record at slots branch a b (Err e) law h = tt
-  good_record Ignored slots branch a b (Ok made) law h = absurd h
-  good_record (Pair w r) slots branch a b (Ok made) law h = λ are is small.
+module _ {O F : Type 0} (S : O → Value → Type 0) (T : Option ℕ → F → List Value → Type 0) (writer reader nodes : List Node) (name : Name) (aliases : List Name) (fs : List FieldNode) (vs : List Value) where
+  pub good_record : (at : At) (slots : Vec (Option O)) (start : F) (branch : Option ℕ) (a b : NodeId) (SN : O → Value → Type 0) (out : O)
+      → ((found : Sourced) → SlotsAre S found slots.items → T branch start []
+      → SN out (in_branch branch (Value.record_of (field_values (fields_at (node_at writer a.0)) found (fields_at (node_at reader b.0))))))
+      → FieldsStandAs S T writer reader nodes fs at (Slots.Good slots start branch a b) vs
+      → StandsAs SN writer reader nodes (Node.record_of name aliases fs) at (Made.Good out) (Value.record_of (values_from vs))
+  good_record Ignored slots start branch a b SN out law h = absurd h
+  good_record (Pair w r) slots start branch a b SN out law h = λ are is small.
       let less : values_size (values_from vs) ≤ suc (values_size (values_from vs)) = omega arith in
       let good = h are (sym (ap fields_at is)) (smaller (values_size (values_from vs)) (suc (values_size (values_from vs))) less small) in
-      subst (MadeAs S made) (sym (record_whole S writer reader (node_at writer w.0) (node_at reader r.0) slots.items branch a b vs good)) (law good.found good.stands)
+      subst (MadeAs SN (Made.Good out)) (sym (record_whole S T writer reader (node_at writer w.0) (node_at reader r.0) slots.items start branch a b vs good))
+      (made_in SN branch out (Value.record_of (field_values (fields_at (node_at writer a.0)) good.found (fields_at (node_at reader b.0)))) (law good.found good.stands good.starts))
 
-  pub faulty_record : (at : At) (fault : Fault) → FieldsStandAs S writer reader nodes fs at (Slots.Faulty fault) vs
+  pub faulty_record : (at : At) (fault : Box Fault) → FieldsStandAs S T writer reader nodes fs at (Slots.Faulty fault) vs
       → StandsAs S writer reader nodes (Node.record_of name aliases fs) at (Made.Faulty fault) (Value.record_of (values_from vs))
   faulty_record Ignored fault h = absurd h
   faulty_record (Pair w r) fault h = λ are is small.
       let less : values_size (values_from vs) ≤ suc (values_size (values_from vs)) = omega arith in
-      subst (λ (xs : List Value). IsSmall (values_size (values_from xs)) → resolve writer reader (node_at writer w.0) (node_at reader r.0) (Value.record_of (values_from xs)) ≡ Err (turned fault)) (append-nil vs)
+      subst (λ (xs : List Value). IsSmall (values_size (values_from xs)) → resolve writer reader (node_at writer w.0) (node_at reader r.0) (Value.record_of (values_from xs)) ≡ Err (turned fault.value)) (append-nil vs)
       (h are (sym (ap fields_at is)) []) (smaller (values_size (values_from vs)) (suc (values_size (values_from vs))) less small)

@@ -10,13 +10,13 @@ use Rattle.avro_schema.specs.Node.{Node, FieldNode, node_at, root_of, items_node
 use Rattle.avro_schema.specs.Distinct.{are_distinct}
 use Rattle.avro_schema.specs.Fits.{fits, each_fits, entries_fit, fields_fit, is_some_and, is_count, is_text}
 use Rattle.avro_schema.specs.WellFormed.{meets_its_rules, are_fields, is_schema}
-use Rattle.avro_resolve.specs.Match.{Matches}
-use Rattle.avro_resolve.specs.Source.{reader_field, missing_field}
-use Rattle.avro_resolve.specs.Fault.{ResolutionFault}
-use Rattle.avro_resolve.specs.Resolve.{Resolved, Sourced, inside, result_map, branch_node, part_at, fields_at, symbol_at, int_as, bytes_as, string_as, enum_as, record_or_missing, field_values, resolve, resolve_items, resolve_entries, resolve_sources, resolve_root}
+use Rattle.avro_compare.specs.Match.{Matches}
+use Rattle.avro_compare.specs.Source.{reader_field, missing_field}
+use Rattle.avro_compare.specs.Fault.{ResolutionFault}
+use Rattle.avro_compare.specs.Resolve.{Resolved, Sourced, inside, result_map, branch_node, part_at, fields_at, symbol_at, int_as, bytes_as, string_as, enum_as, record_or_missing, field_values, resolve, resolve_items, resolve_entries, resolve_sources, resolve_root}
 use Rattle.avro_resolve.proofs.Outcomes.{IfOk-inside, IfOk-result_map, IfOk-both}
 use Rattle.avro_resolve.proofs.AtMatch.{FitsAt, IsPlain, null-at, boolean-at, int-at, long-at, bytes-at, string-at, fixed-at, enum-at, part-from, items-kept, values-kept, fields-kept, fields-from}
-use Rattle.avro_resolve.proofs.Rules.{MeetRules, MeetRules-from_is_schema}
+use Rattle.avro_compare.proofs.public.Rules.{MeetRules, MeetRules-from_is_schema, good-fields}
 use Rattle.avro_resolve.proofs.Branches.{through-fits}
 use Rattle.avro_resolve.proofs.RecordFields.{AreSourced, with_sourced-fits, id_at, field_values-fit}
 
@@ -81,11 +81,6 @@ map-at writer reader es ds {w = w} {q = q} m plain h entries =
 
 map-values : (writer : List Node) (w : Node) (es : Entries) → FitsAt writer w (Value.map_of es) → entries_fit writer (part_at writer (values_node w)) es ≡ true
 map-values writer w es h = part-from (λ id. entries_fit writer (node_at writer id) es) (values_node w) (map-parts writer w es h).3
-
--- the fields of a node
-pub good-fields : (reader : List Node) (q : Node) → meets_its_rules reader q ≡ true → are_fields reader (fields_at q) ≡ true
-good-fields reader (Node.record_of name aliases fields) h = h
-good-fields reader _ h = refl
 
 record-at : (writer reader : List Node) (vs : Values) (w q : Node) → Matches writer reader w q → IsPlain q → meets_its_rules reader q ≡ true
     → FitsAt writer w (Value.record_of vs) → (sourced : Result Sourced ResolutionFault)

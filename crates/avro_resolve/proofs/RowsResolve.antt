@@ -7,8 +7,8 @@ use Rattle.avro_schema.specs.Node.{Node, root_of}
 use Rattle.avro_schema.specs.Fits.{fits}
 use Rattle.avro_schema.specs.WellFormed.{is_schema}
 use Rattle.avro_schema.proofs.public.RowsSchemas.{plain_field, aliased_field, simply, one_value, two_values, array_of_int, array_of_string, array_of_int_union, map_of_int, map_of_string_union, long_or_int, long_and_string, string_and_long, three_symbols, two_symbols, one_of_int, two_of_one_simple_name, linked_list, doubled, doubled_value, no_fields, chain_of_four, chain_of_three, array_of_one, array_of_two, second_field, second_field_by_default, before_renaming, after_renaming, record_of_int}
-use Rattle.avro_resolve.specs.Fault.{FaultCause, no_match, no_branch, missing_field_at, no_symbol, not_utf8, ResolutionFault}
-use Rattle.avro_resolve.specs.Resolve.{resolve_root}
+use Rattle.avro_compare.specs.Fault.{FaultCause, no_match, no_branch, missing_field_at, no_symbol, not_utf8, ResolutionFault}
+use Rattle.avro_compare.specs.Resolve.{resolve_root}
 
 -- a fault and its path
 abbrev fault_at : FaultCause → List ℕ → ResolutionFault

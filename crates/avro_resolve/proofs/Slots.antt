@@ -13,23 +13,16 @@ use Rattle.avro_schema.specs.Node.{Node, FieldNode, node_at}
 use Rattle.avro_schema.specs.Seen.{value_of, values_of, values_from, seen_fields, field_of}
 use Rattle.avro_schema.specs.declared.datum.Datum.{Datum}
 use Rattle.avro_schema.specs.declared.schema.Field.{Field}
-use Rattle.avro_binary.proofs.public.Zipped.{zipped-push, zipped-map}
-use Rattle.avro_resolve.specs.Fault.{ResolutionFault}
-use Rattle.avro_resolve.specs.Source.{source_of}
-use Rattle.avro_resolve.specs.Resolve.{Sourced, sourced_at, resolve_sources, result_map, field_value, field_values, fields_at}
-use Rattle.avro_resolve.specs.Ends.{Slotted, SlotsAre, SlotsFor, IsField, here, later, IsSeen, slot_out, EndsSlot, EndsFound, field_step, Fails, AllBelow, before}
+use Rattle.avro_binary.proofs.public.Zipped.{zipped-map}
+use Rattle.avro_compare.specs.Fault.{ResolutionFault}
+use Rattle.avro_compare.specs.Source.{source_of}
+use Rattle.avro_compare.specs.Resolve.{Sourced, sourced_at, resolve_sources, result_map, field_value, field_values, fields_at}
+use Rattle.avro_compare.specs.Fields.{IsField, here, later}
+use Rattle.avro_resolve.specs.Ends.{Slotted, SlotsAre, SlotsFor, IsSeen, slot_out, EndsSlot, EndsFound, field_step, Fails, AllBelow, before}
 use Rattle.avro_resolve.specs.declared.error.ResolveError.{ResolveError}
-use Rattle.avro_resolve.proofs.InOrder.{next_in, fails_mapped}
-use Rattle.avro_resolve.proofs.Resolved.{good-fields}
-use Rattle.avro_resolve.proofs.Rules.{MeetRules-from_is_schema}
-use Rattle.avro_resolve.proofs.public.Sources.{is_index-same, two_readers, are_distinct-back}
-
--- names of a node's fields are distinct
-pub distinct_fields : (nodes : List Node) (id : ℕ) → is_schema nodes ≡ true → are_distinct bytes_eq (flat_map field_names (fields_at (node_at nodes id))) ≡ true
-distinct_fields nodes id formed = of_fields (fields_at (node_at nodes id)) (good-fields nodes (node_at nodes id) (MeetRules-from_is_schema nodes formed id))
-  where
-    of_fields : (fs : List FieldNode) → are_fields nodes fs ≡ true → are_distinct bytes_eq (flat_map field_names fs) ≡ true
-    of_fields fs h = grind arith
+use Rattle.avro_compare.proofs.public.Lists.{next_in, seen_next, get_past, get_before, get_last}
+use Rattle.avro_resolve.proofs.InOrder.{fails_mapped}
+use Rattle.avro_compare.proofs.public.Sources.{is_index-same, two_readers, are_distinct-back}
 
 -- ---- What a field takes
 
@@ -73,14 +66,6 @@ module _ {O : Type 0} (S : O → Value → Type 0) (ws : List FieldNode) (found 
 
 -- ---- The reader's fields in order
 
-pub seen_next : (fs : List Field) (i : ℕ) (d : Field) → i < length fs → seen_fields (drop i fs) ≡ field_of (slice_index_or fs i d) ∷ seen_fields (drop (i + 1) fs)
-seen_next fs i d low = ap seen_fields (next_in fs i d low)
-
-pub seen_at : (fs : List Field) (i : ℕ) (f : Field) → i < length fs → f ≡ slice_index_or fs i f → slice_get (seen_fields fs) i ≡ Some (field_of f)
-seen_at [] i f low is = absurd (omega (arith, low))
-seen_at (g ∷ fs) zero f low is = ap (λ (h : Field). Some (field_of h)) (sym is)
-seen_at (g ∷ fs) (suc i) f low is = seen_at fs i f (omega (arith, low)) is
-
 pub all_slots : {O : Type 0} (S : O → Value → Type 0) (ws rs : List FieldNode) (found : Sourced) (slots : List (Option O)) → SlotsAre S found slots → SlotsFor S ws rs found slots
 all_slots S ws rs found slots h = λ g is k src. h k
 
@@ -89,8 +74,8 @@ values_seen ws [] found = refl
 values_seen ws (f ∷ fs) found = ap (value (field_value ws found f)) (values_seen ws fs found)
 
 -- what was made of the fields so far, before those that are left
-abbrev pub ValuesSoFar : {O : Type 0} → (O → Value → Type 0) → List FieldNode → Sourced → List Field → List O → List FieldNode → Type 0
-ValuesSoFar S ws found reads made fs = (us : List Value) × AllZip S made us × (us ++ map (field_value ws found) fs ≡ map (field_value ws found) (seen_fields reads))
+abbrev pub ValuesSoFar : {F : Type 0} → (F → List Value → Type 0) → List FieldNode → Sourced → List Field → F → List FieldNode → Type 0
+ValuesSoFar T ws found reads made fs = (us : List Value) × T made us × (us ++ map (field_value ws found) fs ≡ map (field_value ws found) (seen_fields reads))
 
 module _ (ws : List FieldNode) (reads : List Field) (i : ℕ) (f : Field) (low : i < length reads) (is : f ≡ slice_index_or reads i f) where
   field_next : seen_fields (drop i reads) ≡ field_of f ∷ seen_fields (drop (i + 1) reads)
@@ -107,23 +92,24 @@ module _ (ws : List FieldNode) (reads : List Field) (i : ℕ) (f : Field) (low :
     pub slots_here : (slots : List (Option O)) → SlotsFor S ws (seen_fields (drop i reads)) found slots → SlotsFor S ws (field_of f ∷ seen_fields (drop (i + 1) reads)) found slots
     slots_here slots h = subst (λ (fs : List FieldNode). SlotsFor S ws fs found slots) field_next h
 
-    pub values_more : (made new : List O) (out : O) → new ≡ made ++ out ∷ [] → S out (field_value ws found (field_of f))
-        → ValuesSoFar S ws found reads made (seen_fields (drop i reads)) → ValuesSoFar S ws found reads new (seen_fields (drop (i + 1) reads))
-    values_more made new out pushed stands h =
+  module _ {F : Type 0} (T U : F → List Value → Type 0) (found : Sourced) where
+    pub values_more : (made new : F) → ((us : List Value) → T made us → U new (us ++ field_value ws found (field_of f) ∷ []))
+        → ValuesSoFar T ws found reads made (seen_fields (drop i reads)) → ValuesSoFar U ws found reads new (seen_fields (drop (i + 1) reads))
+    values_more made new law h =
         let x = field_value ws found (field_of f) in
         let rest = map (field_value ws found) (seen_fields (drop (i + 1) reads)) in (
           h.0 ++ x ∷ [],
-          subst (λ (outs : List O). AllZip S outs (h.0 ++ x ∷ [])) (sym pushed) (zipped-push S made h.0 out x h.1 stands),
+          law h.0 h.1,
           append_assoc h.0 (x ∷ []) rest ∙ ap (λ (fs : List FieldNode). h.0 ++ map (field_value ws found) fs) (sym field_next) ∙ h.2,
         )
 
-module _ {O : Type 0} (S : O → Value → Type 0) (ws : List FieldNode) (found : Sourced) (reads : List Field) where
-  pub no_values_yet : (made : List O) → made ≡ [] → ValuesSoFar S ws found reads made (seen_fields reads)
-  no_values_yet made none = ([], subst (λ (outs : List O). AllZip S outs []) (sym none) tt, refl)
+module _ {F : Type 0} (T : F → List Value → Type 0) (ws : List FieldNode) (found : Sourced) (reads : List Field) where
+  pub no_values_yet : (made : F) → T made [] → ValuesSoFar T ws found reads made (seen_fields reads)
+  no_values_yet made none = ([], none, refl)
 
-  pub values_all : (i : ℕ) (made : List O) → length reads ≤ i → ValuesSoFar S ws found reads made (seen_fields (drop i reads)) → AllZip S made (map (field_value ws found) (seen_fields reads))
+  pub values_all : (i : ℕ) (made : F) → length reads ≤ i → ValuesSoFar T ws found reads made (seen_fields (drop i reads)) → T made (map (field_value ws found) (seen_fields reads))
   values_all i made high h =
-      subst (AllZip S made)
+      subst (T made)
       (sym (append-nil h.0) ∙ ap (λ (fs : List Field). h.0 ++ map (field_value ws found) (seen_fields fs)) (sym (drop_of_length-le reads high)) ∙ h.2) h.1
 
 pub data_filled : (ws : List FieldNode) (found : Sourced) (rs : List FieldNode) (made : List Datum) → AllZip IsSeen made (map (field_value ws found) rs) → values_of made ≡ field_values ws found rs
@@ -159,21 +145,6 @@ last_is (s ∷ ss) m u below = cond-false (s.0 == m) s.1 (sourced_at (ss ++ (m, 
   where
     lower : (a b : ℕ) → a ≡ b → a < b → ⊥
     lower a b e h = omega (arith, e, h)
-
-pub get_before : {A : Type 0} (xs : List A) (x : A) (k : ℕ) → k < length xs → slice_get (xs ++ x ∷ []) k ≡ slice_get xs k
-get_before [] x k low = absurd (omega (arith, low))
-get_before (y ∷ xs) x zero low = refl
-get_before (y ∷ xs) x (suc k) low = get_before xs x k (omega (arith, low))
-
-pub get_last : {A : Type 0} (xs : List A) (x : A) → slice_get (xs ++ x ∷ []) (length xs) ≡ Some x
-get_last [] x = refl
-get_last (y ∷ xs) x = get_last xs x
-
-pub get_past : {A : Type 0} (xs : List A) (x : A) (k : ℕ) → length xs < k → slice_get (xs ++ x ∷ []) k ≡ None
-get_past [] x zero high = absurd (omega (arith, high))
-get_past [] x (suc k) high = refl
-get_past (y ∷ xs) x zero high = absurd (omega (arith, high))
-get_past (y ∷ xs) x (suc k) high = get_past xs x k (omega (arith, high))
 
 module _ {O : Type 0} (S : O → Value → Type 0) (found : Sourced) (slots : List (Option O)) (m : ℕ) (count : length slots ≡ m) (below : AllBelow m found) (so_far : SlotsAre S found slots) where
   by_index : (found' : Sourced) (o : Option O) → ((k : ℕ) → (k ≡ m → ⊥) → sourced_at found' k ≡ sourced_at found k) → Slotted S (Some o) (sourced_at found' m) → SlotsAre S found' (slots ++ o ∷ [])

@@ -9,8 +9,8 @@ use Rattle.avro_schema.specs.Node.{Node}
 use Rattle.avro_schema.specs.Seen.{value_of}
 use Rattle.avro_schema.specs.declared.datum.Datum.{Datum}
 use Rattle.avro_schema.proofs.public.DatumViews.{value_of-Str}
-use Rattle.avro_resolve.specs.Fault.{fault_here, not_utf8}
-use Rattle.avro_resolve.specs.Resolve.{bytes_as}
+use Rattle.avro_compare.specs.Fault.{fault_here, not_utf8}
+use Rattle.avro_compare.specs.Resolve.{bytes_as}
 
 pub text_taken : (b t : List ℕ) (n : Node) → n ≡ Node.string → t ≡ b → is_utf8 b ≡ true → bytes_as b n ≡ Ok (Value.string t)
 text_taken b t n e same good =

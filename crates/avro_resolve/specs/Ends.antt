@@ -5,12 +5,13 @@ use Rattle.avro_schema.specs.Value.{Value, Values, Entries, value, entry}
 use Rattle.avro_schema.specs.Node.{Node, FieldNode, node_at, items_node, values_node}
 use Rattle.avro_schema.specs.Seen.{value_of}
 use Rattle.avro_schema.specs.declared.datum.Datum.{Datum}
-use Rattle.avro_resolve.specs.Fault.{ResolutionFault, fault_here}
-use Rattle.avro_resolve.specs.Resolve.{Resolved, Sourced, sourced_at, int_as, bytes_as, string_as, enum_as, symbol_at, part_at, fields_at, result_map, resolve, resolve_items, resolve_entries, resolve_sources, record_or_missing, with_sourced}
-use Rattle.avro_resolve.specs.Source.{source_of, reader_field, missing_field}
-use Rattle.avro_resolve.specs.Seen.{cause_of}
-use Rattle.avro_resolve.specs.declared.error.Fault.{Fault}
-use Rattle.avro_resolve.specs.declared.error.FaultKind.{FaultKind}
+use Rattle.avro_compare.specs.Fields.{IsField}
+use Rattle.avro_compare.specs.Fault.{ResolutionFault, fault_here}
+use Rattle.avro_compare.specs.Resolve.{Resolved, Sourced, sourced_at, int_as, bytes_as, string_as, enum_as, symbol_at, part_at, fields_at, result_map, resolve, resolve_items, resolve_entries, resolve_sources, record_or_missing, with_sourced}
+use Rattle.avro_compare.specs.Source.{source_of, reader_field, missing_field}
+use Rattle.avro_compare.specs.Seen.{cause_of}
+use Rattle.avro_compare.specs.declared.error.Fault.{Fault}
+use Rattle.avro_compare.specs.declared.error.FaultKind.{FaultKind}
 use Rattle.avro_resolve.specs.declared.error.ResolveError.{ResolveError}
 
 -- a fault whose path is kept from its end
@@ -58,11 +59,6 @@ Slotted S None v = v ≡ Value.null
 -- each slot holds what was found for its index
 abbrev pub SlotsAre : {O : Type 0} → (O → Value → Type 0) → Sourced → List (Option O) → Type 0
 SlotsAre S found slots = (k : ℕ) → Slotted S (slice_get slots k) (sourced_at found k)
-
--- a field is one of some fields
-pub data IsField : FieldNode → List FieldNode → Type 0 where
-  here : {f : FieldNode} {fs : List FieldNode} → IsField f (f ∷ fs)
-  later : {f g : FieldNode} {fs : List FieldNode} → IsField f fs → IsField f (g ∷ fs)
 
 -- so does each slot that is the source of one of some fields
 abbrev pub SlotsFor : {O : Type 0} → (O → Value → Type 0) → List FieldNode → List FieldNode → Sourced → List (Option O) → Type 0

@@ -1,11 +1,6 @@
-pub mod Match
-pub mod Source
-pub mod Fault
-pub mod Resolve
 pub mod Seen
 pub mod Reading
-pub mod Pairs
 pub mod Ends
-pub mod Planned
+pub mod IntoBranch
 pub mod Tables
 pub mod inside

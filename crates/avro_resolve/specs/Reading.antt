@@ -10,8 +10,9 @@ use Rattle.avro_binary.specs.Encoding.{Encodes}
 use Rattle.avro_binary.specs.Fault.{ReadFault}
 use Rattle.avro_binary.specs.Breaks.{Breaks}
 use Rattle.avro_binary.specs.Seen.{read_fault}
-use Rattle.avro_resolve.specs.Resolve.{Resolved, resolve_root}
-use Rattle.avro_resolve.specs.Seen.{fault_of, UnlessOutOfMemory, AnswersAfter, BuiltAfter, IfUnread, IfUnresolved, IsUnread}
+use Rattle.avro_compare.specs.Resolve.{Resolved, resolve_root}
+use Rattle.avro_compare.specs.Seen.{fault_of}
+use Rattle.avro_resolve.specs.Seen.{UnlessOutOfMemory, AnswersAfter, BuiltAfter, IfUnread, IfUnresolved, IsUnread}
 use Rattle.avro_resolve.specs.declared.error.ReadResolveError.{ReadResolveError}
 
 -- An encoding of a writer's datum within limits stands at the front, in `len` bytes, and resolution gives this of the

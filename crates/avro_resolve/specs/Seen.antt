@@ -5,22 +5,11 @@ use Rattle.avro_schema.specs.Seen.{value_of}
 use Rattle.avro_schema.specs.declared.datum.Datum.{Datum}
 use Rattle.avro_binary.specs.declared.error.ReadError.{ReadError}
 use Rattle.avro_binary.specs.declared.error.ReadError.TheVariants.{OutOfMemory}
-use Rattle.avro_resolve.specs.Fault.{FaultCause, no_match, no_branch, missing_field_at, no_symbol, not_utf8, ResolutionFault}
-use Rattle.avro_resolve.specs.Resolve.{Resolved}
-use Rattle.avro_resolve.specs.declared.error.Fault.{Fault}
-use Rattle.avro_resolve.specs.declared.error.FaultKind.{FaultKind}
+use Rattle.avro_compare.specs.Resolve.{Resolved}
+use Rattle.avro_compare.specs.Seen.{fault_of}
+use Rattle.avro_compare.specs.declared.error.Fault.{Fault}
 use Rattle.avro_resolve.specs.declared.error.ResolveError.{ResolveError}
 use Rattle.avro_resolve.specs.declared.error.ReadResolveError.{ReadResolveError}
-
-abbrev pub cause_of : FaultKind → FaultCause
-cause_of FaultKind.NoMatch = no_match
-cause_of FaultKind.NoBranch = no_branch
-cause_of (FaultKind.MissingField index) = missing_field_at index
-cause_of FaultKind.NoSymbol = no_symbol
-cause_of FaultKind.NotUtf8 = not_utf8
-
-abbrev pub fault_of : Fault → ResolutionFault
-fault_of f = record { cause = cause_of f.kind; path = f.path.items }
 
 -- the result is what resolution gives, unless memory ran out
 abbrev pub Answers : Result Datum ResolveError → Resolved → Type 0

@@ -1,6 +1,3 @@
 -- What only proofs and private contracts need.
-pub mod ByNode
 pub mod Guided
-pub mod NameNumbers
-pub mod NameTables
-pub mod Noting
+pub mod Later

@@ -1,10 +1,11 @@
 ghost use Rattle.std.specs.Prelude.{◌≡◌, IfOk};
 ghost use Rattle.avro_resolve.specs.Ends.{Fails, failed, turned};
-ghost use Rattle.avro_resolve.specs.Fault.{fault_here as here, fault_in as within};
-ghost use Rattle.avro_resolve.specs.Resolve.{Resolved, inside};
-ghost use Rattle.avro_resolve.specs.Seen.{cause_of, fault_of};
+ghost use Rattle.avro_compare.specs.Fault.{fault_here as here, fault_in as within};
+ghost use Rattle.avro_compare.specs.Resolve.{Resolved, inside};
+ghost use Rattle.avro_compare.specs.Seen.{cause_of, fault_of};
 
-use crate::error::{Fault, FaultKind, ResolveError};
+use crate::error::ResolveError;
+use avro_compare::{Fault, FaultKind};
 use std::alloc::{AllocError, Global};
 
 /// A fault of the datum at hand.
@@ -15,6 +16,24 @@ pub(crate) fn faulty(alloc: Global, kind: FaultKind) -> Fault
         kind,
         path: Vec::new(alloc),
     }
+}
+
+/// A fault of the datum at hand, kept apart.
+#[inline(never)]
+pub(crate) fn fault_apart(alloc: Global, kind: FaultKind) -> Result<Box<Fault>, AllocError>
+    ensures { IfOk result (λ fault. turned fault.value ≡ here (cause_of kind)) }
+{
+    Ok(Box::new(alloc, faulty(alloc, kind))?)
+}
+
+/// The same fault, seen from the datum around, where it is kept.
+#[inline(never)]
+pub(crate) fn step_apart(step: usize, fault: Box<Fault>) -> Result<Box<Fault>, AllocError>
+    ensures { IfOk result (λ outer. turned outer.value ≡ within step (turned fault.value)) }
+{
+    let mut outer = fault;
+    outer.path.push(step)?;
+    Ok(outer)
 }
 
 /// The same fault, seen from the datum around. Paths are kept from their end, so that each level is a
@@ -36,6 +55,14 @@ pub(crate) fn turn(fault: Fault) -> Fault
     let mut path = fault.path;
     path.reverse();
     Fault { kind, path }
+}
+
+/// The same of a fault that is kept apart.
+#[inline(never)]
+pub(crate) fn turn_apart(fault: Box<Fault>) -> Fault
+    ensures { fault_of result ≡ turned fault.value }
+{
+    turn(Box::into_inner(fault))
 }
 
 /// The error of a fault of the datum at hand.

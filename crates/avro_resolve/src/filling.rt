@@ -1,16 +1,18 @@
-ghost use Rattle.std.specs.Prelude.{◌≡◌, ◌++◌, ◌∷◌, ℕ, true, IfOk, List, Some, map, slice_get, bytes_eq};
+ghost use Rattle.std.specs.Prelude.{◌≡◌, ◌++◌, ◌∷◌, [], ℕ, true, IfOk, List, OnOk, Option, Some, map, slice_get, bytes_eq};
 ghost use Rattle.std.specs.List.{AllZip, flat_map};
 ghost use Rattle.avro_schema.specs.Node.{FieldNode};
 ghost use Rattle.avro_schema.specs.Distinct.{are_distinct};
 ghost use Rattle.avro_schema.specs.WellFormed.{field_names};
 ghost use Rattle.avro_schema.specs.Seen.{values_of, field_of, seen_fields};
-ghost use Rattle.avro_resolve.specs.Resolve.{Sourced, field_value, field_values};
-ghost use Rattle.avro_resolve.specs.Planned.{AreSources};
-ghost use Rattle.avro_resolve.specs.Source.{source_of};
+ghost use Rattle.avro_compare.specs.Resolve.{Sourced, field_value, field_values};
+ghost use Rattle.avro_compare.specs.Planned.{AreSources};
+ghost use Rattle.avro_compare.specs.Source.{source_of};
 ghost use Rattle.avro_resolve.specs.Ends.{SlotsAre, SlotsFor, IsSeen, slot_out};
 
-use crate::sourcing::source_kept;
-use avro_binary::{Build, Tree};
+use crate::put::Put;
+use crate::wrapping::Wrapping;
+use avro_binary::Tree;
+use avro_compare::source_kept;
 use avro_schema::{Datum, Field};
 use std::alloc::{AllocError, Global};
 
@@ -29,57 +31,63 @@ pub(crate) fn fill_data(
         → IfOk result (λ values. values_of values.items ≡ field_values (seen_fields writes.now) found (seen_fields reads.now)) }
 {
     let mut tree = Tree;
-    fill(alloc, &mut tree, writes, reads, sources, slots)
+    let mut builder = Wrapping::new(&mut tree);
+    let start = (Vec::new(alloc), None);
+    let filled = fill(alloc, &mut builder, writes, reads, sources, slots, start)?;
+    Ok(filled.1.0)
 }
 
-/// What is built of the values of a reader's fields, in its order: each is what is in the slot of its
-/// source, or of its default.
-pub(crate) fn fill<B: Build>(
+/// What is made of the fields of a reader's record, in its order: each is what is in the slot of its
+/// source, or its default. Answers the slots, too.
+pub(crate) fn fill<P: Put>(
     alloc: Global,
-    builder: &mut B,
+    builder: &mut P,
     writes: &[Field],
     reads: &[Field],
     sources: &[Option<usize>],
-    slots: Vec<Option<B::Out>>,
-) -> Result<Vec<B::Out>, AllocError>
+    slots: Vec<Option<P::Out>>,
+    start: P::Fields,
+) -> Result<(Vec<Option<P::Out>>, P::Fields), AllocError>
     requires distinct { are_distinct bytes_eq (flat_map field_names (seen_fields reads.now)) ≡ true }
     requires sources { AreSources (seen_fields writes.now) (seen_fields reads.now) sources.now }
-    ensures { (found : Sourced) → SlotsAre B.stands_for found slots.items
-        → IfOk result (λ values. AllZip B.stands_for values.items (map (field_value (seen_fields writes.now) found) (seen_fields reads.now))) }
+    ensures kept { OnOk result (P.keeps builder.old builder.new) }
+    ensures stands { (found : Sourced) (into : Option ℕ) → SlotsAre (P.stands_for builder.old) found slots.items → P.fields_stand_for builder.old into start []
+        → IfOk result (λ filled. P.fields_stand_for builder.new into filled.1 (map (field_value (seen_fields writes.now) found) (seen_fields reads.now))) }
 {
     let mut slots = slots;
-    let mut values = Vec::new(alloc);
+    let mut fields = start;
     for index in 0..reads.len() {
         let f = &reads[index];
         let source = source_kept(writes, sources, index, f);
         let value = value_of_field(alloc, builder, source, f, &mut slots)?;
-        values.push(value)?;
+        builder.field(alloc, &mut fields, value)?;
     }
-    Ok(values)
+    Ok((slots, fields))
 }
 
-/// What is built of the value of a reader's field, by its source.
-fn value_of_field<B: Build>(
+/// What is made of the value of a reader's field, by its source.
+fn value_of_field<P: Put>(
     alloc: Global,
-    builder: &mut B,
+    builder: &mut P,
     source: Option<usize>,
     f: &Field,
-    slots: &mut Vec<Option<B::Out>>,
-) -> Result<B::Out, AllocError>
-    ensures { (ws : List FieldNode) (found : Sourced) (rest : List FieldNode) → source ≡ source_of ws (field_of f.now)
+    slots: &mut Vec<Option<P::Out>>,
+) -> Result<P::Out, AllocError>
+    ensures kept { OnOk result (P.keeps builder.old builder.new) }
+    ensures stands { (ws : List FieldNode) (found : Sourced) (rest : List FieldNode) → source ≡ source_of ws (field_of f.now)
         → are_distinct bytes_eq (field_names (field_of f.now) ++ flat_map field_names rest) ≡ true
-        → SlotsFor B.stands_for ws (field_of f.now ∷ rest) found slots.old.items
-        → SlotsFor B.stands_for ws rest found slots.new.items
-        × IfOk result (λ out. B.stands_for out (field_value ws found (field_of f.now))) }
+        → SlotsFor (P.stands_for builder.old) ws (field_of f.now ∷ rest) found slots.old.items
+        → SlotsFor (P.stands_for builder.old) ws rest found slots.new.items
+        × IfOk result (λ out. P.stands_for builder.new out (field_value ws found (field_of f.now))) }
 {
     match source {
         Some(index) => match taken(slots, index) {
             Some(out) => Ok(out),
-            None => builder.null(alloc),
+            None => builder.null(alloc, None),
         },
         None => match &f.default {
             Some(datum) => builder.default(alloc, datum),
-            None => builder.null(alloc),
+            None => builder.null(alloc, None),
         },
     }
 }

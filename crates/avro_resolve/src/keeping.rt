@@ -1,16 +1,12 @@
 ghost use Rattle.std.specs.Prelude.{◌≡◌, List, IfSome};
 ghost use Rattle.avro_schema.specs.Node.{Node, node_at};
 ghost use Rattle.avro_schema.specs.SeenSchema.{schema_nodes};
-ghost use Rattle.avro_resolve.specs.Pairs.{IsAim, IsSymbol, field_for};
-ghost use Rattle.avro_resolve.specs.Planned.{AreInside, AreComparisons, AreSources, IsComparison};
-ghost use Rattle.avro_resolve.specs.Resolve.{enum_as, fields_at, symbol_at};
-ghost use Rattle.avro_resolve.specs.Source.{missing_field};
+ghost use Rattle.avro_compare.specs.Pairs.{IsAim, IsSymbol, field_for};
+ghost use Rattle.avro_compare.specs.Planned.{AreInside, AreComparisons, AreSources, IsComparison};
+ghost use Rattle.avro_compare.specs.Resolve.{enum_as, fields_at, symbol_at};
+ghost use Rattle.avro_compare.specs.Source.{missing_field};
 
-use crate::comparison::Comparison;
-use crate::guided::{Aim, At};
-use crate::pairs::aim;
-use crate::sourcing::{fields_of, missing, part_for};
-use crate::symbols::symbol_for;
+use avro_compare::{Aim, At, Comparison, aim, fields_of, missing, part_for, symbol_for};
 use avro_schema::{NodeId, Schema};
 
 /// What is kept at an index, if it is of these two nodes.

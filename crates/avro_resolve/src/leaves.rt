@@ -2,13 +2,13 @@ ghost use Rattle.std.specs.Prelude.{◌≡◌, Ok, string_bytes};
 ghost use Rattle.avro_schema.specs.Node.{Node as SeenNode, node_at};
 ghost use Rattle.avro_schema.specs.Seen.{node_of, value_of};
 ghost use Rattle.avro_schema.specs.SeenSchema.{schema_nodes};
-ghost use Rattle.avro_resolve.specs.Resolve.{Resolved, int_as as kept_int, bytes_as as kept_bytes, string_as as kept_string};
-ghost use Rattle.avro_resolve.specs.Pairs.{wrapped as in_branch, Tells};
+ghost use Rattle.avro_compare.specs.Resolve.{Resolved, int_as as kept_int, bytes_as as kept_bytes, string_as as kept_string};
+ghost use Rattle.avro_compare.specs.Pairs.{wrapped as in_branch, Tells};
 ghost use Rattle.avro_resolve.specs.Ends.{Ends, leaf_as};
 
-use crate::error::{FaultKind, ResolveError};
+use crate::error::ResolveError;
 use crate::failing::fault_here;
-use crate::names::Names;
+use avro_compare::{FaultKind, Names};
 use avro_schema::{Datum, Node, NodeId, Schema};
 use std::alloc::Global;
 use std::str::from_utf8;

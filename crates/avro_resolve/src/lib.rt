@@ -8,57 +8,41 @@
 //! [`compare`] finds what two nodes are to each other, by [`Names`], the tables of names of two schemas. A
 //! [`PlanTable`] keeps what was found of some pairs of nodes: of those that it is given, or of those that the
 //! roots lead to. A [`Plan`] reads as [`read_resolved`] does, by such a table beside its schemas; a [`PlanRef`]
-//! borrows both.
+//! borrows both. What is built of a datum is said of what was built alone; a [`Put`] may keep an output as it goes, and what it
+//! made stands in that.
 #![tactic(auto)]
 
-mod by_node;
-mod comparing;
-mod comparison;
 mod error;
 mod failing;
-mod field_tables;
 mod filling;
-mod first_branches;
 mod found;
 mod guided;
 mod keeping;
 pub mod laws;
 mod leaves;
 mod making;
-mod matching;
-mod name_numbers;
-mod named_type;
-mod names;
-mod naming;
-mod numbering;
 mod ordering;
-mod pairs;
 mod parts;
 mod plan;
 mod plan_ref;
 mod plan_table;
+mod put;
 mod read;
 mod recording;
 mod resolution;
 mod resolving;
 mod running;
-mod sourcing;
-mod symbol_tables;
-mod symbols;
-mod union_tables;
 mod walking;
+mod wrapping;
 
 pub use avro_binary::{Build, Nothing, Tree, read_own};
-pub use comparing::compare;
-pub use comparison::Comparison;
-pub use error::{Fault, FaultKind, ReadResolveError, ResolveError};
-pub use guided::{Aim, At};
-pub use matching::matches;
-pub use names::Names;
-pub use pairs::first_match;
+pub use avro_compare::{
+    Aim, At, Comparison, Fault, FaultKind, Names, compare, first_match, matches, source,
+};
+pub use error::{ReadResolveError, ResolveError};
 pub use plan::Plan;
 pub use plan_ref::PlanRef;
 pub use plan_table::PlanTable;
+pub use put::Put;
 pub use read::{decode_resolved, read_resolved};
 pub use resolution::resolve;
-pub use sourcing::source;

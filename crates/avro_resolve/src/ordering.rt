@@ -1,6 +1,5 @@
-use crate::comparison::Comparison;
-use crate::guided::{Aim, At};
 use crate::parts::{items_of, values_of};
+use avro_compare::{Aim, At, Comparison};
 use avro_schema::{Memory, Node, NodeId, Schema};
 use std::alloc::Global;
 

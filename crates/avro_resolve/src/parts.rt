@@ -1,7 +1,7 @@
 ghost use Rattle.std.specs.Prelude.{◌≡◌};
 ghost use Rattle.avro_schema.specs.Node.{node_at};
 ghost use Rattle.avro_schema.specs.SeenSchema.{schema_nodes};
-ghost use Rattle.avro_resolve.specs.Pairs.{item_id, value_id, branch_id};
+ghost use Rattle.avro_compare.specs.Pairs.{item_id, value_id, branch_id};
 
 use avro_schema::{NodeId, Schema};
 

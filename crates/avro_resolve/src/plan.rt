@@ -1,8 +1,8 @@
-use crate::comparing::compare_all;
 use crate::error::ReadResolveError;
 use crate::plan_ref::PlanRef;
 use crate::plan_table::PlanTable;
 use avro_binary::Build;
+use avro_compare::compare_all;
 use avro_schema::{Limits, Memory, NodeId, Schema};
 use std::alloc::Global;
 use std::marker::Model;

@@ -1,10 +1,11 @@
-use crate::comparison::Comparison;
 use crate::error::ReadResolveError;
-use crate::guided::{Aim, At, Part};
+use crate::guided::Part;
 use crate::keeping::{aim_kept, field_kept, missing_kept, sources_kept, symbol_kept};
 use crate::parts::{branch_of, items_of, values_of};
-use crate::read::read_planned;
+use crate::put::Put;
+use crate::read::{put_planned, read_planned};
 use avro_binary::Build;
+use avro_compare::{Aim, At, Comparison};
 use avro_schema::{Limits, NodeId, Schema};
 use std::alloc::Global;
 use std::marker::Model;
@@ -24,7 +25,7 @@ impl<'a> Model for PlanRef<'a> {
     ghost use Rattle.avro_schema.specs.contracts.datum.Datum as datum;
     ghost use Rattle.avro_schema.specs.declared.schema.Schema.{Schema};
     ghost use Rattle.avro_schema.specs.SeenSchema.{schema_nodes};
-    ghost use Rattle.avro_resolve.specs.Planned.{AreComparisons};
+    ghost use Rattle.avro_compare.specs.Planned.{AreComparisons};
 
     ghost Value = { Schema × Schema };
 
@@ -40,11 +41,11 @@ impl<'a> PlanRef<'a> {
     ghost use Rattle.avro_schema.specs.Node.{node_at};
     ghost use Rattle.avro_schema.specs.SeenSchema.{schema_nodes};
     ghost use Rattle.avro_resolve.specs.inside.Guided.{branch_part};
-    ghost use Rattle.avro_resolve.specs.Pairs.{IsAim, IsSymbol, field_for, item_id, value_id, branch_id};
-    ghost use Rattle.avro_resolve.specs.Planned.{AreComparisons, AreSources};
+    ghost use Rattle.avro_compare.specs.Pairs.{IsAim, IsSymbol, field_for, item_id, value_id, branch_id};
+    ghost use Rattle.avro_compare.specs.Planned.{AreComparisons, AreSources};
     ghost use Rattle.avro_resolve.specs.Reading.{BuildsResolved};
-    ghost use Rattle.avro_resolve.specs.Resolve.{enum_as, fields_at, symbol_at};
-    ghost use Rattle.avro_resolve.specs.Source.{missing_field};
+    ghost use Rattle.avro_compare.specs.Resolve.{enum_as, fields_at, symbol_at};
+    ghost use Rattle.avro_compare.specs.Source.{missing_field};
 
     /// The plan of two schemas that keeps these pairs. `parts` holds for each pair the indices of the pairs of its
     /// parts, and `root` is the index of the roots' pair. A pair that is not at its index is resolved by its names.
@@ -84,6 +85,24 @@ impl<'a> PlanRef<'a> {
         read_planned(alloc, self, bytes, limits, builder)
     }
 
+    /// Reads a writer's datum once, as [`read`](PlanRef::read) does, and answers what is made of what it is for the reader by
+    /// one who keeps something as it goes, with the length of its encoding.
+    ///
+    /// # Errors
+    ///
+    /// The first fault of the bytes, and else the first fault of resolution; `OutOfMemory`.
+    pub fn put<P: Put>(
+        &self,
+        alloc: Global,
+        bytes: &[u8],
+        limits: &Limits,
+        builder: &mut P,
+    ) -> Result<(P::Out, usize), ReadResolveError>
+        ensures { BuildsResolved (P.stands_for builder.new) (schema_nodes self.now.0) (schema_nodes self.now.1) limits.now bytes.now result }
+    {
+        put_planned(alloc, self, bytes, limits, builder)
+    }
+
     /// The writer's schema.
     pub fn writer(&self) -> &'a Schema
         ensures { result.now ≡ self.now.0 }
@@ -104,6 +123,7 @@ impl<'a> PlanRef<'a> {
     }
 
     /// The index at which the pair of a part is kept, if it is kept.
+    #[inline(always)]
     pub(crate) fn index_of(&self, part: Part) -> u32 {
         match part.branch {
             Some(branch) => self.index_below(part.index, branch as usize),
@@ -112,6 +132,7 @@ impl<'a> PlanRef<'a> {
     }
 
     /// The index at which the pair of a part is kept, if it is kept. The part is one of the pair at `index`.
+    #[inline(always)]
     pub(crate) fn index_below(&self, index: u32, part: usize) -> u32 {
         match self.parts.get(index as usize) {
             Some(parts) => match parts.get(part) {
@@ -124,6 +145,7 @@ impl<'a> PlanRef<'a> {
 
     /// The index at which the pair is kept that the pair at `index` leads to, if it is kept. That is another pair if
     /// it leads to a branch of the reader's union, and else the same.
+    #[inline(always)]
     pub(crate) fn index_to(&self, index: u32, branch: Option<u32>) -> u32 {
         match branch {
             Some(_) => self.index_below(index, 0),
@@ -132,6 +154,7 @@ impl<'a> PlanRef<'a> {
     }
 
     /// Where a pair of nodes leads.
+    #[inline(always)]
     pub(crate) fn aim(&self, index: u32, w: NodeId, r: NodeId) -> Aim
         ensures { IsAim (schema_nodes self.now.0) (schema_nodes self.now.1)
             (node_at (schema_nodes self.now.0) w.0) (node_at (schema_nodes self.now.1) r.0) result }
@@ -163,6 +186,7 @@ impl<'a> PlanRef<'a> {
     }
 
     /// What the value of a branch of a part is for.
+    #[inline(always)]
     pub(crate) fn part_of_branch(&self, part: Part, branch: u32) -> Part
         ensures { result ≡ branch_part (schema_nodes self.now.0) part branch }
     {
@@ -178,6 +202,7 @@ impl<'a> PlanRef<'a> {
     }
 
     /// The reader's first field without a source and a default.
+    #[inline(always)]
     pub(crate) fn missing(&self, index: u32, w: NodeId, q: NodeId) -> Option<usize>
         ensures { result ≡ missing_field (fields_at (node_at (schema_nodes self.now.0) w.0)) (fields_at (node_at (schema_nodes self.now.1) q.0)) }
     {
@@ -185,6 +210,7 @@ impl<'a> PlanRef<'a> {
     }
 
     /// What the writer's field at an index is for.
+    #[inline(always)]
     pub(crate) fn field(&self, index: u32, w: NodeId, q: NodeId, field: usize) -> At
         ensures { result ≡ field_for (fields_at (node_at (schema_nodes self.now.0) w.0)) (fields_at (node_at (schema_nodes self.now.1) q.0)) field }
     {
@@ -192,6 +218,7 @@ impl<'a> PlanRef<'a> {
     }
 
     /// The sources of the reader's fields, as far as they are kept.
+    #[inline(always)]
     pub(crate) fn sources(&self, index: u32, w: NodeId, q: NodeId) -> &[Option<usize>]
         ensures { AreSources (fields_at (node_at (schema_nodes self.now.0) w.0)) (fields_at (node_at (schema_nodes self.now.1) q.0)) result.now }
     {
@@ -199,6 +226,7 @@ impl<'a> PlanRef<'a> {
     }
 
     /// The reader's symbol for a writer's.
+    #[inline(always)]
     pub(crate) fn symbol(&self, index: u32, w: NodeId, symbol: u32, q: NodeId) -> Option<u32>
         ensures { IsSymbol (enum_as (symbol_at (node_at (schema_nodes self.now.0) w.0) symbol) (node_at (schema_nodes self.now.1) q.0)) result }
     {

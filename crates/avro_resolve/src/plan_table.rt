@@ -1,7 +1,7 @@
-use crate::comparison::Comparison;
 use crate::ordering::indices_of;
 use crate::plan_ref::PlanRef;
 use crate::walking::compare_reached;
+use avro_compare::Comparison;
 use avro_schema::{Memory, Schema};
 use std::alloc::Global;
 
@@ -16,7 +16,7 @@ pub struct PlanTable {
 impl PlanTable {
     ghost use Rattle.std.specs.Prelude.{◌≡◌, IfOk};
     ghost use Rattle.avro_schema.specs.SeenSchema.{schema_nodes};
-    ghost use Rattle.avro_resolve.specs.Planned.{AreComparisons};
+    ghost use Rattle.avro_compare.specs.Planned.{AreComparisons};
     ghost use Rattle.avro_resolve.specs.Tables.{IsTableOf};
 
     /// What a plan keeps of these pairs of nodes, each as [`compare`](crate::compare) found it.

@@ -2,11 +2,14 @@ ghost use Rattle.avro_schema.specs.SeenSchema.{schema_nodes};
 ghost use Rattle.avro_resolve.specs.Reading.{BuildsResolved, ReadsResolved};
 
 use crate::error::ReadResolveError;
-use crate::failing::turn;
-use crate::guided::{At, Made, Part};
+use crate::failing::turn_apart;
+use crate::guided::{Made, Part};
 use crate::plan_ref::PlanRef;
+use crate::put::Put;
 use crate::resolving::Resolving;
+use crate::wrapping::Wrapping;
 use avro_binary::{Build, Tree, read_made};
+use avro_compare::At;
 use avro_schema::{Datum, Limits, Schema};
 use std::alloc::Global;
 
@@ -62,6 +65,20 @@ pub(crate) fn read_planned<B: Build>(
 ) -> Result<(B::Out, usize), ReadResolveError>
     ensures { BuildsResolved B.stands_for (schema_nodes plan.now.0) (schema_nodes plan.now.1) limits.now bytes.now result }
 {
+    let mut put = Wrapping::new(builder);
+    put_planned(alloc, plan, bytes, limits, &mut put)
+}
+
+/// The same by one who keeps something as it goes.
+pub(crate) fn put_planned<P: Put>(
+    alloc: Global,
+    plan: &PlanRef<'_>,
+    bytes: &[u8],
+    limits: &Limits,
+    builder: &mut P,
+) -> Result<(P::Out, usize), ReadResolveError>
+    ensures { BuildsResolved (P.stands_for builder.new) (schema_nodes plan.now.0) (schema_nodes plan.now.1) limits.now bytes.now result }
+{
     // That the limit on nodes is in its range is a fact of this call, and the proof needs it.
     let _nodes = limits.nodes();
     let writer = plan.writer();
@@ -75,7 +92,7 @@ pub(crate) fn read_planned<B: Build>(
     match read_made(alloc, writer, w, bytes, limits, &mut maker, part) {
         Ok((made, len)) => match made {
             Made::Good(out) => Ok((out, len)),
-            Made::Faulty(fault) => Err(ReadResolveError::Resolve(turn(fault))),
+            Made::Faulty(fault) => Err(ReadResolveError::Resolve(turn_apart(fault))),
             Made::Nothing => unreachable!(),
         },
         Err(error) => Err(ReadResolveError::Read(error)),

@@ -6,63 +6,77 @@ ghost use Rattle.avro_schema.specs.SeenSchema.{schema_nodes};
 ghost use Rattle.avro_schema.specs.Value.{Value};
 ghost use Rattle.avro_resolve.specs.inside.Guided.{FieldsStandAs, FillsAs, StandsAs, next_field};
 
-use crate::error::FaultKind;
-use crate::failing::{faulty, step_out};
+use crate::failing::{fault_apart, step_apart};
 use crate::filling::fill;
-use crate::guided::{Aim, At, Filling, Made, Part, Slots};
-use crate::making::wrap;
+use crate::guided::{Filling, Made, Part, Slots};
 use crate::plan_ref::PlanRef;
-use crate::sourcing::fields_of;
-use avro_binary::Build;
+use crate::put::Put;
+use avro_compare::{Aim, At, FaultKind, fields_of};
 use std::alloc::{AllocError, Global};
 
 /// What was made of no fields, and what the first is for.
-pub(crate) fn start_filling<B: Build>(
+pub(crate) fn start_filling<P: Put>(
     alloc: Global,
+    builder: &mut P,
     plan: &PlanRef<'_>,
     part: Part,
-) -> Filling<B::Out>
-    ensures { (nodes : List Node) (fs : List FieldNode) → FillsAs B.stands_for (schema_nodes plan.now.0) (schema_nodes plan.now.1) nodes fs part.at result [] }
+) -> Result<Filling<P::Out, P::Fields>, AllocError>
+    ensures kept { OnOk result (P.keeps builder.old builder.new) }
+    ensures stands { (nodes : List Node) (fs : List FieldNode) → IfOk result (λ filling. FillsAs (P.stands_for builder.new) (P.fields_stand_for builder.new) (schema_nodes plan.now.0) (schema_nodes plan.now.1) nodes fs part.at filling []) }
 {
     let start = plan.index_of(part);
-    let slots = start_fields::<B>(alloc, plan, start, part.at);
+    let slots = start_fields(alloc, builder, plan, start, part.at)?;
     let index = index_of_records(plan, start, &slots);
     let next = next_field_part(plan, index, &slots);
-    Filling { slots, index, next }
+    Ok(Filling { slots, index, next })
 }
 
 /// What was made of no fields: where a pair of nodes leads to a fault, or a reader's field is missing, that
 /// fault.
-fn start_fields<B: Build>(alloc: Global, plan: &PlanRef<'_>, index: u32, at: At) -> Slots<B::Out>
-    ensures { (nodes : List Node) (fs : List FieldNode) → FieldsStandAs B.stands_for (schema_nodes plan.now.0) (schema_nodes plan.now.1) nodes fs at result [] }
+fn start_fields<P: Put>(
+    alloc: Global,
+    builder: &mut P,
+    plan: &PlanRef<'_>,
+    index: u32,
+    at: At,
+) -> Result<Slots<P::Out, P::Fields>, AllocError>
+    ensures kept { OnOk result (P.keeps builder.old builder.new) }
+    ensures stands { (nodes : List Node) (fs : List FieldNode) → IfOk result (λ slots. FieldsStandAs (P.stands_for builder.new) (P.fields_stand_for builder.new) (schema_nodes plan.now.0) (schema_nodes plan.now.1) nodes fs at slots []) }
 {
     match at {
-        At::Ignored => Slots::Nothing,
+        At::Ignored => Ok(Slots::Nothing),
         At::Pair(w, r) => match plan.aim(index, w, r) {
-            Aim::Fault(kind) => Slots::Faulty(faulty(alloc, kind)),
+            Aim::Fault(kind) => Ok(Slots::Faulty(fault_apart(alloc, kind)?)),
             Aim::To(branch, q) => match plan.missing(plan.index_to(index, branch), w, q) {
-                Some(field) => Slots::Faulty(faulty(alloc, FaultKind::MissingField(field))),
-                None => Slots::Good(Vec::new(alloc), branch, w, q),
+                Some(field) => {
+                    let fault = fault_apart(alloc, FaultKind::MissingField(field))?;
+                    Ok(Slots::Faulty(fault))
+                }
+                None => {
+                    let slots = builder.slots(alloc);
+                    let fields = builder.fields(alloc, branch)?;
+                    Ok(Slots::Good(slots, fields, branch, w, q))
+                }
             },
         },
     }
 }
 
 /// Where the pair of the records may be kept, by the index of the pair that leads to it.
-fn index_of_records<O>(plan: &PlanRef<'_>, index: u32, slots: &Slots<O>) -> u32 {
+fn index_of_records<O, F>(plan: &PlanRef<'_>, index: u32, slots: &Slots<O, F>) -> u32 {
     match slots {
-        Slots::Good(_, branch, _, _) => plan.index_to(index, *branch),
+        Slots::Good(_, _, branch, _, _) => plan.index_to(index, *branch),
         Slots::Faulty(_) => 0,
         Slots::Nothing => 0,
     }
 }
 
 /// What the next field is for.
-fn next_field_part<O>(plan: &PlanRef<'_>, index: u32, fields: &Slots<O>) -> Part
+fn next_field_part<O, F>(plan: &PlanRef<'_>, index: u32, fields: &Slots<O, F>) -> Part
     ensures { result.at ≡ next_field (schema_nodes plan.now.0) (schema_nodes plan.now.1) fields.now }
 {
     match fields {
-        Slots::Good(slots, _, w, q) => {
+        Slots::Good(slots, _, _, w, q) => {
             let field = slots.len();
             Part {
                 at: plan.field(index, *w, *q, field),
@@ -87,34 +101,39 @@ fn ignored() -> Part
 }
 
 /// Adds what was made of a field behind those before, and finds what the next is for.
-pub(crate) fn fill_next<B: Build>(
+pub(crate) fn fill_next<P: Put>(
+    builder: &P,
     plan: &PlanRef<'_>,
-    fields: &mut Filling<B::Out>,
-    made: Made<B::Out>,
+    fields: &mut Filling<P::Out, P::Fields>,
+    made: Made<P::Out>,
 ) -> Result<(), AllocError>
-    ensures { (nodes : List Node) (fs : List FieldNode) (id : ℕ) (at : At) (vs : List Value) (v : Value) → FillsAs B.stands_for (schema_nodes plan.now.0) (schema_nodes plan.now.1) nodes fs at fields.old vs
-        → slice_get (field_ids fs) (length vs) ≡ Some id → StandsAs B.stands_for (schema_nodes plan.now.0) (schema_nodes plan.now.1) nodes (node_at nodes id) fields.old.next.at made v
-        → OnOk result (FillsAs B.stands_for (schema_nodes plan.now.0) (schema_nodes plan.now.1) nodes fs at fields.new (vs ++ v ∷ [])) }
+    ensures { (nodes : List Node) (fs : List FieldNode) (id : ℕ) (at : At) (vs : List Value) (v : Value) → FillsAs (P.stands_for builder.now) (P.fields_stand_for builder.now) (schema_nodes plan.now.0) (schema_nodes plan.now.1) nodes fs at fields.old vs
+        → slice_get (field_ids fs) (length vs) ≡ Some id → StandsAs (P.stands_for builder.now) (schema_nodes plan.now.0) (schema_nodes plan.now.1) nodes (node_at nodes id) fields.old.next.at made v
+        → OnOk result (FillsAs (P.stands_for builder.now) (P.fields_stand_for builder.now) (schema_nodes plan.now.0) (schema_nodes plan.now.1) nodes fs at fields.new (vs ++ v ∷ [])) }
 {
-    put_field::<B>(&mut fields.slots, made)?;
+    put_field(builder, &mut fields.slots, made)?;
     fields.next = next_field_part(plan, fields.index, &fields.slots);
     Ok(())
 }
 
 /// Adds what was made of a field behind those before.
-fn put_field<B: Build>(fields: &mut Slots<B::Out>, made: Made<B::Out>) -> Result<(), AllocError>
-    ensures { (writer reader nodes : List Node) (fs : List FieldNode) (id : ℕ) (at : At) (vs : List Value) (v : Value) → FieldsStandAs B.stands_for writer reader nodes fs at fields.old vs
-        → slice_get (field_ids fs) (length vs) ≡ Some id → StandsAs B.stands_for writer reader nodes (node_at nodes id) (next_field writer reader fields.old) made v
-        → OnOk result (FieldsStandAs B.stands_for writer reader nodes fs at fields.new (vs ++ v ∷ [])) }
+fn put_field<P: Put>(
+    _builder: &P,
+    fields: &mut Slots<P::Out, P::Fields>,
+    made: Made<P::Out>,
+) -> Result<(), AllocError>
+    ensures { (writer reader nodes : List Node) (fs : List FieldNode) (id : ℕ) (at : At) (vs : List Value) (v : Value) → FieldsStandAs (P.stands_for _builder.now) (P.fields_stand_for _builder.now) writer reader nodes fs at fields.old vs
+        → slice_get (field_ids fs) (length vs) ≡ Some id → StandsAs (P.stands_for _builder.now) writer reader nodes (node_at nodes id) (next_field writer reader fields.old) made v
+        → OnOk result (FieldsStandAs (P.stands_for _builder.now) (P.fields_stand_for _builder.now) writer reader nodes fs at fields.new (vs ++ v ∷ [])) }
 {
     match fields {
-        Slots::Good(slots, _, _, _) => match made {
+        Slots::Good(slots, _, _, _, _) => match made {
             Made::Good(out) => {
                 slots.push(Some(out))?;
                 Ok(())
             }
             Made::Faulty(fault) => {
-                let outer = step_out(slots.len(), fault)?;
+                let outer = step_apart(slots.len(), fault)?;
                 *fields = Slots::Faulty(outer);
                 Ok(())
             }
@@ -129,24 +148,26 @@ fn put_field<B: Build>(fields: &mut Slots<B::Out>, made: Made<B::Out>) -> Result
 }
 
 /// What was made of a record, of its fields: the reader's in its order.
-pub(crate) fn make_record<B: Build>(
+pub(crate) fn make_record<P: Put>(
     alloc: Global,
-    builder: &mut B,
+    builder: &mut P,
     plan: &PlanRef<'_>,
     index: u32,
-    fields: Slots<B::Out>,
-) -> Result<Made<B::Out>, AllocError>
-    ensures { (nodes : List Node) (name : Name) (aliases : List Name) (fs : List FieldNode) (at : At) (vs : List Value) → FieldsStandAs B.stands_for (schema_nodes plan.now.0) (schema_nodes plan.now.1) nodes fs at fields vs
-        → IfOk result (λ made. StandsAs B.stands_for (schema_nodes plan.now.0) (schema_nodes plan.now.1) nodes (Node.record_of name aliases fs) at made (Value.record_of (values_from vs))) }
+    fields: Slots<P::Out, P::Fields>,
+) -> Result<Made<P::Out>, AllocError>
+    ensures kept { OnOk result (P.keeps builder.old builder.new) }
+    ensures stands { (nodes : List Node) (name : Name) (aliases : List Name) (fs : List FieldNode) (at : At) (vs : List Value) → FieldsStandAs (P.stands_for builder.old) (P.fields_stand_for builder.old) (schema_nodes plan.now.0) (schema_nodes plan.now.1) nodes fs at fields vs
+        → IfOk result (λ made. StandsAs (P.stands_for builder.new) (schema_nodes plan.now.0) (schema_nodes plan.now.1) nodes (Node.record_of name aliases fs) at made (Value.record_of (values_from vs))) }
 {
     match fields {
-        Slots::Good(slots, branch, w, q) => {
+        Slots::Good(slots, start, _, w, q) => {
             let writes = fields_of(plan.writer(), w);
             let reads = fields_of(plan.reader(), q);
             let sources = plan.sources(index, w, q);
-            let values = fill(alloc, builder, writes, reads, sources, slots)?;
-            let out = builder.fields(alloc, values)?;
-            wrap(alloc, builder, branch, out)
+            let (taken, filled) = fill(alloc, builder, writes, reads, sources, slots, start)?;
+            let out = builder.record(alloc, filled)?;
+            builder.keep_slots(taken);
+            Ok(Made::Good(out))
         }
         Slots::Faulty(fault) => Ok(Made::Faulty(fault)),
         Slots::Nothing => Ok(Made::Nothing),

@@ -4,22 +4,18 @@ ghost use Rattle.avro_schema.specs.Node.{FieldNode, node_at, root_of};
 ghost use Rattle.avro_schema.specs.Seen.{value_of, values_of as values_seen, entries_of as entries_seen, pair_of};
 ghost use Rattle.avro_schema.specs.SeenSchema.{schema_nodes};
 ghost use Rattle.avro_schema.specs.Value.{Value};
-ghost use Rattle.avro_resolve.specs.Resolve.{fields_at, through, resolve as resolve_value, resolve_root, resolve_items, resolve_entries, resolve_sources};
+ghost use Rattle.avro_compare.specs.Resolve.{fields_at, through, resolve as resolve_value, resolve_root, resolve_items, resolve_entries, resolve_sources};
 ghost use Rattle.avro_resolve.specs.Seen.{Answers};
-ghost use Rattle.avro_resolve.specs.Pairs.{field_for};
-ghost use Rattle.avro_resolve.specs.Planned.{AreInside};
+ghost use Rattle.avro_compare.specs.Pairs.{field_for};
+ghost use Rattle.avro_compare.specs.Planned.{AreInside};
 ghost use Rattle.avro_resolve.specs.Ends.{Ends, EndsFound, EndsSlot, field_step, taken_as};
 
-use crate::comparing::compare_inside;
-use crate::comparison::Comparison;
-use crate::error::{FaultKind, ResolveError};
+use crate::error::ResolveError;
 use crate::failing::{fault_here, fault_in, turn};
 use crate::filling::fill_data;
-use crate::guided::{Aim, At};
 use crate::leaves::{leaf, wrapped};
-use crate::names::Names;
 use crate::parts::{branch_of, items_of, values_of};
-use crate::sourcing::{fields_of, part_among};
+use avro_compare::{Aim, At, Comparison, FaultKind, Names, compare_inside, fields_of, part_among};
 use avro_schema::{Datum, NodeId, Schema};
 use std::alloc::{AllocError, Global};
 

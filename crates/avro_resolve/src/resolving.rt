@@ -1,60 +1,64 @@
-use crate::failing::{faulty, step_out};
-use crate::guided::{Aim, At, Filling, Made, Part, Run};
-use crate::making::{make_bytes, make_int, make_string, make_symbol, wrap};
+use crate::failing::{fault_apart, step_apart};
+use crate::guided::{Filling, Made, Part, Run};
+use crate::making::{make_bytes, make_int, make_string, make_symbol};
 use crate::plan_ref::PlanRef;
+use crate::put::Put;
 use crate::recording::{fill_next, make_record, start_filling};
 use crate::running::{
     make_array, make_map, next_part, put_entry, put_item, start_entries, start_items,
 };
-use avro_binary::{Build, Make};
+use avro_binary::Make;
+use avro_compare::{Aim, At};
 use std::alloc::{AllocError, Global};
 
-/// Makes of each part of a writer's datum what a builder builds of what it is for a reader. A part that
-/// no reader's field takes is read and not built, and so are all parts after a fault.
+/// Makes of each part of a writer's datum what it is for a reader, by one who is told so. A part that
+/// no reader's field takes is read and not made, and so are all parts after a fault.
 #[derive(Drop)]
-pub struct Resolving<'p, 'a, 'b, B> {
+pub struct Resolving<'p, 'a, 'b, P> {
     plan: &'p PlanRef<'a>,
-    builder: &'b mut B,
+    builder: &'b mut P,
 }
 
-impl<'p, 'a, 'b, B> Resolving<'p, 'a, 'b, B> {
+impl<'p, 'a, 'b, P> Resolving<'p, 'a, 'b, P> {
     ghost use Rattle.std.specs.Prelude.{◌≡◌};
 
     /// A maker for a reader, by a plan and a builder.
-    pub fn new(plan: &'p PlanRef<'a>, builder: &'b mut B) -> Self
-        ensures { result.plan.now ≡ plan.now }
+    pub fn new(plan: &'p PlanRef<'a>, builder: &'b mut P) -> Self
+        ensures plan { result.plan.now ≡ plan.now }
+        ensures lent { result.builder.ghost_name ≡ builder.entry.ghost_name }
     {
         Resolving { plan, builder }
     }
 }
 
-impl<'p, 'a, 'b, B: Build> Make for Resolving<'p, 'a, 'b, B> {
+impl<'p, 'a, 'b, P: Put> Make for Resolving<'p, 'a, 'b, P> {
     ghost use Rattle.std.specs.Prelude.{◌≡◌, List, ℕ, refl};
     ghost use Rattle.std.proofs.Common.{◌∙◌, ap, subst};
     ghost use Rattle.avro_schema.specs.Node.{Node, FieldNode};
     ghost use Rattle.avro_schema.specs.SeenSchema.{schema_nodes};
     ghost use Rattle.avro_schema.specs.Value.{Value};
-    ghost use Rattle.avro_resolve.specs.inside.Guided.{StandsAs, ItemsStandAs, EntriesStandAs, FillsAs, branch_part, part_below, next_at};
+    ghost use Rattle.avro_resolve.specs.inside.Guided.{AreKept, StandsAs, ItemsStandAs, EntriesStandAs, FillsAs, branch_part, part_below, next_at};
+    ghost use Rattle.avro_resolve.specs.inside.Later.{items_later, entries_later, fills_later};
 
     type At = Part;
 
-    type Out = Made<B::Out>;
+    type Out = Made<P::Out>;
 
-    type Items = (Run<B::Items>, u32);
+    type Items = (Run<P::Items>, u32);
 
-    type Entries = (Run<B::Entries>, u32);
+    type Entries = (Run<P::Entries>, u32);
 
-    type Fields = Filling<B::Out>;
+    type Fields = Filling<P::Out, P::Fields>;
 
-    ghost keeps = { λ s t. ◌≡◌ {A = List Node × List Node} (schema_nodes s.plan.now.0, schema_nodes s.plan.now.1) (schema_nodes t.plan.now.0, schema_nodes t.plan.now.1) };
+    ghost keeps = { λ s t. AreKept (P.keeps s.builder.now t.builder.now × (t.builder.ghost_name ≡ s.builder.ghost_name)) (schema_nodes s.plan.now.0) (schema_nodes s.plan.now.1) (schema_nodes t.plan.now.0) (schema_nodes t.plan.now.1) };
 
-    ghost stands_for = { λ m nodes n at out v. StandsAs B.stands_for (schema_nodes m.plan.now.0) (schema_nodes m.plan.now.1) nodes n at.at out v };
+    ghost stands_for = { λ m nodes n at out v. StandsAs (P.stands_for m.builder.now) (schema_nodes m.plan.now.0) (schema_nodes m.plan.now.1) nodes n at.at out v };
 
-    ghost items_stand_for = { λ m nodes id at items vs. ItemsStandAs B.items_stand_for (schema_nodes m.plan.now.0) (schema_nodes m.plan.now.1) nodes id at.at items.0 vs };
+    ghost items_stand_for = { λ m nodes id at items vs. ItemsStandAs (P.items_stand_for m.builder.now) (schema_nodes m.plan.now.0) (schema_nodes m.plan.now.1) nodes id at.at items.0 vs };
 
-    ghost entries_stand_for = { λ m nodes id at entries es. EntriesStandAs B.entries_stand_for (schema_nodes m.plan.now.0) (schema_nodes m.plan.now.1) nodes id at.at entries.0 es };
+    ghost entries_stand_for = { λ m nodes id at entries es. EntriesStandAs (P.entries_stand_for m.builder.now) (schema_nodes m.plan.now.0) (schema_nodes m.plan.now.1) nodes id at.at entries.0 es };
 
-    ghost fields_stand_for = { λ m nodes fs at fields vs. FillsAs B.stands_for (schema_nodes m.plan.now.0) (schema_nodes m.plan.now.1) nodes fs at.at fields vs };
+    ghost fields_stand_for = { λ m nodes fs at fields vs. FillsAs (P.stands_for m.builder.now) (P.fields_stand_for m.builder.now) (schema_nodes m.plan.now.0) (schema_nodes m.plan.now.1) nodes fs at.at fields vs };
 
     ghost branch_at = { λ m at branch. branch_part (schema_nodes m.plan.now.0) at branch };
 
@@ -64,17 +68,21 @@ impl<'p, 'a, 'b, B: Build> Make for Resolving<'p, 'a, 'b, B> {
 
     ghost field_at = { λ m fields. fields.next };
 
-    ghost keeps_itself = { λ s. refl };
+    ghost keeps_itself = { λ s. ((P.keeps_itself s.builder.now, refl), refl) };
 
-    ghost keeps_on = { λ s t u before after. before ∙ after };
+    ghost keeps_on = { λ s t u before after. ((P.keeps_on s.builder.now t.builder.now u.builder.now before.0.0 after.0.0, after.0.1 ∙ before.0.1), before.1 ∙ after.1) };
 
-    ghost items_kept = { λ s t nodes id at items vs kept stand. subst (λ (g : List Node × List Node). ItemsStandAs B.items_stand_for g.0 g.1 nodes id at.at items.0 vs) kept stand };
+    ghost items_kept = { λ s t nodes id at items vs kept stand. subst (λ (g : List Node × List Node). ItemsStandAs (P.items_stand_for t.builder.now) g.0 g.1 nodes id at.at items.0 vs) kept.1
+        (items_later (P.items_stand_for s.builder.now) (P.items_stand_for t.builder.now) (λ i us. P.items_kept s.builder.now t.builder.now i us kept.0.0) (schema_nodes s.plan.now.0) (schema_nodes s.plan.now.1) nodes id at.at items.0 vs stand) };
 
-    ghost entries_kept = { λ s t nodes id at entries es kept stand. subst (λ (g : List Node × List Node). EntriesStandAs B.entries_stand_for g.0 g.1 nodes id at.at entries.0 es) kept stand };
+    ghost entries_kept = { λ s t nodes id at entries es kept stand. subst (λ (g : List Node × List Node). EntriesStandAs (P.entries_stand_for t.builder.now) g.0 g.1 nodes id at.at entries.0 es) kept.1
+        (entries_later (P.entries_stand_for s.builder.now) (P.entries_stand_for t.builder.now) (λ i us. P.entries_kept s.builder.now t.builder.now i us kept.0.0) (schema_nodes s.plan.now.0) (schema_nodes s.plan.now.1) nodes id at.at entries.0 es stand) };
 
-    ghost fields_kept = { λ s t nodes fs at fields vs kept stand. subst (λ (g : List Node × List Node). FillsAs B.stands_for g.0 g.1 nodes fs at.at fields vs) kept stand };
+    ghost fields_kept = { λ s t nodes fs at fields vs kept stand. subst (λ (g : List Node × List Node). FillsAs (P.stands_for t.builder.now) (P.fields_stand_for t.builder.now) g.0 g.1 nodes fs at.at fields vs) kept.1
+        (fills_later (P.stands_for s.builder.now) (P.stands_for t.builder.now) (λ o u. P.still_stands s.builder.now t.builder.now o u kept.0.0)
+        (P.fields_stand_for s.builder.now) (P.fields_stand_for t.builder.now) (λ into k us. P.fields_kept s.builder.now t.builder.now into k us kept.0.0) (schema_nodes s.plan.now.0) (schema_nodes s.plan.now.1) nodes fs at.at fields vs stand) };
 
-    ghost branch_at_kept = { λ s t at branch kept. ap (λ (g : List Node × List Node). branch_part g.0 at branch) kept };
+    ghost branch_at_kept = { λ s t at branch kept. ap (λ (g : List Node × List Node). branch_part g.0 at branch) kept.1 };
 
     ghost item_at_kept = { λ s t items kept. refl };
 
@@ -82,14 +90,14 @@ impl<'p, 'a, 'b, B: Build> Make for Resolving<'p, 'a, 'b, B> {
 
     ghost field_at_kept = { λ s t fields kept. refl };
 
-    fn null(&mut self, alloc: Global, at: Part) -> Result<Made<B::Out>, AllocError> {
+    fn null(&mut self, alloc: Global, at: Part) -> Result<Made<P::Out>, AllocError> {
         match at.at {
             At::Ignored => Ok(Made::Nothing),
             At::Pair(w, r) => match self.plan.aim(self.plan.index_of(at), w, r) {
-                Aim::Fault(kind) => Ok(Made::Faulty(faulty(alloc, kind))),
+                Aim::Fault(kind) => Ok(Made::Faulty(fault_apart(alloc, kind)?)),
                 Aim::To(branch, _) => {
-                    let out = self.builder.null(alloc)?;
-                    wrap(alloc, self.builder, branch, out)
+                    let out = self.builder.null(alloc, branch)?;
+                    Ok(Made::Good(out))
                 }
             },
         }
@@ -100,24 +108,24 @@ impl<'p, 'a, 'b, B: Build> Make for Resolving<'p, 'a, 'b, B> {
         alloc: Global,
         at: Part,
         value: bool,
-    ) -> Result<Made<B::Out>, AllocError> {
+    ) -> Result<Made<P::Out>, AllocError> {
         match at.at {
             At::Ignored => Ok(Made::Nothing),
             At::Pair(w, r) => match self.plan.aim(self.plan.index_of(at), w, r) {
-                Aim::Fault(kind) => Ok(Made::Faulty(faulty(alloc, kind))),
+                Aim::Fault(kind) => Ok(Made::Faulty(fault_apart(alloc, kind)?)),
                 Aim::To(branch, _) => {
-                    let out = self.builder.boolean(alloc, value)?;
-                    wrap(alloc, self.builder, branch, out)
+                    let out = self.builder.boolean(alloc, branch, value)?;
+                    Ok(Made::Good(out))
                 }
             },
         }
     }
 
-    fn int(&mut self, alloc: Global, at: Part, value: i32) -> Result<Made<B::Out>, AllocError> {
+    fn int(&mut self, alloc: Global, at: Part, value: i32) -> Result<Made<P::Out>, AllocError> {
         match at.at {
             At::Ignored => Ok(Made::Nothing),
             At::Pair(w, r) => match self.plan.aim(self.plan.index_of(at), w, r) {
-                Aim::Fault(kind) => Ok(Made::Faulty(faulty(alloc, kind))),
+                Aim::Fault(kind) => Ok(Made::Faulty(fault_apart(alloc, kind)?)),
                 Aim::To(branch, q) => {
                     make_int(alloc, self.builder, self.plan.reader(), branch, q, value)
                 }
@@ -125,14 +133,14 @@ impl<'p, 'a, 'b, B: Build> Make for Resolving<'p, 'a, 'b, B> {
         }
     }
 
-    fn long(&mut self, alloc: Global, at: Part, value: i64) -> Result<Made<B::Out>, AllocError> {
+    fn long(&mut self, alloc: Global, at: Part, value: i64) -> Result<Made<P::Out>, AllocError> {
         match at.at {
             At::Ignored => Ok(Made::Nothing),
             At::Pair(w, r) => match self.plan.aim(self.plan.index_of(at), w, r) {
-                Aim::Fault(kind) => Ok(Made::Faulty(faulty(alloc, kind))),
+                Aim::Fault(kind) => Ok(Made::Faulty(fault_apart(alloc, kind)?)),
                 Aim::To(branch, _) => {
-                    let out = self.builder.long(alloc, value)?;
-                    wrap(alloc, self.builder, branch, out)
+                    let out = self.builder.long(alloc, branch, value)?;
+                    Ok(Made::Good(out))
                 }
             },
         }
@@ -143,11 +151,11 @@ impl<'p, 'a, 'b, B: Build> Make for Resolving<'p, 'a, 'b, B> {
         alloc: Global,
         at: Part,
         content: &[u8],
-    ) -> Result<Made<B::Out>, AllocError> {
+    ) -> Result<Made<P::Out>, AllocError> {
         match at.at {
             At::Ignored => Ok(Made::Nothing),
             At::Pair(w, r) => match self.plan.aim(self.plan.index_of(at), w, r) {
-                Aim::Fault(kind) => Ok(Made::Faulty(faulty(alloc, kind))),
+                Aim::Fault(kind) => Ok(Made::Faulty(fault_apart(alloc, kind)?)),
                 Aim::To(branch, q) => {
                     make_bytes(alloc, self.builder, self.plan.reader(), branch, q, content)
                 }
@@ -155,11 +163,11 @@ impl<'p, 'a, 'b, B: Build> Make for Resolving<'p, 'a, 'b, B> {
         }
     }
 
-    fn string(&mut self, alloc: Global, at: Part, text: &str) -> Result<Made<B::Out>, AllocError> {
+    fn string(&mut self, alloc: Global, at: Part, text: &str) -> Result<Made<P::Out>, AllocError> {
         match at.at {
             At::Ignored => Ok(Made::Nothing),
             At::Pair(w, r) => match self.plan.aim(self.plan.index_of(at), w, r) {
-                Aim::Fault(kind) => Ok(Made::Faulty(faulty(alloc, kind))),
+                Aim::Fault(kind) => Ok(Made::Faulty(fault_apart(alloc, kind)?)),
                 Aim::To(branch, q) => {
                     make_string(alloc, self.builder, self.plan.reader(), branch, q, text)
                 }
@@ -172,24 +180,24 @@ impl<'p, 'a, 'b, B: Build> Make for Resolving<'p, 'a, 'b, B> {
         alloc: Global,
         at: Part,
         content: &[u8],
-    ) -> Result<Made<B::Out>, AllocError> {
+    ) -> Result<Made<P::Out>, AllocError> {
         match at.at {
             At::Ignored => Ok(Made::Nothing),
             At::Pair(w, r) => match self.plan.aim(self.plan.index_of(at), w, r) {
-                Aim::Fault(kind) => Ok(Made::Faulty(faulty(alloc, kind))),
+                Aim::Fault(kind) => Ok(Made::Faulty(fault_apart(alloc, kind)?)),
                 Aim::To(branch, _) => {
-                    let out = self.builder.fixed(alloc, content)?;
-                    wrap(alloc, self.builder, branch, out)
+                    let out = self.builder.fixed(alloc, branch, content)?;
+                    Ok(Made::Good(out))
                 }
             },
         }
     }
 
-    fn symbol(&mut self, alloc: Global, at: Part, symbol: u32) -> Result<Made<B::Out>, AllocError> {
+    fn symbol(&mut self, alloc: Global, at: Part, symbol: u32) -> Result<Made<P::Out>, AllocError> {
         match at.at {
             At::Ignored => Ok(Made::Nothing),
             At::Pair(w, r) => match self.plan.aim(self.plan.index_of(at), w, r) {
-                Aim::Fault(kind) => Ok(Made::Faulty(faulty(alloc, kind))),
+                Aim::Fault(kind) => Ok(Made::Faulty(fault_apart(alloc, kind)?)),
                 Aim::To(branch, q) => {
                     let kept = self.plan.index_to(self.plan.index_of(at), branch);
                     let symbol = self.plan.symbol(kept, w, symbol, q);
@@ -208,31 +216,31 @@ impl<'p, 'a, 'b, B: Build> Make for Resolving<'p, 'a, 'b, B> {
         _alloc: Global,
         _at: Part,
         _branch: u32,
-        value: Made<B::Out>,
-    ) -> Result<Made<B::Out>, AllocError> {
+        value: Made<P::Out>,
+    ) -> Result<Made<P::Out>, AllocError> {
         match value {
             Made::Good(out) => Ok(Made::Good(out)),
             Made::Faulty(fault) => {
-                let outer = step_out(0, fault)?;
+                let outer = step_apart(0, fault)?;
                 Ok(Made::Faulty(outer))
             }
             Made::Nothing => Ok(Made::Nothing),
         }
     }
 
-    fn items(&mut self, alloc: Global, at: Part) -> Result<(Run<B::Items>, u32), AllocError> {
+    fn items(&mut self, alloc: Global, at: Part) -> Result<(Run<P::Items>, u32), AllocError> {
         start_items(alloc, self.builder, self.plan, at)
     }
 
-    fn item_at(&self, items: &(Run<B::Items>, u32)) -> Part {
+    fn item_at(&self, items: &(Run<P::Items>, u32)) -> Part {
         next_part(&items.0, items.1)
     }
 
     fn item(
         &mut self,
         alloc: Global,
-        items: &mut (Run<B::Items>, u32),
-        value: Made<B::Out>,
+        items: &mut (Run<P::Items>, u32),
+        value: Made<P::Out>,
     ) -> Result<(), AllocError> {
         put_item(alloc, self.builder, &mut items.0, value)
     }
@@ -240,25 +248,25 @@ impl<'p, 'a, 'b, B: Build> Make for Resolving<'p, 'a, 'b, B> {
     fn array(
         &mut self,
         alloc: Global,
-        items: (Run<B::Items>, u32),
-    ) -> Result<Made<B::Out>, AllocError> {
+        items: (Run<P::Items>, u32),
+    ) -> Result<Made<P::Out>, AllocError> {
         make_array(alloc, self.builder, items.0)
     }
 
-    fn entries(&mut self, alloc: Global, at: Part) -> Result<(Run<B::Entries>, u32), AllocError> {
+    fn entries(&mut self, alloc: Global, at: Part) -> Result<(Run<P::Entries>, u32), AllocError> {
         start_entries(alloc, self.builder, self.plan, at)
     }
 
-    fn entry_at(&self, entries: &(Run<B::Entries>, u32)) -> Part {
+    fn entry_at(&self, entries: &(Run<P::Entries>, u32)) -> Part {
         next_part(&entries.0, entries.1)
     }
 
     fn entry(
         &mut self,
         alloc: Global,
-        entries: &mut (Run<B::Entries>, u32),
+        entries: &mut (Run<P::Entries>, u32),
         key: &str,
-        value: Made<B::Out>,
+        value: Made<P::Out>,
     ) -> Result<(), AllocError> {
         put_entry(alloc, self.builder, &mut entries.0, key, value)
     }
@@ -266,33 +274,37 @@ impl<'p, 'a, 'b, B: Build> Make for Resolving<'p, 'a, 'b, B> {
     fn map(
         &mut self,
         alloc: Global,
-        entries: (Run<B::Entries>, u32),
-    ) -> Result<Made<B::Out>, AllocError> {
+        entries: (Run<P::Entries>, u32),
+    ) -> Result<Made<P::Out>, AllocError> {
         make_map(alloc, self.builder, entries.0)
     }
 
-    fn fields(&mut self, alloc: Global, at: Part) -> Result<Filling<B::Out>, AllocError> {
-        Ok(start_filling::<B>(alloc, self.plan, at))
+    fn fields(
+        &mut self,
+        alloc: Global,
+        at: Part,
+    ) -> Result<Filling<P::Out, P::Fields>, AllocError> {
+        start_filling(alloc, self.builder, self.plan, at)
     }
 
-    fn field_at(&self, fields: &Filling<B::Out>) -> Part {
+    fn field_at(&self, fields: &Filling<P::Out, P::Fields>) -> Part {
         fields.next
     }
 
     fn field(
         &mut self,
         _alloc: Global,
-        fields: &mut Filling<B::Out>,
-        value: Made<B::Out>,
+        fields: &mut Filling<P::Out, P::Fields>,
+        value: Made<P::Out>,
     ) -> Result<(), AllocError> {
-        fill_next::<B>(self.plan, fields, value)
+        fill_next(self.builder, self.plan, fields, value)
     }
 
     fn record(
         &mut self,
         alloc: Global,
-        fields: Filling<B::Out>,
-    ) -> Result<Made<B::Out>, AllocError> {
+        fields: Filling<P::Out, P::Fields>,
+    ) -> Result<Made<P::Out>, AllocError> {
         make_record(alloc, self.builder, self.plan, fields.index, fields.slots)
     }
 }

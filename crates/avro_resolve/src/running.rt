@@ -5,11 +5,11 @@ ghost use Rattle.avro_schema.specs.SeenSchema.{schema_nodes};
 ghost use Rattle.avro_schema.specs.Value.{Value};
 ghost use Rattle.avro_resolve.specs.inside.Guided.{EntriesStandAs, ItemsStandAs, StandsAs, next_at, part_below};
 
-use crate::failing::{faulty, step_out};
-use crate::guided::{Aim, At, Made, Part, Run};
-use crate::making::wrap;
+use crate::failing::{fault_apart, step_apart};
+use crate::guided::{Made, Part, Run};
 use crate::plan_ref::PlanRef;
-use avro_binary::Build;
+use crate::put::Put;
+use avro_compare::{Aim, At};
 use std::alloc::{AllocError, Global};
 
 /// What the next item or entry is for, whose pair may be kept at an index.
@@ -29,19 +29,20 @@ pub(crate) fn next_part<I>(run: &Run<I>, index: u32) -> Part
 }
 
 /// What was made of no items: where a pair of nodes leads to a fault, that fault.
-pub(crate) fn start_items<B: Build>(
+pub(crate) fn start_items<P: Put>(
     alloc: Global,
-    builder: &mut B,
+    builder: &mut P,
     plan: &PlanRef<'_>,
     part: Part,
-) -> Result<(Run<B::Items>, u32), AllocError>
-    ensures { (nodes : List Node) (id : ℕ) → IfOk result (λ run. ItemsStandAs B.items_stand_for (schema_nodes plan.now.0) (schema_nodes plan.now.1) nodes id part.at run.0 []) }
+) -> Result<(Run<P::Items>, u32), AllocError>
+    ensures kept { OnOk result (P.keeps builder.old builder.new) }
+    ensures stands { (nodes : List Node) (id : ℕ) → IfOk result (λ run. ItemsStandAs (P.items_stand_for builder.new) (schema_nodes plan.now.0) (schema_nodes plan.now.1) nodes id part.at run.0 []) }
 {
     let index = plan.index_of(part);
     match part.at {
         At::Ignored => Ok((Run::Nothing, 0)),
         At::Pair(w, r) => match plan.aim(index, w, r) {
-            Aim::Fault(kind) => Ok((Run::Faulty(faulty(alloc, kind)), 0)),
+            Aim::Fault(kind) => Ok((Run::Faulty(fault_apart(alloc, kind)?), 0)),
             Aim::To(branch, q) => {
                 let (a, b) = plan.items(w, q);
                 let kept = builder.items(alloc)?;
@@ -53,15 +54,16 @@ pub(crate) fn start_items<B: Build>(
 }
 
 /// Adds what was made of an item behind those before.
-pub(crate) fn put_item<B: Build>(
+pub(crate) fn put_item<P: Put>(
     alloc: Global,
-    builder: &mut B,
-    items: &mut Run<B::Items>,
-    made: Made<B::Out>,
+    builder: &mut P,
+    items: &mut Run<P::Items>,
+    made: Made<P::Out>,
 ) -> Result<(), AllocError>
-    ensures { (writer reader nodes : List Node) (id : ℕ) (at : At) (vs : List Value) (v : Value) → ItemsStandAs B.items_stand_for writer reader nodes id at items.old vs
-        → StandsAs B.stands_for writer reader nodes (node_at nodes id) (next_at items.old) made v
-        → OnOk result (ItemsStandAs B.items_stand_for writer reader nodes id at items.new (vs ++ v ∷ [])) }
+    ensures kept { OnOk result (P.keeps builder.old builder.new) }
+    ensures stands { (writer reader nodes : List Node) (id : ℕ) (at : At) (vs : List Value) (v : Value) → ItemsStandAs (P.items_stand_for builder.old) writer reader nodes id at items.old vs
+        → StandsAs (P.stands_for builder.old) writer reader nodes (node_at nodes id) (next_at items.old) made v
+        → OnOk result (ItemsStandAs (P.items_stand_for builder.new) writer reader nodes id at items.new (vs ++ v ∷ [])) }
 {
     match items {
         Run::Good(kept, count, _, _, _) => match made {
@@ -71,7 +73,7 @@ pub(crate) fn put_item<B: Build>(
                 Ok(())
             }
             Made::Faulty(fault) => {
-                let outer = step_out(*count, fault)?;
+                let outer = step_apart(*count, fault)?;
                 *items = Run::Faulty(outer);
                 Ok(())
             }
@@ -83,18 +85,19 @@ pub(crate) fn put_item<B: Build>(
 }
 
 /// What was made of an array, of its items.
-pub(crate) fn make_array<B: Build>(
+pub(crate) fn make_array<P: Put>(
     alloc: Global,
-    builder: &mut B,
-    items: Run<B::Items>,
-) -> Result<Made<B::Out>, AllocError>
-    ensures { (writer reader nodes : List Node) (id : ℕ) (at : At) (vs : List Value) → ItemsStandAs B.items_stand_for writer reader nodes id at items vs
-        → IfOk result (λ made. StandsAs B.stands_for writer reader nodes (Node.array id) at made (Value.array (values_from vs))) }
+    builder: &mut P,
+    items: Run<P::Items>,
+) -> Result<Made<P::Out>, AllocError>
+    ensures kept { OnOk result (P.keeps builder.old builder.new) }
+    ensures stands { (writer reader nodes : List Node) (id : ℕ) (at : At) (vs : List Value) → ItemsStandAs (P.items_stand_for builder.old) writer reader nodes id at items vs
+        → IfOk result (λ made. StandsAs (P.stands_for builder.new) writer reader nodes (Node.array id) at made (Value.array (values_from vs))) }
 {
     match items {
         Run::Good(kept, _, branch, _, _) => {
-            let out = builder.array(alloc, kept)?;
-            wrap(alloc, builder, branch, out)
+            let out = builder.array(alloc, branch, kept)?;
+            Ok(Made::Good(out))
         }
         Run::Faulty(fault) => Ok(Made::Faulty(fault)),
         Run::Nothing => Ok(Made::Nothing),
@@ -102,19 +105,20 @@ pub(crate) fn make_array<B: Build>(
 }
 
 /// What was made of no entries: where a pair of nodes leads to a fault, that fault.
-pub(crate) fn start_entries<B: Build>(
+pub(crate) fn start_entries<P: Put>(
     alloc: Global,
-    builder: &mut B,
+    builder: &mut P,
     plan: &PlanRef<'_>,
     part: Part,
-) -> Result<(Run<B::Entries>, u32), AllocError>
-    ensures { (nodes : List Node) (id : ℕ) → IfOk result (λ run. EntriesStandAs B.entries_stand_for (schema_nodes plan.now.0) (schema_nodes plan.now.1) nodes id part.at run.0 []) }
+) -> Result<(Run<P::Entries>, u32), AllocError>
+    ensures kept { OnOk result (P.keeps builder.old builder.new) }
+    ensures stands { (nodes : List Node) (id : ℕ) → IfOk result (λ run. EntriesStandAs (P.entries_stand_for builder.new) (schema_nodes plan.now.0) (schema_nodes plan.now.1) nodes id part.at run.0 []) }
 {
     let index = plan.index_of(part);
     match part.at {
         At::Ignored => Ok((Run::Nothing, 0)),
         At::Pair(w, r) => match plan.aim(index, w, r) {
-            Aim::Fault(kind) => Ok((Run::Faulty(faulty(alloc, kind)), 0)),
+            Aim::Fault(kind) => Ok((Run::Faulty(fault_apart(alloc, kind)?), 0)),
             Aim::To(branch, q) => {
                 let (a, b) = plan.values(w, q);
                 let kept = builder.entries(alloc)?;
@@ -126,16 +130,17 @@ pub(crate) fn start_entries<B: Build>(
 }
 
 /// Adds what was made of an entry's value behind those before.
-pub(crate) fn put_entry<B: Build>(
+pub(crate) fn put_entry<P: Put>(
     alloc: Global,
-    builder: &mut B,
-    entries: &mut Run<B::Entries>,
+    builder: &mut P,
+    entries: &mut Run<P::Entries>,
     key: &str,
-    made: Made<B::Out>,
+    made: Made<P::Out>,
 ) -> Result<(), AllocError>
-    ensures { (writer reader nodes : List Node) (id : ℕ) (at : At) (es : List (List ℕ × Value)) (v : Value) → EntriesStandAs B.entries_stand_for writer reader nodes id at entries.old es
-        → StandsAs B.stands_for writer reader nodes (node_at nodes id) (next_at entries.old) made v
-        → OnOk result (EntriesStandAs B.entries_stand_for writer reader nodes id at entries.new (es ++ (key.now, v) ∷ [])) }
+    ensures kept { OnOk result (P.keeps builder.old builder.new) }
+    ensures stands { (writer reader nodes : List Node) (id : ℕ) (at : At) (es : List (List ℕ × Value)) (v : Value) → EntriesStandAs (P.entries_stand_for builder.old) writer reader nodes id at entries.old es
+        → StandsAs (P.stands_for builder.old) writer reader nodes (node_at nodes id) (next_at entries.old) made v
+        → OnOk result (EntriesStandAs (P.entries_stand_for builder.new) writer reader nodes id at entries.new (es ++ (key.now, v) ∷ [])) }
 {
     match entries {
         Run::Good(kept, count, _, _, _) => match made {
@@ -145,7 +150,7 @@ pub(crate) fn put_entry<B: Build>(
                 Ok(())
             }
             Made::Faulty(fault) => {
-                let outer = step_out(*count, fault)?;
+                let outer = step_apart(*count, fault)?;
                 *entries = Run::Faulty(outer);
                 Ok(())
             }
@@ -157,18 +162,19 @@ pub(crate) fn put_entry<B: Build>(
 }
 
 /// What was made of a map, of its entries.
-pub(crate) fn make_map<B: Build>(
+pub(crate) fn make_map<P: Put>(
     alloc: Global,
-    builder: &mut B,
-    entries: Run<B::Entries>,
-) -> Result<Made<B::Out>, AllocError>
-    ensures { (writer reader nodes : List Node) (id : ℕ) (at : At) (es : List (List ℕ × Value)) → EntriesStandAs B.entries_stand_for writer reader nodes id at entries es
-        → IfOk result (λ made. StandsAs B.stands_for writer reader nodes (Node.map_of id) at made (Value.map_of (entries_from es))) }
+    builder: &mut P,
+    entries: Run<P::Entries>,
+) -> Result<Made<P::Out>, AllocError>
+    ensures kept { OnOk result (P.keeps builder.old builder.new) }
+    ensures stands { (writer reader nodes : List Node) (id : ℕ) (at : At) (es : List (List ℕ × Value)) → EntriesStandAs (P.entries_stand_for builder.old) writer reader nodes id at entries es
+        → IfOk result (λ made. StandsAs (P.stands_for builder.new) writer reader nodes (Node.map_of id) at made (Value.map_of (entries_from es))) }
 {
     match entries {
         Run::Good(kept, _, branch, _, _) => {
-            let out = builder.map(alloc, kept)?;
-            wrap(alloc, builder, branch, out)
+            let out = builder.map(alloc, branch, kept)?;
+            Ok(Made::Good(out))
         }
         Run::Faulty(fault) => Ok(Made::Faulty(fault)),
         Run::Nothing => Ok(Made::Nothing),

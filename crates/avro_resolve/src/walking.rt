@@ -1,13 +1,10 @@
 ghost use Rattle.std.specs.Prelude.{◌≡◌, IfOk};
 ghost use Rattle.avro_schema.specs.SeenSchema.{schema_nodes};
-ghost use Rattle.avro_resolve.specs.Planned.{AreComparisons};
+ghost use Rattle.avro_compare.specs.Planned.{AreComparisons};
 
-use crate::comparing::compare;
-use crate::comparison::Comparison;
 use crate::found::Found;
-use crate::guided::At;
-use crate::names::Names;
 use crate::ordering::{count_of_parts, part_at};
+use avro_compare::{At, Comparison, Names, compare};
 use avro_schema::{Memory, NodeId, Schema};
 use std::alloc::Global;
 

@@ -57,6 +57,17 @@ pub fn words_of<R: AllocGlobal>(rt: &R, line: &str) -> Result<Vec<String>, Alloc
     Ok(list)
 }
 
+/// How many ends of lines a text has.
+pub fn lines_of(text: &str) -> usize {
+    let mut count: usize = 0;
+    for byte in text.as_bytes() {
+        if *byte == b'\n' {
+            count = count.saturating_add(1);
+        }
+    }
+    count
+}
+
 /// A reader that gives some bytes, a number of them at once, and then ends or fails. It counts the calls.
 #[derive(Drop)]
 pub struct Given<'a> {

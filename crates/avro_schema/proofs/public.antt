@@ -1,3 +1,4 @@
+pub mod Choices
 pub mod DatumViews
 pub mod FitsKind
 pub mod FitsParts

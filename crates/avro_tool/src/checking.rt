@@ -1,20 +1,47 @@
-use crate::Finding;
-use crate::container_file::{open_container, tell_counts};
+use crate::container_file::{open_container, tell_file_counts};
 use crate::failure::Failure;
+use crate::request::Form;
+use crate::{Finding, report};
 use avro_container::{Blocks, Checker, CopyError, Counts, FileLimits, Header, Input};
 use std::alloc::Global;
 use std::io::Write;
 use std::rt::Files;
 
+/// Reads the containers in files, and prints how many data and blocks each has. The fault of one is reported,
+/// and the others are read all the same; the status is that of the first fault.
+pub(crate) fn check_files<'a, R: Files + AllocGlobal, O: Write, E: Write>(
+    rt: &R,
+    words: &[&'a str],
+    form: Form,
+    out: &mut O,
+    err: &mut E,
+) -> Finding {
+    let is_named = words.len() > 1;
+    let mut finding = Finding::Good;
+    for word in words {
+        let Err(failure) = check_file(rt, word, is_named, form, out) else {
+            continue;
+        };
+        let status = report(rt.alloc(), &failure, err);
+        finding = finding.or_failed(status);
+        if matches!(failure, Failure::CannotPrint) {
+            break;
+        }
+    }
+    finding
+}
+
 /// Reads the container in a file, and prints how many data and blocks it has.
-pub(crate) fn check_file<'a, R: Files + AllocGlobal, O: Write>(
+fn check_file<'a, R: Files + AllocGlobal, O: Write>(
     rt: &R,
     word: &'a str,
+    is_named: bool,
+    form: Form,
     out: &mut O,
 ) -> Result<Finding, Failure<'a>> {
     let mut input = open_container(rt, word)?;
     match count_data(rt.alloc(), &mut input) {
-        Ok(counts) => tell_counts(out, counts),
+        Ok(counts) => tell_file_counts(rt.alloc(), out, word, is_named, form, counts),
         Err(error) => Err(Failure::of_container(word, error)),
     }
 }

@@ -1,92 +1,13 @@
+//! The request that the words of a command line are.
+
 use crate::failure::Failure;
 use crate::grammar::{history_command, program};
+use crate::number_options::{limits_in, lines_in, pairs_in};
+use crate::request::{Evidence, Explaining, Form, History, Judging, Mode, Request, Shown};
+use avro_judge::JudgeLimits;
 use clap::ArgMatches;
 use clap::error::ErrorKind;
 use std::alloc::{AllocError, Global};
-
-/// What the words ask for.
-#[derive(Debug, Drop)]
-pub(crate) enum Request<'a> {
-    /// Whether the reader's schema takes all data of the writer's; a certificate of a yes goes into a
-    /// file, and so does a refutation of a no.
-    Judge {
-        writer: &'a str,
-        reader: &'a str,
-        certificate: Option<&'a str>,
-        refutation: Option<&'a str>,
-    },
-    /// Whether a certificate shows that a reader's schema takes all data of the writer's.
-    Confirm {
-        writer: &'a str,
-        reader: &'a str,
-        certificate: &'a str,
-    },
-    /// Whether the reader's schema takes all data of each of several writers', and what is done with
-    /// their certificates.
-    History {
-        writers: Vec<&'a str>,
-        reader: &'a str,
-        evidence: Evidence<'a>,
-    },
-    /// Whether a text declares a schema, and what is asked of it.
-    Schema {
-        file: &'a str,
-        shown: Shown,
-    },
-    /// Whether a container is valid, and how many data and blocks it has.
-    Check {
-        file: &'a str,
-    },
-    /// The data of a container, as what they are for a reader's schema where there is one.
-    Show {
-        file: &'a str,
-        reader: Option<&'a str>,
-    },
-    /// A copy of a container, whose data are what they are for a reader's schema where there is one, and
-    /// the digits of its marker where they are given.
-    Copy {
-        source: &'a str,
-        output: &'a str,
-        reader: Option<&'a str>,
-        sync: Option<&'a str>,
-    },
-    /// A copy of the container on standard input, likewise, on standard output; and whether its numbers of
-    /// data and blocks are told.
-    Pipe {
-        reader: Option<&'a str>,
-        sync: Option<&'a str>,
-        is_counted: bool,
-    },
-    /// The schema's text in a container's header, or all of its metadata.
-    Header {
-        file: &'a str,
-        is_metadata: bool,
-    },
-    /// The version of the program.
-    Version,
-}
-
-/// What is done with the certificates of a history.
-#[derive(Clone, Copy, Debug)]
-pub(crate) enum Evidence<'a> {
-    /// None is made.
-    Left,
-    /// Those of a yes for each writer's schema go into a file.
-    Written(&'a str),
-    /// Those of a file are to show that the reader's schema takes all data.
-    Given(&'a str),
-}
-
-/// What is shown of a schema.
-#[derive(Clone, Copy, Debug)]
-pub(crate) enum Shown {
-    /// Its number of nodes.
-    Count,
-    /// Its canonical form.
-    Canonical,
-    /// The digits of its fingerprint.
-    Fingerprint,
-}
 
 /// The request that the words are.
 pub(crate) fn request_of<'a>(
@@ -100,12 +21,15 @@ pub(crate) fn request_of<'a>(
         Err(e) => return Err(Failure::from(e)),
     };
     if let Some(history) = matches.subcommand_matches("history") {
-        return match history_in(alloc, history)? {
-            Some(request) => Ok(request),
-            None => Err(Failure::Usage(too_few_schemas(alloc)?)),
-        };
+        return history_in(alloc, history);
     }
-    match request_in(&matches) {
+    if let Some(check) = matches.subcommand_matches("check") {
+        return Ok(Request::Check {
+            files: words_in(alloc, check, "files")?,
+            form: form_in(check),
+        });
+    }
+    match request_in(&matches)? {
         Some(request) => Ok(request),
         None => Err(Failure::Usage(command.error(
             ErrorKind::MissingSubcommand,
@@ -114,14 +38,44 @@ pub(crate) fn request_of<'a>(
     }
 }
 
-/// What is told of a history of one schema, with the usage of its command.
-fn too_few_schemas(alloc: Global) -> Result<clap::Error, AllocError> {
+/// What is reported of the words of a history, with the usage of its command.
+fn history_usage<'a>(
+    alloc: Global,
+    kind: ErrorKind,
+    message: &str,
+) -> Result<Failure<'a>, AllocError> {
     let mut command = history_command(alloc)?.bin_name("avro history")?;
-    command.error(ErrorKind::TooFewValues, "at least two schemas are required")
+    Ok(Failure::Usage(command.error(kind, message)?))
+}
+
+/// What is reported of a history of one schema.
+fn too_few_schemas<'a>(alloc: Global) -> Result<Failure<'a>, AllocError> {
+    history_usage(
+        alloc,
+        ErrorKind::TooFewValues,
+        "at least two schemas are required",
+    )
 }
 
 /// The request of words that have the form of the program's.
-fn request_in<'a>(matches: &ArgMatches<'a>) -> Option<Request<'a>> {
+fn request_in<'a>(matches: &ArgMatches<'a>) -> Result<Option<Request<'a>>, Failure<'a>> {
+    if let Some(judge) = matches.subcommand_matches("judge") {
+        let limits = limits_in(judge)?;
+        return Ok(judging_in(judge, limits));
+    }
+    if let Some(explain) = matches.subcommand_matches("explain") {
+        let max_pairs = pairs_in(explain)?;
+        return Ok(explaining_in(explain, max_pairs));
+    }
+    if let Some(show) = matches.subcommand_matches("show") {
+        let limit = lines_in(show)?;
+        return Ok(showing_in(show, limit));
+    }
+    Ok(plain_request_in(matches))
+}
+
+/// The request of words that have the form of the program's, and no numbers among them.
+fn plain_request_in<'a>(matches: &ArgMatches<'a>) -> Option<Request<'a>> {
     if let Some(schema) = matches.subcommand_matches("schema") {
         let file = schema.get_str("file")?;
         return Some(Request::Schema {
@@ -137,32 +91,7 @@ fn request_in<'a>(matches: &ArgMatches<'a>) -> Option<Request<'a>> {
             writer,
             reader,
             certificate,
-        });
-    }
-    if let Some(judge) = matches.subcommand_matches("judge") {
-        let writer = judge.get_str("writer")?;
-        let reader = judge.get_str("reader")?;
-        return Some(Request::Judge {
-            writer,
-            reader,
-            certificate: judge.get_str("certificate"),
-            refutation: judge.get_str("refutation"),
-        });
-    }
-    container_request_in(matches)
-}
-
-/// The request about a container, of words that have the form of the program's.
-fn container_request_in<'a>(matches: &ArgMatches<'a>) -> Option<Request<'a>> {
-    if let Some(check) = matches.subcommand_matches("check") {
-        let file = check.get_str("file")?;
-        return Some(Request::Check { file });
-    }
-    if let Some(show) = matches.subcommand_matches("show") {
-        let file = show.get_str("file")?;
-        return Some(Request::Show {
-            file,
-            reader: show.get_str("reader"),
+            form: form_in(confirm),
         });
     }
     if let Some(header) = matches.subcommand_matches("header") {
@@ -195,28 +124,102 @@ fn copy_request_in<'a>(matches: &ArgMatches<'a>) -> Option<Request<'a>> {
     })
 }
 
-/// The request of the words of a history, where there are two files at least.
-fn history_in<'a>(
-    alloc: Global,
-    history: &ArgMatches<'a>,
-) -> Result<Option<Request<'a>>, AllocError> {
-    let mut writers = Vec::new(alloc);
-    if let Some(files) = history.get_strs("files") {
-        for file in files {
-            writers.push(*file)?;
-        }
-    }
-    let Some(reader) = writers.pop() else {
-        return Ok(None);
+/// The request of the words of a verdict on two schemas.
+fn judging_in<'a>(judge: &ArgMatches<'a>, limits: JudgeLimits) -> Option<Request<'a>> {
+    let writer = judge.get_str("writer")?;
+    let reader = judge.get_str("reader")?;
+    Some(Request::Judge(Judging {
+        writer,
+        reader,
+        certificate: judge.get_str("certificate"),
+        refutation: judge.get_str("refutation"),
+        limits,
+        form: form_in(judge),
+    }))
+}
+
+/// The request of the words that ask for all faults.
+fn explaining_in<'a>(explain: &ArgMatches<'a>, max_pairs: u32) -> Option<Request<'a>> {
+    let writer = explain.get_str("writer")?;
+    let reader = explain.get_str("reader")?;
+    Some(Request::Explain(Explaining {
+        writer,
+        reader,
+        max_pairs,
+        form: form_in(explain),
+    }))
+}
+
+/// The request of the words that show data.
+fn showing_in<'a>(show: &ArgMatches<'a>, limit: Option<u64>) -> Option<Request<'a>> {
+    let file = show.get_str("file")?;
+    Some(Request::Show {
+        file,
+        reader: show.get_str("reader"),
+        limit,
+    })
+}
+
+/// The request of the words of a history, if there are at least two files, and if certificates are those of the
+/// last schema as the reader's.
+fn history_in<'a>(alloc: Global, history: &ArgMatches<'a>) -> Result<Request<'a>, Failure<'a>> {
+    let mut writers = words_in(alloc, history, "files")?;
+    let last = writers.pop();
+    let Some(reader) = last else {
+        return Err(too_few_schemas(alloc)?);
     };
     if writers.is_empty() {
-        return Ok(None);
+        return Err(too_few_schemas(alloc)?);
     }
-    Ok(Some(Request::History {
+    let evidence = evidence_in(history);
+    let mode = mode_in(history);
+    let is_next = history.get_flag("next");
+    if !matches!(evidence, Evidence::Left) && (is_next || mode != Mode::Backward) {
+        let message = "certificates are for --mode backward without --next alone";
+        return Err(history_usage(alloc, ErrorKind::ArgumentConflict, message)?);
+    }
+    Ok(Request::History(History {
         writers,
         reader,
-        evidence: evidence_in(history),
+        evidence,
+        mode,
+        is_next,
+        limits: limits_in(history)?,
+        form: form_in(history),
     }))
+}
+
+/// The words of an argument, in order.
+fn words_in<'a>(
+    alloc: Global,
+    matches: &ArgMatches<'a>,
+    id: &str,
+) -> Result<Vec<&'a str>, AllocError> {
+    let mut words = Vec::new(alloc);
+    if let Some(given) = matches.get_strs(id) {
+        for word in given {
+            words.push(*word)?;
+        }
+    }
+    Ok(words)
+}
+
+/// Which data are to be read in a history.
+fn mode_in(history: &ArgMatches<'_>) -> Mode {
+    match history.get_str("mode") {
+        Some("forward") => Mode::Forward,
+        Some("full") => Mode::Full,
+        _ => Mode::Backward,
+    }
+}
+
+/// How the answer is to be written.
+fn form_in(matches: &ArgMatches<'_>) -> Form {
+    if matches.get_flag("json") {
+        Form::Json
+    } else {
+        Form::Text
+    }
 }
 
 /// What is to be done with the certificates of a history.

@@ -1,6 +1,10 @@
 use crate::Finding;
 use crate::failure::Failure;
+use crate::json_answers::counts_line;
+use crate::printing::print;
+use crate::request::Form;
 use avro_container::{Counts, ReadInput};
+use std::alloc::Global;
 use std::io::{BufReader, Cursor, Write};
 use std::rt::Files;
 use std::{fs, io};
@@ -34,6 +38,28 @@ pub(crate) fn tell_counts<'a, O: Write>(
         Ok(()) => Ok(Finding::Good),
         Err(_) => Err(Failure::CannotPrint),
     }
+}
+
+/// Prints how many data and blocks the container in a file has, with the file's name if there are several
+/// files, or if the line is one of JSON.
+pub(crate) fn tell_file_counts<'a, O: Write>(
+    alloc: Global,
+    out: &mut O,
+    word: &str,
+    is_named: bool,
+    form: Form,
+    counts: Counts,
+) -> Result<Finding, Failure<'a>> {
+    let Counts { items, blocks } = counts;
+    match form {
+        Form::Json => print(out, &counts_line(alloc, word, counts)?)?,
+        Form::Text if is_named => {
+            let line = format!(in alloc; "{word} data {items} blocks {blocks}\n")?;
+            print(out, &line)?;
+        }
+        Form::Text => return tell_counts(out, counts),
+    }
+    Ok(Finding::Good)
 }
 
 /// Prints the line of two counts by one write.

@@ -10,7 +10,7 @@ use std::io::Write;
 use std::rt::Files;
 
 /// Copies the container in a file into another one, and prints how many data and blocks it has. The other
-/// file is made, or emptied, once the header was read.
+/// file is created, or truncated, once the header was read.
 pub(crate) fn copy_file<'a, R: Files + AllocGlobal, O: Write>(
     rt: &R,
     input: &'a str,
@@ -44,7 +44,7 @@ pub(crate) fn copy_file<'a, R: Files + AllocGlobal, O: Write>(
     }
 }
 
-/// The marker of these digits, where they are given.
+/// The marker of these digits, if they are given.
 pub(crate) fn marker_of<'a>(digits: Option<&str>) -> Result<Option<[u8; 16]>, Failure<'a>> {
     let Some(digits) = digits else {
         return Ok(None);

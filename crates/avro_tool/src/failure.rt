@@ -1,3 +1,4 @@
+use crate::number_options::NumberOption;
 use avro_container::CopyError;
 use avro_judge::CertError;
 use avro_schema::Memory;
@@ -17,13 +18,13 @@ pub(crate) enum Failure<'a> {
     Container(&'a str, CopyError),
     /// A file could not be opened or read.
     CannotRead(&'a str),
-    /// A file could not be made or written.
+    /// A file could not be created or written.
     CannotWrite(&'a str),
     /// The standard output could not be written.
     CannotPrint,
     /// Memory ran out.
     OutOfMemory,
-    /// The words are no request, or ask for help.
+    /// The words are not a request, or ask for help.
     Usage(clap::Error),
     /// An argument is not UTF-8.
     NotText,
@@ -37,6 +38,10 @@ pub(crate) enum Failure<'a> {
     IsRead(&'a str),
     /// A file that an option asks for holds a schema.
     IsSchema(&'a str),
+    /// The word after an option is no number that it takes.
+    OutOfRange(NumberOption),
+    /// The word after the option of a number of lines is none.
+    NoLimit,
 }
 
 impl<'a> Failure<'a> {
@@ -95,7 +100,7 @@ impl<'a> Failure<'a> {
         }
     }
 
-    /// The status that the program ends with.
+    /// The exit status.
     pub(crate) fn status(&self) -> u8 {
         match self {
             Failure::Schema(..) | Failure::Certificate(..) | Failure::Container(..) => 3,
@@ -103,6 +108,7 @@ impl<'a> Failure<'a> {
             Failure::OutOfMemory => 5,
             Failure::Usage(_) | Failure::NotText | Failure::OneWord | Failure::NoMarker => 64,
             Failure::OneFile | Failure::IsRead(_) | Failure::IsSchema(_) => 64,
+            Failure::OutOfRange(_) | Failure::NoLimit => 64,
         }
     }
 
@@ -119,11 +125,12 @@ impl<'a> Failure<'a> {
                 format!(in alloc; "avro: {word} is one of the files that are read\n")
             }
             Failure::IsSchema(word) => format!(in alloc; "avro: {word} is a schema\n"),
+            Failure::OutOfRange(option) => range_line(alloc, *option),
             other => String::from_str(alloc, other.fixed_line()),
         }
     }
 
-    /// The line of a failure that names no word, which takes no memory; of other failures no text.
+    /// The line of a failure that names no word, which takes no memory; other failures have no text here.
     pub(crate) fn fixed_line(&self) -> &'static str {
         match self {
             Failure::CannotPrint => "avro: output: cannot write\n",
@@ -132,9 +139,17 @@ impl<'a> Failure<'a> {
             Failure::OneWord => "avro: IN and OUT are one word\n",
             Failure::NoMarker => "avro: --sync takes 32 hexadecimal digits\n",
             Failure::OneFile => "avro: IN and OUT are one file\n",
+            Failure::NoLimit => "avro: --limit takes 0 to 18446744073709551615\n",
             _ => "",
         }
     }
+}
+
+/// The line of a word that is no number that an option takes.
+fn range_line(alloc: Global, option: NumberOption) -> Result<String, AllocError> {
+    let word = option.word();
+    let most = option.most();
+    format!(in alloc; "avro: --{word} takes 1 to {most}\n")
 }
 
 impl<'a> From<Memory> for Failure<'a> {

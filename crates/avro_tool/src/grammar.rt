@@ -4,6 +4,9 @@ use crate::version::VERSION;
 use clap::{Arg, ArgAction, Command};
 use std::alloc::{AllocError, Global};
 
+/// The modes of a history.
+const MODES: [&str; 3] = ["backward", "forward", "full"];
+
 /// The commands and their arguments.
 pub(crate) fn program<'a>(alloc: Global) -> Result<Command<'a>, AllocError> {
     Command::new(alloc, "avro")
@@ -13,6 +16,7 @@ pub(crate) fn program<'a>(alloc: Global) -> Result<Command<'a>, AllocError> {
         .bin_name("avro")?
         .subcommand_required(true)
         .subcommand(judge_command(alloc)?)?
+        .subcommand(explain_command(alloc)?)?
         .subcommand(confirm_command(alloc)?)?
         .subcommand(history_command(alloc)?)?
         .subcommand(schema_command(alloc)?)?
@@ -36,7 +40,26 @@ fn judge_command<'a>(alloc: Global) -> Result<Command<'a>, AllocError> {
         .arg(writer_file(alloc))?
         .arg(reader_file(alloc))?
         .arg(certificate)?
-        .arg(refutation)
+        .arg(refutation)?
+        .arg(pairs_option(alloc))?
+        .arg(size_option(alloc))?
+        .arg(depth_option(alloc))?
+        .arg(json_option(alloc))
+}
+
+/// The command that tells all faults.
+fn explain_command<'a>(alloc: Global) -> Result<Command<'a>, AllocError> {
+    let pairs = number_option(alloc, "max-pairs")
+        .default_value("4194304")
+        .help(
+            "Most pairs of nodes that are reached, up to 16777216: a greater N answers 'undecided Pairs'",
+        );
+    Command::new(alloc, "explain")
+        .about("Tells all faults of a reader's schema with a writer's, by names")
+        .arg(writer_file(alloc))?
+        .arg(reader_file(alloc))?
+        .arg(pairs)?
+        .arg(json_option(alloc))
 }
 
 /// The command over two schemas and a certificate.
@@ -48,7 +71,8 @@ fn confirm_command<'a>(alloc: Global) -> Result<Command<'a>, AllocError> {
         )
         .arg(writer_file(alloc))?
         .arg(reader_file(alloc))?
-        .arg(certificate)
+        .arg(certificate)?
+        .arg(json_option(alloc))
 }
 
 /// The command over one schema.
@@ -86,26 +110,49 @@ pub(crate) fn history_command<'a>(alloc: Global) -> Result<Command<'a>, AllocErr
         .value_name("CERT")
         .action(ArgAction::Set)
         .help("File of certificates that are to show it; nothing is judged");
+    let mode = Arg::new(alloc, "mode")
+        .long("mode")
+        .value_name("MODE")
+        .action(ArgAction::Set)
+        .value_parser(MODES.as_slice())
+        .default_value("backward")
+        .help("Which data are to be read: the earlier schema's, the later one's, or those of both");
+    let next = flag(alloc, "next").help("Judges each schema with the next one alone");
     Command::new(alloc, "history")
         .about("Tells whether the last schema takes all data of each earlier one")
         .arg(files)?
         .arg(certificates)?
-        .arg(confirm)
+        .arg(confirm)?
+        .arg(mode)?
+        .arg(next)?
+        .arg(pairs_option(alloc))?
+        .arg(size_option(alloc))?
+        .arg(depth_option(alloc))?
+        .arg(json_option(alloc))
 }
 
-/// The command that reads a container, and shows nothing of its data.
+/// The command that reads a container without showing its data.
 fn check_command<'a>(alloc: Global) -> Result<Command<'a>, AllocError> {
+    let files = Arg::new(alloc, "files")
+        .value_name("FILE")
+        .required(true)
+        .num_args(1..)
+        .action(ArgAction::Append)
+        .help("Files of the containers, each of which is checked");
     Command::new(alloc, "check")
-        .about("Tells whether a container is valid, and how many data and blocks it has")
-        .arg(named_file(alloc, "file", "FILE").help("File of the container"))
+        .about("Tells whether containers are valid, and how many data and blocks each has")
+        .arg(files)?
+        .arg(json_option(alloc))
 }
 
 /// The command that shows the data of a container.
 fn show_command<'a>(alloc: Global) -> Result<Command<'a>, AllocError> {
+    let limit = number_option(alloc, "limit").help("Stops after N lines");
     Command::new(alloc, "show")
         .about("Shows each datum of a container in a line")
         .arg(named_file(alloc, "file", "FILE").help("File of the container"))?
-        .arg(reader_option(alloc))
+        .arg(reader_option(alloc))?
+        .arg(limit)
 }
 
 /// The command that copies a container.
@@ -137,6 +184,42 @@ fn header_command<'a>(alloc: Global) -> Result<Command<'a>, AllocError> {
         .about("Shows the text of a container's schema, whatever its codec")
         .arg(named_file(alloc, "file", "FILE").help("File of the container"))?
         .arg(metadata)
+}
+
+/// The option of the greatest product of the numbers of nodes.
+fn pairs_option<'a>(alloc: Global) -> Arg<'a> {
+    number_option(alloc, "max-pairs")
+        .default_value("4194304")
+        .help(
+            "Greatest product of the two numbers of nodes, up to 16777216: a greater N answers 'undecided Pairs'",
+        )
+}
+
+/// The option of the greatest number of nodes of a datum that refutes.
+fn size_option<'a>(alloc: Global) -> Arg<'a> {
+    number_option(alloc, "max-size").default_value("4096").help(
+        "Most nodes of a datum that fails, up to 1048576: a greater N answers 'undecided Size'",
+    )
+}
+
+/// The option of the greatest depth of a datum that refutes.
+fn depth_option<'a>(alloc: Global) -> Arg<'a> {
+    number_option(alloc, "max-depth").default_value("128").help(
+        "Greatest depth of a datum that fails, up to 256: a greater N answers 'undecided Depth'",
+    )
+}
+
+/// The option of answers as JSON.
+fn json_option<'a>(alloc: Global) -> Arg<'a> {
+    flag(alloc, "json").help("Prints each answer as a line of JSON")
+}
+
+/// An option that takes a number.
+fn number_option<'a>(alloc: Global, id: &'a str) -> Arg<'a> {
+    Arg::new(alloc, id)
+        .long(id)
+        .value_name("N")
+        .action(ArgAction::Set)
 }
 
 /// The argument for the writer's schema.

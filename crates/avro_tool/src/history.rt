@@ -1,52 +1,55 @@
 use crate::Finding;
-use crate::command::Evidence;
 use crate::confirming::{bytes_of_certificates, tell_confirmed};
 use crate::failure::Failure;
+use crate::json_answers::history_line;
 use crate::judging::name_of;
 use crate::kept_files::{refuse_read_file, refuse_schema_file};
 use crate::printing::print;
+use crate::request::{Evidence, Form, History, Mode};
 use crate::schema_file::read_schema_file;
 use avro_history::{HistoryCert, confirm_history};
-use avro_judge::{Certificate, JudgeLimits, Verdict, judge};
+use avro_judge::{Certificate, Verdict, judge};
 use avro_schema::{Memory, Schema};
-use std::alloc::Global;
+use std::alloc::{AllocError, Global};
 use std::fs;
 use std::io::Write;
 use std::rt::Files;
 
-/// Tells of the schemas of several files whether that of the last one takes all data of each: by
-/// judging them, or by the certificates of a file.
+/// What a line of a history is about: the file of an earlier schema, and the mode if there are two.
+#[derive(Clone, Copy)]
+struct Line<'a> {
+    file: &'a str,
+    mode: Option<&'static str>,
+}
+
+/// Prints whether the schemas of several files read each other's data as the mode asks: by judging them, or by
+/// the certificates of a file.
 pub(crate) fn history_of_files<'a, R: Files + AllocGlobal, O: Write>(
     rt: &R,
-    writers: &[&'a str],
-    reader: &'a str,
-    evidence: Evidence<'a>,
+    history: &History<'a>,
     out: &mut O,
 ) -> Result<Finding, Failure<'a>> {
-    if let Evidence::Written(word) = evidence {
-        refuse_read_file(rt, Some(word), writers)?;
-        refuse_read_file(rt, Some(word), &[reader])?;
+    if let Evidence::Written(word) = history.evidence {
+        refuse_read_file(rt, Some(word), &history.writers)?;
+        refuse_read_file(rt, Some(word), &[history.reader])?;
         refuse_schema_file(rt, Some(word))?;
     }
-    let schemas = read_schema_files(rt, writers)?;
-    let reader = read_schema_file(rt, reader)?;
-    match evidence {
+    let schemas = read_schema_files(rt, &history.writers)?;
+    let reader = read_schema_file(rt, history.reader)?;
+    match history.evidence {
         Evidence::Given(word) => {
-            let history = read_history_file(rt, word)?;
-            let approvals = confirm_history(rt.alloc(), &schemas, &reader, &history)?;
-            tell_confirmed(out, approvals.is_some())
+            let certificates = read_history_file(rt, word)?;
+            let approvals = confirm_history(rt.alloc(), &schemas, &reader, &certificates)?;
+            tell_confirmed(rt.alloc(), history.form, approvals.is_some(), out)
         }
         Evidence::Written(word) => {
-            let (finding, certificates) = judge_each(rt, writers, &schemas, &reader, true, out)?;
+            let (finding, certificates) = certify_each(rt, history, &schemas, &reader, out)?;
             if finding == Finding::Yes {
                 write_history_file(rt, certificates, word)?;
             }
             Ok(finding)
         }
-        Evidence::Left => {
-            let (finding, _) = judge_each(rt, writers, &schemas, &reader, false, out)?;
-            Ok(finding)
-        }
+        Evidence::Left => judge_each(rt.alloc(), history, &schemas, &reader, out),
     }
 }
 
@@ -65,25 +68,96 @@ fn read_schema_files<'a, R: Files + AllocGlobal>(
     Ok(schemas)
 }
 
+/// Judges each earlier schema with the last one, or with the next one alone, and prints its lines, in order.
+/// The answer has what was found of all.
+fn judge_each<'a, O: Write>(
+    alloc: Global,
+    history: &History<'a>,
+    schemas: &[Schema],
+    last: &Schema,
+    out: &mut O,
+) -> Result<Finding, Failure<'a>> {
+    let mut finding = Finding::Yes;
+    let mut index: usize = 0;
+    for (file, earlier) in history.writers.iter().zip(schemas) {
+        index = index.saturating_add(1);
+        let later = match schemas.get(index) {
+            Some(next) if history.is_next => next,
+            _ => last,
+        };
+        let found = judge_modes(alloc, history, file, earlier, later, out)?;
+        finding = finding.and(found);
+    }
+    Ok(finding)
+}
+
+/// Judges two schemas as the mode asks, and prints the lines of it.
+fn judge_modes<'a, O: Write>(
+    alloc: Global,
+    history: &History<'a>,
+    file: &str,
+    earlier: &Schema,
+    later: &Schema,
+    out: &mut O,
+) -> Result<Finding, Failure<'a>> {
+    let line = Line { file, mode: None };
+    match history.mode {
+        Mode::Backward => judge_one(alloc, history, line, earlier, later, out),
+        Mode::Forward => judge_one(alloc, history, line, later, earlier, out),
+        Mode::Full => {
+            let line = Line {
+                file,
+                mode: Some("backward"),
+            };
+            let backward = judge_one(alloc, history, line, earlier, later, out)?;
+            let line = Line {
+                file,
+                mode: Some("forward"),
+            };
+            let forward = judge_one(alloc, history, line, later, earlier, out)?;
+            Ok(backward.and(forward))
+        }
+    }
+}
+
+/// Judges a writer's schema and a reader's, and prints a line of it.
+fn judge_one<'a, O: Write>(
+    alloc: Global,
+    history: &History<'a>,
+    line: Line<'_>,
+    writer: &Schema,
+    reader: &Schema,
+    out: &mut O,
+) -> Result<Finding, Failure<'a>> {
+    let verdict = judge(alloc, writer, reader, &history.limits)?;
+    tell_verdict(alloc, history.form, line, writer, reader, &verdict, out)
+}
+
 /// Judges each writer's schema once, and prints a line for each, in order. The answer has what was found
-/// of all, and the certificates of the approvals where they are asked for.
-fn judge_each<'a, R: AllocGlobal, O: Write>(
+/// of all, and the certificates of the approvals.
+fn certify_each<'a, R: AllocGlobal, O: Write>(
     rt: &R,
-    words: &[&'a str],
+    history: &History<'a>,
     writers: &[Schema],
     reader: &Schema,
-    is_asked: bool,
     out: &mut O,
 ) -> Result<(Finding, Vec<Certificate>), Failure<'a>> {
-    let limits = JudgeLimits::default();
     let mut finding = Finding::Yes;
     let mut certificates = Vec::new(rt.alloc());
-    for (word, writer) in words.iter().zip(writers) {
-        let verdict = judge(rt.alloc(), writer, reader, &limits)?;
-        finding = finding.and(tell_verdict(rt.alloc(), out, word, &verdict)?);
-        if is_asked {
-            keep_certificate(rt.alloc(), &verdict, &mut certificates)?;
-        }
+    for (file, writer) in history.writers.iter().zip(writers) {
+        let verdict = judge(rt.alloc(), writer, reader, &history.limits)?;
+        let line = Line { file, mode: None };
+        let found = tell_verdict(
+            rt.alloc(),
+            history.form,
+            line,
+            writer,
+            reader,
+            &verdict,
+            out,
+        )?;
+        finding = finding.and(found);
+        keep_certificate(rt.alloc(), &verdict, &mut certificates)?;
     }
     Ok((finding, certificates))
 }
@@ -103,26 +177,50 @@ fn keep_certificate(
     Ok(())
 }
 
-/// Prints the line of a writer's schema.
+/// Prints the line of a verdict.
 fn tell_verdict<'a, O: Write>(
     alloc: Global,
-    out: &mut O,
-    word: &str,
+    form: Form,
+    line: Line<'_>,
+    writer: &Schema,
+    reader: &Schema,
     verdict: &Verdict<'_>,
+    out: &mut O,
 ) -> Result<Finding, Failure<'a>> {
-    let (line, finding) = match verdict {
-        Verdict::Approved(_) => (format!(in alloc; "{word} yes\n")?, Finding::Yes),
-        Verdict::Refuted(_) => (format!(in alloc; "{word} no\n")?, Finding::No),
-        Verdict::Undecided(cause) => {
-            let name = name_of(*cause);
-            (
-                format!(in alloc; "{word} undecided {name}\n")?,
-                Finding::Undecided,
-            )
-        }
+    let answer = match form {
+        Form::Text => text_line(alloc, line, verdict)?,
+        Form::Json => history_line(alloc, line.file, line.mode, writer, reader, verdict)?,
     };
-    print(out, &line)?;
-    Ok(finding)
+    print(out, &answer)?;
+    Ok(finding_of(verdict))
+}
+
+/// What a verdict finds.
+fn finding_of(verdict: &Verdict<'_>) -> Finding {
+    match verdict {
+        Verdict::Approved(_) => Finding::Yes,
+        Verdict::Refuted(_) => Finding::No,
+        Verdict::Undecided(_) => Finding::Undecided,
+    }
+}
+
+/// The line of a verdict, as text.
+fn text_line(alloc: Global, line: Line<'_>, verdict: &Verdict<'_>) -> Result<String, AllocError> {
+    let mut text = String::from_str(alloc, line.file)?;
+    if let Some(mode) = line.mode {
+        text.push(' ')?;
+        text.push_str(mode)?;
+    }
+    match verdict {
+        Verdict::Approved(_) => text.push_str(" yes\n")?,
+        Verdict::Refuted(_) => text.push_str(" no\n")?,
+        Verdict::Undecided(cause) => {
+            text.push_str(" undecided ")?;
+            text.push_str(name_of(*cause))?;
+            text.push('\n')?;
+        }
+    }
+    Ok(text)
 }
 
 /// Writes certificates into a file, in order.

@@ -1,12 +1,14 @@
 use crate::Finding;
 use crate::failure::Failure;
+use crate::json_answers::{no_line, undecided_line, yes_line};
 use crate::kept_files::{refuse_read_file, refuse_schema_file};
 use crate::printing::print;
 use crate::refutation_file::write_refutation_file;
+use crate::request::{Form, Judging};
 use crate::schema_file::{read_schema_file, read_text_file};
 use avro_display::show;
-use avro_judge::{Approved, Cause, JudgeLimits, Refutation, Verdict, judge};
-use avro_schema::size;
+use avro_judge::{Approved, Cause, Refutation, Verdict, judge};
+use avro_schema::{Datum, size};
 use avro_schema_json::ReaderText;
 use std::alloc::{AllocError, Global};
 use std::fs;
@@ -17,44 +19,58 @@ use std::rt::Files;
 /// where a file is named for it, and after a no the refutation.
 pub(crate) fn judge_files<'a, R: Files + AllocGlobal, O: Write>(
     rt: &R,
-    writer: &'a str,
-    reader: &'a str,
-    certificate: Option<&'a str>,
-    refutation: Option<&'a str>,
+    asked: &Judging<'a>,
     out: &mut O,
 ) -> Result<Finding, Failure<'a>> {
-    let words = [writer, reader];
-    refuse_read_file(rt, certificate, &words)?;
-    refuse_read_file(rt, refutation, &words)?;
-    refuse_schema_file(rt, certificate)?;
-    refuse_schema_file(rt, refutation)?;
-    let text = read_text_file(rt, writer)?;
+    let words = [asked.writer, asked.reader];
+    refuse_read_file(rt, asked.certificate, &words)?;
+    refuse_read_file(rt, asked.refutation, &words)?;
+    refuse_schema_file(rt, asked.certificate)?;
+    refuse_schema_file(rt, asked.refutation)?;
+    let text = read_text_file(rt, asked.writer)?;
     let writer = text.schema();
-    let reader = read_schema_file(rt, reader)?;
-    match judge(rt.alloc(), writer, &reader, &JudgeLimits::default())? {
-        Verdict::Approved(approved) => approve(rt, &approved, certificate, out),
+    let reader = read_schema_file(rt, asked.reader)?;
+    match judge(rt.alloc(), writer, &reader, &asked.limits)? {
+        Verdict::Approved(approved) => approve(rt, &approved, asked, out),
         Verdict::Refuted(found) => {
             let display = show(rt.alloc(), writer, writer.root(), &found.datum)?;
-            refute(rt, &text, &found, &display, refutation, out)
+            let answer = match asked.form {
+                Form::Text => no_of(rt.alloc(), &found, &display)?,
+                Form::Json => no_line(rt.alloc(), writer, &reader, &found, &display)?,
+            };
+            refute(rt, &text, &found.datum, &answer, asked.refutation, out)
         }
         Verdict::Undecided(cause) => {
-            let name = name_of(cause);
-            let answer = format!(in rt.alloc(); "undecided {name}\n")?;
+            let answer = undecided_of(rt.alloc(), asked.form, cause)?;
             print(out, &answer)?;
             Ok(Finding::Undecided)
         }
     }
 }
 
-/// Prints the yes, and writes its certificate where a file is named for it.
+/// The line of an undecided.
+fn undecided_of(alloc: Global, form: Form, cause: Cause) -> Result<String, AllocError> {
+    match form {
+        Form::Text => {
+            let name = name_of(cause);
+            format!(in alloc; "undecided {name}\n")
+        }
+        Form::Json => undecided_line(alloc, cause),
+    }
+}
+
+/// Prints the yes, and writes its certificate if a file is named for it.
 fn approve<'a, R: Files + AllocGlobal, O: Write>(
     rt: &R,
     approved: &Approved<'_>,
-    certificate: Option<&'a str>,
+    asked: &Judging<'a>,
     out: &mut O,
 ) -> Result<Finding, Failure<'a>> {
-    print(out, "yes\n")?;
-    if let Some(word) = certificate {
+    match asked.form {
+        Form::Text => print(out, "yes\n")?,
+        Form::Json => print(out, &yes_line(rt.alloc())?)?,
+    }
+    if let Some(word) = asked.certificate {
         write_certificate_file(rt, approved, word)?;
     }
     Ok(Finding::Yes)
@@ -64,15 +80,14 @@ fn approve<'a, R: Files + AllocGlobal, O: Write>(
 fn refute<'a, R: Files + AllocGlobal, O: Write>(
     rt: &R,
     writer: &ReaderText,
-    refutation: &Refutation,
-    display: &str,
+    datum: &Datum,
+    answer: &str,
     file: Option<&'a str>,
     out: &mut O,
 ) -> Result<Finding, Failure<'a>> {
-    let answer = no_of(rt.alloc(), refutation, display)?;
-    print(out, &answer)?;
+    print(out, answer)?;
     if let Some(word) = file {
-        write_refutation_file(rt, writer, &refutation.datum, word)?;
+        write_refutation_file(rt, writer, datum, word)?;
     }
     Ok(Finding::No)
 }

@@ -1,4 +1,4 @@
-//! Files that are not to be lost: those that are read, and those that hold a schema.
+//! Files that must not be overwritten: those that are read, and those that hold a schema.
 
 use crate::failure::Failure;
 use crate::schema_file::{MAX_TEXT, read_bytes};
@@ -8,7 +8,7 @@ use std::os::unix::fs::MetadataExt;
 use std::rt::Files;
 use std::{fs, io};
 
-/// What is known of the file that a word names, where it is a regular file.
+/// What is known of the file that a word names, if it is a regular file.
 fn regular_file<'a, R: Files>(rt: &R, word: &'a str) -> Result<Option<Metadata>, Failure<'a>> {
     match fs::metadata(rt, word) {
         Ok(found) if found.is_file() => Ok(Some(found)),
@@ -34,7 +34,7 @@ pub(crate) fn is_one_file<'a, R: Files>(
     Ok(one.ino() != 0 && one.ino() == other.ino() && one.dev() == other.dev())
 }
 
-/// Refuses a file that an option asks for where it is one file with one that is read.
+/// Refuses a file that an option asks for if it is the same file as one that is read.
 pub(crate) fn refuse_read_file<'a, R: Files>(
     rt: &R,
     output: Option<&'a str>,
@@ -51,7 +51,7 @@ pub(crate) fn refuse_read_file<'a, R: Files>(
     Ok(())
 }
 
-/// Refuses a file that an option asks for where its text declares a schema. A file that is not regular, or
+/// Refuses a file that an option asks for if its text declares a schema. A file that is not regular, or
 /// that may not be read, is not looked at.
 pub(crate) fn refuse_schema_file<'a, R: Files + AllocGlobal>(
     rt: &R,

@@ -3,18 +3,18 @@ use std::io::Write;
 use std::rt::Files;
 use std::{fs, io};
 
-/// A file that is made, or emptied, when the first bytes are written into it.
+/// A file that is created, or truncated, when the first bytes are written into it.
 #[derive(Drop)]
 pub(crate) struct LateFile<'r, 'a, R: Files> {
     rt: &'r R,
     word: &'a str,
     file: Option<R::File>,
-    // Making it failed because memory ran out.
+    // Creating it failed because memory ran out.
     no_memory: bool,
 }
 
 impl<'r, 'a, R: Files> LateFile<'r, 'a, R> {
-    /// The file that a word names, which is not made yet.
+    /// The file that a word names, which is not created yet.
     pub(crate) fn new(rt: &'r R, word: &'a str) -> LateFile<'r, 'a, R> {
         LateFile {
             rt,

@@ -6,35 +6,46 @@ mod command;
 mod confirming;
 mod container_file;
 mod copying;
+mod explaining;
 mod failure;
+mod fault_place;
 mod grammar;
 mod header;
 mod history;
+mod json_answers;
+mod json_object;
 mod judging;
 mod kept_files;
 mod late_file;
+mod named_fault;
+mod named_place;
+mod number_options;
 mod piping;
 mod printing;
 mod refutation_file;
+mod request;
 mod schema_file;
 mod showing;
 mod showing_data;
 mod version;
 
-use command::{Request, request_of};
+use command::request_of;
 use failure::Failure;
+use request::Request;
 use std::alloc::Global;
 use std::io;
 use std::io::{Read, Write};
 use std::rt::Files;
 
-/// What a command found. Its status is the program's.
+/// What a command found, which gives the exit status.
 #[derive(Clone, Copy, Debug, PartialEq, Eq)]
 enum Finding {
     Good,
     Yes,
     No,
     Undecided,
+    /// Faults that are reported already; the status is that of the first one.
+    Failed(u8),
 }
 
 impl Finding {
@@ -43,10 +54,19 @@ impl Finding {
             Finding::Good | Finding::Yes => 0,
             Finding::No => 1,
             Finding::Undecided => 2,
+            Finding::Failed(status) => status,
         }
     }
 
-    /// What was found of several: a no goes before an undecided, and that before a yes.
+    /// What was found of several, of which one more failed with a status.
+    fn or_failed(self, status: u8) -> Finding {
+        match self {
+            Finding::Failed(first) => Finding::Failed(first),
+            _ => Finding::Failed(status),
+        }
+    }
+
+    /// What was found of several: a no outranks an undecided, which outranks a yes.
     fn and(self, other: Finding) -> Finding {
         if self == Finding::No || other == Finding::No {
             Finding::No
@@ -58,14 +78,14 @@ impl Finding {
     }
 }
 
-/// Tells that the words could not be taken from the system, and answers the status.
+/// Reports that the words could not be taken from the system, and answers the status.
 pub fn refuse_words<E: Write>(error: &io::Error, err: &mut E) -> u8 {
     let failure = Failure::of_words(error);
     let _ = err.write_all(failure.fixed_line().as_bytes());
     failure.status()
 }
 
-/// Runs the program over its words, without its name, and answers its status: 0 good or yes, 1 no,
+/// Runs the program on its words, without its name, and answers its exit status: 0 good or yes, 1 no,
 /// 2 undecided, 3 refused input, 4 a file's fault, 5 out of memory, 64 usage. What it finds goes to
 /// `out`; faults and the texts of usage go to `err`. `input` is read by the command that copies it alone.
 pub fn run<R: Files + AllocGlobal, I: Read, O: Write, E: Write>(
@@ -81,8 +101,8 @@ pub fn run<R: Files + AllocGlobal, I: Read, O: Write, E: Write>(
     }
 }
 
-/// Tells of a failure by one write, and answers its status. Where the standard error fails too, the status is
-/// all that can be told; where memory runs out for the line, that is told in its place.
+/// Reports a failure by one write, and answers its status. If the standard error fails too, the status is
+/// all that can be reported; if memory runs out for the line, that is reported in its place.
 fn report<E: Write>(alloc: Global, failure: &Failure<'_>, err: &mut E) -> u8 {
     match failure.line(alloc) {
         Ok(line) => {
@@ -93,7 +113,7 @@ fn report<E: Write>(alloc: Global, failure: &Failure<'_>, err: &mut E) -> u8 {
     }
 }
 
-/// Tells that memory ran out, which takes none.
+/// Reports that memory ran out, which takes none.
 fn report_memory<E: Write>(err: &mut E) -> u8 {
     let failure = Failure::OutOfMemory;
     let _ = err.write_all(failure.fixed_line().as_bytes());
@@ -109,25 +129,22 @@ fn answer<'a, R: Files + AllocGlobal, I: Read, O: Write, E: Write>(
     err: &mut E,
 ) -> Result<Finding, Failure<'a>> {
     match request_of(rt.alloc(), words)? {
-        Request::Judge {
-            writer,
-            reader,
-            certificate,
-            refutation,
-        } => judging::judge_files(rt, writer, reader, certificate, refutation, out),
+        Request::Judge(asked) => judging::judge_files(rt, &asked, out),
+        Request::Explain(asked) => explaining::explain_files(rt, &asked, out),
         Request::Confirm {
             writer,
             reader,
             certificate,
-        } => confirming::confirm_files(rt, writer, reader, certificate, out),
-        Request::History {
-            writers,
-            reader,
-            evidence,
-        } => history::history_of_files(rt, &writers, reader, evidence, out),
+            form,
+        } => confirming::confirm_files(rt, writer, reader, certificate, form, out),
+        Request::History(history) => history::history_of_files(rt, &history, out),
         Request::Schema { file, shown } => showing::show_schema(rt, file, shown, out),
-        Request::Check { file } => checking::check_file(rt, file, out),
-        Request::Show { file, reader } => showing_data::show_file(rt, file, reader, out),
+        Request::Check { files, form } => Ok(checking::check_files(rt, &files, form, out, err)),
+        Request::Show {
+            file,
+            reader,
+            limit,
+        } => showing_data::show_file(rt, file, reader, limit, out),
         Request::Copy {
             source,
             output,
@@ -138,10 +155,7 @@ fn answer<'a, R: Files + AllocGlobal, I: Read, O: Write, E: Write>(
             reader,
             sync,
             is_counted,
-        } => {
-            let counts = piping::pipe_container(rt, reader, sync, input, out)?;
-            piping::tell_piped(err, counts, is_counted)
-        }
+        } => piping::pipe_streams(rt, reader, sync, is_counted, input, out, err),
         Request::Header { file, is_metadata } => header::show_header(rt, file, is_metadata, out),
         Request::Version => version::tell_version(rt.alloc(), out),
     }

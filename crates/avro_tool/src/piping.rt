@@ -12,8 +12,27 @@ use std::rt::Files;
 /// The word for the standard input.
 const INPUT: &str = "-";
 
+/// Copies a container from a reader to a writer, and reports of a whole copy how many data and blocks it has, if
+/// that is asked for.
+pub(crate) fn pipe_streams<'a, R: Files + AllocGlobal, I: Read, O: Write, E: Write>(
+    rt: &R,
+    reader: Option<&'a str>,
+    sync: Option<&'a str>,
+    is_counted: bool,
+    input: &mut I,
+    out: &mut O,
+    err: &mut E,
+) -> Result<Finding, Failure<'a>> {
+    let counts = pipe_container(rt, reader, sync, input, out)?;
+    if is_counted {
+        // If the standard error fails, the copy is whole all the same.
+        let _ = print_counts(err, counts);
+    }
+    Ok(Finding::Good)
+}
+
 /// Copies a container from a reader to a writer, and answers how many data and blocks it has.
-pub(crate) fn pipe_container<'a, R: Files + AllocGlobal, I: Read, O: Write>(
+fn pipe_container<'a, R: Files + AllocGlobal, I: Read, O: Write>(
     rt: &R,
     reader: Option<&'a str>,
     sync: Option<&'a str>,
@@ -39,17 +58,4 @@ pub(crate) fn pipe_container<'a, R: Files + AllocGlobal, I: Read, O: Write>(
         Err(CopyError::OutputFailed) => Err(Failure::CannotPrint),
         Err(error) => Err(Failure::of_container(INPUT, error)),
     }
-}
-
-/// Tells of a copy that is whole how many data and blocks it has, where that is asked for. Where the
-/// standard error fails, the copy is whole all the same.
-pub(crate) fn tell_piped<'a, E: Write>(
-    err: &mut E,
-    counts: Counts,
-    is_counted: bool,
-) -> Result<Finding, Failure<'a>> {
-    if is_counted {
-        let _ = print_counts(err, counts);
-    }
-    Ok(Finding::Good)
 }

@@ -8,7 +8,7 @@ use std::alloc::{AllocError, Global};
 use std::fs;
 use std::rt::Files;
 
-/// Writes a container of a writer's text and of one datum into a file. Its marker is the front of the
+/// Writes a container of a writer's text and of one datum into a file. Its marker is the start of the
 /// schema's fingerprint.
 pub(crate) fn write_refutation_file<'a, R: Files + AllocGlobal>(
     rt: &R,
@@ -32,7 +32,7 @@ pub(crate) fn write_refutation_file<'a, R: Files + AllocGlobal>(
     }
 }
 
-/// The metadata of a container: the text of its schema, and that its blocks are as they are.
+/// The metadata of a container: the text of its schema, and the codec `null`.
 fn metadata_of(alloc: Global, text: &[u8]) -> Result<Vec<(String, Vec<u8>)>, AllocError> {
     let mut metadata = Vec::new(alloc);
     for (name, content) in [("avro.schema", text), ("avro.codec", "null".as_bytes())] {

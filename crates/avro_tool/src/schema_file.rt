@@ -32,7 +32,7 @@ pub(crate) fn read_text_file<'a, R: Files + AllocGlobal>(
     }
 }
 
-/// The schema of a reader, where a file is named for it.
+/// The schema of a reader, if a file is named for it.
 pub(crate) fn read_reader<'a, R: Files + AllocGlobal>(
     rt: &R,
     word: Option<&'a str>,

@@ -1,7 +1,7 @@
 use crate::Finding;
-use crate::command::Shown;
 use crate::failure::Failure;
 use crate::printing::print;
+use crate::request::Shown;
 use crate::schema_file::read_schema_file;
 use avro_canonical::{canonical, fingerprint_text};
 use std::io::Write;

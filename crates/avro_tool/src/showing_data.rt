@@ -20,12 +20,13 @@ use std::alloc::Global;
 use std::io::{BufWriter, Write};
 use std::rt::Files;
 
-/// Prints a line for each datum of the container in a file, as what it is for a reader's schema where a
-/// file is named for it.
+/// Prints a line for each datum of the container in a file, as what it is for a reader's schema if a
+/// file is named for it; no more lines than the limit, if there is one.
 pub(crate) fn show_file<'a, R: Files + AllocGlobal, O: Write>(
     rt: &R,
     word: &'a str,
     reader: Option<&'a str>,
+    limit: Option<u64>,
     out: &mut O,
 ) -> Result<Finding, Failure<'a>> {
     let reader = read_reader(rt, reader)?;
@@ -34,7 +35,15 @@ pub(crate) fn show_file<'a, R: Files + AllocGlobal, O: Write>(
         Ok(lines) => lines,
         Err(_) => return Err(Failure::OutOfMemory),
     };
-    let shown = show_data(rt.alloc(), &mut input, word, reader.as_ref(), &mut lines);
+    let limit = limit.unwrap_or(u64::MAX);
+    let shown = show_data(
+        rt.alloc(),
+        &mut input,
+        word,
+        reader.as_ref(),
+        limit,
+        &mut lines,
+    );
     match lines.flush() {
         Ok(()) => shown,
         Err(_) => Err(Failure::CannotPrint),
@@ -47,31 +56,40 @@ fn show_data<'a, I: Input, O: Write>(
     input: &mut I,
     word: &'a str,
     reader: Option<&ReaderText>,
+    limit: u64,
     out: &mut O,
 ) -> Result<Finding, Failure<'a>> {
-    let limits = FileLimits::default();
-    let header = match Header::read(alloc, input, &limits) {
+    let header = match Header::read(alloc, input, &FileLimits::default()) {
         Ok(header) => header,
         Err(error) => return Err(Failure::of_container(word, error)),
     };
     let plan = plan_for(alloc, &header, reader)?;
-    show_blocks(alloc, input, word, &header, &plan, &limits, out)
+    show_blocks(alloc, input, word, &header, &plan, limit, out)
 }
 
-/// Prints the data of the blocks after a header.
+/// Prints the data of the blocks after a header, up to a number of lines. What follows is not read.
 fn show_blocks<'a, I: Input, O: Write>(
     alloc: Global,
     input: &mut I,
     word: &'a str,
     header: &Header,
     plan: &Option<Plan<'_>>,
-    limits: &FileLimits,
+    limit: u64,
     out: &mut O,
 ) -> Result<Finding, Failure<'a>> {
-    let mut blocks = Blocks::new(alloc, header, limits);
+    let limits = FileLimits::default();
+    let mut blocks = Blocks::new(alloc, header, &limits);
+    let mut left = limit;
     for _ in 0..u64::MAX {
+        if left == 0 {
+            break;
+        }
         match next_block(&mut blocks, input, plan) {
-            Ok(Some(block)) => show_block(alloc, &block, header, plan, &limits.datum(), out)?,
+            Ok(Some(block)) => {
+                let lines = left.min(u64::from(block.count()));
+                show_block(alloc, &block, header, plan, &limits.datum(), lines, out)?;
+                left = left.saturating_sub(lines);
+            }
             Ok(None) => break,
             Err(error) => return Err(Failure::of_container(word, error)),
         }
@@ -109,20 +127,22 @@ fn next_block<'a, I: Input>(
     Ok(Some(block))
 }
 
-/// Prints the data of a block that was walked over, each once it was read by itself.
+/// Prints the first data of a block that was walked over, as many as it has at the most, each once it was read
+/// by itself.
 fn show_block<'a, O: Write>(
     alloc: Global,
     block: &Block<'_>,
     header: &Header,
     plan: &Option<Plan<'_>>,
     limits: &Limits,
+    lines: u64,
     out: &mut O,
 ) -> Result<(), Failure<'a>> {
     let schema = header.schema();
     let shown = shown_schema(schema, plan);
     let mut rest = block.body();
-    for _ in 0..block.count() {
-        // After the walk over the block memory alone is wanting.
+    for _ in 0..lines {
+        // After the walk over the block only memory can run out.
         let Ok((datum, len)) = read_datum(alloc, schema, plan, rest, limits) else {
             return Err(Failure::OutOfMemory);
         };

@@ -7,7 +7,13 @@ mod certificates;
 #[cfg(test)]
 mod confirming;
 #[cfg(test)]
+mod explained;
+#[cfg(test)]
+mod explaining;
+#[cfg(test)]
 mod history;
+#[cfg(test)]
+mod json_verdicts;
 #[cfg(test)]
 mod judging;
 #[cfg(test)]
@@ -16,6 +22,10 @@ mod judging_limits;
 mod judging_rows;
 #[cfg(test)]
 mod kept_files;
+#[cfg(test)]
+mod limit_options;
+#[cfg(test)]
+mod modes;
 #[cfg(test)]
 mod program;
 #[cfg(test)]

@@ -2,10 +2,10 @@
 use Rattle.std.proofs.Common.{◌≡◌, ◌∙◌, List, None, ap, sym, subst}
 use Rattle.avro_schema.specs.Node.{Node, node_at}
 use Rattle.avro_schema.specs.declared.schema.NodeId.{NodeId}
-use Rattle.avro_resolve.specs.Pairs.{aim_of}
-use Rattle.avro_resolve.specs.Planned.{AreInside, IsComparison}
-use Rattle.avro_resolve.specs.declared.guided.Aim.TheVariants.{To}
-use Rattle.avro_resolve.specs.declared.comparison.Comparison.{Comparison}
+use Rattle.avro_compare.specs.Pairs.{aim_of}
+use Rattle.avro_compare.specs.Planned.{AreInside, IsComparison}
+use Rattle.avro_compare.specs.declared.guided.Aim.TheVariants.{To}
+use Rattle.avro_compare.specs.declared.comparison.Comparison.{Comparison}
 
 module _ (writer reader : List Node) (pair : Comparison) (n q : Node) (comparison : IsComparison writer reader pair)
     (from : n ≡ node_at writer pair.w.0) (to : q ≡ node_at reader pair.r.0) where

@@ -6,7 +6,7 @@ use Rattle.avro_schema.specs.Node.{Node, branches_of}
 use Rattle.avro_schema.specs.Value.{Value, values_count}
 use Rattle.avro_schema.specs.Fits.{fits, is_count, are_bytes}
 use Rattle.avro_schema.specs.WellFormed.{branch_kind}
-use Rattle.avro_resolve.specs.Match.{is_match, first_match}
+use Rattle.avro_compare.specs.Match.{is_match, first_match}
 use Rattle.avro_certificate.specs.Closed.{has_fault_of_kind, has_local_fault, children_of}
 use Rattle.avro_certificate.proofs.public.Tests.{and_right}
 

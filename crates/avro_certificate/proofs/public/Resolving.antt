@@ -8,9 +8,9 @@ use Rattle.avro_schema.specs.Value.{Value, Values, Entries, no_values, value, no
 use Rattle.avro_schema.specs.Node.{Node, FieldNode, node_at, branches_of, items_node, values_node, fields_of, symbols_of, field_ids}
 use Rattle.avro_schema.specs.Fits.{fits, each_fits, entries_fit, fields_fit, is_some_and, is_count, are_bytes, is_bytes_node}
 use Rattle.avro_schema.specs.WellFormed.{is_schema}
-use Rattle.avro_resolve.specs.Match.{match_within}
-use Rattle.avro_resolve.specs.Source.{reader_field, missing_field}
-use Rattle.avro_resolve.specs.Resolve.{inside, result_map, through, int_as, bytes_as, string_as, enum_as, part_at, symbol_at, fields_at, branch_node, record_or_missing, resolve, resolve_items, resolve_entries, resolve_sources}
+use Rattle.avro_compare.specs.Match.{match_within}
+use Rattle.avro_compare.specs.Source.{reader_field, missing_field}
+use Rattle.avro_compare.specs.Resolve.{inside, result_map, through, int_as, bytes_as, string_as, enum_as, part_at, symbol_at, fields_at, branch_node, record_or_missing, resolve, resolve_items, resolve_entries, resolve_sources}
 use Rattle.avro_certificate.specs.Closed.{Pair, is_dead, is_closed, is_closed_at, has_fault_of_kind, children_of, field_children}
 use Rattle.avro_certificate.specs.Compatible.{AreCompatible}
 use Rattle.avro_certificate.proofs.public.Tests.{and_left, and_right, all_at}

@@ -6,7 +6,7 @@ use Rattle.avro_schema.specs.Node.{Node, node_at, branches_of, node_name}
 use Rattle.avro_schema.specs.Distinct.{are_distinct}
 use Rattle.avro_schema.specs.WellFormed.{branch_kind, same_kind, meets_its_rules, are_good_nodes, is_schema, max_nodes}
 use Rattle.avro_name.specs.Name.{same_name}
-use Rattle.avro_resolve.specs.Match.{is_match, first_match_from, first_match}
+use Rattle.avro_compare.specs.Match.{is_match, first_match_from, first_match}
 use Rattle.avro_certificate.proofs.public.Tests.{and_left, and_right, all_at}
 use Rattle.avro_certificate.proofs.public.NodeKinds.{no_union}
 

@@ -7,9 +7,9 @@ use Rattle.std.specs.List.{list_any, position_or_len}
 use Rattle.avro_schema.specs.Value.{Value}
 use Rattle.avro_schema.specs.Node.{Node, FieldNode, branches_of}
 use Rattle.avro_schema.specs.Fits.{is_bytes_node}
-use Rattle.avro_resolve.specs.Fault.{ResolutionFault, fault_here, no_match}
-use Rattle.avro_resolve.specs.Match.{is_match}
-use Rattle.avro_resolve.specs.Resolve.{Resolved, inside, result_map, both, matched, through, int_as, bytes_as, string_as, enum_or_default, record_or_missing, Sourced, with_sourced, field_values}
+use Rattle.avro_compare.specs.Fault.{ResolutionFault, fault_here, no_match}
+use Rattle.avro_compare.specs.Match.{is_match}
+use Rattle.avro_compare.specs.Resolve.{Resolved, inside, result_map, both, matched, through, int_as, bytes_as, string_as, enum_or_default, record_or_missing, Sourced, with_sourced, field_values}
 use Rattle.avro_certificate.specs.Closed.{has_fault_of_kind, lacks_symbol}
 use Rattle.avro_certificate.proofs.public.Tests.{not_false, or_cases, or_from_left, or_from_right, none_at, prefix_len_below}
 

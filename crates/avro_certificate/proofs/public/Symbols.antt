@@ -3,8 +3,8 @@ use Rattle.std.proofs.Common.{◌≡◌, ◌∙◌, ◌||◌, ◌&&◌, ◌+◌,
 use Rattle.std.specs.Prelude.{bytes_eq, position, is_none, slice_get, unwrap_or}
 use Rattle.std.specs.List.{list_any, position_from}
 use Rattle.std.proofs.lemmas.Iterator.Adapters.{position_from-zero}
-use Rattle.avro_resolve.specs.Pairs.{IsSymbol}
-use Rattle.avro_resolve.specs.Resolve.{enum_or_default}
+use Rattle.avro_compare.specs.Pairs.{IsSymbol}
+use Rattle.avro_compare.specs.Resolve.{enum_or_default}
 use Rattle.avro_certificate.specs.Closed.{lacks_symbol}
 use Rattle.avro_certificate.proofs.public.Successes.{bytes_eq-sym}
 

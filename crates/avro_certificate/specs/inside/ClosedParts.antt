@@ -1,7 +1,7 @@
 -- What a pair of sets must hold for one pair of nodes, part by part.
 use Rattle.std.specs.Prelude.{ℕ, Bool, true, false, not, ◌&&◌, ◌||◌, List, [], ◌∷◌, Option, Some, None, slice_get, unwrap_or, is_some}
 use Rattle.avro_schema.specs.Node.{Node, FieldNode, field_ids}
-use Rattle.avro_resolve.specs.Source.{source_of}
+use Rattle.avro_compare.specs.Source.{source_of}
 use Rattle.std.specs.List.{list_all}
 use Rattle.avro_certificate.specs.Closed.{Pair, children_of, has_local_fault, is_among, is_among_pairs, lacks_symbol}
 

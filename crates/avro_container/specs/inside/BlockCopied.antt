@@ -8,7 +8,7 @@ use Rattle.avro_container.specs.File.{HeaderValue}
 use Rattle.avro_container.specs.FileFault.{FileFault}
 use Rattle.avro_container.specs.Steps.{IsBlockWithin, Outcome, Refusal, StepGives, Stored, most_ahead}
 
--- The block behind `number` others was taken and put; it has `count` data. `old` and `new` are the bytes ahead.
+-- The block after `number` others was taken and put; it has `count` data. `old` and `new` are the bytes ahead.
 pub record CopiesBlock (job : Job) (limits : FileLimitValues) (h : HeaderValue) (number count : ℕ) (old new taken put : List ℕ) : Type 0 where
   pub values : Values
   pub bytes : List ℕ

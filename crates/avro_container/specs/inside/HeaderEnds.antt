@@ -34,7 +34,7 @@ pub record SaySchema (properties : List Property) (nodes : List Node) : Type 0 w
   pub declares : DeclaresText text nodes
   pub codec : is_plain_codec (property (codes "avro.codec") properties) ≡ true
 
--- The text is no schema.
+-- The text is not a schema.
 abbrev pub IsNoSchema : List ℕ → FileFault → Type 0
 IsNoSchema text f = (e : SchemaError) × (f ≡ in_header (refused_schema e)) × HasSchemaFault text e
 

@@ -35,7 +35,7 @@ pub record Refused {I : Type 0} (gives : I → List ℕ → I → Type 0) (failu
   pub first : e ≢ CopyError.FailedBefore
   pub named : IsNamed e
 
--- What keeps a part that should stand behind a number of bytes from being taken: it breaks; it goes past the limit; or the
+-- What keeps a part that should stand after a number of bytes from being taken: it breaks; it goes past the limit; or the
 -- input ends in it. How it breaks, and where it would end, is handed in.
 pub data PartStops (limit at : ℕ) (ended : Type 0) (bytes : List ℕ) (breaks wants : List ℕ → ReadFault → Type 0) : FileFault → Type 0 where
   broken : {g : FileFault} (f : ReadFault) → breaks (drop at bytes) f → ((place : ℕ) → f ≢ end_of_input place) → g ≡ in_header (invalid_metadata (behind at f))
@@ -60,7 +60,7 @@ pub record Stretch (from : ℕ) (front : List ℕ) (to : ℕ) (bytes : List ℕ)
   pub split : drop from bytes ≡ front ++ drop to bytes
   pub inside : to ≤ length bytes
 
--- Behind its length, which begins at `at`, a content stands from `start` to `end`.
+-- After its length, which begins at `at`, a content stands from `start` to `end`.
 pub record ContentFrom (at start end : ℕ) (bytes : List ℕ) : Type 0 where
   pub begins : at ≤ start
   pub ordered : start ≤ end
@@ -75,7 +75,7 @@ abbrev pub names_of : List Property → List (List ℕ)
 names_of [] = []
 names_of (p ∷ ps) = p.name ∷ names_of ps
 
--- A name stands behind its length.
+-- A name stands after its length.
 pub record NameStands (name : List ℕ) (bytes : List ℕ) : Type 0 where
   pub spelled : SpellsBytes name bytes
   pub text : is_text name ≡ true
@@ -93,7 +93,7 @@ abbrev pub EachProperty : List Property → List (List ℕ) → Type 0
 EachProperty [] items = items ≡ []
 EachProperty (p ∷ ps) items = (first : List ℕ) × (others : List (List ℕ)) × IsProperty p first × EachProperty ps others × (items ≡ first ∷ others)
 
--- properties, one behind another, none of whose names stands twice or before
+-- properties, one after another, none of whose names stands twice or before
 pub record PropertiesRun (left : Left) (ps : List Property) (bytes : List ℕ) : Type 0 where
   pub items : List (List ℕ)
   pub each : EachProperty ps items
@@ -124,7 +124,7 @@ pub record TakesName (names_before names_after : BTreeSet (String Global)) (at e
   pub fresh : (names : List (List ℕ)) → AreNames names_before names → list_any (bytes_eq name) names ≡ false
   pub added : (names : List (List ℕ)) → AreNames names_before names → AreNames names_after (names ++ name ∷ [])
 
--- a property that was taken, behind others
+-- a property that was taken, after others
 pub record TakesProperty (names_before names_after : BTreeSet (String Global)) (at end : ℕ) (bytes : List ℕ) (before after : List Property) : Type 0 where
   pub property : Property
   pub front : List ℕ
@@ -134,7 +134,7 @@ pub record TakesProperty (names_before names_after : BTreeSet (String Global)) (
   pub fresh : (names : List (List ℕ)) → AreNames names_before names → list_any (bytes_eq property.name) names ≡ false
   pub added : (names : List (List ℕ)) → AreNames names_before names → AreNames names_after (names ++ property.name ∷ [])
 
--- properties that were taken, behind others
+-- properties that were taken, after others
 pub record TakesProperties (left : Left) (names_after : BTreeSet (String Global)) (count at end : ℕ) (bytes : List ℕ) (before after : List Property) : Type 0 where
   pub properties : List Property
   pub front : List ℕ

@@ -32,7 +32,7 @@ pub record BlockRun (left : Left) : Type 0 where
   pub run : PropertiesRun left properties body
   pub has_size : HasSize head (length body)
 
--- The blocks so far: what ends the blocks behind them ends them all, and what breaks those breaks all.
+-- The blocks so far: what ends the blocks after them ends them all, and what breaks those breaks all.
 pub record MetadataRun (ps : List Property) (front : List ℕ) : Type 0 where
   pub items : List (List ℕ)
   pub each : EachProperty ps items
@@ -50,14 +50,14 @@ pub data TakesHead (at : ℕ) (bytes : List ℕ) : PropertiesHead → Type 0 whe
   sized : {h : PropertiesHead} (front size : List ℕ) → 0 < h.count → h.count < 2 ^ 63 → h.is_sized ≡ true → Stretch at (front ++ size) h.start bytes
       → SpellsLong (neg_ℤ (pos h.count)) front → SpellsLong (pos h.size) size → h.size < 2 ^ 63 → h.offset ≡ at + length front → TakesHead at bytes h
 
--- The blocks so far stand behind the magic.
+-- The blocks so far stand after the magic.
 pub record MetadataSoFar (at : ℕ) (bytes : List ℕ) (names : BTreeSet (String Global)) (ps : List Property) : Type 0 where
   pub front : List ℕ
   pub run : MetadataRun ps front
   pub stretch : Stretch 4 front at bytes
   pub named : AreNames names (names_of ps)
 
--- The whole metadata stands behind the magic.
+-- The whole metadata stands after the magic.
 pub record MetadataEnds (end : ℕ) (bytes : List ℕ) (ps : List Property) : Type 0 where
   pub metadata : List ℕ
   pub stretch : Stretch 4 metadata end bytes

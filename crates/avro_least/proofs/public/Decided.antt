@@ -3,8 +3,8 @@ use Rattle.std.proofs.Common.{◌≡◌, ℕ, ◌<◌, ◌≤◌, true, List, Op
 use Rattle.avro_schema.specs.Value.{Value, size, depth}
 use Rattle.avro_schema.specs.Node.{Node, root_of}
 use Rattle.avro_schema.specs.WellFormed.{is_schema}
-use Rattle.avro_resolve.specs.Fault.{ResolutionFault}
-use Rattle.avro_resolve.specs.Resolve.{Resolved}
+use Rattle.avro_compare.specs.Fault.{ResolutionFault}
+use Rattle.avro_compare.specs.Resolve.{Resolved}
 use Rattle.avro_certificate.specs.Compatible.{ErrsWith, AreCompatible, IsLeastToErr, ErrsOnlyAbove, ErrsLeastDeep}
 use Rattle.avro_least.specs.Tables.{Least, LeastTable, ErringTable, IsUnder, AtMost, AreLow, ShowsError}
 use Rattle.avro_least.proofs.Faults.{OnErr}

@@ -11,10 +11,10 @@ use Rattle.avro_schema.specs.Distinct.{are_distinct}
 use Rattle.avro_schema.specs.WellFormed.{is_schema, field_names, meets_its_rules, has_good_default}
 use Rattle.avro_name.specs.Name.{is_simple_name}
 use Rattle.std.proofs.lemmas.List.{length-map}
-use Rattle.avro_resolve.specs.Match.{is_match, first_match}
-use Rattle.avro_resolve.specs.Source.{source_of, reader_field, missing_field}
-use Rattle.avro_resolve.specs.Ends.{IsField, here, later}
-use Rattle.avro_resolve.proofs.public.Sources.{first_index-named, reader_field-source}
+use Rattle.avro_compare.specs.Match.{is_match, first_match}
+use Rattle.avro_compare.specs.Source.{source_of, reader_field, missing_field}
+use Rattle.avro_compare.specs.Fields.{IsField, here, later}
+use Rattle.avro_compare.proofs.public.Sources.{first_index-named, reader_field-source}
 use Rattle.avro_certificate.specs.Closed.{Pair, is_among, is_dead_node, children_of, field_children, has_local_fault, has_fault_of_kind, lacks_symbol}
 use Rattle.avro_least.specs.Tables.{Least, LeastTable, ErringTable, AtMost, IsLowForData, AreLow, AreDataShown, ShowsData, around, together, lesser, precedes, best_of, all_of, least_datum, err_of, err_inside, err_of_field, err_of_fields, one}
 use Rattle.avro_certificate.proofs.public.Tests.{and_left, and_right, or_cases, or_from_left, or_from_right}

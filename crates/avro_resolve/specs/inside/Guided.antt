@@ -1,16 +1,16 @@
 -- What reading with resolution makes of a writer's datum, part by part.
-use Rattle.std.specs.Prelude.{◌≡◌, ◌<◌, ◌^◌, ℕ, ◌++◌, List, Option, Some, None, length, Result, Ok, Err}
+use Rattle.std.specs.Prelude.{◌≡◌, ◌<◌, ◌^◌, ℕ, ◌++◌, List, [], Option, Some, None, length, Result, Ok, Err}
 use Rattle.avro_schema.specs.Value.{Value, size, values_size, entries_size}
 use Rattle.avro_schema.specs.Node.{Node, FieldNode, node_at}
 use Rattle.avro_schema.specs.Seen.{values_from, entries_from}
 use Rattle.avro_schema.specs.declared.schema.NodeId.{NodeId}
-use Rattle.avro_resolve.specs.Fault.{ResolutionFault}
+use Rattle.avro_compare.specs.Fault.{ResolutionFault}
 use Rattle.avro_resolve.specs.Ends.{turned, SlotsAre, AllBelow, values_before, entries_before, before}
-use Rattle.avro_resolve.specs.Pairs.{wrapped, item_id, value_id, branch_id, field_for}
-use Rattle.avro_resolve.specs.Resolve.{Resolved, Sourced, resolve, resolve_items, resolve_entries, resolve_sources, fields_at, result_map, through}
-use Rattle.avro_resolve.specs.Source.{missing_field}
-use Rattle.avro_resolve.specs.declared.guided.At.{At}
-use Rattle.avro_resolve.specs.declared.guided.At.TheVariants.{Ignored, Pair}
+use Rattle.avro_compare.specs.Pairs.{wrapped, item_id, value_id, branch_id, field_for}
+use Rattle.avro_compare.specs.Resolve.{Resolved, Sourced, resolve, resolve_items, resolve_entries, resolve_sources, fields_at, result_map, through}
+use Rattle.avro_compare.specs.Source.{missing_field}
+use Rattle.avro_compare.specs.declared.guided.At.{At}
+use Rattle.avro_compare.specs.declared.guided.At.TheVariants.{Ignored, Pair}
 use Rattle.avro_resolve.specs.declared.guided.Made.{Made}
 use Rattle.avro_resolve.specs.declared.guided.Run.{Run}
 use Rattle.avro_resolve.specs.declared.guided.Slots.{Slots}
@@ -21,7 +21,7 @@ use Rattle.avro_resolve.specs.declared.guided.Filling.{Filling}
 abbrev pub MadeAs : {O : Type 0} → (O → Value → Type 0) → Made O → Resolved → Type 0
 MadeAs S (Made.Good out) (Ok v) = S out v
 MadeAs S (Made.Good out) (Err f) = ⊥
-MadeAs S (Made.Faulty fault) resolved = resolved ≡ Err (turned fault)
+MadeAs S (Made.Faulty fault) resolved = resolved ≡ Err (turned fault.value)
 MadeAs S Made.Nothing resolved = ⊥
 
 -- nothing was made, since nothing was asked
@@ -68,7 +68,7 @@ pub record ItemsGood {I : Type 0} (S : I → List Value → Type 0) (writer read
 abbrev pub RunAs : {I : Type 0} → (I → List Value → Type 0) → List Node → List Node → Node → Node → Run I → List Value → Type 0
 RunAs S writer reader w r (Run.Good items count branch a b) vs = IsSmall (values_size (values_from vs)) → ItemsGood S writer reader w r items count branch a b vs
 RunAs S writer reader w r (Run.Faulty fault) vs =
-    (more : List Value) → IsSmall (values_size (values_from (vs ++ more))) → resolve writer reader w r (Value.array (values_from (vs ++ more))) ≡ Err (turned fault)
+    (more : List Value) → IsSmall (values_size (values_from (vs ++ more))) → resolve writer reader w r (Value.array (values_from (vs ++ more))) ≡ Err (turned fault.value)
 RunAs S writer reader w r Run.Nothing vs = ⊥
 
 abbrev pub IsNoRun : {I : Type 0} → Run I → Type 0
@@ -96,7 +96,7 @@ pub record EntriesGood {I : Type 0} (S : I → List (List ℕ × Value) → Type
 abbrev pub MapRunAs : {I : Type 0} → (I → List (List ℕ × Value) → Type 0) → List Node → List Node → Node → Node → Run I → List (List ℕ × Value) → Type 0
 MapRunAs S writer reader w r (Run.Good items count branch a b) vs = IsSmall (entries_size (entries_from vs)) → EntriesGood S writer reader w r items count branch a b vs
 MapRunAs S writer reader w r (Run.Faulty fault) vs =
-    (more : List (List ℕ × Value)) → IsSmall (entries_size (entries_from (vs ++ more))) → resolve writer reader w r (Value.map_of (entries_from (vs ++ more))) ≡ Err (turned fault)
+    (more : List (List ℕ × Value)) → IsSmall (entries_size (entries_from (vs ++ more))) → resolve writer reader w r (Value.map_of (entries_from (vs ++ more))) ≡ Err (turned fault.value)
 MapRunAs S writer reader w r Run.Nothing vs = ⊥
 
 abbrev pub EntriesStandAs : {I : Type 0} → (I → List (List ℕ × Value) → Type 0) → List Node → List Node → List Node → ℕ → At → Run I → List (List ℕ × Value) → Type 0
@@ -112,8 +112,8 @@ next_at Run.Nothing = Ignored
 
 -- ---- Fields
 
--- fields that were made so far, none of which has a fault
-pub record FieldsGood {O : Type 0} (S : O → Value → Type 0) (writer reader : List Node) (w r : Node) (slots : List (Option O)) (branch : Option ℕ) (a b : NodeId) (vs : List Value) : Type 0 where
+-- fields that were made so far, none of which has a fault, and the start of the reader's, by the branch that these go into
+pub record FieldsGood {O F : Type 0} (S : O → Value → Type 0) (T : Option ℕ → F → List Value → Type 0) (writer reader : List Node) (w r : Node) (slots : List (Option O)) (start : F) (branch : Option ℕ) (a b : NodeId) (vs : List Value) : Type 0 where
   pub leads : Leads writer reader w r branch b.0
   pub of_writer : node_at writer a.0 ≡ w
   pub complete : missing_field (fields_at w) (fields_at (node_at reader b.0)) ≡ None
@@ -122,25 +122,26 @@ pub record FieldsGood {O : Type 0} (S : O → Value → Type 0) (writer reader :
   pub below : AllBelow (length vs) found
   pub so_far : SoFar (λ k us. resolve_sources writer reader (fields_at (node_at writer a.0)) (fields_at (node_at reader b.0)) k (values_from us)) before vs found
   pub stands : SlotsAre S found slots
+  pub starts : T branch start []
 
-abbrev pub SlotsStand : {O : Type 0} → (O → Value → Type 0) → List Node → List Node → Node → Node → Slots O → List Value → Type 0
-SlotsStand S writer reader w r (Slots.Good slots branch a b) vs = IsSmall (values_size (values_from vs)) → FieldsGood S writer reader w r slots.items branch a b vs
-SlotsStand S writer reader w r (Slots.Faulty fault) vs =
-    (more : List Value) → IsSmall (values_size (values_from (vs ++ more))) → resolve writer reader w r (Value.record_of (values_from (vs ++ more))) ≡ Err (turned fault)
-SlotsStand S writer reader w r Slots.Nothing vs = ⊥
+abbrev pub SlotsStand : {O F : Type 0} → (O → Value → Type 0) → (Option ℕ → F → List Value → Type 0) → List Node → List Node → Node → Node → Slots O F → List Value → Type 0
+SlotsStand S T writer reader w r (Slots.Good slots start branch a b) vs = IsSmall (values_size (values_from vs)) → FieldsGood S T writer reader w r slots.items start branch a b vs
+SlotsStand S T writer reader w r (Slots.Faulty fault) vs =
+    (more : List Value) → IsSmall (values_size (values_from (vs ++ more))) → resolve writer reader w r (Value.record_of (values_from (vs ++ more))) ≡ Err (turned fault.value)
+SlotsStand S T writer reader w r Slots.Nothing vs = ⊥
 
-abbrev pub AreNoSlots : {O : Type 0} → Slots O → Type 0
+abbrev pub AreNoSlots : {O F : Type 0} → Slots O F → Type 0
 AreNoSlots Slots.Nothing = Unit {0}
 AreNoSlots slots = ⊥
 
-abbrev pub FieldsStandAs : {O : Type 0} → (O → Value → Type 0) → List Node → List Node → List Node → List FieldNode → At → Slots O → List Value → Type 0
-FieldsStandAs S writer reader nodes fs Ignored slots vs = AreNoSlots slots
-FieldsStandAs S writer reader nodes fs (Pair w r) slots vs =
-    nodes ≡ writer → fields_at (node_at writer w.0) ≡ fs → SlotsStand S writer reader (node_at writer w.0) (node_at reader r.0) slots vs
+abbrev pub FieldsStandAs : {O F : Type 0} → (O → Value → Type 0) → (Option ℕ → F → List Value → Type 0) → List Node → List Node → List Node → List FieldNode → At → Slots O F → List Value → Type 0
+FieldsStandAs S T writer reader nodes fs Ignored slots vs = AreNoSlots slots
+FieldsStandAs S T writer reader nodes fs (Pair w r) slots vs =
+    nodes ≡ writer → fields_at (node_at writer w.0) ≡ fs → SlotsStand S T writer reader (node_at writer w.0) (node_at reader r.0) slots vs
 
 -- what the next field is for
-abbrev pub next_field : {O : Type 0} → List Node → List Node → Slots O → At
-next_field writer reader (Slots.Good slots branch a b) = field_for (fields_at (node_at writer a.0)) (fields_at (node_at reader b.0)) (length slots.items)
+abbrev pub next_field : {O F : Type 0} → List Node → List Node → Slots O F → At
+next_field writer reader (Slots.Good slots start branch a b) = field_for (fields_at (node_at writer a.0)) (fields_at (node_at reader b.0)) (length slots.items)
 next_field writer reader (Slots.Faulty fault) = Ignored
 next_field writer reader Slots.Nothing = Ignored
 
@@ -155,5 +156,9 @@ abbrev pub part_below : At → ℕ → Part
 part_below at index = record { at = at; index = index; branch = None }
 
 -- fields that were made so far, with what the next is for
-abbrev pub FillsAs : {O : Type 0} → (O → Value → Type 0) → List Node → List Node → List Node → List FieldNode → At → Filling O → List Value → Type 0
-FillsAs S writer reader nodes fs at fields vs = FieldsStandAs S writer reader nodes fs at fields.slots vs × (fields.next.at ≡ next_field writer reader fields.slots)
+abbrev pub FillsAs : {O F : Type 0} → (O → Value → Type 0) → (Option ℕ → F → List Value → Type 0) → List Node → List Node → List Node → List FieldNode → At → Filling O F → List Value → Type 0
+FillsAs S T writer reader nodes fs at fields vs = FieldsStandAs S T writer reader nodes fs at fields.slots vs × (fields.next.at ≡ next_field writer reader fields.slots)
+
+-- what was made is kept, and the two schemas are the same
+abbrev pub AreKept : Type 0 → List Node → List Node → List Node → List Node → Type 0
+AreKept kept a b c d = kept × ◌≡◌ {A = List Node × List Node} (a, b) (c, d)

@@ -1,7 +1,7 @@
 use Rattle.std.proofs.Common.{◌≡◌, drop}
 use Rattle.std.specs.List.{list_all}
 use Rattle.avro_schema.specs.SeenSchema.{schema_nodes}
-use Rattle.avro_resolve.specs.Planned.{AreComparisons}
+use Rattle.avro_compare.specs.Planned.{AreComparisons}
 use Rattle.avro_certificate.specs.Closed.{is_closed_at}
 use Rattle.avro_certificate.specs.SeenCertificate.{dead_of, pairs_in}
 use Rattle.avro_certificate.specs.SeenPair.{pairs_of}

@@ -1,7 +1,7 @@
 use Rattle.std.proofs.Common.{◌∙◌, ap, not, subst, sym}
 use Rattle.avro_schema.specs.Seen.{node_of, texts_of}
 use Rattle.avro_schema.specs.declared.schema.Node.{Node as KeptNode}
-use Rattle.avro_resolve.specs.Planned.{AreInside}
+use Rattle.avro_compare.specs.Planned.{AreInside}
 use Rattle.avro_certificate.specs.SeenCertificate.{dead_of, pairs_in}
 use Rattle.avro_certificate.specs.inside.ClosedParts.{closed_inside}
 use Rattle.avro_certificate.proofs.public.Symbols.{lacks_same}

@@ -1,4 +1,4 @@
--- A content behind its length, and why it is not taken.
+-- A content after its length, and why it is not taken.
 use Rattle.std.proofs.Common.{Err, ap, sym, ◌∙◌, arith}
 use Rattle.std.proofs.lemmas.Result.{err_from_is_err_and}
 use Rattle.avro_container.specs.inside.Filled.{GrowsBy}

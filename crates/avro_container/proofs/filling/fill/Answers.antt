@@ -1,4 +1,4 @@
--- What was taken goes behind what was taken before.
+-- What was taken goes after what was taken before.
 use Rattle.std.proofs.Common.{rules}
 use Rattle.avro_container.specs.Held.{held}
 use Rattle.avro_container.proofs.Taking.{GrowsBy-chain, TakesAtMost-behind, TakesAtMost-from_grown}

@@ -1,4 +1,4 @@
--- Why a text is no schema.
+-- Why a text is not a schema.
 use Rattle.std.proofs.Common.{◌≢◌, Err, ap, sym, rules}
 use Rattle.std.proofs.lemmas.Option.{same_Some}
 use Rattle.avro_schema_json.specs.declared.error.SchemaError.{SchemaError}

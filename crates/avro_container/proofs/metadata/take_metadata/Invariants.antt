@@ -1,4 +1,4 @@
--- The blocks so far stand behind the magic.
+-- The blocks so far stand after the magic.
 use Rattle.std.proofs.Common.{◌+◌, ◌-◌, ◌≤◌, max, length}
 use Rattle.avro_container.specs.inside.HeaderParts.{Takes}
 use Rattle.avro_container.specs.Held.{held}

@@ -1,4 +1,4 @@
--- Each datum is packed behind those before it.
+-- Each datum is packed after those before it.
 use Rattle.std.proofs.Common.{◌≡◌, ℕ, ◌+◌, ◌^◌, ◌<◌, ◌≤◌, ◌++◌, List, Option, Ok, Err, length, take, drop, ap, sym, subst, ◌∙◌, refl, arith, rules, Fits, w64}
 use Rattle.std.specs.Prelude.{option_map}
 use Rattle.std.specs.Option.{IfSome, option_copied}

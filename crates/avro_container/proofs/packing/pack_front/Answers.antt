@@ -1,4 +1,4 @@
--- Where a datum without bytes is known, none is read.
+-- If a datum without bytes is known, none is read.
 use Rattle.avro_container.proofs.PackedData.{pack-none}
 use Rattle.avro_container.proofs.packing.pack_front.Goals as goal
 

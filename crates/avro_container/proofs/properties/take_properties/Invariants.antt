@@ -1,4 +1,4 @@
--- The properties so far stand behind one another.
+-- The properties so far stand one after another.
 use Rattle.std.proofs.Common.{◌≡◌, ◌+◌, ◌-◌, ◌≤◌, max, true, length, bytes_eq}
 use Rattle.avro_schema.specs.Distinct.{are_distinct}
 use Rattle.avro_binary.specs.Breaks.{Left}

@@ -1,4 +1,4 @@
--- A head, with its size where there is one.
+-- A head, with its size if there is one.
 use Rattle.std.proofs.Common.{◌≡◌, ◌+◌, Bool, pos, true, false, take, drop, refl, subst, rules}
 use Rattle.std.specs.Prelude.{neg_ℤ}
 use Rattle.std.proofs.lemmas.Result.{err_from_is_err_and}

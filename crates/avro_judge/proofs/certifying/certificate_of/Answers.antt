@@ -2,7 +2,7 @@ use Rattle.std.proofs.Common.{ap, ◌∙◌}
 use Rattle.avro_schema.specs.SeenSchema.{schema_nodes}
 use Rattle.indexmap.specs.IndexSet.{keys}
 use Rattle.avro_certificate.specs.SeenPair.{pairs_of}
-use Rattle.avro_judge.proofs.Certified.{no_entry, certified_dead, certified_live, evidence_as, closed_as}
+use Rattle.avro_judge.proofs.CertifiedTables.{no_entry, certified_dead, certified_live, evidence_as, closed_as}
 use Rattle.avro_judge.proofs.certifying.certificate_of.Goals as goal
 
 pub of-requires-clause-rising : goal.of-requires-clause-rising

@@ -5,7 +5,7 @@ use Rattle.avro_schema.specs.SeenSchema.{schema_nodes}
 use Rattle.avro_least.specs.BuiltErrors.{BuildsError}
 use Rattle.avro_least.specs.Tables.{erring_of}
 use Rattle.avro_least.specs.SeenLeast.{seen_all, table_of}
-use Rattle.avro_judge.proofs.Certified.{tables_of}
+use Rattle.avro_judge.proofs.CertifiedTables.{tables_of}
 use Rattle.avro_judge.proofs.RootJudged.{compatible, above, deep, refuting}
 use Rattle.avro_judge.proofs.deciding.judge_roots.Goals as goal
 

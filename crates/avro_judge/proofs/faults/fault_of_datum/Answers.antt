@@ -5,10 +5,10 @@ use Rattle.avro_schema.specs.SeenSchema.{schema_nodes}
 use Rattle.avro_schema.specs.Value.{Value}
 use Rattle.avro_schema.specs.declared.schema.Schema.{Schema}
 use Rattle.avro_binary.specs.Encoding.{Encodes}
-use Rattle.avro_resolve.specs.Fault.{ResolutionFault}
+use Rattle.avro_compare.specs.Fault.{ResolutionFault}
 use Rattle.avro_resolve.specs.Reading.{ReadsAs}
-use Rattle.avro_resolve.specs.Resolve.{Resolved, resolve_root}
-use Rattle.avro_resolve.specs.Seen.{fault_of}
+use Rattle.avro_compare.specs.Resolve.{Resolved, resolve_root}
+use Rattle.avro_compare.specs.Seen.{fault_of}
 use Rattle.avro_judge.proofs.PlainRead.{resolves_as_read}
 use Rattle.avro_judge.proofs.faults.fault_of_datum.Goals as goal
 

@@ -3,7 +3,7 @@ use Rattle.std.specs.Prelude.{IfOk}
 use Rattle.avro_schema.specs.Node.{field_ids}
 use Rattle.avro_schema.specs.Seen.{node_of, seen_fields, texts_of}
 use Rattle.avro_schema.specs.declared.schema.Node.{Node as KeptNode}
-use Rattle.avro_resolve.specs.Planned.{AreInside}
+use Rattle.avro_compare.specs.Planned.{AreInside}
 use Rattle.avro_certificate.proofs.public.Symbols.{lacks_same}
 use Rattle.avro_least.specs.Asked.{Asked, asked_inside, rows_from}
 use Rattle.avro_least.specs.SeenAsk.{ask_of, rows_by}

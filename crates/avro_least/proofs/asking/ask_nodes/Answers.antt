@@ -2,7 +2,7 @@ use Rattle.std.proofs.Common.{◌≡◌, subst, None, Some, rules}
 use Rattle.std.specs.Prelude.{IfOk}
 use Rattle.avro_schema.specs.Seen.{node_of}
 use Rattle.avro_schema.specs.SeenSchema.{schema_nodes}
-use Rattle.avro_resolve.specs.declared.guided.Aim.TheVariants.{To}
+use Rattle.avro_compare.specs.declared.guided.Aim.TheVariants.{To}
 use Rattle.avro_certificate.proofs.public.Aims.{aims_of, inside_of}
 use Rattle.avro_least.specs.SeenAsk.{ask_of}
 use Rattle.avro_least.proofs.AskedLed.{asked_fault, asked_same, asked_own, plain_node}

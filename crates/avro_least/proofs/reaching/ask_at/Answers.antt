@@ -1,6 +1,6 @@
 use Rattle.std.proofs.Common.{sym, subst}
 use Rattle.avro_schema.specs.SeenSchema.{schema_nodes}
-use Rattle.avro_resolve.specs.Planned.{AreComparisons, IsComparison}
+use Rattle.avro_compare.specs.Planned.{AreComparisons, IsComparison}
 use Rattle.avro_certificate.proofs.public.Tests.{each_more}
 use Rattle.avro_least.proofs.reaching.ask_at.Goals as goal
 

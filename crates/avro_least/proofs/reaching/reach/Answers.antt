@@ -6,8 +6,8 @@ use Rattle.std.specs.List.{list_all}
 use Rattle.indexmap.specs.IndexSet.{keys}
 use Rattle.avro_schema.specs.SeenSchema.{schema_nodes}
 use Rattle.avro_schema.specs.Node.{Node}
-use Rattle.avro_resolve.specs.Planned.{AreComparisons}
-use Rattle.avro_resolve.specs.declared.comparison.Comparison.{Comparison}
+use Rattle.avro_compare.specs.Planned.{AreComparisons}
+use Rattle.avro_compare.specs.declared.comparison.Comparison.{Comparison}
 use Rattle.avro_least.specs.SeenLeast.{table_of}
 use Rattle.avro_least.specs.Reached.{is_key, AreFollowed, IsSteppedTo, from_first, one_step}
 use Rattle.avro_least.specs.Asked.{Asked, asked_at, steps_at, AreAsked}

@@ -3,7 +3,7 @@ use Rattle.std.specs.Prelude.{nat_lt}
 use Rattle.std.specs.List.{list_all}
 use Rattle.indexmap.specs.IndexSet.{keys}
 use Rattle.avro_schema.specs.SeenSchema.{schema_nodes}
-use Rattle.avro_resolve.specs.Planned.{AreComparisons}
+use Rattle.avro_compare.specs.Planned.{AreComparisons}
 use Rattle.avro_least.specs.SeenLeast.{table_of}
 use Rattle.avro_least.specs.Reached.{is_key, AreFollowed, IsSteppedTo}
 use Rattle.avro_least.specs.Asked.{steps_at, AreAsked}

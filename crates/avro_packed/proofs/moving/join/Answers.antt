@@ -1,7 +1,12 @@
-use Rattle.std.proofs.Common.{◌≡◌, ◌++◌, ◌∙◌, List, ℕ, ap, subst, rules}
+use Rattle.std.proofs.Common.{◌≡◌, ◌++◌, ◌∙◌, List, [], ℕ, ap, subst, sym, rules}
 use Rattle.avro_packed.specs.Appended.{Holds, StandsAt}
 use Rattle.avro_packed.specs.inside.Outputs.{stands_joined, holds_joined}
 use Rattle.avro_packed.proofs.moving.join.Goals as goal
+
+pub returns-then-is_nothing : goal.returns-then-is_nothing
+returns-then-is_nothing c = λ a b first second.
+    let none : a ≡ [] = c.is_nothing.ensures c.args.out.now a c.if-is_nothing.true first in
+    subst (λ (l : List ℕ). Holds c.args.out.now c.args.second (l ++ b)) (sym none) second
 
 pub returns-then-from-end : goal.returns-then-from-end
 returns-then-from-end c = λ a b first second.

@@ -1,9 +1,5 @@
-use Rattle.std.proofs.Common.{◌≡◌, map}
-use Rattle.std.specs.List.{AllZip}
-use Rattle.std.proofs.lemmas.Result.{IfOk-weaker}
-use Rattle.avro_schema.specs.Seen.{seen_fields, values_of}
-use Rattle.avro_resolve.specs.Ends.{IsSeen}
-use Rattle.avro_resolve.specs.Resolve.{field_value, field_values}
+use Rattle.std.proofs.Common.{None, refl, [], rules}
+use Rattle.avro_schema.specs.Seen.{seen_fields}
 use Rattle.avro_resolve.proofs.Slots.{data_filled}
 use Rattle.avro_resolve.proofs.filling.fill_data.Goals as goal
 
@@ -11,5 +7,4 @@ pub returns : goal.returns
 returns c = λ found all.
     let ws = seen_fields c.args.writes.now in
     let rs = seen_fields c.args.reads.now in
-    IfOk-weaker c.fill.result (λ values. AllZip IsSeen values.items (map (field_value ws found) rs)) (λ values. values_of values.items ≡ field_values ws found rs)
-    (λ values h. data_filled ws found rs values.items h) (c.fill.ensures found all)
+    data_filled ws found rs c.in_ok-filled.filled.1.0.items (c.in_ok-filled.ensures.stands found None all (refl, search rules)).1

@@ -1,8 +1,8 @@
 use Rattle.std.proofs.Common.{◌∙◌, ap, sym, subst}
 use Rattle.avro_schema.specs.Node.{node_at}
 use Rattle.avro_schema.specs.SeenSchema.{schema_nodes}
-use Rattle.avro_resolve.specs.Pairs.{IsAim, aim_at}
-use Rattle.avro_resolve.proofs.Leading.{pair_leads}
+use Rattle.avro_compare.specs.Pairs.{IsAim, aim_at}
+use Rattle.avro_compare.proofs.public.Leading.{pair_leads}
 use Rattle.avro_resolve.proofs.keeping.aim_kept.Goals as goal
 
 pub returns-in-Some : goal.returns-in-Some

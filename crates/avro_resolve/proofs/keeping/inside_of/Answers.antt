@@ -1,6 +1,6 @@
 use Rattle.std.proofs.Common.{◌≡◌, None, rules}
-use Rattle.avro_resolve.specs.declared.guided.Aim.TheVariants.{To}
-use Rattle.avro_resolve.proofs.Leading.{inside_by}
+use Rattle.avro_compare.specs.declared.guided.Aim.TheVariants.{To}
+use Rattle.avro_compare.proofs.public.Leading.{inside_by}
 use Rattle.avro_resolve.proofs.keeping.inside_of.Goals as goal
 
 pub returns-in-To-None-default : goal.returns-in-To-None-default

@@ -1,8 +1,8 @@
 use Rattle.std.proofs.Common.{sym, subst}
 use Rattle.avro_schema.specs.Node.{node_at}
 use Rattle.avro_schema.specs.SeenSchema.{schema_nodes}
-use Rattle.avro_resolve.specs.Planned.{AreSources}
-use Rattle.avro_resolve.specs.Resolve.{fields_at}
+use Rattle.avro_compare.specs.Planned.{AreSources}
+use Rattle.avro_compare.specs.Resolve.{fields_at}
 use Rattle.avro_resolve.proofs.keeping.sources_kept.Goals as goal
 
 pub returns-in-Some : goal.returns-in-Some

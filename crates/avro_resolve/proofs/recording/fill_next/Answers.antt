@@ -8,6 +8,6 @@ pub returns : goal.returns
 returns g c = λ nodes fs id at vs v h is stands.
     let writer = schema_nodes c.args.plan.now.0 in
     let reader = schema_nodes c.args.plan.now.1 in (
-      c.in_ok-put_field.ensures writer reader nodes fs id at vs v h.0 is (subst (λ x. StandsAs g.B.Build.stands_for writer reader nodes (node_at nodes id) x c.args.made v) h.1 stands),
+      c.in_ok-put_field.ensures writer reader nodes fs id at vs v h.0 is (subst (λ x. StandsAs (g.P.Put.stands_for c.args.builder.now) writer reader nodes (node_at nodes id) x c.args.made v) h.1 stands),
       c.next_field_part-fields.ensures,
     )

@@ -5,8 +5,8 @@ use Rattle.avro_schema.specs.Seen.{value_of, entries_of}
 use Rattle.avro_schema.specs.SeenSchema.{schema_nodes}
 use Rattle.avro_schema.specs.Value.{Value}
 use Rattle.avro_schema.proofs.public.DatumViews.{value_of-Map}
-use Rattle.avro_resolve.specs.Pairs.{value_id}
-use Rattle.avro_resolve.specs.Resolve.{fields_at, resolve as resolve_value, resolve_entries, result_map}
+use Rattle.avro_compare.specs.Pairs.{value_id}
+use Rattle.avro_compare.specs.Resolve.{fields_at, resolve as resolve_value, resolve_entries, result_map}
 use Rattle.avro_resolve.specs.Ends.{EndsSlot, Fails, field_step}
 use Rattle.avro_resolve.proofs.InOrder.{ItemsSoFar, item_done, items_done, entry_done, entries_done, taken_map, fails_mapped}
 use Rattle.avro_resolve.proofs.Slots.{FieldsSoFar, field_done, field_fails}

@@ -1,6 +1,6 @@
 use Rattle.avro_schema.specs.Node.{node_at}
 use Rattle.avro_schema.specs.SeenSchema.{schema_nodes}
-use Rattle.avro_resolve.specs.Resolve.{fields_at}
+use Rattle.avro_compare.specs.Resolve.{fields_at}
 use Rattle.avro_resolve.proofs.InOrder.{ItemsSoFar, EntriesSoFar}
 use Rattle.avro_resolve.proofs.Slots.{FieldsSoFar}
 use Rattle.avro_resolve.proofs.resolution.+resolution.Given as goal

@@ -3,7 +3,7 @@ use Rattle.avro_schema.specs.Node.{node_at}
 use Rattle.avro_schema.specs.Seen.{value_of}
 use Rattle.avro_schema.specs.SeenSchema.{schema_nodes}
 use Rattle.avro_schema.specs.declared.schema.Schema.{Schema}
-use Rattle.avro_resolve.specs.Resolve.{resolve as resolve_value}
+use Rattle.avro_compare.specs.Resolve.{resolve as resolve_value}
 use Rattle.avro_resolve.proofs.Resolved.{resolve_root-fits, rooted}
 use Rattle.avro_resolve.proofs.resolution.resolve.Goals as goal
 

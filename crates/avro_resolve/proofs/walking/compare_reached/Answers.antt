@@ -1,7 +1,7 @@
 use Rattle.std.proofs.Common.{length, refl, subst}
 use Rattle.avro_schema.specs.SeenSchema.{schema_nodes}
-use Rattle.avro_resolve.specs.Planned.{IsComparison}
-use Rattle.avro_resolve.proofs.Planning.{holds_push}
+use Rattle.avro_compare.specs.Planned.{IsComparison}
+use Rattle.avro_compare.proofs.public.Planning.{holds_push}
 use Rattle.avro_resolve.proofs.walking.compare_reached.Goals as goal
 
 pub loop-round-preserved : goal.loop-round-preserved

@@ -1,5 +1,5 @@
 use Rattle.avro_schema.specs.SeenSchema.{schema_nodes}
-use Rattle.avro_resolve.specs.Planned.{AreComparisons}
+use Rattle.avro_compare.specs.Planned.{AreComparisons}
 use Rattle.avro_resolve.proofs.walking.compare_reached.Given as goal
 
 abbrev pub invariant-loop-round : goal.invariant-loop-round

@@ -1,6 +1,6 @@
 use Rattle.std.proofs.Common.{subst, sym}
 use Rattle.avro_schema.specs.SeenSchema.{schema_nodes}
-use Rattle.avro_resolve.specs.Planned.{AreComparisons}
+use Rattle.avro_compare.specs.Planned.{AreComparisons}
 use Rattle.avro_resolve.proofs.plan_table.PlanTable.plan.Goals as goal
 
 pub new-requires : goal.new-requires

@@ -5,14 +5,14 @@ use Rattle.avro_resolve.proofs.resolving.ResolvingMake.branch.Goals as goal
 
 pub returns-in-Good-clause-stands : goal.returns-in-Good-clause-stands
 returns-in-Good-clause-stands g c = λ nodes ids id v e h.
-    branch_made g.B.Build.stands_for (schema_nodes c.args.self.now.plan.now.0) (schema_nodes c.args.self.now.plan.now.1) nodes ids c.args._branch id v c.args._at.at (Made.Good c.in-Good.out) (Made.Good c.in-Good.out) e (λ n. n)
-    (λ q m. branch_good g.B.Build.stands_for c.in-Good.out q m) (rw c.in-Good.is at h)
+    branch_made (g.P.Put.stands_for c.args.self.now.builder.now) (schema_nodes c.args.self.now.plan.now.0) (schema_nodes c.args.self.now.plan.now.1) nodes ids c.args._branch id v c.args._at.at (Made.Good c.in-Good.out) (Made.Good c.in-Good.out) e (λ n. n)
+    (λ q m. branch_good (g.P.Put.stands_for c.args.self.now.builder.now) c.in-Good.out q m) (rw c.in-Good.is at h)
 
 pub returns-in_ok-outer-in-Faulty-clause-stands : goal.returns-in_ok-outer-in-Faulty-clause-stands
 returns-in_ok-outer-in-Faulty-clause-stands g c = λ nodes ids id v e h.
-    branch_made g.B.Build.stands_for (schema_nodes c.args.self.now.plan.now.0) (schema_nodes c.args.self.now.plan.now.1) nodes ids c.args._branch id v c.args._at.at (Made.Faulty c.in-Faulty.fault) (Made.Faulty c.in_ok-outer-in-Faulty.outer) e (λ n. n)
+    branch_made (g.P.Put.stands_for c.args.self.now.builder.now) (schema_nodes c.args.self.now.plan.now.0) (schema_nodes c.args.self.now.plan.now.1) nodes ids c.args._branch id v c.args._at.at (Made.Faulty c.in-Faulty.fault) (Made.Faulty c.in_ok-outer-in-Faulty.outer) e (λ n. n)
     (λ q m. branch_bad c.in-Faulty.fault c.in_ok-outer-in-Faulty.outer q c.in_ok-outer-in-Faulty.ensures m) (rw c.in-Faulty.is at h)
 
 pub returns-in-Nothing-clause-stands : goal.returns-in-Nothing-clause-stands
 returns-in-Nothing-clause-stands g c = λ nodes ids id v e h.
-    branch_made g.B.Build.stands_for (schema_nodes c.args.self.now.plan.now.0) (schema_nodes c.args.self.now.plan.now.1) nodes ids c.args._branch id v c.args._at.at Made.Nothing Made.Nothing e (λ n. n) (λ q m. absurd m) (rw c.in-Nothing.is at h)
+    branch_made (g.P.Put.stands_for c.args.self.now.builder.now) (schema_nodes c.args.self.now.plan.now.0) (schema_nodes c.args.self.now.plan.now.1) nodes ids c.args._branch id v c.args._at.at Made.Nothing Made.Nothing e (λ n. n) (λ q m. absurd m) (rw c.in-Nothing.is at h)

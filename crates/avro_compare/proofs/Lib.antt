@@ -1,0 +1,11 @@
+pub mod public
+pub mod EnoughSteps
+pub mod Pairing
+pub mod FieldsNoted
+pub mod Named
+pub mod NamedKeys
+pub mod NamedStarts
+pub mod NodeTables
+mod RowsMatch
+mod RowsSource
+pub mod ByNumber

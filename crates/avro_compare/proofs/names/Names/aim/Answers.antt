@@ -1,0 +1,16 @@
+use Rattle.std.proofs.Common.{subst, sym}
+use Rattle.avro_schema.specs.Node.{node_at}
+use Rattle.avro_schema.specs.SeenSchema.{schema_nodes}
+use Rattle.avro_schema.specs.declared.schema.Schema.{Schema}
+use Rattle.avro_compare.specs.Pairs.{IsAim}
+use Rattle.avro_compare.proofs.public.Leading.{pair_leads}
+use Rattle.avro_compare.proofs.names.Names.aim.Goals as goal
+
+pub returns-clause-leads : goal.returns-clause-leads
+returns-clause-leads c =
+    let writer = schema_nodes c.self.inside.writer.now in
+    let reader = schema_nodes c.self.inside.reader.now in
+    let w = c.args.w in
+    let r = c.args.r in
+    subst (λ (v : Schema × Schema). IsAim (schema_nodes v.0) (schema_nodes v.1) (node_at (schema_nodes v.0) w.0) (node_at (schema_nodes v.1) r.0) c.aim_after.result)
+    c.self.view_is (subst (λ a. IsAim writer reader (node_at writer w.0) (node_at reader r.0) a) (sym c.aim_after.ensures) (pair_leads writer reader w r))

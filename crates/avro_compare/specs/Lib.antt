@@ -1,0 +1,9 @@
+pub mod Match
+pub mod Source
+pub mod Fault
+pub mod Fields
+pub mod Resolve
+pub mod Seen
+pub mod Pairs
+pub mod Planned
+pub mod inside

@@ -1,0 +1,52 @@
+-- What a plan keeps of pairs of nodes.
+use Rattle.std.specs.Prelude.{◌≡◌, ℕ, suc, List, [], Option, Some, None, slice_get, unwrap_or, position, bytes_eq, length}
+use Rattle.std.specs.Ordering.{nat_cmp}
+use Rattle.std.specs.Cmp.Lexicographic.{slice_cmp}
+use Rattle.std.specs.BTreeMap.{BTreeMap, get_by}
+use denote.Ref.{Bor}
+use Rattle.avro_schema.specs.Node.{Node, FieldNode, node_at, symbols_of}
+use Rattle.avro_schema.specs.declared.schema.NodeId.{NodeId}
+use Rattle.avro_compare.specs.Pairs.{IsSymbol, aim_at, field_for}
+use Rattle.avro_compare.specs.Resolve.{enum_as, symbol_at, fields_at}
+use Rattle.avro_compare.specs.Source.{field_index, source_of, missing_field}
+use Rattle.avro_compare.specs.declared.guided.Aim.TheVariants.{To}
+use Rattle.avro_compare.specs.declared.guided.At.{At}
+use Rattle.avro_compare.specs.declared.comparison.Comparison.{Comparison}
+
+-- each is the source of the reader's field at its index
+abbrev pub AreSources : List FieldNode → List FieldNode → List (Option ℕ) → Type 0
+AreSources ws rs sources = (k : ℕ) (s : Option ℕ) → slice_get sources k ≡ Some s → (f : FieldNode) → slice_get rs k ≡ Some f → s ≡ source_of ws f
+
+-- each is what the writer's field at its index is for
+abbrev pub AreFor : List FieldNode → List FieldNode → List At → Type 0
+AreFor ws rs parts = (k : ℕ) (at : At) → slice_get parts k ≡ Some at → at ≡ field_for ws rs k
+
+-- each is the reader's symbol for the writer's at its index
+abbrev pub AreSymbols : Node → Node → List (Option ℕ) → Type 0
+AreSymbols w q symbols = (k : ℕ) (s : Option ℕ) → slice_get symbols k ≡ Some s → IsSymbol (enum_as (symbol_at w k) q) s
+
+-- what is kept inside two nodes is what their fields and their symbols are to each other: of each, and of the index behind the writer's last field
+pub record AreInside (w q : Node) (p : Comparison) : Type 0 where
+  pub complete : p.missing ≡ missing_field (fields_at w) (fields_at q)
+  pub fields : AreFor (fields_at w) (fields_at q) p.fields.items
+  pub all_fields : length p.fields.items ≡ suc (length (fields_at w))
+  pub sources : AreSources (fields_at w) (fields_at q) p.sources.items
+  pub all_sources : length p.sources.items ≡ length (fields_at q)
+  pub symbols : AreSymbols w q p.symbols.items
+  pub all_symbols : length p.symbols.items ≡ length (unwrap_or (symbols_of w) [])
+
+-- what is kept of a pair of nodes is where it leads; and where this is to the reader's node itself, what is inside
+pub record IsComparison (writer reader : List Node) (p : Comparison) : Type 0 where
+  pub aims : p.aim ≡ aim_at writer reader p.w p.r
+  pub inside : (q : NodeId) → p.aim ≡ To None q → AreInside (node_at writer p.w.0) (node_at reader p.r.0) p
+
+abbrev pub AreComparisons : List Node → List Node → List Comparison → Type 0
+AreComparisons writer reader pairs = (k : ℕ) (p : Comparison) → slice_get pairs k ≡ Some p → IsComparison writer reader p
+
+-- a map finds the first field of each name, and no other name
+abbrev pub FindsFields : List FieldNode → BTreeMap (Bor (List ℕ)) ℕ → Type 0
+FindsFields fields names = (name : List ℕ) → get_by (λ k. slice_cmp nat_cmp name k.now) names ≡ field_index fields name
+
+-- the same of symbols
+abbrev pub FindsSymbols : List (List ℕ) → BTreeMap (Bor (List ℕ)) ℕ → Type 0
+FindsSymbols symbols names = (word : List ℕ) → get_by (λ k. slice_cmp nat_cmp word k.now) names ≡ position (λ s. bytes_eq s word) symbols

@@ -1,0 +1,5 @@
+-- What only proofs and private contracts need.
+pub mod ByNode
+pub mod NameNumbers
+pub mod NameTables
+pub mod Noting

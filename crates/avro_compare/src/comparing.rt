@@ -1,0 +1,179 @@
+ghost use Rattle.std.specs.Prelude.{◌≡◌, IfOk, length, suc};
+ghost use Rattle.avro_schema.specs.Node.{node_at};
+ghost use Rattle.avro_schema.specs.Seen.{seen_fields};
+ghost use Rattle.avro_compare.specs.Resolve.{fields_at};
+ghost use Rattle.avro_schema.specs.SeenSchema.{schema_nodes};
+ghost use Rattle.avro_compare.specs.inside.NameTables.{symbols_at};
+ghost use Rattle.avro_compare.specs.inside.Noting.{AreIgnored, noted};
+ghost use Rattle.avro_compare.specs.Planned.{AreFor, AreInside, AreComparisons, AreSources, AreSymbols, IsComparison};
+
+use crate::comparison::Comparison;
+use crate::guided::{Aim, At};
+use crate::names::Names;
+use crate::sourcing::{fields_of, missing_among, node_of_field, source_kept};
+use crate::symbols::symbols_of;
+use avro_schema::{Field, Memory, NodeId, Schema};
+use std::alloc::Global;
+
+/// Compares each pair of nodes, for a plan to keep.
+pub fn compare_all(
+    alloc: Global,
+    writer: &Schema,
+    reader: &Schema,
+    pairs: &[(NodeId, NodeId)],
+) -> Result<Vec<Comparison>, Memory>
+    ensures { IfOk result (λ kept. AreComparisons (schema_nodes writer.now) (schema_nodes reader.now) kept.items) }
+{
+    let names = Names::new(alloc, writer, reader)?;
+    let mut kept = Vec::new(alloc);
+    for pair in pairs {
+        let comparison = compare(alloc, &names, pair.0, pair.1)?;
+        kept.push(comparison)?;
+    }
+    Ok(kept)
+}
+
+/// Compares a writer's node with a reader's, for a plan to keep. Only this compares their names: reading and
+/// judging by the result look up what was found.
+///
+/// # Errors
+///
+/// Memory ran out.
+pub fn compare(alloc: Global, names: &Names, w: NodeId, r: NodeId) -> Result<Comparison, Memory>
+    ensures { IfOk result (λ p. IsComparison (schema_nodes names.now.0) (schema_nodes names.now.1) p × (p.w ≡ w) × (p.r ≡ r)) }
+{
+    let aim = names.aim(w, r);
+    match aim {
+        Aim::Fault(_) => Ok(outside(alloc, w, r, aim)),
+        Aim::To(Some(_), _) => Ok(outside(alloc, w, r, aim)),
+        Aim::To(None, _) => compare_inside(alloc, names, w, r, aim),
+    }
+}
+
+/// The comparison of a pair of nodes that leads to another node or to a fault. Nothing else is kept of it.
+fn outside(alloc: Global, w: NodeId, r: NodeId, aim: Aim) -> Comparison
+    ensures { (result.aim ≡ aim) × (result.w ≡ w) × (result.r ≡ r) }
+{
+    Comparison {
+        w,
+        r,
+        aim,
+        missing: None,
+        fields: Vec::new(alloc),
+        sources: Vec::new(alloc),
+        symbols: Vec::new(alloc),
+    }
+}
+
+/// The comparison of a pair of nodes that leads to the reader's node itself.
+pub fn compare_inside(
+    alloc: Global,
+    names: &Names,
+    w: NodeId,
+    r: NodeId,
+    aim: Aim,
+) -> Result<Comparison, Memory>
+    ensures { IfOk result (λ p. AreInside (node_at (schema_nodes names.now.0) w.0) (node_at (schema_nodes names.now.1) r.0) p
+        × (p.aim ≡ aim) × (p.w ≡ w) × (p.r ≡ r)) }
+{
+    let writes = fields_of(names.writer(), w);
+    let reads = fields_of(names.reader(), r);
+    let sources = find_sources(alloc, names, w, reads)?;
+    let fields = find_fields(alloc, writes, reads, &sources)?;
+    let symbols = find_symbols(alloc, names, w, r)?;
+    Ok(Comparison {
+        w,
+        r,
+        aim,
+        missing: missing_among(writes, reads, &sources),
+        fields,
+        sources,
+        symbols,
+    })
+}
+
+/// The sources of a reader's fields.
+fn find_sources(
+    alloc: Global,
+    names: &Names,
+    w: NodeId,
+    reads: &[Field],
+) -> Result<Vec<Option<usize>>, Memory>
+    ensures each { IfOk result (λ found. AreSources (fields_at (node_at (schema_nodes names.now.0) w.0)) (seen_fields reads.now) found.items) }
+    ensures all { IfOk result (λ found. length found.items ≡ length reads.now) }
+{
+    let mut found = Vec::new(alloc);
+    for index in 0..reads.len() {
+        found.push(names.source(w, &reads[index]))?;
+    }
+    Ok(found)
+}
+
+/// What each of the writer's fields is for, from the sources of the reader's fields. One ignored part stands
+/// after the last, since reading asks about that index too. The loop goes from the reader's last field to its
+/// first, so that the first of two with the same source is kept.
+fn find_fields(
+    alloc: Global,
+    writes: &[Field],
+    reads: &[Field],
+    sources: &[Option<usize>],
+) -> Result<Vec<At>, Memory>
+    requires { AreSources (seen_fields writes.now) (seen_fields reads.now) sources.now }
+    ensures each { IfOk result (λ found. AreFor (seen_fields writes.now) (seen_fields reads.now) found.items) }
+    ensures all { IfOk result (λ found. length found.items ≡ suc (length (seen_fields writes.now))) }
+{
+    let mut found = all_ignored(alloc, writes.len() + 1)?;
+    let mut left = reads.len();
+    while left > 0 {
+        left -= 1;
+        let f = &reads[left];
+        match source_kept(writes, sources, left, f) {
+            Some(index) => note(
+                &mut found,
+                index,
+                At::Pair(node_of_field(writes, index), f.node),
+            ),
+            None => {}
+        }
+    }
+    Ok(found)
+}
+
+/// A list of `count` ignored parts.
+fn all_ignored(alloc: Global, count: usize) -> Result<Vec<At>, Memory>
+    ensures ignored { IfOk result (λ found. AreIgnored found.items) }
+    ensures all { IfOk result (λ found. length found.items ≡ count) }
+{
+    let mut found = Vec::new(alloc);
+    for _part in 0..count {
+        found.push(At::Ignored)?;
+    }
+    Ok(found)
+}
+
+/// Records what the part at an index is for.
+fn note(found: &mut Vec<At>, index: usize, at: At)
+    ensures { found.new.items ≡ noted found.old.items index at }
+{
+    if index < found.len() {
+        found[index] = at;
+    }
+}
+
+/// The reader's symbol for each symbol of a writer's enum.
+fn find_symbols(
+    alloc: Global,
+    names: &Names,
+    w: NodeId,
+    r: NodeId,
+) -> Result<Vec<Option<u32>>, Memory>
+    ensures each { IfOk result (λ found. AreSymbols (node_at (schema_nodes names.now.0) w.0) (node_at (schema_nodes names.now.1) r.0) found.items) }
+    ensures all { IfOk result (λ found. length found.items ≡ length (symbols_at (node_at (schema_nodes names.now.0) w.0))) }
+{
+    let writes = symbols_of(names.writer(), w);
+    let mut found = Vec::new(alloc);
+    for index in 0..writes.len() {
+        found.push(names.symbol(writes[index].as_str(), r))?;
+    }
+    Ok(found)
+}

@@ -1,0 +1,34 @@
+//! What resolution is (Avro 1.11, "Schema Resolution"), and what two nodes of two schemas are to each other.
+//!
+//! [`compare`] finds it by [`Names`], the tables of names of two schemas.
+#![tactic(auto)]
+
+mod by_node;
+mod comparing;
+mod comparison;
+mod error;
+mod field_tables;
+mod first_branches;
+mod guided;
+pub mod laws;
+mod matching;
+mod name_numbers;
+mod named_type;
+mod names;
+mod naming;
+mod numbering;
+mod pairs;
+mod sourcing;
+mod symbol_tables;
+mod symbols;
+mod union_tables;
+
+pub use comparing::{compare, compare_all, compare_inside};
+pub use comparison::Comparison;
+pub use error::{Fault, FaultKind};
+pub use guided::{Aim, At};
+pub use matching::matches;
+pub use names::Names;
+pub use pairs::{aim, first_match};
+pub use sourcing::{fields_of, missing, part_among, part_for, source, source_kept};
+pub use symbols::symbol_for;

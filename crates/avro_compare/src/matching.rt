@@ -1,0 +1,177 @@
+ghost use Rattle.std.specs.Prelude.{◌≡◌, ◌↔◌, IsTrue, List};
+ghost use Rattle.avro_schema.specs.Node.{Node as SeenNode, node_at};
+ghost use Rattle.avro_schema.specs.Seen.{node_of};
+ghost use Rattle.avro_schema.specs.SeenSchema.{schema_nodes};
+ghost use Rattle.std.specs.Option.{IfSome};
+ghost use Rattle.std.specs.List.{list_any};
+ghost use Rattle.avro_name.specs.Name.{same_name};
+ghost use Rattle.avro_compare.specs.inside.NameNumbers.{AreNumbers, TellsAlike};
+ghost use Rattle.avro_compare.specs.Match.{Matches, is_match, are_alike as are_named_alike, match_within as within};
+ghost use Rattle.avro_compare.specs.Pairs.{IsStep};
+
+use crate::guided::Step;
+use crate::name_numbers::NameNumbers;
+use crate::numbering::alike;
+use avro_name::FullName;
+use avro_schema::{Node, NodeId, Schema};
+
+/// Whether a writer's node and a reader's match (Avro 1.11, "Schema Resolution"): whether data of the
+/// one may resolve into the other, as far as the two nodes and the items or values under them say.
+/// An id without a node is that of null.
+pub fn matches(writer: &Schema, w: NodeId, reader: &Schema, r: NodeId) -> bool
+    ensures test { result ≡ is_match (schema_nodes writer.now) (schema_nodes reader.now)
+        (node_at (schema_nodes writer.now) w.0) (node_at (schema_nodes reader.now) r.0) }
+    ensures relation { IsTrue result ↔ Matches (schema_nodes writer.now) (schema_nodes reader.now)
+        (node_at (schema_nodes writer.now) w.0) (node_at (schema_nodes reader.now) r.0) }
+{
+    match_within(writer.len(), None, writer, w, reader, r)
+}
+
+/// The same, by the numbers of names, if they are there.
+pub(crate) fn matches_by(
+    numbers: Option<&NameNumbers>,
+    writer: &Schema,
+    w: NodeId,
+    reader: &Schema,
+    r: NodeId,
+) -> bool
+    requires { IfSome numbers (λ n. AreNumbers (schema_nodes writer.now) (schema_nodes reader.now) n.now) }
+    ensures { result ≡ is_match (schema_nodes writer.now) (schema_nodes reader.now)
+        (node_at (schema_nodes writer.now) w.0) (node_at (schema_nodes reader.now) r.0) }
+{
+    match_within(writer.len(), numbers, writer, w, reader, r)
+}
+
+/// The same, where arrays and maps are looked into at most so deep.
+fn match_within(
+    steps: usize,
+    numbers: Option<&NameNumbers>,
+    writer: &Schema,
+    w: NodeId,
+    reader: &Schema,
+    r: NodeId,
+) -> bool
+    requires { IfSome numbers (λ n. AreNumbers (schema_nodes writer.now) (schema_nodes reader.now) n.now) }
+    ensures { result ≡ within steps (schema_nodes writer.now) (schema_nodes reader.now)
+        (node_at (schema_nodes writer.now) w.0) (node_at (schema_nodes reader.now) r.0) }
+{
+    let mut a = w;
+    let mut b = r;
+    for _done in 0..steps {
+        match step(numbers, writer, a, reader, b) {
+            Step::Known(answer) => return answer,
+            Step::Parts(x, y) => {
+                a = x;
+                b = y;
+            }
+        }
+    }
+    match step(numbers, writer, a, reader, b) {
+        Step::Known(answer) => answer,
+        Step::Parts(_, _) => false,
+    }
+}
+
+/// What the nodes of two ids say of their match.
+fn step(
+    numbers: Option<&NameNumbers>,
+    writer: &Schema,
+    w: NodeId,
+    reader: &Schema,
+    r: NodeId,
+) -> Step
+    requires { IfSome numbers (λ n. AreNumbers (schema_nodes writer.now) (schema_nodes reader.now) n.now) }
+    ensures { IsStep (schema_nodes writer.now) (schema_nodes reader.now)
+        (node_at (schema_nodes writer.now) w.0) (node_at (schema_nodes reader.now) r.0) result }
+{
+    if writer.has(w) {
+        step_to(
+            alike(numbers, writer, w, reader, r),
+            writer.node(w),
+            reader,
+            r,
+        )
+    } else {
+        step_to(None, &Node::Null, reader, r)
+    }
+}
+
+/// What a node and that of an id say of their match. Whether they are named alike may be known.
+fn step_to(known: Option<bool>, a: &Node, reader: &Schema, r: NodeId) -> Step
+    requires { TellsAlike (node_of a.now) (node_at (schema_nodes reader.now) r.0) known }
+    ensures { (writer : List SeenNode) → IsStep writer (schema_nodes reader.now)
+        (node_of a.now) (node_at (schema_nodes reader.now) r.0) result }
+{
+    if reader.has(r) {
+        step_of(known, a, reader.node(r))
+    } else {
+        step_of(None, a, &Node::Null)
+    }
+}
+
+/// What two nodes say of their match. Whether they are named alike may be known.
+fn step_of(known: Option<bool>, a: &Node, b: &Node) -> Step
+    requires { TellsAlike (node_of a.now) (node_of b.now) known }
+    ensures { (writer reader : List SeenNode) → IsStep writer reader (node_of a.now) (node_of b.now) result }
+{
+    match a {
+        Node::Null => Step::Known(matches!(b, Node::Null | Node::Union(_))),
+        Node::Boolean => Step::Known(matches!(b, Node::Boolean | Node::Union(_))),
+        Node::Int => Step::Known(matches!(b, Node::Int | Node::Long | Node::Union(_))),
+        Node::Long => Step::Known(matches!(b, Node::Long | Node::Union(_))),
+        Node::Bytes => Step::Known(matches!(b, Node::Bytes | Node::Str | Node::Union(_))),
+        Node::Str => Step::Known(matches!(b, Node::Bytes | Node::Str | Node::Union(_))),
+        Node::Array(x) => match b {
+            Node::Array(y) => Step::Parts(*x, *y),
+            _ => Step::Known(matches!(b, Node::Union(_))),
+        },
+        Node::Map(x) => match b {
+            Node::Map(y) => Step::Parts(*x, *y),
+            _ => Step::Known(matches!(b, Node::Union(_))),
+        },
+        Node::Union(_) => Step::Known(true),
+        Node::Record(x) => match b {
+            Node::Record(y) => Step::Known(are_alike(known, &x.name, &y.name, &y.aliases)),
+            _ => Step::Known(matches!(b, Node::Union(_))),
+        },
+        Node::Enum(x) => match b {
+            Node::Enum(y) => Step::Known(are_alike(known, &x.name, &y.name, &y.aliases)),
+            _ => Step::Known(matches!(b, Node::Union(_))),
+        },
+        Node::Fixed(x) => match b {
+            Node::Fixed(y) => {
+                Step::Known(are_alike(known, &x.name, &y.name, &y.aliases) && x.size == y.size)
+            }
+            _ => Step::Known(matches!(b, Node::Union(_))),
+        },
+    }
+}
+
+/// Whether two types are named alike: their simple names are equal, or the writer's fullname is an
+/// alias of the reader's. It may be known.
+fn are_alike(
+    known: Option<bool>,
+    writer: &FullName,
+    reader: &FullName,
+    aliases: &[FullName],
+) -> bool
+    requires { IfSome known (λ answer. answer ≡ are_named_alike writer.now reader.now aliases.now) }
+    ensures { result ≡ are_named_alike writer.now reader.now aliases.now }
+{
+    match known {
+        Some(answer) => answer,
+        None => writer.simple() == reader.simple() || is_among(writer, aliases),
+    }
+}
+
+/// Whether a name is one of some.
+fn is_among(name: &FullName, names: &[FullName]) -> bool
+    ensures { result ≡ list_any (same_name name.now) names.now }
+{
+    for other in names {
+        if name == other {
+            return true;
+        }
+    }
+    false
+}

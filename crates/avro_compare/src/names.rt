@@ -1,0 +1,161 @@
+use crate::field_tables::{field_tables, source_by};
+use crate::guided::Aim;
+use crate::name_numbers::NameNumbers;
+use crate::numbering::{name_numbers, no_numbers};
+use crate::pairs::{aim_after, first_match_after};
+use crate::symbol_tables::{symbol_by, symbol_tables};
+use crate::symbols::text_of;
+use crate::union_tables::{start_by, union_tables};
+use avro_schema::{Field, Memory, NodeId, Schema};
+use std::alloc::Global;
+use std::collections::BTreeMap;
+use std::marker::Model;
+
+/// A writer's schema and a reader's, with tables of names, by which names are found without a look at all that
+/// there are: the branches of the reader's unions, for the first match of a record, an enum or a fixed, the fields
+/// of the writer's records, and the symbols of the reader's enums. A union of few branches, or with more aliases
+/// than branches, a record of few fields and an enum of few symbols are looked through, and take no memory here. The names and
+/// aliases of types are numbered, and compared by their numbers.
+/// Contracts see the two schemas.
+#[derive(Drop)]
+pub struct Names<'a> {
+    writer: &'a Schema,
+    reader: &'a Schema,
+    numbers: NameNumbers<'a>,
+    // Each list rises by its nodes, so that a node's table is found by binary search.
+    unions: Vec<(NodeId, BTreeMap<(u64, u32), usize>)>,
+    fields: Vec<(NodeId, BTreeMap<&'a str, usize>)>,
+    symbols: Vec<(NodeId, BTreeMap<&'a str, usize>)>,
+}
+
+impl<'a> Model for Names<'a> {
+    ghost use Rattle.std.specs.Coded.{codes};
+    ghost use Rattle.avro_schema.specs.contracts.datum.Datum as datum;
+    ghost use Rattle.avro_schema.specs.declared.schema.Schema.{Schema};
+    ghost use Rattle.avro_schema.specs.SeenSchema.{schema_nodes};
+    ghost use Rattle.avro_compare.specs.inside.NameTables.{AreUnionTables, AreFieldTables, AreSymbolTables};
+    ghost use Rattle.avro_compare.specs.inside.NameNumbers.{AreNumbers};
+
+    ghost Value = { Schema × Schema };
+
+    ghost coded = { Prim.hlevel (codes, datum.the_row.coded) };
+
+    ghost view = { λ names. (names.writer.now, names.reader.now) };
+
+    ghost invariant = { λ names. AreNumbers (schema_nodes names.writer.now) (schema_nodes names.reader.now) names.numbers
+        × AreUnionTables names.numbers.table.simples (schema_nodes names.reader.now) names.unions.items
+        × AreFieldTables (schema_nodes names.writer.now) names.fields.items
+        × AreSymbolTables (schema_nodes names.reader.now) names.symbols.items };
+}
+
+impl<'a> Names<'a> {
+    ghost use Rattle.std.specs.Prelude.{◌≡◌, IfOk};
+    ghost use Rattle.avro_schema.specs.Node.{node_at};
+    ghost use Rattle.avro_schema.specs.Seen.{field_of};
+    ghost use Rattle.avro_schema.specs.SeenSchema.{schema_nodes};
+    ghost use Rattle.avro_compare.specs.Match.{first_match_at};
+    ghost use Rattle.avro_compare.specs.inside.NameTables.{StartsAt};
+    ghost use Rattle.avro_compare.specs.Pairs.{IsAim, IsSymbol, aim_at};
+    ghost use Rattle.avro_compare.specs.Resolve.{enum_as, fields_at, symbol_at};
+    ghost use Rattle.avro_compare.specs.Source.{source_of};
+
+    /// The tables of two schemas.
+    ///
+    /// # Errors
+    ///
+    /// Memory ran out.
+    pub fn new(alloc: Global, writer: &'a Schema, reader: &'a Schema) -> Result<Names<'a>, Memory>
+        ensures { IfOk result (λ names. names ≡ (writer.now, reader.now)) }
+    {
+        let numbers = name_numbers(alloc, writer, reader)?;
+        let unions = union_tables(alloc, &numbers.table.simples, reader)?;
+        let fields = field_tables(alloc, writer)?;
+        let symbols = symbol_tables(alloc, reader)?;
+        Ok(Names {
+            writer,
+            reader,
+            numbers,
+            unions,
+            fields,
+            symbols,
+        })
+    }
+
+    /// No tables: all names are looked through.
+    pub fn none(alloc: Global, writer: &'a Schema, reader: &'a Schema) -> Names<'a>
+        ensures { result ≡ (writer.now, reader.now) }
+    {
+        Names {
+            writer,
+            reader,
+            numbers: no_numbers(alloc),
+            unions: Vec::new(alloc),
+            fields: Vec::new(alloc),
+            symbols: Vec::new(alloc),
+        }
+    }
+
+    /// The first branch of a reader's union that matches a writer's node, by its index among the branches, as
+    /// [`first_match`](crate::first_match) answers it.
+    pub fn first_match(&self, w: NodeId, r: NodeId) -> Option<usize>
+        ensures { result ≡ first_match_at (schema_nodes self.now.0) (schema_nodes self.now.1)
+            (node_at (schema_nodes self.now.0) w.0) (node_at (schema_nodes self.now.1) r.0) }
+    {
+        let start = self.start(w, r);
+        first_match_after(Some(&self.numbers), self.writer, w, self.reader, r, start)
+    }
+
+    /// The index of the field of a writer's record that a reader's field takes its value from, as
+    /// [`source`](crate::source) answers it; none at another writer's node.
+    pub fn source(&self, w: NodeId, field: &Field) -> Option<usize>
+        ensures { result ≡ source_of (fields_at (node_at (schema_nodes self.now.0) w.0)) (field_of field.now) }
+    {
+        source_by(&self.fields, self.writer, w, field)
+    }
+
+    /// The index of a symbol of a reader's enum, or of its default; none at another reader's node.
+    pub fn symbol(&self, symbol: &str, q: NodeId) -> Option<u32>
+        ensures { IsSymbol (enum_as symbol.now (node_at (schema_nodes self.now.1) q.0)) result }
+    {
+        symbol_by(&self.symbols, self.reader, q, symbol)
+    }
+
+    /// The reader's symbol for a symbol of a writer's enum.
+    pub fn symbol_for(&self, w: NodeId, symbol: u32, q: NodeId) -> Option<u32>
+        ensures { IsSymbol (enum_as (symbol_at (node_at (schema_nodes self.now.0) w.0) symbol) (node_at (schema_nodes self.now.1) q.0)) result }
+    {
+        self.symbol(text_of(self.writer, w, symbol), q)
+    }
+
+    /// Where a pair of nodes leads.
+    pub fn aim(&self, w: NodeId, r: NodeId) -> Aim
+        ensures aims { result ≡ aim_at (schema_nodes self.now.0) (schema_nodes self.now.1) w r }
+        ensures leads { IsAim (schema_nodes self.now.0) (schema_nodes self.now.1)
+            (node_at (schema_nodes self.now.0) w.0) (node_at (schema_nodes self.now.1) r.0) result }
+    {
+        let start = self.start(w, r);
+        aim_after(Some(&self.numbers), self.writer, w, self.reader, r, start)
+    }
+
+    /// The writer's schema.
+    pub fn writer(&self) -> &Schema
+        ensures { result.now ≡ self.now.0 }
+    {
+        self.writer
+    }
+
+    /// The reader's schema.
+    pub fn reader(&self) -> &Schema
+        ensures { result.now ≡ self.now.1 }
+    {
+        self.reader
+    }
+
+    /// An index in a reader's union before which no branch matches a writer's node.
+    fn start(&self, w: NodeId, r: NodeId) -> usize
+        ensures { StartsAt (schema_nodes self.now.0) (schema_nodes self.now.1)
+            (node_at (schema_nodes self.now.0) w.0) (node_at (schema_nodes self.now.1) r.0) result }
+    {
+        start_by(&self.unions, &self.numbers, self.writer, w, self.reader, r)
+    }
+}

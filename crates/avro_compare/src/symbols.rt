@@ -1,0 +1,129 @@
+ghost use Rattle.std.specs.Prelude.{◌≡◌, ◌<◌, ◌≤◌, ◌^◌, [], length, position, bytes_eq, unwrap_or, IfOk, IfSome};
+ghost use Rattle.avro_schema.specs.Node.{Node as SeenNode, node_at, symbols_of as texts_in};
+ghost use Rattle.avro_schema.specs.Seen.{node_of, texts_of};
+ghost use Rattle.avro_schema.specs.SeenSchema.{schema_nodes};
+ghost use Rattle.avro_schema.proofs.public.Choices.{HasFewChoices};
+ghost use Rattle.avro_compare.specs.Resolve.{enum_as, enum_or_default, symbol_at};
+ghost use Rattle.avro_compare.specs.Pairs.{IsSymbol};
+ghost use Rattle.avro_compare.specs.Planned.{FindsSymbols};
+
+use avro_schema::{Node, NodeId, Schema};
+use std::collections::BTreeMap;
+
+/// The first index of a symbol.
+fn index_of(symbols: &[String], symbol: &str) -> Option<usize>
+    ensures index { result ≡ position (λ s. bytes_eq s symbol.now) (texts_of symbols.now) }
+    ensures below { IfSome result (λ k. k < length symbols.now) }
+{
+    for index in 0..symbols.len() {
+        if symbols[index].as_str() == symbol {
+            return Some(index);
+        }
+    }
+    None
+}
+
+/// An index, else the default.
+fn or_default(index: Option<usize>, default: Option<u32>) -> Option<u32>
+    requires { IfSome index (λ k. k < 2 ^ 32) }
+    ensures { IsSymbol (enum_or_default index default) result }
+{
+    match index {
+        Some(index) => Some(index as u32),
+        None => default,
+    }
+}
+
+/// The index of a symbol of a reader's node, or of its default.
+fn symbol_in(node: &Node, symbol: &str) -> Option<u32>
+    requires few { HasFewChoices (node_of node.now) }
+    ensures { IsSymbol (enum_as symbol.now (node_of node.now)) result }
+{
+    match node {
+        Node::Enum(enumeration) => {
+            or_default(index_of(&enumeration.symbols, symbol), enumeration.default)
+        }
+        _ => None,
+    }
+}
+
+/// The same of the node of an id.
+pub(crate) fn symbol_of_id(reader: &Schema, q: NodeId, symbol: &str) -> Option<u32>
+    ensures { IsSymbol (enum_as symbol.now (node_at (schema_nodes reader.now) q.0)) result }
+{
+    if (q.0 as usize) < reader.len() {
+        symbol_in(reader.node(q), symbol)
+    } else {
+        symbol_in(&Node::Null, symbol)
+    }
+}
+
+/// The text of a writer's symbol, and none where there is none.
+fn text_at(node: &Node, symbol: u32) -> &str
+    ensures { result.now ≡ symbol_at (node_of node.now) symbol }
+{
+    match node {
+        Node::Enum(enumeration) => match enumeration.symbols.get(symbol as usize) {
+            Some(text) => text.as_str(),
+            None => "",
+        },
+        _ => "",
+    }
+}
+
+/// The reader's symbol for a writer's.
+pub fn symbol_for(
+    writer: &Schema,
+    w: NodeId,
+    symbol: u32,
+    reader: &Schema,
+    q: NodeId,
+) -> Option<u32>
+    ensures { IsSymbol (enum_as (symbol_at (node_at (schema_nodes writer.now) w.0) symbol) (node_at (schema_nodes reader.now) q.0)) result }
+{
+    symbol_of_id(reader, q, text_of(writer, w, symbol))
+}
+
+/// The text of a symbol of a node, and none where there is none.
+pub(crate) fn text_of(schema: &Schema, id: NodeId, symbol: u32) -> &str
+    ensures { result.now ≡ symbol_at (node_at (schema_nodes schema.now) id.0) symbol }
+{
+    if schema.has(id) {
+        text_at(schema.node(id), symbol)
+    } else {
+        ""
+    }
+}
+
+/// The symbols of a node, and none where it has none.
+pub(crate) fn symbols_of(schema: &Schema, id: NodeId) -> &[String]
+    ensures { texts_of result.now ≡ unwrap_or (texts_in (node_at (schema_nodes schema.now) id.0)) [] }
+{
+    if !schema.has(id) {
+        return &[];
+    }
+    schema.node(id).symbols().unwrap_or(&[])
+}
+
+/// The index of a reader's symbol, or its default, by the names of the reader's symbols.
+pub(crate) fn symbol_by_name(
+    names: &BTreeMap<&str, usize>,
+    reads: &[String],
+    default: Option<u32>,
+    symbol: &str,
+) -> Option<u32>
+    requires few { length reads.now ≤ 2 ^ 31 }
+    requires names { FindsSymbols (texts_of reads.now) names.now }
+    ensures { IsSymbol (enum_or_default (position (λ s. bytes_eq s symbol.now) (texts_of reads.now)) default) result }
+{
+    or_default(index_by_name(names, reads, symbol), default)
+}
+
+/// The first index of a symbol, by the names of the symbols.
+fn index_by_name(names: &BTreeMap<&str, usize>, symbols: &[String], symbol: &str) -> Option<usize>
+    requires { FindsSymbols (texts_of symbols.now) names.now }
+    ensures index { result ≡ position (λ s. bytes_eq s symbol.now) (texts_of symbols.now) }
+    ensures below { IfSome result (λ k. k < length symbols.now) }
+{
+    names.get(symbol).copied()
+}

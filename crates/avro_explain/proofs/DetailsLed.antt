@@ -1,0 +1,62 @@
+-- What fails at a pair of nodes, by where it leads.
+use Rattle.std.proofs.Common.{◌≡◌, ◌∙◌, ℕ, Bool, true, false, cond, List, [], ◌∷◌, Option, Some, None, refl, sym, ap, subst, arith}
+use Rattle.avro_schema.specs.Node.{Node, node_at, branches_of}
+use Rattle.avro_schema.specs.declared.schema.NodeId.{NodeId}
+use Rattle.avro_compare.specs.Match.{is_match, first_match}
+use Rattle.avro_compare.specs.Pairs.{aim_of, aim_at, branch_aim}
+use Rattle.avro_compare.specs.declared.error.FaultKind.{FaultKind}
+use Rattle.avro_compare.specs.declared.error.FaultKind.TheVariants.{NoMatch}
+use Rattle.avro_compare.specs.declared.guided.Aim.{Aim}
+use Rattle.avro_compare.specs.declared.guided.Aim.TheVariants.{To, Fault}
+use Rattle.avro_certificate.proofs.public.NodeKinds.{union_of_branches}
+use Rattle.avro_explain.specs.Details.{details_of_kind, details_of, unless_some}
+use Rattle.avro_explain.specs.inside.Walks.{detail_for}
+use Rattle.avro_explain.specs.declared.found.Detail.{Detail}
+use Rattle.avro_explain.proofs.LocalFaults.{details_of_union, details_of_others}
+
+-- where two nodes at hand lead
+pub aim_here : (writer reader : List Node) (w r : NodeId) (n q : Node) (aim : Aim) → n ≡ node_at writer w.0 → q ≡ node_at reader r.0 → aim ≡ aim_at writer reader w r
+    → aim ≡ aim_of writer reader n r q
+aim_here writer reader w r n q aim from to is =
+    is ∙ ap (λ (m : Node). aim_of writer reader m r (node_at reader r.0)) (sym from) ∙ ap (aim_of writer reader n r) (sym to)
+
+module _ (writer reader : List Node) (n : Node) (r : NodeId) where
+  aim_of_others : (q : Node) → branches_of q ≡ None → aim_of writer reader n r q ≡ cond (is_match writer reader n q) (To None r) (Fault NoMatch)
+  aim_of_others (Node.union ids) h = absurd (grind arith)
+  aim_of_others _ h = refl
+
+  -- what each kind of aim says of the details
+  abbrev Tells : Aim → List Detail → List Detail → Type 0
+  Tells (Aim.Fault kind) inside ds = ds ≡ detail_for kind ∷ []
+  Tells (Aim.To None b) inside ds = ds ≡ inside
+  Tells (Aim.To (Some k) b) inside ds = ds ≡ []
+
+  tells : (q : Node) → branches_of n ≡ None → Tells (aim_of writer reader n r q) (details_of_kind n q) (details_of writer reader n q)
+  tells q plain = by_reader (branches_of q) refl
+    where
+      of_choice : (ids : List ℕ) (o : Option ℕ) (inside ds : List Detail) → ds ≡ unless_some o → Tells (branch_aim ids o) inside ds
+      of_choice ids None inside ds e = e
+      of_choice ids (Some k) inside ds e = e
+
+      of_match : (t : Bool) (inside ds : List Detail) → ds ≡ cond t inside (Detail.NoMatch ∷ []) → Tells (cond t (To None r) (Fault NoMatch)) inside ds
+      of_match true inside ds e = e
+      of_match false inside ds e = e
+
+      by_reader : (o : Option (List ℕ)) → branches_of q ≡ o → Tells (aim_of writer reader n r q) (details_of_kind n q) (details_of writer reader n q)
+      by_reader None e = subst (λ (a : Aim). Tells a (details_of_kind n q) (details_of writer reader n q)) (sym (aim_of_others q e))
+          (of_match (is_match writer reader n q) (details_of_kind n q) (details_of writer reader n q) (details_of_others writer reader n q plain e))
+      by_reader (Some ids) e =
+          subst (λ (m : Node). Tells (aim_of writer reader n r m) (details_of_kind n m) (details_of writer reader n m)) (sym (union_of_branches q ids e))
+          (of_choice ids (first_match writer reader n ids) (details_of_kind n (Node.union ids)) (details_of writer reader n (Node.union ids)) (details_of_union writer reader n ids plain))
+
+  told : (q : Node) (aim : Aim) → branches_of n ≡ None → aim_of writer reader n r q ≡ aim → Tells aim (details_of_kind n q) (details_of writer reader n q)
+  told q aim plain e = subst (λ (a : Aim). Tells a (details_of_kind n q) (details_of writer reader n q)) e (tells q plain)
+
+  pub details_fault : (q : Node) (kind : FaultKind) → branches_of n ≡ None → aim_of writer reader n r q ≡ Fault kind → details_of writer reader n q ≡ detail_for kind ∷ []
+  details_fault q kind plain e = told q (Fault kind) plain e
+
+  pub details_choice : (q : Node) (k : ℕ) (b : NodeId) → branches_of n ≡ None → aim_of writer reader n r q ≡ To (Some k) b → details_of writer reader n q ≡ []
+  details_choice q k b plain e = told q (To (Some k) b) plain e
+
+  pub details_plain : (q : Node) (b : NodeId) → branches_of n ≡ None → aim_of writer reader n r q ≡ To None b → details_of writer reader n q ≡ details_of_kind n q
+  details_plain q b plain e = told q (To None b) plain e

@@ -1,0 +1,14 @@
+pub mod DetailsLed
+pub mod FaultyData
+pub mod FirstFaults
+pub mod KeptNodes
+pub mod KnownPairs
+pub mod LeadPairs
+pub mod LiveData
+pub mod LocalFaults
+pub mod MarksTaken
+pub mod NothingFound
+mod RowsDetails
+pub mod SymbolsTaken
+pub mod WalkSteps
+pub mod WaysFollowed

@@ -1,0 +1,44 @@
+use Rattle.std.proofs.Common.{◌≡◌, ◌∙◌, [], ◌∷◌, List, None, Some, IfOk, ap, subst, sym, rules}
+use Rattle.avro_schema.specs.Seen.{node_of}
+use Rattle.avro_schema.specs.SeenSchema.{schema_nodes}
+use Rattle.avro_compare.specs.declared.guided.Aim.TheVariants.{To, Fault}
+use Rattle.avro_explain.specs.declared.found.Detail.{Detail}
+use Rattle.avro_explain.proofs.DetailsLed.{details_fault, details_choice, details_plain, aim_here}
+use Rattle.avro_explain.proofs.KeptNodes.{plain_kept}
+use Rattle.avro_explain.proofs.failing.details_of_nodes.Goals as goal
+
+pub returns-in-Fault : goal.returns-in-Fault
+returns-in-Fault c =
+    let writer = schema_nodes c.args.names.now.0 in
+    let reader = schema_nodes c.args.names.now.1 in
+    let n = node_of c.args.n.now in
+    let q = node_of c.args.q.now in
+    let aims = aim_here writer reader c.args.w c.args.r n q c.aim.result c.requires.from c.requires.to c.aim.ensures.aims in
+    let own : c.aim.result ≡ Fault c.in-Fault.kind = search rules in
+    let is = sym (details_fault writer reader n c.args.r q c.in-Fault.kind (plain_kept c.args.n.now c.in_default.not-Union) (sym aims ∙ own)
+    ∙ ap (λ (d : Detail). d ∷ []) (sym c.detail_of.ensures)) in
+    subst (λ (ds : List Detail). IfOk c.one_detail.result (λ found. found.items ≡ ds)) is c.one_detail.ensures
+
+pub returns-in-To-Some-default : goal.returns-in-To-Some-default
+returns-in-To-Some-default c =
+    let writer = schema_nodes c.args.names.now.0 in
+    let reader = schema_nodes c.args.names.now.1 in
+    let n = node_of c.args.n.now in
+    let q = node_of c.args.q.now in
+    let here = c.in-To-Some-default in
+    let aims = aim_here writer reader c.args.w c.args.r n q c.aim.result c.requires.from c.requires.to c.aim.ensures.aims in
+    let own : c.aim.result ≡ To (Some here.field-0-0) here.field-1 = search rules in
+    c.new-in-To-Some-default.ensures.items
+    ∙ sym (details_choice writer reader n c.args.r q here.field-0-0 here.field-1 (plain_kept c.args.n.now c.in_default.not-Union) (sym aims ∙ own))
+
+pub returns-in-To-None-default : goal.returns-in-To-None-default
+returns-in-To-None-default c =
+    let writer = schema_nodes c.args.names.now.0 in
+    let reader = schema_nodes c.args.names.now.1 in
+    let n = node_of c.args.n.now in
+    let q = node_of c.args.q.now in
+    let here = c.in-To-None-default in
+    let aims = aim_here writer reader c.args.w c.args.r n q c.aim.result c.requires.from c.requires.to c.aim.ensures.aims in
+    let own : c.aim.result ≡ To None here.field-1 = search rules in
+    let is = sym (details_plain writer reader n c.args.r q here.field-1 (plain_kept c.args.n.now c.in_default.not-Union) (sym aims ∙ own)) in
+    subst (λ (ds : List Detail). IfOk c.details_inside.result (λ found. found.items ≡ ds)) is c.details_inside.ensures

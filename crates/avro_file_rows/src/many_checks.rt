@@ -1,0 +1,195 @@
+//! Checks of several files, and their answers as lines of JSON.
+
+use crate::files::{FIVE, NULL_HEADER, NULLS};
+use avro_runs::{Counted, Full, Given, lines_of, outcome_of, words_of};
+use avro_tool::run;
+use serde_json::Value;
+use std::fs;
+use std::test::Fail;
+
+/// Files, and what they hold.
+const FILES: [(&str, &[u8]); 5] = [
+    ("header", NULL_HEADER),
+    ("nulls", NULLS),
+    ("five", FIVE),
+    ("empty", b""),
+    ("short", b"Obj\x01\x00"),
+];
+
+/// The words of runs, and what they answer and write. The status is that of the first fault.
+const RUNS: [(&str, u8, &str, &str); 17] = [
+    ("check five", 0, "data 1 blocks 1\n", ""),
+    (
+        "check nulls five header",
+        0,
+        "nulls data 3 blocks 1\nfive data 1 blocks 1\nheader data 0 blocks 0\n",
+        "",
+    ),
+    (
+        "check five five",
+        0,
+        "five data 1 blocks 1\nfive data 1 blocks 1\n",
+        "",
+    ),
+    (
+        "check short five",
+        3,
+        "five data 1 blocks 1\n",
+        "avro: short: C16\n",
+    ),
+    (
+        "check five short",
+        3,
+        "five data 1 blocks 1\n",
+        "avro: short: C16\n",
+    ),
+    (
+        "check five short nulls",
+        3,
+        "five data 1 blocks 1\nnulls data 3 blocks 1\n",
+        "avro: short: C16\n",
+    ),
+    (
+        "check none short five",
+        4,
+        "five data 1 blocks 1\n",
+        "avro: none: cannot read\navro: short: C16\n",
+    ),
+    (
+        "check empty none five",
+        3,
+        "five data 1 blocks 1\n",
+        "avro: empty: C1\navro: none: cannot read\n",
+    ),
+    (
+        "check none short",
+        4,
+        "",
+        "avro: none: cannot read\navro: short: C16\n",
+    ),
+    ("check short", 3, "", "avro: short: C16\n"),
+    (
+        "check five --json",
+        0,
+        "{\"file\":\"five\",\"data\":1,\"blocks\":1}\n",
+        "",
+    ),
+    (
+        "check --json header nulls",
+        0,
+        "{\"file\":\"header\",\"data\":0,\"blocks\":0}\n{\"file\":\"nulls\",\"data\":3,\"blocks\":1}\n",
+        "",
+    ),
+    (
+        "check five short nulls --json",
+        3,
+        "{\"file\":\"five\",\"data\":1,\"blocks\":1}\n{\"file\":\"nulls\",\"data\":3,\"blocks\":1}\n",
+        "avro: short: C16\n",
+    ),
+    ("check short --json", 3, "", "avro: short: C16\n"),
+    ("check --json none", 4, "", "avro: none: cannot read\n"),
+    (
+        "check --json folder five",
+        4,
+        "{\"file\":\"five\",\"data\":1,\"blocks\":1}\n",
+        "avro: folder: cannot read\n",
+    ),
+    (
+        "check q\"u\\o\u{1}\u{e9}\u{1f600} --json",
+        0,
+        "{\"file\":\"q\\\"u\\\\o\\u0001\u{e9}\u{1f600}\",\"data\":1,\"blocks\":1}\n",
+        "",
+    ),
+];
+
+/// Words that are usage.
+const USAGE: [&str; 3] = ["check", "check --json", "check five --limit 1"];
+
+#[test]
+fn each_of_several_files_is_checked(rt: HostRuntime) -> Result<(), Fail> {
+    for (file, bytes) in FILES {
+        fs::write(&rt, file, bytes)?;
+    }
+    fs::write(&rt, "q\"u\\o\u{1}\u{e9}\u{1f600}", FIVE)?;
+    fs::create_dir(&rt, "folder")?;
+    for (line, status, out, err) in RUNS {
+        let ran = outcome_of(&rt, line)?;
+        assert_eq!(rt; ran.status, status, "{line}");
+        assert_eq!(rt; ran.out.as_slice(), out.as_bytes(), "{line}");
+        assert_eq!(rt; ran.err.as_slice(), err.as_bytes(), "{line}");
+        let words = words_of(&rt, line)?;
+        let mut told = Counted::new();
+        let mut faults = Counted::new();
+        let _ = run(&rt, &words, &mut Given::all(&[]), &mut told, &mut faults);
+        assert_eq!(rt; told.calls, lines_of(out), "{line}");
+        assert_eq!(rt; faults.calls, lines_of(err), "{line}");
+        assert_eq!(rt; told.torn, 0, "{line}");
+        assert_eq!(rt; faults.torn, 0, "{line}");
+    }
+    for line in USAGE {
+        let ran = outcome_of(&rt, line)?;
+        assert_eq!(rt; ran.status, 64, "{line}");
+        assert!(rt; ran.out.is_empty(), "{line}");
+    }
+    Ok(())
+}
+
+#[test]
+fn counts_are_values_of_json(rt: HostRuntime) -> Result<(), Fail> {
+    let name = "q\"u\\o\u{1}\u{e9}\u{1f600}";
+    fs::write(&rt, name, NULLS)?;
+    let line = format!(in rt.alloc(); "check {name} --json")?;
+    let ran = outcome_of(&rt, &line)?;
+    let Ok(text) = str::from_utf8(&ran.out) else {
+        return Err(Fail::new("a line is text"));
+    };
+    let Ok(value) = Value::from_str(rt.alloc(), text) else {
+        return Err(Fail::new("a line is a value"));
+    };
+    let file = value.pointer("/file").and_then(Value::as_str);
+    assert_eq!(rt; file.unwrap_or(""), name);
+    let data = value.pointer("/data").and_then(Value::as_u64);
+    assert_eq!(rt; data, Some(3));
+    let blocks = value.pointer("/blocks").and_then(Value::as_u64);
+    assert_eq!(rt; blocks, Some(1));
+    Ok(())
+}
+
+/// The words of runs whose output takes some bytes alone, and their status and faults.
+const FULL: [(&str, usize, u8, &str); 4] = [
+    ("check five nulls", 0, 4, "avro: output: cannot write\n"),
+    (
+        "check five nulls short",
+        21,
+        4,
+        "avro: output: cannot write\n",
+    ),
+    (
+        "check short five nulls",
+        0,
+        3,
+        "avro: short: C16\navro: output: cannot write\n",
+    ),
+    ("check five --json", 5, 4, "avro: output: cannot write\n"),
+];
+
+#[test]
+fn a_full_output_ends_the_checks(rt: HostRuntime) -> Result<(), Fail> {
+    for (file, bytes) in FILES {
+        fs::write(&rt, file, bytes)?;
+    }
+    for (line, room, status, err) in FULL {
+        let words = words_of(&rt, line)?;
+        let mut told = Vec::new(rt.alloc());
+        let found = run(
+            &rt,
+            &words,
+            &mut Given::all(&[]),
+            &mut Full { room },
+            &mut told,
+        );
+        assert_eq!(rt; found, status, "{line}");
+        assert_eq!(rt; told.as_slice(), err.as_bytes(), "{line}");
+    }
+    Ok(())
+}

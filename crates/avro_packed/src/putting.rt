@@ -1,0 +1,212 @@
+//! Appending the plain encodings of what data are for a reader.
+
+use crate::appending::Appending;
+use crate::gathered::Gathered;
+use crate::moving::join;
+use crate::spares::{give_slots, slots};
+use crate::written::Written;
+use avro_binary::{Make, append_plain};
+use avro_resolve::Put;
+use avro_schema::Datum;
+use std::alloc::{AllocError, Global};
+
+impl Put for Appending {
+    ghost use Rattle.std.specs.Prelude.{◌≡◌, ◌++◌, [], List, ℕ, None, Option};
+    ghost use Rattle.avro_schema.specs.Seen.{values_from, entries_from};
+    ghost use Rattle.avro_schema.specs.Value.{Value};
+    ghost use Rattle.avro_binary.specs.Encoding.{plain, plain_values, plain_entries};
+    ghost use Rattle.avro_packed.specs.Appended.{Grows, Holds, branch_bytes, AreItems, AreEntries};
+    ghost use Rattle.avro_packed.specs.inside.Outputs.{grows_none, grows_on, still_holds};
+
+    type Out = Written;
+
+    type Items = Gathered;
+
+    type Entries = Gathered;
+
+    type Fields = Written;
+
+    ghost keeps = { Grows };
+
+    ghost stands_for = { λ m out v. Holds m out (plain v) };
+
+    ghost items_stand_for = { λ m items vs. AreItems m None items vs };
+
+    ghost entries_stand_for = { λ m entries es. AreEntries m None entries es };
+
+    ghost fields_stand_for = { λ m into fields vs. Holds m fields (branch_bytes into ++ plain_values (values_from vs)) };
+
+    ghost keeps_itself = { grows_none };
+
+    ghost keeps_on = { grows_on };
+
+    ghost still_stands = { λ s t out v kept stand. still_holds s t out (plain v) kept stand };
+
+    ghost items_kept = { λ s t items vs kept stand. (stand.0, stand.1, still_holds s t items.written (plain_values (values_from vs)) kept stand.2) };
+
+    ghost entries_kept = { λ s t entries es kept stand. (stand.0, stand.1, still_holds s t entries.written (plain_entries (entries_from es)) kept stand.2) };
+
+    ghost fields_kept = { λ s t into fields vs kept stand. still_holds s t fields (branch_bytes into ++ plain_values (values_from vs)) kept stand };
+
+    #[inline(always)]
+    fn null(&mut self, alloc: Global, into: Option<u32>) -> Result<Written, AllocError> {
+        Make::null(self, alloc, into)
+    }
+
+    #[inline(always)]
+    fn boolean(
+        &mut self,
+        alloc: Global,
+        into: Option<u32>,
+        value: bool,
+    ) -> Result<Written, AllocError> {
+        Make::boolean(self, alloc, into, value)
+    }
+
+    #[inline(always)]
+    fn int(&mut self, alloc: Global, into: Option<u32>, value: i32) -> Result<Written, AllocError> {
+        Make::int(self, alloc, into, value)
+    }
+
+    #[inline(always)]
+    fn long(
+        &mut self,
+        alloc: Global,
+        into: Option<u32>,
+        value: i64,
+    ) -> Result<Written, AllocError> {
+        Make::long(self, alloc, into, value)
+    }
+
+    #[inline(always)]
+    fn bytes(
+        &mut self,
+        alloc: Global,
+        into: Option<u32>,
+        content: &[u8],
+    ) -> Result<Written, AllocError> {
+        Make::bytes(self, alloc, into, content)
+    }
+
+    #[inline(always)]
+    fn string(
+        &mut self,
+        alloc: Global,
+        into: Option<u32>,
+        text: &str,
+    ) -> Result<Written, AllocError> {
+        Make::string(self, alloc, into, text)
+    }
+
+    #[inline(always)]
+    fn fixed(
+        &mut self,
+        alloc: Global,
+        into: Option<u32>,
+        content: &[u8],
+    ) -> Result<Written, AllocError> {
+        Make::fixed(self, alloc, into, content)
+    }
+
+    #[inline(always)]
+    fn symbol(
+        &mut self,
+        _alloc: Global,
+        into: Option<u32>,
+        index: u32,
+    ) -> Result<Written, AllocError> {
+        self.number(into, i64::from(index))
+    }
+
+    fn default(&mut self, _alloc: Global, datum: &Datum) -> Result<Written, AllocError> {
+        let start = self.begin(None)?;
+        append_plain(datum, &mut self.out)?;
+        Ok(self.since(start))
+    }
+
+    #[inline(always)]
+    fn items(&mut self, _alloc: Global) -> Result<Gathered, AllocError> {
+        Ok(self.gather(None))
+    }
+
+    #[inline(always)]
+    fn item(
+        &mut self,
+        alloc: Global,
+        items: &mut Gathered,
+        value: Written,
+    ) -> Result<(), AllocError> {
+        Make::item(self, alloc, items, value)
+    }
+
+    #[inline(always)]
+    fn array(
+        &mut self,
+        alloc: Global,
+        into: Option<u32>,
+        items: Gathered,
+    ) -> Result<Written, AllocError> {
+        self.block(alloc, items.within(into))
+    }
+
+    #[inline(always)]
+    fn entries(&mut self, _alloc: Global) -> Result<Gathered, AllocError> {
+        Ok(self.gather(None))
+    }
+
+    #[inline(always)]
+    fn entry(
+        &mut self,
+        alloc: Global,
+        entries: &mut Gathered,
+        key: &str,
+        value: Written,
+    ) -> Result<(), AllocError> {
+        Make::entry(self, alloc, entries, key, value)
+    }
+
+    #[inline(always)]
+    fn map(
+        &mut self,
+        alloc: Global,
+        into: Option<u32>,
+        entries: Gathered,
+    ) -> Result<Written, AllocError> {
+        self.block(alloc, entries.within(into))
+    }
+
+    #[inline(always)]
+    fn fields(&mut self, alloc: Global, into: Option<u32>) -> Result<Written, AllocError> {
+        Make::null(self, alloc, into)
+    }
+
+    #[inline(always)]
+    fn field(
+        &mut self,
+        alloc: Global,
+        fields: &mut Written,
+        value: Written,
+    ) -> Result<(), AllocError> {
+        join(alloc, &self.out, &mut self.spares, fields, value)
+    }
+
+    #[inline(always)]
+    fn record(&mut self, _alloc: Global, fields: Written) -> Result<Written, AllocError> {
+        Ok(fields)
+    }
+
+    #[inline(always)]
+    fn slots(&mut self, alloc: Global) -> Vec<Option<Written>>
+        ensures kept { Grows self.old self.new }
+        ensures none { result.items ≡ [] }
+    {
+        slots(alloc, &mut self.slots)
+    }
+
+    #[inline(always)]
+    fn keep_slots(&mut self, slots: Vec<Option<Written>>)
+        ensures kept { Grows self.old self.new }
+    {
+        give_slots(&mut self.slots, slots);
+    }
+}

@@ -1,6 +1,0 @@
--- The test is sound, and looks deep enough.
-use Rattle.avro_resolve.proofs.EnoughSteps.{is_match-Matches}
-use Rattle.avro_resolve.proofs.laws.match_is_the_test.Goals as goal
-
-pub returns : goal.returns
-returns c = λ writer reader i r formed low. is_match-Matches writer reader i r formed low

@@ -1,9 +1,0 @@
-use Rattle.std.proofs.Common.{◌∙◌, ap, sym}
-use Rattle.avro_resolve.specs.Source.{is_index}
-use Rattle.avro_resolve.proofs.sourcing.takes.Goals as goal
-
-pub returns-in-Some : goal.returns-in-Some
-returns-in-Some c = λ rs all at. ap (λ o. is_index o c.args.field) (sym c.in-Some.is ∙ c.source_kept.ensures rs all at)
-
-pub returns-in-None : goal.returns-in-None
-returns-in-None c = λ rs all at. ap (λ o. is_index o c.args.field) (sym c.in-None.is ∙ c.source_kept.ensures rs all at)

@@ -1,0 +1,220 @@
+ghost use Rattle.std.specs.Prelude.{◌≡◌, ℕ, List, [], ◌∷◌, ◌++◌, Option, IfOk, OnOk};
+ghost use Rattle.avro_schema.specs.Seen.{values_from, entries_from, value_of};
+ghost use Rattle.avro_schema.specs.Value.{Value};
+ghost use Rattle.avro_resolve.specs.IntoBranch.{in_branch};
+
+use avro_schema::Datum;
+use std::alloc::{AllocError, Global};
+
+/// What is made of a datum that is read for a reader, by one who keeps something as it goes: an output, for instance. A call
+/// is told the branch of the reader's union that its datum goes into, where there is one.
+///
+/// A call fails only where memory runs out. What an answer stands for is said as its maker then is; it stays so at every
+/// later one that keeps it.
+pub trait Put {
+    /// What is made of a datum.
+    type Out: Drop;
+
+    /// What is made of the items of an array, so far.
+    type Items: Drop;
+
+    /// What is made of the entries of a map, so far.
+    type Entries: Drop;
+
+    /// What is made of the fields of a record, so far.
+    type Fields: Drop;
+
+    /// Which later makers keep what one has made.
+    ghost keeps: { Self → Self → Type 0 };
+
+    /// Which datum an answer stands for.
+    ghost stands_for: { Self → Self.Out → Value → Type 0 };
+
+    /// Which data some items stand for.
+    ghost items_stand_for: { Self → Self.Items → List Value → Type 0 };
+
+    /// Which keys and data some entries stand for.
+    ghost entries_stand_for: { Self → Self.Entries → List (List ℕ × Value) → Type 0 };
+
+    /// Which data some fields stand for, by the branch that their record goes into.
+    ghost fields_stand_for: { Self → Option ℕ → Self.Fields → List Value → Type 0 };
+
+    /// Makes null.
+    fn null(&mut self, alloc: Global, into: Option<u32>) -> Result<Self::Out, AllocError>
+        ensures kept { OnOk result (keeps self.old self.new) }
+        ensures stands { IfOk result (λ out. stands_for self.new out (in_branch into Value.null)) };
+
+    /// Makes a boolean.
+    fn boolean(
+        &mut self,
+        alloc: Global,
+        into: Option<u32>,
+        value: bool,
+    ) -> Result<Self::Out, AllocError>
+        ensures kept { OnOk result (keeps self.old self.new) }
+        ensures stands { IfOk result (λ out. stands_for self.new out (in_branch into (Value.boolean value))) };
+
+    /// Makes an int.
+    fn int(&mut self, alloc: Global, into: Option<u32>, value: i32) -> Result<Self::Out, AllocError>
+        ensures kept { OnOk result (keeps self.old self.new) }
+        ensures stands { IfOk result (λ out. stands_for self.new out (in_branch into (Value.int value))) };
+
+    /// Makes a long.
+    fn long(
+        &mut self,
+        alloc: Global,
+        into: Option<u32>,
+        value: i64,
+    ) -> Result<Self::Out, AllocError>
+        ensures kept { OnOk result (keeps self.old self.new) }
+        ensures stands { IfOk result (λ out. stands_for self.new out (in_branch into (Value.long value))) };
+
+    /// Makes bytes.
+    fn bytes(
+        &mut self,
+        alloc: Global,
+        into: Option<u32>,
+        content: &[u8],
+    ) -> Result<Self::Out, AllocError>
+        ensures kept { OnOk result (keeps self.old self.new) }
+        ensures stands { IfOk result (λ out. stands_for self.new out (in_branch into (Value.bytes content.now))) };
+
+    /// Makes a string.
+    fn string(
+        &mut self,
+        alloc: Global,
+        into: Option<u32>,
+        text: &str,
+    ) -> Result<Self::Out, AllocError>
+        ensures kept { OnOk result (keeps self.old self.new) }
+        ensures stands { IfOk result (λ out. stands_for self.new out (in_branch into (Value.string text.now))) };
+
+    /// Makes a fixed.
+    fn fixed(
+        &mut self,
+        alloc: Global,
+        into: Option<u32>,
+        content: &[u8],
+    ) -> Result<Self::Out, AllocError>
+        ensures kept { OnOk result (keeps self.old self.new) }
+        ensures stands { IfOk result (λ out. stands_for self.new out (in_branch into (Value.fixed content.now))) };
+
+    /// Makes an enum, of the index of its symbol.
+    fn symbol(
+        &mut self,
+        alloc: Global,
+        into: Option<u32>,
+        index: u32,
+    ) -> Result<Self::Out, AllocError>
+        ensures kept { OnOk result (keeps self.old self.new) }
+        ensures stands { IfOk result (λ out. stands_for self.new out (in_branch into (Value.enum index))) };
+
+    /// Makes a datum that is at hand: the default of a field.
+    fn default(&mut self, alloc: Global, datum: &Datum) -> Result<Self::Out, AllocError>
+        ensures kept { OnOk result (keeps self.old self.new) }
+        ensures stands { IfOk result (λ out. stands_for self.new out (value_of datum.now)) };
+
+    /// No items.
+    fn items(&mut self, alloc: Global) -> Result<Self::Items, AllocError>
+        ensures kept { OnOk result (keeps self.old self.new) }
+        ensures stands { IfOk result (λ items. items_stand_for self.new items []) };
+
+    /// Adds an item behind those before.
+    fn item(
+        &mut self,
+        alloc: Global,
+        items: &mut Self::Items,
+        value: Self::Out,
+    ) -> Result<(), AllocError>
+        ensures kept { OnOk result (keeps self.old self.new) }
+        ensures stands { (vs : List Value) (v : Value) → items_stand_for self.old items.old vs → stands_for self.old value v
+            → OnOk result (items_stand_for self.new items.new (vs ++ v ∷ [])) };
+
+    /// Makes an array, of its items.
+    fn array(
+        &mut self,
+        alloc: Global,
+        into: Option<u32>,
+        items: Self::Items,
+    ) -> Result<Self::Out, AllocError>
+        ensures kept { OnOk result (keeps self.old self.new) }
+        ensures stands { (vs : List Value) → items_stand_for self.old items vs
+            → IfOk result (λ out. stands_for self.new out (in_branch into (Value.array (values_from vs)))) };
+
+    /// No entries.
+    fn entries(&mut self, alloc: Global) -> Result<Self::Entries, AllocError>
+        ensures kept { OnOk result (keeps self.old self.new) }
+        ensures stands { IfOk result (λ entries. entries_stand_for self.new entries []) };
+
+    /// Adds an entry behind those before.
+    fn entry(
+        &mut self,
+        alloc: Global,
+        entries: &mut Self::Entries,
+        key: &str,
+        value: Self::Out,
+    ) -> Result<(), AllocError>
+        ensures kept { OnOk result (keeps self.old self.new) }
+        ensures stands { (es : List (List ℕ × Value)) (v : Value) → entries_stand_for self.old entries.old es → stands_for self.old value v
+            → OnOk result (entries_stand_for self.new entries.new (es ++ (key.now, v) ∷ [])) };
+
+    /// Makes a map, of its entries.
+    fn map(
+        &mut self,
+        alloc: Global,
+        into: Option<u32>,
+        entries: Self::Entries,
+    ) -> Result<Self::Out, AllocError>
+        ensures kept { OnOk result (keeps self.old self.new) }
+        ensures stands { (es : List (List ℕ × Value)) → entries_stand_for self.old entries es
+            → IfOk result (λ out. stands_for self.new out (in_branch into (Value.map_of (entries_from es)))) };
+
+    /// No fields of a record, before any part of the record is made.
+    fn fields(&mut self, alloc: Global, into: Option<u32>) -> Result<Self::Fields, AllocError>
+        ensures kept { OnOk result (keeps self.old self.new) }
+        ensures stands { IfOk result (λ fields. fields_stand_for self.new into fields []) };
+
+    /// Adds the value of the next field behind those before.
+    fn field(
+        &mut self,
+        alloc: Global,
+        fields: &mut Self::Fields,
+        value: Self::Out,
+    ) -> Result<(), AllocError>
+        ensures kept { OnOk result (keeps self.old self.new) }
+        ensures stands { (into : Option ℕ) (vs : List Value) (v : Value) → fields_stand_for self.old into fields.old vs → stands_for self.old value v
+            → OnOk result (fields_stand_for self.new into fields.new (vs ++ v ∷ [])) };
+
+    /// Makes a record, of the values of its fields in order.
+    fn record(&mut self, alloc: Global, fields: Self::Fields) -> Result<Self::Out, AllocError>
+        ensures kept { OnOk result (keeps self.old self.new) }
+        ensures stands { (into : Option ℕ) (vs : List Value) → fields_stand_for self.old into fields vs
+            → IfOk result (λ out. stands_for self.new out (in_branch into (Value.record_of (values_from vs)))) };
+
+    /// An empty list for what is made of a record's fields until the record is whole.
+    fn slots(&mut self, alloc: Global) -> Vec<Option<Self::Out>>
+        ensures kept { keeps self.old self.new }
+        ensures none { result.items ≡ [] };
+
+    /// Keeps such a list for later, or lets it go.
+    fn keep_slots(&mut self, slots: Vec<Option<Self::Out>>)
+        ensures kept { keeps self.old self.new };
+
+    /// A maker keeps what it has made.
+    ghost keeps_itself: { (s : Self) → keeps s s };
+
+    /// What is kept is kept on.
+    ghost keeps_on: { (s t u : Self) → keeps s t → keeps t u → keeps s u };
+
+    /// An answer stands for the same datum at a later maker.
+    ghost still_stands: { (s t : Self) (out : Self.Out) (v : Value) → keeps s t → stands_for s out v → stands_for t out v };
+
+    /// Items stand for the same data.
+    ghost items_kept: { (s t : Self) (items : Self.Items) (vs : List Value) → keeps s t → items_stand_for s items vs → items_stand_for t items vs };
+
+    /// Entries stand for the same keys and data.
+    ghost entries_kept: { (s t : Self) (entries : Self.Entries) (es : List (List ℕ × Value)) → keeps s t → entries_stand_for s entries es → entries_stand_for t entries es };
+
+    /// Fields stand for the same data.
+    ghost fields_kept: { (s t : Self) (into : Option ℕ) (fields : Self.Fields) (vs : List Value) → keeps s t → fields_stand_for s into fields vs → fields_stand_for t into fields vs };
+}

@@ -1,0 +1,226 @@
+use crate::put::Put;
+use avro_binary::Build;
+use avro_schema::Datum;
+use std::alloc::{AllocError, Global};
+
+/// Makes what a builder builds, in a branch of the reader's union where there is one.
+#[derive(Drop)]
+pub(crate) struct Wrapping<'b, B> {
+    builder: &'b mut B,
+}
+
+impl<'b, B> Wrapping<'b, B> {
+    /// A maker of what the builder builds.
+    pub(crate) fn new(builder: &'b mut B) -> Self {
+        Wrapping { builder }
+    }
+}
+
+impl<'b, B: Build> Wrapping<'b, B> {
+    ghost use Rattle.std.specs.Prelude.{IfOk};
+    ghost use Rattle.avro_schema.specs.Value.{Value};
+    ghost use Rattle.avro_resolve.specs.IntoBranch.{in_branch};
+
+    /// What was built, in a branch where there is one.
+    #[inline(always)]
+    fn wrap(&mut self, alloc: Global, into: Option<u32>, out: B::Out) -> Result<B::Out, AllocError>
+        ensures { (v : Value) → B.stands_for out v → IfOk result (λ whole. B.stands_for whole (in_branch into v)) }
+    {
+        match into {
+            None => Ok(out),
+            Some(branch) => self.builder.branch(alloc, branch, out),
+        }
+    }
+}
+
+impl<'b, B: Build> Put for Wrapping<'b, B> {
+    ghost use Rattle.std.specs.Prelude.{◌≡◌, [], ◌∷◌, ◌++◌, List, ℕ, Option, IfOk, OnOk};
+    ghost use Rattle.std.specs.List.{AllZip};
+    ghost use Rattle.avro_schema.specs.Seen.{values_from};
+    ghost use Rattle.avro_schema.specs.Value.{Value};
+    ghost use Rattle.avro_resolve.specs.IntoBranch.{in_branch};
+
+    type Out = B::Out;
+
+    type Items = B::Items;
+
+    type Entries = B::Entries;
+
+    type Fields = (Vec<B::Out>, Option<u32>);
+
+    ghost keeps = { λ _ _. Unit {0} };
+
+    ghost stands_for = { λ _ out v. B.stands_for out v };
+
+    ghost items_stand_for = { λ _ items vs. B.items_stand_for items vs };
+
+    ghost entries_stand_for = { λ _ entries es. B.entries_stand_for entries es };
+
+    ghost fields_stand_for = { λ _ into fields vs. (fields.1 ≡ into) × AllZip B.stands_for fields.0.items vs };
+
+    ghost keeps_itself = { λ s. tt };
+
+    ghost keeps_on = { λ s t u before after. tt };
+
+    ghost still_stands = { λ s t out v kept stand. stand };
+
+    ghost items_kept = { λ s t items vs kept stand. stand };
+
+    ghost entries_kept = { λ s t entries es kept stand. stand };
+
+    ghost fields_kept = { λ s t into fields vs kept stand. stand };
+
+    fn null(&mut self, alloc: Global, into: Option<u32>) -> Result<B::Out, AllocError> {
+        let out = self.builder.null(alloc)?;
+        self.wrap(alloc, into, out)
+    }
+
+    fn boolean(
+        &mut self,
+        alloc: Global,
+        into: Option<u32>,
+        value: bool,
+    ) -> Result<B::Out, AllocError> {
+        let out = self.builder.boolean(alloc, value)?;
+        self.wrap(alloc, into, out)
+    }
+
+    fn int(&mut self, alloc: Global, into: Option<u32>, value: i32) -> Result<B::Out, AllocError> {
+        let out = self.builder.int(alloc, value)?;
+        self.wrap(alloc, into, out)
+    }
+
+    fn long(&mut self, alloc: Global, into: Option<u32>, value: i64) -> Result<B::Out, AllocError> {
+        let out = self.builder.long(alloc, value)?;
+        self.wrap(alloc, into, out)
+    }
+
+    fn bytes(
+        &mut self,
+        alloc: Global,
+        into: Option<u32>,
+        content: &[u8],
+    ) -> Result<B::Out, AllocError> {
+        let out = self.builder.bytes(alloc, content)?;
+        self.wrap(alloc, into, out)
+    }
+
+    fn string(
+        &mut self,
+        alloc: Global,
+        into: Option<u32>,
+        text: &str,
+    ) -> Result<B::Out, AllocError> {
+        let out = self.builder.string(alloc, text)?;
+        self.wrap(alloc, into, out)
+    }
+
+    fn fixed(
+        &mut self,
+        alloc: Global,
+        into: Option<u32>,
+        content: &[u8],
+    ) -> Result<B::Out, AllocError> {
+        let out = self.builder.fixed(alloc, content)?;
+        self.wrap(alloc, into, out)
+    }
+
+    fn symbol(
+        &mut self,
+        alloc: Global,
+        into: Option<u32>,
+        index: u32,
+    ) -> Result<B::Out, AllocError> {
+        let out = self.builder.symbol(alloc, index)?;
+        self.wrap(alloc, into, out)
+    }
+
+    fn default(&mut self, alloc: Global, datum: &Datum) -> Result<B::Out, AllocError> {
+        self.builder.default(alloc, datum)
+    }
+
+    fn items(&mut self, alloc: Global) -> Result<B::Items, AllocError> {
+        self.builder.items(alloc)
+    }
+
+    fn item(
+        &mut self,
+        alloc: Global,
+        items: &mut B::Items,
+        value: B::Out,
+    ) -> Result<(), AllocError> {
+        self.builder.item(alloc, items, value)
+    }
+
+    fn array(
+        &mut self,
+        alloc: Global,
+        into: Option<u32>,
+        items: B::Items,
+    ) -> Result<B::Out, AllocError> {
+        let out = self.builder.array(alloc, items)?;
+        self.wrap(alloc, into, out)
+    }
+
+    fn entries(&mut self, alloc: Global) -> Result<B::Entries, AllocError> {
+        self.builder.entries(alloc)
+    }
+
+    fn entry(
+        &mut self,
+        alloc: Global,
+        entries: &mut B::Entries,
+        key: &str,
+        value: B::Out,
+    ) -> Result<(), AllocError> {
+        self.builder.entry(alloc, entries, key, value)
+    }
+
+    fn map(
+        &mut self,
+        alloc: Global,
+        into: Option<u32>,
+        entries: B::Entries,
+    ) -> Result<B::Out, AllocError> {
+        let out = self.builder.map(alloc, entries)?;
+        self.wrap(alloc, into, out)
+    }
+
+    fn fields(
+        &mut self,
+        alloc: Global,
+        into: Option<u32>,
+    ) -> Result<(Vec<B::Out>, Option<u32>), AllocError> {
+        Ok((Vec::new(alloc), into))
+    }
+
+    fn field(
+        &mut self,
+        _alloc: Global,
+        fields: &mut (Vec<B::Out>, Option<u32>),
+        value: B::Out,
+    ) -> Result<(), AllocError> {
+        fields.0.push(value)?;
+        Ok(())
+    }
+
+    fn record(
+        &mut self,
+        alloc: Global,
+        fields: (Vec<B::Out>, Option<u32>),
+    ) -> Result<B::Out, AllocError> {
+        let out = self.builder.fields(alloc, fields.0)?;
+        self.wrap(alloc, fields.1, out)
+    }
+
+    fn slots(&mut self, alloc: Global) -> Vec<Option<B::Out>>
+        ensures kept { Unit {0} }
+        ensures none { result.items ≡ [] }
+    {
+        Vec::new(alloc)
+    }
+
+    fn keep_slots(&mut self, _slots: Vec<Option<B::Out>>)
+        ensures kept { Unit {0} }
+    {}
+}

@@ -1,0 +1,135 @@
+//! Answers as lines of JSON.
+
+use crate::fault_place::{FaultPlace, place_of};
+use crate::json_object::JsonObject;
+use crate::judging::name_of;
+use avro_compare::FaultKind;
+use avro_container::Counts;
+use avro_judge::{Cause, Refutation, Verdict};
+use avro_schema::{Memory, Schema, size};
+use serde_json::Value;
+use std::alloc::{AllocError, Global};
+
+/// The line of a yes.
+pub(crate) fn yes_line(alloc: Global) -> Result<String, AllocError> {
+    let mut answer = JsonObject::new(alloc);
+    answer.put_text("verdict", "yes")?;
+    answer.line()
+}
+
+/// The line of a no, with the display of its datum.
+pub(crate) fn no_line(
+    alloc: Global,
+    writer: &Schema,
+    reader: &Schema,
+    refutation: &Refutation,
+    display: &str,
+) -> Result<String, Memory> {
+    let mut answer = JsonObject::new(alloc);
+    put_no(&mut answer, alloc, writer, reader, refutation)?;
+    answer.put("nodes", &Value::from(size(&refutation.datum)))?;
+    answer.put_json("datum", display)?;
+    Ok(answer.line()?)
+}
+
+/// The line of an undecided.
+pub(crate) fn undecided_line(alloc: Global, cause: Cause) -> Result<String, AllocError> {
+    let mut answer = JsonObject::new(alloc);
+    put_undecided(&mut answer, cause)?;
+    answer.line()
+}
+
+/// The line of a verdict in a history: on which file, in which mode if there are two, and what it is.
+pub(crate) fn history_line(
+    alloc: Global,
+    file: &str,
+    mode: Option<&str>,
+    writer: &Schema,
+    reader: &Schema,
+    verdict: &Verdict<'_>,
+) -> Result<String, Memory> {
+    let mut answer = JsonObject::new(alloc);
+    answer.put_text("file", file)?;
+    if let Some(mode) = mode {
+        answer.put_text("mode", mode)?;
+    }
+    match verdict {
+        Verdict::Approved(_) => answer.put_text("verdict", "yes")?,
+        Verdict::Refuted(found) => put_no(&mut answer, alloc, writer, reader, found)?,
+        Verdict::Undecided(cause) => put_undecided(&mut answer, *cause)?,
+    }
+    Ok(answer.line()?)
+}
+
+/// The line that tells whether a certificate confirms what it is for.
+pub(crate) fn confirmed_line(alloc: Global, is_confirmed: bool) -> Result<String, AllocError> {
+    let mut answer = JsonObject::new(alloc);
+    answer.put("confirmed", &Value::Bool(is_confirmed))?;
+    answer.line()
+}
+
+/// The line that tells how many data and blocks a container has.
+pub(crate) fn counts_line(alloc: Global, file: &str, counts: Counts) -> Result<String, AllocError> {
+    let mut answer = JsonObject::new(alloc);
+    answer.put_text("file", file)?;
+    answer.put("data", &Value::from(counts.items))?;
+    answer.put("blocks", &Value::from(counts.blocks))?;
+    answer.line()
+}
+
+/// Puts the members of a no: the verdict and the fault.
+fn put_no(
+    answer: &mut JsonObject,
+    alloc: Global,
+    writer: &Schema,
+    reader: &Schema,
+    refutation: &Refutation,
+) -> Result<(), Memory> {
+    answer.put_text("verdict", "no")?;
+    let place = place_of(alloc, writer, reader, refutation)?;
+    let fault = fault_json(alloc, refutation, &place)?;
+    answer.put_json("fault", &fault)?;
+    Ok(())
+}
+
+/// Puts the members of an undecided.
+fn put_undecided(answer: &mut JsonObject, cause: Cause) -> Result<(), AllocError> {
+    answer.put_text("verdict", "undecided")?;
+    answer.put_text("cause", name_of(cause))
+}
+
+/// The object of a fault: its kind, the name of the field or symbol that is missing, and where it is.
+fn fault_json(
+    alloc: Global,
+    refutation: &Refutation,
+    place: &FaultPlace<'_>,
+) -> Result<String, AllocError> {
+    let mut fault = JsonObject::new(alloc);
+    let kind = refutation.fault.kind;
+    fault.put_text("kind", kind_name(kind))?;
+    if let Some(name) = place.missing {
+        let key = match kind {
+            FaultKind::MissingField(_) => "field",
+            _ => "symbol",
+        };
+        fault.put_text(key, name)?;
+    }
+    let mut path: Vec<Value> = Vec::new(alloc);
+    for step in &refutation.fault.path {
+        path.push(Value::from(*step))?;
+    }
+    fault.put("path", &Value::from(path))?;
+    fault.put_text("at", &place.at)?;
+    fault.json()
+}
+
+/// The name of a kind of fault.
+fn kind_name(kind: FaultKind) -> &'static str {
+    match kind {
+        FaultKind::NoMatch => "NoMatch",
+        FaultKind::NoBranch => "NoBranch",
+        FaultKind::MissingField(_) => "MissingField",
+        FaultKind::NoSymbol => "NoSymbol",
+        FaultKind::NotUtf8 => "NotUtf8",
+    }
+}

@@ -1,0 +1,81 @@
+//! Options that take a number.
+
+use crate::failure::Failure;
+use avro_judge::JudgeLimits;
+use avro_schema::Limits;
+use clap::ArgMatches;
+
+/// An option that takes a number, and the greatest one that it takes; the least is 1.
+#[derive(Clone, Copy, Debug, PartialEq, Eq)]
+pub(crate) enum NumberOption {
+    /// The greatest product of the two numbers of nodes.
+    MaxPairs,
+    /// The greatest number of nodes of a datum that refutes.
+    MaxSize,
+    /// The greatest depth of a datum that refutes.
+    MaxDepth,
+}
+
+impl NumberOption {
+    /// The word of the option.
+    pub(crate) fn word(self) -> &'static str {
+        match self {
+            NumberOption::MaxPairs => "max-pairs",
+            NumberOption::MaxSize => "max-size",
+            NumberOption::MaxDepth => "max-depth",
+        }
+    }
+
+    /// The greatest number that it takes.
+    pub(crate) fn most(self) -> u32 {
+        match self {
+            NumberOption::MaxPairs => JudgeLimits::MAX_PAIRS,
+            NumberOption::MaxSize => Limits::default().nodes(),
+            NumberOption::MaxDepth => Limits::MAX_DEPTH,
+        }
+    }
+}
+
+/// The limits of judging that the words give.
+pub(crate) fn limits_in<'a>(matches: &ArgMatches<'a>) -> Result<JudgeLimits, Failure<'a>> {
+    let pairs = pairs_in(matches)?;
+    let size = number_in(matches, NumberOption::MaxSize)?;
+    let depth = number_in(matches, NumberOption::MaxDepth)?;
+    let data = Limits::default();
+    let Some(limits) = Limits::new(depth, data.nodes(), data.blob()) else {
+        return Err(Failure::OutOfRange(NumberOption::MaxDepth));
+    };
+    match JudgeLimits::new(pairs, size, limits) {
+        Some(limits) => Ok(limits),
+        None => Err(Failure::OutOfRange(NumberOption::MaxSize)),
+    }
+}
+
+/// The limit of pairs of nodes that the words give.
+pub(crate) fn pairs_in<'a>(matches: &ArgMatches<'a>) -> Result<u32, Failure<'a>> {
+    let pairs = number_in(matches, NumberOption::MaxPairs)?;
+    if (1..=JudgeLimits::MAX_PAIRS).contains(&pairs) {
+        Ok(pairs)
+    } else {
+        Err(Failure::OutOfRange(NumberOption::MaxPairs))
+    }
+}
+
+/// The number of an option.
+fn number_in<'a>(matches: &ArgMatches<'a>, option: NumberOption) -> Result<u32, Failure<'a>> {
+    match matches.get_one::<u32>(option.word()) {
+        Some(number) => Ok(number),
+        None => Err(Failure::OutOfRange(option)),
+    }
+}
+
+/// The greatest number of lines that the words ask for, if they name one.
+pub(crate) fn lines_in<'a>(matches: &ArgMatches<'a>) -> Result<Option<u64>, Failure<'a>> {
+    let Some(word) = matches.get_str("limit") else {
+        return Ok(None);
+    };
+    match word.parse::<u64>() {
+        Ok(lines) => Ok(Some(lines)),
+        Err(_) => Err(Failure::NoLimit),
+    }
+}
