@@ -89,10 +89,10 @@ const RUNS: [(&str, u8, &str, &str); 17] = [
     ("check short --json", 3, "", "avro: short: C16\n"),
     ("check --json none", 4, "", "avro: none: cannot read\n"),
     (
-        "check --json folder five",
+        "check --json many_folder five",
         4,
         "{\"file\":\"five\",\"data\":1,\"blocks\":1}\n",
-        "avro: folder: cannot read\n",
+        "avro: many_folder: cannot read\n",
     ),
     (
         "check q\"u\\o\u{1}\u{e9}\u{1f600} --json",
@@ -111,7 +111,7 @@ fn each_of_several_files_is_checked(rt: HostRuntime) -> Result<(), Fail> {
         fs::write(&rt, file, bytes)?;
     }
     fs::write(&rt, "q\"u\\o\u{1}\u{e9}\u{1f600}", FIVE)?;
-    fs::create_dir(&rt, "folder")?;
+    fs::create_dir(&rt, "many_folder")?;
     for (line, status, out, err) in RUNS {
         let ran = outcome_of(&rt, line)?;
         assert_eq!(rt; ran.status, status, "{line}");

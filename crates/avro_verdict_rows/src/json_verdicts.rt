@@ -173,7 +173,7 @@ const BUILT: [(&str, Text); 9] = [
 const RUNS: [(&str, u8, &str, &str); 19] = [
     ("judge int long --json", 0, "{\"verdict\":\"yes\"}\n", ""),
     (
-        "judge int long --certificate c --json",
+        "judge int long --certificate int_long --json",
         0,
         "{\"verdict\":\"yes\"}\n",
         "",
