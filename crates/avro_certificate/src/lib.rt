@@ -12,9 +12,11 @@ mod kept;
 pub mod laws;
 mod lines;
 mod lookup;
+mod numbers;
 mod sets;
 mod writing;
 
 pub use closing::find_closed;
 pub use error::CertError;
 pub use kept::Certificate;
+pub use numbers::append_decimal;

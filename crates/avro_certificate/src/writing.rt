@@ -1,9 +1,10 @@
 //! Writing the text of a certificate.
 
 ghost use Rattle.std.specs.Prelude.{◌≡◌, ◌++◌, flat_map, OnOk};
-ghost use Rattle.avro_certificate.specs.CertificateText.{decimal, dead_line, pair_line, certificate_text};
+ghost use Rattle.avro_certificate.specs.CertificateText.{dead_line, pair_line, certificate_text};
 ghost use Rattle.avro_certificate.specs.SeenPair.{pair_of, pairs_of};
 
+use crate::numbers::append_decimal;
 use std::alloc::AllocError;
 
 /// Appends the text of two lists.
@@ -36,7 +37,7 @@ fn write_dead_node(text: &mut Vec<u8>, number: u32) -> Result<(), AllocError>
     ensures { OnOk result (text.new.items ≡ text.old.items ++ dead_line number) }
 {
     text.extend_from_slice(b"dead ")?;
-    write_number(text, number)?;
+    append_decimal(text, u64::from(number))?;
     text.push(b'\n')?;
     Ok(())
 }
@@ -56,20 +57,9 @@ fn write_pair(text: &mut Vec<u8>, pair: (u32, u32)) -> Result<(), AllocError>
     ensures { OnOk result (text.new.items ≡ text.old.items ++ pair_line (pair_of pair)) }
 {
     text.extend_from_slice(b"pair ")?;
-    write_number(text, pair.0)?;
+    append_decimal(text, u64::from(pair.0))?;
     text.push(b' ')?;
-    write_number(text, pair.1)?;
+    append_decimal(text, u64::from(pair.1))?;
     text.push(b'\n')?;
-    Ok(())
-}
-
-/// Appends a number in decimal.
-fn write_number(text: &mut Vec<u8>, number: u32) -> Result<(), AllocError>
-    ensures { OnOk result (text.new.items ≡ text.old.items ++ decimal number) }
-{
-    if number >= 10 {
-        write_number(text, number / 10)?;
-    }
-    text.push(b'0' + (number % 10) as u8)?;
     Ok(())
 }
