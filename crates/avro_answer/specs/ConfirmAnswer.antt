@@ -1,0 +1,38 @@
+-- What `avro confirm` answers of three texts: the bytes that it prints, and its exit status.
+use Rattle.std.specs.Prelude.{◌≡◌, ◌↔◌, ℕ, true, false, List, codes}
+use Rattle.avro_schema.specs.Node.{Node}
+use Rattle.avro_schema_json.specs.DeclaredText.{DeclaresText}
+use Rattle.avro_certificate.specs.Closed.{Pair, is_closed}
+use Rattle.avro_certificate.specs.CertificateText.{CertText}
+use Rattle.avro_certificate.specs.CertificateRead.{Refuses}
+use Rattle.avro_answer.specs.RefusalText.{HasCode, HasSchema}
+use Rattle.avro_answer.specs.declared.refusal.Refusal.{Refusal}
+
+abbrev pub IsConfirmed : List ℕ → ℕ → Type 0
+IsConfirmed text status = (text ≡ codes "confirmed\n") × (status ≡ 0)
+
+abbrev pub IsNotConfirmed : List ℕ → ℕ → Type 0
+IsNotConfirmed text status = (text ≡ codes "not confirmed\n") × (status ≡ 1)
+
+-- What is answered of two schemas and the two sets of a certificate: confirmed exactly where the sets are closed.
+pub record SetsAnswer (writer reader : List Node) (dead : List ℕ) (pairs : List Pair) (text : List ℕ) (status : ℕ) : Type 0 where
+  pub confirmed : IsConfirmed text status ↔ (is_closed writer reader dead pairs ≡ true)
+  pub refused : IsNotConfirmed text status ↔ (is_closed writer reader dead pairs ≡ false)
+
+-- What is answered of three texts: two declare schemas, the third is a certificate's, and it is the answer of those.
+pub record ConfirmAnswer (writer reader certificate text : List ℕ) (status : ℕ) : Type 0 where
+  pub written : List Node
+  pub read : List Node
+  pub dead : List ℕ
+  pub pairs : List Pair
+  pub declares_written : DeclaresText writer written
+  pub declares_read : DeclaresText reader read
+  pub certifies : CertText dead pairs certificate
+  pub answered : SetsAnswer written read dead pairs text status
+
+-- What a refusal says of three texts: the first that is refused is this one.
+abbrev pub RefusesOneOf : List ℕ → List ℕ → List ℕ → Refusal → Type 0
+RefusesOneOf writer reader certificate (Refusal.Writer e) = HasCode writer e
+RefusesOneOf writer reader certificate (Refusal.Reader e) = HasSchema writer × HasCode reader e
+RefusesOneOf writer reader certificate (Refusal.Certificate e) = HasSchema writer × HasSchema reader × Refuses e certificate
+RefusesOneOf writer reader certificate Refusal.OutOfMemory = Unit {0}

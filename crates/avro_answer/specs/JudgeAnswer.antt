@@ -1,0 +1,52 @@
+-- What `avro judge` answers of two texts: the bytes that it prints, and its exit status.
+use Rattle.std.specs.Prelude.{◌≡◌, ◌↔◌, ℕ, ◌⊎◌, List, ◌++◌, codes}
+use Rattle.avro_schema.specs.Value.{Value, size}
+use Rattle.avro_schema.specs.Node.{Node, root_of}
+use Rattle.avro_schema_json.specs.DeclaredText.{DeclaresText}
+use Rattle.avro_display.specs.DisplayTree.{display_text}
+use Rattle.avro_compare.specs.Fault.{ResolutionFault}
+use Rattle.avro_certificate.specs.Compatible.{AreCompatible}
+use Rattle.avro_certificate.specs.CertificateText.{decimal}
+use Rattle.avro_judge.specs.Headline.{Refutes, InPairs, IsPassed}
+use Rattle.avro_judge.specs.JudgeRanges.{JudgeLimitValues}
+use Rattle.avro_judge.specs.declared.verdict.Cause.{Cause}
+use Rattle.avro_answer.specs.Texts.{fault_text, cause_text}
+
+abbrev pub IsYes : List ℕ → ℕ → Type 0
+IsYes text status = (text ≡ codes "yes\n") × (status ≡ 0)
+
+-- a no with its fault, and with the datum's number of nodes and display
+abbrev pub no_text : List Node → Value → ResolutionFault → List ℕ
+no_text writer v fault =
+    codes "no\nfault " ++ fault_text fault
+    ++ codes "\nnodes " ++ decimal (size v)
+    ++ codes "\ndatum " ++ display_text writer (root_of writer) v ++ codes "\n"
+
+abbrev pub IsUndecidedBy : Cause → List ℕ → ℕ → Type 0
+IsUndecidedBy cause text status = (text ≡ codes "undecided " ++ cause_text cause ++ codes "\n") × (status ≡ 2)
+
+-- a datum that refutes the two schemas, with the fault and in the text of a no
+pub record IsNo (writer reader : List Node) (limits : JudgeLimitValues) (text : List ℕ) : Type 0 where
+  pub datum : Value
+  pub fault : ResolutionFault
+  pub refutes : Refutes writer reader limits datum fault
+  pub written : text ≡ no_text writer datum fault
+
+-- What is answered of two schemas.
+pub record SchemasAnswer (writer reader : List Node) (limits : JudgeLimitValues) (text : List ℕ) (status : ℕ) : Type 0 where
+  -- yes exactly where the schemas are within the pair limit and no datum of the writer's fails, of any size
+  pub yes : IsYes text status ↔ (InPairs writer reader limits × AreCompatible writer reader)
+  -- a no has a least datum that fails, and its fault
+  pub no : status ≡ 1 → IsNo writer reader limits text
+  -- undecided for a cause exactly where its limit is passed
+  pub undecided : (cause : Cause) → IsUndecidedBy cause text status ↔ IsPassed writer reader limits cause
+  -- there is no other answer
+  pub known : IsYes text status ⊎ (status ≡ 1) ⊎ ((cause : Cause) × IsUndecidedBy cause text status)
+
+-- What is answered of two texts: both declare schemas, and it is the answer of those.
+pub record JudgeAnswer (writer reader : List ℕ) (limits : JudgeLimitValues) (text : List ℕ) (status : ℕ) : Type 0 where
+  pub written : List Node
+  pub read : List Node
+  pub declares_written : DeclaresText writer written
+  pub declares_read : DeclaresText reader read
+  pub answered : SchemasAnswer written read limits text status

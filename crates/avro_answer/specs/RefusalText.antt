@@ -1,0 +1,58 @@
+-- Why the texts of schemas and certificates are refused, and the line that reports it.
+use Rattle.std.specs.Prelude.{◌≡◌, ℕ, ◌<◌, ◌≤◌, ◌⊎◌, List, ◌++◌, length, codes}
+use Rattle.avro_schema.specs.Node.{Node}
+use Rattle.serde_json.specs.Data.{Data}
+use Rattle.avro_schema_json.specs.Declaration.{max_text, HasTree, IsNoJson}
+use Rattle.avro_schema_json.specs.DeclaredFaults.{HasFault}
+use Rattle.avro_schema_json.specs.DeclaredText.{DeclaresText}
+use Rattle.avro_schema_json.specs.declared.error.SchemaError.{SchemaError}
+use Rattle.avro_certificate.specs.declared.error.CertError.{CertError}
+use Rattle.avro_answer.specs.declared.refusal.Refusal.{Refusal}
+
+-- the code of a refusal
+abbrev pub schema_code : SchemaError → List ℕ
+schema_code SchemaError.NotJson = codes "S1"
+schema_code SchemaError.UnknownName = codes "S2"
+schema_code SchemaError.DuplicateName = codes "S3"
+schema_code SchemaError.InvalidName = codes "S4"
+schema_code SchemaError.InvalidDeclaration = codes "S5"
+schema_code SchemaError.InvalidUnion = codes "S6"
+schema_code SchemaError.InvalidSymbols = codes "S7"
+schema_code SchemaError.DuplicateField = codes "S8"
+schema_code SchemaError.InvalidDefault = codes "S9"
+schema_code SchemaError.UnsupportedType = codes "S10"
+schema_code SchemaError.UnsupportedNumber = codes "S11"
+schema_code SchemaError.LimitExceeded = codes "S12"
+schema_code SchemaError.OutOfMemory = codes "S13"
+
+abbrev pub certificate_code : CertError → List ℕ
+certificate_code CertError.Malformed = codes "G1"
+certificate_code CertError.NumberTooLarge = codes "G2"
+certificate_code CertError.OutOfMemory = codes "G3"
+
+-- the line of a refused text, by the word that names its file
+abbrev pub refusal_text : List ℕ → List ℕ → List ℕ
+refusal_text word code = codes "avro: " ++ word ++ codes ": " ++ code ++ codes "\n"
+
+-- The code is one that the text has: it is no JSON, it is too long, or its tree has the fault.
+abbrev pub HasCode : List ℕ → SchemaError → Type 0
+HasCode text e =
+    ((e ≡ SchemaError.NotJson) × IsNoJson text)
+    ⊎ ((e ≡ SchemaError.LimitExceeded) × (max_text < length text))
+    ⊎ ((tree : Data) × HasTree text tree × HasFault tree e)
+
+-- the text declares a schema
+abbrev pub HasSchema : List ℕ → Type 0
+HasSchema text = (nodes : List Node) × DeclaresText text nodes
+
+-- so does each of both, and neither is longer than a text may be
+abbrev pub HaveSchemas : List ℕ → List ℕ → Type 0
+HaveSchemas writer reader = HasSchema writer × (length writer ≤ max_text) × HasSchema reader × (length reader ≤ max_text)
+
+-- What a refusal says of the texts of two schemas: the writer's is refused, or it declares a schema and the reader's is
+-- refused. Memory that runs out says nothing.
+abbrev pub RefusesPair : List ℕ → List ℕ → Refusal → Type 0
+RefusesPair writer reader (Refusal.Writer e) = HasCode writer e
+RefusesPair writer reader (Refusal.Reader e) = HasSchema writer × HasCode reader e
+RefusesPair writer reader (Refusal.Certificate e) = ⊥
+RefusesPair writer reader Refusal.OutOfMemory = Unit {0}

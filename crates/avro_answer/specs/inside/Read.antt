@@ -1,0 +1,16 @@
+-- What a refusal of one text says of it.
+use Rattle.std.specs.Prelude.{ℕ, List}
+use Rattle.avro_answer.specs.RefusalText.{HasCode}
+use Rattle.avro_answer.specs.declared.refusal.Refusal.{Refusal}
+
+abbrev pub RefusesWriter : List ℕ → Refusal → Type 0
+RefusesWriter text (Refusal.Writer e) = HasCode text e
+RefusesWriter text (Refusal.Reader e) = ⊥
+RefusesWriter text (Refusal.Certificate e) = ⊥
+RefusesWriter text Refusal.OutOfMemory = Unit {0}
+
+abbrev pub RefusesReader : List ℕ → Refusal → Type 0
+RefusesReader text (Refusal.Writer e) = ⊥
+RefusesReader text (Refusal.Reader e) = HasCode text e
+RefusesReader text (Refusal.Certificate e) = ⊥
+RefusesReader text Refusal.OutOfMemory = Unit {0}

@@ -1,0 +1,77 @@
+ghost use Rattle.std.specs.Prelude.{◌≡◌, IfOk};
+ghost use Rattle.std.specs.Result.{IfErr};
+ghost use Rattle.avro_schema.specs.SeenSchema.{schema_nodes};
+ghost use Rattle.avro_judge.specs.Headline.{IsRight};
+ghost use Rattle.avro_answer.specs.JudgeAnswer.{SchemasAnswer, JudgeAnswer};
+ghost use Rattle.avro_answer.specs.RefusalText.{RefusesPair, HaveSchemas};
+ghost use Rattle.avro_answer.specs.declared.refusal.Refusal.TheVariants.{OutOfMemory};
+
+use crate::answer::Answer;
+use crate::reading::read_text;
+use crate::refusal::Refusal;
+use crate::verdicts::{text_of_no, text_of_undecided};
+use avro_judge::{JudgeLimits, Verdict, judge};
+use avro_schema::{Memory, Schema};
+use std::alloc::Global;
+
+/// A verdict, and what is answered of it.
+#[derive(Drop)]
+pub struct Judged<'a> {
+    /// The verdict.
+    pub verdict: Verdict<'a>,
+    /// What is answered.
+    pub answer: Answer,
+}
+
+/// Judges two schemas.
+///
+/// # Errors
+///
+/// Memory ran out.
+pub fn judge_schemas<'a>(
+    alloc: Global,
+    writer: &'a Schema,
+    reader: &'a Schema,
+    limits: &JudgeLimits,
+) -> Result<Judged<'a>, Memory>
+    ensures right { IfOk result (λ j. IsRight writer.now reader.now limits.now j.verdict) }
+    ensures answered { IfOk result (λ j. SchemasAnswer (schema_nodes writer.now) (schema_nodes reader.now) limits.now j.answer.text.items j.answer.status) }
+{
+    let verdict = judge(alloc, writer, reader, limits)?;
+    let answer = match &verdict {
+        Verdict::Approved(_) => Answer {
+            text: Vec::from_slice(alloc, b"yes\n")?,
+            status: 0,
+        },
+        Verdict::Refuted(found) => Answer {
+            text: text_of_no(alloc, writer, found)?,
+            status: 1,
+        },
+        Verdict::Undecided(cause) => Answer {
+            text: text_of_undecided(alloc, *cause)?,
+            status: 2,
+        },
+    };
+    Ok(Judged { verdict, answer })
+}
+
+/// Judges the schemas of two texts.
+///
+/// # Errors
+///
+/// The writer's text is refused, or else the reader's; memory ran out.
+pub fn judge_text(
+    alloc: Global,
+    writer: &[u8],
+    reader: &[u8],
+    limits: &JudgeLimits,
+) -> Result<Answer, Refusal>
+    ensures answered { IfOk result (λ a. JudgeAnswer writer.now reader.now limits.now a.text.items a.status) }
+    ensures refused { IfErr result (RefusesPair writer.now reader.now) }
+    ensures complete { HaveSchemas writer.now reader.now → IfErr result (λ e. e ≡ OutOfMemory) }
+{
+    let writer = read_text(alloc, writer, Refusal::Writer)?;
+    let reader = read_text(alloc, reader, Refusal::Reader)?;
+    let judged = judge_schemas(alloc, &writer, &reader, limits)?;
+    Ok(judged.answer)
+}

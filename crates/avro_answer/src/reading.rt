@@ -1,0 +1,41 @@
+//! Reading the texts that an answer is of.
+
+ghost use Rattle.std.specs.Prelude.{◌≡◌, ◌≤◌, length, IfOk};
+ghost use Rattle.std.specs.Result.{IfErr};
+ghost use Rattle.avro_schema.specs.SeenSchema.{schema_nodes};
+ghost use Rattle.avro_schema_json.specs.Declaration.{max_text};
+ghost use Rattle.avro_schema_json.specs.DeclaredText.{DeclaresText};
+ghost use Rattle.avro_answer.specs.RefusalText.{HasCode, HasSchema};
+ghost use Rattle.avro_answer.specs.inside.Read.{RefusesWriter, RefusesReader};
+ghost use Rattle.avro_answer.specs.declared.refusal.Refusal.TheVariants.{OutOfMemory};
+
+use crate::refusal::Refusal;
+use avro_schema::Schema;
+use avro_schema_json::{SchemaError, read_schema};
+use std::alloc::Global;
+
+/// The schema of the writer's text.
+pub(crate) fn read_writer(alloc: Global, text: &[u8]) -> Result<Schema, Refusal>
+    ensures found { IfOk result (λ schema. DeclaresText text.now (schema_nodes schema)) }
+    ensures refused { IfErr result (RefusesWriter text.now) }
+    ensures complete { HasSchema text.now → length text.now ≤ max_text → IfErr result (λ e. e ≡ OutOfMemory) }
+{
+    match read_schema(alloc, text) {
+        Ok(schema) => Ok(schema),
+        Err(SchemaError::OutOfMemory) => Err(Refusal::OutOfMemory),
+        Err(e) => Err(Refusal::Writer(e)),
+    }
+}
+
+/// The schema of the reader's text.
+pub(crate) fn read_reader(alloc: Global, text: &[u8]) -> Result<Schema, Refusal>
+    ensures found { IfOk result (λ schema. DeclaresText text.now (schema_nodes schema)) }
+    ensures refused { IfErr result (RefusesReader text.now) }
+    ensures complete { HasSchema text.now → length text.now ≤ max_text → IfErr result (λ e. e ≡ OutOfMemory) }
+{
+    match read_schema(alloc, text) {
+        Ok(schema) => Ok(schema),
+        Err(SchemaError::OutOfMemory) => Err(Refusal::OutOfMemory),
+        Err(e) => Err(Refusal::Reader(e)),
+    }
+}

@@ -1,0 +1,58 @@
+//! The texts of verdicts.
+
+ghost use Rattle.std.specs.Prelude.{◌≡◌, ◌≤◌, ◌++◌, true, codes, IfOk};
+ghost use Rattle.avro_schema.specs.Fits.{fits};
+ghost use Rattle.avro_schema.specs.Node.{root_of};
+ghost use Rattle.avro_schema.specs.Seen.{value_of};
+ghost use Rattle.avro_schema.specs.SeenSchema.{schema_nodes};
+ghost use Rattle.avro_schema.specs.Value.{size as value_size};
+ghost use Rattle.avro_compare.specs.Seen.{fault_of};
+ghost use Rattle.avro_answer.specs.Texts.{cause_text};
+ghost use Rattle.avro_answer.specs.JudgeAnswer.{no_text};
+
+use crate::faults::append_fault;
+use avro_certificate::append_decimal;
+use avro_display::show;
+use avro_judge::{Cause, Refutation};
+use avro_schema::{Memory, Schema, size};
+use std::alloc::Global;
+
+/// The word of a cause.
+pub fn cause_word(cause: Cause) -> &'static str
+    ensures { result.now ≡ cause_text cause }
+{
+    match cause {
+        Cause::Pairs => "Pairs",
+        Cause::Size => "Size",
+        Cause::Depth => "Depth",
+    }
+}
+
+/// The text of a no.
+pub(crate) fn text_of_no(alloc: Global, writer: &Schema, found: &Refutation) -> Result<Vec<u8>, Memory>
+    requires fitting { fits (schema_nodes writer.now) (root_of (schema_nodes writer.now)) (value_of found.now.datum) ≡ true }
+    requires small { value_size (value_of found.now.datum) ≤ 1048576 }
+    ensures { IfOk result (λ text. text.items ≡ no_text (schema_nodes writer.now) (value_of found.now.datum) (fault_of found.now.fault)) }
+{
+    let display = show(alloc, writer, writer.root(), &found.datum)?;
+    let mut text = Vec::new(alloc);
+    text.extend_from_slice(b"no\nfault ")?;
+    append_fault(&mut text, &found.fault)?;
+    text.extend_from_slice(b"\nnodes ")?;
+    append_decimal(&mut text, size(&found.datum))?;
+    text.extend_from_slice(b"\ndatum ")?;
+    text.extend_from_slice(display.as_bytes())?;
+    text.push(b'\n')?;
+    Ok(text)
+}
+
+/// The text of an undecided.
+pub(crate) fn text_of_undecided(alloc: Global, cause: Cause) -> Result<Vec<u8>, Memory>
+    ensures { IfOk result (λ text. text.items ≡ codes "undecided " ++ cause_text cause ++ codes "\n") }
+{
+    let mut text = Vec::new(alloc);
+    text.extend_from_slice(b"undecided ")?;
+    text.extend_from_slice(cause_word(cause).as_bytes())?;
+    text.push(b'\n')?;
+    Ok(text)
+}
