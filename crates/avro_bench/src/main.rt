@@ -46,7 +46,7 @@ fn run(rt: &HostRuntime, word: &str) -> anyhow::Result<()> {
     }
 }
 
-/// Says which words there are.
+/// Reports which words there are.
 fn usage() -> anyhow::Result<()> {
     bail!(
         "avro_bench check | draft | schema | walk|decode FILE records|strings|keys | resolve|plan FILE nothing|tree|packed"

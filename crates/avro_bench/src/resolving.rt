@@ -71,7 +71,7 @@ fn print_read(rt: &HostRuntime, path: &str, builder: &str, way: &Way<'_>) -> any
     Ok(())
 }
 
-/// How many data stand one after another in bytes.
+/// How many data there are one after another in bytes.
 fn count_read<B: Build>(
     alloc: Global,
     way: &Way<'_>,

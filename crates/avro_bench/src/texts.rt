@@ -7,7 +7,7 @@ use std::time::{Duration, Instant};
 /// How often each text is read; the least time counts.
 const RUNS: u32 = 5;
 
-/// What stands in the attribute `doc` of each definition.
+/// The attribute `doc` of each definition.
 const DOC: &str =
     "One of many small definitions, of which each has symbols, an alias and a default. It is here for its length only";
 

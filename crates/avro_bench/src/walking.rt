@@ -25,7 +25,7 @@ pub(crate) fn print_decode(rt: &HostRuntime, path: &str, kind: &str) -> anyhow::
     Ok(())
 }
 
-/// How many data of a schema's root stand one after another in bytes.
+/// How many data of a schema's root there are one after another in bytes.
 fn decode_data(alloc: Global, schema: &Schema, bytes: &[u8]) -> anyhow::Result<usize> {
     let limits = Limits::default();
     let mut rest = bytes;
@@ -42,7 +42,7 @@ fn decode_data(alloc: Global, schema: &Schema, bytes: &[u8]) -> anyhow::Result<u
     Ok(data)
 }
 
-/// How many data of a schema's root stand one after another in bytes.
+/// How many data of a schema's root there are one after another in bytes.
 fn count_data(alloc: Global, schema: &Schema, bytes: &[u8]) -> anyhow::Result<usize> {
     let limits = Limits::default();
     let mut rest = bytes;
@@ -84,7 +84,7 @@ pub(crate) fn schema_of(alloc: Global, kind: &str) -> anyhow::Result<Schema> {
     Ok(draft.finish()?)
 }
 
-/// The record, whose fields have the nodes behind it.
+/// The record, whose fields have the nodes after it.
 fn record(alloc: Global) -> anyhow::Result<Node> {
     let fields = vec![in alloc;
         field(alloc, "a", 2)?,

@@ -76,7 +76,7 @@ pub record BlocksDone {E : Type 0} (kind : Kind E) (start now : CursorValue) (ke
   pub front : List ℕ
   pub stand : kind.run (left_at start []) xs items (left_at now keys)
   pub moves : Moves start front now
-  -- what ends the blocks behind them ends them all, and what breaks them does
+  -- what ends the blocks after them ends them all, and what breaks them does
   pub ends : (later : List (List ℕ)) (bytes : List ℕ) → IsInBlocks later bytes → IsInBlocks (items ++ later) (front ++ bytes)
   pub breaks : (f : ReadFault) → BlocksBreak kind.are_whole kind.item_breaks (left_at now keys) now.bytes f
       → BlocksBreak kind.are_whole kind.item_breaks (left_at start []) start.bytes (behind (length front) f)
@@ -113,7 +113,7 @@ module _ {E : Type 0} {kind : Kind E} {start now : CursorValue} {keys : List (Li
     pub blob_kept : start.blob ≡ mid.blob
     blob_kept = sym (head.passes.blob ∙ done.moves.blob)
 
-    -- what a run behind the head is of
+    -- what a run after the head is of
     run_behind : (ys : List E) (items : List (List ℕ)) (left : Left) → kind.run (left_at mid keys) ys items left → kind.run (left_at now keys) ys items left
     run_behind ys items left r = subst (λ (n : ℕ). kind.run (record { nodes = n; keys = keys }) ys items left) head.passes.nodes r
 
@@ -146,11 +146,11 @@ module _ {E : Type 0} {kind : Kind E} {start now : CursorValue} {keys : List (Li
           subst (λ (n : ℕ). kind.are_whole (left_at now keys) n (concat found.items) (left_at after then_keys)) (counted_is ∙ head.counted)
           (whole_behind ys found.items (left_at after then_keys) found.stand)
 
-      -- the offset behind the items
+      -- the offset after the items
       pub offset_is : after.offset ≡ now.offset + length (head_bytes head.head) + length (concat found.items)
       offset_is = let p = head.passes.offset in let q = found.moves.offset in omega arith
 
-      -- fewer nodes are left behind the block
+      -- fewer nodes are left after the block
       pub block_smaller : after.nodes < now.nodes
       block_smaller =
           let few = kind.laws.few (left_at mid keys) (left_at after then_keys) ys found.items found.stand in

@@ -7,7 +7,7 @@ use Rattle.avro_binary.specs.BlockHeads.{IsHeadOrEnd}
 use Rattle.avro_binary.proofs.Fronts.{same_behind}
 use Rattle.avro_binary.proofs.HeadLaws.{head_part}
 
--- what stands behind a head, or behind the end
+-- what is after a head, or after the end
 abbrev BehindHead : Option Head → List (List ℕ) → List ℕ → Type 0
 BehindHead None items rest = (items ≡ []) × (rest ≡ [])
 BehindHead (Some head) items rest =
@@ -63,7 +63,7 @@ head_at left head number items front x y is blocks e =
       subst (λ (h : Option Head). BehindHead h items first.rest) (sym same.1) first.behind,
     )
 
--- the block behind a head
+-- the block after a head
 pub record FirstBlock (head : Head) (items : List (List ℕ)) (front x y : List ℕ) : Type 0 where
   pub block : List (List ℕ)
   pub later : List (List ℕ)

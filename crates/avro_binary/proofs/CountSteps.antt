@@ -1,4 +1,4 @@
--- What counting a node without parts answers, and reading it then.
+-- What counting a node without parts returns, and reading it then.
 use Rattle.std.proofs.Common.{◌≡◌, ℕ, suc, ◌-◌, List, Ok, Err, ap, subst, arith}
 use Rattle.avro_schema.specs.Value.{Value}
 use Rattle.avro_schema.specs.Node.{Node}

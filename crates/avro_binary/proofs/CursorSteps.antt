@@ -92,7 +92,7 @@ index_refused before bytes choices e error offset same at fails reports =
     element_refused (λ n. n) (IsIndex choices) (IndexBreaks choices) (index_part choices) before before error (number_fault e)
     (number_breaks (e, subst (λ (b : List ℕ). IntFails b e) same fails, refl)) (reports ∙ ap (λ (n : ℕ). Some (behind n (number_fault e))) at) refl
 
--- a number that was read stands at the front
+-- a number that was read is at the front
 pub starts_with_long : (v : ℤ) (bytes : List ℕ) (len : ℕ) → SpellsLong v (take len bytes) → is_long v ≡ true → StartsWithLong v bytes (take len bytes) (drop len bytes)
 starts_with_long v bytes len spelled in_range = record { spelled = spelled; in_range = in_range; split = sym (take-append-drop len bytes) }
 
@@ -117,7 +117,7 @@ module _ (is_content : List ℕ → Bool) (blob : ℕ) (bytes : List ℕ) where
     ap (λ (k : ℕ). Some (end_of_input k)) (at ∙ ap (λ (k : ℕ). start + k) (sym (length-take-le len bytes inside))),
   )
 
--- a content behind its length
+-- a content after its length
 pub content_stands : (blob n len : ℕ) (bytes content : List ℕ) → StartsWithLong (pos n) bytes (take len bytes) (drop len bytes) → n ≤ blob → n ≤ length (drop len bytes)
     → len ≤ length bytes → content ≡ take n (drop len bytes) → ContentStands blob bytes content (len + n)
 content_stands blob n len bytes content s small enough inside is =
@@ -133,7 +133,7 @@ content_stands blob n len bytes content s small enough inside is =
       both = (λ i. sym (length-take-le len bytes inside) i + sym size i);
     }
 
--- a content that stands at the front is an element
+-- a content that is at the front is an element
 pub content_is : (is_content : List ℕ → Bool) (blob : ℕ) (bytes content : List ℕ) (len : ℕ) → ContentStands blob bytes content len → is_content content ≡ true
     → IsContent is_content blob content (take len bytes)
 content_is is_content blob bytes content len s right =

@@ -1,4 +1,4 @@
--- The elements of encodings: at most one stands at the front of bytes, it has no fault there, and there is one fault at most.
+-- The elements of encodings: at most one is at the front of bytes, it has no fault there, and there is one fault at most.
 use Rattle.std.proofs.Common.{◌≡◌, ℕ, ◌^◌, ◌<◌, ◌≤◌, ℤ, pos, negsuc, Bool, true, false, cond, List, [], ◌∷◌, ◌++◌, length, take, Ok, Err, Option, Some, None, refl, sym, ap, ◌∙◌, subst, arith, rules, tests, nat_lt, if◌then◌else◌, inl, inr, length-append, append_assoc}
 use Rattle.std.proofs.lemmas.Bool.{and_parts}
 use Rattle.std.specs.Str.{is_utf8}
@@ -23,7 +23,7 @@ pub record IsPart {A : Type 0} (IsElement : A → List ℕ → Type 0) (ElementB
   pub one_fault : (bytes : List ℕ) (f g : ReadFault) → ElementBreaks bytes f → ElementBreaks bytes g → f ≡ g
 
 module _ {A R : Type 0} (seen : R → A) (IsElement : A → List ℕ → Type 0) (ElementBreaks : List ℕ → ReadFault → Type 0) (part : IsPart IsElement ElementBreaks) (before after : CursorValue) where
-  -- an element that stands at the front is answered
+  -- an element that is at the front is returned
   pub element_found : (r : R) (front : List ℕ) → IsElement (seen r) front → Passes before front after → ReadsElement seen IsElement ElementBreaks before after (Ok r)
   element_found r front is passes = record {
     found = (front, is, passes);
@@ -128,7 +128,7 @@ pub no_long_fault : (v : ℤ) (bytes number rest : List ℕ) (f : ReadFault) →
 no_long_fault v bytes number rest f s b = long-excludes_fault v bytes number rest b.0 s.in_range s.spelled s.split b.1
 
 module _ (is_content : List ℕ → Bool) (blob : ℕ) where
-  -- the fault of a content behind its length
+  -- the fault of a content after its length
   abbrev pub content_fault : ℤ → List ℕ → List ℕ → Option ReadFault
   content_fault (negsuc n) number rest = Some (invalid_length 0)
   content_fault (pos n) number rest =
@@ -155,7 +155,7 @@ module _ (is_content : List ℕ → Bool) (blob : ℕ) where
       let u : nat_lt (length rest) n ≡ false = search (rules, tests) in
       rw (t, u) refl
 
-  -- behind a length the content has that fault
+  -- after a length the content has that fault
   pub content_fault-from_breaks : (v : ℤ) (bytes number rest : List ℕ) (f : ReadFault) → StartsWithLong v bytes number rest → ContentBreaks is_content blob bytes f
       → content_fault v number rest ≡ Some f
   content_fault-from_breaks v bytes number rest f s (length_breaks b) = absurd (no_long_fault v bytes number rest f s b)
@@ -242,7 +242,7 @@ index_part choices = record {
   one_fault = index-one_fault choices;
 }
 
--- texts of data that fit, behind their lengths, are elements, and the way back
+-- texts of data that fit, after their lengths, are elements, and the way back
 pub string_is : (blob : ℕ) (content bytes : List ℕ) → SpellsBytes content bytes → is_text content ≡ true → length content ≤ blob → IsString blob content bytes
 string_is blob content bytes spelled text within =
     let parts = and_parts (is_count (length content)) (is_utf8 content) text in

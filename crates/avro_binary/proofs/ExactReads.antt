@@ -59,7 +59,7 @@ module _ (nodes : List Node) (formed : is_schema nodes ≡ true) (id : ℕ) (lim
   front-inside : (v : Value) (len : ℕ) → FrontIs v len → len ≤ length bytes
   front-inside v len is = let l = is.length_is in omega (arith, ap length is.split, length-append is.front is.rest)
 
-  -- no other datum stands there
+  -- no other datum is there
   front-only : (v : Value) (len : ℕ) (is : FrontIs v len) (w : Value) (front rest : List ℕ) → Encodes nodes (node_at nodes id) w front → bytes ≡ front ++ rest
       → (is.front ≡ front) × (v ≡ w)
   front-only v len is w front rest encoded split =
@@ -68,7 +68,7 @@ module _ (nodes : List Node) (formed : is_schema nodes ≡ true) (id : ℕ) (lim
   front-whole : (v : Value) (len : ℕ) → FrontIs v len → (f : ReadFault) → Breaks nodes limits (node_at nodes id) bytes f → ⊥
   front-whole v len is f b = no_front_within nodes limits id bytes f v is.front is.rest formed b is.encoded is.within is.split
 
-  -- what an error tells of the bytes
+  -- what an error says about the bytes
   abbrev pub Told : Option ReadFault → Type 0
   Told fault = IfSome fault (λ g. (f : ReadFault) × Breaks nodes limits (node_at nodes id) bytes f × (g ≡ behind 0 f))
 
@@ -135,18 +135,18 @@ module _ (nodes : List Node) (formed : is_schema nodes ≡ true) (id : ℕ) (lim
           no_front = told-none (read_fault e) t;
         }
 
--- ---- An answer that is the datum, and one that is a length alone
+-- ---- A result that is the datum, and one that is a length alone
 
 abbrev as_length : ℕ → Result ℕ ReadError
 as_length n = Ok n
 
--- an error is one of any answer
+-- an error is one of any result
 other_answer : (A B : Type 0) (e : ReadError) (P Q : Type 0) → (P → Q) → UnlessOutOfMemory (as_error {A = A} e) P → UnlessOutOfMemory (as_error {A = B} e) Q
 other_answer A B ReadError.OutOfMemory P Q step h = tt
 other_answer A B _ P Q step h = step h
 
 module _ (nodes : List Node) (n : Node) (limits : LimitValues) (bytes : List ℕ) where
-  -- an answer that stands for a datum stands for it in each weaker way
+  -- a result that stands for a datum stands for it in each weaker way
   pub weakened : {R : Type 0} {stands others : R → Value → Type 0} (result : Result (R × ℕ) ReadError) → ((r : R) (v : Value) → stands r v → others r v)
       → BuildsExactly stands nodes n limits bytes result → BuildsExactly others nodes n limits bytes result
   weakened (Ok r) weaker b = record {

@@ -27,7 +27,7 @@ same_bytes v w a b x y s t e =
     let front = number.0 in
     (cc, content.0)
 
--- ---- Values that are told by what they begin
+-- ---- Values that are determined by what they begin
 
 -- no encoding of another datum of the node begins bytes that one of this datum begins
 abbrev pub IsTold : List Node → Node → Value → Type 0
@@ -89,7 +89,7 @@ entries_are nodes n (entry k v es) items h s =
     let parts = and_parts (fits nodes n v) (entries_fit nodes n es) h in
     subst (Each (IsEntryItem nodes n)) (sym s.6) ((k, v, s.0, s.1, s.3, parts.0, s.4, refl), entries_are nodes n es s.2 parts.1 s.5)
 
--- an entry is told by its key and its value
+-- an entry is determined by its key and its value
 pub same_entry : (nodes : List Node) (n : Node) (k l : List ℕ) (v w : Value) (key key' first first' x y : List ℕ) → IsTold nodes n v → fits nodes n w ≡ true
     → SpellsBytes k key → SpellsBytes l key' → Spells v first → Spells w first' → key ++ first ++ x ≡ key' ++ first' ++ y
     → (k ≡ l) × (v ≡ w) × (key ≡ key') × (first ≡ first')
@@ -153,7 +153,7 @@ fields_same nodes (id ∷ ids) (value v vs) (value w ws) items others x y told g
 
 -- ---- Each kind
 
--- the byte of a boolean tells it
+-- the byte of a boolean determines it
 same_boolean : (b d : Bool) (x y : List ℕ) → (if b then 1 else 0) ∷ [] ++ x ≡ (if d then 1 else 0) ∷ [] ++ y → b ≡ d
 same_boolean true true x y e = refl
 same_boolean false false x y e = refl
@@ -181,7 +181,7 @@ told_map nodes id es fs a b x y told h s t e =
 respelled : (v w : Value) (bytes : List ℕ) → v ≡ w → Spells v bytes → Spells w bytes
 respelled v w bytes e s = subst (λ (u : Value). Spells u bytes) e s
 
--- each datum is told by what it begins
+-- each datum is determined by what it begins
 mutual
   pub told : (nodes : List Node) (n : Node) (v : Value) → fits nodes n v ≡ true → IsTold nodes n v
   told nodes n Value.null g w a b x y h s t e =

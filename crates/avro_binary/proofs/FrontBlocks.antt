@@ -1,4 +1,4 @@
--- What stands at the front of bytes that are cut into blocks.
+-- What is at the front of bytes that are cut into blocks.
 use Rattle.std.proofs.Common.{◌≡◌, ℕ, List, [], ◌∷◌, ◌++◌, length, None, refl, sym, ap, ◌∙◌, subst, append_assoc, append-nil, arith}
 use Rattle.std.specs.List.{concat}
 use Rattle.avro_binary.specs.Blocks.{IsInBlocks, no_more, counted, sized}

@@ -1,4 +1,4 @@
--- The heads of blocks: at most one stands at the front of bytes, it has no fault there, and there is one fault at most.
+-- The heads of blocks: at most one is at the front of bytes, it has no fault there, and there is one fault at most.
 use Rattle.std.proofs.Common.{◌≡◌, ◌≢◌, ℕ, zero, suc, ◌+◌, ◌-◌, ◌^◌, ◌<◌, ◌≤◌, ℤ, pos, negsuc, neg_ℤ, nat_abs, ◌<ℤ◌, true, List, [], ◌++◌, length, take, drop, Result, Ok, Err, Option, Some, None, refl, sym, ap, ◌∙◌, subst, arith, rules, tests, append_assoc, add-zero}
 use Rattle.std.proofs.lemmas.Int.{ints}
 use Rattle.std.proofs.lemmas.List.{take-append-drop}
@@ -30,7 +30,7 @@ size-excludes : (n : ℕ) (bytes size rest : List ℕ) (f : ReadFault) → Start
 size-excludes n bytes size rest f s (fails b) = no_long_fault (pos n) bytes size rest f s b
 size-excludes n bytes size rest f s (below m other more t) = let same = head_same (pos n) (negsuc m) bytes size other rest more s t in let clash = same.1 in cc
 
--- the fault of a head behind the count v
+-- the fault of a head after the count v
 data BehindCount (nodes : ℕ) (v : ℤ) (number rest : List ℕ) (f : ReadFault) : Type 0 where
   is_least : v ≡ negsuc (2 ^ 63 - 1) → f ≡ invalid_length 0 → BehindCount nodes v number rest f
   is_over : v ≢ negsuc (2 ^ 63 - 1) → nodes < nat_abs v → f ≡ limit_exceeded → BehindCount nodes v number rest f
@@ -194,7 +194,7 @@ head_answer block = Ok block
 abbrev head_error : ReadError → Result (Option Block) ReadError
 head_error e = Err e
 
--- a head that stands at the front is answered
+-- a head that is at the front is returned
 pub head_found : (before after : CursorValue) (head : Option Head) (block : Option Block) (front : List ℕ) → IsHeadOrEnd before.nodes head front
     → Passes before front after → IsBlockOrEnd before.offset head block → ReadsHead before after (Ok block)
 head_found before after head block front is passes answer = record {
@@ -233,13 +233,13 @@ module _ (nodes : ℕ) (bytes : List ℕ) where
   pub least_count : (v : ℤ) (number rest : List ℕ) → StartsWithLong v bytes number rest → v ≡ negsuc (2 ^ 63 - 1) → HeadBreaks nodes bytes (invalid_length 0)
   least_count v number rest s is = count_least number rest (subst (λ (w : ℤ). StartsWithLong w bytes number rest) is s)
 
-  -- a size below 0, behind a count
+  -- a size below 0, after a count
   pub size_below : (n len : ℕ) (v : ℤ) (size rest : List ℕ) → SpellsLong (negsuc n) (take len bytes) → suc n < 2 ^ 63 → n < nodes
       → StartsWithLong v (drop len bytes) size rest → v <ℤ pos 0 → HeadBreaks nodes bytes (invalid_length (length (take len bytes)))
   size_below n len (negsuc m) size rest s small few starts h = size_negative n m (take len bytes) size (drop len bytes) rest s small few (sym (take-append-drop len bytes)) starts
   size_below n len (pos m) size rest s small few starts h = absurd (omega (arith, ints))
 
-  -- a size that fails, behind a count
+  -- a size that fails, after a count
   pub size_failed : (n len : ℕ) (f : ReadFault) → SpellsLong (negsuc n) (take len bytes) → suc n < 2 ^ 63 → n < nodes → LongBreaks (drop len bytes) f
       → HeadBreaks nodes bytes (behind (length (take len bytes)) f)
   size_failed n len f s small few b =

@@ -55,7 +55,7 @@ key_set-updates before after k updates =
     ∙ (λ i. flip_eq k.now q i || sym (contains-seen before.keys (record { ref_ptr = (0, 0); now = q })) i)
     ∙ sym (set.contains-insert nat_list_cmp_total (key_set (seen_keys before.keys)) k.now q))
 
--- whether the set has a key, as the tree answers
+-- whether the set has a key, as the tree reports
 pub key_set-contains : (before : BTreeSet (Bor (List ℕ))) (k : Bor (List ℕ)) → contains slice_order before k ≡ set.contains (key_set (seen_keys before.keys)) k.now
 key_set-contains before k = sym (contains-seen before.keys k)
 

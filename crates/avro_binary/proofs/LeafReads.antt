@@ -1,4 +1,4 @@
--- What reading a datum without parts answers, from the element that it is.
+-- What reading a datum without parts returns, from the element that it is.
 use Rattle.std.proofs.Common.{◌≡◌, ℕ, suc, ◌<◌, ◌≤◌, ◌^◌, ℤ, Bool, true, List, [], length, get_or, Ok, Err, Option, refl, ap, arith, nat_lt}
 use Rattle.std.specs.Prelude.{◌==◌}
 use Rattle.std.proofs.lemmas.Bool.Decides.{nat_tests}

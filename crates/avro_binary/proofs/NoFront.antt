@@ -107,7 +107,7 @@ record_none W nodes left child ids bytes f ws others rest none b limit h s small
 -- ---- Each kind
 
 module _ (W : Type 0) (nodes : List Node) (left : LimitValues) (child : ChildBreaks) (none : (p : ℕ) → NoneAt W nodes (node_at nodes p) left.depth left.blob (λ c. child c (node_at nodes p))) where
-  -- a datum that stands at the front, within limits if W
+  -- a datum that is at the front, within limits if W
   abbrev Stands : Value → List ℕ → List ℕ → List ℕ → Type 0
   Stands v bytes front rest = Spells v front × (W → IsSmall (suc left.depth) (suc left.nodes) left.blob v) × (bytes ≡ front ++ rest)
 

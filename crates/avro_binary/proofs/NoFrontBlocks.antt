@@ -7,7 +7,7 @@ use Rattle.avro_binary.specs.Breaks.{Left, Head, head_bytes, HeadBreaks, BlocksB
 use Rattle.avro_binary.proofs.BlockViews.{first_head, head-among, first_block}
 use Rattle.avro_binary.proofs.HeadLaws.{head_part}
 
--- a limit behind bytes is a limit
+-- a limit after bytes is a limit
 pub behind_limit : (f fault : ReadFault) (n : ℕ) (W : Type 0) → f ≡ behind n fault → (f ≡ limit_exceeded → W) → fault ≡ limit_exceeded → W
 behind_limit f fault n W moved limit e = limit (moved ∙ ap (behind n) e)
 
@@ -30,7 +30,7 @@ pub record ItemsFollow (W : Type 0) (are_whole : Left → ℕ → List ℕ → L
   pub none : (left : Left) (bytes : List ℕ) (f : ReadFault) (item : List ℕ) (items : List (List ℕ)) (rest : List ℕ) → item_breaks left bytes f
       → (f ≡ limit_exceeded → W) → Follows left (item ∷ items) → bytes ≡ item ++ rest → ⊥
 
--- nothing is left of a block whose items all stand before
+-- nothing is left of a block whose items all come before
 pub nothing_after : (block before after : List (List ℕ)) → block ≡ before ++ after → length before ≡ length block → after ≡ []
 nothing_after block before [] e l = refl
 nothing_after block before (item ∷ after) e l = absurd (omega (arith, ap length e, length-append before (item ∷ after)))

@@ -158,7 +158,7 @@ values_follow W nodes n limits broken none = record {
 
 -- ---- Entries
 
--- entries that follow, no key of which stands before
+-- entries that follow, no key of which occurs before
 pub record EntriesFollow (W : Type 0) (nodes : List Node) (n : Node) (limits : LimitValues) (left : Left) (items : List (List ℕ)) : Type 0 where
   pub entries : Entries
   pub texts : list_all is_text (keys_of entries) ≡ true

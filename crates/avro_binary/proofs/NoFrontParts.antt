@@ -19,7 +19,7 @@ use Rattle.avro_binary.proofs.ElementLaws.{long_count, index_part}
 
 -- ---- A length and its content
 
--- where the length stands, it is that of the content, and the content follows
+-- where the length is there, it is that of the content, and the content follows
 pub content_at : (v : ℤ) (bytes number rest content front x : List ℕ) → StartsWithLong v bytes number rest → SpellsBytes content front → bytes ≡ front ++ x
     → (v ≡ pos (length content)) × (rest ≡ content ++ x)
 content_at v bytes number rest content front x t s e =
@@ -27,7 +27,7 @@ content_at v bytes number rest content front x t s e =
     let same = one_spelling_lem v (pos (length content)) number s.0 rest (content ++ x) t.spelled s.1 joined in
     (same.1, same_behind number s.0 rest (content ++ x) same.0 joined)
 
--- a content within limits that stands at the front is none that breaks
+-- a content within limits that is at the front is none that breaks
 pub content_none : (W : Type 0) (is_content : List ℕ → Bool) (blob : ℕ) (bytes : List ℕ) (f : ReadFault) (content front rest : List ℕ)
     → ContentBreaks is_content blob bytes f → (f ≡ limit_exceeded → W) → (W → length content ≤ blob) → SpellsBytes content front
     → length content < 2 ^ 63 → is_content content ≡ true → bytes ≡ front ++ rest → ⊥
@@ -70,7 +70,7 @@ key_among : (keys : List (List ℕ)) (k : List ℕ) (ks : List (List ℕ)) → l
 key_among [] k ks = or_left (bytes_eq k k) (list_any (bytes_eq k) ks) (same_key k)
 key_among (x ∷ keys) k ks = or_right (bytes_eq k x) (list_any (bytes_eq k) (keys ++ k ∷ ks)) (key_among keys k ks)
 
--- of distinct keys none stands before itself
+-- of distinct keys none occurs before itself
 pub not_before : (keys : List (List ℕ)) (k : List ℕ) (ks : List (List ℕ)) → are_distinct bytes_eq (keys ++ k ∷ ks) ≡ true → list_any (bytes_eq k) keys ≡ true → ⊥
 not_before [] k ks d h = false≢true h
 not_before (x ∷ keys) k ks d h =

@@ -1,4 +1,4 @@
--- What reading a datum of a node answers, from what reading its parts does.
+-- What reading a datum of a node returns, from what reading its parts does.
 use Rattle.std.proofs.Common.{◌≡◌, ◌⊎◌, inl, inr, ℕ, zero, suc, ◌+◌, ◌-◌, ◌^◌, ◌<◌, ◌≤◌, pos, true, List, [], ◌∷◌, ◌++◌, length, take, drop, get_or, Ok, Err, Some, refl, sym, ap, ◌∙◌, subst, append-nil, arith}
 use Rattle.std.specs.Prelude.{slice_get, bytes_eq, String}
 use Rattle.std.specs.List.{concat}
@@ -77,7 +77,7 @@ ArrayDone nodes id start now keys xs = BlocksDone (values_kind nodes (limits_at 
 abbrev pub MapDone : List Node → ℕ → CursorValue → CursorValue → List (List ℕ) → List (List ℕ × Value) → Type 0
 MapDone nodes id start now keys xs = BlocksDone (entries_kind nodes (limits_at start) (node_at nodes id)) start now keys xs
 
--- blocks that no more come behind
+-- blocks that no more come after
 ended : (items : List (List ℕ)) (front end : List ℕ) → ((later : List (List ℕ)) (bytes : List ℕ) → IsInBlocks later bytes → IsInBlocks (items ++ later) (front ++ bytes))
     → SpellsLong (pos 0) end → IsInBlocks items (front ++ end)
 ended items front end ends s = subst (λ (is : List (List ℕ)). IsInBlocks is (front ++ end)) (append-nil items) (ends [] end (no_more s))
@@ -132,7 +132,7 @@ module _ {R : Type 0} {stands : R → Value → Type 0} {start now after : Curso
 
 -- ---- Unions
 
--- where an id stands in a list
+-- where an id is in a list
 pub record IsAt (ids : List ℕ) (k id : ℕ) : Type 0 where
   pub before : List ℕ
   pub after : List ℕ
@@ -248,7 +248,7 @@ null_past [] k h = refl
 null_past (n ∷ nodes) zero h = absurd (omega arith)
 null_past (n ∷ nodes) (suc k) h = null_past nodes k (omega arith)
 
--- values of the fields of some ids were read, one behind another
+-- values of the fields of some ids were read, one after another
 pub record FieldsDone (nodes : List Node) (ids : List ℕ) (start now : CursorValue) (vs : List Value) : Type 0 where
   pub items : List (List ℕ)
   pub fitting : fields_fit nodes ids (values_from vs) ≡ true

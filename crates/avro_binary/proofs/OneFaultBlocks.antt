@@ -47,7 +47,7 @@ compared m n = elim (cases_lt m n) [
 same_head : (h k : Head) → Some h ≡ Some k → h ≡ k
 same_head h k e = cc
 
--- behind a head the same follows
+-- after a head the same follows
 cancelled : (h a b x y bytes : List ℕ) → bytes ≡ h ++ a ++ x → bytes ≡ h ++ b ++ y → a ++ x ≡ b ++ y
 cancelled h a b x y bytes e k = append_cancel_left h (a ++ x) (b ++ y) (sym (append_assoc h a x) ∙ sym e ∙ k ∙ append_assoc h b y)
 
@@ -123,7 +123,7 @@ module _ (are_whole : Left → ℕ → List ℕ → Left → Type 0) (item_break
       let heads = (head_part left.nodes).one (Some b.0) (Some c.0) (head_bytes b.0) (head_bytes c.0) b.1 c.1 (b.2, refl) (c.2, refl) (sym b.3 ∙ c.3) in
       behind_one left c.0 bytes f g (subst (λ (h : Head). BehindHead are_whole item_breaks IsOne left h bytes f) (same_head b.0 c.0 heads.1) b.4) c.4
 
-  -- with what is said of the blocks behind the first
+  -- with what is said of the blocks after the first
   view : (Later : Left → List ℕ → ReadFault → Type 0) (left : Left) (head : Head) (bytes front rest : List ℕ) (f : ReadFault) → IsHead left.nodes head
       → bytes ≡ head_bytes head ++ front ++ rest → BehindHead are_whole item_breaks Later left head bytes f → View Later left bytes f
   view Later left head bytes front rest f is split b = inr (head, front ++ rest, is, split ∙ append_assoc (head_bytes head) front rest, b)

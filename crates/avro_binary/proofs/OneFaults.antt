@@ -22,11 +22,11 @@ use Rattle.avro_binary.proofs.ElementLaws.{int_part, long_part, boolean_part, fi
 
 -- ---- Lists that are one
 
--- what stands behind as many
+-- what is after as many
 same_middle : (a b r s : List ℕ) (x y : ℕ) → a ++ x ∷ r ≡ b ++ y ∷ s → length a ≡ length b → (a ≡ b) × (x ≡ y)
 same_middle a b r s x y e l = let same = same_front a b (x ∷ r) (y ∷ s) l e in let behind = same.1 in (same.0, cc)
 
--- what stands behind fewer stands among more
+-- what is after fewer is among more
 begins : (a b : List ℕ) (x y : ℕ) (r s : List ℕ) → a ++ x ∷ r ≡ b ++ y ∷ s → length a < length b → (between : List ℕ) × (b ≡ a ++ x ∷ between)
 begins a [] x y r s e l = absurd (omega arith)
 begins [] (q ∷ b) x y r s e l = (b, cc)

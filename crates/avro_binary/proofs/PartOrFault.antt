@@ -57,7 +57,7 @@ below_or (suc m) (suc n) = elim (below_or m n) [
 not_below : (m n : ℕ) → n ≤ m → nat_lt m n ≡ false
 not_below m n h = grind (arith, nat_tests)
 
--- an element stands at the front, or its fault does
+-- an element is at the front, or its fault is
 abbrev pub PartOrFault : {A : Type 0} → (A → List ℕ → Type 0) → (List ℕ → ReadFault → Type 0) → List ℕ → Type 0
 PartOrFault {A} IsElement ElementBreaks bytes =
     ((x : A) × (front rest : List ℕ) × IsElement x front × (bytes ≡ front ++ rest)) ⊎ ((f : ReadFault) × ElementBreaks bytes f)
@@ -89,7 +89,7 @@ fixed_or_fault count blob bytes = elim (below_or blob count) [
   ]
 ]
 
--- ---- Content behind its length
+-- ---- Content after its length
 
 module _ (is_content : List ℕ → Bool) (blob : ℕ) (bytes : List ℕ) where
   of_kind : (n : ℕ) (number rest : List ℕ) → StartsWithLong (pos n) bytes number rest → n ≤ blob → n ≤ length rest → (b : Bool) → is_content (take n rest) ≡ b
@@ -167,7 +167,7 @@ negative-least : (n : ℕ) → is_long (negsuc n) ≡ true → n < 2 ^ 63
 negative-least n h = omega (arith, is_long-zigzag (negsuc n) h)
 
 module _ (nodes : ℕ) (bytes : List ℕ) where
-  -- a size behind a count
+  -- a size after a count
   behind_count : (n : ℕ) (number rest : List ℕ) → StartsWithLong (negsuc n) bytes number rest → suc n < 2 ^ 63 → n < nodes → (v : ℤ) (size more : List ℕ) → StartsWithLong v rest size more
       → PartOrFault (IsHeadOrEnd nodes) (HeadBreaks nodes) bytes
   behind_count n number rest s small few (negsuc m) size more t = inr (invalid_length (length number), size_negative n m number size rest more s.spelled small few s.split t)

@@ -224,7 +224,7 @@ size_too_large = size_differs 2 3 (3 ∷ []) (6 ∷ []) (6 ∷ 0x36 ∷ []) (0 �
     })
     refl (λ e. absurd (omega (arith, e)))
 
--- the size is of no account before the items are read
+-- the size does not matter before the items are read
 item_cut_in_a_sized_block : RootBreaks array_of_long (3 ∷ 2 ∷ 6 ∷ 0x80 ∷ []) (end_of_input 3)
 item_cut_in_a_sized_block = item_fails (sized 2 1 (3 ∷ []) (2 ∷ [])) 1 (6 ∷ []) (record { nodes = 1048574; keys = [] })
     (omega arith, omega arith, omega arith, omega arith, spells (negsuc 1) _ refl, spells (pos 1) _ refl)
@@ -270,7 +270,7 @@ item_too_deep = item_fails (counted 1 (2 ∷ [])) 0 [] _ (omega arith, omega ari
     (no_item _)
     (record { rest = 6 ∷ 0 ∷ []; fault = limit_exceeded; split = refl; breaks = refl; moved = refl })
 
--- a map: the key of an entry that stands before, in this block or an earlier one
+-- a map: the key of an entry that occurs before, in this block or an earlier one
 key_twice : RootBreaks map_of_int (4 ∷ 2 ∷ 0x61 ∷ 2 ∷ 2 ∷ 0x61 ∷ 4 ∷ 0 ∷ []) (duplicate_key 4)
 unfolding is_utf8 chars encode
 key_twice = item_fails (counted 2 (4 ∷ [])) 1 (2 ∷ 0x61 ∷ 2 ∷ []) _ (omega arith, omega arith, omega arith, spells (pos 2) _ refl) (omega arith)

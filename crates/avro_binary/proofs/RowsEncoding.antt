@@ -46,7 +46,7 @@ plain_least_long : plain (Value.long (negsuc 9223372036854775807))
     ≡ 0xff ∷ 0xff ∷ 0xff ∷ 0xff ∷ 0xff ∷ 0xff ∷ 0xff ∷ 0xff ∷ 0xff ∷ 1 ∷ []
 plain_least_long = refl
 
--- contents behind their length, but for a fixed
+-- contents after their length, except for a fixed
 plain_string : plain (Value.string (codes "foo")) ≡ 6 ∷ 0x66 ∷ 0x6f ∷ 0x6f ∷ []
 plain_string = refl
 

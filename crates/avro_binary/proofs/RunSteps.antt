@@ -39,13 +39,13 @@ moves-join a b c front more m k = record {
 pub moves-same : (a b : CursorValue) (front same : List ℕ) → front ≡ same → Moves a front b → Moves a same b
 moves-same a b front same e m = subst (λ (f : List ℕ). Moves a f b) e m
 
--- ---- Faults behind bytes
+-- ---- Faults after bytes
 
 pub some_map : {A : Type 0} (o : Option A) (P Q : A → Type 0) → ((x : A) → P x → Q x) → IfSome o P → IfSome o Q
 some_map None P Q f p = p
 some_map (Some x) P Q f p = f x p
 
--- a fault of the bytes behind others is one of those
+-- a fault of the bytes after others is one of those
 pub report_moved : (a b : CursorValue) (front : List ℕ) (e : ReadError) (P Q : List ℕ → ReadFault → Type 0) → Moves a front b
     → ((f : ReadFault) → P b.bytes f → Q a.bytes (behind (length front) f)) → ReportsFault P b e → ReportsFault Q a e
 report_moved a b front e P Q m step reported =
@@ -135,7 +135,7 @@ module _ (nodes : List Node) (limits : LimitValues) (n : Node) where
     keys = refl;
   }
 
-  -- the key of an entry breaks, or its value behind the key
+  -- the key of an entry breaks, or its value after the key
   pub key_report : (a : CursorValue) (keys : List (List ℕ)) (e : ReadError) → limits.blob ≡ a.blob → ReportsFault (KeyBreaks keys a.blob) a e
       → ReportsFault (entry_breaks nodes limits n (left_at a keys)) a e
   key_report a keys e l reported =

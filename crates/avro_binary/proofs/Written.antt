@@ -1,4 +1,4 @@
--- What stands in the output after an array or a map is written.
+-- What is in the output after an array or a map is written.
 use Rattle.std.proofs.Common.{◌≡◌, ℕ, suc, ◌<◌, pos, List, [], ◌∷◌, ◌++◌, length, refl, sym, ap, ◌∙◌, arith}
 use Rattle.std.specs.Prelude.{String}
 use Rattle.std.specs.Global.{Box}

@@ -1,4 +1,4 @@
--- The heads of blocks, and what reading one answers (Avro 1.11, "Binary Encoding", "Complex Types").
+-- The heads of blocks, and what reading one returns (Avro 1.11, "Binary Encoding", "Complex Types").
 use Rattle.std.specs.Prelude.{◌≡◌, ◌≢◌, ℕ, ◌+◌, ℤ, pos, neg_ℤ, Bool, true, false, List, ◌++◌, length, Option, Some, None, Result, IfOk, IsOk, IsOkAnd, OnErr}
 use Rattle.std.specs.Result.{IfErr, MatchResult}
 use Rattle.avro_zigzag.specs.Number.{SpellsLong}
@@ -20,7 +20,7 @@ abbrev pub IsHeadOrEnd : ℕ → Option Head → List ℕ → Type 0
 IsHeadOrEnd nodes (Some head) bytes = IsHead nodes head × (bytes ≡ head_bytes head)
 IsHeadOrEnd nodes None bytes = SpellsLong (pos 0) bytes
 
--- the block is of a head that stands at an offset
+-- the block is of a head that is at an offset
 abbrev pub IsBlock : ℕ → Head → Block → Type 0
 IsBlock offset (counted count count_bytes) block = (block.count ≡ count) × (block.size ≡ None)
 IsBlock offset (sized count size count_bytes size_bytes) block =
@@ -42,7 +42,7 @@ pub record ReadsHead (before after : CursorValue) (result : Result (Option Block
   pub breaks : (f : ReadFault) → HeadBreaks before.nodes before.bytes f → Reports result (behind before.offset f)
   pub unchanged : OnErr result (after ≡ before)
 
--- The end of a block whose head stands at an offset and whose items are a number of bytes: it is refused where its size is
+-- The end of a block whose head is at an offset and whose items are a number of bytes: it is refused where its size is
 -- another.
 abbrev pub EndsBlock : {A : Type 0} → ℕ → Head → ℕ → Result A ReadError → Type 0
 EndsBlock offset (counted count count_bytes) n result = IsOk result

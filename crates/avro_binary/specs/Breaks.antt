@@ -35,7 +35,7 @@ abbrev pub FixedBreaks : ℕ → ℕ → List ℕ → ReadFault → Type 0
 FixedBreaks count blob bytes f =
     ((blob < count) × (f ≡ limit_exceeded)) ⊎ ((count ≤ blob) × (length bytes < count) × (f ≡ end_of_input 0))
 
--- The long v stands at the front, before the rest.
+-- The long v is at the front, before the rest.
 pub record StartsWithLong (v : ℤ) (bytes number rest : List ℕ) : Type 0 where
   pub spelled : SpellsLong v number
   pub in_range : is_long v ≡ true
@@ -82,7 +82,7 @@ pub record BreaksAfter (part_breaks : List ℕ → ReadFault → Type 0) (front 
   pub breaks : part_breaks rest fault
   pub moved : f ≡ behind (length front) fault
 
--- the branch behind its index
+-- the branch after its index
 pub record BranchBreaks (nodes : List Node) (left : LimitValues) (child : ChildBreaks) (ids : List ℕ) (bytes : List ℕ) (f : ReadFault) : Type 0 where
   pub before : List ℕ
   pub branch : ℕ
@@ -107,12 +107,12 @@ pub record FieldsBreak (nodes : List Node) (left : LimitValues) (child : ChildBr
   pub long : values_longest_blob values ≤ left.blob
   pub breaks : BreaksAfter (child (left.nodes - values_size values) (node_at nodes field)) (concat items) bytes f
 
--- what is left for the items that follow: nodes, and the keys that stand before
+-- what is left for the items that follow: nodes, and the keys that occur before
 pub record Left : Type 0 where
   pub nodes : ℕ
   pub keys : List (List ℕ)
 
--- a number of whole items stands as these bytes, and leaves this
+-- a number of whole items is encoded as these bytes, and leaves this
 pub record ItemsAreWhole (nodes : List Node) (limits : LimitValues) (n : Node) (left : Left) (count : ℕ) (bytes : List ℕ) (then_left : Left) : Type 0 where
   pub values : Values
   pub items : List (List ℕ)
@@ -125,7 +125,7 @@ pub record ItemsAreWhole (nodes : List Node) (limits : LimitValues) (n : Node) (
   pub long : values_longest_blob values ≤ limits.blob
   pub leaves : then_left ≡ record { nodes = left.nodes - values_size values; keys = left.keys }
 
--- the same of a map's entries, no key of which stands twice
+-- the same of a map's entries, no key of which occurs twice
 pub record EntriesAreWhole (nodes : List Node) (limits : LimitValues) (n : Node) (left : Left) (count : ℕ) (bytes : List ℕ) (then_left : Left) : Type 0 where
   pub entries : Entries
   pub items : List (List ℕ)
@@ -140,13 +140,13 @@ pub record EntriesAreWhole (nodes : List Node) (limits : LimitValues) (n : Node)
   pub long : entries_longest_blob entries ≤ limits.blob
   pub leaves : then_left ≡ record { nodes = left.nodes - entries_size entries; keys = left.keys ++ keys_of entries }
 
--- a key of a map is a string that doesn't stand before
+-- a key of a map is a string that does not occur before
 pub data KeyBreaks (keys : List (List ℕ)) (blob : ℕ) (bytes : List ℕ) : ReadFault → Type 0 where
   string_breaks : {f : ReadFault} → StringBreaks blob bytes f → KeyBreaks keys blob bytes f
   twice : (key front rest : List ℕ) → SpellsBytes key front → is_text key ≡ true → length key ≤ blob → bytes ≡ front ++ rest
       → list_any (bytes_eq key) keys ≡ true → KeyBreaks keys blob bytes (duplicate_key 0)
 
--- an entry: its key, or its value behind it
+-- an entry: its key, or its value after it
 pub data EntryBreaks (limits : LimitValues) (child : ChildBreaks) (n : Node) (left : Left) (bytes : List ℕ) : ReadFault → Type 0 where
   key_breaks : {f : ReadFault} → KeyBreaks left.keys limits.blob bytes f → EntryBreaks limits child n left bytes f
   value_breaks : {f : ReadFault} (key front : List ℕ) → SpellsBytes key front → is_text key ≡ true → length key ≤ limits.blob

@@ -1,4 +1,4 @@
--- What reading data through a cursor answers: data whose encodings were passed, or a fault of the bytes that are left.
+-- What reading data through a cursor returns: data whose encodings were passed, or a fault of the bytes that are left.
 use Rattle.std.specs.Prelude.{◌≡◌, ℕ, suc, ◌+◌, ◌<◌, ◌≤◌, true, List, ◌++◌, length, Result, IfOk, bytes_eq}
 use Rattle.std.specs.Result.{IfErr}
 use Rattle.std.specs.Option.{IfSome}
@@ -52,7 +52,7 @@ outside c = record c { depth = suc c.depth; nodes = suc c.nodes }
 abbrev pub left_node : CursorValue → CursorValue
 left_node c = record c { depth = suc c.depth }
 
--- what is left at a cursor, behind a number of keys
+-- what is left at a cursor, after a number of keys
 abbrev pub left_at : CursorValue → List (List ℕ) → Left
 left_at c keys = record { nodes = c.nodes; keys = keys }
 
@@ -60,7 +60,7 @@ left_at c keys = record { nodes = c.nodes; keys = keys }
 abbrev pub limits_at : CursorValue → LimitValues
 limits_at c = record { depth = c.depth; nodes = c.nodes; blob = c.blob }
 
--- items of an array, one behind another, as these bytes each, and what is left then
+-- items of an array, one after another, as these bytes each, and what is left then
 pub record ValuesRun (nodes : List Node) (limits : LimitValues) (n : Node) (left : Left) (vs : List Value) (items : List (List ℕ)) (then_left : Left) : Type 0 where
   pub fitting : each_fits nodes n (values_from vs) ≡ true
   pub spelled : EachSpelled (values_from vs) items
@@ -69,7 +69,7 @@ pub record ValuesRun (nodes : List Node) (limits : LimitValues) (n : Node) (left
   pub long : values_longest_blob (values_from vs) ≤ limits.blob
   pub keys : then_left.keys ≡ left.keys
 
--- entries of a map, no key of which stands twice
+-- entries of a map, no key of which occurs twice
 pub record EntriesRun (nodes : List Node) (limits : LimitValues) (n : Node) (left : Left) (es : List (List ℕ × Value)) (items : List (List ℕ)) (then_left : Left) : Type 0 where
   pub texts : list_all is_text (keys_of (entries_from es)) ≡ true
   pub distinct : are_distinct bytes_eq then_left.keys ≡ true
@@ -90,7 +90,7 @@ value_breaks nodes limits n left = child_breaks nodes limits left.nodes n
 abbrev pub entry_breaks : List Node → LimitValues → Node → Left → List ℕ → ReadFault → Type 0
 entry_breaks nodes limits n = EntryBreaks limits (child_breaks nodes limits) n
 
--- The cursor has passed items, or entries, one behind another.
+-- The cursor has passed items, or entries, one after another.
 pub record FindsRun {E : Type 0} (run : Left → List E → List (List ℕ) → Left → Type 0) (before after : CursorValue) (keys keys_after : List (List ℕ)) (xs : List E) : Type 0 where
   pub items : List (List ℕ)
   pub stand : run (left_at before keys) xs items (left_at after keys_after)

@@ -1,4 +1,4 @@
--- The elements of encodings, the bytes that each stands as, and what reading one answers (Avro 1.11, "Binary Encoding").
+-- The elements of encodings, the bytes of each, and what reading one returns (Avro 1.11, "Binary Encoding").
 use Rattle.std.specs.Prelude.{◌≡◌, ℕ, ◌+◌, ◌^◌, ◌<◌, ◌≤◌, ℤ, pos, Bool, true, false, List, [], ◌∷◌, ◌++◌, length, bytes_eq, if◌then◌else◌, Result, IfOk, IsOkAnd, OnErr, Some}
 use Rattle.std.specs.Result.{IfErr}
 use Rattle.std.specs.Option.{IfSome}
@@ -23,7 +23,7 @@ IsInt v bytes = (is_int v ≡ true) × SpellsInt v bytes
 abbrev pub IsLong : ℤ → List ℕ → Type 0
 IsLong v bytes = (is_long v ≡ true) × SpellsLong v bytes
 
--- content of some kind, of a length within a limit, behind that length
+-- content of some kind, of a length within a limit, after that length
 pub record IsContent (is_content : List ℕ → Bool) (blob : ℕ) (content bytes : List ℕ) : Type 0 where
   pub right : is_content content ≡ true
   pub countable : length content < 2 ^ 63
@@ -44,19 +44,19 @@ IsFixed count blob content bytes = (bytes ≡ content) × (length content ≡ co
 abbrev pub IsIndex : ℕ → ℕ → List ℕ → Type 0
 IsIndex choices n bytes = (n < choices) × IsInt (pos n) bytes
 
--- a key of a map, behind others
+-- a key of a map, after others
 abbrev pub IsKey : List (List ℕ) → ℕ → List ℕ → List ℕ → Type 0
 IsKey keys blob key bytes = IsString blob key bytes × (list_any (bytes_eq key) keys ≡ false)
 
--- what is answered is an element that stands at the front, and the cursor is behind it
+-- what is returned is an element that is at the front, and the cursor is after it
 abbrev pub Finds : {A R : Type 0} → (R → A) → (A → List ℕ → Type 0) → CursorValue → CursorValue → R → Type 0
 Finds seen IsElement before after r = (front : List ℕ) × IsElement (seen r) front × Passes before front after
 
--- the error reports the fault of the element that should stand at the front
+-- the error reports the fault of the element that should be at the front
 abbrev pub Refuses : (List ℕ → ReadFault → Type 0) → CursorValue → ReadError → Type 0
 Refuses ElementBreaks before e = (f : ReadFault) × ElementBreaks before.bytes f × (read_fault e ≡ Some (behind before.offset f))
 
--- A call that reads an element: `seen` is what contracts see of an answer. It answers exactly an element that stands at
+-- A call that reads an element: `seen` is what contracts see of a result. It returns exactly an element that is at
 -- the front, and refuses exactly by the fault of one; a refusal leaves the cursor as it was.
 pub record ReadsElement {A R : Type 0} (seen : R → A) (IsElement : A → List ℕ → Type 0) (ElementBreaks : List ℕ → ReadFault → Type 0) (before after : CursorValue) (result : Result R ReadError) : Type 0 where
   pub found : IfOk result (Finds seen IsElement before after)
@@ -66,7 +66,7 @@ pub record ReadsElement {A R : Type 0} (seen : R → A) (IsElement : A → List 
   pub breaks : (f : ReadFault) → ElementBreaks before.bytes f → Reports result (behind before.offset f)
   pub unchanged : OnErr result (after ≡ before)
 
--- a content stands at the front behind its length, and the two have a number of bytes together
+-- a content is at the front after its length, and the two have a number of bytes together
 pub record ContentStands (blob : ℕ) (bytes content : List ℕ) (len : ℕ) : Type 0 where
   pub number : List ℕ
   pub rest : List ℕ
@@ -76,7 +76,7 @@ pub record ContentStands (blob : ℕ) (bytes content : List ℕ) (len : ℕ) : T
   pub split : bytes ≡ number ++ content ++ rest
   pub both : len ≡ length number + length content
 
--- A call that reads a key behind others, which are a set. It may run out of memory; the rest is as for an element, and a
+-- A call that reads a key after others, which are a set. It may run out of memory; the rest is as for an element, and a
 -- key that is read is one of the set.
 pub record ReadsKey {R : Type 0} (seen : R → List ℕ) (keys : List (List ℕ)) (before after : CursorValue) (set_before set_after : KeySet) (result : Result R ReadError) : Type 0 where
   pub found : IfOk result (Finds seen (IsKey keys before.blob) before after)

@@ -1,4 +1,4 @@
--- What encoding a datum answers, and what it leaves in its output.
+-- What encoding a datum returns, and what it leaves in its output.
 use Rattle.std.specs.Prelude.{◌≡◌, true, false, ℕ, List, ◌++◌, Result, Err, ◌⊎◌, OnOk, OnErr}
 use Rattle.avro_schema.specs.Value.{Value}
 use Rattle.avro_schema.specs.Node.{Node}
@@ -7,9 +7,9 @@ use Rattle.avro_binary.specs.Encoding.{plain}
 use Rattle.avro_binary.specs.declared.encode_error.EncodeError.{EncodeError}
 use Rattle.avro_binary.specs.declared.encode_error.EncodeError.TheVariants.{DoesNotFit, OutOfMemory}
 
--- The output before and after, and the answer.
+-- The output before and after, and the result.
 pub record IsEncoded {A : Type 0} (nodes : List Node) (n : Node) (v : Value) (old new : List ℕ) (result : Result A EncodeError) : Type 0 where
-  -- the plain encoding of a datum that fits stands behind what was there
+  -- the plain encoding of a datum that fits comes after what was there
   pub appended : OnOk result (new ≡ old ++ plain v)
   pub fitting : OnOk result (fits nodes n v ≡ true)
   -- a datum that doesn't fit is refused for that, unless memory ran out, and no other is

@@ -18,12 +18,12 @@ pub data ReadFault : Type 0 where
   invalid_length : (place : ℕ) → ReadFault
   -- the size of a block is not that of its items
   wrong_block_size : (place : ℕ) → ReadFault
-  -- a key stands twice in one map; the place is that of the second key's length
+  -- a key occurs twice in one map; the place is that of the second key's length
   duplicate_key : (place : ℕ) → ReadFault
   -- a limit is passed
   limit_exceeded : ReadFault
 
--- the same fault, of bytes behind a number of others
+-- the same fault, of bytes after a number of others
 abbrev pub behind : ℕ → ReadFault → ReadFault
 behind n (end_of_input place) = end_of_input (n + place)
 behind n (invalid_number place) = invalid_number (n + place)

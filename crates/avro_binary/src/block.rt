@@ -12,9 +12,9 @@ pub struct Block {
 #[derive(Clone, Copy, Debug)]
 pub(crate) struct BlockSize {
     pub(crate) bytes: u64,
-    /// Where the size stands.
+    /// The offset of the size.
     pub(crate) offset: usize,
-    /// Where the items begin.
+    /// The offset of the items.
     pub(crate) items: usize,
 }
 

@@ -6,22 +6,23 @@ ghost use Rattle.avro_schema.specs.Value.{Value};
 use avro_schema::Datum;
 use std::alloc::{AllocError, Global};
 
-/// What is built of a datum that is read: one call for each kind of datum, and calls for the items of an array and the
-/// entries of a map (Avro 1.11, "Binary Encoding").
+/// What is built from a datum that is read: one call for each kind of datum, and calls for the
+/// items of an array and the entries of a map (Avro 1.11, "Binary Encoding").
 ///
-/// A call fails only where memory runs out. Its law is its contract: where its arguments stand for their parts, its answer
-/// stands for the whole. What an answer stands for is said of the answer alone, so a builder may keep what it likes.
+/// A call fails only where memory runs out. Its law is its contract: where its arguments stand for
+/// their parts, its result stands for the whole. What a result stands for depends on the result
+/// alone, so a builder may keep what it likes.
 pub trait Build {
-    /// What is built of a datum.
+    /// What is built from a datum.
     type Out: Drop;
 
-    /// What is built of the items of an array, so far.
+    /// What is built from the items of an array, so far.
     type Items: Drop;
 
-    /// What is built of the entries of a map, so far.
+    /// What is built from the entries of a map, so far.
     type Entries: Drop;
 
-    /// Which datum an answer stands for.
+    /// Which datum a result stands for.
     ghost stands_for: { Self.Out → Value → Type 0 };
 
     /// Which data some items stand for.
@@ -58,11 +59,11 @@ pub trait Build {
     fn fixed(&mut self, alloc: Global, content: &[u8]) -> Result<Self::Out, AllocError>
         ensures { IfOk result (λ out. stands_for out (Value.fixed content.now)) };
 
-    /// Builds an enum, of the index of its symbol.
+    /// Builds an enum from the index of its symbol.
     fn symbol(&mut self, alloc: Global, index: u32) -> Result<Self::Out, AllocError>
         ensures { IfOk result (λ out. stands_for out (Value.enum index)) };
 
-    /// Builds a union, of the index of its branch and what was built of its value.
+    /// Builds a union from the index of its branch and what was built from its value.
     fn branch(
         &mut self,
         alloc: Global,
@@ -71,7 +72,7 @@ pub trait Build {
     ) -> Result<Self::Out, AllocError>
         ensures { (v : Value) → stands_for value v → IfOk result (λ out. stands_for out (Value.union index v)) };
 
-    /// Builds a record, of what was built of the values of its fields, in order.
+    /// Builds a record from what was built from the values of its fields, in order.
     fn fields(&mut self, alloc: Global, values: Vec<Self::Out>) -> Result<Self::Out, AllocError>
         ensures { (vs : List Value) → AllZip stands_for values.items vs → IfOk result (λ out. stands_for out (Value.record_of (values_from vs))) };
 
@@ -79,7 +80,7 @@ pub trait Build {
     fn items(&mut self, alloc: Global) -> Result<Self::Items, AllocError>
         ensures { IfOk result (λ items. items_stand_for items []) };
 
-    /// Adds an item behind those before.
+    /// Adds an item after those before.
     fn item(
         &mut self,
         alloc: Global,
@@ -88,7 +89,7 @@ pub trait Build {
     ) -> Result<(), AllocError>
         ensures { (vs : List Value) (v : Value) → items_stand_for items.old vs → stands_for value v → OnOk result (items_stand_for items.new (vs ++ v ∷ [])) };
 
-    /// Builds an array, of its items.
+    /// Builds an array from its items.
     fn array(&mut self, alloc: Global, items: Self::Items) -> Result<Self::Out, AllocError>
         ensures { (vs : List Value) → items_stand_for items vs → IfOk result (λ out. stands_for out (Value.array (values_from vs))) };
 
@@ -96,7 +97,7 @@ pub trait Build {
     fn entries(&mut self, alloc: Global) -> Result<Self::Entries, AllocError>
         ensures { IfOk result (λ entries. entries_stand_for entries []) };
 
-    /// Adds an entry behind those before.
+    /// Adds an entry after those before.
     fn entry(
         &mut self,
         alloc: Global,
@@ -106,7 +107,7 @@ pub trait Build {
     ) -> Result<(), AllocError>
         ensures { (es : List (List ℕ × Value)) (v : Value) → entries_stand_for entries.old es → stands_for value v → OnOk result (entries_stand_for entries.new (es ++ (key.now, v) ∷ [])) };
 
-    /// Builds a map, of its entries.
+    /// Builds a map from its entries.
     fn map(&mut self, alloc: Global, entries: Self::Entries) -> Result<Self::Out, AllocError>
         ensures { (es : List (List ℕ × Value)) → entries_stand_for entries es → IfOk result (λ out. stands_for out (Value.map_of (entries_from es))) };
 

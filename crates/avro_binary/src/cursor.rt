@@ -13,10 +13,10 @@ use avro_schema::Limits;
 use avro_zigzag::VarError;
 use std::marker::Model;
 
-/// An offset in bytes, and what is left of the limits there. Each call reads one element, and answers
-/// slices of the bytes.
+/// An offset in bytes, and what is left of the limits there. Each call reads one element, and
+/// returns slices of the bytes.
 ///
-/// A call that answers an error leaves the cursor where it was.
+/// A call that returns an error leaves the cursor where it was.
 #[derive(Drop)]
 pub struct Cursor<'a> {
     rest: &'a [u8],
@@ -75,7 +75,7 @@ impl<'a> Cursor<'a> {
         self.rest
     }
 
-    /// Passes a number of bytes, and answers them.
+    /// Skips a number of bytes, and returns them.
     #[inline(always)]
     fn pass(&mut self, count: usize) -> &'a [u8]
         requires { count ≤ length self.old.bytes }
@@ -87,7 +87,7 @@ impl<'a> Cursor<'a> {
         front
     }
 
-    /// The offset behind a number of the bytes that are left.
+    /// The offset after a number of the bytes that are left.
     #[inline(always)]
     fn offset_behind(&self, count: usize) -> usize
         requires { count ≤ length self.now.bytes }
@@ -144,7 +144,7 @@ impl<'a> Cursor<'a> {
     }
 }
 
-/// The error of a number that should stand at an offset.
+/// The error of a number that should be at an offset.
 fn number_error(error: VarError, offset: usize) -> ReadError
     ensures { read_fault result ≡ Some (behind offset (number_fault error)) }
 {

@@ -36,7 +36,7 @@ impl<'a> Keys<'a> {
         }
     }
 
-    /// Adds a key, and answers whether it is new.
+    /// Adds a key, and returns whether it is new.
     ///
     /// # Errors
     ///

@@ -133,7 +133,7 @@ pub(crate) fn read_fixed<M: Make>(
     Ok(maker.fixed(alloc, at, content)?)
 }
 
-/// Keeps nothing of a content: the type of its parameter is what says that each byte is below 256.
+/// Keeps nothing of the content: the type of its parameter says that each byte is below 256.
 #[inline(always)]
 fn drop_content(_content: &[u8])
     ensures { (i : ℕ) → slice_index _content.now i < 2 ^ 8 }

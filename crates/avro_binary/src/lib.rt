@@ -1,13 +1,13 @@
 //! The binary encoding of data (Avro 1.11, "Binary Encoding").
 //!
-//! [`decode`] reads a datum of any kind from the front of bytes, whatever follows it. It accepts the
-//! valid encodings of data within limits and nothing else, and answers the first fault of other bytes
-//! with its offset. [`walk`] answers the same length or fault, and makes no datum. [`encode`] appends
-//! the plain encoding of a datum.
+//! [`decode`] reads a datum of any kind from the front of bytes, whatever follows it. It accepts
+//! the valid encodings of data within limits and nothing else, and returns the first fault of
+//! other bytes with its offset. [`walk`] returns the same length or fault, and makes no datum.
+//! [`encode`] appends the plain encoding of a datum.
 //!
-//! Both go over a [`Cursor`], which reads one element a call, in place. A count or a length makes no
-//! room before its bytes are there: items and entries are kept one by one, and contents are copied
-//! once.
+//! Both go over a [`Cursor`], which reads one element a call, in place. A count or a length
+//! reserves no memory before its bytes are there: items and entries are kept one by one, and
+//! contents are copied once.
 #![tactic(auto)]
 
 mod block;

@@ -7,30 +7,31 @@ ghost use Rattle.avro_schema.specs.Value.{Value};
 
 use std::alloc::{AllocError, Global};
 
-/// What is made of a datum of a node that is read, and of each of its parts, where the maker says what each part is for.
+/// What is made from a datum of a node that is read, and from each of its parts, where the maker
+/// says what each part is for.
 ///
-/// A call fails only where memory runs out. What an answer stands for is said at the maker as it then is; it stays so at
-/// every later one that keeps it.
+/// A call fails only where memory runs out. What a result stands for is said for the maker as it
+/// then is; it stays so for every later one that keeps it.
 pub trait Make {
     /// What a part is for.
     type At: Copy;
 
-    /// What is made of a datum.
+    /// What is made from a datum.
     type Out: Drop;
 
-    /// What is made of the items of an array, so far.
+    /// What is made from the items of an array, so far.
     type Items: Drop;
 
-    /// What is made of the entries of a map, so far.
+    /// What is made from the entries of a map, so far.
     type Entries: Drop;
 
-    /// What is made of the fields of a record, so far.
+    /// What is made from the fields of a record, so far.
     type Fields: Drop;
 
     /// Which later makers keep what one has made.
     ghost keeps: { Self → Self → Type 0 };
 
-    /// Which datum of a node an answer stands for, by what it is for.
+    /// Which datum of a node a result stands for, by what it is for.
     ghost stands_for: { Self → List Node → Node → Self.At → Self.Out → Value → Type 0 };
 
     /// Which data the items of an array stand for, by the id of their node and what the array is for.
@@ -99,7 +100,7 @@ pub trait Make {
         ensures kept { OnOk result (keeps self.old self.new) }
         ensures stands { (nodes : List Node) (name : Name) (aliases : List Name) (size : ℕ) → IfOk result (λ out. stands_for self.new nodes (Node.fixed name aliases size) at out (Value.fixed content.now)) };
 
-    /// Makes an enum, of the index of its symbol.
+    /// Makes an enum from the index of its symbol.
     fn symbol(&mut self, alloc: Global, at: Self::At, index: u32) -> Result<Self::Out, AllocError>
         ensures kept { OnOk result (keeps self.old self.new) }
         ensures stands { (nodes : List Node) (name : Name) (aliases : List Name) (texts : List (List ℕ)) (default : Option ℕ) → index < length texts → IfOk result (λ out. stands_for self.new nodes (Node.enum name aliases texts default) at out (Value.enum index)) };
@@ -108,7 +109,7 @@ pub trait Make {
     fn branch_at(&self, at: Self::At, branch: u32) -> Self::At
         ensures { result ≡ branch_at self.now at branch };
 
-    /// Makes a union, of the index of its branch and what was made of its value.
+    /// Makes a union from the index of its branch and what was made from its value.
     fn branch(
         &mut self,
         alloc: Global,
@@ -130,7 +131,7 @@ pub trait Make {
     fn item_at(&self, items: &Self::Items) -> Self::At
         ensures { result ≡ item_at self.now items.now };
 
-    /// Adds an item behind those before.
+    /// Adds an item after those before.
     fn item(
         &mut self,
         alloc: Global,
@@ -142,7 +143,7 @@ pub trait Make {
             → stands_for self.old nodes (node_at nodes id) (item_at self.old items.old) value v
             → OnOk result (items_stand_for self.new nodes id at items.new (vs ++ v ∷ [])) };
 
-    /// Makes an array, of its items.
+    /// Makes an array from its items.
     fn array(&mut self, alloc: Global, items: Self::Items) -> Result<Self::Out, AllocError>
         ensures kept { OnOk result (keeps self.old self.new) }
         ensures stands { (nodes : List Node) (id : ℕ) (at : Self.At) (vs : List Value) → items_stand_for self.old nodes id at items vs
@@ -157,7 +158,7 @@ pub trait Make {
     fn entry_at(&self, entries: &Self::Entries) -> Self::At
         ensures { result ≡ entry_at self.now entries.now };
 
-    /// Adds an entry behind those before.
+    /// Adds an entry after those before.
     fn entry(
         &mut self,
         alloc: Global,
@@ -170,7 +171,7 @@ pub trait Make {
             → stands_for self.old nodes (node_at nodes id) (entry_at self.old entries.old) value v
             → OnOk result (entries_stand_for self.new nodes id at entries.new (es ++ (key.now, v) ∷ [])) };
 
-    /// Makes a map, of its entries.
+    /// Makes a map from its entries.
     fn map(&mut self, alloc: Global, entries: Self::Entries) -> Result<Self::Out, AllocError>
         ensures kept { OnOk result (keeps self.old self.new) }
         ensures stands { (nodes : List Node) (id : ℕ) (at : Self.At) (es : List (List ℕ × Value)) → entries_stand_for self.old nodes id at entries es
@@ -185,7 +186,7 @@ pub trait Make {
     fn field_at(&self, fields: &Self::Fields) -> Self::At
         ensures { result ≡ field_at self.now fields.now };
 
-    /// Adds the value of the next field behind those before.
+    /// Adds the value of the next field after those before.
     fn field(
         &mut self,
         alloc: Global,
@@ -197,7 +198,7 @@ pub trait Make {
             → slice_get (field_ids fs) (length vs) ≡ Some id → stands_for self.old nodes (node_at nodes id) (field_at self.old fields.old) value v
             → OnOk result (fields_stand_for self.new nodes fs at fields.new (vs ++ v ∷ [])) };
 
-    /// Makes a record, of the values of its fields.
+    /// Makes a record from the values of its fields.
     fn record(&mut self, alloc: Global, fields: Self::Fields) -> Result<Self::Out, AllocError>
         ensures kept { OnOk result (keeps self.old self.new) }
         ensures stands { (nodes : List Node) (name : Name) (aliases : List Name) (fs : List FieldNode) (at : Self.At) (vs : List Value) → fields_stand_for self.old nodes fs at fields vs
@@ -206,7 +207,7 @@ pub trait Make {
     /// A maker keeps what it has made.
     ghost keeps_itself: { (s : Self) → keeps s s };
 
-    /// What is kept is kept on.
+    /// What is kept stays kept.
     ghost keeps_on: { (s t u : Self) → keeps s t → keeps t u → keeps s u };
 
     /// Items stand for the same data at a later maker.

@@ -3,7 +3,7 @@ use crate::make::Make;
 use avro_schema::Datum;
 use std::alloc::{AllocError, Global};
 
-/// Builds nothing: its answer stands for any datum.
+/// Builds nothing: its result stands for any datum.
 #[derive(Clone, Copy, Drop)]
 pub struct Nothing;
 

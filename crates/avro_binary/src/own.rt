@@ -2,7 +2,7 @@ use crate::build::Build;
 use crate::make::Make;
 use std::alloc::{AllocError, Global};
 
-/// Makes of each part what a builder builds of it.
+/// Makes from each part what a builder builds from it.
 #[derive(Drop)]
 pub struct Own<'b, B> {
     builder: &'b mut B,

@@ -14,8 +14,8 @@ use crate::tree::Tree;
 use avro_schema::{Datum, Limits, NodeId, Schema};
 use std::alloc::Global;
 
-/// Reads a datum of a node of the schema from the front of bytes, and answers it with the length of
-/// its encoding.
+/// Reads a datum of a node of the schema from the front of bytes, and returns it with the length
+/// of its encoding.
 ///
 /// # Errors
 ///
@@ -34,8 +34,9 @@ pub fn decode(
     read_node(alloc, schema, node, bytes, limits, &mut tree)
 }
 
-/// Reads a datum of the root of the schema from the front of bytes by a builder, and answers what was
-/// built with the length of its encoding. What was built stands for the datum that [`decode`] reads.
+/// Reads a datum of the root of the schema from the front of bytes by a builder, and returns what
+/// was built with the length of its encoding. What was built stands for the datum that [`decode`]
+/// reads.
 ///
 /// # Errors
 ///
@@ -67,9 +68,9 @@ pub(crate) fn read_node<B: Build>(
     read_made(alloc, schema, node, bytes, limits, &mut maker, ())
 }
 
-/// Reads a datum of a node of the schema from the front of bytes by a maker, by what the datum is for, and
-/// answers what was made with the length of its encoding. What was made stands, at the maker as it then is,
-/// for the datum that [`decode`] reads.
+/// Reads a datum of a node of the schema from the front of bytes by a maker, by what the datum is
+/// for, and returns what was made with the length of its encoding. What was made stands, at the
+/// maker as it then is, for the datum that [`decode`] reads.
 ///
 /// # Errors
 ///

@@ -75,7 +75,7 @@ fn read_array<M: Make>(
     Ok(out)
 }
 
-/// Reads the blocks of an array. A count makes no room: items are kept one by one.
+/// Reads the blocks of an array. A count reserves no memory: items are kept one by one.
 #[cycle(reading)]
 #[inline(always)]
 fn read_item_blocks<M: Make>(

@@ -10,8 +10,8 @@ use crate::reading::read_at;
 use avro_schema::{Limits, NodeId, Schema};
 use std::alloc::Global;
 
-/// Walks over the encoding of a datum of a node of the schema at the front of bytes, and answers its
-/// length. It takes memory for the keys of maps alone.
+/// Walks over the encoding of a datum of a node of the schema at the front of bytes, and returns
+/// its length. It takes memory only for the keys of maps.
 ///
 /// # Errors
 ///

@@ -6,7 +6,7 @@ use avro_schema_json::read_schema;
 use std::alloc::{AllocError, Global};
 use std::test::Fail;
 
-/// Whether each reader answers the same of these bytes, under limits, as its builder does.
+/// Whether each reader returns the same for these bytes, under limits, as its builder does.
 fn agree(alloc: Global, text: &str, bytes: &[u8], limits: &Limits) -> Result<bool, Fail> {
     let schema = read_schema(alloc, text.as_bytes())?;
     let decoded = decode(alloc, &schema, schema.root(), bytes, limits);

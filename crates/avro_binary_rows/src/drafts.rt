@@ -26,7 +26,7 @@ enum Shape {
     Fixed(&'static str, u32),
 }
 
-/// Texts of one's own.
+/// Owned texts.
 fn owned(alloc: Global, words: &[&str]) -> Result<Vec<String>, AllocError> {
     let mut list = Vec::new(alloc);
     for word in words {

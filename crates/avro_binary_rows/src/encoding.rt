@@ -6,7 +6,7 @@ use avro_schema_json::read_schema;
 use std::alloc::Global;
 use std::test::Fail;
 
-/// What stands in the output before a datum is encoded.
+/// What is in the output before a datum is encoded.
 const BEFORE: [u8; 2] = [0xaa, 0xbb];
 
 const BYTES: &str = "\"bytes\"";
@@ -30,7 +30,7 @@ const RECORD: &str =
 
 const EMPTY: &str = "{\"type\":\"record\",\"name\":\"R\",\"fields\":[]}";
 
-/// Whether a datum of the root is encoded as these bytes, behind what stood in the output.
+/// Whether a datum of the root is encoded as these bytes, after what was in the output.
 fn is_encoded(alloc: Global, schema: &Schema, datum: &Datum, plain: &[u8]) -> Result<bool, Fail> {
     let mut out = Vec::from_slice(alloc, &BEFORE)?;
     encode(alloc, schema, schema.root(), datum, &mut out)?;

@@ -1,4 +1,4 @@
-//! Numbers whose last groups are 0: they are read at each place.
+//! Numbers whose last groups are 0: they are read wherever a number may be.
 
 use crate::reading::Row;
 

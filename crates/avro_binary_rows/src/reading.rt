@@ -1,4 +1,4 @@
-//! What `decode` and `walk` answer of some bytes.
+//! What `decode` and `walk` return for some bytes.
 
 use crate::padded_numbers::{COUNTS, KEYS};
 use avro_binary::{decode, walk};
@@ -9,7 +9,7 @@ use std::alloc::Global;
 use std::test::Fail;
 
 /// A schema's text, bytes, what is to be decoded of them, and what is to be walked: a datum's display and
-/// its length, the length alone, or the error's code and place.
+/// its length, the length alone, or the error's code and offset.
 pub(crate) type Row = (&'static str, &'static [u8], &'static str, &'static str);
 
 const STRING: &str = "\"string\"";
@@ -38,7 +38,7 @@ const EMPTY: &str = "{\"type\":\"record\",\"name\":\"R\",\"fields\":[]}";
 const LIST: &str =
     "{\"type\":\"record\",\"name\":\"Node\",\"fields\":[{\"name\":\"value\",\"type\":\"int\"},{\"name\":\"next\",\"type\":[\"null\",\"Node\"]}]}";
 
-/// What the two readers answer: the datum's display and length, or the refusal, of both.
+/// What the two readers return: the datum's display and length, or the refusal, of both.
 fn answers(
     alloc: Global,
     schema: &Schema,
@@ -60,7 +60,7 @@ fn answers(
     Ok((decoded, walked))
 }
 
-/// What is decoded of the first row, if any, that the two readers answer otherwise.
+/// What is decoded of the first row, if any, for which the two readers return something else.
 fn wrong_row(alloc: Global, limits: &Limits, rows: &[Row]) -> Result<Option<String>, Fail> {
     for (text, bytes, decoded, walked) in rows {
         let schema = read_schema(alloc, text.as_bytes())?;
@@ -120,7 +120,7 @@ const ARRAYS: [Row; 16] = [
     ),
     (NULLS, b"\x80\x80\x80\x01\x00", "B9", "B9"),
     (NULLS, b"\xfe\xff\x7f\x02\x00", "B9", "B9"),
-    // A count of 1,048,575 items and a length of 16,777,216 bytes, with one byte behind each.
+    // A count of 1,048,575 items and a length of 16,777,216 bytes, with one byte after each.
     (INTS, b"\xfe\xff\x7f\x02", "B1 at 4", "B1 at 4"),
     (STRING, b"\x80\x80\x80\x10a", "B1 at 4", "B1 at 4"),
     (BYTES, b"\x80\x80\x80\x10a", "B1 at 4", "B1 at 4"),

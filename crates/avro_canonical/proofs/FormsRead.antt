@@ -21,7 +21,7 @@ texts_given (text ∷ texts) = rw (texts_given texts) refl
 fresh_name : (written : List Name) (known : Known) (name : Name) → IsKnown written known → is_among name written ≡ false → name_faults name known ≡ []
 fresh_name written known name is new = rw (is name, new) refl
 
--- what a part makes, and what is read behind it
+-- what a part makes, and what is read after it
 next_made : (first : Made ℕ) (f : Form) (fs : Forms) (known : Known) (next : ℕ) (rest : Known → ℕ → Made (List ℕ)) → first ≡ made known next f
     → rest (known_after known next f) (next + nodes_in f) ≡ made_all (known_after known next f) (next + nodes_in f) fs
     → followed_by first (λ it. rest it.known (next + length it.nodes)) ≡ made_all known next (form f fs)

@@ -13,7 +13,7 @@ use Rattle.avro_canonical.proofs.Words.{some-is}
 use Rattle.avro_canonical.proofs.OneNamed.{name_is}
 use Rattle.avro_canonical.proofs.LaidRead.{IsKnown, known_more, known_then, laid_count, id_is}
 
--- some nodes stand in a list from an id on, and others behind them
+-- some nodes are in a list from an id on, and others after them
 abbrev pub Stand : List Node → ℕ → List Node → List Node → Type 0
 Stand nodes next ns others = drop next nodes ≡ ns ++ others
 
@@ -38,7 +38,7 @@ stand_behind nodes p (x ∷ xs) rest e =
     let at : p + suc (length xs) ≡ suc p + length xs = omega arith in
     ap (λ k. drop k nodes) at ∙ stand_behind nodes (suc p) xs rest (stand_first nodes p x (xs ++ rest) e).1
 
--- nodes of a part, and of those behind it
+-- nodes of a part, and of those after it
 pub stand_cut : (nodes : List Node) (next : ℕ) (xs ys others : List Node) (n : ℕ) → length xs ≡ n → Stand nodes next (xs ++ ys) others
     → Stand nodes next xs (ys ++ others) × Stand nodes (next + n) ys others
 stand_cut nodes next xs ys others n count e =

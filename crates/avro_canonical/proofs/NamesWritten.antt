@@ -66,7 +66,7 @@ found-name : (name : Name) (o : Option Node) → node_name (unwrap_or o Node.nul
 found-name name None h = absurd (none-some name h)
 found-name name (Some n) h = ap (λ it. Some it) h
 
--- a type stands in the list
+-- a type is in the list
 pub named-at : (nodes : List Node) (p : ℕ) (name : Name) → node_name (node_at nodes p) ≡ Some name → slice_get (map node_name nodes) p ≡ Some (Some name)
 named-at nodes p name h = slice_get-map node_name nodes p ∙ found-name name (slice_get nodes p) h
 
@@ -80,7 +80,7 @@ marks-apart name written (Some other ∷ os) apart =
     let later = or-right (same_name name other) (list_any (same_name name) (filter_map (λ o. o) os)) apart in
     rw (named_or name written other this) (ap (λ marks. is_among other written ∷ marks) (marks-apart name written os later))
 
--- a name that stands at an index is another than one that is apart from all
+-- a name that is at an index is another than one that is apart from all
 pub apart-at : (name : Name) (os : List (Option Name)) (p : ℕ) (other : Name) → list_any (same_name name) (filter_map (λ o. o) os) ≡ false
     → slice_get os p ≡ Some (Some other) → same_name name other ≡ false
 apart-at name [] p other apart at = absurd (no_none (sym at))

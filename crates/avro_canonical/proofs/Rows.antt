@@ -41,7 +41,7 @@ sixteen_bytes : IsCanonical (Node.fixed (named (codes "a") (codes "F")) [] 16 �
 unfolding digits
 sixteen_bytes = record { form = Form.fixed (named (codes "a") (codes "F")) 16; formed = IsForm.fixed refl; spelled = refl }
 
--- a fixed in a map in a union, and an array of it behind that
+-- a fixed in a map in a union, and an array of it after that
 fixed_in_map : IsCanonical
     (Node.union (1 ∷ 2 ∷ 4 ∷ []) ∷ Node.null ∷ Node.map_of 3 ∷ Node.fixed (named [] (codes "F")) [] 0 ∷ Node.array 3 ∷ [])
     (codes "[\"null\",{\"type\":\"map\",\"values\":{\"name\":\"F\",\"type\":\"fixed\",\"size\":0}},{\"type\":\"array\",\"items\":\"F\"}]")

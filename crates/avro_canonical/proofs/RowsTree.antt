@@ -40,7 +40,7 @@ node_list_read : DeclaresSchema (form_tree node_list)
     ∷ Node.map_of 2 ∷ Node.fixed (named (codes "b") (codes "F")) [] 3 ∷ Node.union (4 ∷ 0 ∷ []) ∷ Node.null ∷ [])
 node_list_read = refl
 
--- a fixed of the null namespace may stand beside a record of another, and be named there
+-- a fixed of the null namespace may be beside a record of another, and be named there
 abbrev beside : Form
 beside = Form.union (form (Form.fixed (named [] (codes "F")) 1) (form (Form.record_of (named (codes "a") (codes "R")) no_fields) (form (Form.array (Form.reference (named [] (codes "F")))) no_forms)))
 

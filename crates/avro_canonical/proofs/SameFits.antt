@@ -19,7 +19,7 @@ pub data EachAt {A : Type 0} (P : ℕ → ℕ → Type 0) (seen : A → List ℕ
   none_each : EachAt P seen None None
   each : {x y : A} → Each P (seen x) (seen y) → EachAt P seen (Some x) (Some y)
 
--- Two nodes ask the same of a datum, but for its parts, and their parts are related.
+-- Two nodes ask the same of a datum, except for its parts, and their parts are related.
 pub record Matching (P : ℕ → ℕ → Type 0) (m n : Node) : Type 0 where
   pub null : is_null_node m ≡ is_null_node n
   pub boolean : is_boolean_node m ≡ is_boolean_node n

@@ -46,7 +46,7 @@ by_map f g w same made (of_map {f = other}) r s e =
     let here = same other w made (125 ∷ r) (125 ∷ s) (inside (codes "{\"type\":\"map\",\"values\":") (form_text f) (form_text other) (125 ∷ []) r s (125 ∷ []) e) in
     (ap (λ it. Form.map_of it) here.0, rest-is here.1)
 
--- two definitions: their names, and what is behind these
+-- two definitions: their names, and what follows these
 head_cut : (a b t u x y c d r s : List ℕ) → is_free_of 34 a ≡ true → is_free_of 34 b ≡ true
     → (codes "{\"name\":" ++ quoted a ++ t ++ x ++ c) ++ r ≡ (codes "{\"name\":" ++ quoted b ++ u ++ y ++ d) ++ s
     → (a ≡ b) × (t ++ (x ++ (c ++ r)) ≡ u ++ (y ++ (d ++ s)))

@@ -1,4 +1,4 @@
--- Each step of writing: what is left then, behind the text then, is what was left, behind the text that was.
+-- Each step of writing: what is left then, after the text then, is what was left, after the text that was.
 use Rattle.std.proofs.Common.{subst, arith, zero, suc, ◌≡◌, ◌≤◌, ℕ, List, [], ◌∷◌, ◌++◌, refl, ap, ◌∙◌, sym, true, false, Bool, ◌&&◌, Some, None, map, filter_map, codes, slice_set, slice_get, unwrap_or, length, nat_lt, nat_le}
 use Rattle.std.specs.Prelude.{Result, Ok, Err, OnOk, IsTrue, ◌↔◌, ◌<◌}
 use Rattle.std.proofs.lemmas.Bool.{and_parts, false≢true}
@@ -84,7 +84,7 @@ pub step-end : (nodes : List Node) (marks : List Bool) (ps : List Pending) (old 
 step-end nodes marks ps old written seen =
     (written, seen, λ rest left. (codes "}" ++ rest, passed_end nodes written ps rest left, sym (append_assoc old (codes "}") rest)))
 
--- what is written so far stands before the rest of a canonical text
+-- what is written so far is before the rest of a canonical text
 abbrev pub Begins : List Node → List Bool → List Pending → List ℕ → Type 0
 Begins nodes marks ps text =
     (written : List Name) × (marks ≡ marks_of written nodes) × ((rest : List ℕ) → IsLeft nodes written ps rest → IsCanonical nodes (text ++ rest))

@@ -107,7 +107,7 @@ decimal_free n small =
         let both = and_parts (is_ascii_digit d) (all_ascii_digits ds) h in
         and_from (is_ascii_digit d) (list_all is_ascii_digit ds) both.0 (digits_pass ds both.1)
 
--- what stands between a beginning and what is behind
+-- what is between a beginning and what follows
 pub inside : (front a b c r s d : List ℕ) → (front ++ a ++ c) ++ r ≡ (front ++ b ++ d) ++ s → a ++ (c ++ r) ≡ b ++ (d ++ s)
 inside front a b c r s d e =
     append_cancel_left front (a ++ (c ++ r)) (b ++ (d ++ s)) (sym (moved a c r) ∙ e ∙ moved b d s)

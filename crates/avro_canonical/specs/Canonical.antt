@@ -18,7 +18,7 @@ primitive_word _ = None
 abbrev pub is_among : Name → List Name → Bool
 is_among name names = list_any (same_name name) names
 
--- The form of a node where some names are written. A record, an enum or a fixed is defined where it stands first, and
+-- The form of a node where some names are written. A record, an enum or a fixed is defined where it occurs first, and
 -- is its name alone from then on, within its own definition too.
 mutual
   pub data IsForm (nodes : List Node) : List Name → Node → Form → Type 0 where

@@ -11,7 +11,7 @@ abbrev pub text_items : List (List ℕ) → Items
 text_items [] = no_items
 text_items (text ∷ texts) = item (Data.string text) (text_items texts)
 
--- The members of an object stand in the order of their keys.
+-- The members of an object are in the order of their keys.
 abbrev mutual
   pub form_tree : Form → Data
   form_tree (Form.primitive word) = Data.string word

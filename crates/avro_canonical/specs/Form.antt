@@ -69,7 +69,7 @@ abbrev mutual
   field_texts no_fields = []
   field_texts (field name f fs) = (codes "{\"name\":" ++ quoted name ++ codes ",\"type\":" ++ form_text f ++ codes "}") ∷ field_texts fs
 
--- the names that are written once the form stands behind some others, the last first; a type's name counts from the
+-- the names that are written once the form comes after some others, the last first; a type's name counts from the
 -- start of its own text
 abbrev mutual
   pub written_after : List Name → Form → List Name

@@ -11,7 +11,8 @@ use avro_schema::{Memory, Schema};
 use sha2::{Digest, Sha256};
 use std::alloc::Global;
 
-/// So many bytes of a canonical form are gathered at least, but for the last ones, before they are hashed.
+/// At least this many bytes of a canonical form are gathered before they are hashed, except for
+/// the last ones.
 const PIECE: usize = 65_536;
 
 /// The fingerprint of a schema: the SHA-256 of its canonical form's bytes (Avro 1.11, "Schema
@@ -43,7 +44,7 @@ pub fn fingerprint(alloc: Global, schema: &Schema) -> Result<[u8; 32], Memory>
     Err(Memory)
 }
 
-/// Hashes the text that was gathered, and begins anew, where it is long enough.
+/// Hashes the gathered text and starts anew, where it is long enough.
 fn hash_piece(hasher: &mut Sha256, text: &mut String)
     ensures { (before : List ℕ) → Holds256 hasher.old before
         → (then : List ℕ) × Holds256 hasher.new then × (then ++ string_bytes text.new ≡ before ++ string_bytes text.old) }

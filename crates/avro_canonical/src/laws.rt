@@ -19,7 +19,7 @@ pub fn has_text()
     ensures { (nodes : List Node) → is_schema nodes ≡ true → (text : List ℕ) × IsCanonical nodes text }
 {}
 
-/// Schemas of one canonical form have the same encodings.
+/// Schemas with the same canonical form have the same encodings.
 pub fn same_encodings()
     ensures { (nodes others : List Node) (text : List ℕ) → is_schema nodes ≡ true → is_schema others ≡ true
         → IsCanonical nodes text → IsCanonical others text → (v : Value) (bytes : List ℕ)
@@ -27,8 +27,9 @@ pub fn same_encodings()
 {}
 
 /// A canonical form, read as the declaration that it is, declares a schema of the same canonical
-/// form and the same encodings: where no type of the null namespace is defined or referred to inside a definition of
-/// another namespace, and the nodes that are declared are within their limit.
+/// form and the same encodings, provided that no type of the null namespace is defined or referred
+/// to inside a definition of another namespace, and that the declared nodes are within their
+/// limit.
 pub fn read_again()
     ensures { (nodes : List Node) (text : List ℕ) → is_schema nodes ≡ true → (it : IsCanonical nodes text)
         → keeps_names [] it.form ≡ true → nodes_in it.form ≤ max_nodes

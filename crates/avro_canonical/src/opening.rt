@@ -9,7 +9,8 @@ use avro_name::FullName;
 use avro_schema::{Field, Memory, Node, NodeId};
 use std::alloc::Global;
 
-/// Writes what the first of some fields begins with, and leaves its node and the other fields.
+/// Writes what the first of some fields begins with, and leaves its node and the other fields for
+/// later.
 pub(crate) fn open_fields<'a>(
     out: &mut String,
     parts: &mut Vec<Part<'a>>,
@@ -31,7 +32,7 @@ pub(crate) fn open_fields<'a>(
     }
 }
 
-/// Leaves the first of some branches and the others.
+/// Leaves the first of some branches and the others for later.
 pub(crate) fn open_branches<'a>(
     parts: &mut Vec<Part<'a>>,
     branches: &'a [NodeId],
@@ -47,7 +48,7 @@ pub(crate) fn open_branches<'a>(
     }
 }
 
-/// Leaves the node of items or values, and the end of its array or map.
+/// Leaves the node of items or values, and the end of its array or map, for later.
 fn open_part<'a>(parts: &mut Vec<Part<'a>>, id: NodeId) -> Result<(), Memory>
     ensures { OnOk result (pendings_of parts.new.items ≡ of_node id.0 ∷ end ∷ pendings_of parts.old.items) }
 {
@@ -55,7 +56,7 @@ fn open_part<'a>(parts: &mut Vec<Part<'a>>, id: NodeId) -> Result<(), Memory>
     put_part(parts, Part::Node(id))
 }
 
-/// Writes what the definition of a record begins with, and leaves its fields.
+/// Writes what the definition of a record begins with, and leaves its fields for later.
 fn open_record<'a>(
     out: &mut String,
     parts: &mut Vec<Part<'a>>,
@@ -71,7 +72,7 @@ fn open_record<'a>(
     open_fields(out, parts, fields)
 }
 
-/// Writes what the form of a node begins with, and leaves its parts.
+/// Writes what the form of a node begins with, and leaves its parts for later.
 pub(crate) fn open_node<'a>(
     alloc: Global,
     out: &mut String,

@@ -9,9 +9,9 @@ use avro_schema::{Field, Memory, NodeId};
 pub(crate) enum Part<'a> {
     /// A node.
     Node(NodeId),
-    /// Branches of a union behind another one, and the end of the union.
+    /// Branches of a union after another one, and the end of the union.
     Branches(&'a [NodeId]),
-    /// Fields of a record behind another one, and the end of the record.
+    /// Fields of a record after another one, and the end of the record.
     Fields(&'a [Field]),
     /// The end of an array, a map or a field.
     End,

@@ -11,7 +11,7 @@ use std::alloc::Global;
 
 /// The canonical form of a schema (Avro 1.11, "Parsing Canonical Form for Schemas").
 ///
-/// A type is defined where it stands first from the root on, and is its fullname alone from then on.
+/// A type is defined where it first occurs from the root on, and is only its fullname after that.
 ///
 /// # Errors
 ///

@@ -11,7 +11,7 @@ use crate::spelling::{put, put_name};
 use avro_schema::{Field, Memory, NodeId, Schema};
 use std::alloc::Global;
 
-/// Writes a node's form: its name alone where that is written, else what it begins with.
+/// Writes a node's form: its name alone where that is already written, else what it begins with.
 fn write_node<'a>(
     alloc: Global,
     schema: &'a Schema,
@@ -40,7 +40,7 @@ fn write_node<'a>(
     }
 }
 
-/// Writes a comma and leaves the next branch, or writes the end of the union.
+/// Writes a comma and leaves the next branch for later, or writes the end of the union.
 fn next_branch<'a>(
     out: &mut String,
     parts: &mut Vec<Part<'a>>,
@@ -72,7 +72,7 @@ fn next_field<'a>(
     open_fields(out, parts, fields)
 }
 
-/// Writes the beginning of a part, and leaves the rest of it.
+/// Writes the beginning of a part, and leaves the rest for later.
 pub(crate) fn write_part<'a>(
     alloc: Global,
     schema: &'a Schema,

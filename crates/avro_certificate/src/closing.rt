@@ -20,8 +20,8 @@ use avro_schema::{Field, Memory, Node, NodeId, Schema};
 use std::alloc::Global;
 
 /// Tests whether a certificate shows that no datum of a writer's schema fails for a reader's: its nodes are
-/// nodes of the writer's that no datum has, the roots are accounted for, and each pair is closed. The answer is
-/// what was found by names of its pairs, and none where it does not show this.
+/// nodes of the writer's that no datum has, the roots are accounted for, and each pair is closed.
+/// The result is what was found by names of its pairs, and none where it does not show this.
 ///
 /// # Errors
 ///
@@ -250,7 +250,7 @@ fn has_source(
     }
 }
 
-/// The number of the node of a field; past the end stands the root's.
+/// The number of the node of a field; past the end, the root's.
 fn id_or_root(fields: &[Field], index: usize) -> u32
     ensures { result ≡ unwrap_or (slice_get (field_ids (seen_fields fields.now)) index) 0 }
 {

@@ -75,7 +75,7 @@ impl Certificate {
         Certificate { dead, pairs }
     }
 
-    /// The same certificate once more.
+    /// A copy of the certificate.
     ///
     /// # Errors
     ///

@@ -1,8 +1,9 @@
 //! Certificates: sets of nodes and of pairs of nodes which show that a reader's schema reads everything
 //! that was written under a writer's schema.
 //!
-//! A [`Certificate`] is read from a text and written to it. [`find_closed`] tells whether it shows this of
-//! two schemas, whoever made it, and answers what it found of its pairs by names, of which a plan can be made.
+//! A [`Certificate`] is read from a text and written to it. [`find_closed`] checks whether it
+//! shows this of two schemas, whoever made it, and returns what it found of its pairs by names, of
+//! which a plan can be made.
 #![tactic(auto)]
 
 mod checks;

@@ -30,7 +30,7 @@ fn number_of(numeral: &[u8]) -> Option<u32>
     }
 }
 
-/// How many bytes stand before the first of this value.
+/// How many bytes there are before the first of this value.
 fn length_before(bytes: &[u8], stop: u8) -> Option<usize>
     ensures { MatchOption result ((k : ℕ) → k < length bytes.now → slice_index bytes.now k ≢ stop)
         (λ k. (k < length bytes.now) × (slice_index bytes.now k ≡ stop) × ((j : ℕ) → j < k → slice_index bytes.now j ≢ stop)) }

@@ -9,7 +9,7 @@ use Rattle.avro_compare.specs.inside.NameTables.{passes, is_named}
 abbrev roots_match : List Node → List Node → Bool
 roots_match writer reader = is_match writer reader (root_of writer) (root_of reader)
 
--- arrays so many deep
+-- arrays this deep
 abbrev nested : ℕ → Node → List Node
 nested deep n = from 1 deep
   where

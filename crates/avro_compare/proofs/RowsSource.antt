@@ -22,7 +22,7 @@ by_alias = refl
 by_first_alias : source_of written (aliased_field (codes "z") (codes "c" ∷ codes "a" ∷ []) 7) ≡ Some 2
 by_first_alias = refl
 
--- the writer's aliases are of no account
+-- the writer's aliases do not matter
 by_writers_alias : source_of written (plain_field (codes "d") 7) ≡ None
 by_writers_alias = refl
 

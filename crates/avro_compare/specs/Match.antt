@@ -31,8 +31,8 @@ pub data Matches (writer reader : List Node) : Node → Node → Type 0 where
   fixeds : {a b : Name} {a_aliases b_aliases : List Name} {n : ℕ} → are_alike a b b_aliases ≡ true
       → Matches writer reader (Node.fixed a a_aliases n) (Node.fixed b b_aliases n)
 
--- whether they do, where arrays and maps are looked into at most so deep: a well-formed schema has fewer of them in a row
--- than nodes
+-- whether they do, where arrays and maps are looked into at most this deep: a well-formed schema has
+-- fewer of them in a row than nodes
 abbrev pub match_within : ℕ → List Node → List Node → Node → Node → Bool
 match_within steps writer reader (Node.union ids) r = true
 match_within steps writer reader w (Node.union ids) = true

@@ -38,7 +38,7 @@ abbrev pub aimed : List Node → Aim → (Node → Resolved) → Resolved
 aimed reader (Aim.Fault kind) resolve = Err (fault_here (cause_of kind))
 aimed reader (Aim.To branch q) resolve = wrapped branch (resolve (node_at reader q.0))
 
--- Where a pair of nodes leads, of which the writer's is no union: by the first branch of a reader's union that matches, or else to the
+-- Where a pair of nodes leads, if the writer's is not a union: by the first branch of a reader's union that matches, or else to the
 -- reader's node itself where the two match.
 abbrev pub branch_aim : List ℕ → Option ℕ → Aim
 branch_aim ids None = Fault NoBranch

@@ -25,7 +25,7 @@ AreFor ws rs parts = (k : ℕ) (at : At) → slice_get parts k ≡ Some at → a
 abbrev pub AreSymbols : Node → Node → List (Option ℕ) → Type 0
 AreSymbols w q symbols = (k : ℕ) (s : Option ℕ) → slice_get symbols k ≡ Some s → IsSymbol (enum_as (symbol_at w k) q) s
 
--- what is kept inside two nodes is what their fields and their symbols are to each other: of each, and of the index behind the writer's last field
+-- what is kept inside two nodes is what their fields and their symbols are to each other: of each, and of the index after the writer's last field
 pub record AreInside (w q : Node) (p : Comparison) : Type 0 where
   pub complete : p.missing ≡ missing_field (fields_at w) (fields_at q)
   pub fields : AreFor (fields_at w) (fields_at q) p.fields.items

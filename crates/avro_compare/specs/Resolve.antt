@@ -25,7 +25,8 @@ both f (Ok a) (Ok b) = Ok (f a b)
 both f (Ok a) (Err e) = Err e
 both f (Err e) b = Err e
 
--- A writer's node that is no union, against a reader's that is none: they match, or there is a fault.
+-- A writer's node that is not a union, against a reader's that is none: they match, or there is a
+-- fault.
 abbrev pub matched : List Node → List Node → Node → Node → (Node → Resolved) → Resolved
 matched writer reader w r resolve = cond (is_match writer reader w r) (resolve r) (Err (fault_here no_match))
 
@@ -39,7 +40,7 @@ into_branch writer reader w ids None resolve = Err (fault_here no_branch)
 into_branch writer reader w ids (Some k) resolve =
     result_map (Value.union k) (matched writer reader w (branch_node reader ids k) resolve)
 
--- A writer's node that is no union, against any reader's node.
+-- A writer's node that is not a union, against any reader's node.
 abbrev pub through : List Node → List Node → Node → Node → (Node → Resolved) → Resolved
 through writer reader w (Node.union ids) resolve = into_branch writer reader w ids (first_match writer reader w ids) resolve
 through writer reader w r resolve = matched writer reader w r resolve
@@ -104,7 +105,7 @@ abbrev pub record_or_missing : List FieldNode → List FieldNode → Option ℕ 
 record_or_missing writer reader (Some index) sourced = Err (fault_here (missing_field_at index))
 record_or_missing writer reader None sourced = result_map (λ found. Value.record_of (field_values writer found reader)) sourced
 
--- where the writer's field is some reader's source, its result stands before the later ones
+-- where the writer's field is some reader's source, its result comes before the later ones
 abbrev pub with_sourced : Option FieldNode → ℕ → (FieldNode → Resolved) → Result Sourced ResolutionFault → Result Sourced ResolutionFault
 with_sourced None index resolve later = later
 with_sourced (Some f) index resolve later = both (λ v found. (index, v) ∷ found) (inside index (resolve f)) later

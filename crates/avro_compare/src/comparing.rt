@@ -109,9 +109,9 @@ fn find_sources(
     Ok(found)
 }
 
-/// What each of the writer's fields is for, from the sources of the reader's fields. One ignored part stands
-/// after the last, since reading asks about that index too. The loop goes from the reader's last field to its
-/// first, so that the first of two with the same source is kept.
+/// What each of the writer's fields is for, from the sources of the reader's fields. One ignored
+/// part is after the last, since reading asks about that index too. The loop goes from the
+/// reader's last field to its first, so that the first of two with the same source is kept.
 fn find_fields(
     alloc: Global,
     writes: &[Field],

@@ -26,7 +26,7 @@ pub enum FaultKind {
 pub struct Fault {
     /// What is wrong.
     pub kind: FaultKind,
-    /// The way down the datum: indices of fields, items and entries, and 0 for a union's value.
+    /// The path down the datum: indices of fields, items and entries, and 0 for a union's value.
     pub path: Vec<usize>,
 }
 

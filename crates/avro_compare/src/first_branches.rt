@@ -12,8 +12,8 @@ use avro_schema::{NodeId, Schema};
 use std::alloc::{AllocError, Global};
 use std::collections::BTreeMap;
 
-/// The first branch of each kind with a simple name that has a number, its own or that of an alias. Branches are gone
-/// through from the last, so that the first index of a name stays.
+/// The first branch of each kind with a simple name that has a number, its own or that of an
+/// alias. Branches are gone through from the last, so that the first index of a name is kept.
 pub(crate) fn first_branches(
     alloc: Global,
     simples: &BTreeMap<&str, u32>,

@@ -10,8 +10,8 @@ pub enum At {
     Pair(NodeId, NodeId),
 }
 
-/// Where a pair of nodes leads, of which the writer's is no union: to a fault, or to a reader's node
-/// that is no union, by a branch of the reader's union where there is one.
+/// Where a pair of nodes leads, if the writer's is not a union: to a fault, or to a reader's node
+/// that is not a union, by a branch of the reader's union where there is one.
 #[derive(Clone, Copy, Debug, PartialEq, Eq)]
 pub enum Aim {
     /// The nodes do not match, or no branch does.
@@ -20,7 +20,7 @@ pub enum Aim {
     To(Option<u32>, NodeId),
 }
 
-/// What two nodes say of their match.
+/// What two nodes say about their match.
 #[derive(Clone, Copy, Debug, PartialEq, Eq)]
 pub enum Step {
     /// The answer.

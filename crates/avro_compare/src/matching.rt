@@ -42,7 +42,7 @@ pub(crate) fn matches_by(
     match_within(writer.len(), numbers, writer, w, reader, r)
 }
 
-/// The same, where arrays and maps are looked into at most so deep.
+/// The same, looking into arrays and maps at most this deep.
 fn match_within(
     steps: usize,
     numbers: Option<&NameNumbers>,
@@ -72,7 +72,7 @@ fn match_within(
     }
 }
 
-/// What the nodes of two ids say of their match.
+/// What the nodes of two ids say about their match.
 fn step(
     numbers: Option<&NameNumbers>,
     writer: &Schema,
@@ -96,7 +96,7 @@ fn step(
     }
 }
 
-/// What a node and that of an id say of their match. Whether they are named alike may be known.
+/// What a node and that of an id say about their match. Whether they are named alike may be known.
 fn step_to(known: Option<bool>, a: &Node, reader: &Schema, r: NodeId) -> Step
     requires { TellsAlike (node_of a.now) (node_at (schema_nodes reader.now) r.0) known }
     ensures { (writer : List SeenNode) → IsStep writer (schema_nodes reader.now)
@@ -109,7 +109,7 @@ fn step_to(known: Option<bool>, a: &Node, reader: &Schema, r: NodeId) -> Step
     }
 }
 
-/// What two nodes say of their match. Whether they are named alike may be known.
+/// What two nodes say about their match. Whether they are named alike may be known.
 fn step_of(known: Option<bool>, a: &Node, b: &Node) -> Step
     requires { TellsAlike (node_of a.now) (node_of b.now) known }
     ensures { (writer reader : List SeenNode) → IsStep writer reader (node_of a.now) (node_of b.now) result }
@@ -164,7 +164,7 @@ fn are_alike(
     }
 }
 
-/// Whether a name is one of some.
+/// Whether a name is among some names.
 fn is_among(name: &FullName, names: &[FullName]) -> bool
     ensures { result ≡ list_any (same_name name.now) names.now }
 {

@@ -11,12 +11,12 @@ use std::alloc::Global;
 use std::collections::BTreeMap;
 use std::marker::Model;
 
-/// A writer's schema and a reader's, with tables of names, by which names are found without a look at all that
-/// there are: the branches of the reader's unions, for the first match of a record, an enum or a fixed, the fields
-/// of the writer's records, and the symbols of the reader's enums. A union of few branches, or with more aliases
-/// than branches, a record of few fields and an enum of few symbols are looked through, and take no memory here. The names and
-/// aliases of types are numbered, and compared by their numbers.
-/// Contracts see the two schemas.
+/// A writer's schema and a reader's, with tables of names, by which names are found without
+/// looking at all of them: the branches of the reader's unions, for the first match of a record,
+/// an enum or a fixed, the fields of the writer's records, and the symbols of the reader's enums.
+/// A union of few branches, or with more aliases than branches, a record of few fields and an enum
+/// of few symbols are looked through, and take no memory here. The names and aliases of types are
+/// numbered, and compared by their numbers. Contracts see the two schemas.
 #[derive(Drop)]
 pub struct Names<'a> {
     writer: &'a Schema,
@@ -95,8 +95,8 @@ impl<'a> Names<'a> {
         }
     }
 
-    /// The first branch of a reader's union that matches a writer's node, by its index among the branches, as
-    /// [`first_match`](crate::first_match) answers it.
+    /// The first branch of a reader's union that matches a writer's node, by its index among the
+    /// branches, as [`first_match`](crate::first_match) returns it.
     pub fn first_match(&self, w: NodeId, r: NodeId) -> Option<usize>
         ensures { result ≡ first_match_at (schema_nodes self.now.0) (schema_nodes self.now.1)
             (node_at (schema_nodes self.now.0) w.0) (node_at (schema_nodes self.now.1) r.0) }
@@ -106,7 +106,7 @@ impl<'a> Names<'a> {
     }
 
     /// The index of the field of a writer's record that a reader's field takes its value from, as
-    /// [`source`](crate::source) answers it; none at another writer's node.
+    /// [`source`](crate::source) returns it; none at another writer's node.
     pub fn source(&self, w: NodeId, field: &Field) -> Option<usize>
         ensures { result ≡ source_of (fields_at (node_at (schema_nodes self.now.0) w.0)) (field_of field.now) }
     {

@@ -8,8 +8,8 @@ use avro_schema::Field;
 use std::alloc::{AllocError, Global};
 use std::collections::BTreeMap;
 
-/// The index of each field, to look names up in. Fields are gone through from the last, so that the first
-/// index of a name stays.
+/// The index of each field, to look names up in. Fields are gone through from the last, so that
+/// the first index of a name is kept.
 ///
 /// # Errors
 ///

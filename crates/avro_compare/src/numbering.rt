@@ -319,7 +319,7 @@ fn is_simple(simple: Option<u32>, number: u32) -> bool
     }
 }
 
-/// Whether the numbers of a fullname stand in a set.
+/// Whether the numbers of a fullname are in a set.
 fn holds(set: &BTreeMap<(u32, u32), ()>, full: (u32, u32)) -> bool
     ensures { (table : SeenTable) (names : List Name) → HoldsNames table names set.now → result ≡ list_any (λ n. is_full full (numbers_of table n)) names }
 {

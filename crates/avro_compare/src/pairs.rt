@@ -105,7 +105,7 @@ pub(crate) fn aim_after(
     }
 }
 
-/// Where a pair of nodes leads, the reader's of which is at hand.
+/// Where a pair of nodes leads, given the reader's node.
 fn aim_to(
     numbers: Option<&NameNumbers>,
     writer: &Schema,

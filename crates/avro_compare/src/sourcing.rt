@@ -114,7 +114,7 @@ pub fn source_kept(
     }
 }
 
-/// The same of a reader's field that stands at its index.
+/// The same for a reader's field that is at its index.
 fn source_at(
     writer: &[Field],
     reader: &[Field],

@@ -49,8 +49,9 @@ impl<'a> Block<'a> {
         &self.body
     }
 
-    /// Reads the data one by one, and answers what a builder builds of each: of what it is for the reader if there is
-    /// one, and else of the datum itself. A plan is made for the reader; [`Block::read_by`] reads by one that is kept.
+    /// Reads the data one by one, and returns what a builder builds of each: of what it is for the
+    /// reader if there is one, and else of the datum itself. A plan is made for the reader;
+    /// [`Block::read_by`] reads by one that is kept.
     ///
     /// # Errors
     ///
@@ -80,7 +81,8 @@ impl<'a> Block<'a> {
         }
     }
 
-    /// Reads the data one by one as data of a plan's writer, and answers what a builder builds of what each is for its reader.
+    /// Reads the data one by one as data of a plan's writer, and returns what a builder builds of
+    /// what each is for its reader.
     ///
     /// # Errors
     ///

@@ -25,8 +25,8 @@ use crate::store::Store;
 use crate::task::Task;
 use avro_resolve::PlanRef;
 
-/// Takes the next block, after a number of others, puts its copy, and answers how many data it has; nothing if the input
-/// ends before it.
+/// Takes the next block, after a number of others, puts its copy, and returns how many data it has;
+/// nothing if the input ends before it.
 ///
 /// # Errors
 ///

@@ -99,8 +99,9 @@ impl<'a> Blocks<'a> {
 
     /// Takes the next block, and no byte after it; nothing if the input ends before it, and from then on.
     ///
-    /// Each call is to be handed the same input. A call after the end takes nothing of it, so that its end is reported there
-    /// where it was reported before: what another input has reported is not known.
+    /// Pass the same input to each call. A call after the end takes nothing of it, so that its end
+    /// is reported there where it was reported before: what another input has reported is not
+    /// known.
     ///
     /// # Errors
     ///

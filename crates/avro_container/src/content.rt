@@ -18,7 +18,7 @@ use crate::numbers::take_long;
 use crate::part_error::PartError;
 use avro_binary::ReadError;
 
-/// The error of a part of the metadata that is not taken, whose number stands at `offset`.
+/// The error of a part of the metadata that is not taken, with its number at `offset`.
 pub(crate) fn metadata_error(error: PartError, offset: usize) -> CopyError
     ensures fault { file_fault result ≡ header_part_fault offset error }
     ensures device { result ≡ CopyError.InputFailed → error ≡ PartError.Device }
@@ -38,7 +38,7 @@ pub(crate) fn metadata_error(error: PartError, offset: usize) -> CopyError
     }
 }
 
-/// Takes the length that begins at `at`, and answers it with the number of its bytes.
+/// Takes the length that begins at `at`, and returns it with the number of its bytes.
 ///
 /// # Errors
 ///
@@ -71,7 +71,7 @@ pub(crate) fn take_length<I: Input>(
     }
 }
 
-/// Takes the content whose length begins at `at`, and answers where it begins and ends.
+/// Takes the content whose length begins at `at`, and returns where it begins and ends.
 ///
 /// # Errors
 ///

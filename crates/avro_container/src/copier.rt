@@ -52,7 +52,7 @@ impl<'a> Copier<'a> {
         }
     }
 
-    /// The bytes that were taken and belong to no part that a step has answered.
+    /// The bytes that were taken and belong to no part that a step has returned.
     pub fn ahead(&self) -> &[u8]
         ensures ahead { result.now ≡ (stored_of self.now).ahead }
         ensures bounded { length result.now ≤ most_ahead (limits_in self.now) }

@@ -17,9 +17,9 @@ use crate::step::{Counts, Step};
 use avro_schema_json::ReaderText;
 use std::alloc::Global;
 
-/// Copies a whole file in one pass, and answers how many data and blocks it has: each datum as what it is for the reader,
-/// if there is one, and in its plain encoding. `sync` is the marker of the copy, or else it is the file's. The last call of
-/// the output is a flush.
+/// Copies a whole file in one pass, and returns how many data and blocks it has: each datum as what
+/// it is for the reader, if there is one, and in its plain encoding. `sync` is the marker of the
+/// copy, or else it is the file's. The last call of the output is a flush.
 ///
 /// # Errors
 ///

@@ -38,7 +38,8 @@ pub(crate) fn block_error(error: PartError, number: u64) -> CopyError
     }
 }
 
-/// Takes the count or the size that begins after a number of bytes of a block, and answers it with its length in bytes.
+/// Takes the count or the size that begins after a number of bytes of a block, and returns it with
+/// its length in bytes.
 ///
 /// # Errors
 ///

@@ -10,7 +10,7 @@ use crate::error::{CopyError, LimitPlace};
 use avro_binary::ReadError;
 use avro_resolve::ReadResolveError;
 
-/// The same error of bytes that stand after `start` others.
+/// The same error of bytes that come after `start` others.
 fn moved(error: ReadError, start: usize) -> ReadError
     requires fits { FitsBehind start error }
     ensures moved { read_fault result ≡ option_map (behind start) (read_fault error) }

@@ -46,7 +46,7 @@ fn magic_error(error: PartError) -> CopyError
     }
 }
 
-/// Takes the magic into an empty buffer. It is looked at before the limit.
+/// Takes the magic into an empty buffer. It is checked before the limit.
 ///
 /// # Errors
 ///

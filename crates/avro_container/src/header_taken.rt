@@ -20,7 +20,7 @@ use crate::header_text::schema_of;
 use crate::limits::FileLimits;
 use std::alloc::Global;
 
-/// Takes a header into an empty buffer, and answers it with its length in bytes.
+/// Takes a header into an empty buffer, and returns it with its length in bytes.
 ///
 /// # Errors
 ///

@@ -9,20 +9,21 @@ ghost use Rattle.avro_container.specs.Steps.{Stored, Run, Done, EndStep, CopiedW
 
 use crate::device::Input;
 
-/// A run of steps that answered no error has put exactly the copy of the header and the blocks that the steps named, each of
-/// as many data as its step said.
+/// A run of steps that returned no error has put exactly the copy of the header and the blocks that
+/// the steps named, each of as many data as its step said.
 pub fn run_copies()
     ensures { (job : Job) (limits : FileLimitValues) (s : Stored) (counts taken put : List ℕ) → Run job limits s counts taken put → Done job limits s counts taken put }
 {}
 
-/// Where the end is answered after a run, a whole file within the limits was taken, and its copy put.
+/// Where the end is returned after a run, a whole file within the limits was taken, and its copy
+/// put.
 pub fn run_ends<I: Input>()
     ensures { (input : I) (job : Job) (limits : FileLimitValues) (s t : Stored) (counts taken put more out : List ℕ) → Run job limits s counts taken put
         → EndStep (I.ended input) s t more out → CopiedWhole job limits (I.ended input) (sum counts) s.blocks (taken ++ more) (put ++ out) }
 {}
 
 /// Where a step is refused after a run, what was put is a prefix of the copy of what was taken; and a fault of the file that
-/// is reported stands after exactly what was put.
+/// is reported comes after exactly what was put.
 pub fn run_refused<I: Input>()
     ensures { (input : I) (job : Job) (limits : FileLimitValues) (s t : Stored) (counts taken put more out : List ℕ) (fault : Option FileFault) → Run job limits s counts taken put
         → RefusedStep job limits (I.ended input) s t more out fault → length (s.ahead ++ more) ≤ most_ahead limits → PutInAll job limits (taken ++ more) (put ++ out)

@@ -29,8 +29,8 @@ fn is_other_size(head: PropertiesHead, len: u64) -> bool
     head.is_sized && len != head.size
 }
 
-/// Takes the block of properties that begins at `at`, and answers whether there is one and where it ends. If there is none,
-/// the metadata ends there.
+/// Takes the block of properties that begins at `at`, and returns whether there is one and where it
+/// ends. If there is none, the metadata ends there.
 ///
 /// # Errors
 ///
@@ -69,7 +69,7 @@ fn take_metadata_block<I: Input>(
     Ok((true, end))
 }
 
-/// Takes the metadata after the magic, and answers its properties in order and where it ends.
+/// Takes the metadata after the magic, and returns its properties in order and where it ends.
 ///
 /// # Errors
 ///

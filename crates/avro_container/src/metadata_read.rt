@@ -16,8 +16,8 @@ use crate::header_frame::{Frame, take_frame};
 use crate::limits::FileLimits;
 use std::alloc::Global;
 
-/// Takes the header of a file, and no byte after it, and answers its metadata in the file's order. What they say is not
-/// looked at: the codec may be any, and there need be no schema.
+/// Takes the header of a file, and no byte after it, and returns its metadata in the file's order.
+/// What they say is not looked at: the codec may be any, and there need be no schema.
 ///
 /// # Errors
 ///

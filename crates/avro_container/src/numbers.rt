@@ -13,7 +13,7 @@ use crate::filling::{Reach, fill};
 use crate::part_error::PartError;
 use avro_zigzag::{VarError, read_long};
 
-/// Takes the long that begins after a number of bytes, and answers it with its length in bytes.
+/// Takes the long that begins after a number of bytes, and returns it with its length in bytes.
 ///
 /// # Errors
 ///

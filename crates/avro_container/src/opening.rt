@@ -25,7 +25,7 @@ use crate::store::Store;
 use crate::task::Task;
 use std::alloc::Global;
 
-/// Takes the header of a file, puts its copy, and answers it.
+/// Takes the header of a file, puts its copy, and returns it.
 ///
 /// # Errors
 ///

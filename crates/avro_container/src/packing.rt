@@ -65,8 +65,8 @@ fn pack_resolved(
 }
 
 /// Reads the data of a block one by one, and keeps the plain encodings of what they are for the reader, one after another. It
-/// ends after a datum without bytes, whose plain encoding it answers: each further datum begins at the same byte, and is the
-/// same. It answers how many data and bytes it read, too.
+/// ends after a datum without bytes, and returns its plain encoding: each further datum begins at
+/// the same byte, and is the same. It returns how many data and bytes it read, too.
 ///
 /// # Errors
 ///

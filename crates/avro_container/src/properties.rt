@@ -28,7 +28,7 @@ pub(crate) struct Properties {
     pub(crate) names: BTreeSet<String>,
 }
 
-/// Takes the name of a property, and answers it with where it ends.
+/// Takes the name of a property, and returns it with where it ends.
 ///
 /// # Errors
 ///
@@ -89,7 +89,7 @@ fn add_property(
     Ok(())
 }
 
-/// Takes a property and adds it to those before it, and answers where it ends.
+/// Takes a property and adds it to those before it, and returns where it ends.
 ///
 /// # Errors
 ///
@@ -121,7 +121,7 @@ fn take_property<I: Input>(
     Ok(end)
 }
 
-/// Takes `count` properties, and answers where they end.
+/// Takes `count` properties, and returns where they end.
 ///
 /// # Errors
 ///

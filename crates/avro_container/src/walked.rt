@@ -17,8 +17,8 @@ use crate::limits::FileLimits;
 use crate::planned::walk_datum;
 use std::alloc::Global;
 
-/// Walks over the data of a block one by one, and answers whether one had no bytes. After such a datum each further one begins
-/// at the same byte and is the same, so the walk ends there.
+/// Walks over the data of a block one by one, and returns whether one had no bytes. After such a
+/// datum each further one begins at the same byte and is the same, so the walk ends there.
 ///
 /// # Errors
 ///

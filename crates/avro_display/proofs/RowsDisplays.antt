@@ -29,7 +29,7 @@ zero_int : display_text (Node.int ∷ []) (root_of (Node.int ∷ [])) (Value.int
 unfolding serde_json_on_literals encode digits
 zero_int = refl
 
--- a record of fields b and a: the keys stand in the order of their bytes
+-- a record of fields b and a: the keys are in the order of their bytes
 keys_in_byte_order : display_text (string_and_long) (root_of (string_and_long)) (Value.record_of (two_values (Value.string (codes "foo")) (Value.long (pos 27))))
     ≡ codes "{\"a\":27,\"b\":\"foo\"}"
 unfolding serde_json_on_literals encode digits

@@ -1,4 +1,4 @@
--- The display of a datum: the JSON tree whose compact text it is. It is this project's own, and no part of the standard.
+-- The display of a datum: the JSON tree whose compact text it is. It is this project's own and not part of the standard.
 use Rattle.std.specs.Prelude.{ℕ, List, [], ◌∷◌, ◌++◌, codes, encode_utf8_all, slice_get, Option, option_map, option_and_then, unwrap_or}
 use Rattle.avro_name.specs.Name.{Name}
 use Rattle.avro_schema.specs.Value.{Value, Values, no_values, value, Entries, no_entries, entry}
@@ -50,7 +50,7 @@ abbrev pub symbol_at : Node → ℕ → List ℕ
 symbol_at n k = unwrap_or (option_and_then (λ symbols. slice_get symbols k) (symbols_of n)) []
 
 -- By cases on the datum. Bytes are a text of one character for each byte, whose code is the byte's value. The keys of
--- an object stand in the order of their bytes.
+-- an object are in the order of their bytes.
 abbrev mutual
   pub display_tree : List Node → Node → Value → Data
   display_tree nodes n Value.null = Data.null

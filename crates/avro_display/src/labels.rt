@@ -75,7 +75,7 @@ fn branch_key(alloc: Global, node: &Node) -> Result<String, Memory>
     }
 }
 
-/// Puts a value among members at a key.
+/// Inserts a value among members under a key.
 pub(crate) fn put_member(
     alloc: Global,
     members: &mut Map<String, Value>,
@@ -96,7 +96,7 @@ fn is_null(node: &Node) -> bool
     matches!(node, Node::Null)
 }
 
-/// The value of a branch under the branch's key; null stands by itself.
+/// The value of a branch under the branch's key; null has no key.
 pub(crate) fn labelled(alloc: Global, node: &Node, tree: Value) -> Result<Value, Memory>
     ensures { IfOk result (λ labelled. view labelled ≡ branch_tree (node_of node.now) (view tree)) }
 {

@@ -15,7 +15,7 @@ use std::alloc::Global;
 
 /// Whether each node is dead: a record with a field that is dead, or a union of dead branches. All nodes are marked
 /// first, and a mark is taken away where the marks do not show that the node is dead, until none is taken away. A
-/// node mostly stands after those that hold it, so a round goes from the last to the first.
+/// node mostly comes after those that hold it, so a round goes from the last to the first.
 pub(crate) fn dead_nodes(alloc: Global, writer: &Schema) -> Result<Vec<bool>, Memory>
     ensures { IfOk result (λ marks. IsGreatestDead (schema_nodes writer.now) (marked marks.items)) }
 {
@@ -31,7 +31,7 @@ pub(crate) fn dead_nodes(alloc: Global, writer: &Schema) -> Result<Vec<bool>, Me
     Ok(marks)
 }
 
-/// So many marks.
+/// This many marks.
 fn all_marked(alloc: Global, count: usize) -> Result<Vec<bool>, Memory>
     ensures all { IfOk result (λ marks. list_all (λ m. m) marks.items ≡ true) }
     ensures len { IfOk result (λ marks. length marks.items ≡ count) }

@@ -5,7 +5,7 @@ use avro_schema::Memory;
 use std::alloc::AllocFailed;
 use thiserror::Error;
 
-/// Why the faults of two schemas are not told.
+/// Why the faults of two schemas are not reported.
 #[derive(Clone, Copy, Debug, PartialEq, Eq, Hash, Error)]
 pub enum ExplainError {
     /// The roots lead to more pairs than the limit.

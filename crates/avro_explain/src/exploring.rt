@@ -23,7 +23,7 @@ use avro_schema::{Memory, NodeId, Schema};
 use indexmap::IndexSet;
 use std::alloc::Global;
 
-/// The places so far, the pairs that they are of, and the faults of those that were gone through.
+/// The places so far, their pairs, and the faults of those that were visited.
 #[derive(Drop)]
 pub(crate) struct Walk {
     known: IndexSet<(u32, u32)>,
@@ -59,7 +59,7 @@ pub fn explain(
     ensures compatible { IfOk result (λ e. e.faults.items ≡ [] → AreCompatible (schema_nodes writer.now) (schema_nodes reader.now)) }
     ensures none { IfOk result (λ e. AreCompatible (schema_nodes writer.now) (schema_nodes reader.now) → e.faults.items ≡ []) }
 {
-    // The contract of these calls tells that the nodes are schemas, which the proof needs.
+    // The contract of these calls says that the nodes are schemas, which the proof needs.
     let _ = writer.len();
     let _ = reader.len();
     let names = Names::new(alloc, writer, reader)?;
@@ -72,7 +72,7 @@ pub fn explain(
     })
 }
 
-/// Goes through the places in the order in which they are found.
+/// Visits the places in the order in which they are found.
 fn explore(
     alloc: Global,
     names: &Names,
@@ -123,7 +123,7 @@ fn start(alloc: Global, dead: &[bool]) -> Result<Walk, Memory>
     Ok(walk)
 }
 
-/// Adds a place, unless its pair is there.
+/// Adds a place, unless its pair is there already.
 fn add_place(walk: &mut Walk, place: Place) -> Result<(), Memory>
     requires { keys walk.old.known ≡ keys_of walk.old.places.items }
     ensures keys { OnOk result (keys walk.new.known ≡ keys_of walk.new.places.items) }
@@ -182,7 +182,7 @@ fn add_findings(faults: &mut Vec<Finding>, at: usize, details: &[Detail]) -> Res
     Ok(())
 }
 
-/// Goes through the place at an index: adds its faults, and the places that it leads to.
+/// Visits the place at an index: adds its faults, and the places that it leads to.
 fn visit(
     alloc: Global,
     names: &Names,

@@ -76,7 +76,7 @@ fn choice_leads(
     }
 }
 
-/// The node of a branch; past the end stands the root.
+/// The node of a branch; past the end, the root.
 fn branch_at(ids: &[NodeId], k: usize) -> NodeId
     ensures { result.0 ≡ unwrap_or (slice_get (ids_of ids.now) k) 0 }
 {
@@ -161,7 +161,7 @@ fn add_field(
     Ok(())
 }
 
-/// The node of a field; past the end stands the root.
+/// The node of a field; past the end, the root.
 fn field_node(fields: &[Field], index: usize) -> NodeId
     ensures { result.0 ≡ unwrap_or (slice_get (field_ids (seen_fields fields.now)) index) 0 }
 {

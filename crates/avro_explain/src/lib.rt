@@ -1,7 +1,7 @@
 //! All faults of a writer's schema and a reader's at once: each pair of nodes that the roots lead to and that fails
 //! by itself, with all that fails there, and the way to it.
 //!
-//! [`explain`] finds them; [`way_to`] tells the way to a place in both schemas.
+//! [`explain`] finds them; [`way_to`] returns the way to a place in both schemas.
 #![tactic(auto)]
 
 mod dying;

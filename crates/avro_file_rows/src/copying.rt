@@ -149,7 +149,7 @@ fn metadata_are_copied_in_one_block(rt: HostRuntime) -> Result<(), Fail> {
     Ok(())
 }
 
-/// A block that is refused behind a block of one int, and the fault.
+/// A block that is refused after a block of one int, and the fault.
 const REFUSED: [(&[u8], &str); 4] = [
     (b"\x02\x04\x0a\x0a", "C7 block 1"),
     (b"\x04\x02\x0a", "C10 block 1 datum 1: B1 at 1"),

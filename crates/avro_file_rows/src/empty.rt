@@ -25,7 +25,8 @@ const TEXT: &str =
 /// The most bytes of a block.
 const LIMIT: u32 = 6;
 
-/// A schema, the reader's or none, two blocks without their markers, what reading them answers, and what copying them does.
+/// A schema, the reader's or none, two blocks without their markers, what reading them returns, and
+/// what copying them does.
 const ROWS: [(&str, &str, (&[u8], &[u8]), &str, &str); 17] = [
     (
         NULL,

@@ -1,4 +1,4 @@
-//! Container files for the other files, and what reading and copying them answers.
+//! Container files for the other files, and what reading and copying them returns.
 
 use avro_binary::Nothing;
 use avro_container::{Blocks, CopyError, Counts, FileLimits, Header, ReadInput, WriteOutput, copy};
@@ -29,7 +29,8 @@ pub(crate) const LONG_OR_INT: &str = r#"["long","int"]"#;
 pub(crate) const FIVE_COPIED: &[u8] =
     b"Obj\x01\x02\x16avro.schema\x1c[\"long\",\"int\"]\x00\x00\x01\x02\x03\x04\x05\x06\x07\x08\x09\x0a\x0b\x0c\x0d\x0e\x0f\x02\x04\x00\x0a\x00\x01\x02\x03\x04\x05\x06\x07\x08\x09\x0a\x0b\x0c\x0d\x0e\x0f";
 
-/// A file of these metadata, which begin behind the magic, and of blocks. The marker stands behind each part.
+/// A file of these metadata, which begin after the magic, and of blocks. The marker follows each
+/// part.
 pub(crate) fn file_with(
     alloc: Global,
     metadata: &[u8],
@@ -91,7 +92,7 @@ fn read_all(
     Ok(counts)
 }
 
-/// Copies a file, and answers what was written too.
+/// Copies a file, and returns what was written too.
 pub(crate) fn copy_all(
     alloc: Global,
     file: &[u8],
@@ -110,7 +111,7 @@ pub(crate) fn copy_all(
     (out, answer)
 }
 
-/// What is answered of a file, as text.
+/// The result for a file, as text.
 pub(crate) fn answer_text(
     alloc: Global,
     answer: Result<Counts, CopyError>,
@@ -121,7 +122,7 @@ pub(crate) fn answer_text(
     }
 }
 
-/// What both reading and copying answer of a file, as text.
+/// What both reading and copying return for a file, as text.
 pub(crate) fn answer_of(
     alloc: Global,
     file: &[u8],

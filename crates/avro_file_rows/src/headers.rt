@@ -5,7 +5,7 @@ use avro_container::FileLimits;
 use avro_schema::Limits;
 use std::test::Fail;
 
-/// Metadata, and what is answered of a file of them and of no block.
+/// Metadata, and the result for a file of them and no block.
 const METADATA: [(&[u8], &str); 27] = [
     (b"\x02\x16avro.schema\x0c\"null\"\x00", "data 0 blocks 0"),
     // a sized block, and padded numbers
@@ -83,7 +83,7 @@ fn metadata_are_read_or_refused(rt: HostRuntime) -> Result<(), Fail> {
     Ok(())
 }
 
-/// What is answered of the file of three nulls where it is cut.
+/// The result for the file of three nulls where it is cut.
 fn wanted_of_cut(len: usize) -> &'static str {
     if len < 4 {
         "C1"
@@ -110,7 +110,8 @@ fn cut_files_are_told(rt: HostRuntime) -> Result<(), Fail> {
     Ok(())
 }
 
-/// A file, the limits of its header, of a block's bytes and of its data, and what is answered. The magic is tested first.
+/// A file, the limits of its header, of a block's bytes and of its data, and the result. The magic
+/// is tested first.
 const LIMITED: [(&[u8], u32, u32, u32, &str); 11] = [
     (b"Obj\x02", 4_194_304, 1, 1, "C1"),
     (b"obj\x01", 4_194_304, 1, 1, "C1"),

@@ -16,7 +16,7 @@ const FILES: [(&str, &[u8]); 5] = [
     ("short", b"Obj\x01\x00"),
 ];
 
-/// The words of runs, and what they answer and write. The status is that of the first fault.
+/// The words of runs, and their status and output. The status is that of the first fault.
 const RUNS: [(&str, u8, &str, &str); 17] = [
     ("check five", 0, "data 1 blocks 1\n", ""),
     (
@@ -155,7 +155,7 @@ fn counts_are_values_of_json(rt: HostRuntime) -> Result<(), Fail> {
     Ok(())
 }
 
-/// The words of runs whose output takes some bytes alone, and their status and faults.
+/// The words of runs whose output takes only some bytes, and their status and faults.
 const FULL: [(&str, usize, u8, &str); 4] = [
     ("check five nulls", 0, 4, "avro: output: cannot write\n"),
     (

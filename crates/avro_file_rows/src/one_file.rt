@@ -1,4 +1,4 @@
-//! Copies of a file into itself by another name, and how the program writes what it tells of files.
+//! Copies of a file into itself by another name, and how the program writes its reports on files.
 
 use crate::files::{FIVE, NULLS, file_of};
 use avro_runs::{Counted, Given, outcome_of, words_of};
@@ -16,7 +16,7 @@ const NO_MARKER: &str = "avro: --sync takes 32 hexadecimal digits\n";
 
 const ONE_BLOCK: &str = "data 1 blocks 1\n";
 
-/// The words of copies, and what they answer and write.
+/// The words of copies, and their status and output.
 const COPIES: [(&str, u8, &str, &str); 15] = [
     ("copy five.avro five.avro", 64, "", ONE_WORD),
     ("copy five.avro ./five.avro", 64, "", ONE_FILE),

@@ -12,7 +12,7 @@ const NO_MARKER: &str = "avro: --sync takes 32 hexadecimal digits\n";
 
 const NO_SCHEMA: &str = "avro: no.avsc: cannot read\n";
 
-/// The words of a run, what is on its standard input, what it answers, and what it writes.
+/// The words of a run, its standard input, its status, and its output.
 const PIPED: [(&str, &[u8], u8, &[u8], &str); 17] = [
     ("pipe", NULL_HEADER, 0, NULL_HEADER, ""),
     ("pipe", NULLS, 0, NULLS, ""),
@@ -84,7 +84,7 @@ fn containers_are_piped(rt: HostRuntime) -> Result<(), Fail> {
     Ok(())
 }
 
-/// What is told of the front of a file of three nulls, and what of the file was put.
+/// What is reported of the front of a file of three nulls, and what of the file was put.
 fn of_front(len: usize) -> (&'static str, &'static [u8]) {
     if len < 4 {
         ("avro: -: C1\n", b"")
@@ -186,7 +186,7 @@ fn a_failing_output_is_told(rt: HostRuntime) -> Result<(), Fail> {
         assert_eq!(rt; status, 4);
         assert_eq!(rt; err.as_slice(), b"avro: output: cannot write\n".as_slice());
     }
-    // A copy that is whole is good though its numbers cannot be told.
+    // A copy that is whole is good though its numbers cannot be reported.
     let mut out = Vec::new(rt.alloc());
     let mut input = Given::all(NULLS);
     let status = run(&rt, &words, &mut input, &mut out, &mut Full { room: 3 });

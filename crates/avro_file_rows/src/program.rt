@@ -17,7 +17,7 @@ const FILES: [(&str, &[u8]); 7] = [
     ("refused.avsc", b"\"Foo\""),
 ];
 
-/// The words of runs on these files, and what they answer and write.
+/// The words of runs on these files, and their status and output.
 const RUNS: [(&str, u8, &str, &str); 13] = [
     ("check header.avro", 0, "data 0 blocks 0\n", ""),
     ("check nulls.avro", 0, "data 3 blocks 1\n", ""),

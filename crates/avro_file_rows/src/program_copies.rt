@@ -13,7 +13,7 @@ const ONE_BLOCK: &str = "data 1 blocks 1\n";
 
 const LEFT: &str = "avro: left.avro: C7 block 1\n";
 
-/// The words of copies, what they answer and write, and what then is in the file `out.avro`.
+/// The words of copies, their status and output, and what the file `out.avro` then holds.
 const COPIES: [(&str, u8, &str, &str, &[u8]); 9] = [
     ("copy one.avro out.avro", 0, ONE_BLOCK, "", FIVE),
     (

@@ -17,7 +17,7 @@ const NULL_LIST: &str = r#"{"type":"array","items":"null"}"#;
 const TWO_RECORDS: &str =
     r#"[{"type":"record","name":"p.A","fields":[{"name":"x","type":"string"}]},{"type":"record","name":"q.A","fields":[{"name":"x","type":"int"}]}]"#;
 
-/// A schema, the reader's or none, a block without its marker, and what is answered.
+/// A schema, the reader's or none, a block without its marker, and the result.
 const BLOCKS: [(&str, &str, &[u8], &str); 33] = [
     (INT, "", b"\x02\x02\x0a", "data 1 blocks 1"),
     (INT, "", b"\x82\x00\x82\x00\x0a", "data 1 blocks 1"),
@@ -139,7 +139,7 @@ fn blocks_are_read_or_refused(rt: HostRuntime) -> Result<(), Fail> {
     Ok(())
 }
 
-/// What stands behind the header of a file of nulls, and what is answered.
+/// What follows the header of a file of nulls, and the result.
 const TAILS: [(&[u8], &str); 8] = [
     (b"\x80", "C16 block 0"),
     (b"\x02", "C16 block 0"),

@@ -7,7 +7,7 @@ use std::alloc::{AllocError, Global};
 use std::fs;
 use std::test::Fail;
 
-/// The metadata of a file behind the magic, what `check` tells of it, and what is shown.
+/// The metadata of a file after the magic, what `check` reports of it, and what is shown.
 const TEXTS: [(&[u8], &str, &[u8]); 8] = [
     (b"\x02\x16avro.schema\x0a\"int\"\x00", "", b"\"int\"\n"),
     (
@@ -68,7 +68,7 @@ fn schemas_of_headers_are_shown(rt: HostRuntime) -> Result<(), Fail> {
     Ok(())
 }
 
-/// Files whose headers are refused, and what `check` and `header` tell of them.
+/// Files whose headers are refused, and what `check` and `header` report of them.
 const REFUSED: [(&[u8], &str); 12] = [
     (b"", "C1"),
     (b"Obj", "C1"),
@@ -106,7 +106,7 @@ fn refused_headers_are_told(rt: HostRuntime) -> Result<(), Fail> {
     Ok(())
 }
 
-/// Metadata behind the magic, and how all of them are shown: the keys in the order of their bytes.
+/// Metadata after the magic, and how all of them are shown: the keys in the order of their bytes.
 const METADATA: [(&[u8], &str); 5] = [
     (
         b"\x02\x16avro.schema\x0a\"int\"\x00",
@@ -146,7 +146,7 @@ fn metadata_are_shown(rt: HostRuntime) -> Result<(), Fail> {
     Ok(())
 }
 
-/// Words, and what they answer and write: a block that is refused is not looked at.
+/// Words, and their status and output: a block that is refused is not read.
 const RUNS: [(&str, u8, &str, &str); 6] = [
     ("header nulls.head", 0, "\"null\"\n", ""),
     ("header five.head", 0, "\"int\"\n", ""),

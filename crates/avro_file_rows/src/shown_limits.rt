@@ -8,8 +8,8 @@ use std::test::Fail;
 /// Two blocks of two ints each.
 const BLOCKS: [&[u8]; 2] = [b"\x04\x04\x02\x04", b"\x04\x04\x06\x08"];
 
-/// The words after `show`, and what they answer and write. `ints` has both blocks, `spoiled` has a datum that is cut in
-/// the second one, and `begun` in the first one.
+/// The words after `show`, and their status and output. `ints` has both blocks, `spoiled` has a
+/// datum that is cut in the second one, and `begun` in the first one.
 const RUNS: [(&str, u8, &str, &str); 22] = [
     ("ints", 0, "1\n2\n3\n4\n", ""),
     ("ints --limit 0", 0, "", ""),
@@ -50,7 +50,7 @@ const RUNS: [(&str, u8, &str, &str); 22] = [
         "",
     ),
     ("ints --limit 0 --reader r.avsc", 0, "", ""),
-    // What stands behind the last line is not read, and a block is read as a whole.
+    // What comes after the last line is not read, and a block is read as a whole.
     (
         "spoiled",
         3,

@@ -80,8 +80,8 @@ impl<'a> Approved<'a> {
         })
     }
 
-    /// Reads a datum of the writer's from the front of bytes, and answers what a builder builds of what it
-    /// is for the reader, with the length of its encoding.
+    /// Reads a datum of the writer's from the front of bytes, and returns what a builder builds of
+    /// what it is for the reader, with the length of its encoding.
     ///
     /// # Errors
     ///
@@ -99,7 +99,7 @@ impl<'a> Approved<'a> {
             → is_within limits.now v ≡ true → bytes.now ≡ front ++ rest
             → UnlessOutOfMemory result (IsOkAnd result (λ r.
             (u : Value) × B.stands_for r.0 u × (resolve_root (schema_nodes self.now.0) (schema_nodes self.now.1) v ≡ Ok u) × (r.1 ≡ length front))) }
-        // There is no other answer.
+        // There is no other result.
         ensures found { IfOk result (λ r. (u : Value) × B.stands_for r.0 u × ReadsAs (schema_nodes self.now.0) (schema_nodes self.now.1) limits.now bytes.now r.1 (Ok u)) }
         // An error reports the first fault of the bytes, and each fault is reported.
         ensures refused { IfErr result (λ e. IfSome (read_fault e) (Breaks (schema_nodes self.now.0) limits.now (root_of (schema_nodes self.now.0)) bytes.now)) }

@@ -18,8 +18,9 @@ use std::alloc::Global;
 /// Whether every datum of the writer's schema resolves into the reader's, of any size.
 ///
 /// Up to the pair limit the two schemas are approved exactly when they are compatible; else a least
-/// datum that fails is answered, within the size and the depth limit, or the limit that none is within.
-/// Among least data the choice is by depth, then the first branch, symbol or field, which tests show.
+/// datum that fails is returned, within the size and the depth limit, or the limit that none is
+/// within. Among least data the choice is by depth, then the first branch, symbol or field, which
+/// tests show.
 ///
 /// # Errors
 ///

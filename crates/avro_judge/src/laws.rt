@@ -12,7 +12,7 @@ use avro_binary::{Build, ReadError};
 use avro_schema::{Limits, Memory, Schema};
 use std::alloc::Global;
 
-/// What [`judge`] answers is right, by its clauses alone.
+/// What [`judge`] returns is right, by its clauses alone.
 ///
 /// # Errors
 ///
@@ -28,7 +28,7 @@ pub fn judge_is_right<'a>(
     judge(alloc, writer, reader, limits)
 }
 
-/// What [`Approved::read`] answers is right, by its clauses alone.
+/// What [`Approved::read`] returns is right, by its clauses alone.
 ///
 /// # Errors
 ///

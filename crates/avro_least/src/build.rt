@@ -83,7 +83,7 @@ fn leaf(alloc: Global, node: &Node) -> Result<Datum, Memory>
     }
 }
 
-/// An index as a datum holds it. No union or enum has an index above the greatest `u32`.
+/// An index as a datum holds it. No union or enum has an index over `u32::MAX`.
 pub(crate) fn as_index(k: usize) -> u32
     ensures { k < 4294967296 → result ≡ k }
 {
@@ -93,7 +93,7 @@ pub(crate) fn as_index(k: usize) -> u32
     }
 }
 
-/// A value in the branch of a union that is at an index.
+/// A value in the branch of a union at an index.
 pub(crate) fn wrap(alloc: Global, k: usize, value: Datum) -> Result<Datum, Memory>
     ensures { IfOk result (λ d. k < 4294967296 → value_of d ≡ Value.union k (value_of value)) }
 {

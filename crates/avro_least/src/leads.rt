@@ -40,7 +40,7 @@ pub(crate) fn leads_at(rows: &[Vec<Lead>], i: usize) -> &[Lead]
     }
 }
 
-/// So many rows, each with nothing in it.
+/// This many empty rows.
 fn empty_rows(alloc: Global, count: usize) -> Result<Vec<Vec<Lead>>, Memory>
     ensures { IfOk result (λ t. length t.items ≡ count) }
 {

@@ -119,7 +119,7 @@ fn start(alloc: Global, writer: &Schema, limit: u32) -> Result<Search, Memory>
     Ok(search)
 }
 
-/// So many hints, each the first field.
+/// This many hints, each the first field.
 fn first_fields(alloc: Global, count: usize) -> Result<Vec<usize>, Memory>
     ensures { IfOk result (λ hints. length hints.items ≡ count) }
 {

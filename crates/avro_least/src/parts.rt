@@ -121,7 +121,7 @@ pub(crate) fn value_alone(table: &[Option<Least>], w: NodeId, ask: &Ask) -> Opti
     }
 }
 
-/// For each field, the entry of the least data of all behind it.
+/// For each field, the entry of the least data of all after it.
 fn behind(
     alloc: Global,
     limit: u32,

@@ -173,8 +173,8 @@ pub(crate) fn ask_at_index(reached: &Reached, i: usize) -> &Ask
     &reached.asks[i]
 }
 
-/// All pairs that the roots lead to. A pair whose writer's node has no data, as the table of the writer's least data
-/// tells, is left out.
+/// All pairs that the roots lead to. A pair whose writer's node has no data, by the table of the
+/// writer's least data, is left out.
 ///
 /// # Errors
 ///

@@ -40,7 +40,7 @@ pub(crate) fn entry_at(entries: &[Option<Least>], i: usize) -> Option<Least>
 impl Search {
     ghost use Rattle.avro_least.specs.inside.Falling.{is_waiting, lowered, effort, IsSearch};
 
-    /// A table of so many entries, none of which is known.
+    /// A table of this many entries, none of them known.
     pub(crate) fn new(alloc: Global, count: usize) -> Result<Search, Memory>
         ensures search { IfOk result IsSearch }
         ensures entries { IfOk result (λ s. s.entries.items ≡ replicate count None) }

@@ -21,7 +21,7 @@ pub(crate) fn users_at(rows: &[Vec<u32>], i: usize) -> &[u32]
     }
 }
 
-/// So many rows, each with nothing in it.
+/// This many empty rows.
 fn no_users(alloc: Global, count: u32) -> Result<Vec<Vec<u32>>, Memory>
     ensures one_each { IfOk result (λ rows. length rows.items ≡ count) }
     ensures none { IfOk result (λ rows. (p w : ℕ) → is_key (users_at rows.items p) w ≡ false) }

@@ -15,7 +15,7 @@ use std::cmp::Ordering;
 use std::hash::{Hash, Hasher};
 use std::marker::Model;
 
-/// A fullname: a namespace, and a simple name that is none of a primitive type. Names are compared by
+/// A fullname: a namespace, and a simple name that is not that of a primitive type. Names are compared by
 /// their simple parts first, so that names of one long namespace differ there, without a look at it.
 #[derive(Debug, Drop)]
 pub struct FullName {

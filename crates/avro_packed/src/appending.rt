@@ -16,8 +16,8 @@ use std::marker::Model;
 /// Appends the plain encoding of what is read to an output of its own, as it is read. What is for a branch of a union has
 /// the index of the branch in front.
 ///
-/// Items of arrays and entries of maps are moved into a room of their own, since their number stands before them. Rooms are
-/// kept for later.
+/// Items of arrays and entries of maps are moved into a room of their own, since their number comes
+/// before them. Rooms are kept for later.
 #[derive(Drop)]
 pub struct Appending {
     pub(crate) out: Vec<u8>,
@@ -70,7 +70,7 @@ impl Appending {
         give_back(&mut self.spares, written);
     }
 
-    /// Writes the index of a branch, if there is one, and answers where.
+    /// Writes the index of a branch, if there is one, and returns where.
     #[inline(always)]
     pub(crate) fn begin(&mut self, branch: Option<u32>) -> Result<usize, AllocError>
         ensures begun { OnOk result (self.new ≡ self.old ++ branch_bytes branch) }

@@ -16,8 +16,9 @@ use avro_binary::{ReadError, read_made};
 use avro_schema::{Limits, Schema};
 use std::alloc::Global;
 
-/// Reads a datum of the root of the schema from the front of bytes, appends its plain encoding to an output, and answers the
-/// length of what was read. The room is kept from datum to datum; what it holds says nothing.
+/// Reads a datum of the root of the schema from the front of bytes, appends its plain encoding to
+/// an output, and returns the length of what was read. The room is kept from datum to datum; what
+/// it holds says nothing.
 ///
 /// # Errors
 ///

@@ -19,7 +19,8 @@ use avro_schema::Limits;
 use std::alloc::Global;
 
 /// Reads a writer's datum from the front of bytes by a plan, appends the plain encoding of what it is for the reader to an
-/// output, and answers the length of what was read. The room is kept from datum to datum; what it holds says nothing.
+/// output, and returns the length of what was read. The room is kept from datum to datum; what it
+/// holds says nothing.
 ///
 /// # Errors
 ///

@@ -49,7 +49,7 @@ impl Short {
         }
     }
 
-    /// Adds bytes, or answers that there is no room.
+    /// Adds bytes, or reports that there is no room.
     fn append(&mut self, bytes: &[u8]) -> bool
         ensures { T result → self.new ≡ self.old ++ bytes.now }
     {

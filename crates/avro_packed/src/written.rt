@@ -1,4 +1,4 @@
-/// Where the bytes of a part stand that was read into an output.
+/// Where the bytes of a part are that was read into an output.
 #[derive(Debug, Drop)]
 pub enum Written {
     /// In the output, from one offset to another.

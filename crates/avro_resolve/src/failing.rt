@@ -26,7 +26,7 @@ pub(crate) fn fault_apart(alloc: Global, kind: FaultKind) -> Result<Box<Fault>, 
     Ok(Box::new(alloc, faulty(alloc, kind))?)
 }
 
-/// The same fault, seen from the datum around, where it is kept.
+/// The same fault, seen from the enclosing datum, where it is kept.
 #[inline(never)]
 pub(crate) fn step_apart(step: usize, fault: Box<Fault>) -> Result<Box<Fault>, AllocError>
     ensures { IfOk result (λ outer. turned outer.value ≡ within step (turned fault.value)) }
@@ -36,8 +36,8 @@ pub(crate) fn step_apart(step: usize, fault: Box<Fault>) -> Result<Box<Fault>, A
     Ok(outer)
 }
 
-/// The same fault, seen from the datum around. Paths are kept from their end, so that each level is a
-/// step at the back.
+/// The same fault, seen from the enclosing datum. Paths are kept in reverse, so that each level is
+/// a step at the back.
 pub(crate) fn step_out(step: usize, fault: Fault) -> Result<Fault, AllocError>
     ensures { IfOk result (λ outer. turned outer ≡ within step (turned fault)) }
 {
@@ -47,7 +47,7 @@ pub(crate) fn step_out(step: usize, fault: Fault) -> Result<Fault, AllocError>
     Ok(Fault { kind, path })
 }
 
-/// A fault whose path was kept from its end, with its path from the root.
+/// A fault that kept its path in reverse, with its path from the root.
 pub(crate) fn turn(fault: Fault) -> Fault
     ensures { fault_of result ≡ turned fault }
 {
@@ -72,7 +72,7 @@ pub(crate) fn fault_here(alloc: Global, kind: FaultKind) -> ResolveError
     ResolveError::Fault(faulty(alloc, kind))
 }
 
-/// The same error, seen from the datum around.
+/// The same error, seen from the enclosing datum.
 pub(crate) fn fault_in(step: usize, error: ResolveError) -> ResolveError
     ensures { (resolved : Resolved) → Fails error resolved → Fails result (inside step resolved) }
 {

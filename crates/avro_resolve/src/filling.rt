@@ -38,7 +38,7 @@ pub(crate) fn fill_data(
 }
 
 /// What is made of the fields of a reader's record, in its order: each is what is in the slot of its
-/// source, or its default. Answers the slots, too.
+/// source, or its default. Returns the slots, too.
 pub(crate) fn fill<P: Put>(
     alloc: Global,
     builder: &mut P,
@@ -92,7 +92,7 @@ fn value_of_field<P: Put>(
     }
 }
 
-/// What a slot holds, which is empty then.
+/// Takes what a slot holds, and leaves the slot empty.
 fn taken<O: Drop>(slots: &mut Vec<Option<O>>, index: usize) -> Option<O>
     ensures this { result ≡ slot_out (slice_get slots.old.items index) }
     ensures others { (k : ℕ) → (k ≡ index → ⊥) → slice_get slots.new.items k ≡ slice_get slots.old.items k }

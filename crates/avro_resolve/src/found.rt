@@ -25,7 +25,7 @@ impl Found {
         self.pairs.get(index).copied()
     }
 
-    /// The index of a pair, which is added behind the others where it is new.
+    /// The index of a pair, which is added after the others where it is new.
     pub fn index_of(&mut self, w: NodeId, r: NodeId) -> Result<u32, Memory> {
         match self.indices.get(&(w, r)) {
             Some(index) => return Ok(*index),

@@ -17,7 +17,7 @@ pub struct Part {
 pub enum Made<O> {
     /// What it is for the reader.
     Good(O),
-    /// Its fault, whose path is kept from its end.
+    /// Its fault, with its path kept in reverse.
     Faulty(Box<Fault>),
     /// Nothing, since nothing was asked.
     Nothing,
@@ -29,7 +29,7 @@ pub enum Run<I> {
     /// All of them, how many they are, the branch of the reader's union to go into, and the nodes of the
     /// next, the writer's and the reader's.
     Good(I, usize, Option<u32>, NodeId, NodeId),
-    /// The fault of one, whose path is kept from its end.
+    /// The fault of one, with its path kept in reverse.
     Faulty(Box<Fault>),
     /// Nothing, since nothing was asked.
     Nothing,
@@ -41,7 +41,7 @@ pub enum Slots<O, F> {
     /// A slot for each of the writer's, which is empty where the field is ignored, the start of the reader's, the
     /// branch of the reader's union to go into, and the nodes of the records, the writer's and the reader's.
     Good(Vec<Option<O>>, F, Option<u32>, NodeId, NodeId),
-    /// The fault of one, or of the record, whose path is kept from its end.
+    /// The fault of one, or of the record, with its path kept in reverse.
     Faulty(Box<Fault>),
     /// Nothing, since nothing was asked.
     Nothing,

@@ -1,15 +1,15 @@
 //! Schema resolution (Avro 1.11, "Schema Resolution"): what a datum of a writer's schema is for a
 //! reader's schema.
 //!
-//! [`resolve`] answers it of a datum that is at hand. [`read_resolved`] answers it of bytes, which are
+//! [`resolve`] returns this for a datum at hand. [`read_resolved`] does so for bytes, which are
 //! read once: a builder gets each part as it is for the reader, and no writer's datum is made.
-//! [`decode_resolved`] is the same with the datum as the answer.
+//! [`decode_resolved`] is the same with the datum as the result.
 //!
-//! [`compare`] finds what two nodes are to each other, by [`Names`], the tables of names of two schemas. A
+//! [`compare`] finds how two nodes relate, by [`Names`], the tables of names of two schemas. A
 //! [`PlanTable`] keeps what was found of some pairs of nodes: of those that it is given, or of those that the
 //! roots lead to. A [`Plan`] reads as [`read_resolved`] does, by such a table beside its schemas; a [`PlanRef`]
-//! borrows both. What is built of a datum is said of what was built alone; a [`Put`] may keep an output as it goes, and what it
-//! made stands in that.
+//! borrows both. A builder's contracts are about what was built alone; a [`Put`] may keep an output
+//! as it goes, and what it made is in that output.
 #![tactic(auto)]
 
 mod error;

@@ -18,7 +18,7 @@ fn in_order(alloc: Global, pairs: &[Comparison]) -> Result<Vec<IndexedPair>, Mem
     Ok(order)
 }
 
-/// The index of a pair, and 0 where it is not among them. What is kept at an index says itself which pair
+/// The index of a pair, and 0 where it is not among them. What is kept at an index says which pair
 /// it is of.
 fn index_in(order: &[IndexedPair], w: NodeId, r: NodeId) -> u32 {
     let at = match order.binary_search(&(w, r, 0)) {

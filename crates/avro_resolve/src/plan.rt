@@ -38,8 +38,8 @@ impl<'a> Plan<'a> {
     ghost use Rattle.avro_resolve.specs.Reading.{BuildsResolved};
     ghost use Rattle.avro_resolve.specs.Tables.{IsTableOf};
 
-    /// The plan that keeps these pairs of a writer's node and a reader's, which may be in any order. A pair that
-    /// is not among them is resolved all the same, by its names.
+    /// The plan that keeps these pairs of a writer's node and a reader's, in any order. A pair that
+    /// is not among them is still resolved, by its names.
     ///
     /// # Errors
     ///

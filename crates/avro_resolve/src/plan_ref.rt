@@ -85,8 +85,8 @@ impl<'a> PlanRef<'a> {
         read_planned(alloc, self, bytes, limits, builder)
     }
 
-    /// Reads a writer's datum once, as [`read`](PlanRef::read) does, and answers what is made of what it is for the reader by
-    /// one who keeps something as it goes, with the length of its encoding.
+    /// Reads a writer's datum once, as [`read`](PlanRef::read) does, and returns what a
+    /// [`Put`](crate::Put) makes of what it is for the reader, with the length of its encoding.
     ///
     /// # Errors
     ///
@@ -143,8 +143,8 @@ impl<'a> PlanRef<'a> {
         }
     }
 
-    /// The index at which the pair is kept that the pair at `index` leads to, if it is kept. That is another pair if
-    /// it leads to a branch of the reader's union, and else the same.
+    /// The index of the pair that the pair at `index` leads to, if it is kept. That is another pair
+    /// if it leads to a branch of the reader's union, and else the same.
     #[inline(always)]
     pub(crate) fn index_to(&self, index: u32, branch: Option<u32>) -> u32 {
         match branch {

@@ -6,11 +6,11 @@ ghost use Rattle.avro_resolve.specs.IntoBranch.{in_branch};
 use avro_schema::Datum;
 use std::alloc::{AllocError, Global};
 
-/// What is made of a datum that is read for a reader, by one who keeps something as it goes: an output, for instance. A call
-/// is told the branch of the reader's union that its datum goes into, where there is one.
+/// A builder of data that are read for a reader, which may keep something as it goes: an output,
+/// for instance. A call is given the branch of the reader's union that its datum goes into, if any.
 ///
-/// A call fails only where memory runs out. What an answer stands for is said as its maker then is; it stays so at every
-/// later one that keeps it.
+/// A call fails only if memory runs out. What a result stands for is defined by its maker at that
+/// time; it is the same for every later maker that keeps it.
 pub trait Put {
     /// What is made of a datum.
     type Out: Drop;
@@ -27,7 +27,7 @@ pub trait Put {
     /// Which later makers keep what one has made.
     ghost keeps: { Self → Self → Type 0 };
 
-    /// Which datum an answer stands for.
+    /// Which datum a result stands for.
     ghost stands_for: { Self → Self.Out → Value → Type 0 };
 
     /// Which data some items stand for.
@@ -99,7 +99,7 @@ pub trait Put {
         ensures kept { OnOk result (keeps self.old self.new) }
         ensures stands { IfOk result (λ out. stands_for self.new out (in_branch into (Value.fixed content.now))) };
 
-    /// Makes an enum, of the index of its symbol.
+    /// Makes an enum from the index of its symbol.
     fn symbol(
         &mut self,
         alloc: Global,
@@ -109,7 +109,7 @@ pub trait Put {
         ensures kept { OnOk result (keeps self.old self.new) }
         ensures stands { IfOk result (λ out. stands_for self.new out (in_branch into (Value.enum index))) };
 
-    /// Makes a datum that is at hand: the default of a field.
+    /// Makes a datum at hand: the default of a field.
     fn default(&mut self, alloc: Global, datum: &Datum) -> Result<Self::Out, AllocError>
         ensures kept { OnOk result (keeps self.old self.new) }
         ensures stands { IfOk result (λ out. stands_for self.new out (value_of datum.now)) };
@@ -119,7 +119,7 @@ pub trait Put {
         ensures kept { OnOk result (keeps self.old self.new) }
         ensures stands { IfOk result (λ items. items_stand_for self.new items []) };
 
-    /// Adds an item behind those before.
+    /// Adds an item after those before.
     fn item(
         &mut self,
         alloc: Global,
@@ -130,7 +130,7 @@ pub trait Put {
         ensures stands { (vs : List Value) (v : Value) → items_stand_for self.old items.old vs → stands_for self.old value v
             → OnOk result (items_stand_for self.new items.new (vs ++ v ∷ [])) };
 
-    /// Makes an array, of its items.
+    /// Makes an array from its items.
     fn array(
         &mut self,
         alloc: Global,
@@ -146,7 +146,7 @@ pub trait Put {
         ensures kept { OnOk result (keeps self.old self.new) }
         ensures stands { IfOk result (λ entries. entries_stand_for self.new entries []) };
 
-    /// Adds an entry behind those before.
+    /// Adds an entry after those before.
     fn entry(
         &mut self,
         alloc: Global,
@@ -158,7 +158,7 @@ pub trait Put {
         ensures stands { (es : List (List ℕ × Value)) (v : Value) → entries_stand_for self.old entries.old es → stands_for self.old value v
             → OnOk result (entries_stand_for self.new entries.new (es ++ (key.now, v) ∷ [])) };
 
-    /// Makes a map, of its entries.
+    /// Makes a map from its entries.
     fn map(
         &mut self,
         alloc: Global,
@@ -174,7 +174,7 @@ pub trait Put {
         ensures kept { OnOk result (keeps self.old self.new) }
         ensures stands { IfOk result (λ fields. fields_stand_for self.new into fields []) };
 
-    /// Adds the value of the next field behind those before.
+    /// Adds the value of the next field after those before.
     fn field(
         &mut self,
         alloc: Global,
@@ -185,7 +185,7 @@ pub trait Put {
         ensures stands { (into : Option ℕ) (vs : List Value) (v : Value) → fields_stand_for self.old into fields.old vs → stands_for self.old value v
             → OnOk result (fields_stand_for self.new into fields.new (vs ++ v ∷ [])) };
 
-    /// Makes a record, of the values of its fields in order.
+    /// Makes a record from the values of its fields in order.
     fn record(&mut self, alloc: Global, fields: Self::Fields) -> Result<Self::Out, AllocError>
         ensures kept { OnOk result (keeps self.old self.new) }
         ensures stands { (into : Option ℕ) (vs : List Value) → fields_stand_for self.old into fields vs
@@ -203,10 +203,10 @@ pub trait Put {
     /// A maker keeps what it has made.
     ghost keeps_itself: { (s : Self) → keeps s s };
 
-    /// What is kept is kept on.
+    /// Keeping is transitive.
     ghost keeps_on: { (s t u : Self) → keeps s t → keeps t u → keeps s u };
 
-    /// An answer stands for the same datum at a later maker.
+    /// A result stands for the same datum at a later maker.
     ghost still_stands: { (s t : Self) (out : Self.Out) (v : Value) → keeps s t → stands_for s out v → stands_for t out v };
 
     /// Items stand for the same data.

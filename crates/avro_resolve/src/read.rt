@@ -13,8 +13,8 @@ use avro_compare::At;
 use avro_schema::{Datum, Limits, Schema};
 use std::alloc::Global;
 
-/// Reads a writer's datum from the front of bytes, and answers the datum that it is for the reader, with
-/// the length of its encoding (Avro 1.11, "Schema Resolution").
+/// Reads a writer's datum from the front of bytes, and returns the datum that it is for the reader,
+/// with the length of its encoding (Avro 1.11, "Schema Resolution").
 ///
 /// # Errors
 ///
@@ -32,10 +32,10 @@ pub fn decode_resolved(
     read_resolved(alloc, writer, reader, bytes, limits, &mut tree)
 }
 
-/// Reads a writer's datum from the front of bytes once, and answers what a builder builds of what it is for
-/// the reader, with the length of its encoding (Avro 1.11, "Schema Resolution"). No writer's datum is made:
-/// a field that the reader ignores is walked over, and so is the rest of the datum after a fault of
-/// resolution.
+/// Reads a writer's datum from the front of bytes once, and returns what a builder builds of what
+/// it is for the reader, with the length of its encoding (Avro 1.11, "Schema Resolution"). No
+/// writer's datum is made: a field that the reader ignores is walked over, and so is the rest of
+/// the datum after a fault of resolution.
 ///
 /// # Errors
 ///
@@ -69,7 +69,7 @@ pub(crate) fn read_planned<B: Build>(
     put_planned(alloc, plan, bytes, limits, &mut put)
 }
 
-/// The same by one who keeps something as it goes.
+/// The same by a [`Put`](crate::Put), which may keep something as it goes.
 pub(crate) fn put_planned<P: Put>(
     alloc: Global,
     plan: &PlanRef<'_>,

@@ -100,7 +100,7 @@ fn ignored() -> Part
     }
 }
 
-/// Adds what was made of a field behind those before, and finds what the next is for.
+/// Adds what was made of a field after those before, and finds what the next is for.
 pub(crate) fn fill_next<P: Put>(
     builder: &P,
     plan: &PlanRef<'_>,
@@ -116,7 +116,7 @@ pub(crate) fn fill_next<P: Put>(
     Ok(())
 }
 
-/// Adds what was made of a field behind those before.
+/// Adds what was made of a field after those before.
 fn put_field<P: Put>(
     _builder: &P,
     fields: &mut Slots<P::Out, P::Fields>,
@@ -147,7 +147,7 @@ fn put_field<P: Put>(
     }
 }
 
-/// What was made of a record, of its fields: the reader's in its order.
+/// What was made of a record, from its fields: the reader's in its order.
 pub(crate) fn make_record<P: Put>(
     alloc: Global,
     builder: &mut P,

@@ -11,8 +11,8 @@ use avro_binary::Make;
 use avro_compare::{Aim, At};
 use std::alloc::{AllocError, Global};
 
-/// Makes of each part of a writer's datum what it is for a reader, by one who is told so. A part that
-/// no reader's field takes is read and not made, and so are all parts after a fault.
+/// Makes each part of a writer's datum as what it is for a reader, by a plan and a builder. A part
+/// that no reader's field takes is read and not made, and so are all parts after a fault.
 #[derive(Drop)]
 pub struct Resolving<'p, 'a, 'b, P> {
     plan: &'p PlanRef<'a>,

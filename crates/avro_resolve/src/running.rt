@@ -53,7 +53,7 @@ pub(crate) fn start_items<P: Put>(
     }
 }
 
-/// Adds what was made of an item behind those before.
+/// Adds what was made of an item after those before.
 pub(crate) fn put_item<P: Put>(
     alloc: Global,
     builder: &mut P,
@@ -84,7 +84,7 @@ pub(crate) fn put_item<P: Put>(
     }
 }
 
-/// What was made of an array, of its items.
+/// What was made of an array, from its items.
 pub(crate) fn make_array<P: Put>(
     alloc: Global,
     builder: &mut P,
@@ -129,7 +129,7 @@ pub(crate) fn start_entries<P: Put>(
     }
 }
 
-/// Adds what was made of an entry's value behind those before.
+/// Adds what was made of an entry's value after those before.
 pub(crate) fn put_entry<P: Put>(
     alloc: Global,
     builder: &mut P,
@@ -161,7 +161,7 @@ pub(crate) fn put_entry<P: Put>(
     }
 }
 
-/// What was made of a map, of its entries.
+/// What was made of a map, from its entries.
 pub(crate) fn make_map<P: Put>(
     alloc: Global,
     builder: &mut P,

@@ -7,8 +7,8 @@ use std::test::Fail;
 const RECORD: &str =
     r#"{"type":"record","name":"R","namespace":"a","aliases":["S","b.T"],"fields":[{"name":"e","type":{"type":"enum","name":"E","symbols":["X"]}},{"name":"f","type":"E"},{"name":"g","type":"a.E"}]}"#;
 
-/// Texts, and what their root and the node of its last field are. A namespace is not looked at beside a dot, and a record
-/// may hold itself.
+/// Texts, and what their root and the node of its last field are. A namespace is ignored beside a
+/// name with a dot, and a record may hold itself.
 const ROOTS: [(&str, &str); 8] = [
     (RECORD, "2 nodes: a R, a S, b T: 1 1 1"),
     (

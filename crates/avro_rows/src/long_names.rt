@@ -3,7 +3,7 @@ use avro_schema_json::{SchemaError, read_schema};
 use std::alloc::{AllocError, Global};
 use std::test::Fail;
 
-/// So many letters.
+/// This many letters.
 fn letters(alloc: Global, count: usize) -> Result<String, AllocError> {
     let mut text = String::new(alloc);
     for _ in 0..count {

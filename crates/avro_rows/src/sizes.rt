@@ -51,7 +51,7 @@ fn repeated(alloc: Global, part: &str, count: usize) -> Result<String, AllocErro
     Ok(text)
 }
 
-/// A middle, with `count` of one text before it and of another behind it.
+/// A middle, with `count` of one text before it and of another after it.
 fn nested(
     alloc: Global,
     open: &str,

@@ -1,4 +1,4 @@
-//! Runs of the program `avro` within tests: what it reads, answers and writes.
+//! Runs of the program `avro` within tests: its input, exit status and output.
 #![tactic(auto)]
 
 use avro_tool::run;
@@ -7,7 +7,7 @@ use std::io;
 use std::io::{Read, Write};
 use std::rt::Files;
 
-/// What a run of the program answered and wrote.
+/// The exit status of a run of the program, and what it wrote.
 #[derive(Drop)]
 pub struct Outcome {
     /// The exit status.
@@ -57,7 +57,7 @@ pub fn words_of<R: AllocGlobal>(rt: &R, line: &str) -> Result<Vec<String>, Alloc
     Ok(list)
 }
 
-/// How many ends of lines a text has.
+/// How many line ends a text has.
 pub fn lines_of(text: &str) -> usize {
     let mut count: usize = 0;
     for byte in text.as_bytes() {

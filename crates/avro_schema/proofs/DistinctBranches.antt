@@ -62,7 +62,7 @@ module _ (nodes : List Node) where
       let both = and_parts (not (list_any (same_kind found.0) (filter_map (kind_at nodes) xs))) (are_distinct same_kind (filter_map (kind_at nodes) xs)) h' in
       rw (none_again x found.0 xs found.1 parts.1 (not-true (list_any (same_kind found.0) (filter_map (kind_at nodes) xs)) both.0), distinct_ids xs parts.1 both.1) refl
 
-  -- where a node stands twice there is no union
+  -- where a node occurs twice there is no union
   pub repeated_branch : (ids : List ℕ) → false ≡ are_distinct (eq_by_cmp nat_cmp) ids → false ≡ is_union nodes ids
   repeated_branch ids twice =
       sym (false_from_ne_true (is_union nodes ids) (λ h.

@@ -26,7 +26,7 @@ least_long = refl
 past_greatest_long : fits [] Node.long (Value.long (pos 9223372036854775808)) ≡ false
 past_greatest_long = refl
 
--- an int is no datum of a long
+-- an int is not a datum of a long
 int_for_long : fits [] Node.long (Value.int (pos 1)) ≡ false
 int_for_long = refl
 

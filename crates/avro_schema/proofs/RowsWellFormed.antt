@@ -64,7 +64,7 @@ two_fixed_branches : is_schema
     (Node.union (1 ∷ 2 ∷ []) ∷ Node.fixed (simply (codes "F")) [] 2 ∷ Node.fixed (simply (codes "G")) [] 2 ∷ []) ≡ true
 two_fixed_branches = refl
 
--- enums: no symbol, a symbol twice, a symbol that is no name, and the index of the default
+-- enums: no symbol, a symbol twice, a symbol that is not a name, and the index of the default
 abbrev enum_of : List (List ℕ) → Option ℕ → List Node
 enum_of symbols default = Node.enum (simply (codes "E")) [] symbols default ∷ []
 

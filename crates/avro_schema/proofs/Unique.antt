@@ -60,7 +60,7 @@ from_pair R o (y ∷ ys) up apart k below pair =
     (o.antisymm _ _) (up k y (omega arith) below) (pair y) in
     false≢true (sym (apart_from_distinct (eq_by_cmp R) (y ∷ ys) k (k + 1) y apart (omega arith) below) ∙ equal)
 
--- the answer of a test of neighbours, once they are sorted
+-- the result of a test of neighbours, once they are sorted
 pub distinct-answer : {K : Type 0} (R : K → K → Ordering) → IsTotalOrder R → (xs ys : List K) → IsPermutation xs ys → (r : Bool) → IsSorted R ys
     → MatchBool r (AllAdjacentBelow (λ x y. R x y ≡ Less) ys (length ys))
     ((k : ℕ) × (k + 1 < length ys) × ((d : K) → R (get_or ys k d) (get_or ys (k + 1) d) ≡ Less → ⊥))

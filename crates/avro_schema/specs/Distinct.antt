@@ -1,4 +1,4 @@
--- Lists in which no element stands twice.
+-- Lists in which no element occurs twice.
 use Rattle.std.specs.Prelude.{Bool, true, not, ◌&&◌, List, [], ◌∷◌}
 use Rattle.std.specs.List.{list_any}
 

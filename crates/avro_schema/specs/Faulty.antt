@@ -12,7 +12,7 @@ pub data NodeFault : Type 0 where
   unknown_node : NodeFault
   -- two types with one fullname
   duplicate_name : NodeFault
-  -- a symbol, or a name or alias of a type or a field, that is no name
+  -- a symbol, or a name or alias of a type or a field, that is not a name
   invalid_name : NodeFault
   -- a union with no branch, a union as a branch, or two branches of one kind
   invalid_union : NodeFault
@@ -20,7 +20,7 @@ pub data NodeFault : Type 0 where
   invalid_symbols : NodeFault
   -- a name or alias twice among the fields of a record
   duplicate_field : NodeFault
-  -- a default that is no datum of its field
+  -- a default that is not a datum of its field
   invalid_default : NodeFault
   -- no node or too many; too many symbols, or bytes of a fixed
   limit_exceeded : NodeFault

@@ -18,7 +18,7 @@ max_count = 1048576
 abbrev pub is_edge : List Node → ℕ → ℕ → Bool
 is_edge nodes from to = nat_lt to (length nodes) && (nat_lt from to || is_some (node_name (node_at nodes to)))
 
--- the kind of a union's branch: none twice, but for named types, which differ by their names
+-- the kind of a union's branch: none twice, except for named types, which differ by their names
 pub data BranchKind : Type 0 where
   unnamed : ℕ → BranchKind
   named : Name → BranchKind

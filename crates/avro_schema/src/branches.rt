@@ -14,7 +14,7 @@ use crate::uniqueness::are_unique;
 use avro_name::FullName;
 use std::alloc::Global;
 
-/// What may stand once among the branches of a union.
+/// What may occur only once among the branches of a union.
 #[derive(Clone, Copy, Debug, PartialEq, Eq, PartialOrd, Ord)]
 pub(crate) enum Kind<'a> {
     Null,
@@ -76,8 +76,8 @@ fn kinds<'a>(
     Ok(Some(kinds))
 }
 
-/// Whether no node stands twice. It looks at the numbers alone, so that long names that are used many
-/// times are not compared.
+/// Whether no node occurs twice. It looks only at the numbers, so that long names that are used
+/// many times are not compared.
 fn are_unique_ids(alloc: Global, branches: &[NodeId]) -> Result<bool, Memory>
     ensures { IfOk result (λ answer. answer ≡ are_distinct (eq_by_cmp nat_cmp) (ids_of branches.now)) }
 {
@@ -104,7 +104,7 @@ pub(crate) fn is_union(alloc: Global, nodes: &[Node], branches: &[NodeId]) -> Re
     }
 }
 
-/// Whether no kind stands twice.
+/// Whether no kind occurs twice.
 fn are_unique_kinds(kinds: Vec<Kind<'_>>) -> Result<bool, Memory>
     ensures { IfOk result (λ answer. answer ≡ are_distinct same_kind (map kind_of kinds.entry.items)) }
 {

@@ -147,7 +147,7 @@ fn check_record(
     ensures good { OnOk result (is_good_node (nodes_of nodes.now) id (node_of (kept.Record record_node.now)) ≡ true) }
     ensures broken { IfErr result (IsRefusedAt (nodes_of nodes.now) id (node_of (kept.Record record_node.now))) }
 {
-    // A name that is read is known to be a fullname, which the rules of the node ask of it.
+    // A name that is read is known to be a fullname, as the rules of the node require.
     let _ = record_node.name.simple();
     read_names(&record_node.aliases);
     if !are_field_edges(nodes, id, &record_node.fields) {
@@ -176,7 +176,7 @@ fn check_enum(
     ensures good { OnOk result (is_good_node (nodes_of nodes.now) id (node_of (kept.Enum enumeration.now)) ≡ true) }
     ensures broken { IfErr result (IsRefusedAt (nodes_of nodes.now) id (node_of (kept.Enum enumeration.now))) }
 {
-    // A name that is read is known to be a fullname, which the rules of the node ask of it.
+    // A name that is read is known to be a fullname, as the rules of the node require.
     let _ = enumeration.name.simple();
     read_names(&enumeration.aliases);
     let count = enumeration.symbols.len();
@@ -209,7 +209,7 @@ fn check_fixed(nodes: &[Node], id: usize, fixed: &FixedNode) -> Result<(), Draft
     ensures good { OnOk result (is_good_node (nodes_of nodes.now) id (node_of (kept.Fixed fixed.now)) ≡ true) }
     ensures broken { IfErr result (IsRefusedAt (nodes_of nodes.now) id (node_of (kept.Fixed fixed.now))) }
 {
-    // A name that is read is known to be a fullname, which the rules of the node ask of it.
+    // A name that is read is known to be a fullname, as the rules of the node require.
     let _ = fixed.name.simple();
     read_names(&fixed.aliases);
     if fixed.size > FixedNode::MAX_SIZE {

@@ -23,7 +23,7 @@ impl<T: Drop> From<AllocFailed<T>> for Memory {
     }
 }
 
-/// A datum, which a schema says the type of (Avro 1.11, "Schema Declaration").
+/// A datum, whose type a schema gives (Avro 1.11, "Schema Declaration").
 #[derive(Debug, PartialEq, Drop)]
 pub enum Datum {
     /// Null.
@@ -53,7 +53,7 @@ pub enum Datum {
 }
 
 /// The number of nodes of a datum, or the greatest `u64` where there are more. A union is a node
-/// and its value another; keys are none.
+/// and its value another; keys are not counted.
 #[cycle(size)]
 pub fn size(datum: &Datum) -> u64
     ensures { result ≡ min (value_size (value_of datum.now)) (2 ^ 64 - 1) }

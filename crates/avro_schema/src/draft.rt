@@ -5,7 +5,7 @@ use crate::fault::DraftError;
 use crate::schema::{Node, NodeId, Schema};
 use std::alloc::Global;
 
-/// Nodes that are to be a schema, in the order of their numbers.
+/// Nodes that are to become a schema, in the order of their numbers.
 #[derive(Debug, Drop)]
 pub struct Draft {
     nodes: Vec<Node>,
@@ -52,7 +52,7 @@ impl Draft {
     ///
     /// # Errors
     ///
-    /// A fault that is there; each is described at its variant of [`DraftError`]. `OutOfMemory`.
+    /// One of the faults; each is described at its variant of [`DraftError`]. `OutOfMemory`.
     pub fn finish(self) -> Result<Schema, DraftError>
         ensures schema { IfOk result (λ schema. schema_nodes schema ≡ draft_nodes self) }
         ensures formed { OnOk result (is_schema (draft_nodes self) ≡ true) }

@@ -11,7 +11,7 @@ pub fn parts_are_smaller()
     ensures { (part whole : Value) → IsPart part whole → size part < size whole }
 {}
 
-/// Nodes are a schema exactly where no fault is there.
+/// Nodes are a schema exactly when they have no fault.
 pub fn schema_where_no_fault()
     ensures { (nodes : List Node) → is_schema nodes ≡ true ↔ ((fault : NodeFault) → IsThere fault nodes → ⊥) }
 {}

@@ -1,7 +1,7 @@
 use std::marker::Model;
 
-/// Limits of a writer's datum: its depth, its number of nodes, and the length of one bytes, string,
-/// key or fixed.
+/// Limits of a writer's datum: its depth, its number of nodes, and the length of any bytes,
+/// string, key or fixed.
 #[derive(Clone, Copy, Debug)]
 pub struct Limits {
     depth: u32,
@@ -42,13 +42,13 @@ impl Limits {
     ghost use Rattle.std.specs.Prelude.{◌≡◌, SomeIff};
     ghost use Rattle.avro_schema.specs.Ranges.{AreLimits};
 
-    /// The greatest depth that a limit may be.
+    /// The greatest depth that a limit may allow.
     pub const MAX_DEPTH: u32 = 256;
 
-    /// The greatest number of nodes that a limit may be.
+    /// The greatest number of nodes that a limit may allow.
     pub const MAX_NODES: u32 = 16_777_216;
 
-    /// The greatest length, in bytes, that a limit may be.
+    /// The greatest length, in bytes, that a limit may allow.
     pub const MAX_BLOB: u32 = 16_777_216;
 
     /// Limits, or nothing where one is 0 or too large.
@@ -81,7 +81,7 @@ impl Limits {
         self.nodes
     }
 
-    /// The greatest length of one bytes, string, key or fixed.
+    /// The greatest length of any bytes, string, key or fixed.
     pub fn blob(&self) -> u32
         ensures blob { result ≡ self.now.blob }
         ensures in_range { AreLimits self.now }

@@ -113,7 +113,7 @@ impl Schema {
     /// The greatest number of nodes.
     pub const MAX_NODES: usize = 4096;
 
-    /// A schema of nodes that are one.
+    /// A schema of nodes that form one.
     pub(crate) fn from_nodes(nodes: Vec<Node>) -> Schema
         requires { is_schema (nodes_of nodes.items) ≡ true }
         ensures { schema_nodes result ≡ nodes_of nodes.items }
@@ -128,7 +128,7 @@ impl Schema {
         &self.nodes
     }
 
-    /// The node that the schema's data are of.
+    /// The node of the schema's data.
     pub fn root(&self) -> NodeId
         ensures root { result.0 ≡ 0 }
         ensures in_schema { result.0 < length (schema_nodes self.now) }

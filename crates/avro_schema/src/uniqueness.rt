@@ -1,4 +1,4 @@
-//! Whether no element of a list stands twice.
+//! Whether no element of a list occurs twice.
 
 ghost use Rattle.std.specs.Prelude.{◌≡◌, ℕ, ◌+◌, ◌<◌, length, map, bytes_eq, IfOk, MatchBool, slice_index_or};
 ghost use Rattle.std.specs.List.{AllAdjacentBelow};

@@ -29,7 +29,7 @@ pub or_else-first : (xs ys : List SchemaError) (e : SchemaError) → Contains xs
 or_else-first [] ys e c = absurd (omega (arith, c.1))
 or_else-first (x ∷ xs) ys e c = c
 
--- a default that is no datum
+-- a default that is not a datum
 pub or_else-unread : (xs : List SchemaError) (r : Bool) (e : SchemaError) → xs ≡ [] → r ≡ false → Contains (or_else xs (unless r e)) e
 or_else-unread xs r e none unread = rw (none, unread) (0, omega arith, refl)
 

@@ -167,7 +167,7 @@ pub fault-from_nodes : (tree : Data) (fault : SchemaError) → has_float tree �
 fault-from_nodes tree fault whole clean c =
     rw (whole, clean) (or_else-first (refusals_of_nodes (completed_nodes (made_of tree).nodes)) _ fault c)
 
--- a default that is no datum
+-- a default that is not a datum
 pub fault-from_defaults : (tree : Data) → has_float tree ≡ false → (made_of tree).faults ≡ []
     → is_schema (completed_nodes (made_of tree).nodes) ≡ true → are_all_defaults_read (made_of tree).nodes ≡ false
     → HasFault tree SchemaError.InvalidDefault

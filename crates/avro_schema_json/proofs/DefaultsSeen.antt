@@ -74,7 +74,7 @@ pub branches_end : (nodes : List Node) (d : Data) (ids : List NodeId) (i : ℕ) 
     → first_fit nodes (own_default nodes d) i (ids_of (drop i ids)) ≡ all → None ≡ all
 branches_end nodes d ids i all past whole = let none : drop i ids ≡ [] = drop_past ids i past in rw none at whole
 
--- values behind others
+-- values after others
 abbrev pub after_values : List Datum → Values → Values
 after_values [] vs = vs
 after_values (d ∷ ds) vs = value (value_of d) (after_values ds vs)
@@ -107,7 +107,7 @@ pub value_step : (all : Option Values) (done : List Datum) (d : Datum) (first : 
 value_step all done d first None whole is = let w = rw (← is) at whole in w
 value_step all done d first (Some vs) whole is = let w = rw (← is) at whole in ap Some (sym (after_values-push done d vs)) ∙ w
 
--- one is no default
+-- one is not a default
 pub value_stop : (all : Option Values) (done : List Datum) (first : Option Value) (rest : Option Values)
     → option_map (after_values done) (option_and_then (λ v. option_map (value v) rest) first) ≡ all → None ≡ first → None ≡ all
 value_stop all done first rest whole is = let w = rw (← is) at whole in w

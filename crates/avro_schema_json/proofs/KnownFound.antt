@@ -76,7 +76,7 @@ found_after q name id (first ∷ known) absent = by (found_after q name id known
     by rest true h = let other = taken q name known first h absent in rw (h, other) refl
     by rest false h = rw h rest
 
--- an answer that is one is the other
+-- a result that is one is the other
 pub answers_so : {T E : Type 0} {P Q : T → Type 0} (r : Result T E) → IfOk r P → ((x : T) → P x → Q x) → IfOk r Q
 answers_so (Ok x) h f = f x h
 answers_so (Err e) h f = h
@@ -93,7 +93,7 @@ found_in names space name simple id known numbered at spelled same answer =
 some_same : (a b : Name) → Some a ≡ Some b → a ≡ b
 some_same a b e = cc
 
--- a word without a dot stands in the enclosing namespace
+-- a word without a dot is in the enclosing namespace
 pub named_alone : (word enclosing : List ℕ) (name : Name) → has_dot word ≡ false → name_of word enclosing ≡ Some name → enclosing ≡ name.namespace
 named_alone word enclosing name none is = by (is_dotted_name word && not (is_primitive_word (split_name word enclosing).simple)) refl
   where

@@ -1,4 +1,4 @@
--- No fault of a tree says that the text is no JSON, or that memory ran out.
+-- No fault of a tree says that the text is not JSON, or that memory ran out.
 use Rattle.std.proofs.Common.{◌≡◌, ℕ, zero, suc, ◌+◌, ◌<◌, Bool, true, false, not, List, [], ◌∷◌, ◌++◌, Option, Some, None, Result, Ok, Err, length, refl, ap, arith, nat_lt, nat_le, subst, Ordering, sym, ◌∙◌, map}
 use Rattle.std.specs.Prelude.{Contains, slice_index_or, codes, is_some, option_and_then, ok_or, if◌then◌else◌}
 use Rattle.std.specs.List.{list_all}

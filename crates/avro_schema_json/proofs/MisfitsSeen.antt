@@ -1,4 +1,5 @@
--- What is kept of a JSON value, the nodes that it is no default of, says of the value and of what holds it.
+-- What is kept of a JSON value, the nodes that it is not a default of, says of the value and of
+-- what holds it.
 use Rattle.std.proofs.Common.{◌≡◌, ℕ, zero, suc, ◌+◌, ◌<◌, ◌≤◌, drop, ◌⊎◌, inl, inr, Bool, true, false, cond, List, [], ◌∷◌, ◌++◌, length, Option, Some, None, option_map, option_and_then, get_or, refl, sym, ap, subst, ◌∙◌, arith, Ordering}
 use Rattle.std.specs.Prelude.{slice_get, bytes_eq}
 use Rattle.std.specs.Ordering.{nat_cmp, is_eq}

@@ -19,7 +19,7 @@ pub reference-unknown : (word enclosing : List ℕ) (s : State) (name : Name) �
     → id_of name s.known ≡ None → Contains (made_at (reference word) enclosing s).faults SchemaError.UnknownName
 reference-unknown word enclosing s name is unknown = rw (is, unknown) (0, omega arith, refl)
 
--- ---- answers that are a model's, or want memory
+-- ---- results that are a model's, or want memory
 
 pub ok-or_memory : {A : Type 0} (x : A) (model : Result A SchemaError) → IsErrOf (Ok x) SchemaError.OutOfMemory ⊎ (Ok x ≡ model) → model ≡ Ok x
 ok-or_memory x model h = grind arith

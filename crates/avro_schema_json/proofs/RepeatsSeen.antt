@@ -1,4 +1,4 @@
--- A union in which a branch stands twice is a fault of the nodes with their defaults.
+-- A union in which a branch occurs twice is a fault of the nodes with their defaults.
 use Rattle.std.proofs.Common.{◌≡◌, ℕ, zero, suc, ◌+◌, ◌<◌, true, false, not, ◌&&◌, List, [], ◌∷◌, length, map, filter_map, Option, Some, None, get_or, ◌⊎◌, inl, inr, refl, sym, ap, subst, ◌∙◌, arith, nat_lt}
 use Rattle.std.specs.Prelude.{slice_get, bytes_eq, is_some}
 use Rattle.std.specs.List.{list_all, list_any, cons_option}
@@ -88,7 +88,7 @@ module _ (nodes : List Node) where
       let both = and_parts (not (list_any (same_kind found.0) (filter_map (kind_at nodes) zs))) (are_distinct same_kind (filter_map (kind_at nodes) zs)) h' in
       distinct_codes zs i j x y parts.1 both.1 (omega (arith, below)) at_x at_y same
 
-  -- where a branch stands twice there is no union
+  -- where a branch occurs twice there is no union
   repeated_branch : (ids : List ℕ) → Repeats nodes ids → is_union nodes ids ≡ false
   repeated_branch ids r =
       false_from_ne_true (is_union nodes ids) (λ h.

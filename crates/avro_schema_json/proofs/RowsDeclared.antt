@@ -16,7 +16,7 @@ declared_by text = option_and_then declared (read text)
 abbrev pub faults_by : List ℕ → Option (List SchemaError)
 faults_by text = option_map faults_of (read text)
 
--- a record in a namespace: its aliases stand there, and so do the names in it
+-- a record in a namespace: its aliases are there, and so are the names in it
 record_in_namespace : declared_by (codes "{\"type\":\"record\",\"name\":\"R\",\"namespace\":\"a\",\"aliases\":[\"S\",\"b.T\"],\"fields\":[{\"name\":\"e\",\"type\":{\"type\":\"enum\",\"name\":\"E\",\"symbols\":[\"X\"]}},{\"name\":\"f\",\"type\":\"E\"},{\"name\":\"g\",\"type\":\"a.E\"}]}")
     ≡ Some (Node.record_of (within (codes "a") (codes "R")) (within (codes "a") (codes "S") ∷ within (codes "b") (codes "T") ∷ [])
     (plain_field (codes "e") 1 ∷ plain_field (codes "f") 1 ∷ plain_field (codes "g") 1 ∷ [])

@@ -88,7 +88,7 @@ bad_field_name : faults_by (codes "{\"type\":\"record\",\"name\":\"R\",\"fields\
 unfolding serde_json_on_literals
 bad_field_name = refl
 
--- JSON that is no schema, and attributes that are missing or ill-typed
+-- JSON that is not a schema, and attributes that are missing or ill-typed
 object_as_type : faults_by (codes "{\"type\":{\"type\":\"int\"}}")
     ≡ Some (SchemaError.InvalidDeclaration ∷ [])
 unfolding serde_json_on_literals

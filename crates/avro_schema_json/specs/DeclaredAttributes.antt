@@ -18,7 +18,7 @@ pub record Attribute (A : Type 0) : Type 0 where
   pub value : A
   pub faults : List SchemaError
 
--- an attribute that may not be missing or ill-typed; where it is, x stands in its place
+-- an attribute that may not be missing or ill-typed; where it is, x takes its place
 abbrev pub needed : {A : Type 0} → A → Option A → Attribute A
 needed x None = record { value = x; faults = SchemaError.InvalidDeclaration ∷ [] }
 needed x (Some y) = record { value = y; faults = [] }
@@ -64,7 +64,7 @@ alias_texts_from (Some d) = needed [] (as_texts d)
 abbrev pub alias_texts_in : Members → Attribute (List (List ℕ))
 alias_texts_in ms = alias_texts_from (get_member (codes "aliases") ms)
 
--- the aliases of a type in a namespace; one without a dot stands in the same namespace
+-- the aliases of a type in a namespace; one without a dot is in the same namespace
 abbrev pub aliases_in : List ℕ → Members → Attribute (List Name)
 aliases_in namespace ms = aliases_from (alias_texts_in ms)
   where

@@ -20,7 +20,7 @@ or_else [] ys = ys
 or_else (x ∷ xs) ys = x ∷ xs
 
 -- The faults of a tree: those of its numbers, or else of its declarations, or else of its nodes, or else of defaults
--- that are no datum.
+-- that are not data.
 abbrev pub faults_of : Data → List SchemaError
 faults_of tree =
     or_else (unless (not (has_float tree)) SchemaError.UnsupportedNumber)
@@ -32,10 +32,10 @@ faults_of tree =
 -- S2, a reference: its name is not defined before it;
 -- S3, a definition: its fullname is defined before it;
 -- S4, a name, namespace or alias, where it is read, and a symbol or a field's name, in the rules of its kind;
--- S5, an attribute: it is missing or ill-typed; JSON that is no schema or no field;
+-- S5, an attribute: it is missing or ill-typed; JSON that is not a schema or not a field;
 -- S6, the rules of a union whose edges are good;
 -- S7 and S8, the rules of symbols and of field names; S7 also a default that is no symbol;
--- S9, a default that is no datum;
+-- S9, a default that is not a datum;
 -- S10, `float`, `double` and `error`;
 -- S11, a number that is not whole;
 -- S12, a node, a symbol or a byte of a fixed past its limit.

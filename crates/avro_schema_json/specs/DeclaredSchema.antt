@@ -24,7 +24,7 @@ nodes_without_defaults = map node_without_defaults
 abbrev pub field_default : List Node → RawField → Option Value
 field_default nodes f = option_and_then (λ d. default_of nodes d (node_at nodes f.node)) f.default
 
--- a node with its defaults; one that is no datum is left out
+-- a node with its defaults; one that is not a datum is left out
 abbrev pub completed_field : List Node → RawField → FieldNode
 completed_field nodes f = record { name = f.name; aliases = f.aliases; node = f.node; default = field_default nodes f }
 

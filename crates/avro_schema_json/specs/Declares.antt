@@ -243,7 +243,7 @@ field_of ms type enclosing known next = typed (type_made type)
     type_made None = faulty 0 SchemaError.InvalidDeclaration enclosing known next
     type_made (Some meaning) = meaning enclosing known next
 
--- JSON that is no field
+-- JSON that is not a field
 abbrev pub no_field : Meaning RawField
 no_field = faulty (record { name = []; aliases = []; node = 0; default = None }) SchemaError.InvalidDeclaration
 

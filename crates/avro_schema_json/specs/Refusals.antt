@@ -1,4 +1,4 @@
--- Which refusals are answered.
+-- Which refusals are returned.
 use Rattle.std.specs.Prelude.{Result, IsErrOf, option_map, unwrap_or}
 use Rattle.avro_schema.specs.Faulty.{NodeFault, unknown_node, duplicate_name, invalid_name, invalid_union, invalid_symbols, duplicate_field, invalid_default, limit_exceeded, fault_of}
 use Rattle.avro_schema.specs.declared.fault.DraftError.{DraftError}

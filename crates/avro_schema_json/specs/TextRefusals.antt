@@ -1,4 +1,4 @@
--- Which refusals of a text are answered.
+-- Which refusals of a text are returned.
 use Rattle.std.specs.Prelude.{◌≡◌, ◌⊎◌, ◌<◌, ℕ, List, length}
 use Rattle.serde_json.specs.Data.{Data}
 use Rattle.avro_schema_json.specs.declared.error.SchemaError.{SchemaError}

@@ -26,21 +26,21 @@ use avro_schema::{Datum, Draft, DraftError, Field, Memory, Node, RecordNode, Sch
 use std::alloc::Global;
 use std::vec::IntoIter;
 
-/// The defaults of the fields of a node, and whether each that is there is a datum.
+/// The defaults of the fields of a node, and whether each one present is a datum.
 #[derive(Drop)]
 struct NodeDefaults {
     of_fields: Vec<Option<Datum>>,
     are_read: bool,
 }
 
-/// The defaults of nodes, and whether each that is there is a datum.
+/// The defaults of nodes, and whether each one present is a datum.
 #[derive(Drop)]
 struct Defaults {
     of_nodes: Vec<Vec<Option<Datum>>>,
     are_read: bool,
 }
 
-/// The default of a field, where it is there and a datum.
+/// The default of a field, where it is present and a datum.
 fn default_of_field(
     alloc: Global,
     raws: &[RawNode],
@@ -226,8 +226,8 @@ fn draft_of(
     Ok(draft)
 }
 
-/// The schema of nodes. A default that is no datum is left out at first, so that another fault of the
-/// nodes is answered before it.
+/// The schema of nodes. A default that is not a datum is left out at first, so that another fault
+/// of the nodes is reported before it.
 pub(crate) fn schema_of(alloc: Global, raws: Vec<RawNode<'_>>) -> Result<Schema, SchemaError>
     ensures found { IfOk result (λ schema. schema_nodes schema ≡ completed_nodes (raw_nodes_of raws.entry.items)) }
     ensures formed { OnOk result (is_schema (completed_nodes (raw_nodes_of raws.entry.items)) ≡ true) }

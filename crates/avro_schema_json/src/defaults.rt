@@ -37,8 +37,8 @@ use serde_json::{Map, Value};
 use std::alloc::Global;
 use std::collections::BTreeSet;
 
-/// The default that JSON is for the node of an id, or nothing where it is none. A union takes it
-/// as one of the first branch that it fits.
+/// The default that JSON gives for the node of an id, or nothing where there is none. A union
+/// takes it as one of the first branch that it fits.
 #[cycle(defaults)]
 pub(crate) fn default_of(
     alloc: Global,
@@ -63,8 +63,9 @@ pub(crate) fn default_of(
     }
 }
 
-/// The default that JSON is for the first of some branches that it fits. Those that are known not to
-/// fit are not tried, nor those that it does not fit by its kind; the table tells where to begin.
+/// The default that JSON gives for the first of some branches that it fits. Those that are known
+/// not to fit are not tried, nor those that it does not fit by its kind; the table tells where to
+/// begin.
 #[cycle(defaults)]
 fn branch_default(
     alloc: Global,
@@ -101,7 +102,7 @@ fn branch_default(
     Ok(None)
 }
 
-/// The default that JSON is for the node of an id itself.
+/// The default that JSON gives for the node of an id itself.
 #[cycle(defaults)]
 fn default_at(
     alloc: Global,
@@ -118,7 +119,7 @@ fn default_at(
     own_default(alloc, raws, tables, tree, node)
 }
 
-/// A datum as one of a union, of this branch. A branch past the range of numbers would be past any
+/// A datum as one of a union, of this branch. A branch past the range of numbers would exceed any
 /// memory.
 fn in_branch(alloc: Global, branch: usize, datum: Datum) -> Result<Option<Datum>, Memory>
     ensures { IfOk result (λ whole. option_map value_of whole ≡ Some (SeenValue.union branch (value_of datum))) }
@@ -129,7 +130,7 @@ fn in_branch(alloc: Global, branch: usize, datum: Datum) -> Result<Option<Datum>
     }
 }
 
-/// The default that JSON is for a node itself.
+/// The default that JSON gives for a node itself.
 #[cycle(defaults)]
 fn own_default(
     alloc: Global,
@@ -151,7 +152,7 @@ fn own_default(
     }
 }
 
-/// The default that an array is.
+/// The default that an array gives.
 #[cycle(defaults)]
 fn items_default(
     alloc: Global,
@@ -173,7 +174,7 @@ fn items_default(
     }
 }
 
-/// The defaults that items are for the node of an id.
+/// The defaults that items give for the node of an id.
 #[cycle(defaults)]
 fn item_defaults(
     alloc: Global,
@@ -196,7 +197,7 @@ fn item_defaults(
     Ok(Some(values))
 }
 
-/// The default that an object is.
+/// The default that an object gives.
 #[cycle(defaults)]
 fn object_default(
     alloc: Global,
@@ -220,7 +221,7 @@ fn object_default(
     }
 }
 
-/// The keys, each with the default that its value is for the node of an id.
+/// The keys, each with the default that its value gives for the node of an id.
 #[cycle(defaults)]
 fn entry_defaults(
     alloc: Global,
@@ -243,7 +244,7 @@ fn entry_defaults(
     Ok(Some(entries))
 }
 
-/// The record that an object is by a member for each field and no other.
+/// The record that an object gives by a member for each field and no other.
 #[cycle(defaults)]
 fn record_default(
     alloc: Global,

@@ -7,13 +7,13 @@ use avro_schema::{DraftError, Memory};
 use std::alloc::{AllocError, AllocFailed};
 use thiserror::Error;
 
-/// Why a text is no schema. Each is shown as its code.
+/// Why a text is not a schema. Each is shown as its code.
 #[derive(Clone, Copy, Debug, PartialEq, Eq, Hash, Error)]
 pub enum SchemaError {
-    /// The text is no JSON, is no UTF-8, or nests more than 127 levels.
+    /// The text is not JSON, is not UTF-8, or nests more than 127 levels.
     #[error("S1")]
     NotJson,
-    /// A reference to a type that is not defined before.
+    /// A reference to a type that is not defined before it.
     #[error("S2")]
     UnknownName,
     /// A name that is defined twice.
@@ -22,7 +22,7 @@ pub enum SchemaError {
     /// A name, namespace, alias or symbol that breaks the rules of names.
     #[error("S4")]
     InvalidName,
-    /// An attribute is missing or of a wrong kind, or the JSON is no schema.
+    /// An attribute is missing or of a wrong kind, or the JSON is not a schema.
     #[error("S5")]
     InvalidDeclaration,
     /// A union that is empty, holds a union, or holds two branches of one kind.
@@ -34,13 +34,13 @@ pub enum SchemaError {
     /// A name or an alias that two fields of a record have.
     #[error("S8")]
     DuplicateField,
-    /// A default that is no datum of its field.
+    /// A default that is not a datum of its field.
     #[error("S9")]
     InvalidDefault,
     /// A type `float`, `double` or `error`.
     #[error("S10")]
     UnsupportedType,
-    /// A number that is no whole number of 64 bits.
+    /// A number that is not a whole number of 64 bits.
     #[error("S11")]
     UnsupportedNumber,
     /// The text, the number of nodes or a count in it is over its limit.

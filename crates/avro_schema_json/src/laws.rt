@@ -27,7 +27,7 @@ pub fn fault_leaves_none()
     ensures { (tree : Data) (fault : SchemaError) → HasFault tree fault → declared tree ≡ None }
 {}
 
-/// No fault of a tree says that a text is no JSON, or that memory ran out.
+/// No fault of a tree says that a text is not JSON, or that memory ran out.
 pub fn fault_is_of_tree()
     ensures { (tree : Data) (fault : SchemaError) → HasFault tree fault → (fault ≢ SchemaError.NotJson) × (fault ≢ SchemaError.OutOfMemory) }
 {}
@@ -37,14 +37,15 @@ pub fn schema_or_fault()
     ensures { (tree : Data) → declared tree ≡ None → (fault : SchemaError) × HasFault tree fault }
 {}
 
-/// A union's default is a datum of its first branch wherever the JSON is a default of that branch, which is no union.
+/// A union's default is a datum of its first branch wherever the JSON is a default of that branch,
+/// which is not a union.
 pub fn first_branch_is_taken()
     ensures { (nodes : List Node) (tree : Data) (union : Node) (id : ℕ) (others : List ℕ) (v : Value) → branches_of union ≡ Some (id ∷ others)
         → branches_of (node_at nodes id) ≡ None → default_of nodes tree (node_at nodes id) ≡ Some v
         → default_of nodes tree union ≡ Some (Value.union 0 v) }
 {}
 
-/// The default that JSON is for a node is a datum of the node, of a tree as texts hold it.
+/// The default that JSON gives for a node is a datum of the node, for a tree as texts hold it.
 pub fn default_fits()
     ensures { (nodes : List Node) (tree : Data) (n : Node) (v : Value) → is_plain_tree tree ≡ true → default_of nodes tree n ≡ Some v → fits nodes n v ≡ true }
 {}

@@ -1,7 +1,7 @@
 //! Avro schemas as JSON texts.
 //!
-//! [`read_schema`] reads the schema that a text declares, or says by a [`SchemaError`] why there is none. A [`ReaderText`]
-//! keeps the text beside its schema.
+//! [`read_schema`] reads the schema that a text declares, or returns a [`SchemaError`] that says
+//! why there is none. A [`ReaderText`] keeps the text together with its schema.
 //!
 //! Contracts speak of the tree that `serde_json` reads in a text.
 #![tactic(auto)]

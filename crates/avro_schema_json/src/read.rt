@@ -22,13 +22,13 @@ use std::alloc::Global;
 /// The greatest length of a text.
 const MAX_TEXT: usize = 1_048_576;
 
-/// The schema that a JSON text declares (Avro 1.11, "Schema Declaration"). The length of the text is
-/// looked at first, then its JSON, its numbers, the declarations, the rules of the whole schema, and
-/// the defaults.
+/// The schema that a JSON text declares (Avro 1.11, "Schema Declaration"). The length of the text
+/// is checked first, then its JSON, its numbers, the declarations, the rules of the whole schema,
+/// and the defaults.
 ///
 /// # Errors
 ///
-/// A fault that is there; each is described at its variant of [`SchemaError`].
+/// One of the faults; each is described at its variant of [`SchemaError`].
 pub fn read_schema(alloc: Global, text: &[u8]) -> Result<Schema, SchemaError>
     ensures found { IfOk result (λ schema. DeclaresText text.now (schema_nodes schema)) }
     ensures complete { (tree : Data) (nodes : List Node) → HasTree text.now tree → DeclaresSchema tree nodes

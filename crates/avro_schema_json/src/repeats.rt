@@ -1,5 +1,5 @@
-//! Unions in which a branch stands twice: they are refused before any default is read, since each value of
-//! a default could be tried for many branches of one kind.
+//! Unions in which a branch occurs twice: they are refused before any default is read, since each
+//! value of a default could be tried for many branches of one kind.
 
 ghost use Rattle.std.specs.Prelude.{◌≡◌, ◌⊎◌, ℕ, true, IfOk, OnOk};
 ghost use Rattle.std.specs.Ordering.{nat_cmp};
@@ -58,7 +58,7 @@ fn repeats_branch(alloc: Global, raws: &[RawNode], branches: &[NodeId]) -> Resul
     Ok(false)
 }
 
-/// Whether a branch stands twice in one of the unions whose edges are good.
+/// Whether a branch occurs twice in one of the unions whose edges are good.
 pub(crate) fn has_repeated_branch(alloc: Global, raws: &[RawNode]) -> Result<bool, Memory>
     ensures { IfOk result (λ answer. answer ≡ true → SomeRepeats (all_without_defaults raws.now)) }
 {

@@ -11,8 +11,8 @@ use avro_schema::{Datum, Memory};
 use std::alloc::Global;
 use std::collections::BTreeMap;
 
-/// The first index of each symbol, to look words up in. The symbols are gone through from the last, so
-/// that the first index of one that repeats stays.
+/// The first index of each symbol, to look words up in. The symbols are gone through from the
+/// last, so that the first index of one that repeats is kept.
 pub(crate) fn symbol_indices(
     alloc: Global,
     symbols: &[String],
@@ -32,7 +32,7 @@ pub(crate) fn symbol_indices(
     Ok(indices)
 }
 
-/// The default of an enum that a word is, by the indices of the enum's symbols.
+/// The default of an enum that a word gives, by the indices of the enum's symbols.
 pub(crate) fn symbol_default(indices: &BTreeMap<String, u32>, word: &str) -> Option<Datum>
     ensures { (symbols : List (List ℕ)) → FindsSymbols symbols indices.now
         → option_map value_of result ≡ option_map SeenValue.enum (symbol_index word.now symbols) }

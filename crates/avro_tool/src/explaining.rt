@@ -1,4 +1,4 @@
-//! All faults of two schemas, told by names.
+//! All faults of two schemas, reported by names.
 
 use crate::Finding;
 use crate::failure::Failure;
@@ -78,7 +78,7 @@ fn print_faults<'a, O: Write>(
     print(out, &text)
 }
 
-/// What stands before the faults.
+/// What is printed before the faults.
 fn beginning(alloc: Global, count: usize, form: Form) -> Result<String, AllocError> {
     match form {
         Form::Text if count == 0 => String::from_str(alloc, "yes\n"),
@@ -88,7 +88,7 @@ fn beginning(alloc: Global, count: usize, form: Form) -> Result<String, AllocErr
     }
 }
 
-/// What stands after them.
+/// What is printed after them.
 fn end_of(form: Form) -> &'static str {
     match form {
         Form::Text => "",

@@ -47,7 +47,7 @@ fn judge_command<'a>(alloc: Global) -> Result<Command<'a>, AllocError> {
         .arg(json_option(alloc))
 }
 
-/// The command that tells all faults.
+/// The command that reports all faults.
 fn explain_command<'a>(alloc: Global) -> Result<Command<'a>, AllocError> {
     let pairs = number_option(alloc, "max-pairs")
         .default_value("4194304")
@@ -246,7 +246,7 @@ fn sync_option<'a>(alloc: Global) -> Arg<'a> {
         .long("sync")
         .value_name("HEX32")
         .action(ArgAction::Set)
-        .help("Marker behind each block of the copy, in place of the container's")
+        .help("Marker after each block of the copy, in place of the container's")
 }
 
 /// An option without a value.

@@ -61,14 +61,14 @@ pub(crate) fn history_line(
     Ok(answer.line()?)
 }
 
-/// The line that tells whether a certificate confirms what it is for.
+/// The line that says whether a certificate confirms what it is for.
 pub(crate) fn confirmed_line(alloc: Global, is_confirmed: bool) -> Result<String, AllocError> {
     let mut answer = JsonObject::new(alloc);
     answer.put("confirmed", &Value::Bool(is_confirmed))?;
     answer.line()
 }
 
-/// The line that tells how many data and blocks a container has.
+/// The line that says how many data and blocks a container has.
 pub(crate) fn counts_line(alloc: Global, file: &str, counts: Counts) -> Result<String, AllocError> {
     let mut answer = JsonObject::new(alloc);
     answer.put_text("file", file)?;

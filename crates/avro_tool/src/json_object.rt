@@ -1,4 +1,4 @@
-//! Objects of JSON whose members stand in the order in which they are put.
+//! Objects of JSON with their members in the order in which they are put.
 
 use serde_json::Value;
 use std::alloc::{AllocError, Global};

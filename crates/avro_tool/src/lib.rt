@@ -78,16 +78,17 @@ impl Finding {
     }
 }
 
-/// Reports that the words could not be taken from the system, and answers the status.
+/// Reports that the words could not be taken from the system, and returns the status.
 pub fn refuse_words<E: Write>(error: &io::Error, err: &mut E) -> u8 {
     let failure = Failure::of_words(error);
     let _ = err.write_all(failure.fixed_line().as_bytes());
     failure.status()
 }
 
-/// Runs the program on its words, without its name, and answers its exit status: 0 good or yes, 1 no,
-/// 2 undecided, 3 refused input, 4 a file's fault, 5 out of memory, 64 usage. What it finds goes to
-/// `out`; faults and the texts of usage go to `err`. `input` is read by the command that copies it alone.
+/// Runs the program on its words, without its name, and returns its exit status: 0 good or yes, 1
+/// no, 2 undecided, 3 refused input, 4 a file's fault, 5 out of memory, 64 usage. What it finds
+/// goes to `out`; faults and the texts of usage go to `err`. `input` is read by the command that
+/// copies it alone.
 pub fn run<R: Files + AllocGlobal, I: Read, O: Write, E: Write>(
     rt: &R,
     words: &[String],
@@ -101,8 +102,9 @@ pub fn run<R: Files + AllocGlobal, I: Read, O: Write, E: Write>(
     }
 }
 
-/// Reports a failure by one write, and answers its status. If the standard error fails too, the status is
-/// all that can be reported; if memory runs out for the line, that is reported in its place.
+/// Reports a failure by one write, and returns its status. If the standard error fails too, the
+/// status is all that can be reported; if memory runs out for the line, that is reported in its
+/// place.
 fn report<E: Write>(alloc: Global, failure: &Failure<'_>, err: &mut E) -> u8 {
     match failure.line(alloc) {
         Ok(line) => {

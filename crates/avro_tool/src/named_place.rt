@@ -7,7 +7,7 @@ use avro_schema::{Node, NodeId, Schema};
 use serde_json::Value;
 use std::alloc::{AllocError, Global};
 
-/// How many arrays and maps within one another a type is told with.
+/// How many arrays and maps within one another the text of a type shows.
 const LEVELS: usize = 256;
 
 /// A node of a schema, by names.
@@ -78,7 +78,7 @@ fn push_way(schema: &Schema, way: &[PathStep], text: &mut String) -> Result<(), 
     Ok(())
 }
 
-/// Appends one step from a node, and answers the node that it leads to.
+/// Appends one step from a node, and returns the node that it leads to.
 fn push_step(
     schema: &Schema,
     id: NodeId,

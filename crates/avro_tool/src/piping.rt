@@ -31,7 +31,7 @@ pub(crate) fn pipe_streams<'a, R: Files + AllocGlobal, I: Read, O: Write, E: Wri
     Ok(Finding::Good)
 }
 
-/// Copies a container from a reader to a writer, and answers how many data and blocks it has.
+/// Copies a container from a reader to a writer, and returns how many data and blocks it has.
 fn pipe_container<'a, R: Files + AllocGlobal, I: Read, O: Write>(
     rt: &R,
     reader: Option<&'a str>,

@@ -70,7 +70,7 @@ pub(crate) struct Judging<'a> {
     pub(crate) form: Form,
 }
 
-/// Two schemas whose faults are told.
+/// Two schemas whose faults are reported.
 #[derive(Clone, Copy, Debug)]
 pub(crate) struct Explaining<'a> {
     pub(crate) writer: &'a str,

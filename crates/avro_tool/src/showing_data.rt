@@ -167,8 +167,8 @@ fn shown_schema<'a>(schema: &'a Schema, plan: &'a Option<Plan<'_>>) -> &'a Schem
     }
 }
 
-/// Reads a datum from the front of bytes, as what it is for a reader where there is one, and answers it with the
-/// length of its encoding.
+/// Reads a datum from the front of bytes, as what it is for a reader where there is one, and
+/// returns it with the length of its encoding.
 fn read_datum(
     alloc: Global,
     schema: &Schema,

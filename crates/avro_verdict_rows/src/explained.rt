@@ -57,7 +57,7 @@ const FAULTS: [(&str, &str, &str); 17] = [
         "$<array>[]<n.I>.l: MissingField: n.I of the writer has no such field, and there is no default (writer's $[]<n.I>)\n\
          $<array>[]<n.I>.k: NotUtf8: bytes are read as string (writer's $[]<n.I>.k)\n",
     ),
-    // A place that is met again is told once, by the first way.
+    // A place that is met again is reported once, by the first way.
     (
         r#"{"type":"record","name":"N","fields":[{"name":"next","type":["null","N"]},{"name":"v","type":"long"}]}"#,
         r#"{"type":"record","name":"N","fields":[{"name":"next","type":["null","N"]},{"name":"v","type":"int"}]}"#,
@@ -185,7 +185,7 @@ fn answers_have_their_form_and_status(rt: HostRuntime) -> Result<(), Fail> {
     Ok(())
 }
 
-/// Options that are out of range, and the number that is told.
+/// Options that are out of range, and the number that is reported.
 const REFUSED: [&str; 3] = ["--max-pairs 0", "--max-pairs 16777217", "--max-pairs x"];
 
 #[test]

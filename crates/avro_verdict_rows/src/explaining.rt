@@ -16,7 +16,7 @@ const HALF_DEAD: &str =
     r#"["int",{"type":"record","name":"R","fields":[{"name":"f","type":"R"}]}]"#;
 
 /// Pairs of schemas, and their faults: the way in the reader's schema, what fails, and the way in the writer's. A field and a
-/// branch are told by their indices.
+/// branch are given by their indices.
 const ROWS: [(&str, &str, &str); 16] = [
     (r#""int""#, r#""long""#, ""),
     (r#""long""#, r#""int""#, "$ NoMatch $\n"),
@@ -38,7 +38,8 @@ const ROWS: [(&str, &str, &str); 16] = [
         r#"{"type":"enum","name":"E","symbols":["C","A"],"default":"C"}"#,
         "",
     ),
-    // Below a record with missing fields the others are told too; a nested record is a place after those of its level.
+    // Below a record with missing fields the others are reported too; a nested record is a place
+    // after those of its level.
     (
         r#"{"type":"record","name":"R","fields":[{"name":"a","type":{"type":"record","name":"S","fields":[{"name":"x","type":"int"}]}},{"name":"b","type":"int"}]}"#,
         r#"{"type":"record","name":"R","fields":[{"name":"m","type":"int"},{"name":"c","type":"string","aliases":["b"]},{"name":"d","type":"int","default":1},{"name":"e","type":"int","aliases":["f"],"default":2},{"name":"n","type":"int"},{"name":"a","type":{"type":"record","name":"S","fields":[{"name":"x","type":"boolean"},{"name":"y","type":"int"}]}}]}"#,
@@ -55,7 +56,7 @@ const ROWS: [(&str, &str, &str); 16] = [
         r#"{"type":"array","items":["null","int"]}"#,
         "$[] NoBranch $[]<1>\n",
     ),
-    // A pair that is reached on several ways is told once.
+    // A pair that is reached in several ways is reported once.
     (LIST, TEXTS, "$.0 NoMatch $.0\n"),
     (
         LIST,
@@ -195,7 +196,7 @@ fn numbered(
     Ok(text)
 }
 
-/// A record of so many ints, an enum of so many symbols, and a union of so many fixeds.
+/// A record of this many ints, an enum of this many symbols, and a union of this many fixeds.
 fn record_of(alloc: Global, front: &str, count: u32) -> Result<String, AllocError> {
     let begin = r#"{"type":"record","name":"R","fields":["#;
     numbered(alloc, begin, front, count, r#"","type":"int"}"#, "]}")

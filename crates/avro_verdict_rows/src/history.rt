@@ -110,7 +110,7 @@ const FILES: [(&str, &str); 13] = [
     ("great.cert", "history 1\napproval 1\ndead 4096\nend\nend\n"),
 ];
 
-/// The words of runs, and what they answer and write.
+/// The words of runs, and their status and output.
 const RUNS: [(&str, u8, &str, &str); 20] = [
     (
         "history int.avsc wide.avsc union.avsc",

@@ -8,7 +8,8 @@ use std::alloc::{AllocError, Global};
 use std::fs;
 use std::test::Fail;
 
-/// A writer's schema and a reader's, the members of the fault but the kind, and those behind the fault.
+/// A writer's schema and a reader's, the members of the fault but the kind, and those after the
+/// fault.
 const FAULTS: [(&str, &str, &str, &str, &str); 11] = [
     (
         r#""long""#,
@@ -67,7 +68,8 @@ const FAULTS: [(&str, &str, &str, &str, &str); 11] = [
         r#""field":"z","path":[0,0],"at":"$[0]{0}""#,
         r#""nodes":3,"datum":[{"":{}}]"#,
     ),
-    // The reader's field takes the writer's by an alias, and another one has the writer's name in another place.
+    // The reader's field takes the writer's by an alias, and another one has the writer's name
+    // elsewhere.
     (
         r#"{"type":"record","name":"R","fields":[{"name":"old","type":{"type":"record","name":"I","fields":[{"name":"x","type":"int"}]}}]}"#,
         r#"{"type":"record","name":"R","fields":[{"name":"more","type":"int","default":1},{"name":"new","aliases":["old"],"type":{"type":"record","name":"I","fields":[{"name":"x","type":"int"},{"name":"y","type":"int"}]}}]}"#,
@@ -99,7 +101,7 @@ fn value_of(alloc: Global, line: &str) -> Result<Value, Fail> {
     }
 }
 
-/// The text at a place of a value, or no text.
+/// The text at a JSON Pointer of a value, or no text.
 fn text_at<'a>(value: &'a Value, place: &str) -> &'a str {
     value.pointer(place).and_then(Value::as_str).unwrap_or("")
 }
@@ -114,7 +116,7 @@ fn fault_json(alloc: Global, kind: &str, members: &str) -> Result<String, AllocE
     Ok(text)
 }
 
-/// The line of a no, with what stands after the fault.
+/// The line of a no, with what comes after the fault.
 fn no_line(alloc: Global, fault: &str, rest: &str) -> Result<String, AllocError> {
     let mut text = String::from_str(alloc, "{\"verdict\":\"no\",\"fault\":")?;
     text.push_str(fault)?;
@@ -169,7 +171,7 @@ const BUILT: [(&str, Text); 9] = [
     ),
 ];
 
-/// The words of runs, and what they answer and write.
+/// The words of runs, and their status and output.
 const RUNS: [(&str, u8, &str, &str); 19] = [
     ("judge int long --json", 0, "{\"verdict\":\"yes\"}\n", ""),
     (
@@ -256,7 +258,7 @@ const RUNS: [(&str, u8, &str, &str); 19] = [
         "{\"file\":\"int\",\"mode\":\"backward\",\"verdict\":\"yes\"}\n{\"file\":\"int\",\"mode\":\"forward\",\"verdict\":\"no\",\"fault\":{\"kind\":\"NoMatch\",\"path\":[],\"at\":\"$\"}}\n",
         "",
     ),
-    // A fault is told as without the option.
+    // A fault is reported as without the option.
     ("judge open int --json", 3, "", "avro: open: S1\n"),
     (
         "history int absent --json",

@@ -140,7 +140,7 @@ pub(crate) const ROWS: [(&str, &str, &str); 40] = [
         r#"["null",{"type":"fixed","name":"p.A","size":1},{"type":"fixed","name":"p.B","size":1},{"type":"fixed","name":"p.C","size":1},{"type":"fixed","name":"p.D","size":1},{"type":"enum","name":"p.E","symbols":["x"]},{"type":"record","name":"p.F","fields":[]},{"type":"fixed","name":"p.G","aliases":["q.H"],"size":2}]"#,
         "no\nfault NoBranch at /0\nnodes 2\ndatum {\"E\":\"\\u0000\"}\n",
     ),
-    // The fault is behind a record that has a default for the reader.
+    // The fault is after a record that has a default for the reader.
     (
         r#"{"type":"record","name":"W","fields":[{"name":"f","type":{"type":"record","name":"R","fields":[]}},{"name":"z","type":"int"}]}"#,
         r#"{"type":"record","name":"W","fields":[{"name":"f","type":{"type":"record","name":"R","fields":[{"name":"d","type":{"type":"array","items":"int"},"default":[0,0]}]}},{"name":"z","type":"string"}]}"#,

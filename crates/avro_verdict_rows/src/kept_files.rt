@@ -84,7 +84,8 @@ const REFUSED: [(&str, &str); 18] = [
         "history --certificates soft.avsc none.avsc string.avsc",
         "avro: soft.avsc is a schema\n",
     ),
-    // A file that is read is told before one that holds a schema, and the certificate before the refutation.
+    // A file that is read is reported before one that holds a schema, and the certificate before
+    // the refutation.
     (
         "judge int.avsc long.avsc --certificate string.avsc --refutation int.avsc",
         "avro: int.avsc is one of the files that are read\n",
@@ -123,7 +124,7 @@ const CERTIFICATE: &str = "approval 1\npair 0 0\nend\n";
 
 const HISTORY: &str = "history 1\napproval 1\npair 0 0\nend\nend\n";
 
-/// The words of runs that write, what they answer and write, the file, and what then is in it.
+/// The words of runs that write, their status and output, the file, and what it then holds.
 const WRITTEN: [(&str, u8, &str, &str, &str, &str); 12] = [
     (
         "judge int.avsc long.avsc --certificate text.txt",
@@ -282,7 +283,7 @@ fn each_line_is_one_write(rt: HostRuntime) -> Result<(), Fail> {
     Ok(())
 }
 
-/// What is told of a history of one schema.
+/// What is reported of a history of one schema.
 const ONE_SCHEMA: &str =
     "error: at least two schemas are required\n\nUsage: avro history [OPTIONS] <SCHEMA>...\n\nFor more information, try '--help'.\n";
 

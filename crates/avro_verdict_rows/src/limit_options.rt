@@ -17,8 +17,9 @@ const BUILT: [(&str, Text); 8] = [
     ("open", Text::Plain("{")),
 ];
 
-/// The words of runs, and what they answer and write. The nodes of `one` and of its datum are two, those of `wide`
-/// 2,049 and those of the least datum of `doubled` 6,143; the least datum of `chain` that fails has the depth 201.
+/// The words of runs, and their status and output. The nodes of `one` and of its datum are two,
+/// those of `wide` 2,049 and those of the least datum of `doubled` 6,143; the least datum of
+/// `chain` that fails has the depth 201.
 const RUNS: [(&str, u8, &str, &str); 38] = [
     ("judge one one --max-pairs 4", 0, "yes\n", ""),
     ("judge one one --max-pairs 3", 2, "undecided Pairs\n", ""),
@@ -118,7 +119,7 @@ const RUNS: [(&str, u8, &str, &str); 38] = [
         "",
         "avro: --max-depth takes 1 to 256\n",
     ),
-    // The words are looked at before any file.
+    // The words are checked before any file.
     (
         "judge absent open --max-depth 0",
         64,

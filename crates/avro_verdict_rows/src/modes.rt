@@ -25,7 +25,7 @@ const FILES: [(&str, &str); 5] = [
     ("open", "{"),
 ];
 
-/// The words of runs, and what they answer and write.
+/// The words of runs, and their status and output.
 const RUNS: [(&str, u8, &str); 16] = [
     ("history v1 v2 v3", 0, "v1 yes\nv2 yes\n"),
     ("history v1 v2 v3 --mode backward", 0, "v1 yes\nv2 yes\n"),

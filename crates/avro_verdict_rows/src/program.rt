@@ -1,4 +1,4 @@
-//! Runs of the program: what it answers and writes.
+//! Runs of the program: its status and output.
 
 use crate::program_rows::{BUILT, CONFIRMATIONS, FILES, SCHEMAS, USAGE, VERDICTS};
 use crate::texts::built;

@@ -52,7 +52,7 @@ pub(crate) const BUILT: [(&str, Text); 9] = [
     ("too_wide.avsc", Text::Ints(2048)),
 ];
 
-/// The words of runs that judge, and what they answer and write.
+/// The words of runs that judge, and their status and output.
 pub(crate) const VERDICTS: [(&str, u8, &str, &str); 16] = [
     ("judge most.avsc int.avsc", 0, "yes\n", ""),
     ("judge long.avsc int.avsc", 3, "", "avro: long.avsc: S12\n"),
@@ -93,7 +93,7 @@ pub(crate) const VERDICTS: [(&str, u8, &str, &str); 16] = [
         "",
         "avro: folder: cannot read\n",
     ),
-    // Nothing is written after another verdict than a yes.
+    // Nothing is written after a verdict other than a yes.
     (
         "judge plain.avsc text.avsc --certificate no.cert",
         1,
@@ -119,7 +119,7 @@ pub(crate) const VERDICTS: [(&str, u8, &str, &str); 16] = [
         "",
     ),
     ("judge large.avsc fieldless.avsc", 2, "undecided Size\n", ""),
-    // A file that cannot be written is told after the verdict.
+    // A file that cannot be written is reported after the verdict.
     (
         "judge --certificate folder int.avsc int.avsc",
         4,
@@ -134,7 +134,7 @@ pub(crate) const VERDICTS: [(&str, u8, &str, &str); 16] = [
     ),
 ];
 
-/// The words of runs that confirm, and what they answer and write.
+/// The words of runs that confirm, and their status and output.
 pub(crate) const CONFIRMATIONS: [(&str, u8, &str, &str); 11] = [
     ("confirm two.avsc one.avsc least.cert", 0, "confirmed\n", ""),
     ("confirm two.avsc one.avsc more.cert", 0, "confirmed\n", ""),
@@ -196,7 +196,7 @@ pub(crate) const CONFIRMATIONS: [(&str, u8, &str, &str); 11] = [
     ),
 ];
 
-/// The words of runs that read a schema, and what they answer and write.
+/// The words of runs that read a schema, and their status and output.
 pub(crate) const SCHEMAS: [(&str, u8, &str, &str); 7] = [
     ("schema most.avsc", 0, "ok 1\n", ""),
     ("schema long.avsc", 3, "", "avro: long.avsc: S12\n"),

@@ -11,7 +11,7 @@ use avro_schema_json::read_schema;
 use std::alloc::{AllocError, Global};
 use std::test::Fail;
 
-/// What a reading answers.
+/// What a reading returns.
 type Read<O> = Result<(O, usize), ReadResolveError>;
 
 /// A datum of the root's display, and a length.
@@ -24,7 +24,7 @@ fn shown(alloc: Global, schema: &Schema, datum: &Datum, len: usize) -> Result<St
     }
 }
 
-/// What `resolve` answers after `decode`: the display and the length, or the refusal.
+/// What `resolve` returns after `decode`: the display and the length, or the refusal.
 fn resolved(alloc: Global, writer: &Schema, reader: &Schema, bytes: &[u8]) -> Result<String, Fail> {
     let (datum, len) = match decode(alloc, writer, writer.root(), bytes, &Limits::default()) {
         Ok(decoded) => decoded,
@@ -40,8 +40,8 @@ fn resolved(alloc: Global, writer: &Schema, reader: &Schema, bytes: &[u8]) -> Re
     }
 }
 
-/// What a reading answers with each builder, told once. Nothing where they differ, or where what is packed is neither
-/// the plain encoding of the datum nor these bytes.
+/// What a reading returns with each builder, given once. Nothing where they differ, or where what
+/// is packed is neither the plain encoding of the datum nor these bytes.
 fn answer_text(
     alloc: Global,
     reader: &Schema,
@@ -88,7 +88,7 @@ fn all_pairs(alloc: Global) -> Result<Vec<(NodeId, NodeId)>, AllocError> {
     Ok(pairs)
 }
 
-/// What a plan's readings answer.
+/// What a plan's readings return.
 fn planned(
     alloc: Global,
     plan: &Plan<'_>,
@@ -103,8 +103,9 @@ fn planned(
     answer_text(alloc, reader, plain, tree, packed, walked)
 }
 
-/// What all readings answer of a row: without a plan, and with plans of no pair, of all pairs, of some of them again
-/// and again, and of those that the roots lead to. Where they differ, what each of two answers.
+/// What all readings return for a row: without a plan, and with plans of no pair, of all pairs, of
+/// some of them repeatedly, and of those that the roots lead to. Where they differ, what each of
+/// two returns.
 fn answer(alloc: Global, row: &Row, all: &[(NodeId, NodeId)]) -> Result<String, Fail> {
     let (writer, reader, bytes, _, plain) = *row;
     let writer = read_schema(alloc, writer.as_bytes())?;

@@ -1,5 +1,5 @@
-//! Rows of resolution, but for those of parts and of fields: the writer's schema, the reader's, bytes, what is
-//! answered, and the plain encoding of the datum where there is one.
+//! Rows of resolution, but for those of parts and of fields: the writer's schema, the reader's,
+//! bytes, the result, and the plain encoding of the datum where there is one.
 
 /// A row.
 pub(crate) type Row = (

@@ -1,10 +1,10 @@
-//! Schemas of files: what the program tells of them.
+//! Schemas of files: what the program prints of them.
 
 use avro_runs::outcome_of;
 use std::fs;
 use std::test::Fail;
 
-/// Texts, the words of a run, and what it answers and writes.
+/// Texts, the words of a run, and its status and output.
 const ROWS: [(&str, &str, u8, &str, &str); 25] = [
     ("\"int\"", "schema given.avsc", 0, "ok 1\n", ""),
     (

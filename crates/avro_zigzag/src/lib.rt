@@ -1,6 +1,6 @@
 //! The numbers of Avro's binary encoding: zig-zag, and then groups of seven bits.
 //!
-//! [`read_long`] and [`read_int`] read the number at the front of bytes, padded or not, or answer a [`VarError`];
+//! [`read_long`] and [`read_int`] read the number at the front of bytes, padded or not, or return a [`VarError`];
 //! [`write_long`] writes the shortest spelling.
 #![tactic(auto)]
 
@@ -12,13 +12,13 @@ pub use read::{read_int, read_long};
 use thiserror::Error;
 pub use write::write_long;
 
-/// Why no number stands at the front of some bytes.
+/// Why no number can be read at the front of some bytes.
 #[derive(Clone, Copy, Debug, PartialEq, Eq, Hash, Error)]
 pub enum VarError {
     /// No byte is left where the number goes on.
     #[error("Z1")]
     EndOfInput,
-    /// A number is not in its shortest spelling. It is never answered: each spelling is read.
+    /// A number is not in its shortest spelling. It is never returned: each spelling is read.
     #[error("Z2")]
     NotShortest,
     /// The number has more than 32 bits where it is an int, or more than 64 where it is a long.

@@ -1,4 +1,4 @@
--- Faults behind bytes.
+-- Faults after bytes.
 use Rattle.std.proofs.Common.{◌≡◌, ℕ, ◌+◌, List, ◌++◌, length, refl, sym, ap, ◌∙◌, length-append, arith}
 use Rattle.avro_binary.specs.Fault.{ReadFault, end_of_input, invalid_number, invalid_boolean, invalid_text, unknown_index, invalid_length, wrong_block_size, duplicate_key, limit_exceeded, behind}
 
@@ -27,6 +27,6 @@ behind-add a b limit_exceeded = refl
 pub behind-append : (a b : List ℕ) (f : ReadFault) → behind (length (a ++ b)) f ≡ behind (length a) (behind (length b) f)
 behind-append a b f = ap (λ (n : ℕ). behind n f) (length-append a b) ∙ behind-add (length a) (length b) f
 
--- faults behind the same bytes
+-- faults after the same bytes
 pub same_moved : (f g p q : ReadFault) (a b : List ℕ) → f ≡ behind (length a) p → g ≡ behind (length b) q → a ≡ b → p ≡ q → f ≡ g
 same_moved f g p q a b m k same e = m ∙ ap (behind (length a)) e ∙ ap (λ (c : List ℕ). behind (length c) q) same ∙ sym k

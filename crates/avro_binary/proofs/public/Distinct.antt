@@ -7,7 +7,7 @@ use Rattle.std.proofs.lemmas.Bool.{and_parts, and_from, or_parts, not-true}
 use Rattle.std.proofs.lemmas.List.Folds.{list_any-append}
 use Rattle.avro_schema.specs.Distinct.{are_distinct}
 
--- a key that doesn't stand before keeps them distinct
+-- a key that does not occur before keeps them distinct
 pub distinct-push : (keys : List (List ℕ)) (k : List ℕ) → are_distinct bytes_eq keys ≡ true → list_any (bytes_eq k) keys ≡ false → are_distinct bytes_eq (keys ++ k ∷ []) ≡ true
 distinct-push [] k d h = refl
 distinct-push (x ∷ keys) k d h =

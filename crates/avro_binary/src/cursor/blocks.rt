@@ -38,7 +38,7 @@ impl<'a> Cursor<'a> {
         }
     }
 
-    /// The size of a block behind its count, after its test, and how many bytes the two take.
+    /// The size that follows a block's count, after its test, and how many bytes the two take.
     fn block_size(&self, len: usize) -> Result<(u64, usize), ReadError>
         requires { len ≤ length self.now.bytes }
         ensures inside { IfOk result (λ r. (len ≤ r.1) × (r.1 ≤ length self.now.bytes)) }
@@ -63,9 +63,9 @@ impl<'a> Cursor<'a> {
     ///
     /// # Errors
     ///
-    /// Of the count: `EndOfInput`, `InvalidNumber`, then `InvalidLength` where it is the least of all, then
-    /// `LimitExceeded` where it is more than the nodes left; then of the size: `EndOfInput`, `InvalidNumber`,
-    /// `InvalidLength` where it is negative.
+    /// Of the count: `EndOfInput`, `InvalidNumber`, then `InvalidLength` where it is the smallest
+    /// long, then `LimitExceeded` where it is more than the nodes left; then of the size:
+    /// `EndOfInput`, `InvalidNumber`, `InvalidLength` where it is negative.
     pub fn block(&mut self) -> Result<Option<Block>, ReadError>
         ensures { ReadsHead self.old self.new result }
     {
@@ -80,7 +80,7 @@ impl<'a> Cursor<'a> {
         Ok(Some(Block { count, size: None }))
     }
 
-    /// Reads a block's head behind whose count, of `len` bytes, a size stands.
+    /// Reads a block's head that has a size after its count, which takes `len` bytes.
     fn sized_block(&mut self, count: u32, len: usize) -> Result<Option<Block>, ReadError>
         requires inside { len ≤ length self.old.bytes }
         requires some { 0 < count }
@@ -104,7 +104,7 @@ impl<'a> Cursor<'a> {
         }))
     }
 
-    /// Compares the size that a block's head gave, if any, with where the cursor is behind the
+    /// Compares the size that a block's head gave, if any, with where the cursor is after the
     /// block's items.
     ///
     /// # Errors

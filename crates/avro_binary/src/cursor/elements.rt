@@ -116,7 +116,7 @@ impl<'a> Cursor<'a> {
         }
     }
 
-    /// The length of a content at the front, after its tests, and how many bytes it takes.
+    /// The length of the content at the front, after its tests, and how many bytes it takes.
     #[inline(always)]
     fn content_length(&self) -> Result<(usize, usize), ReadError>
         ensures inside { IfOk result (λ r. r.1 ≤ length self.now.bytes) }
@@ -140,7 +140,7 @@ impl<'a> Cursor<'a> {
         }
     }
 
-    /// The content at the front behind its length, and how many bytes the two are.
+    /// The content at the front after its length, and how many bytes the two take.
     #[inline(always)]
     fn content(&self) -> Result<(&'a [u8], usize), ReadError>
         ensures stands { IfOk result (λ r. ContentStands self.now.blob self.now.bytes r.0.now r.1) }
@@ -157,7 +157,7 @@ impl<'a> Cursor<'a> {
         Ok((content, len + count))
     }
 
-    /// The text at the front behind its length, and how many bytes the two are.
+    /// The text at the front after its length, and how many bytes the two take.
     #[inline(always)]
     fn text(&self) -> Result<(&'a str, usize), ReadError>
         ensures stands { IfOk result (λ r. ContentStands self.now.blob self.now.bytes r.0.now r.1) }
@@ -173,7 +173,7 @@ impl<'a> Cursor<'a> {
         }
     }
 
-    /// Reads bytes behind their length.
+    /// Reads bytes after their length.
     ///
     /// # Errors
     ///
@@ -187,7 +187,7 @@ impl<'a> Cursor<'a> {
         Ok(content)
     }
 
-    /// Reads a string behind its length.
+    /// Reads a string after its length.
     ///
     /// # Errors
     ///
@@ -234,7 +234,7 @@ fn index_of(value: i32, choices: usize) -> Option<usize>
     if index < choices { Some(index) } else { None }
 }
 
-/// The text that bytes are, if they are UTF-8.
+/// Bytes as text, if they are UTF-8.
 ///
 /// Most texts are short, and the test of the long ones takes longer to begin than they need.
 #[inline(always)]

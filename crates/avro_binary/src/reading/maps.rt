@@ -37,7 +37,7 @@ pub(crate) fn read_map<M: Make>(
     Ok(out)
 }
 
-/// Reads the blocks of a map. A count makes no room: entries are kept one by one.
+/// Reads the blocks of a map. A count reserves no memory: entries are kept one by one.
 #[cycle(reading)]
 #[inline(always)]
 fn read_entry_blocks<M: Make>(

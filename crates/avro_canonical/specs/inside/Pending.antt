@@ -10,9 +10,9 @@ use Rattle.avro_canonical.specs.declared.part.Part.{Part}
 pub data Pending : Type 0 where
   -- a node
   of_node : ℕ → Pending
-  -- branches behind another one, and the end of their union
+  -- branches after another one, and the end of their union
   branches : List ℕ → Pending
-  -- fields behind another one, and the end of their record
+  -- fields after another one, and the end of their record
   fields : List FieldNode → Pending
   -- the end of an array, a map or a field
   end : Pending
@@ -53,7 +53,7 @@ is_written written n = is_name_written written (node_name n)
 abbrev pub marks_of : List Name → List Node → List Bool
 marks_of written nodes = map (is_written written) nodes
 
--- what a field begins with, and what is left of it and those behind it
+-- what a field begins with, and what is left of it and those after it
 abbrev pub opening_of_first : List FieldNode → List ℕ
 opening_of_first [] = []
 opening_of_first (x ∷ xs) = codes "{\"name\":" ++ quoted x.name ++ codes ",\"type\":"
@@ -70,7 +70,7 @@ first_branch (p ∷ ps) = of_node p ∷ branches ps ∷ []
 abbrev pub head_text : Name → List ℕ → List ℕ
 head_text name word = codes "{\"name\":" ++ full_text name ++ codes ",\"type\":" ++ quoted word
 
--- what stands before a branch that is no first one, or at the end of a union
+-- what is before a branch that is not the first one, or at the end of a union
 abbrev pub before_branch : List ℕ → List ℕ
 before_branch [] = codes "]"
 before_branch (p ∷ ps) = codes ","
@@ -112,7 +112,7 @@ parts_of (Node.union ps) = first_branch ps
 parts_of (Node.record_of name aliases xs) = first_field xs
 parts_of _ = []
 
--- From some marks, parts and text to others: what is left then, behind the text then, is what was left, behind the
+-- From some marks, parts and text to others: what is left then, after the text then, is what was left, after the
 -- text that was.
 abbrev pub IsStep : List Node → List Bool → List Pending → List ℕ → List Bool → List Pending → List ℕ → Type 0
 IsStep nodes marks before old marks-then after new =

@@ -50,11 +50,11 @@ size_key (Data.string text) = length (chars text) + 9
 size_key (Data.array ds) = 4
 size_key (Data.object ms) = members_key ms
 
--- no branch of a key stands from one index up to another
+-- no branch of a key lies from one index up to another
 abbrev pub Skips : List Node → List ℕ → ℕ → ℕ → ℕ → Type 0
 Skips nodes ids key from to = (j id : ℕ) → from ≤ j → j < to → slice_get ids j ≡ Some id → branch_key (node_at nodes id) ≡ key → ⊥
 
--- no branch of a key stands before the index that a table has for it
+-- no branch of a key is before the index that a table has for it
 abbrev pub IsTable : List Node → List ℕ → UnionTable → Type 0
 IsTable nodes ids table = (key : ℕ) → Skips nodes ids key 0 (unwrap_or (get nat_cmp table.first key) table.other)
 
@@ -62,6 +62,6 @@ IsTable nodes ids table = (key : ℕ) → Skips nodes ids key 0 (unwrap_or (get 
 abbrev pub AreTables : List Node → List UnionTable → Type 0
 AreTables nodes tables = (m : ℕ) (ids : List ℕ) (table : UnionTable) → branches_of (node_at nodes m) ≡ Some ids → slice_get tables m ≡ Some table → IsTable nodes ids table
 
--- the JSON is no default of a branch before an index
+-- the JSON is not a default of a branch before an index
 abbrev pub FitsNoneBefore : List Node → Data → List ℕ → ℕ → Type 0
 FitsNoneBefore nodes d ids to = (j id : ℕ) → j < to → slice_get ids j ≡ Some id → own_default nodes d (node_at nodes id) ≡ None

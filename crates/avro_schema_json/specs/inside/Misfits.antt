@@ -1,4 +1,4 @@
--- Nodes that a JSON value is no default of, as they are gathered: sets of their ids.
+-- Nodes that a JSON value is not a default of, as they are gathered: sets of their ids.
 use Rattle.std.specs.Prelude.{◌≡◌, ℕ, Bool, true, List, slice_get, Some, None}
 use Rattle.std.specs.Ordering.{nat_cmp}
 use Rattle.std.specs.Cmp.Lexicographic.{slice_cmp}
@@ -16,19 +16,19 @@ use Rattle.avro_schema_json.specs.inside.OwnDefaults.{own_default}
 abbrev pub has_id : BTreeSet ℕ → ℕ → Bool
 has_id ids m = contains nat_cmp ids m
 
--- the JSON is no default of the nodes of these ids
+-- the JSON is not a default of the nodes of these ids
 abbrev pub AreMisfits : List Node → Data → BTreeSet ℕ → Type 0
 AreMisfits nodes d ids = (m : ℕ) → has_id ids m ≡ true → own_default nodes d (node_at nodes m) ≡ None
 
--- the JSON is no default of any of these branches
+-- the JSON is not a default of any of these branches
 abbrev pub FitsNoBranch : List Node → Data → List NodeId → Type 0
 FitsNoBranch nodes d ids = (k : ℕ) → first_fit nodes (own_default nodes d) k (ids_of ids) ≡ None
 
--- the member of a key is no default of the node of an id
+-- the member of a key is not a default of the node of an id
 abbrev pub IsMemberMisfit : List Node → Members → List ℕ → ℕ → Type 0
 IsMemberMisfit nodes ms key m = (d : Data) × (get_member key ms ≡ Some d) × (default_of nodes d (node_at nodes m) ≡ None)
 
--- of each item and of each member one set: it is no default of the nodes in its set
+-- of each item and of each member one set: it is not a default of the nodes in its set
 abbrev pub AreItemMisfits : List Node → Items → List (BTreeSet ℕ) → Type 0
 AreItemMisfits nodes ds sets = (i : ℕ) (d : Data) (ids : BTreeSet ℕ) → get_item i ds ≡ Some d → slice_get sets i ≡ Some ids → AreMisfits nodes d ids
 

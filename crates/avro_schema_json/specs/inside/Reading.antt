@@ -1,4 +1,4 @@
--- What the reading of a part answers, and what it leaves.
+-- What the reading of a part returns, and what it leaves.
 use Rattle.std.specs.Prelude.{◌≡◌, ℕ, ◌⊎◌, ◌++◌, List, [], ◌∷◌, length, codes, true, nat_lt, Option, Some, None, Result, Ok, Err, Contains}
 use Rattle.avro_name.specs.Name.{Name}
 use Rattle.avro_schema.specs.Node.{Node}

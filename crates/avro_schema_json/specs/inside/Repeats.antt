@@ -1,4 +1,4 @@
--- Unions in which a branch stands twice.
+-- Unions in which a branch occurs twice.
 use Rattle.std.specs.Prelude.{◌≡◌, ℕ, ◌+◌, ◌*◌, ◌<◌, true, List, length, Option, Some, None, slice_get}
 use Rattle.std.specs.List.{list_all}
 use Rattle.avro_schema.specs.Node.{Node, node_at, branches_of}

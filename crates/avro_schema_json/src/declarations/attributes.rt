@@ -90,7 +90,7 @@ pub(crate) fn full_name(
     Ok(FullName::read(alloc, text, enclosing)?)
 }
 
-/// The fullname of a definition. Beside a name with a dot its namespace is not looked at.
+/// The fullname of a definition. Where the name has a dot, its namespace is not looked at.
 pub(crate) fn name(
     alloc: Global,
     enclosing: &Namespace,
@@ -113,7 +113,7 @@ pub(crate) fn name(
     }
 }
 
-/// Whether a definition has no namespace of its own, so that it stands in the enclosing one.
+/// Whether a definition has no namespace of its own, so that it is in the enclosing one.
 pub(crate) fn inherits(members: &Members) -> bool
     ensures { result ≡ true → (enclosing : List ℕ) (name : Name) → name_in enclosing (members_view members.now.entries) ≡ Ok name → name.namespace ≡ enclosing }
 {

@@ -15,9 +15,9 @@ pub(crate) struct Space {
 
 /// The names of the definitions that have begun, in their order, with the ids of their nodes.
 ///
-/// The namespaces are numbered, and a name is found by the number of its namespace and its simple part, so
-/// that a long namespace is not looked at for each name in it. Names are found by an order and by no hash,
-/// so that no choice of names makes it slow.
+/// The namespaces are numbered, and a name is found by the number of its namespace and its simple
+/// part, so that a long namespace is not looked at for each name in it. Names are found by their
+/// order, not by a hash, so that no choice of names makes it slow.
 #[derive(Drop)]
 pub(crate) struct NameTable {
     order: Vec<(FullName, u32)>,

@@ -25,7 +25,7 @@ pub(crate) struct Progress<'a> {
     pub names: NameTable,
 }
 
-/// A definition that is begun.
+/// A definition that has begun.
 #[derive(Drop)]
 pub(crate) struct Definition {
     pub id: NodeId,
@@ -59,7 +59,7 @@ impl<'a> Progress<'a> {
         Ok(NodeId(id as u32))
     }
 
-    /// Keeps an id for a node whose parts come after it.
+    /// Reserves an id for a node whose parts come after it.
     pub fn reserve(&mut self) -> Result<NodeId, SchemaError>
         ensures added { IfOk result (λ id. IsAdded (state_of self.old) (state_of self.new) (plain_node NullNode) id.0) }
         ensures refused { IfErr result (IsRefusal (limit_faults (state_of self.old))) }
@@ -68,7 +68,7 @@ impl<'a> Progress<'a> {
         self.add(RawNode::Null)
     }
 
-    /// Puts the node of an id.
+    /// Sets the node of an id.
     pub fn put(&mut self, id: NodeId, node: RawNode<'a>)
         requires { id.0 < length (state_of self.old).nodes }
         ensures nodes { (state_of self.new).nodes ≡ slice_set (state_of self.old).nodes id.0 (raw_node_of node.entry) }
@@ -78,7 +78,7 @@ impl<'a> Progress<'a> {
         self.nodes[id.0 as usize] = node;
     }
 
-    /// The node of the definition that a word refers to. Without a dot it stands in the enclosing
+    /// The node of the definition that a word refers to. Without a dot it is in the enclosing
     /// namespace, whose number is known.
     pub fn find(&self, alloc: Global, enclosing: &Space, word: &str) -> Result<NodeId, SchemaError>
         requires { IsEnclosed self.now enclosing.now }
@@ -132,7 +132,7 @@ impl<'a> Progress<'a> {
         self.names.space(name.space())
     }
 
-    /// Begins a definition: reads its name, which is known from now on, and keeps an id for it.
+    /// Begins a definition: reads its name, which is known from now on, and reserves an id for it.
     pub fn begin(
         &mut self,
         alloc: Global,

@@ -2,7 +2,7 @@ ghost use Rattle.std.specs.Prelude.{◌≡◌};
 ghost use Rattle.avro_schema_json.specs.Declares.{type_of_word, form_of_word};
 ghost use Rattle.avro_schema_json.specs.inside.ReadingSeen.{meaning_of_word, form_seen};
 
-/// What a text in the place of a type is.
+/// What a text is where a type is expected.
 #[derive(Clone, Copy)]
 pub(crate) enum Word {
     Null,
@@ -28,11 +28,11 @@ pub(crate) enum Form<'a> {
     Error,
     /// Any other word.
     Word(&'a str),
-    /// There is none, or it is no text.
+    /// There is none, or it is not a text.
     Missing,
 }
 
-/// What a word in the place of a type is.
+/// What a word is where a type is expected.
 pub(crate) fn word_of(word: &str) -> Word
     ensures { meaning_of_word word.now result ≡ type_of_word word.now }
 {

@@ -1,5 +1,5 @@
-//! Which nodes are asked of the parts of a JSON value. What is asked decides what is looked at, and not
-//! what is found: a node that is not asked is tried when its turn comes.
+//! Which nodes the parts of a JSON value are asked about. What is asked decides what is looked at,
+//! not what is found: a node that is not asked about is tried when its turn comes.
 
 use crate::defaults::misfit::lacks_field;
 use crate::raw::{RawField, RawNode};
@@ -8,7 +8,7 @@ use serde_json::{Map, Value};
 use std::alloc::Global;
 use std::collections::{BTreeMap, BTreeSet};
 
-/// Nodes that are asked of a value, each once.
+/// Nodes that a value is asked about, each once.
 #[derive(Drop)]
 pub(crate) struct Asked {
     pub ids: Vec<NodeId>,
@@ -24,7 +24,7 @@ impl Asked {
         }
     }
 
-    /// Asks of one more node.
+    /// Asks about one more node.
     fn add(&mut self, id: NodeId) -> Result<(), Memory> {
         if self.known.contains(&id.0) {
             return Ok(());
@@ -34,7 +34,7 @@ impl Asked {
         Ok(())
     }
 
-    /// Asks of one more node, if JSON is looked into for it.
+    /// Asks about one more node, if JSON is looked into for it.
     fn add_if_entered(&mut self, raws: &[RawNode], tree: &Value, id: NodeId) -> Result<(), Memory> {
         if may_enter(raws, tree, id) {
             self.add(id)?;
@@ -42,7 +42,7 @@ impl Asked {
         Ok(())
     }
 
-    /// Asks of those of more nodes for which JSON is looked into.
+    /// Asks about those of more nodes for which JSON is looked into.
     fn add_entered(
         &mut self,
         raws: &[RawNode],
@@ -55,7 +55,7 @@ impl Asked {
         Ok(())
     }
 
-    /// Asks of more nodes.
+    /// Asks about more nodes.
     fn add_all(&mut self, ids: &[NodeId]) -> Result<(), Memory> {
         for id in ids {
             self.add(*id)?;
@@ -125,7 +125,7 @@ fn may_enter(raws: &[RawNode], tree: &Value, id: NodeId) -> bool {
     }
 }
 
-/// The nodes that are asked, a union by its branches, for which JSON is looked into.
+/// The nodes that are asked about, a union by its branches, for which JSON is looked into.
 pub(crate) fn own_ids(
     alloc: Global,
     raws: &[RawNode],
@@ -142,7 +142,7 @@ pub(crate) fn own_ids(
     Ok(own.ids)
 }
 
-/// The nodes that arrays ask of their items.
+/// The nodes that arrays ask their items about.
 pub(crate) fn asked_items(
     alloc: Global,
     raws: &[RawNode],
@@ -158,7 +158,7 @@ pub(crate) fn asked_items(
     Ok(asked.ids)
 }
 
-/// The nodes that maps ask of their values.
+/// The nodes that maps ask their values about.
 fn asked_values(alloc: Global, raws: &[RawNode], own: &[NodeId]) -> Result<Vec<NodeId>, Memory> {
     let mut asked = Asked::new(alloc);
     for id in own {
@@ -192,7 +192,7 @@ pub(crate) fn asked_members<'a>(
     Ok(asked)
 }
 
-/// The same nodes asked of each member that has parts.
+/// The same nodes for each member that has parts.
 fn asked_of_each<'a>(
     alloc: Global,
     members: &'a Map<String, Value>,

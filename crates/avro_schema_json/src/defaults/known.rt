@@ -1,4 +1,5 @@
-//! What is known of a JSON value and of its parts before they are read: nodes that it is no default of.
+//! What is known of a JSON value and of its parts before they are read: nodes that it is not a
+//! default of.
 
 ghost use Rattle.std.specs.Prelude.{◌≡◌, ◌+◌, [], true, List, Some, None, IfOk};
 ghost use Rattle.avro_schema.specs.Node.{Node as SeenNode, node_at};
@@ -16,7 +17,7 @@ pub(crate) fn has(ids: &BTreeSet<u32>, id: NodeId) -> bool
     ids.contains(&id.0)
 }
 
-/// The nodes that an item is known to be no default of.
+/// The nodes that an item is known not to be a default of.
 pub(crate) fn of_item<'a>(
     parts: &'a [BTreeSet<u32>],
     nothing: &'a BTreeSet<u32>,
@@ -28,7 +29,7 @@ pub(crate) fn of_item<'a>(
     parts.get(index).unwrap_or(nothing)
 }
 
-/// The nodes that the member of a key is known to be no default of.
+/// The nodes that the member of a key is known not to be a default of.
 pub(crate) fn of_member<'a>(
     parts: &'a BTreeMap<&str, BTreeSet<u32>>,
     nothing: &'a BTreeSet<u32>,
@@ -43,7 +44,7 @@ pub(crate) fn of_member<'a>(
     }
 }
 
-/// The index after an index. One past the range of numbers would be past any memory.
+/// The index after an index. One past the range of numbers would exceed any memory.
 pub(crate) fn next_index(index: usize) -> Result<usize, Memory>
     ensures { IfOk result (λ next. next ≡ index + 1) }
 {

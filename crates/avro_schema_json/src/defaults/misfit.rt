@@ -1,4 +1,4 @@
-//! Whether one node is among those that a JSON value is no default of.
+//! Whether one node is among those that a JSON value is not a default of.
 
 ghost use Rattle.std.specs.Prelude.{◌≡◌, true, None, List, IfOk};
 ghost use Rattle.avro_schema.specs.Node.{Node as SeenNode, node_at};
@@ -21,8 +21,8 @@ use serde_json::{Map, Value};
 use std::alloc::Global;
 use std::collections::{BTreeMap, BTreeSet};
 
-/// Whether JSON is no default of the node of an id, by what is known of it. Where it says no, the
-/// JSON may be none nevertheless.
+/// Whether JSON is not a default of the node of an id, by what is known of it. Where this is
+/// false, the JSON may still not be one.
 pub(crate) fn is_misfit(
     alloc: Global,
     raws: &[RawNode],
@@ -40,7 +40,7 @@ pub(crate) fn is_misfit(
     }
 }
 
-/// Whether JSON is no default of any of some branches.
+/// Whether JSON is a default of none of some branches.
 fn fits_no_branch(
     alloc: Global,
     raws: &[RawNode],
@@ -63,8 +63,8 @@ fn fits_no_branch(
     Ok(true)
 }
 
-/// Whether JSON, which has so many characters where it is a text, is no default of the node of an id itself:
-/// by its kind, by what is known of it, or, where it has no parts, by trying.
+/// Whether JSON, which has so many characters where it is a text, is not a default of the node of
+/// an id itself: by its kind, by what is known of it, or, where it has no parts, by trying.
 fn is_own_misfit(
     alloc: Global,
     raws: &[RawNode],
@@ -88,7 +88,7 @@ fn is_own_misfit(
     is_leaf_misfit(alloc, raws, null, tree, id)
 }
 
-/// Whether JSON without parts is no default of the node of an id, which is of its kind.
+/// Whether JSON without parts is not a default of the node of an id, which is of its kind.
 fn is_leaf_misfit(
     alloc: Global,
     raws: &[RawNode],
@@ -107,7 +107,7 @@ fn is_leaf_misfit(
     }
 }
 
-/// Whether a text is no default of a node. That of a string is not copied to find it.
+/// Whether a text is not a default of a node. For a string, it is not copied to find out.
 fn is_text_misfit(alloc: Global, text: &str, node: &RawNode) -> Result<bool, Memory>
     ensures { IfOk result (λ answer. answer ≡ true → default_of_text text.now (without_defaults node.now) ≡ None) }
 {
@@ -117,7 +117,7 @@ fn is_text_misfit(alloc: Global, text: &str, node: &RawNode) -> Result<bool, Mem
     }
 }
 
-/// Whether an array is no default of the node of an id, by what is known of its items.
+/// Whether an array is not a default of the node of an id, by what is known of its items.
 pub(crate) fn is_array_misfit(
     alloc: Global,
     raws: &[RawNode],
@@ -136,7 +136,7 @@ pub(crate) fn is_array_misfit(
     }
 }
 
-/// Whether one of the items is no default of the node of an id.
+/// Whether one of the items is not a default of the node of an id.
 fn is_one_misfit(
     alloc: Global,
     raws: &[RawNode],
@@ -160,7 +160,7 @@ fn is_one_misfit(
     Ok(false)
 }
 
-/// Whether an object is no default of the node of an id, by what is known of its members.
+/// Whether an object is not a default of the node of an id, by what is known of its members.
 pub(crate) fn is_object_misfit(
     alloc: Global,
     raws: &[RawNode],
@@ -180,7 +180,7 @@ pub(crate) fn is_object_misfit(
     }
 }
 
-/// Whether one of the members is no default of the node of an id.
+/// Whether one of the members is not a default of the node of an id.
 fn is_map_misfit(
     alloc: Global,
     raws: &[RawNode],
@@ -200,7 +200,7 @@ fn is_map_misfit(
     Ok(false)
 }
 
-/// Whether the member of a key is no default of the node of an id.
+/// Whether the member of a key is not a default of the node of an id.
 fn is_member_misfit(
     alloc: Global,
     raws: &[RawNode],
@@ -219,7 +219,7 @@ fn is_member_misfit(
     }
 }
 
-/// Whether an object is no record of fields.
+/// Whether an object is not a record of fields.
 fn is_record_misfit(
     alloc: Global,
     raws: &[RawNode],
@@ -252,7 +252,7 @@ pub(crate) fn lacks_field(members: &Map<String, Value>, fields: &[RawField]) -> 
     false
 }
 
-/// Whether the member of one of the fields is no default of it.
+/// Whether the member of one of the fields is not a default of it.
 fn is_field_misfit(
     alloc: Global,
     raws: &[RawNode],

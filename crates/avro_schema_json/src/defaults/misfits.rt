@@ -1,5 +1,5 @@
-//! Which nodes a JSON value is no default of. Each value is looked at once, with all the nodes that are
-//! asked of it; nothing is kept of one without parts.
+//! Which nodes a JSON value is not a default of. Each value is looked at once, with all the nodes
+//! that it is asked about; nothing is kept for one without parts.
 
 ghost use Rattle.std.specs.Prelude.{◌≡◌, ◌⊎◌, ℕ, true, IfOk, OnOk};
 ghost use Rattle.avro_schema_json.specs.inside.Misfits.{has_id, AreMisfits, AreItemMisfits, AreMemberMisfits};
@@ -15,8 +15,9 @@ use serde_json::{Map, Value};
 use std::alloc::Global;
 use std::collections::{BTreeMap, BTreeSet};
 
-/// The branches that need not be tried: those that JSON is no default of, where two or more would look into
-/// it. JSON without parts, and that which one branch alone looks into, is tried in place.
+/// The branches that need not be tried: those that JSON is not a default of, where two or more
+/// would look into it. JSON without parts, and that which one branch alone looks into, is tried in
+/// place.
 pub(crate) fn skipped_branches(
     alloc: Global,
     raws: &[RawNode],
@@ -31,8 +32,8 @@ pub(crate) fn skipped_branches(
     Ok(BTreeSet::new(alloc))
 }
 
-/// The nodes that JSON is no default of, among those that are asked of it, unions by their branches. Nothing is
-/// kept of JSON without parts: it is tried in place.
+/// The nodes that JSON is not a default of, among those it is asked about, unions by their
+/// branches. Nothing is kept for JSON without parts: it is tried in place.
 #[cycle(misfits)]
 fn misfits_of(
     alloc: Global,
@@ -59,7 +60,7 @@ fn misfits_of(
     }
 }
 
-/// For each item, the nodes that it is no default of; none where it has no parts.
+/// For each item, the nodes that it is not a default of; none where it has no parts.
 #[cycle(misfits)]
 fn item_misfits(
     alloc: Global,
@@ -78,7 +79,7 @@ fn item_misfits(
     Ok(parts)
 }
 
-/// For each member that has parts, the nodes that it is no default of.
+/// For each member that has parts, the nodes that it is not a default of.
 #[cycle(misfits)]
 fn member_misfits<'a>(
     alloc: Global,
@@ -114,7 +115,7 @@ fn add(ids: &mut BTreeSet<u32>, id: NodeId) -> Result<(), Memory>
     Ok(())
 }
 
-/// The nodes that an array is no default of, by the sets of its items.
+/// The nodes that an array is not a default of, by the sets of its items.
 fn array_misfits(
     alloc: Global,
     raws: &[RawNode],
@@ -134,7 +135,7 @@ fn array_misfits(
     Ok(ids)
 }
 
-/// The nodes that an object is no default of, by the sets of its members.
+/// The nodes that an object is not a default of, by the sets of its members.
 fn object_misfits(
     alloc: Global,
     raws: &[RawNode],

@@ -17,7 +17,7 @@ use avro_schema::{Datum, Memory};
 use serde_json::Number;
 use std::alloc::Global;
 
-/// The default that null is.
+/// The default that null gives.
 pub(crate) fn null_default(node: &RawNode) -> Option<Datum>
     ensures { option_map value_of result ≡ default_of_null (without_defaults node.now) }
 {
@@ -27,7 +27,7 @@ pub(crate) fn null_default(node: &RawNode) -> Option<Datum>
     }
 }
 
-/// The default that true or false is.
+/// The default that true or false gives.
 pub(crate) fn boolean_default(value: bool, node: &RawNode) -> Option<Datum>
     ensures { option_map value_of result ≡ default_of_boolean value (without_defaults node.now) }
 {
@@ -37,7 +37,7 @@ pub(crate) fn boolean_default(value: bool, node: &RawNode) -> Option<Datum>
     }
 }
 
-/// The default that a number is: a whole one in range.
+/// The default that a number gives: a whole one in range.
 pub(crate) fn number_default(number: Number, node: &RawNode) -> Option<Datum>
     ensures { option_map value_of result ≡ default_of_number (number_view number) (without_defaults node.now) }
 {
@@ -64,7 +64,7 @@ fn int_datum(value: i64) -> Option<Datum>
     }
 }
 
-/// The default that a text is.
+/// The default that a text gives.
 pub(crate) fn text_default(
     alloc: Global,
     text: &str,

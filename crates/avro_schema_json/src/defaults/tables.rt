@@ -1,4 +1,5 @@
-//! Where in a union the branches begin that JSON may fit, by its kind, the size of a text and whether an object has members.
+//! Where in a union the branches that JSON may fit begin, by its kind, the size of a text and
+//! whether an object has members.
 
 ghost use Rattle.std.specs.Prelude.{◌≡◌, ◌+◌, ℕ, List, Some, slice_get, IfOk};
 ghost use Rattle.std.specs.Option.{unwrap_or};
@@ -19,7 +20,7 @@ use serde_json::{Map, Value};
 use std::alloc::Global;
 use std::collections::BTreeMap;
 
-/// The key of a fixed of a size. One past the range of numbers would be past any memory.
+/// The key of a fixed of a size. One past the range of numbers would exceed any memory.
 fn key_of_size(size: usize) -> Result<usize, Memory>
     ensures { IfOk result (λ key. key ≡ size + 9) }
 {
@@ -64,7 +65,8 @@ fn key_at(raws: &[RawNode], branch: NodeId) -> Result<usize, Memory>
     key_of(raw_at(&*raws, &null, branch))
 }
 
-/// The table of some branches. They are gone through from the last, so that the first of each key stays.
+/// The table of some branches. They are gone through from the last, so that the first of each key
+/// is kept.
 fn table_of(alloc: Global, raws: &[RawNode], ids: &[NodeId]) -> Result<UnionTable, Memory>
     ensures { IfOk result (λ table. IsTable (all_without_defaults raws.now) (ids_of ids.now) table) }
 {
@@ -129,7 +131,7 @@ pub(crate) fn table_at<'a>(
     tables.get(id.0 as usize).unwrap_or(no_table)
 }
 
-/// Where the first branch of a key may stand.
+/// Where the first branch of a key may be.
 fn first_of(table: &UnionTable, key: usize) -> usize
     ensures { result ≡ unwrap_or (get nat_cmp table.now.first key) table.now.other }
 {

@@ -1,4 +1,5 @@
-//! What JSON is no default of by its kind, and a text by how many characters it has: nothing is made to find it.
+//! What JSON is not a default of by its kind, and a text by how many characters it has: nothing is
+//! built to find it out.
 
 ghost use Rattle.std.specs.Prelude.{◌≡◌, ℕ, true, None, List, length};
 ghost use Rattle.std.specs.Str.{chars};
@@ -30,8 +31,8 @@ fn count_of_characters(text: &str) -> usize
     text.chars().count()
 }
 
-/// Whether JSON, which has so many characters where it is a text, is no default of the node of an id by its kind
-/// alone. The node of null is given, so that none is made for each branch.
+/// Whether JSON, which has so many characters where it is a text, is not a default of the node of
+/// an id by its kind alone. The node of null is given, so that none is made for each branch.
 pub(crate) fn is_unfit(
     raws: &[RawNode],
     null: &RawNode,
@@ -54,7 +55,8 @@ pub(crate) fn is_unfit(
     }
 }
 
-/// Whether a text of so many characters is no default of a node by the node's kind, and of a fixed by its size.
+/// Whether a text of so many characters is not a default of a node by the node's kind, and of a
+/// fixed by its size.
 fn is_unfit_text(characters: usize, node: &RawNode) -> bool
     ensures { result ≡ true → (text : List ℕ) → characters ≡ length (chars text) → default_of_text text (without_defaults node.now) ≡ None }
 {

@@ -4,7 +4,7 @@ use Rattle.std.proofs.lemmas.Str.{is_utf8-from_IsUtf8}
 use Rattle.avro_binary.proofs.CursorSteps.{not_utf8}
 use Rattle.avro_binary.proofs.cursor.elements.text_of.Goals as goal
 
--- what holds of an answer holds of what is kept of it
+-- what holds of a result holds of what is kept of it
 some_kept : {A E : Type 0} (P Q : A → Type 0) (N : E → Type 0) (r : Result A E) → MatchResult r P N → ((x : A) → P x → Q x) → IfSome (result_ok r) Q
 some_kept P Q N (Ok x) is k = k x is
 some_kept P Q N (Err e) is k = tt
