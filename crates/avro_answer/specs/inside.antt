@@ -1,2 +1,3 @@
 -- What only proofs and private contracts need.
 pub mod Read
+pub mod VerdictTexts

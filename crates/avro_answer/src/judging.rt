@@ -7,7 +7,7 @@ ghost use Rattle.avro_answer.specs.RefusalText.{RefusesPair, HaveSchemas};
 ghost use Rattle.avro_answer.specs.declared.refusal.Refusal.TheVariants.{OutOfMemory};
 
 use crate::answer::Answer;
-use crate::reading::read_text;
+use crate::reading::{read_reader, read_writer};
 use crate::refusal::Refusal;
 use crate::verdicts::{text_of_no, text_of_undecided};
 use avro_judge::{JudgeLimits, Verdict, judge};
@@ -70,8 +70,8 @@ pub fn judge_text(
     ensures refused { IfErr result (RefusesPair writer.now reader.now) }
     ensures complete { HaveSchemas writer.now reader.now → IfErr result (λ e. e ≡ OutOfMemory) }
 {
-    let writer = read_text(alloc, writer, Refusal::Writer)?;
-    let reader = read_text(alloc, reader, Refusal::Reader)?;
+    let writer = read_writer(alloc, writer)?;
+    let reader = read_reader(alloc, reader)?;
     let judged = judge_schemas(alloc, &writer, &reader, limits)?;
     Ok(judged.answer)
 }

@@ -1,7 +1,7 @@
-//! What the program answers: the bytes of a text and an exit status, of the bytes of schemas and certificates.
+//! What the program answers of the bytes of schemas and certificates: the bytes of a text, and an exit status.
 //!
-//! [`judge_text`], [`confirm_text`], [`history_text`] and [`schema_text`] answer for texts alone; the calls below
-//! them take what is read already. Nothing here opens a file or prints.
+//! [`judge_text`], [`confirm_text`] and [`schema_text`] are for bytes; [`judge_schemas`], [`judge_line`],
+//! [`confirm_schemas`] and [`show_schema`] for what is read already. Nothing here opens a file or prints.
 #![tactic(auto)]
 
 mod answer;
@@ -17,9 +17,8 @@ mod verdicts;
 
 pub use answer::Answer;
 pub use confirming::{confirm_schemas, confirm_text};
-pub use history::{Judgement, history_line, judge_line};
-pub use judging::{answer_verdict, judge_text};
-pub use reading::{read_certificate, read_text};
-pub use refusal::{Refusal, Refused, refusal_line};
-pub use schemas::{Shown, answer_schema, schema_text};
+pub use history::judge_line;
+pub use judging::{Judged, judge_schemas, judge_text};
+pub use refusal::{Refusal, certificate_refusal, schema_refusal};
+pub use schemas::{Shown, schema_text, show_schema};
 pub use verdicts::cause_word;

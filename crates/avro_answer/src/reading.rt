@@ -5,11 +5,14 @@ ghost use Rattle.std.specs.Result.{IfErr};
 ghost use Rattle.avro_schema.specs.SeenSchema.{schema_nodes};
 ghost use Rattle.avro_schema_json.specs.Declaration.{max_text};
 ghost use Rattle.avro_schema_json.specs.DeclaredText.{DeclaresText};
-ghost use Rattle.avro_answer.specs.RefusalText.{HasCode, HasSchema};
-ghost use Rattle.avro_answer.specs.inside.Read.{RefusesWriter, RefusesReader};
+ghost use Rattle.avro_certificate.specs.CertificateText.{CertText};
+ghost use Rattle.avro_certificate.specs.SeenCertificate.{dead_of, pairs_in};
+ghost use Rattle.avro_answer.specs.RefusalText.{HasSchema};
+ghost use Rattle.avro_answer.specs.inside.Read.{RefusesWriter, RefusesReader, RefusesCertificate};
 ghost use Rattle.avro_answer.specs.declared.refusal.Refusal.TheVariants.{OutOfMemory};
 
 use crate::refusal::Refusal;
+use avro_certificate::{CertError, Certificate};
 use avro_schema::Schema;
 use avro_schema_json::{SchemaError, read_schema};
 use std::alloc::Global;
@@ -37,5 +40,17 @@ pub(crate) fn read_reader(alloc: Global, text: &[u8]) -> Result<Schema, Refusal>
         Ok(schema) => Ok(schema),
         Err(SchemaError::OutOfMemory) => Err(Refusal::OutOfMemory),
         Err(e) => Err(Refusal::Reader(e)),
+    }
+}
+
+/// The certificate of a text.
+pub(crate) fn read_certificate(alloc: Global, text: &[u8]) -> Result<Certificate, Refusal>
+    ensures found { IfOk result (λ c. CertText (dead_of c) (pairs_in c) text.now) }
+    ensures refused { IfErr result (RefusesCertificate text.now) }
+{
+    match Certificate::read(alloc, text) {
+        Ok(certificate) => Ok(certificate),
+        Err(CertError::OutOfMemory) => Err(Refusal::OutOfMemory),
+        Err(e) => Err(Refusal::Certificate(e)),
     }
 }

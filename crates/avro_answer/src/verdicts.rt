@@ -1,6 +1,6 @@
 //! The texts of verdicts.
 
-ghost use Rattle.std.specs.Prelude.{◌≡◌, ◌≤◌, ◌++◌, true, codes, IfOk};
+ghost use Rattle.std.specs.Prelude.{◌≡◌, ◌≤◌, ◌++◌, true, codes, IfOk, OnOk};
 ghost use Rattle.avro_schema.specs.Fits.{fits};
 ghost use Rattle.avro_schema.specs.Node.{root_of};
 ghost use Rattle.avro_schema.specs.Seen.{value_of};
@@ -9,13 +9,14 @@ ghost use Rattle.avro_schema.specs.Value.{size as value_size};
 ghost use Rattle.avro_compare.specs.Seen.{fault_of};
 ghost use Rattle.avro_answer.specs.Texts.{cause_text};
 ghost use Rattle.avro_answer.specs.JudgeAnswer.{no_text};
+ghost use Rattle.avro_answer.specs.inside.VerdictTexts.{verdict_status, verdict_words};
 
 use crate::faults::append_fault;
 use avro_certificate::append_decimal;
 use avro_display::show;
-use avro_judge::{Cause, Refutation};
+use avro_judge::{Cause, Refutation, Verdict};
 use avro_schema::{Memory, Schema, size};
-use std::alloc::Global;
+use std::alloc::{AllocError, Global};
 
 /// The word of a cause.
 pub fn cause_word(cause: Cause) -> &'static str
@@ -29,7 +30,11 @@ pub fn cause_word(cause: Cause) -> &'static str
 }
 
 /// The text of a no.
-pub(crate) fn text_of_no(alloc: Global, writer: &Schema, found: &Refutation) -> Result<Vec<u8>, Memory>
+pub(crate) fn text_of_no(
+    alloc: Global,
+    writer: &Schema,
+    found: &Refutation,
+) -> Result<Vec<u8>, Memory>
     requires fitting { fits (schema_nodes writer.now) (root_of (schema_nodes writer.now)) (value_of found.now.datum) ≡ true }
     requires small { value_size (value_of found.now.datum) ≤ 1048576 }
     ensures { IfOk result (λ text. text.items ≡ no_text (schema_nodes writer.now) (value_of found.now.datum) (fault_of found.now.fault)) }
@@ -44,6 +49,31 @@ pub(crate) fn text_of_no(alloc: Global, writer: &Schema, found: &Refutation) -> 
     text.extend_from_slice(display.as_bytes())?;
     text.push(b'\n')?;
     Ok(text)
+}
+
+/// The exit status of a verdict.
+pub(crate) fn status_of(verdict: &Verdict<'_>) -> u8
+    ensures { result ≡ verdict_status verdict.now }
+{
+    match verdict {
+        Verdict::Approved(_) => 0,
+        Verdict::Refuted(_) => 1,
+        Verdict::Undecided(_) => 2,
+    }
+}
+
+/// Appends the words of a verdict.
+pub(crate) fn append_verdict(text: &mut Vec<u8>, verdict: &Verdict<'_>) -> Result<(), AllocError>
+    ensures { OnOk result (text.new.items ≡ text.old.items ++ verdict_words verdict.now) }
+{
+    match verdict {
+        Verdict::Approved(_) => text.extend_from_slice(b" yes"),
+        Verdict::Refuted(_) => text.extend_from_slice(b" no"),
+        Verdict::Undecided(cause) => {
+            text.extend_from_slice(b" undecided ")?;
+            text.extend_from_slice(cause_word(*cause).as_bytes())
+        }
+    }
 }
 
 /// The text of an undecided.

@@ -1,5 +1,6 @@
 -- What a refusal of one text says of it.
 use Rattle.std.specs.Prelude.{ℕ, List}
+use Rattle.avro_certificate.specs.CertificateRead.{Refuses}
 use Rattle.avro_answer.specs.RefusalText.{HasCode}
 use Rattle.avro_answer.specs.declared.refusal.Refusal.{Refusal}
 
@@ -14,3 +15,9 @@ RefusesReader text (Refusal.Writer e) = ⊥
 RefusesReader text (Refusal.Reader e) = HasCode text e
 RefusesReader text (Refusal.Certificate e) = ⊥
 RefusesReader text Refusal.OutOfMemory = Unit {0}
+
+abbrev pub RefusesCertificate : List ℕ → Refusal → Type 0
+RefusesCertificate text (Refusal.Writer e) = ⊥
+RefusesCertificate text (Refusal.Reader e) = ⊥
+RefusesCertificate text (Refusal.Certificate e) = Refuses e text
+RefusesCertificate text Refusal.OutOfMemory = Unit {0}
