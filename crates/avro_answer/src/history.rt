@@ -7,7 +7,8 @@ ghost use Rattle.avro_answer.specs.inside.VerdictTexts.{verdict_words};
 use crate::answer::Answer;
 use crate::judging::Judged;
 use crate::verdicts::{append_verdict, status_of};
-use avro_judge::{JudgeLimits, Verdict, judge};
+use avro_judge::laws::judge_is_right;
+use avro_judge::{JudgeLimits, Verdict};
 use avro_schema::{Memory, Schema};
 use std::alloc::Global;
 
@@ -16,6 +17,7 @@ use std::alloc::Global;
 /// # Errors
 ///
 /// Memory ran out.
+#[tactic(auto, using(crate::proofs::VerdictAnswers::line_answer))]
 pub fn judge_line<'a>(
     alloc: Global,
     word: &str,
@@ -26,7 +28,7 @@ pub fn judge_line<'a>(
     ensures right { IfOk result (λ j. IsRight writer.now reader.now limits.now j.verdict) }
     ensures answered { IfOk result (λ j. LineAnswer word.now (schema_nodes writer.now) (schema_nodes reader.now) limits.now j.answer.text.items j.answer.status) }
 {
-    let verdict = judge(alloc, writer, reader, limits)?;
+    let verdict = judge_is_right(alloc, writer, reader, limits)?;
     let text = verdict_line(alloc, word, &verdict)?;
     let status = status_of(&verdict);
     Ok(Judged {

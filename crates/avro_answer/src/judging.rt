@@ -9,8 +9,9 @@ ghost use Rattle.avro_answer.specs.declared.refusal.Refusal.TheVariants.{OutOfMe
 use crate::answer::Answer;
 use crate::reading::{read_reader, read_writer};
 use crate::refusal::Refusal;
-use crate::verdicts::{text_of_no, text_of_undecided};
-use avro_judge::{JudgeLimits, Verdict, judge};
+use crate::verdicts::{status_of, text_of_no, text_of_undecided};
+use avro_judge::laws::judge_is_right;
+use avro_judge::{JudgeLimits, Verdict};
 use avro_schema::{Memory, Schema};
 use std::alloc::Global;
 
@@ -28,6 +29,7 @@ pub struct Judged<'a> {
 /// # Errors
 ///
 /// Memory ran out.
+#[tactic(auto, using(crate::proofs::VerdictAnswers::schemas_answer))]
 pub fn judge_schemas<'a>(
     alloc: Global,
     writer: &'a Schema,
@@ -37,22 +39,17 @@ pub fn judge_schemas<'a>(
     ensures right { IfOk result (λ j. IsRight writer.now reader.now limits.now j.verdict) }
     ensures answered { IfOk result (λ j. SchemasAnswer (schema_nodes writer.now) (schema_nodes reader.now) limits.now j.answer.text.items j.answer.status) }
 {
-    let verdict = judge(alloc, writer, reader, limits)?;
-    let answer = match &verdict {
-        Verdict::Approved(_) => Answer {
-            text: Vec::from_slice(alloc, b"yes\n")?,
-            status: 0,
-        },
-        Verdict::Refuted(found) => Answer {
-            text: text_of_no(alloc, writer, found)?,
-            status: 1,
-        },
-        Verdict::Undecided(cause) => Answer {
-            text: text_of_undecided(alloc, *cause)?,
-            status: 2,
-        },
+    let verdict = judge_is_right(alloc, writer, reader, limits)?;
+    let text = match &verdict {
+        Verdict::Approved(_) => Vec::from_slice(alloc, b"yes\n")?,
+        Verdict::Refuted(found) => text_of_no(alloc, writer, found)?,
+        Verdict::Undecided(cause) => text_of_undecided(alloc, *cause)?,
     };
-    Ok(Judged { verdict, answer })
+    let status = status_of(&verdict);
+    Ok(Judged {
+        verdict,
+        answer: Answer { text, status },
+    })
 }
 
 /// Judges the schemas of two texts.

@@ -8,6 +8,8 @@ ghost use Rattle.avro_judge.specs.JudgeRanges.{JudgeLimitValues};
 ghost use Rattle.avro_answer.specs.ConfirmAnswer.{ConfirmAnswer, IsConfirmed};
 ghost use Rattle.avro_answer.specs.JudgeAnswer.{JudgeAnswer, IsYes};
 
+use avro_schema_json::laws::declared_is_schema;
+
 /// Where the answer to two texts is yes, no datum of the schema that the first declares, of any size, fails under the
 /// schema that the second declares.
 pub fn yes_is_compatible()
@@ -20,4 +22,6 @@ pub fn yes_is_compatible()
 pub fn confirmed_is_compatible()
     ensures { (writer reader certificate text : List ℕ) (status : ℕ) → ConfirmAnswer writer reader certificate text status
         → IsConfirmed text status → (written read : List Node) → DeclaresText writer written → DeclaresText reader read → AreCompatible written read }
-{}
+{
+    declared_is_schema();
+}
