@@ -1,0 +1,3 @@
+pub mod AskedLimits
+pub mod Room
+pub mod Told
