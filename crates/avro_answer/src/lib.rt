@@ -28,7 +28,7 @@ pub use explaining::{
     append_fault, begin_faults, end_of_faults, explain_text, no_fault, over_pairs,
 };
 pub use form::Form;
-pub use history::{judge_json_line, judge_line};
+pub use history::{history_text, judge_json_line, judge_line};
 pub use json_answers::counts_line;
 pub use judging::{Judged, judge_schemas, judge_text};
 pub use refusal::{Refusal, certificate_refusal, schema_refusal};
