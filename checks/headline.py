@@ -1,6 +1,6 @@
 #!/usr/bin/env python3
-"""Lists the definitions that the headline rests on, file by file, and those that a `confirmed` alone rests on, and
-compares both with the tables of docs/HEADLINE.md.
+"""Lists the definitions that the headline rests on, file by file, those that a `confirmed` alone rests on, and those
+that the answer of `avro judge` to two texts rests on besides, and compares them with the tables of docs/HEADLINE.md.
 
 usage: checks/headline.py [--print]
 
@@ -24,8 +24,9 @@ HEADLINE: Roots = (
     ("Rattle.avro_judge.specs.Headline", "ReadsRight"),
 )
 CONFIRMED: Roots = (("Rattle.avro_certificate.specs.Compatible", "AreCompatible"),)
+ANSWERED: Roots = (("Rattle.avro_answer.specs.JudgeAnswer", "JudgeAnswer"),)
 # The crates and their files in the order in which each rests on those before it.
-CRATES = ("name", "schema", "zigzag", "binary", "compare", "resolve", "certificate", "judge")
+CRATES = ("name", "schema", "zigzag", "binary", "compare", "resolve", "certificate", "judge", "schema_json", "display", "answer")
 WORD = re.compile(r"[A-Za-z_][\w\-]*")
 HEAD = re.compile(r"(?:abbrev )?(?:pub )?(?:abbrev )?(?:record |data |type )?(?:pub )?([A-Za-z_][\w\-]*)")
 USE = re.compile(r"^use (Rattle\.[\w.]+)\.\{([^}]*)\}", re.MULTILINE)
@@ -119,10 +120,12 @@ def rank(file: Path) -> tuple[int, str]:
     return (CRATES.index(crate), file.stem)
 
 
-def table(roots: Roots) -> str:
-    """The table of what the roots reach, a row a file in the order of reading, and a last row of sums."""
+def table(roots: Roots, known: Roots = ()) -> str:
+    """The table of what the roots reach besides what is known, a row a file in the order of reading, and a last row of
+    sums."""
     names: dict[Path, list[str]] = {}
-    for file, name in reached(roots):
+    before = set(reached(known))
+    for file, name in (found for found in reached(roots) if found not in before):
         names.setdefault(file, []).append(name)
     rows, total = [], [0, 0]
     for file in sorted(names, key=rank):
@@ -135,16 +138,21 @@ def table(roots: Roots) -> str:
     return "\n".join(["| File | Lines | Definitions |", "|---|---|---|", *rows])
 
 
+def tables() -> list[str]:
+    """The tables of the page."""
+    return [table(HEADLINE), table(CONFIRMED), table(ANSWERED, HEADLINE)]
+
+
 def main() -> int:
     """Prints the table, or compares it."""
     if sys.argv[1:] == ["--print"]:
-        print(table(HEADLINE), table(CONFIRMED), sep="\n\n")
+        print(*tables(), sep="\n\n")
         return 0
     if sys.argv[1:]:
         print(__doc__, file=sys.stderr)
         return 64
     page = PAGE.read_text(encoding="utf-8")
-    if all(table(roots) in page for roots in (HEADLINE, CONFIRMED)):
+    if all(found in page for found in tables()):
         return 0
     print(f"{PAGE.name}: a table is not what checks/headline.py --print gives", file=sys.stderr)
     return 1

@@ -43,6 +43,13 @@ pub record SchemasAnswer (writer reader : List Node) (limits : JudgeLimitValues)
   -- there is no other answer
   pub known : IsYes text status ⊎ (status ≡ 1) ⊎ ((cause : Cause) × IsUndecidedBy cause text status)
 
+-- What the status says of two schemas, in each form of the answer.
+pub record StatusAnswer (writer reader : List Node) (limits : JudgeLimitValues) (status : ℕ) : Type 0 where
+  pub yes : (status ≡ 0) ↔ (InPairs writer reader limits × AreCompatible writer reader)
+  pub no : status ≡ 1 → (v : Value) × (fault : ResolutionFault) × Refutes writer reader limits v fault
+  pub undecided : status ≡ 2 → (cause : Cause) × IsPassed writer reader limits cause
+  pub known : (status ≡ 0) ⊎ (status ≡ 1) ⊎ (status ≡ 2)
+
 -- What is answered of two texts: both declare schemas, and it is the answer of those.
 pub record JudgeAnswer (writer reader : List ℕ) (limits : JudgeLimitValues) (text : List ℕ) (status : ℕ) : Type 0 where
   pub written : List Node

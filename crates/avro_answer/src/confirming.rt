@@ -1,16 +1,19 @@
-ghost use Rattle.std.specs.Prelude.{◌≡◌, IfOk};
+ghost use Rattle.std.specs.Prelude.{◌≡◌, true, false, codes, IfOk};
 ghost use Rattle.std.specs.Result.{IfErr};
 ghost use Rattle.avro_schema.specs.SeenSchema.{schema_nodes};
 ghost use Rattle.avro_certificate.specs.SeenCertificate.{dead_of, pairs_in};
 ghost use Rattle.avro_answer.specs.ConfirmAnswer.{SetsAnswer, ConfirmAnswer, RefusesOneOf};
+ghost use Rattle.avro_answer.specs.declared.form.Form.{Form};
 
 use crate::answer::Answer;
+use crate::form::Form;
+use crate::json_answers::confirmed_line;
 use crate::reading::{read_certificate, read_reader, read_writer};
 use crate::refusal::Refusal;
 use avro_certificate::Certificate;
 use avro_judge::confirm;
 use avro_schema::{Memory, Schema};
-use std::alloc::Global;
+use std::alloc::{AllocError, Global};
 
 /// Says whether a certificate confirms two schemas.
 ///
@@ -22,20 +25,42 @@ pub fn confirm_schemas(
     writer: &Schema,
     reader: &Schema,
     certificate: &Certificate,
+    form: Form,
 ) -> Result<Answer, Memory>
-    ensures answered { IfOk result (λ a. SetsAnswer (schema_nodes writer.now) (schema_nodes reader.now) (dead_of certificate.now) (pairs_in certificate.now) a.text.items a.status) }
+    ensures answered { IfOk result (λ a. form ≡ Form.Text → SetsAnswer (schema_nodes writer.now) (schema_nodes reader.now) (dead_of certificate.now) (pairs_in certificate.now) a.text.items a.status) }
 {
     let is_confirmed = confirm(alloc, writer, reader, certificate)?.is_some();
+    Ok(answer_confirmed(alloc, is_confirmed, form)?)
+}
+
+/// What is answered of what a certificate confirms, or does not confirm.
+///
+/// # Errors
+///
+/// Memory ran out.
+pub fn answer_confirmed(alloc: Global, is_confirmed: bool, form: Form) -> Result<Answer, AllocError>
+    ensures yes { IfOk result (λ a. is_confirmed ≡ true → a.status ≡ 0) }
+    ensures no { IfOk result (λ a. is_confirmed ≡ false → a.status ≡ 1) }
+    ensures yes_text { IfOk result (λ a. form ≡ Form.Text → is_confirmed ≡ true → a.text.items ≡ codes "confirmed\n") }
+    ensures no_text { IfOk result (λ a. form ≡ Form.Text → is_confirmed ≡ false → a.text.items ≡ codes "not confirmed\n") }
+{
+    let text = match form {
+        Form::Json => confirmed_line(alloc, is_confirmed)?.into_bytes(),
+        Form::Text => Vec::from_slice(alloc, confirmed_text(is_confirmed).as_bytes())?,
+    };
+    let status = if is_confirmed { 0 } else { 1 };
+    Ok(Answer { text, status })
+}
+
+/// The text of what a certificate confirms, or does not confirm.
+fn confirmed_text(is_confirmed: bool) -> &'static str
+    ensures yes { is_confirmed ≡ true → result.now ≡ codes "confirmed\n" }
+    ensures no { is_confirmed ≡ false → result.now ≡ codes "not confirmed\n" }
+{
     if is_confirmed {
-        Ok(Answer {
-            text: Vec::from_slice(alloc, b"confirmed\n")?,
-            status: 0,
-        })
+        "confirmed\n"
     } else {
-        Ok(Answer {
-            text: Vec::from_slice(alloc, b"not confirmed\n")?,
-            status: 1,
-        })
+        "not confirmed\n"
     }
 }
 
@@ -49,12 +74,13 @@ pub fn confirm_text(
     writer: &[u8],
     reader: &[u8],
     certificate: &[u8],
+    form: Form,
 ) -> Result<Answer, Refusal>
-    ensures answered { IfOk result (λ a. ConfirmAnswer writer.now reader.now certificate.now a.text.items a.status) }
+    ensures answered { IfOk result (λ a. form ≡ Form.Text → ConfirmAnswer writer.now reader.now certificate.now a.text.items a.status) }
     ensures refused { IfErr result (RefusesOneOf writer.now reader.now certificate.now) }
 {
     let writer = read_writer(alloc, writer)?;
     let reader = read_reader(alloc, reader)?;
     let certificate = read_certificate(alloc, certificate)?;
-    Ok(confirm_schemas(alloc, &writer, &reader, &certificate)?)
+    Ok(confirm_schemas(alloc, &writer, &reader, &certificate, form)?)
 }

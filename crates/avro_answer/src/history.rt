@@ -2,10 +2,15 @@ ghost use Rattle.std.specs.Prelude.{◌≡◌, ◌++◌, codes, IfOk};
 ghost use Rattle.avro_schema.specs.SeenSchema.{schema_nodes};
 ghost use Rattle.avro_judge.specs.Headline.{IsRight};
 ghost use Rattle.avro_answer.specs.HistoryAnswer.{LineAnswer};
+ghost use Rattle.avro_answer.specs.JudgeAnswer.{StatusAnswer};
 ghost use Rattle.avro_answer.specs.inside.VerdictTexts.{verdict_words};
 
 use crate::answer::Answer;
+use crate::form::Form;
+use crate::json_answers::history_line;
 use crate::judging::Judged;
+use crate::reading::{read_reader, read_writer};
+use crate::refusal::Refusal;
 use crate::verdicts::{append_verdict, status_of};
 use avro_judge::laws::judge_is_right;
 use avro_judge::{JudgeLimits, Verdict};
@@ -17,7 +22,7 @@ use std::alloc::Global;
 /// # Errors
 ///
 /// Memory ran out.
-#[tactic(auto, using(crate::proofs::VerdictAnswers::line_answer))]
+#[tactic(auto, using(crate::proofs::VerdictAnswers::line_answered, crate::proofs::VerdictAnswers::status_answered))]
 pub fn judge_line<'a>(
     alloc: Global,
     word: &str,
@@ -27,9 +32,10 @@ pub fn judge_line<'a>(
 ) -> Result<Judged<'a>, Memory>
     ensures right { IfOk result (λ j. IsRight writer.now reader.now limits.now j.verdict) }
     ensures answered { IfOk result (λ j. LineAnswer word.now (schema_nodes writer.now) (schema_nodes reader.now) limits.now j.answer.text.items j.answer.status) }
+    ensures status { IfOk result (λ j. StatusAnswer (schema_nodes writer.now) (schema_nodes reader.now) limits.now j.answer.status) }
 {
     let verdict = judge_is_right(alloc, writer, reader, limits)?;
-    let text = verdict_line(alloc, word, &verdict)?;
+    let text = line_of(alloc, word, &verdict)?;
     let status = status_of(&verdict);
     Ok(Judged {
         verdict,
@@ -38,7 +44,7 @@ pub fn judge_line<'a>(
 }
 
 /// The line of a verdict.
-fn verdict_line(alloc: Global, word: &str, verdict: &Verdict<'_>) -> Result<Vec<u8>, Memory>
+fn line_of(alloc: Global, word: &str, verdict: &Verdict<'_>) -> Result<Vec<u8>, Memory>
     ensures { IfOk result (λ line. line.items ≡ word.now ++ verdict_words verdict.now ++ codes "\n") }
 {
     let mut line = Vec::new(alloc);
@@ -46,4 +52,93 @@ fn verdict_line(alloc: Global, word: &str, verdict: &Verdict<'_>) -> Result<Vec<
     append_verdict(&mut line, verdict)?;
     line.push(b'\n')?;
     Ok(line)
+}
+
+/// Judges two schemas, and answers a line of JSON, with the name of a file, and a mode if there is one.
+///
+/// # Errors
+///
+/// Memory ran out.
+#[tactic(auto, using(crate::proofs::VerdictAnswers::status_answered))]
+pub fn judge_json_line<'a>(
+    alloc: Global,
+    file: &str,
+    mode: Option<&str>,
+    writer: &'a Schema,
+    reader: &'a Schema,
+    limits: &JudgeLimits,
+) -> Result<Judged<'a>, Memory>
+    ensures right { IfOk result (λ j. IsRight writer.now reader.now limits.now j.verdict) }
+    ensures status { IfOk result (λ j. StatusAnswer (schema_nodes writer.now) (schema_nodes reader.now) limits.now j.answer.status) }
+{
+    let verdict = judge_is_right(alloc, writer, reader, limits)?;
+    let line = history_line(alloc, file, mode, writer, reader, &verdict)?;
+    let status = status_of(&verdict);
+    Ok(Judged {
+        verdict,
+        answer: Answer {
+            text: line.into_bytes(),
+            status,
+        },
+    })
+}
+
+/// Judges the schema of each text but the last with that of the last, and answers a line for each, which begins with
+/// its number, from 0. A no of one outranks an undecided, which outranks a yes. The texts follow one another; their
+/// lengths are given, and a length past the end is that of what is left.
+///
+/// # Errors
+///
+/// The first text that is refused: the last one as the reader's, another as a writer's; memory ran out.
+pub fn history_text(
+    alloc: Global,
+    texts: &[u8],
+    lengths: &[usize],
+    limits: &JudgeLimits,
+    form: Form,
+) -> Result<Answer, Refusal> {
+    let schemas = read_schemas(alloc, texts, lengths)?;
+    let mut answer = Answer {
+        text: Vec::new(alloc),
+        status: 0,
+    };
+    let Some(reader) = schemas.last() else {
+        return Ok(answer);
+    };
+    for index in 0..schemas.len() - 1 {
+        let number = format!(in alloc; "{index}")?;
+        let judged = match form {
+            Form::Text => judge_line(alloc, &number, &schemas[index], reader, limits)?,
+            Form::Json => judge_json_line(alloc, &number, None, &schemas[index], reader, limits)?,
+        };
+        answer.text.extend_from_slice(&judged.answer.text)?;
+        answer.status = worse(answer.status, judged.answer.status);
+    }
+    Ok(answer)
+}
+
+/// The schemas of texts that follow one another.
+fn read_schemas(alloc: Global, texts: &[u8], lengths: &[usize]) -> Result<Vec<Schema>, Refusal> {
+    let mut schemas = Vec::new(alloc);
+    let mut rest = texts;
+    for index in 0..lengths.len() {
+        let (text, others) = rest.split_at(lengths[index].min(rest.len()));
+        let schema = if index + 1 == lengths.len() {
+            read_reader(alloc, text)?
+        } else {
+            read_writer(alloc, text)?
+        };
+        schemas.push(schema)?;
+        rest = others;
+    }
+    Ok(schemas)
+}
+
+/// The status of two verdicts: a no outranks an undecided, which outranks a yes.
+fn worse(status: u8, other: u8) -> u8 {
+    if status == 1 || other == 1 {
+        1
+    } else {
+        status.max(other)
+    }
 }

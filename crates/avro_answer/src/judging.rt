@@ -2,14 +2,16 @@ ghost use Rattle.std.specs.Prelude.{◌≡◌, IfOk};
 ghost use Rattle.std.specs.Result.{IfErr};
 ghost use Rattle.avro_schema.specs.SeenSchema.{schema_nodes};
 ghost use Rattle.avro_judge.specs.Headline.{IsRight};
-ghost use Rattle.avro_answer.specs.JudgeAnswer.{SchemasAnswer, JudgeAnswer};
+ghost use Rattle.avro_answer.specs.JudgeAnswer.{SchemasAnswer, StatusAnswer, JudgeAnswer};
 ghost use Rattle.avro_answer.specs.RefusalText.{RefusesPair, HaveSchemas};
+ghost use Rattle.avro_answer.specs.declared.form.Form.{Form};
 ghost use Rattle.avro_answer.specs.declared.refusal.Refusal.TheVariants.{OutOfMemory};
 
 use crate::answer::Answer;
+use crate::form::Form;
 use crate::reading::{read_reader, read_writer};
 use crate::refusal::Refusal;
-use crate::verdicts::{status_of, text_of_no, text_of_undecided};
+use crate::verdicts::{status_of, text_of};
 use avro_judge::laws::judge_is_right;
 use avro_judge::{JudgeLimits, Verdict};
 use avro_schema::{Memory, Schema};
@@ -29,22 +31,23 @@ pub struct Judged<'a> {
 /// # Errors
 ///
 /// Memory ran out.
-#[tactic(auto, using(crate::proofs::VerdictAnswers::schemas_answer))]
+#[tactic(auto, using(crate::proofs::VerdictAnswers::answered, crate::proofs::VerdictAnswers::fits_writer, crate::proofs::VerdictAnswers::is_small, crate::proofs::VerdictAnswers::status_answered))]
 pub fn judge_schemas<'a>(
     alloc: Global,
     writer: &'a Schema,
     reader: &'a Schema,
     limits: &JudgeLimits,
+    form: Form,
 ) -> Result<Judged<'a>, Memory>
     ensures right { IfOk result (λ j. IsRight writer.now reader.now limits.now j.verdict) }
-    ensures answered { IfOk result (λ j. SchemasAnswer (schema_nodes writer.now) (schema_nodes reader.now) limits.now j.answer.text.items j.answer.status) }
+    ensures answered { IfOk result (λ j. form ≡ Form.Text
+        → SchemasAnswer (schema_nodes writer.now) (schema_nodes reader.now) limits.now j.answer.text.items j.answer.status) }
+    ensures status { IfOk result (λ j. StatusAnswer (schema_nodes writer.now) (schema_nodes reader.now) limits.now j.answer.status) }
 {
+    // The contract of this call tells that the limit is in its range, which the proof needs.
+    let _ = limits.size();
     let verdict = judge_is_right(alloc, writer, reader, limits)?;
-    let text = match &verdict {
-        Verdict::Approved(_) => Vec::from_slice(alloc, b"yes\n")?,
-        Verdict::Refuted(found) => text_of_no(alloc, writer, found)?,
-        Verdict::Undecided(cause) => text_of_undecided(alloc, *cause)?,
-    };
+    let text = text_of(alloc, writer, reader, &verdict, form)?;
     let status = status_of(&verdict);
     Ok(Judged {
         verdict,
@@ -62,13 +65,14 @@ pub fn judge_text(
     writer: &[u8],
     reader: &[u8],
     limits: &JudgeLimits,
+    form: Form,
 ) -> Result<Answer, Refusal>
-    ensures answered { IfOk result (λ a. JudgeAnswer writer.now reader.now limits.now a.text.items a.status) }
+    ensures answered { IfOk result (λ a. form ≡ Form.Text → JudgeAnswer writer.now reader.now limits.now a.text.items a.status) }
     ensures refused { IfErr result (RefusesPair writer.now reader.now) }
     ensures complete { HaveSchemas writer.now reader.now → IfErr result (λ e. e ≡ OutOfMemory) }
 {
     let writer = read_writer(alloc, writer)?;
     let reader = read_reader(alloc, reader)?;
-    let judged = judge_schemas(alloc, &writer, &reader, limits)?;
+    let judged = judge_schemas(alloc, &writer, &reader, limits, form)?;
     Ok(judged.answer)
 }

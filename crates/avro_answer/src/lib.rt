@@ -1,24 +1,35 @@
 //! What the program answers of the bytes of schemas and certificates: the bytes of a text, and an exit status.
 //!
-//! [`judge_text`], [`confirm_text`] and [`schema_text`] are for bytes; [`judge_schemas`], [`judge_line`],
-//! [`confirm_schemas`] and [`show_schema`] for what is read already. Nothing here opens a file or prints.
+//! [`judge_text`], [`explain_text`], [`confirm_text`] and [`schema_text`] are for bytes; the other calls are for what
+//! is read already. Nothing here opens a file or prints.
 #![tactic(auto)]
 
 mod answer;
 mod confirming;
+mod explaining;
+mod fault_place;
 mod faults;
+mod form;
 mod history;
+mod json_answers;
+mod json_object;
 mod judging;
 pub mod laws;
+mod named_fault;
+mod named_place;
 mod reading;
 mod refusal;
 mod schemas;
 mod verdicts;
 
 pub use answer::Answer;
-pub use confirming::{confirm_schemas, confirm_text};
-pub use history::judge_line;
+pub use confirming::{answer_confirmed, confirm_schemas, confirm_text};
+pub use explaining::{
+    append_fault, begin_faults, end_of_faults, explain_text, no_fault, over_pairs,
+};
+pub use form::Form;
+pub use history::{history_text, judge_json_line, judge_line};
+pub use json_answers::counts_line;
 pub use judging::{Judged, judge_schemas, judge_text};
 pub use refusal::{Refusal, certificate_refusal, schema_refusal};
 pub use schemas::{Shown, schema_text, show_schema};
-pub use verdicts::cause_word;

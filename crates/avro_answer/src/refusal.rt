@@ -6,7 +6,7 @@ ghost use Rattle.avro_answer.specs.RefusalText.{schema_code as code_of_schema, c
 use avro_certificate::CertError;
 use avro_schema::Memory;
 use avro_schema_json::SchemaError;
-use std::alloc::{AllocError, Global};
+use std::alloc::{AllocError, AllocFailed, Global};
 
 /// Which text is refused, and why.
 #[derive(Clone, Copy, Debug, PartialEq, Eq)]
@@ -27,6 +27,26 @@ impl From<Memory> for Refusal {
     ghost from_gives = { λ _ refusal. refusal ≡ OutOfMemory };
 
     fn from(_e: Memory) -> Refusal {
+        Refusal::OutOfMemory
+    }
+}
+
+impl From<AllocError> for Refusal {
+    ghost use Rattle.avro_answer.specs.declared.refusal.Refusal.TheVariants.{OutOfMemory};
+
+    ghost from_gives = { λ _ refusal. refusal ≡ OutOfMemory };
+
+    fn from(_e: AllocError) -> Refusal {
+        Refusal::OutOfMemory
+    }
+}
+
+impl<T: Drop> From<AllocFailed<T>> for Refusal {
+    ghost use Rattle.avro_answer.specs.declared.refusal.Refusal.TheVariants.{OutOfMemory};
+
+    ghost from_gives = { λ _ refusal. refusal ≡ OutOfMemory };
+
+    fn from(_e: AllocFailed<T>) -> Refusal {
         Refusal::OutOfMemory
     }
 }

@@ -1,7 +1,7 @@
 use crate::container_file::{open_container, tell_file_counts};
 use crate::failure::Failure;
-use crate::request::Form;
 use crate::{Finding, report};
+use avro_answer::Form;
 use avro_container::{Blocks, Checker, CopyError, Counts, FileLimits, Header, Input};
 use std::alloc::Global;
 use std::io::Write;

@@ -3,7 +3,8 @@
 use crate::failure::Failure;
 use crate::grammar::{history_command, program};
 use crate::number_options::{limits_in, lines_in, pairs_in};
-use crate::request::{Evidence, Explaining, Form, History, Judging, Mode, Request, Shown};
+use crate::request::{Evidence, Explaining, History, Judging, Mode, Request};
+use avro_answer::{Form, Shown};
 use avro_judge::JudgeLimits;
 use clap::ArgMatches;
 use clap::error::ErrorKind;

@@ -1,11 +1,9 @@
 use crate::Finding;
 use crate::failure::Failure;
-use crate::json_answers::confirmed_line;
-use crate::printing::print;
-use crate::request::Form;
+use crate::printing::print_bytes;
 use crate::schema_file::{bytes_of, read_schema_file};
-use avro_judge::{CertError, Certificate, confirm};
-use std::alloc::Global;
+use avro_answer::{Form, confirm_schemas};
+use avro_judge::{CertError, Certificate};
 use std::io::Write;
 use std::rt::Files;
 
@@ -21,27 +19,9 @@ pub(crate) fn confirm_files<'a, R: Files + AllocGlobal, O: Write>(
     let writer = read_schema_file(rt, writer)?;
     let reader = read_schema_file(rt, reader)?;
     let certificate = read_certificate_file(rt, certificate)?;
-    let is_confirmed = confirm(rt.alloc(), &writer, &reader, &certificate)?.is_some();
-    tell_confirmed(rt.alloc(), form, is_confirmed, out)
-}
-
-/// Prints whether a certificate confirms what it is for.
-pub(crate) fn tell_confirmed<'a, O: Write>(
-    alloc: Global,
-    form: Form,
-    is_confirmed: bool,
-    out: &mut O,
-) -> Result<Finding, Failure<'a>> {
-    match form {
-        Form::Json => print(out, &confirmed_line(alloc, is_confirmed)?)?,
-        Form::Text if is_confirmed => print(out, "confirmed\n")?,
-        Form::Text => print(out, "not confirmed\n")?,
-    }
-    if is_confirmed {
-        Ok(Finding::Yes)
-    } else {
-        Ok(Finding::No)
-    }
+    let answer = confirm_schemas(rt.alloc(), &writer, &reader, &certificate, form)?;
+    print_bytes(out, &answer.text)?;
+    Ok(Finding::of_verdict(answer.status))
 }
 
 /// The certificate in a file.

@@ -1,8 +1,7 @@
 use crate::Finding;
 use crate::failure::Failure;
-use crate::json_answers::counts_line;
 use crate::printing::print;
-use crate::request::Form;
+use avro_answer::{Form, counts_line};
 use avro_container::{Counts, ReadInput};
 use std::alloc::Global;
 use std::io::{BufReader, Cursor, Write};
@@ -52,7 +51,7 @@ pub(crate) fn tell_file_counts<'a, O: Write>(
 ) -> Result<Finding, Failure<'a>> {
     let Counts { items, blocks } = counts;
     match form {
-        Form::Json => print(out, &counts_line(alloc, word, counts)?)?,
+        Form::Json => print(out, &counts_line(alloc, word, items, blocks)?)?,
         Form::Text if is_named => {
             let line = format!(in alloc; "{word} data {items} blocks {blocks}\n")?;
             print(out, &line)?;

@@ -1,4 +1,5 @@
 use crate::number_options::NumberOption;
+use avro_answer::{certificate_refusal, schema_refusal};
 use avro_container::CopyError;
 use avro_judge::CertError;
 use avro_schema::Memory;
@@ -113,10 +114,17 @@ impl<'a> Failure<'a> {
     }
 
     /// The line of the failure, or the text of usage.
-    pub(crate) fn line(&self, alloc: Global) -> Result<String, AllocError> {
+    pub(crate) fn line(&self, alloc: Global) -> Result<Vec<u8>, AllocError> {
         match self {
-            Failure::Schema(word, error) => format!(in alloc; "avro: {word}: {error}\n"),
-            Failure::Certificate(word, error) => format!(in alloc; "avro: {word}: {error}\n"),
+            Failure::Schema(word, error) => schema_refusal(alloc, word, *error),
+            Failure::Certificate(word, error) => certificate_refusal(alloc, word, *error),
+            other => Ok(other.other_line(alloc)?.into_bytes()),
+        }
+    }
+
+    /// The line of a failure that is no refusal of a schema or a certificate.
+    fn other_line(&self, alloc: Global) -> Result<String, AllocError> {
+        match self {
             Failure::Container(word, error) => format!(in alloc; "avro: {word}: {error}\n"),
             Failure::CannotRead(word) => format!(in alloc; "avro: {word}: cannot read\n"),
             Failure::CannotWrite(word) => format!(in alloc; "avro: {word}: cannot write\n"),

@@ -1,14 +1,13 @@
 use crate::Finding;
-use crate::confirming::{bytes_of_certificates, tell_confirmed};
+use crate::confirming::bytes_of_certificates;
 use crate::failure::Failure;
-use crate::json_answers::history_line;
-use crate::judging::name_of;
 use crate::kept_files::{refuse_read_file, refuse_schema_file};
-use crate::printing::print;
-use crate::request::{Evidence, Form, History, Mode};
+use crate::printing::print_bytes;
+use crate::request::{Evidence, History, Mode};
 use crate::schema_file::read_schema_file;
+use avro_answer::{Form, Judged, answer_confirmed, judge_json_line, judge_line};
 use avro_history::{HistoryCert, confirm_history};
-use avro_judge::{Certificate, Verdict, judge};
+use avro_judge::{Certificate, Verdict};
 use avro_schema::{Memory, Schema};
 use std::alloc::{AllocError, Global};
 use std::fs;
@@ -20,6 +19,18 @@ use std::rt::Files;
 struct Line<'a> {
     file: &'a str,
     mode: Option<&'static str>,
+}
+
+impl Line<'_> {
+    /// What the line begins with.
+    fn word(&self, alloc: Global) -> Result<String, AllocError> {
+        let mut word = String::from_str(alloc, self.file)?;
+        if let Some(mode) = self.mode {
+            word.push(' ')?;
+            word.push_str(mode)?;
+        }
+        Ok(word)
+    }
 }
 
 /// Prints whether the schemas of several files read each other's data as the mode asks: by judging them, or by
@@ -40,7 +51,9 @@ pub(crate) fn history_of_files<'a, R: Files + AllocGlobal, O: Write>(
         Evidence::Given(word) => {
             let certificates = read_history_file(rt, word)?;
             let approvals = confirm_history(rt.alloc(), &schemas, &reader, &certificates)?;
-            tell_confirmed(rt.alloc(), history.form, approvals.is_some(), out)
+            let answer = answer_confirmed(rt.alloc(), approvals.is_some(), history.form)?;
+            print_bytes(out, &answer.text)?;
+            Ok(Finding::of_verdict(answer.status))
         }
         Evidence::Written(word) => {
             let (finding, certificates) = certify_each(rt, history, &schemas, &reader, out)?;
@@ -129,8 +142,24 @@ fn judge_one<'a, O: Write>(
     reader: &Schema,
     out: &mut O,
 ) -> Result<Finding, Failure<'a>> {
-    let verdict = judge(alloc, writer, reader, &history.limits)?;
-    tell_verdict(alloc, history.form, line, writer, reader, &verdict, out)
+    let judged = judge_as(alloc, history, line, writer, reader)?;
+    print_bytes(out, &judged.answer.text)?;
+    Ok(Finding::of_verdict(judged.answer.status))
+}
+
+/// Judges a writer's schema and a reader's, and answers a line in the form that is asked for.
+fn judge_as<'s>(
+    alloc: Global,
+    history: &History<'_>,
+    line: Line<'_>,
+    writer: &'s Schema,
+    reader: &'s Schema,
+) -> Result<Judged<'s>, Memory> {
+    let limits = &history.limits;
+    match history.form {
+        Form::Text => judge_line(alloc, &line.word(alloc)?, writer, reader, limits),
+        Form::Json => judge_json_line(alloc, line.file, line.mode, writer, reader, limits),
+    }
 }
 
 /// Judges each writer's schema once, and prints a line for each, in order. The answer has what was found
@@ -145,19 +174,11 @@ fn certify_each<'a, R: AllocGlobal, O: Write>(
     let mut finding = Finding::Yes;
     let mut certificates = Vec::new(rt.alloc());
     for (file, writer) in history.writers.iter().zip(writers) {
-        let verdict = judge(rt.alloc(), writer, reader, &history.limits)?;
         let line = Line { file, mode: None };
-        let found = tell_verdict(
-            rt.alloc(),
-            history.form,
-            line,
-            writer,
-            reader,
-            &verdict,
-            out,
-        )?;
-        finding = finding.and(found);
-        keep_certificate(rt.alloc(), &verdict, &mut certificates)?;
+        let judged = judge_as(rt.alloc(), history, line, writer, reader)?;
+        print_bytes(out, &judged.answer.text)?;
+        finding = finding.and(Finding::of_verdict(judged.answer.status));
+        keep_certificate(rt.alloc(), &judged.verdict, &mut certificates)?;
     }
     Ok((finding, certificates))
 }
@@ -175,52 +196,6 @@ fn keep_certificate(
         }
     }
     Ok(())
-}
-
-/// Prints the line of a verdict.
-fn tell_verdict<'a, O: Write>(
-    alloc: Global,
-    form: Form,
-    line: Line<'_>,
-    writer: &Schema,
-    reader: &Schema,
-    verdict: &Verdict<'_>,
-    out: &mut O,
-) -> Result<Finding, Failure<'a>> {
-    let answer = match form {
-        Form::Text => text_line(alloc, line, verdict)?,
-        Form::Json => history_line(alloc, line.file, line.mode, writer, reader, verdict)?,
-    };
-    print(out, &answer)?;
-    Ok(finding_of(verdict))
-}
-
-/// What a verdict finds.
-fn finding_of(verdict: &Verdict<'_>) -> Finding {
-    match verdict {
-        Verdict::Approved(_) => Finding::Yes,
-        Verdict::Refuted(_) => Finding::No,
-        Verdict::Undecided(_) => Finding::Undecided,
-    }
-}
-
-/// The line of a verdict, as text.
-fn text_line(alloc: Global, line: Line<'_>, verdict: &Verdict<'_>) -> Result<String, AllocError> {
-    let mut text = String::from_str(alloc, line.file)?;
-    if let Some(mode) = line.mode {
-        text.push(' ')?;
-        text.push_str(mode)?;
-    }
-    match verdict {
-        Verdict::Approved(_) => text.push_str(" yes\n")?,
-        Verdict::Refuted(_) => text.push_str(" no\n")?,
-        Verdict::Undecided(cause) => {
-            text.push_str(" undecided ")?;
-            text.push_str(name_of(*cause))?;
-            text.push('\n')?;
-        }
-    }
-    Ok(text)
 }
 
 /// Writes certificates into a file, in order.

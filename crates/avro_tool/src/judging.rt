@@ -1,16 +1,13 @@
 use crate::Finding;
 use crate::failure::Failure;
-use crate::json_answers::{no_line, undecided_line, yes_line};
 use crate::kept_files::{refuse_read_file, refuse_schema_file};
-use crate::printing::print;
+use crate::printing::print_bytes;
 use crate::refutation_file::write_refutation_file;
-use crate::request::{Form, Judging};
+use crate::request::Judging;
 use crate::schema_file::{read_schema_file, read_text_file};
-use avro_display::show;
-use avro_judge::{Approved, Cause, Refutation, Verdict, judge};
-use avro_schema::{Datum, size};
+use avro_answer::judge_schemas;
+use avro_judge::{Approved, Verdict};
 use avro_schema_json::ReaderText;
-use std::alloc::{AllocError, Global};
 use std::fs;
 use std::io::Write;
 use std::rt::Files;
@@ -30,66 +27,30 @@ pub(crate) fn judge_files<'a, R: Files + AllocGlobal, O: Write>(
     let text = read_text_file(rt, asked.writer)?;
     let writer = text.schema();
     let reader = read_schema_file(rt, asked.reader)?;
-    match judge(rt.alloc(), writer, &reader, &asked.limits)? {
-        Verdict::Approved(approved) => approve(rt, &approved, asked, out),
-        Verdict::Refuted(found) => {
-            let display = show(rt.alloc(), writer, writer.root(), &found.datum)?;
-            let answer = match asked.form {
-                Form::Text => no_of(rt.alloc(), &found, &display)?,
-                Form::Json => no_line(rt.alloc(), writer, &reader, &found, &display)?,
-            };
-            refute(rt, &text, &found.datum, &answer, asked.refutation, out)
-        }
-        Verdict::Undecided(cause) => {
-            let answer = undecided_of(rt.alloc(), asked.form, cause)?;
-            print(out, &answer)?;
-            Ok(Finding::Undecided)
-        }
-    }
+    let judged = judge_schemas(rt.alloc(), writer, &reader, &asked.limits, asked.form)?;
+    print_bytes(out, &judged.answer.text)?;
+    write_evidence(rt, asked, &text, &judged.verdict)?;
+    Ok(Finding::of_verdict(judged.answer.status))
 }
 
-/// The line of an undecided.
-fn undecided_of(alloc: Global, form: Form, cause: Cause) -> Result<String, AllocError> {
-    match form {
-        Form::Text => {
-            let name = name_of(cause);
-            format!(in alloc; "undecided {name}\n")
-        }
-        Form::Json => undecided_line(alloc, cause),
-    }
-}
-
-/// Prints the yes, and writes its certificate if a file is named for it.
-fn approve<'a, R: Files + AllocGlobal, O: Write>(
+/// Writes the certificate of a yes, or the datum of a no, where a file is named for it.
+fn write_evidence<'a, R: Files + AllocGlobal>(
     rt: &R,
-    approved: &Approved<'_>,
     asked: &Judging<'a>,
-    out: &mut O,
-) -> Result<Finding, Failure<'a>> {
-    match asked.form {
-        Form::Text => print(out, "yes\n")?,
-        Form::Json => print(out, &yes_line(rt.alloc())?)?,
-    }
-    if let Some(word) = asked.certificate {
-        write_certificate_file(rt, approved, word)?;
-    }
-    Ok(Finding::Yes)
-}
-
-/// Prints the no, and writes its datum into a container where a file is named for it.
-fn refute<'a, R: Files + AllocGlobal, O: Write>(
-    rt: &R,
     writer: &ReaderText,
-    datum: &Datum,
-    answer: &str,
-    file: Option<&'a str>,
-    out: &mut O,
-) -> Result<Finding, Failure<'a>> {
-    print(out, answer)?;
-    if let Some(word) = file {
-        write_refutation_file(rt, writer, datum, word)?;
+    verdict: &Verdict<'_>,
+) -> Result<(), Failure<'a>> {
+    match verdict {
+        Verdict::Approved(approved) => match asked.certificate {
+            Some(word) => write_certificate_file(rt, approved, word),
+            None => Ok(()),
+        },
+        Verdict::Refuted(found) => match asked.refutation {
+            Some(word) => write_refutation_file(rt, writer, &found.datum, word),
+            None => Ok(()),
+        },
+        Verdict::Undecided(_) => Ok(()),
     }
-    Ok(Finding::No)
 }
 
 /// Writes the certificate of an approval into a file.
@@ -103,21 +64,5 @@ fn write_certificate_file<'a, R: Files + AllocGlobal>(
     match fs::write(rt, word, &text) {
         Ok(()) => Ok(()),
         Err(e) => Err(Failure::of_writing(word, &e)),
-    }
-}
-
-/// The lines of a no.
-fn no_of(alloc: Global, refutation: &Refutation, display: &str) -> Result<String, AllocError> {
-    let fault = &refutation.fault;
-    let nodes = size(&refutation.datum);
-    format!(in alloc; "no\nfault {fault}\nnodes {nodes}\ndatum {display}\n")
-}
-
-/// The name of a cause.
-pub(crate) fn name_of(cause: Cause) -> &'static str {
-    match cause {
-        Cause::Pairs => "Pairs",
-        Cause::Size => "Size",
-        Cause::Depth => "Depth",
     }
 }

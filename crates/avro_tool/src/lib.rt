@@ -8,17 +8,12 @@ mod container_file;
 mod copying;
 mod explaining;
 mod failure;
-mod fault_place;
 mod grammar;
 mod header;
 mod history;
-mod json_answers;
-mod json_object;
 mod judging;
 mod kept_files;
 mod late_file;
-mod named_fault;
-mod named_place;
 mod number_options;
 mod piping;
 mod printing;
@@ -49,6 +44,15 @@ enum Finding {
 }
 
 impl Finding {
+    /// What a verdict of this status is.
+    fn of_verdict(status: u8) -> Finding {
+        match status {
+            0 => Finding::Yes,
+            1 => Finding::No,
+            _ => Finding::Undecided,
+        }
+    }
+
     fn status(self) -> u8 {
         match self {
             Finding::Good | Finding::Yes => 0,
@@ -108,7 +112,7 @@ pub fn run<R: Files + AllocGlobal, I: Read, O: Write, E: Write>(
 fn report<E: Write>(alloc: Global, failure: &Failure<'_>, err: &mut E) -> u8 {
     match failure.line(alloc) {
         Ok(line) => {
-            let _ = err.write_all(line.as_bytes());
+            let _ = err.write_all(&line);
             failure.status()
         }
         Err(_) => report_memory(err),

@@ -1,5 +1,6 @@
 //! What the program can be asked for.
 
+use avro_answer::{Form, Shown};
 use avro_judge::JudgeLimits;
 
 /// What the words ask for.
@@ -103,15 +104,6 @@ pub(crate) enum Mode {
     Full,
 }
 
-/// How an answer is written.
-#[derive(Clone, Copy, Debug)]
-pub(crate) enum Form {
-    /// As text.
-    Text,
-    /// As lines of JSON.
-    Json,
-}
-
 /// What is done with the certificates of a history.
 #[derive(Clone, Copy, Debug)]
 pub(crate) enum Evidence<'a> {
@@ -121,15 +113,4 @@ pub(crate) enum Evidence<'a> {
     Written(&'a str),
     /// Those of a file are to show that the reader's schema takes all data.
     Given(&'a str),
-}
-
-/// What is shown of a schema.
-#[derive(Clone, Copy, Debug)]
-pub(crate) enum Shown {
-    /// Its number of nodes.
-    Count,
-    /// Its canonical form.
-    Canonical,
-    /// The digits of its fingerprint.
-    Fingerprint,
 }

@@ -1,9 +1,8 @@
 use crate::Finding;
 use crate::failure::Failure;
-use crate::printing::print;
-use crate::request::Shown;
+use crate::printing::print_bytes;
 use crate::schema_file::read_schema_file;
-use avro_canonical::{canonical, fingerprint_text};
+use avro_answer::Shown;
 use std::io::Write;
 use std::rt::Files;
 
@@ -15,12 +14,7 @@ pub(crate) fn show_schema<'a, R: Files + AllocGlobal, O: Write>(
     out: &mut O,
 ) -> Result<Finding, Failure<'a>> {
     let schema = read_schema_file(rt, file)?;
-    let mut line = match shown {
-        Shown::Count => format!(in rt.alloc(); "ok {}", schema.len())?,
-        Shown::Canonical => canonical(rt.alloc(), &schema)?,
-        Shown::Fingerprint => fingerprint_text(rt.alloc(), &schema)?,
-    };
-    line.push('\n')?;
-    print(out, &line)?;
+    let line = avro_answer::show_schema(rt.alloc(), &schema, shown)?;
+    print_bytes(out, &line)?;
     Ok(Finding::Good)
 }

@@ -1,42 +1,39 @@
 //! Answers as lines of JSON.
 
+ghost use Rattle.std.specs.Prelude.{◌≡◌, true};
+ghost use Rattle.avro_schema.specs.Fits.{fits};
+ghost use Rattle.avro_schema.specs.Node.{root_of};
+ghost use Rattle.avro_schema.specs.Seen.{value_of};
+ghost use Rattle.avro_schema.specs.SeenSchema.{schema_nodes};
+ghost use Rattle.avro_judge.specs.Answered.{IfRefuted};
+
 use crate::fault_place::{FaultPlace, place_of};
 use crate::json_object::JsonObject;
-use crate::judging::name_of;
+use crate::verdicts::cause_word;
 use avro_compare::FaultKind;
-use avro_container::Counts;
+use avro_display::show;
 use avro_judge::{Cause, Refutation, Verdict};
 use avro_schema::{Memory, Schema, size};
 use serde_json::Value;
 use std::alloc::{AllocError, Global};
 
-/// The line of a yes.
-pub(crate) fn yes_line(alloc: Global) -> Result<String, AllocError> {
-    let mut answer = JsonObject::new(alloc);
-    answer.put_text("verdict", "yes")?;
-    answer.line()
-}
-
-/// The line of a no, with the display of its datum.
-pub(crate) fn no_line(
+/// The line of a verdict.
+pub(crate) fn judged_line(
     alloc: Global,
     writer: &Schema,
     reader: &Schema,
-    refutation: &Refutation,
-    display: &str,
-) -> Result<String, Memory> {
+    verdict: &Verdict<'_>,
+) -> Result<String, Memory>
+    requires fitting { IfRefuted verdict.now (λ r. fits (schema_nodes writer.now) (root_of (schema_nodes writer.now)) (value_of r.datum) ≡ true) }
+{
     let mut answer = JsonObject::new(alloc);
-    put_no(&mut answer, alloc, writer, reader, refutation)?;
-    answer.put("nodes", &Value::from(size(&refutation.datum)))?;
-    answer.put_json("datum", display)?;
+    put_verdict(&mut answer, alloc, writer, reader, verdict)?;
+    if let Verdict::Refuted(found) = verdict {
+        let display = show(alloc, writer, writer.root(), &found.datum)?;
+        answer.put("nodes", &Value::from(size(&found.datum)))?;
+        answer.put_json("datum", &display)?;
+    }
     Ok(answer.line()?)
-}
-
-/// The line of an undecided.
-pub(crate) fn undecided_line(alloc: Global, cause: Cause) -> Result<String, AllocError> {
-    let mut answer = JsonObject::new(alloc);
-    put_undecided(&mut answer, cause)?;
-    answer.line()
 }
 
 /// The line of a verdict in a history: on which file, in which mode if there are two, and what it is.
@@ -53,12 +50,24 @@ pub(crate) fn history_line(
     if let Some(mode) = mode {
         answer.put_text("mode", mode)?;
     }
+    put_verdict(&mut answer, alloc, writer, reader, verdict)?;
+    Ok(answer.line()?)
+}
+
+/// Puts the members of a verdict.
+fn put_verdict(
+    answer: &mut JsonObject,
+    alloc: Global,
+    writer: &Schema,
+    reader: &Schema,
+    verdict: &Verdict<'_>,
+) -> Result<(), Memory> {
     match verdict {
         Verdict::Approved(_) => answer.put_text("verdict", "yes")?,
-        Verdict::Refuted(found) => put_no(&mut answer, alloc, writer, reader, found)?,
-        Verdict::Undecided(cause) => put_undecided(&mut answer, *cause)?,
+        Verdict::Refuted(found) => put_no(answer, alloc, writer, reader, found)?,
+        Verdict::Undecided(cause) => put_undecided(answer, *cause)?,
     }
-    Ok(answer.line()?)
+    Ok(())
 }
 
 /// The line that says whether a certificate confirms what it is for.
@@ -69,11 +78,20 @@ pub(crate) fn confirmed_line(alloc: Global, is_confirmed: bool) -> Result<String
 }
 
 /// The line that says how many data and blocks a container has.
-pub(crate) fn counts_line(alloc: Global, file: &str, counts: Counts) -> Result<String, AllocError> {
+///
+/// # Errors
+///
+/// Memory ran out.
+pub fn counts_line(
+    alloc: Global,
+    file: &str,
+    data: u64,
+    blocks: u64,
+) -> Result<String, AllocError> {
     let mut answer = JsonObject::new(alloc);
     answer.put_text("file", file)?;
-    answer.put("data", &Value::from(counts.items))?;
-    answer.put("blocks", &Value::from(counts.blocks))?;
+    answer.put("data", &Value::from(data))?;
+    answer.put("blocks", &Value::from(blocks))?;
     answer.line()
 }
 
@@ -95,7 +113,7 @@ fn put_no(
 /// Puts the members of an undecided.
 fn put_undecided(answer: &mut JsonObject, cause: Cause) -> Result<(), AllocError> {
     answer.put_text("verdict", "undecided")?;
-    answer.put_text("cause", name_of(cause))
+    answer.put_text("cause", cause_word(cause))
 }
 
 /// The object of a fault: its kind, the name of the field or symbol that is missing, and where it is.

@@ -1,0 +1,241 @@
+//! What is answered of the bytes of schemas and certificates, through the library.
+
+use avro_answer::{
+    Answer, Form, Refusal, Shown, certificate_refusal, confirm_text, explain_text, history_text,
+    judge_text, schema_refusal, schema_text,
+};
+use avro_judge::{CertError, JudgeLimits};
+use avro_schema_json::SchemaError;
+use std::test::Fail;
+
+const RECORD: &str =
+    r#"{"type":"record","name":"R","fields":[{"name":"a","type":["null","long"]}]}"#;
+
+const NARROWER: &str =
+    r#"{"type":"record","name":"R","fields":[{"name":"a","type":["null","int"]}]}"#;
+
+const LACKING: &str = r#"{"type":"record","name":"R","fields":[{"name":"b","type":"int"}]}"#;
+
+/// The texts of two schemas, what `judge` and `explain` answer as text, and their status.
+const ROWS: [(&str, &str, u8, &str, &str); 6] = [
+    (r#""int""#, r#""long""#, 0, "yes\n", "yes\n"),
+    (
+        r#""long""#,
+        r#""int""#,
+        1,
+        "no\nfault NoMatch at /\nnodes 1\ndatum 0\n",
+        "no 1\n$: NoMatch: long is read as int (writer's $)\n",
+    ),
+    (
+        RECORD,
+        NARROWER,
+        1,
+        "no\nfault NoBranch at /0/0\nnodes 3\ndatum {\"a\":{\"long\":0}}\n",
+        "no 1\n$.a: NoBranch: no branch takes long (writer's $.a<long>)\n",
+    ),
+    (
+        RECORD,
+        LACKING,
+        1,
+        "no\nfault MissingField 0 at /\nnodes 3\ndatum {\"a\":null}\n",
+        "no 1\n$.b: MissingField: R of the writer has no such field, and there is no default (writer's $)\n",
+    ),
+    (
+        r#""bytes""#,
+        r#""string""#,
+        1,
+        "no\nfault NotUtf8 at /\nnodes 1\ndatum \"\u{80}\"\n",
+        "no 1\n$: NotUtf8: bytes are read as string (writer's $)\n",
+    ),
+    (
+        r#"{"type":"enum","name":"E","symbols":["A","B"]}"#,
+        r#"{"type":"enum","name":"E","symbols":["A"]}"#,
+        1,
+        "no\nfault NoSymbol at /\nnodes 1\ndatum \"B\"\n",
+        "no 1\n$: NoSymbol: B of the writer is none of E, which has no default (writer's $)\n",
+    ),
+];
+
+#[test]
+fn texts_are_judged_and_explained(rt: HostRuntime) -> Result<(), Fail> {
+    let alloc = rt.alloc();
+    let limits = JudgeLimits::default();
+    for (writer, reader, status, judged, explained) in ROWS {
+        let (writer, reader) = (writer.as_bytes(), reader.as_bytes());
+        let answer = judge_text(alloc, writer, reader, &limits, Form::Text);
+        assert!(rt; is_answer(&answer, status, judged), "{judged}");
+        let answer = explain_text(alloc, writer, reader, 4_194_304, Form::Text);
+        assert!(rt; is_answer(&answer, status, explained), "{explained}");
+    }
+    Ok(())
+}
+
+/// Whether this status and this text are answered.
+fn is_answer(answer: &Result<Answer, Refusal>, status: u8, text: &str) -> bool {
+    match answer {
+        Ok(answer) => answer.status == status && answer.text.as_slice() == text.as_bytes(),
+        Err(_) => false,
+    }
+}
+
+#[test]
+fn texts_are_judged_as_json(rt: HostRuntime) -> Result<(), Fail> {
+    let alloc = rt.alloc();
+    let limits = JudgeLimits::default();
+    let yes = judge_text(alloc, b"\"int\"", b"\"long\"", &limits, Form::Json);
+    assert!(rt; is_answer(&yes, 0, "{\"verdict\":\"yes\"}\n"));
+    let no = judge_text(alloc, b"\"long\"", b"\"int\"", &limits, Form::Json);
+    assert!(rt;
+        is_answer(
+            &no,
+            1,
+            "{\"verdict\":\"no\",\"fault\":{\"kind\":\"NoMatch\",\"path\":[],\"at\":\"$\"},\"nodes\":1,\"datum\":0}\n",
+        )
+    );
+    let over = explain_text(alloc, b"\"int\"", b"\"long\"", 0, Form::Json);
+    assert!(rt;
+        is_answer(
+            &over,
+            2,
+            "{\"verdict\":\"undecided\",\"cause\":\"Pairs\"}\n"
+        )
+    );
+    Ok(())
+}
+
+/// Certificates of ints that are read as longs, and what is answered.
+const CERTIFICATES: [(&str, Form, u8, &str); 4] = [
+    ("approval 1\npair 0 0\nend\n", Form::Text, 0, "confirmed\n"),
+    (
+        "approval 1\npair 0 0\nend\n",
+        Form::Json,
+        0,
+        "{\"confirmed\":true}\n",
+    ),
+    ("approval 1\nend\n", Form::Text, 1, "not confirmed\n"),
+    (
+        "approval 1\nend\n",
+        Form::Json,
+        1,
+        "{\"confirmed\":false}\n",
+    ),
+];
+
+#[test]
+fn texts_are_confirmed(rt: HostRuntime) -> Result<(), Fail> {
+    let alloc = rt.alloc();
+    for (certificate, form, status, text) in CERTIFICATES {
+        let answer = confirm_text(alloc, b"\"int\"", b"\"long\"", certificate.as_bytes(), form);
+        assert!(rt; is_answer(&answer, status, text), "{certificate}");
+    }
+    Ok(())
+}
+
+/// What is shown of the schema of a record.
+const SHOWN: [(Shown, &str); 3] = [
+    (Shown::Count, "ok 4\n"),
+    (
+        Shown::Canonical,
+        "{\"name\":\"R\",\"type\":\"record\",\"fields\":[{\"name\":\"a\",\"type\":[\"null\",\"long\"]}]}\n",
+    ),
+    (Shown::Fingerprint, ""),
+];
+
+#[test]
+fn schemas_of_texts_are_shown(rt: HostRuntime) -> Result<(), Fail> {
+    for (shown, text) in SHOWN {
+        let answer = schema_text(rt.alloc(), RECORD.as_bytes(), shown);
+        match answer {
+            Ok(answer) if text.is_empty() => assert_eq!(rt; answer.len(), 65),
+            Ok(answer) => assert_eq!(rt; answer.as_slice(), text.as_bytes()),
+            Err(_) => return Err(Fail),
+        }
+    }
+    Ok(())
+}
+
+#[test]
+fn refused_texts_are_told(rt: HostRuntime) -> Result<(), Fail> {
+    let alloc = rt.alloc();
+    let limits = JudgeLimits::default();
+    let writer = judge_text(alloc, b"\"Foo\"", b"", &limits, Form::Text);
+    assert!(rt; is_refused(&writer, Refusal::Writer(SchemaError::UnknownName)));
+    let reader = judge_text(alloc, b"\"int\"", b"", &limits, Form::Text);
+    assert!(rt; is_refused(&reader, Refusal::Reader(SchemaError::NotJson)));
+    let reader = explain_text(alloc, b"\"int\"", b"[]", 1, Form::Text);
+    assert!(rt; is_refused(&reader, Refusal::Reader(SchemaError::InvalidUnion)));
+    let malformed = confirm_text(alloc, b"\"int\"", b"\"int\"", b"approval", Form::Text);
+    assert!(rt; is_refused(&malformed, Refusal::Certificate(CertError::Malformed)));
+    let great = confirm_text(
+        alloc,
+        b"\"int\"",
+        b"\"int\"",
+        b"approval 1\npair 4096 0\nend\n",
+        Form::Text,
+    );
+    assert!(rt; is_refused(&great, Refusal::Certificate(CertError::NumberTooLarge)));
+    Ok(())
+}
+
+/// Whether this is refused.
+fn is_refused(answer: &Result<Answer, Refusal>, refusal: Refusal) -> bool {
+    match answer {
+        Ok(_) => false,
+        Err(e) => *e == refusal,
+    }
+}
+
+#[test]
+fn histories_of_texts_are_judged(rt: HostRuntime) -> Result<(), Fail> {
+    let limits = JudgeLimits::default();
+    let texts = b"\"int\"\"string\"\"long\"";
+    let answer = history_text(rt.alloc(), texts, &[5, 8, 6], &limits, Form::Text);
+    assert!(rt; is_answer(&answer, 1, "0 yes\n1 no\n"));
+    let answer = history_text(rt.alloc(), texts, &[5, 8], &limits, Form::Text);
+    assert!(rt; is_answer(&answer, 1, "0 no\n"));
+    let answer = history_text(rt.alloc(), texts, &[5], &limits, Form::Text);
+    assert!(rt; is_answer(&answer, 0, ""));
+    let answer = history_text(rt.alloc(), texts, &[5, 7, 6], &limits, Form::Text);
+    assert!(rt; is_refused(&answer, Refusal::Writer(SchemaError::NotJson)));
+    Ok(())
+}
+
+const SCHEMA_ERRORS: [SchemaError; 13] = [
+    SchemaError::NotJson,
+    SchemaError::UnknownName,
+    SchemaError::DuplicateName,
+    SchemaError::InvalidName,
+    SchemaError::InvalidDeclaration,
+    SchemaError::InvalidUnion,
+    SchemaError::InvalidSymbols,
+    SchemaError::DuplicateField,
+    SchemaError::InvalidDefault,
+    SchemaError::UnsupportedType,
+    SchemaError::UnsupportedNumber,
+    SchemaError::LimitExceeded,
+    SchemaError::OutOfMemory,
+];
+
+#[test]
+fn codes_are_those_of_the_errors(rt: HostRuntime) -> Result<(), Fail> {
+    let alloc = rt.alloc();
+    for error in SCHEMA_ERRORS {
+        let line = format!(in alloc; "avro: w: {error}\n")?;
+        assert_eq!(rt;
+            schema_refusal(alloc, "w", error)?.as_slice(),
+            line.as_bytes()
+        );
+    }
+    for error in [
+        CertError::Malformed,
+        CertError::NumberTooLarge,
+        CertError::OutOfMemory,
+    ] {
+        let line = format!(in alloc; "avro: w: {error}\n")?;
+        assert_eq!(rt;
+            certificate_refusal(alloc, "w", error)?.as_slice(),
+            line.as_bytes()
+        );
+    }
+    Ok(())
+}
