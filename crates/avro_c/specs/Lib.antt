@@ -1,3 +1,3 @@
-pub mod AskedLimits
+pub mod Asked
 pub mod Room
 pub mod Told

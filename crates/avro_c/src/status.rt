@@ -1,4 +1,7 @@
-//! What a call answers. 0 to 2 are the statuses of answers: good, yes or confirmed; no or not confirmed; undecided.
+//! What a call answers beside the statuses of answers, which are 0 to 2.
+
+/// What was asked for was done.
+pub(crate) const GOOD: u32 = 0;
 
 /// A text is refused.
 pub(crate) const REFUSED: u32 = 3;
