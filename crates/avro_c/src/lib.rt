@@ -4,7 +4,7 @@
 //! is room for, and `wanted` is the length of all of it.
 #![tactic(auto)]
 
-ghost use Rattle.std.specs.Prelude.{◌≡◌, ◌≤◌, ◌<◌, ◌↔◌, ◌⊎◌, List, codes};
+ghost use Rattle.std.specs.Prelude.{◌≡◌, ℕ, ◌≤◌, ◌<◌, ◌↔◌, ◌⊎◌, List, codes};
 ghost use Rattle.avro_judge.specs.JudgeRanges.{AreJudgeLimits};
 ghost use Rattle.avro_answer.specs.JudgeAnswer.{JudgeAnswer};
 ghost use Rattle.avro_answer.specs.ExplainAnswer.{ExplainAnswer};
