@@ -76,7 +76,7 @@ class Check:
 
     def call(self, name: str, told: tuple[int, bytes], *words: object) -> None:
         """Compares a call in large and in short rooms with what the program told."""
-        function = getattr(avro_judge._library(), name)
+        function = getattr(avro_judge.library(), f"avro_{name}_text")
         asked = avro_judge.ask(function, *words)
         self.compare(name, told, asked)
         for room in {0, max(len(asked[1]) - 1, 0), len(asked[1])}:
@@ -154,7 +154,7 @@ def check_history(check: Check, texts: list[bytes]) -> None:
         _, name, code = told.decode().split(": ")
         told = f"avro: {'reader' if name == str(last) else 'writer'}: {code}".encode()
     lengths = (ctypes.c_size_t * len(texts))(*map(len, texts))
-    check.call("history", (status, told), *words_of(b"".join(texts)), lengths, len(texts), avro_judge._limits(avro_judge.Limits()))
+    check.call("history", (status, told), *words_of(b"".join(texts)), lengths, len(texts), avro_judge.c_limits(avro_judge.Limits()))
     if status < 3:
         lines = [f"{number} {it.answer.name.lower()}{' ' + it.cause if it.cause else ''}\n" for number, it in enumerate(avro_judge.history(texts))]
         check.compare("history", told.decode(), "".join(lines))
@@ -179,7 +179,7 @@ def check_pair(check: Check, pair: Pair) -> tuple[tuple[int, bytes], tuple[int, 
     certificate = pathlib.Path("certificate")
     told = check.run("judge", "writer", "reader", "--certificate", "certificate")
     explained = check.run("explain", "writer", "reader")
-    defaults = avro_judge._limits(avro_judge.Limits())
+    defaults = avro_judge.c_limits(avro_judge.Limits())
     check.call("judge", told, *words_of(*pair), defaults)
     check.compare("judge", told[1].decode(), typed(avro_judge.judge, writer, reader))
     check.call("explain", explained, *words_of(*pair), 0)
@@ -202,7 +202,7 @@ def check_limits(check: Check, pair: Pair) -> None:
     for option in ("pairs", "size", "depth"):
         told = check.run("judge", "writer", "reader", f"--max-{option}", "1")
         limits = avro_judge.Limits(**{option: 1})
-        check.call("judge", told, *words_of(*pair), avro_judge._limits(limits))
+        check.call("judge", told, *words_of(*pair), avro_judge.c_limits(limits))
         check.compare("judge", told[1].decode(), typed(avro_judge.judge, *pair, limits))
     told = check.run("explain", "writer", "reader", "--max-pairs", "1")
     check.call("explain", told, *words_of(*pair), 1)
@@ -212,34 +212,34 @@ def check_usage(check: Check, pair: Pair) -> None:
     """Numbers out of range, and lengths that are not those of the texts."""
     none = (64, b"")
     for limits in (avro_judge.Limits(pairs=16_777_217), avro_judge.Limits(size=1_048_577), avro_judge.Limits(depth=257)):
-        check.call("judge", none, *words_of(*pair), avro_judge._limits(limits))
-        check.call("history", none, *words_of(b"".join(pair)), (ctypes.c_size_t * 2)(*map(len, pair)), 2, avro_judge._limits(limits))
+        check.call("judge", none, *words_of(*pair), avro_judge.c_limits(limits))
+        check.call("history", none, *words_of(b"".join(pair)), (ctypes.c_size_t * 2)(*map(len, pair)), 2, avro_judge.c_limits(limits))
         with contextlib.suppress(avro_judge.OutOfRange):
             avro_judge.judge(*pair, limits)
             check.tell(f"{limits} is taken")
     most = avro_judge.Limits(16_777_216, 1_048_576, 256)
-    check.call("judge", avro_judge.ask(avro_judge._library().judge, *words_of(*pair), avro_judge._limits(most)), *words_of(*pair), avro_judge._limits(most))
+    check.call("judge", avro_judge.ask(avro_judge.library().avro_judge_text, *words_of(*pair), avro_judge.c_limits(most)), *words_of(*pair), avro_judge.c_limits(most))
     check.call("explain", none, *words_of(*pair), 16_777_217)
     check.call("schema", none, *words_of(pair[0]), 3)
-    joined, limits = b"".join(pair), avro_judge._limits(avro_judge.Limits())
+    joined, limits = b"".join(pair), avro_judge.c_limits(avro_judge.Limits())
     for lengths in ([], [len(joined)], [len(joined), 1], [1, 1], [2**64 - 1, len(joined) + 1]):
         check.call("history", none, *words_of(joined), (ctypes.c_size_t * len(lengths))(*lengths), len(lengths), limits)
     told = check.run("--version")
-    check.compare("version", told, avro_judge.ask(avro_judge._library().avro_version))
+    check.compare("version", told, avro_judge.ask(avro_judge.library().avro_version))
     check.compare("version", told[1].decode().split()[1], avro_judge.version())
 
 
 def check_threads(check: Check, pairs: list[Pair], answers: list[tuple[tuple[int, bytes], tuple[int, bytes]]]) -> None:
     """Four threads ask all pairs at once."""
-    library = avro_judge._library()
+    library = avro_judge.library()
     found: list[str] = []
 
     def work(first: int) -> None:
         for number in range(len(pairs)):
             at = (number + first) % len(pairs)
             words = words_of(*pairs[at])
-            judged = avro_judge.ask(library.judge, *words, avro_judge._limits(avro_judge.Limits()))
-            if (judged, avro_judge.ask(library.explain, *words, 0)) != answers[at]:
+            judged = avro_judge.ask(library.avro_judge_text, *words, avro_judge.c_limits(avro_judge.Limits()))
+            if (judged, avro_judge.ask(library.avro_explain_text, *words, 0)) != answers[at]:
                 found.append(f"pair {at}: a thread gets another answer")
         found.append("done")
 

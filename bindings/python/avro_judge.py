@@ -117,30 +117,31 @@ class HistoryLine:
     cause: str | None = None
 
 
-class _Limits(ctypes.Structure):
+class CLimits(ctypes.Structure):
+    """`avro_limits` of avro.h."""
+
     _fields_ = [("pairs", ctypes.c_uint32), ("size", ctypes.c_uint32), ("depth", ctypes.c_uint32)]
 
 
 @functools.cache
-def _library() -> ctypes.CDLL:
+def library() -> ctypes.CDLL:
     """The library, with the types of its functions."""
     beside = pathlib.Path(__file__).resolve().parent.parent / "out" / "libavro.so"
-    library = ctypes.CDLL(os.environ.get("AVRO_LIBRARY") or str(beside))
+    found = ctypes.CDLL(os.environ.get("AVRO_LIBRARY") or str(beside))
     text = [ctypes.c_char_p, ctypes.c_size_t]
     answer = [*text, ctypes.POINTER(ctypes.c_size_t)]
-    limits = ctypes.POINTER(_Limits)
+    limits = ctypes.POINTER(CLimits)
     for name, types in (
-        ("judge", [*text, *text, limits]),
-        ("explain", [*text, *text, ctypes.c_uint32]),
-        ("confirm", [*text, *text, *text]),
-        ("history", [*text, ctypes.POINTER(ctypes.c_size_t), ctypes.c_size_t, limits]),
-        ("schema", [*text, ctypes.c_uint32]),
+        ("avro_judge_text", [*text, *text, limits]),
+        ("avro_explain_text", [*text, *text, ctypes.c_uint32]),
+        ("avro_confirm_text", [*text, *text, *text]),
+        ("avro_history_text", [*text, ctypes.POINTER(ctypes.c_size_t), ctypes.c_size_t, limits]),
+        ("avro_schema_text", [*text, ctypes.c_uint32]),
+        ("avro_version", []),
     ):
-        function = library[f"avro_{name}_text"]
+        function = getattr(found, name)
         function.restype, function.argtypes = ctypes.c_uint32, [*types, *answer]
-        setattr(library, name, function)
-    library.avro_version.restype, library.avro_version.argtypes = ctypes.c_uint32, answer
-    return library
+    return found
 
 
 def _bytes(text: bytes | str) -> bytes:
@@ -154,8 +155,9 @@ def _number(number: int) -> int:
     return number
 
 
-def _limits(limits: Limits) -> _Limits:
-    return _Limits(_number(limits.pairs), _number(limits.size), _number(limits.depth))
+def c_limits(limits: Limits) -> CLimits:
+    """The limits as the library takes them."""
+    return CLimits(_number(limits.pairs), _number(limits.size), _number(limits.depth))
 
 
 def ask(function: Callable[..., int], *words: object, room: int = FIRST_ROOM) -> tuple[int, bytes]:
@@ -208,7 +210,7 @@ def _line(line: str) -> HistoryLine:
 def judge(writer: bytes | str, reader: bytes | str, limits: Limits = Limits()) -> Verdict:
     """Judges whether the reader's schema reads all data of the writer's."""
     old, new = _bytes(writer), _bytes(reader)
-    answer, lines = _lines(_library().judge, old, len(old), new, len(new), _limits(limits))
+    answer, lines = _lines(library().avro_judge_text, old, len(old), new, len(new), c_limits(limits))
     if answer is Answer.NO:
         datum = lines[3].removeprefix("datum ")
         return Verdict(answer, _fault(lines[1]), int(lines[2].removeprefix("nodes ")), datum)
@@ -220,7 +222,7 @@ def judge(writer: bytes | str, reader: bytes | str, limits: Limits = Limits()) -
 def explain(writer: bytes | str, reader: bytes | str, max_pairs: int = 0) -> Explanation:
     """Finds all faults of two schemas, by names."""
     old, new = _bytes(writer), _bytes(reader)
-    answer, lines = _lines(_library().explain, old, len(old), new, len(new), _number(max_pairs))
+    answer, lines = _lines(library().avro_explain_text, old, len(old), new, len(new), _number(max_pairs))
     faults = tuple(map(_named, lines[1:])) if answer is Answer.NO else ()
     return Explanation(answer, faults)
 
@@ -229,7 +231,7 @@ def confirm(writer: bytes | str, reader: bytes | str, certificate: bytes | str) 
     """Whether a certificate shows that the reader's schema reads all data of the writer's."""
     texts = [_bytes(text) for text in (writer, reader, certificate)]
     words = [word for text in texts for word in (text, len(text))]
-    return _lines(_library().confirm, *words)[0] is Answer.YES
+    return _lines(library().avro_confirm_text, *words)[0] is Answer.YES
 
 
 def history(texts: Sequence[bytes | str], limits: Limits = Limits()) -> list[HistoryLine]:
@@ -239,14 +241,14 @@ def history(texts: Sequence[bytes | str], limits: Limits = Limits()) -> list[His
     parts = [_bytes(text) for text in texts]
     lengths = (ctypes.c_size_t * len(parts))(*map(len, parts))
     joined = b"".join(parts)
-    lines = _lines(_library().history, joined, len(joined), lengths, len(parts), _limits(limits))[1]
+    lines = _lines(library().avro_history_text, joined, len(joined), lengths, len(parts), c_limits(limits))[1]
     return [_line(line) for line in lines]
 
 
 def _shown(text: bytes | str, shown: int) -> str:
     """What is shown of a schema."""
     schema = _bytes(text)
-    return _lines(_library().schema, schema, len(schema), shown)[1][0]
+    return _lines(library().avro_schema_text, schema, len(schema), shown)[1][0]
 
 
 def nodes(text: bytes | str) -> int:
@@ -266,4 +268,4 @@ def fingerprint(text: bytes | str) -> str:
 
 def version() -> str:
     """The version of the library, as '1.0.0'."""
-    return ask(_library().avro_version)[1].decode().split()[1]
+    return ask(library().avro_version)[1].decode().split()[1]
