@@ -44,7 +44,7 @@ const ROWS: [(&str, &str, u8, &str, &str); 6] = [
         r#""bytes""#,
         r#""string""#,
         1,
-        "no\nfault NotUtf8 at /\nnodes 1\ndatum \"\u{80}\"\n",
+        "no\nfault NotUtf8 at /\nnodes 1\ndatum \"\u{ff}\"\n",
         "no 1\n$: NotUtf8: bytes are read as string (writer's $)\n",
     ),
     (
@@ -138,7 +138,10 @@ const SHOWN: [(Shown, &str); 3] = [
         Shown::Canonical,
         "{\"name\":\"R\",\"type\":\"record\",\"fields\":[{\"name\":\"a\",\"type\":[\"null\",\"long\"]}]}\n",
     ),
-    (Shown::Fingerprint, ""),
+    (
+        Shown::Fingerprint,
+        "807a7818f10fe7a8a6855cb6db0400ff17d2ba4149bdc4aba7a848401670a0af\n",
+    ),
 ];
 
 #[test]
