@@ -14,10 +14,11 @@ PREFIX ?= /usr/local
 DESTDIR ?=
 
 PROGRAM := crates/avro/out/avro
+LIBRARY := bindings/out/libavro.so
 TESTS := avro_rows avro_binary_rows avro_verdict_rows avro_file_rows
 
 .DEFAULT_GOAL := help
-.PHONY: help try files program install quick test check fmt bench robust words clean
+.PHONY: help try files program library install quick test check fmt bench robust words clean
 
 help: ## lists the targets
 	@awk -F ':.*## ' '/^[a-z]+:.*## / { printf "make %-8s %s\n", $$1, $$2 }' $(MAKEFILE_LIST)
@@ -38,6 +39,14 @@ files: ## builds the program without any proof, and checks, shows and copies FIL
 program: ## proves and builds the program and the crates below it, and says where it is (an hour or more)
 	@cd crates/avro && rt run -- schema $(abspath examples/int.avsc)
 	@echo "the program is $(abspath $(PROGRAM))"
+
+library: ## proves and builds bindings/out/libavro.a and libavro.so, for C and Python (an hour and more)
+	@cd crates/avro_c && rt lib
+	@bindings/link.sh crates/avro_c/out/libavro_c.a bindings/out
+	@echo "the libraries are $(abspath bindings/out/libavro.a) and $(abspath $(LIBRARY))"
+
+$(LIBRARY):
+	@echo "run 'make library' first: it proves and builds $(LIBRARY)" >&2; false
 
 $(PROGRAM):
 	@echo "run 'make program' first: it proves and builds $(PROGRAM)" >&2; false
@@ -64,13 +73,14 @@ fmt: ## formats the sources of every crate (ten seconds)
 bench: $(PROGRAM) ## measures the proved program, in one table (each run up to a minute of processor time)
 	bench/all.sh $(PROGRAM)
 
-robust: $(PROGRAM) ## runs checks/ on the proved program, and compares it with another, OLD=PROGRAM (some minutes)
+robust: $(PROGRAM) $(LIBRARY) ## runs checks/ on the proved program, and compares it with another, OLD=PROGRAM (some minutes)
 	checks/refusals.py $(PROGRAM)
 	checks/room.py $(PROGRAM)
 	checks/one_file.py $(PROGRAM)
 	checks/words.py $(PROGRAM)
 	checks/confirm.py $(PROGRAM)
 	checks/explain.py $(PROGRAM)
+	checks/bindings.py $(PROGRAM) $(LIBRARY)
 	$(if $(OLD),checks/compare.py $(OLD) $(PROGRAM))
 
 words: ## tests the words of the man page and completions, and the table of the headline (a second)
@@ -78,5 +88,5 @@ words: ## tests the words of the man page and completions, and the table of the 
 	checks/headline.py
 
 clean: ## removes what checks and builds have left (seconds)
-	rm -rf crates/*/out
-	rm -rf bench/__pycache__ bench/*/__pycache__ checks/__pycache__ examples/__pycache__
+	rm -rf crates/*/out bindings/out
+	rm -rf bench/__pycache__ bench/*/__pycache__ bindings/python/__pycache__ checks/__pycache__ examples/__pycache__

@@ -1,0 +1,15 @@
+#!/bin/sh
+# Makes libavro.a and libavro.so in OUT of the static library that `rt lib` builds of avro_c.
+#
+#     link.sh ARCHIVE OUT
+#
+# The kit's liblibc_c.a, by which it calls malloc, realloc and free, goes in. CC and AR are the compiler and the archiver.
+set -eu
+archive=$1
+out=$2
+here=$(dirname "$0")
+heap=$(dirname "$(rt doc)")/c/liblibc_c.a
+mkdir -p "$out"
+printf '%s\n' "create $out/libavro.a" "addlib $archive" "addlib $heap" save end | "${AR:-ar}" -M
+"${CC:-cc}" -shared -o "$out/libavro.so" -Wl,--version-script="$here/c/avro.map" \
+    -Wl,--whole-archive "$archive" -Wl,--no-whole-archive "$heap" -Wl,--gc-sections -Wl,-z,relro,-z,now,-z,noexecstack

@@ -1,0 +1,269 @@
+"""The answers of the program `avro` in Python, by its library for C.
+
+    import avro_judge
+
+    verdict = avro_judge.judge(old, new)
+    if verdict.answer is avro_judge.Answer.NO:
+        print(verdict.fault, verdict.datum)
+
+A text is `bytes`, or a `str` that is encoded in UTF-8. The library is the file that the variable AVRO_LIBRARY names, or
+else bindings/out/libavro.so, which `make library` makes. Calls may run in several threads at once, each of which needs
+512 KiB of stack (`threading.stack_size`). It needs Python 3.10.
+"""
+
+from __future__ import annotations
+
+import ctypes
+import enum
+import functools
+import os
+import pathlib
+import re
+from collections.abc import Callable, Sequence
+from dataclasses import dataclass
+
+__all__ = [
+    "Answer", "AvroError", "Explanation", "Fault", "HistoryLine", "Limits", "NamedFault", "OutOfMemory", "OutOfRange", "Refused", "Verdict",
+    "canonical", "confirm", "explain", "fingerprint", "history", "judge", "nodes", "version",
+]
+
+FIRST_ROOM = 4096
+LINE = re.compile(r"(\$.*?): (\w+): (.*) \(writer's (\$.*)\)")
+COUNT, CANONICAL, FINGERPRINT = range(3)
+
+
+class AvroError(Exception):
+    """There is no answer."""
+
+
+class Refused(AvroError):
+    """A text is refused: `text` is 'writer', 'reader' or 'certificate', and `code` says why, as 'S2'."""
+
+    def __init__(self, text: str, code: str) -> None:
+        super().__init__(f"{text}: {code}")
+        self.text = text
+        self.code = code
+
+
+class OutOfMemory(AvroError, MemoryError):
+    """Memory ran out."""
+
+
+class OutOfRange(AvroError, ValueError):
+    """A limit is out of its range."""
+
+
+class Answer(enum.IntEnum):
+    """The status of an answer."""
+
+    YES = 0
+    NO = 1
+    UNDECIDED = 2
+
+
+@dataclass(frozen=True)
+class Limits:
+    """Limits of judging; 0 stands for the default."""
+
+    pairs: int = 0
+    size: int = 0
+    depth: int = 0
+
+
+@dataclass(frozen=True)
+class Fault:
+    """Why a datum fails: the kind, the index of the reader's field that is missing, and the way down the datum."""
+
+    kind: str
+    field: int | None
+    path: tuple[int, ...]
+
+
+@dataclass(frozen=True)
+class Verdict:
+    """What is judged of two schemas. A no has the fault, the number of nodes and the display of a least datum that fails; an
+    undecided has its cause."""
+
+    answer: Answer
+    fault: Fault | None = None
+    nodes: int | None = None
+    datum: str | None = None
+    cause: str | None = None
+
+
+@dataclass(frozen=True)
+class NamedFault:
+    """A fault of two schemas: its kind, its places in the reader's and the writer's schema, and what fails there."""
+
+    kind: str
+    reader: str
+    writer: str
+    what: str
+
+
+@dataclass(frozen=True)
+class Explanation:
+    """All faults of two schemas; undecided where there are too many pairs of nodes to look at."""
+
+    answer: Answer
+    faults: tuple[NamedFault, ...]
+
+
+@dataclass(frozen=True)
+class HistoryLine:
+    """What is judged of an earlier schema and the last one."""
+
+    answer: Answer
+    cause: str | None = None
+
+
+class _Limits(ctypes.Structure):
+    _fields_ = [("pairs", ctypes.c_uint32), ("size", ctypes.c_uint32), ("depth", ctypes.c_uint32)]
+
+
+@functools.cache
+def _library() -> ctypes.CDLL:
+    """The library, with the types of its functions."""
+    beside = pathlib.Path(__file__).resolve().parent.parent / "out" / "libavro.so"
+    library = ctypes.CDLL(os.environ.get("AVRO_LIBRARY") or str(beside))
+    text = [ctypes.c_char_p, ctypes.c_size_t]
+    answer = [*text, ctypes.POINTER(ctypes.c_size_t)]
+    limits = ctypes.POINTER(_Limits)
+    for name, types in (
+        ("judge", [*text, *text, limits]),
+        ("explain", [*text, *text, ctypes.c_uint32]),
+        ("confirm", [*text, *text, *text]),
+        ("history", [*text, ctypes.POINTER(ctypes.c_size_t), ctypes.c_size_t, limits]),
+        ("schema", [*text, ctypes.c_uint32]),
+    ):
+        function = library[f"avro_{name}_text"]
+        function.restype, function.argtypes = ctypes.c_uint32, [*types, *answer]
+        setattr(library, name, function)
+    library.avro_version.restype, library.avro_version.argtypes = ctypes.c_uint32, answer
+    return library
+
+
+def _bytes(text: bytes | str) -> bytes:
+    return text.encode() if isinstance(text, str) else bytes(text)
+
+
+def _number(number: int) -> int:
+    """A number that the library can take."""
+    if not 0 <= number < 2**32:
+        raise OutOfRange(f"{number} is out of range")
+    return number
+
+
+def _limits(limits: Limits) -> _Limits:
+    return _Limits(_number(limits.pairs), _number(limits.size), _number(limits.depth))
+
+
+def ask(function: Callable[..., int], *words: object, room: int = FIRST_ROOM) -> tuple[int, bytes]:
+    """The status and the whole text of a call. It is made again where the room was short."""
+    wanted = ctypes.c_size_t()
+    while True:
+        out = ctypes.create_string_buffer(max(room, 1))
+        status = function(*words, out, room, ctypes.byref(wanted))
+        if wanted.value <= room:
+            return status, out.raw[: wanted.value]
+        room = wanted.value
+
+
+def _lines(function: Callable[..., int], *words: object) -> tuple[Answer, list[str]]:
+    """The answer of a call and the lines of its text; what keeps it from an answer is raised."""
+    status, text = ask(function, *words)
+    # A display may hold other characters that split lines.
+    lines = text.decode().split("\n")[:-1]
+    if status == 3:
+        _, name, code = lines[0].split(": ")
+        raise Refused(name, code)
+    if status == 5:
+        raise OutOfMemory("out of memory")
+    if status == 64:
+        raise OutOfRange("a number is out of range")
+    return Answer(status), lines
+
+
+def _fault(line: str) -> Fault:
+    """The fault of a line, as 'fault MissingField 2 at /3/0'."""
+    words = line.split()
+    field = int(words[2]) if words[1] == "MissingField" else None
+    return Fault(words[1], field, tuple(int(step) for step in words[-1].split("/") if step))
+
+
+def _named(line: str) -> NamedFault:
+    """The fault of a line of `explain`."""
+    parts = LINE.fullmatch(line)
+    if parts is None:
+        raise AvroError(f"not the line of a fault: {line}")
+    return NamedFault(kind=parts[2], reader=parts[1], writer=parts[4], what=parts[3])
+
+
+def _line(line: str) -> HistoryLine:
+    """What a line of `history` says, as '0 undecided Size'."""
+    _, word, *cause = line.split()
+    return HistoryLine(Answer[word.upper()], cause[0] if cause else None)
+
+
+def judge(writer: bytes | str, reader: bytes | str, limits: Limits = Limits()) -> Verdict:
+    """Judges whether the reader's schema reads all data of the writer's."""
+    old, new = _bytes(writer), _bytes(reader)
+    answer, lines = _lines(_library().judge, old, len(old), new, len(new), _limits(limits))
+    if answer is Answer.NO:
+        datum = lines[3].removeprefix("datum ")
+        return Verdict(answer, _fault(lines[1]), int(lines[2].removeprefix("nodes ")), datum)
+    if answer is Answer.UNDECIDED:
+        return Verdict(answer, cause=lines[0].removeprefix("undecided "))
+    return Verdict(answer)
+
+
+def explain(writer: bytes | str, reader: bytes | str, max_pairs: int = 0) -> Explanation:
+    """Finds all faults of two schemas, by names."""
+    old, new = _bytes(writer), _bytes(reader)
+    answer, lines = _lines(_library().explain, old, len(old), new, len(new), _number(max_pairs))
+    faults = tuple(map(_named, lines[1:])) if answer is Answer.NO else ()
+    return Explanation(answer, faults)
+
+
+def confirm(writer: bytes | str, reader: bytes | str, certificate: bytes | str) -> bool:
+    """Whether a certificate shows that the reader's schema reads all data of the writer's."""
+    texts = [_bytes(text) for text in (writer, reader, certificate)]
+    words = [word for text in texts for word in (text, len(text))]
+    return _lines(_library().confirm, *words)[0] is Answer.YES
+
+
+def history(texts: Sequence[bytes | str], limits: Limits = Limits()) -> list[HistoryLine]:
+    """Judges each schema but the last with the last one, of at least two."""
+    if len(texts) < 2:
+        raise OutOfRange("a history has at least two schemas")
+    parts = [_bytes(text) for text in texts]
+    lengths = (ctypes.c_size_t * len(parts))(*map(len, parts))
+    joined = b"".join(parts)
+    lines = _lines(_library().history, joined, len(joined), lengths, len(parts), _limits(limits))[1]
+    return [_line(line) for line in lines]
+
+
+def _shown(text: bytes | str, shown: int) -> str:
+    """What is shown of a schema."""
+    schema = _bytes(text)
+    return _lines(_library().schema, schema, len(schema), shown)[1][0]
+
+
+def nodes(text: bytes | str) -> int:
+    """The number of a schema's nodes."""
+    return int(_shown(text, COUNT).removeprefix("ok "))
+
+
+def canonical(text: bytes | str) -> str:
+    """The Parsing Canonical Form of a schema."""
+    return _shown(text, CANONICAL)
+
+
+def fingerprint(text: bytes | str) -> str:
+    """The SHA-256 of a schema's Parsing Canonical Form, in digits."""
+    return _shown(text, FINGERPRINT)
+
+
+def version() -> str:
+    """The version of the library, as '1.0.0'."""
+    return ask(_library().avro_version)[1].decode().split()[1]

@@ -1,0 +1,20 @@
+-- What a caller asks for by numbers.
+use Rattle.std.specs.Prelude.{ℕ, ◌==◌, if◌then◌else◌}
+use Rattle.avro_judge.specs.JudgeRanges.{JudgeLimitValues}
+use Rattle.avro_answer.specs.declared.schemas.Shown.{Shown}
+
+-- 0 asks for the default
+abbrev pub asked_or : ℕ → ℕ → ℕ
+asked_or number default = if number == 0 then default else number
+
+-- limits of judging, of which each has its default
+abbrev pub asked_limits : ℕ → ℕ → ℕ → JudgeLimitValues
+asked_limits pairs size depth = record {
+    pairs = asked_or pairs 4194304;
+    size = asked_or size 4096;
+    limits = record { depth = asked_or depth 128; nodes = 1048576; blob = 16777216 };
+  }
+
+-- what is shown of a schema; only 0 to 2 ask for something
+abbrev pub asked_shown : ℕ → Shown
+asked_shown number = if number == 0 then Shown.Count else (if number == 1 then Shown.Canonical else Shown.Fingerprint)

@@ -1,0 +1,3 @@
+pub mod Asked
+pub mod Room
+pub mod Told

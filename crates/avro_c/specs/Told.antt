@@ -1,0 +1,24 @@
+-- What a call tells its caller.
+use Rattle.std.specs.Prelude.{◌≡◌, ℕ, List, [], codes}
+use Rattle.avro_answer.specs.RefusalText.{schema_code, certificate_code, refusal_text}
+use Rattle.avro_answer.specs.declared.refusal.Refusal.{Refusal}
+use Rattle.avro_c.specs.Room.{IsPut}
+
+-- the text of an answer, with its status
+pub record IsTold (is_answer : List ℕ → ℕ → Type 0) (before after : List ℕ) (wanted status : ℕ) : Type 0 where
+  pub text : List ℕ
+  pub answered : is_answer text status
+  pub put : IsPut text before after wanted
+
+-- the line that the program prints of a text in a file of this name
+abbrev pub refusal_line : Refusal → List ℕ
+refusal_line (Refusal.Writer e) = refusal_text (codes "writer") (schema_code e)
+refusal_line (Refusal.Reader e) = refusal_text (codes "reader") (schema_code e)
+refusal_line (Refusal.Certificate e) = refusal_text (codes "certificate") (certificate_code e)
+refusal_line Refusal.OutOfMemory = []
+
+-- a refusal that says what is true of the texts, by its line
+pub record IsRefused (says : Refusal → Type 0) (before after : List ℕ) (wanted : ℕ) : Type 0 where
+  pub refusal : Refusal
+  pub said : says refusal
+  pub put : IsPut (refusal_line refusal) before after wanted

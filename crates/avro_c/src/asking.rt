@@ -1,0 +1,79 @@
+//! What a caller asks for by numbers.
+
+ghost use Rattle.std.specs.Prelude.{◌≡◌, ◌≤◌, ◌↔◌, IsTrue, length, sum, SomeIff};
+ghost use Rattle.avro_judge.specs.JudgeRanges.{AreJudgeLimits};
+ghost use Rattle.avro_c.specs.Asked.{asked_or, asked_limits, asked_shown};
+
+use avro_answer::Shown;
+use avro_judge::JudgeLimits;
+use avro_schema::Limits;
+
+/// The limits of judging that a caller asks for; 0 asks for the default.
+#[repr(C)]
+#[derive(Drop)]
+pub struct AvroLimits {
+    /// The greatest product of the two numbers of nodes.
+    pub pairs: u32,
+    /// The greatest number of nodes of a datum that refutes.
+    pub size: u32,
+    /// Its greatest depth.
+    pub depth: u32,
+}
+
+/// The limits that a caller asks for, or nothing where one is out of range.
+pub(crate) fn limits_of(asked: &AvroLimits) -> Option<JudgeLimits>
+    ensures { SomeIff result (AreJudgeLimits (asked_limits asked.now.pairs asked.now.size asked.now.depth)) (asked_limits asked.now.pairs asked.now.size asked.now.depth) }
+{
+    let pairs = or_default(asked.pairs, 4_194_304);
+    let size = or_default(asked.size, 4096);
+    let depth = or_default(asked.depth, 128);
+    match Limits::new(depth, 1_048_576, 16_777_216) {
+        Some(limits) => JudgeLimits::new(pairs, size, limits),
+        None => None,
+    }
+}
+
+/// The pairs of nodes that a caller asks for, or nothing where they are too many.
+pub(crate) fn pairs_of(asked: u32) -> Option<usize>
+    ensures { SomeIff result (asked_or asked 4194304 ≤ 16777216) (asked_or asked 4194304) }
+{
+    let pairs = or_default(asked, 4_194_304);
+    if pairs <= 16_777_216 {
+        Some(pairs as usize)
+    } else {
+        None
+    }
+}
+
+/// The limit that a number asks for.
+fn or_default(number: u32, default: u32) -> u32
+    ensures { result ≡ asked_or number default }
+{
+    if number == 0 { default } else { number }
+}
+
+/// What a number asks to be shown of a schema.
+pub(crate) fn shown_of(asked: u32) -> Option<Shown>
+    ensures { SomeIff result (asked ≤ 2) (asked_shown asked) }
+{
+    match asked {
+        0 => Some(Shown::Count),
+        1 => Some(Shown::Canonical),
+        2 => Some(Shown::Fingerprint),
+        _ => None,
+    }
+}
+
+/// Whether lengths are those of texts that follow one another, and are all of these bytes.
+pub(crate) fn are_lengths_of(lengths: &[usize], texts: &[u8]) -> bool
+    ensures { IsTrue result ↔ (sum lengths.now ≡ length texts.now) }
+{
+    let mut left = texts.len();
+    for part in lengths {
+        if *part > left {
+            return false;
+        }
+        left -= *part;
+    }
+    left == 0
+}

@@ -1,0 +1,162 @@
+//! The answers of the program `avro` as a static library for C. `bindings/c/avro.h` declares these functions.
+//!
+//! Each takes the bytes of texts, and answers a status; what the program prints is put into `out`, as much of it as there
+//! is room for, and `wanted` is the length of all of it.
+#![tactic(auto)]
+
+ghost use Rattle.std.specs.Prelude.{◌≡◌, ℕ, ◌≤◌, ◌<◌, ◌↔◌, ◌⊎◌, List, codes};
+ghost use Rattle.avro_judge.specs.JudgeRanges.{AreJudgeLimits};
+ghost use Rattle.avro_answer.specs.JudgeAnswer.{JudgeAnswer};
+ghost use Rattle.avro_answer.specs.ExplainAnswer.{ExplainAnswer};
+ghost use Rattle.avro_answer.specs.ConfirmAnswer.{ConfirmAnswer, RefusesOneOf};
+ghost use Rattle.avro_answer.specs.SchemaAnswer.{SchemaAnswer};
+ghost use Rattle.avro_answer.specs.RefusalText.{RefusesPair, HaveSchemas};
+ghost use Rattle.avro_answer.specs.inside.Read.{RefusesWriter};
+ghost use Rattle.avro_c.specs.Asked.{asked_or, asked_limits, asked_shown};
+ghost use Rattle.avro_c.specs.Room.{IsPut, IsUntouched};
+ghost use Rattle.avro_c.specs.Told.{IsTold, IsRefused};
+
+mod asking;
+mod room;
+mod status;
+mod telling;
+
+pub use asking::AvroLimits;
+
+use crate::asking::{are_lengths_of, limits_of, pairs_of, shown_of};
+use crate::room::{put, put_nothing};
+use crate::telling::{tell, tell_refusal};
+use avro_answer::{Form, confirm_text, explain_text, history_text, judge_text, schema_text};
+use std::alloc::Global;
+
+/// Says whether the schema of the second text reads all data of the schema of the first: 0 yes, 1 no, 2 undecided.
+#[unsafe(no_mangle)]
+pub extern "C" fn avro_judge_text(
+    alloc: Global,
+    writer: &[u8],
+    reader: &[u8],
+    limits: &AvroLimits,
+    out: &mut [u8],
+    wanted: &mut usize,
+) -> u32
+    ensures answered { result ≤ 2 → IsTold (JudgeAnswer writer.now reader.now (asked_limits limits.now.pairs limits.now.size limits.now.depth)) out.old out.new wanted.new result }
+    ensures refused { result ≡ 3 → IsRefused (RefusesPair writer.now reader.now) out.old out.new wanted.new }
+    ensures nothing { 3 < result → IsUntouched out.old out.new wanted.new }
+    ensures usage { AreJudgeLimits (asked_limits limits.now.pairs limits.now.size limits.now.depth) → result ≡ 64 → ⊥ }
+    ensures complete { AreJudgeLimits (asked_limits limits.now.pairs limits.now.size limits.now.depth) → HaveSchemas writer.now reader.now → (result ≤ 2) ⊎ (result ≡ 5) }
+{
+    let Some(limits) = limits_of(limits) else {
+        return put_nothing(status::USAGE, wanted);
+    };
+    match judge_text(alloc, writer, reader, &limits, Form::Text) {
+        Ok(answer) => tell(&answer, out, wanted),
+        Err(refusal) => tell_refusal(alloc, refusal, out, wanted),
+    }
+}
+
+/// Finds all faults of the schemas of two texts, of which the roots lead to `max_pairs` pairs of nodes at most: 0 none, 1
+/// some, 2 undecided.
+#[unsafe(no_mangle)]
+pub extern "C" fn avro_explain_text(
+    alloc: Global,
+    writer: &[u8],
+    reader: &[u8],
+    max_pairs: u32,
+    out: &mut [u8],
+    wanted: &mut usize,
+) -> u32
+    ensures answered { result ≤ 2 → IsTold (ExplainAnswer writer.now reader.now (asked_or max_pairs 4194304)) out.old out.new wanted.new result }
+    ensures refused { result ≡ 3 → IsRefused (RefusesPair writer.now reader.now) out.old out.new wanted.new }
+    ensures nothing { 3 < result → IsUntouched out.old out.new wanted.new }
+    ensures usage { asked_or max_pairs 4194304 ≤ 16777216 → result ≡ 64 → ⊥ }
+{
+    let Some(pairs) = pairs_of(max_pairs) else {
+        return put_nothing(status::USAGE, wanted);
+    };
+    match explain_text(alloc, writer, reader, pairs, Form::Text) {
+        Ok(answer) => tell(&answer, out, wanted),
+        Err(refusal) => tell_refusal(alloc, refusal, out, wanted),
+    }
+}
+
+/// Says whether the certificate of the third text confirms the schemas of the first two: 0 confirmed, 1 not confirmed.
+#[unsafe(no_mangle)]
+pub extern "C" fn avro_confirm_text(
+    alloc: Global,
+    writer: &[u8],
+    reader: &[u8],
+    certificate: &[u8],
+    out: &mut [u8],
+    wanted: &mut usize,
+) -> u32
+    ensures answered { result ≤ 2 → IsTold (ConfirmAnswer writer.now reader.now certificate.now) out.old out.new wanted.new result }
+    ensures refused { result ≡ 3 → IsRefused (RefusesOneOf writer.now reader.now certificate.now) out.old out.new wanted.new }
+    ensures nothing { 3 < result → IsUntouched out.old out.new wanted.new }
+{
+    match confirm_text(alloc, writer, reader, certificate, Form::Text) {
+        Ok(answer) => tell(&answer, out, wanted),
+        Err(refusal) => tell_refusal(alloc, refusal, out, wanted),
+    }
+}
+
+/// Judges the schema of each text but the last with that of the last: 0 all are a yes, 1 some is a no, 2 none is, and some
+/// is undecided. The texts follow one another, and `lengths` has the length of each, of at least two.
+#[unsafe(no_mangle)]
+pub extern "C" fn avro_history_text(
+    alloc: Global,
+    texts: &[u8],
+    lengths: &[usize],
+    limits: &AvroLimits,
+    out: &mut [u8],
+    wanted: &mut usize,
+) -> u32
+    ensures { ((text : List ℕ) × IsPut text out.old out.new wanted.new) ⊎ IsUntouched out.old out.new wanted.new }
+{
+    if lengths.len() < 2 || !are_lengths_of(lengths, texts) {
+        return put_nothing(status::USAGE, wanted);
+    }
+    let Some(limits) = limits_of(limits) else {
+        return put_nothing(status::USAGE, wanted);
+    };
+    match history_text(alloc, texts, lengths, &limits, Form::Text) {
+        Ok(answer) => tell(&answer, out, wanted),
+        Err(refusal) => tell_refusal(alloc, refusal, out, wanted),
+    }
+}
+
+/// Shows the schema of a text: its number of nodes for 0, its canonical form for 1, the digits of its fingerprint for 2.
+#[unsafe(no_mangle)]
+pub extern "C" fn avro_schema_text(
+    alloc: Global,
+    text: &[u8],
+    shown: u32,
+    out: &mut [u8],
+    wanted: &mut usize,
+) -> u32
+    ensures answered { result ≡ 0 → IsTold (λ answer _. SchemaAnswer (asked_shown shown) text.now answer) out.old out.new wanted.new result }
+    ensures refused { result ≡ 3 → IsRefused (RefusesWriter text.now) out.old out.new wanted.new }
+    ensures nothing { 3 < result → IsUntouched out.old out.new wanted.new }
+    ensures known { (result ≡ 0) ⊎ (result ≡ 3) ⊎ (result ≡ 5) ⊎ (result ≡ 64) }
+    ensures usage { (result ≡ 64) ↔ (2 < shown) }
+{
+    let Some(shown) = shown_of(shown) else {
+        return put_nothing(status::USAGE, wanted);
+    };
+    match schema_text(alloc, text, shown) {
+        Ok(answer) => {
+            *wanted = put(&answer, out);
+            status::GOOD
+        }
+        Err(refusal) => tell_refusal(alloc, refusal, out, wanted),
+    }
+}
+
+/// Puts the line of the version, as `avro --version` prints it.
+#[unsafe(no_mangle)]
+pub extern "C" fn avro_version(out: &mut [u8], wanted: &mut usize) -> u32
+    ensures good { result ≡ 0 }
+    ensures line { IsPut (codes "avro 1.0.0\n") out.old out.new wanted.new }
+{
+    *wanted = put(b"avro 1.0.0\n", out);
+    status::GOOD
+}
