@@ -10,10 +10,10 @@ asked_or number default = if number == 0 then default else number
 -- limits of judging, of which each has its default
 abbrev pub asked_limits : ℕ → ℕ → ℕ → JudgeLimitValues
 asked_limits pairs size depth = record {
-    pairs = asked_or pairs 4194304;
-    size = asked_or size 4096;
-    limits = record { depth = asked_or depth 128; nodes = 1048576; blob = 16777216 };
-  }
+  pairs = asked_or pairs 4194304;
+  size = asked_or size 4096;
+  limits = record { depth = asked_or depth 128; nodes = 1048576; blob = 16777216 };
+}
 
 -- what is shown of a schema; only 0 to 2 ask for something
 abbrev pub asked_shown : ℕ → Shown

@@ -21,11 +21,10 @@ mod room;
 mod status;
 mod telling;
 
-pub use asking::AvroLimits;
-
 use crate::asking::{are_lengths_of, limits_of, pairs_of, shown_of};
 use crate::room::{put, put_nothing};
 use crate::telling::{tell, tell_refusal};
+pub use asking::AvroLimits;
 use avro_answer::{Form, confirm_text, explain_text, history_text, judge_text, schema_text};
 use std::alloc::Global;
 
