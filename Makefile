@@ -24,11 +24,11 @@ help: ## lists the targets
 	@awk -F ':.*## ' '/^[a-z]+:.*## / { printf "make %-8s %s\n", $$1, $$2 }' $(MAKEFILE_LIST)
 
 # A verdict of 1 or 2 is an answer, and no failure of the build.
-try: ## builds the program without any proof, and judges WRITER against READER (three minutes of a processor)
+try: ## builds the program without any proof, and judges WRITER against READER (three minutes of processor time)
 	@cd crates/avro && rt try --data writer.avsc=$(abspath $(WRITER)) --data reader.avsc=$(abspath $(READER)) \
 		-- judge writer.avsc reader.avsc || { status=$$?; echo "avro judge: exit status $$status" >&2; test $$status -le 2; }
 
-files: ## builds the program without any proof, and checks, shows and copies FILE (the same)
+files: ## builds the program without any proof, and checks, shows and copies FILE (the same time)
 	@cases=$$(mktemp -d) && trap 'rm -rf "$$cases"' EXIT && \
 	for command in check show copy; do cp $(FILE) "$$cases/$$command"; done && \
 	printf '%s\n' check {} > "$$cases/check.args" && \
@@ -36,7 +36,7 @@ files: ## builds the program without any proof, and checks, shows and copies FIL
 	printf '%s\n' copy {} copy.avro --reader reader.avsc > "$$cases/copy.args" && \
 	cd crates/avro && rt try --cases "$$cases" --data reader.avsc=$(abspath $(FILE_READER))
 
-program: ## proves and builds the program and the crates below it, and says where it lies (an hour and more)
+program: ## proves and builds the program and the crates below it, and says where it is (an hour or more)
 	@cd crates/avro && rt run -- schema $(abspath examples/int.avsc)
 	@echo "the program is $(abspath $(PROGRAM))"
 
@@ -51,26 +51,26 @@ $(LIBRARY):
 $(PROGRAM):
 	@echo "run 'make program' first: it proves and builds $(PROGRAM)" >&2; false
 
-install: $(PROGRAM) ## installs the proved program, its man page and its completions below DESTDIR and PREFIX (a second)
+install: $(PROGRAM) ## installs the proved program, its man page and its completions under DESTDIR and PREFIX (a second)
 	install -D -m 755 $(PROGRAM) $(DESTDIR)$(PREFIX)/bin/avro
 	install -D -m 644 man/avro.1 $(DESTDIR)$(PREFIX)/share/man/man1/avro.1
 	install -D -m 644 completions/avro.bash $(DESTDIR)$(PREFIX)/share/bash-completion/completions/avro
 	install -D -m 644 completions/avro.zsh $(DESTDIR)$(PREFIX)/share/zsh/site-functions/_avro
 	install -D -m 644 completions/avro.fish $(DESTDIR)$(PREFIX)/share/fish/vendor_completions.d/avro.fish
 
-quick: words ## runs all tests without any proof (nine minutes of a processor)
+quick: words ## runs all tests without any proof (nine minutes of processor time)
 	@for crate in $(TESTS); do echo "== $$crate"; (cd crates/$$crate && rt try --test) || exit 1; done
 
-test: ## the gate: each proof, test, program and must-fail edit, from nothing (two to five processor hours)
+test: ## the gate: each proof, test, program and must-fail edit, from scratch (two to five processor hours)
 	rt ci
 
-check: ## checks one crate, CRATE=avro_name (1 to 3 minutes a thousand lines; after an edit 5 to 60 seconds)
+check: ## checks one crate, CRATE=avro_name (1 to 3 minutes per thousand lines; after an edit 5 to 60 seconds)
 	cd crates/$(CRATE) && rt check
 
-fmt: ## lays out the sources of every crate (ten seconds)
+fmt: ## formats the sources of every crate (ten seconds)
 	@for crate in crates/*/; do (cd $$crate && rt fmt) || exit 1; done
 
-bench: $(PROGRAM) ## measures the proved program, in one table (each run up to a minute of a processor)
+bench: $(PROGRAM) ## measures the proved program, in one table (each run up to a minute of processor time)
 	bench/all.sh $(PROGRAM)
 
 robust: $(PROGRAM) $(LIBRARY) ## runs checks/ on the proved program, and compares it with another, OLD=PROGRAM (some minutes)
@@ -83,10 +83,10 @@ robust: $(PROGRAM) $(LIBRARY) ## runs checks/ on the proved program, and compare
 	checks/bindings.py $(PROGRAM) $(LIBRARY)
 	$(if $(OLD),checks/compare.py $(OLD) $(PROGRAM))
 
-words: ## tests the words of man page and completions, and the table of the headline (a second)
+words: ## tests the words of the man page and completions, and the table of the headline (a second)
 	checks/words.py
 	checks/headline.py
 
-clean: ## removes what the checks and builds have kept (seconds)
+clean: ## removes what checks and builds have left (seconds)
 	rm -rf crates/*/out bindings/out
 	rm -rf bench/__pycache__ bench/*/__pycache__ bindings/python/__pycache__ checks/__pycache__ examples/__pycache__

@@ -9,9 +9,9 @@ use crate::Finding;
 use crate::container_file::{ROOM, open_container};
 use crate::failure::Failure;
 use crate::schema_file::read_reader;
+use avro_answer::datum_line;
 use avro_binary::{Nothing, Tree, decode};
 use avro_container::{Block, Blocks, CopyError, FileLimits, Header, Input};
-use avro_display::show;
 use avro_resolve::laws::resolved_fits;
 use avro_resolve::{Plan, ReadResolveError};
 use avro_schema::{Datum, Limits, Memory, Schema};
@@ -146,8 +146,7 @@ fn show_block<'a, O: Write>(
         let Ok((datum, len)) = read_datum(alloc, schema, plan, rest, limits) else {
             return Err(Failure::OutOfMemory);
         };
-        let mut line = show(alloc, shown, shown.root(), &datum)?;
-        line.push('\n')?;
+        let line = datum_line(alloc, shown, &datum)?;
         if out.write_all(line.as_bytes()).is_err() {
             return Err(Failure::CannotPrint);
         }

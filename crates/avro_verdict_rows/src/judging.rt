@@ -1,24 +1,11 @@
 use crate::judging_rows::{EQUALS, ROWS};
+use avro_answer::{Form, judge_text};
 use avro_binary::Tree;
-use avro_display::show;
-use avro_judge::{Approved, JudgeLimits, Refutation, Verdict, confirm, judge};
-use avro_runs::outcome_of;
-use avro_schema::{Limits, Schema, size};
+use avro_judge::{Approved, JudgeLimits, Verdict, confirm, judge};
+use avro_schema::Limits;
 use avro_schema_json::read_schema;
 use std::alloc::{AllocError, Global};
-use std::fs;
 use std::test::Fail;
-
-/// The lines of a refutation, as the program prints them.
-fn lines_of(alloc: Global, writer: &Schema, refutation: &Refutation) -> Result<String, Fail> {
-    let fault = &refutation.fault;
-    let nodes = size(&refutation.datum);
-    if !avro_schema::fits(alloc, writer, writer.root(), &refutation.datum)? {
-        return Err(Fail::new("the datum is none of the writer's"));
-    }
-    let display = show(alloc, writer, writer.root(), &refutation.datum)?;
-    Ok(format!(in alloc; "no\nfault {fault}\nnodes {nodes}\ndatum {display}\n")?)
-}
 
 /// The verdict of two schemas' texts, as the program prints it.
 pub(crate) fn verdict(
@@ -27,12 +14,23 @@ pub(crate) fn verdict(
     reader: &str,
     limits: &JudgeLimits,
 ) -> Result<String, Fail> {
-    let writer = read_schema(alloc, writer.as_bytes())?;
-    let reader = read_schema(alloc, reader.as_bytes())?;
-    match judge(alloc, &writer, &reader, limits)? {
-        Verdict::Approved(_) => Ok(String::from_str(alloc, "yes\n")?),
-        Verdict::Refuted(refutation) => lines_of(alloc, &writer, &refutation),
-        Verdict::Undecided(cause) => Ok(format!(in alloc; "undecided {cause:?}\n")?),
+    match judge_text(
+        alloc,
+        writer.as_bytes(),
+        reader.as_bytes(),
+        limits,
+        Form::Text,
+    ) {
+        Ok(answer) => text_of(alloc, &answer.text),
+        Err(_) => Err(Fail::new("a text is refused")),
+    }
+}
+
+/// A text of these bytes.
+fn text_of(alloc: Global, bytes: &[u8]) -> Result<String, Fail> {
+    match str::from_utf8(bytes) {
+        Ok(text) => Ok(String::from_str(alloc, text)?),
+        Err(_) => Err(Fail::new("an answer is no text")),
     }
 }
 
@@ -50,19 +48,6 @@ fn pairs_of_all_kinds_are_judged(rt: HostRuntime) -> Result<(), Fail> {
     for (writer, reader, text) in ROWS {
         let found = verdict(rt.alloc(), writer, reader, &JudgeLimits::default())?;
         assert_eq!(rt; found.as_str(), text, "{writer} {reader}");
-    }
-    Ok(())
-}
-
-#[test]
-fn the_program_tells_the_verdicts(rt: HostRuntime) -> Result<(), Fail> {
-    for (writer, reader, text) in ROWS {
-        fs::write(&rt, "from.avsc", writer)?;
-        fs::write(&rt, "to.avsc", reader)?;
-        let ran = outcome_of(&rt, "judge from.avsc to.avsc")?;
-        assert_eq!(rt; ran.out.as_slice(), text.as_bytes(), "{writer} {reader}");
-        assert_eq!(rt; ran.status, if text == "yes\n" { 0 } else { 1 });
-        assert!(rt; ran.err.is_empty());
     }
     Ok(())
 }
