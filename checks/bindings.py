@@ -125,6 +125,8 @@ def typed(function: Callable[..., object], *words: object) -> object:
         return faults_of(answer)
     if isinstance(answer, bool):
         return "confirmed\n" if answer else "not confirmed\n"
+    if isinstance(answer, list):
+        return "".join(f"{number} {it.answer.name.lower()}{' ' + it.cause if it.cause else ''}\n" for number, it in enumerate(answer))
     return f"{answer}\n"
 
 
@@ -155,9 +157,7 @@ def check_history(check: Check, texts: list[bytes]) -> None:
         told = f"avro: {'reader' if name == str(last) else 'writer'}: {code}".encode()
     lengths = (ctypes.c_size_t * len(texts))(*map(len, texts))
     check.call("history", (status, told), *words_of(b"".join(texts)), lengths, len(texts), avro_judge.c_limits(avro_judge.Limits()))
-    if status < 3:
-        lines = [f"{number} {it.answer.name.lower()}{' ' + it.cause if it.cause else ''}\n" for number, it in enumerate(avro_judge.history(texts))]
-        check.compare("history", told.decode(), "".join(lines))
+    check.compare("history", told.decode(), typed(avro_judge.history, texts))
 
 
 def check_example(check: Check, told: tuple[int, bytes], explained: tuple[int, bytes]) -> None:
