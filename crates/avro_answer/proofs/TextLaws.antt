@@ -27,11 +27,11 @@ are_compatible a b c d g h k = subst (λ n. AreCompatible c n) h (subst (λ n. A
 
 pub yes_compatible : (writer reader text : List ℕ) (limits : JudgeLimitValues) (status : ℕ) → JudgeAnswer writer reader limits text status
     → IsYes text status → (written read : List Node) → DeclaresText writer written → DeclaresText reader read → AreCompatible written read
-yes_compatible writer reader text limits status answer yes written read g h =
+yes_compatible writer reader text limits status answer is_yes written read g h =
     are_compatible answer.written answer.read written read
     (one_text writer answer.written written answer.declares_written g)
     (one_text reader answer.read read answer.declares_read h)
-    (answer.answered.yes.0 yes).1
+    (answer.answered.yes.0 is_yes).1
 
 pub confirmed_compatible : ((tree : Data) (nodes : List Node) → DeclaresSchema tree nodes → is_schema nodes ≡ true)
     → (writer reader certificate text : List ℕ) (status : ℕ) → ConfirmAnswer writer reader certificate text status

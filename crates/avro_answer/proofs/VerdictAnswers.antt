@@ -65,11 +65,11 @@ module _ (writer reader : Schema) (limits : JudgeLimitValues) where
       λ h. (right.undecided cause).0 (same_cause c cause (append_cancel_left (codes "undecided ") (cause_text c ++ codes "\n") (cause_text cause ++ codes "\n") h.0)),
       λ passed. (ap (λ d. codes "undecided " ++ cause_text d ++ codes "\n") ((right.undecided cause).1 passed), refl),
     );
-    known = inr (inr (c, refl, refl));
+    known = inr (inr (c, (refl, refl)));
   }
 
   pub line_answer : (word : List ℕ) (v : Verdict) → IsRight writer reader limits v
-      → LineAnswer word (schema_nodes writer) (schema_nodes reader) limits (word ++ verdict_words v ++ codes "\n") (verdict_status v)
+      → LineAnswer word (schema_nodes writer) (schema_nodes reader) limits (word ++ (verdict_words v ++ codes "\n")) (verdict_status v)
   line_answer word (Verdict.Approved a) right = record {
     yes = (λ _. (in_pairs (Verdict.Approved a) right (λ h. h), right.approved), λ _. (refl, refl));
     no = λ h. absurd (omega (arith, h.1));
@@ -87,9 +87,9 @@ module _ (writer reader : Schema) (limits : JudgeLimitValues) where
     no = λ h. absurd (omega (arith, h.1));
     undecided = λ cause. (
       λ h. (right.undecided cause).0 (same_cause c cause (cut cause (append_cancel_left word (verdict_words (Verdict.Undecided c) ++ codes "\n") (verdict_words (Verdict.Undecided cause) ++ codes "\n") h.0))),
-      λ passed. (ap (λ d. word ++ (codes " undecided " ++ cause_text d) ++ codes "\n") ((right.undecided cause).1 passed), refl),
+      λ passed. (ap (λ d. word ++ ((codes " undecided " ++ cause_text d) ++ codes "\n")) ((right.undecided cause).1 passed), refl),
     );
-    known = inr (inr (c, refl, refl));
+    known = inr (inr (c, (refl, refl)));
   }
     where
       cut : (d : Cause) → verdict_words (Verdict.Undecided c) ++ codes "\n" ≡ verdict_words (Verdict.Undecided d) ++ codes "\n" → cause_text c ++ codes "\n" ≡ cause_text d ++ codes "\n"
@@ -102,7 +102,7 @@ module _ (writer reader : Schema) (limits : JudgeLimitValues) where
       subst (λ n. SchemasAnswer (schema_nodes writer) (schema_nodes reader) limits text n) (sym same)
       (subst (λ t. SchemasAnswer (schema_nodes writer) (schema_nodes reader) limits t (verdict_status v)) (sym written) (schemas_answer v right))
 
-  pub line_answered : (word : List ℕ) (v : Verdict) (text : List ℕ) (status : ℕ) → text ≡ word ++ verdict_words v ++ codes "\n" → status ≡ verdict_status v
+  pub line_answered : (word : List ℕ) (v : Verdict) (text : List ℕ) (status : ℕ) → text ≡ word ++ (verdict_words v ++ codes "\n") → status ≡ verdict_status v
       → IsRight writer reader limits v → LineAnswer word (schema_nodes writer) (schema_nodes reader) limits text status
   line_answered word v text status written same right =
       subst (λ n. LineAnswer word (schema_nodes writer) (schema_nodes reader) limits text n) (sym same)

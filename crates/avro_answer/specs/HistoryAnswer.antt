@@ -10,7 +10,7 @@ use Rattle.avro_judge.specs.declared.verdict.Cause.{Cause}
 use Rattle.avro_answer.specs.Texts.{cause_text}
 
 abbrev pub IsLineOf : List ℕ → List ℕ → ℕ → List ℕ → ℕ → Type 0
-IsLineOf word verdict given text status = (text ≡ word ++ verdict ++ codes "\n") × (status ≡ given)
+IsLineOf word verdict given text status = (text ≡ word ++ (verdict ++ codes "\n")) × (status ≡ given)
 
 -- The line begins with a word, which names the schema.
 pub record LineAnswer (word : List ℕ) (writer reader : List Node) (limits : JudgeLimitValues) (text : List ℕ) (status : ℕ) : Type 0 where

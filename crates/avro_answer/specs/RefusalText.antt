@@ -49,6 +49,13 @@ HasSchema text = (nodes : List Node) × DeclaresText text nodes
 abbrev pub HaveSchemas : List ℕ → List ℕ → Type 0
 HaveSchemas writer reader = HasSchema writer × (length writer ≤ max_text) × HasSchema reader × (length reader ≤ max_text)
 
+-- What a refusal says of the text of one schema.
+abbrev pub RefusesOne : List ℕ → Refusal → Type 0
+RefusesOne text (Refusal.Writer e) = HasCode text e
+RefusesOne text (Refusal.Reader e) = ⊥
+RefusesOne text (Refusal.Certificate e) = ⊥
+RefusesOne text Refusal.OutOfMemory = Unit {0}
+
 -- What a refusal says of the texts of two schemas: the writer's is refused, or it declares a schema and the reader's is
 -- refused. Memory that runs out says nothing.
 abbrev pub RefusesPair : List ℕ → List ℕ → Refusal → Type 0

@@ -22,7 +22,6 @@ use std::alloc::Global;
 /// # Errors
 ///
 /// Memory ran out.
-#[tactic(auto, using(crate::proofs::VerdictAnswers::line_answered, crate::proofs::VerdictAnswers::status_answered))]
 pub fn judge_line<'a>(
     alloc: Global,
     word: &str,
@@ -45,7 +44,7 @@ pub fn judge_line<'a>(
 
 /// The line of a verdict.
 fn line_of(alloc: Global, word: &str, verdict: &Verdict<'_>) -> Result<Vec<u8>, Memory>
-    ensures { IfOk result (λ line. line.items ≡ word.now ++ verdict_words verdict.now ++ codes "\n") }
+    ensures { IfOk result (λ line. line.items ≡ word.now ++ (verdict_words verdict.now ++ codes "\n")) }
 {
     let mut line = Vec::new(alloc);
     line.extend_from_slice(word.as_bytes())?;
@@ -59,7 +58,6 @@ fn line_of(alloc: Global, word: &str, verdict: &Verdict<'_>) -> Result<Vec<u8>, 
 /// # Errors
 ///
 /// Memory ran out.
-#[tactic(auto, using(crate::proofs::VerdictAnswers::status_answered))]
 pub fn judge_json_line<'a>(
     alloc: Global,
     file: &str,

@@ -31,7 +31,7 @@ pub struct Judged<'a> {
 /// # Errors
 ///
 /// Memory ran out.
-#[tactic(auto, using(crate::proofs::VerdictAnswers::answered, crate::proofs::VerdictAnswers::fits_writer, crate::proofs::VerdictAnswers::is_small, crate::proofs::VerdictAnswers::status_answered))]
+#[tactic(auto, using(crate::proofs::VerdictAnswers::fits_writer, crate::proofs::VerdictAnswers::is_small))]
 pub fn judge_schemas<'a>(
     alloc: Global,
     writer: &'a Schema,
@@ -60,6 +60,7 @@ pub fn judge_schemas<'a>(
 /// # Errors
 ///
 /// The writer's text is refused, or else the reader's; memory ran out.
+#[tactic(auto, using(crate::proofs::Refused::reader_of_pair))]
 pub fn judge_text(
     alloc: Global,
     writer: &[u8],

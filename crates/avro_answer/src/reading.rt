@@ -7,9 +7,10 @@ ghost use Rattle.avro_schema_json.specs.Declaration.{max_text};
 ghost use Rattle.avro_schema_json.specs.DeclaredText.{DeclaresText};
 ghost use Rattle.avro_certificate.specs.CertificateText.{CertText};
 ghost use Rattle.avro_certificate.specs.SeenCertificate.{dead_of, pairs_in};
-ghost use Rattle.avro_answer.specs.RefusalText.{HasSchema};
-ghost use Rattle.avro_answer.specs.inside.Read.{RefusesWriter, RefusesReader, RefusesCertificate};
-ghost use Rattle.avro_answer.specs.declared.refusal.Refusal.TheVariants.{OutOfMemory};
+ghost use Rattle.avro_answer.specs.RefusalText.{HasSchema, RefusesOne};
+ghost use Rattle.avro_answer.specs.inside.Read.{RefusesReader, RefusesCertificate};
+ghost use Rattle.avro_answer.specs.declared.refusal.Refusal.TheVariants.{OutOfMemory, Reader, Writer};
+ghost use Rattle.avro_schema_json.specs.declared.error.SchemaError.{SchemaError};
 
 use crate::refusal::Refusal;
 use avro_certificate::{CertError, Certificate};
@@ -20,13 +21,12 @@ use std::alloc::Global;
 /// The schema of the writer's text.
 pub(crate) fn read_writer(alloc: Global, text: &[u8]) -> Result<Schema, Refusal>
     ensures found { IfOk result (λ schema. DeclaresText text.now (schema_nodes schema)) }
-    ensures refused { IfErr result (RefusesWriter text.now) }
+    ensures refused { IfErr result (RefusesOne text.now) }
     ensures complete { HasSchema text.now → length text.now ≤ max_text → IfErr result (λ e. e ≡ OutOfMemory) }
 {
     match read_schema(alloc, text) {
         Ok(schema) => Ok(schema),
-        Err(SchemaError::OutOfMemory) => Err(Refusal::OutOfMemory),
-        Err(e) => Err(Refusal::Writer(e)),
+        Err(e) => Err(writer_refusal(e)),
     }
 }
 
@@ -38,8 +38,31 @@ pub(crate) fn read_reader(alloc: Global, text: &[u8]) -> Result<Schema, Refusal>
 {
     match read_schema(alloc, text) {
         Ok(schema) => Ok(schema),
-        Err(SchemaError::OutOfMemory) => Err(Refusal::OutOfMemory),
-        Err(e) => Err(Refusal::Reader(e)),
+        Err(e) => Err(reader_refusal(e)),
+    }
+}
+
+/// The refusal of the writer's text.
+fn writer_refusal(e: SchemaError) -> Refusal
+    ensures memory { e ≡ SchemaError.OutOfMemory → result ≡ OutOfMemory }
+    ensures other { (e ≡ SchemaError.OutOfMemory → ⊥) → result ≡ Writer e }
+{
+    if e == SchemaError::OutOfMemory {
+        Refusal::OutOfMemory
+    } else {
+        Refusal::Writer(e)
+    }
+}
+
+/// The refusal of the reader's text.
+fn reader_refusal(e: SchemaError) -> Refusal
+    ensures memory { e ≡ SchemaError.OutOfMemory → result ≡ OutOfMemory }
+    ensures other { (e ≡ SchemaError.OutOfMemory → ⊥) → result ≡ Reader e }
+{
+    if e == SchemaError::OutOfMemory {
+        Refusal::OutOfMemory
+    } else {
+        Refusal::Reader(e)
     }
 }
 

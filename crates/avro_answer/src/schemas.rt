@@ -3,7 +3,7 @@ ghost use Rattle.std.specs.Result.{IfErr};
 ghost use Rattle.avro_schema.specs.SeenSchema.{schema_nodes};
 ghost use Rattle.avro_certificate.specs.CertificateText.{decimal};
 ghost use Rattle.avro_answer.specs.SchemaAnswer.{NodesAnswer, SchemaAnswer};
-ghost use Rattle.avro_answer.specs.inside.Read.{RefusesWriter};
+ghost use Rattle.avro_answer.specs.RefusalText.{RefusesOne};
 
 use crate::reading::read_writer;
 use crate::refusal::Refusal;
@@ -72,7 +72,7 @@ fn line_of(alloc: Global, bytes: &[u8]) -> Result<Vec<u8>, Memory>
 /// The text is refused; memory ran out.
 pub fn schema_text(alloc: Global, text: &[u8], shown: Shown) -> Result<Vec<u8>, Refusal>
     ensures answered { IfOk result (λ answer. SchemaAnswer shown text.now answer.items) }
-    ensures refused { IfErr result (RefusesWriter text.now) }
+    ensures refused { IfErr result (RefusesOne text.now) }
 {
     let schema = read_writer(alloc, text)?;
     Ok(show_schema(alloc, &schema, shown)?)

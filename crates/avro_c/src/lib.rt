@@ -10,8 +10,7 @@ ghost use Rattle.avro_answer.specs.JudgeAnswer.{JudgeAnswer};
 ghost use Rattle.avro_answer.specs.ExplainAnswer.{ExplainAnswer};
 ghost use Rattle.avro_answer.specs.ConfirmAnswer.{ConfirmAnswer, RefusesOneOf};
 ghost use Rattle.avro_answer.specs.SchemaAnswer.{SchemaAnswer};
-ghost use Rattle.avro_answer.specs.RefusalText.{RefusesPair, HaveSchemas};
-ghost use Rattle.avro_answer.specs.inside.Read.{RefusesWriter};
+ghost use Rattle.avro_answer.specs.RefusalText.{RefusesOne, RefusesPair, HaveSchemas};
 ghost use Rattle.avro_c.specs.Asked.{asked_or, asked_limits, asked_shown};
 ghost use Rattle.avro_c.specs.Room.{IsPut, IsUntouched};
 ghost use Rattle.avro_c.specs.Told.{IsTold, IsRefused};
@@ -133,7 +132,7 @@ pub extern "C" fn avro_schema_text(
     wanted: &mut usize,
 ) -> u32
     ensures answered { result ≡ 0 → IsTold (λ answer _. SchemaAnswer (asked_shown shown) text.now answer) out.old out.new wanted.new result }
-    ensures refused { result ≡ 3 → IsRefused (RefusesWriter text.now) out.old out.new wanted.new }
+    ensures refused { result ≡ 3 → IsRefused (RefusesOne text.now) out.old out.new wanted.new }
     ensures nothing { 3 < result → IsUntouched out.old out.new wanted.new }
     ensures known { (result ≡ 0) ⊎ (result ≡ 3) ⊎ (result ≡ 5) ⊎ (result ≡ 64) }
     ensures usage { (result ≡ 64) ↔ (2 < shown) }

@@ -1,14 +1,8 @@
--- What a refusal of one text says of it.
+-- What a refusal says of the text of a reader, and of that of a certificate.
 use Rattle.std.specs.Prelude.{ℕ, List}
 use Rattle.avro_certificate.specs.CertificateRead.{Refuses}
 use Rattle.avro_answer.specs.RefusalText.{HasCode}
 use Rattle.avro_answer.specs.declared.refusal.Refusal.{Refusal}
-
-abbrev pub RefusesWriter : List ℕ → Refusal → Type 0
-RefusesWriter text (Refusal.Writer e) = HasCode text e
-RefusesWriter text (Refusal.Reader e) = ⊥
-RefusesWriter text (Refusal.Certificate e) = ⊥
-RefusesWriter text Refusal.OutOfMemory = Unit {0}
 
 abbrev pub RefusesReader : List ℕ → Refusal → Type 0
 RefusesReader text (Refusal.Writer e) = ⊥
