@@ -22,7 +22,7 @@ TESTS := avro_rows avro_binary_rows avro_verdict_rows avro_file_rows
 help: ## lists the targets
 	@awk -F ':.*## ' '/^[a-z]+:.*## / { printf "make %-8s %s\n", $$1, $$2 }' $(MAKEFILE_LIST)
 
-# A no and an undecided, with the status 1 or 2, are answers, and no failure of the build; rt ends with these where it fails, too.
+# A no and an undecided, with status 1 or 2, are answers; rt ends with these statuses when the build fails, too.
 try: ## builds the program without any proof, and judges WRITER against READER (three minutes of processor time)
 	@said=$$(cd crates/avro && rt try --data writer.avsc=$(abspath $(WRITER)) --data reader.avsc=$(abspath $(READER)) \
 		-- judge writer.avsc reader.avsc); status=$$?; \
