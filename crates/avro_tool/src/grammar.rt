@@ -52,10 +52,10 @@ fn explain_command<'a>(alloc: Global) -> Result<Command<'a>, AllocError> {
     let pairs = number_option(alloc, "max-pairs")
         .default_value("4194304")
         .help(
-            "Most pairs of nodes that are reached, up to 16777216: a greater N answers 'undecided Pairs'",
+            "Most pairs of nodes that are reached, up to 16777216: raise N where the answer is 'undecided Pairs'",
         );
     Command::new(alloc, "explain")
-        .about("Tells all faults of a reader's schema with a writer's, by names")
+        .about("Lists all faults of a reader's schema with a writer's, by names")
         .arg(writer_file(alloc))?
         .arg(reader_file(alloc))?
         .arg(pairs)?
@@ -191,21 +191,21 @@ fn pairs_option<'a>(alloc: Global) -> Arg<'a> {
     number_option(alloc, "max-pairs")
         .default_value("4194304")
         .help(
-            "Greatest product of the two numbers of nodes, up to 16777216: a greater N answers 'undecided Pairs'",
+            "Greatest product of the two numbers of nodes, up to 16777216: raise N where the answer is 'undecided Pairs'",
         )
 }
 
 /// The option of the greatest number of nodes of a datum that refutes.
 fn size_option<'a>(alloc: Global) -> Arg<'a> {
     number_option(alloc, "max-size").default_value("4096").help(
-        "Most nodes of a datum that fails, up to 1048576: a greater N answers 'undecided Size'",
+        "Most nodes of a datum that fails, up to 1048576: raise N where the answer is 'undecided Size'",
     )
 }
 
 /// The option of the greatest depth of a datum that refutes.
 fn depth_option<'a>(alloc: Global) -> Arg<'a> {
     number_option(alloc, "max-depth").default_value("128").help(
-        "Greatest depth of a datum that fails, up to 256: a greater N answers 'undecided Depth'",
+        "Greatest depth of a datum that fails, up to 256: raise N where the answer is 'undecided Depth'",
     )
 }
 
