@@ -69,7 +69,6 @@ fn confirmed_text(is_confirmed: bool) -> &'static str
 /// # Errors
 ///
 /// The first text that is refused: the writer's, the reader's, the certificate; memory ran out.
-#[tactic(auto, using(crate::proofs::Refused::reader_of_three, crate::proofs::Refused::certificate_of_three))]
 pub fn confirm_text(
     alloc: Global,
     writer: &[u8],

@@ -21,7 +21,6 @@ use std::alloc::{AllocError, Global};
 /// # Errors
 ///
 /// The writer's text is refused, or else the reader's; memory ran out.
-#[tactic(auto, using(crate::proofs::Refused::reader_of_pair))]
 pub fn explain_text(
     alloc: Global,
     writer: &[u8],

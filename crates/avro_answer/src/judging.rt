@@ -60,7 +60,6 @@ pub fn judge_schemas<'a>(
 /// # Errors
 ///
 /// The writer's text is refused, or else the reader's; memory ran out.
-#[tactic(auto, using(crate::proofs::Refused::reader_of_pair))]
 pub fn judge_text(
     alloc: Global,
     writer: &[u8],
