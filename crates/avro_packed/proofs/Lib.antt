@@ -1,3 +1,4 @@
 pub mod Joined
 pub mod Gathering
 pub mod IntoBranches
+pub mod Grouping

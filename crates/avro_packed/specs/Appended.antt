@@ -23,7 +23,8 @@ pub record StandsAt (out : List ℕ) (start end : ℕ) (bytes : List ℕ) : Type
 -- what was written are these bytes
 abbrev pub Holds : List ℕ → Written → List ℕ → Type 0
 Holds out (Written.Range start end) bytes = StandsAt out start end bytes
-Holds out (Written.Apart start end more) bytes = (front : List ℕ) × StandsAt out start end front × (bytes ≡ front ++ more.items)
+Holds out (Written.Apart apart) bytes =
+    (front : List ℕ) × StandsAt out apart.value.start apart.value.end front × (bytes ≡ front ++ apart.value.more.items)
 
 -- the index of the branch that a value goes into, if there is one
 abbrev pub branch_bytes : Option ℕ → List ℕ

@@ -8,7 +8,7 @@ ghost use Rattle.avro_packed.specs.Appended.{Grows, Holds, branch_bytes};
 use crate::flatten::{append_byte, append_number};
 use crate::gathered::Gathered;
 use crate::moving::{append_written, give_back, in_room, join, join_key};
-use crate::written::Written;
+use crate::written::{Apart, Written};
 use avro_binary::Make;
 use std::alloc::{AllocError, Global};
 use std::marker::Model;
@@ -21,7 +21,7 @@ use std::marker::Model;
 #[derive(Drop)]
 pub struct Appending {
     pub(crate) out: Vec<u8>,
-    pub(crate) spares: Vec<Vec<u8>>,
+    pub(crate) spares: Vec<Box<Apart>>,
     pub(crate) slots: Vec<Vec<Option<Written>>>,
 }
 
@@ -143,11 +143,13 @@ impl Appending {
         }
         match i64::try_from(gathered.count) {
             Ok(count) => {
-                let mut bytes = in_room(alloc, &self.out, &mut self.spares, gathered.written)?;
-                append_byte(0, &mut bytes)?;
+                let mut room = in_room(alloc, &self.out, &mut self.spares, gathered.written)?;
+                append_byte(0, &mut room.more)?;
                 let start = self.begin(gathered.branch)?;
                 append_number(count, &mut self.out)?;
-                Ok(Written::Apart(start, self.out.len(), bytes))
+                room.start = start;
+                room.end = self.out.len();
+                Ok(Written::Apart(room))
             }
             Err(_) => Err(AllocError),
         }

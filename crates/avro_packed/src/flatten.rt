@@ -1,11 +1,10 @@
 //! Flattening pieces.
 
-ghost use Rattle.std.specs.Prelude.{◌≡◌, ◌++◌, [], ◌∷◌, length, take, OnOk, OnErr};
-ghost use Rattle.avro_zigzag.specs.Number.{number_bytes};
+ghost use Rattle.std.specs.Prelude.{◌≡◌, ◌++◌, [], ◌∷◌, List, ℕ, length, take, OnOk, OnErr};
+ghost use Rattle.avro_zigzag.specs.Number.{AreLeastGroups, number_bytes, zigzag};
 ghost use Rattle.avro_packed.specs.Pieces.{bytes_of, bytes_of_all};
 
 use crate::pieces::Pieces;
-use crate::spelling::spelling;
 use std::alloc::AllocError;
 
 /// Appends the bytes of pieces, each of which is copied once.
@@ -80,8 +79,36 @@ pub(crate) fn append_number(number: i64, out: &mut Vec<u8>) -> Result<(), AllocE
     ensures appended { OnOk result (out.new.items ≡ out.old.items ++ number_bytes number) }
     ensures kept { take (length out.old.items) out.new.items ≡ out.old.items }
 {
-    let (bytes, len) = spelling(number);
-    append_few(&bytes[..len], out)
+    let folded = to_zigzag(number);
+    if folded < 128 {
+        return append_byte(folded as u8, out);
+    }
+    append_groups(folded, out)
+}
+
+/// The zig-zag number of a number.
+#[inline(always)]
+fn to_zigzag(number: i64) -> u64
+    ensures { result ≡ zigzag number }
+{
+    if number >= 0 {
+        2 * (number as u64)
+    } else {
+        2 * (-(number + 1) as u64) + 1
+    }
+}
+
+/// Appends the groups of a number, no more than it takes.
+fn append_groups(number: u64, out: &mut Vec<u8>) -> Result<(), AllocError>
+    ensures appended { OnOk result ((groups : List ℕ) × AreLeastGroups number groups × (out.new.items ≡ out.old.items ++ groups)) }
+    ensures kept { take (length out.old.items) out.new.items ≡ out.old.items }
+{
+    let mut rest = number;
+    while rest >= 128 {
+        append_byte(128 + (rest % 128) as u8, out)?;
+        rest >>= 7;
+    }
+    append_byte(rest as u8, out)
 }
 
 /// Appends a few bytes one by one, which takes less time than to copy them at once.

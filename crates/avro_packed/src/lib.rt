@@ -27,4 +27,4 @@ pub use pieces::Pieces;
 pub use reading::append_read;
 pub use resolving::append_resolved;
 pub use short::Short;
-pub use written::Written;
+pub use written::{Apart, Written};

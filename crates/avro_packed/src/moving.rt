@@ -6,7 +6,7 @@ ghost use Rattle.avro_packed.specs.Appended.{Holds, StandsAt};
 
 use crate::flatten::append_number;
 use crate::spares::{give, room};
-use crate::written::Written;
+use crate::written::{Apart, Written};
 use std::alloc::{AllocError, Global};
 
 /// Appends the bytes of an output between two offsets to other bytes.
@@ -32,18 +32,24 @@ pub(crate) fn append_written(
 {
     match written {
         Written::Range(start, end) => append_range(out, *start, *end, to),
-        Written::Apart(start, end, more) => {
-            append_range(out, *start, *end, to)?;
-            to.extend_from_slice(more)
-        }
+        Written::Apart(apart) => append_apart(out, apart, to),
     }
 }
 
+/// Appends to other bytes those of an output and of a room.
+#[inline(always)]
+fn append_apart(out: &[u8], apart: &Apart, to: &mut Vec<u8>) -> Result<(), AllocError>
+    ensures { (front : List ℕ) → StandsAt out.now apart.now.start apart.now.end front → OnOk result (to.new.items ≡ to.old.items ++ front ++ apart.now.more.items) }
+{
+    append_range(out, apart.start, apart.end, to)?;
+    to.extend_from_slice(&apart.more)
+}
+
 /// Keeps the room of what was written for later.
-pub(crate) fn give_back(spares: &mut Vec<Vec<u8>>, written: Written) {
+pub(crate) fn give_back(spares: &mut Vec<Box<Apart>>, written: Written) {
     match written {
         Written::Range(_, _) => {}
-        Written::Apart(_, _, bytes) => give(spares, bytes),
+        Written::Apart(room) => give(spares, room),
     }
 }
 
@@ -52,26 +58,25 @@ pub(crate) fn give_back(spares: &mut Vec<Vec<u8>>, written: Written) {
 pub(crate) fn in_room(
     alloc: Global,
     out: &[u8],
-    spares: &mut Vec<Vec<u8>>,
+    spares: &mut Vec<Box<Apart>>,
     written: Written,
-) -> Result<Vec<u8>, AllocError>
-    ensures { (bytes : List ℕ) → Holds out.now written bytes → IfOk result (λ all. all.items ≡ bytes) }
+) -> Result<Box<Apart>, AllocError>
+    ensures { (bytes : List ℕ) → Holds out.now written bytes → IfOk result (λ all. all.value.more.items ≡ bytes) }
 {
     match written {
         Written::Range(start, end) => {
-            let mut bytes = room(alloc, spares);
-            append_range(out, start, end, &mut bytes)?;
-            Ok(bytes)
+            let mut all = room(alloc, spares)?;
+            append_range(out, start, end, &mut all.more)?;
+            Ok(all)
         }
-        Written::Apart(start, end, more) => {
-            if start == end {
-                return Ok(more);
+        Written::Apart(apart) => {
+            if apart.start == apart.end {
+                return Ok(apart);
             }
-            let mut bytes = room(alloc, spares);
-            append_range(out, start, end, &mut bytes)?;
-            bytes.extend_from_slice(&more)?;
-            give(spares, more);
-            Ok(bytes)
+            let mut all = room(alloc, spares)?;
+            append_apart(out, &apart, &mut all.more)?;
+            give(spares, apart);
+            Ok(all)
         }
     }
 }
@@ -83,7 +88,7 @@ fn is_nothing(written: &Written) -> bool
 {
     match written {
         Written::Range(start, end) => *start == *end,
-        Written::Apart(_, _, _) => false,
+        Written::Apart(_) => false,
     }
 }
 
@@ -92,7 +97,7 @@ fn is_nothing(written: &Written) -> bool
 pub(crate) fn join(
     alloc: Global,
     out: &[u8],
-    spares: &mut Vec<Vec<u8>>,
+    spares: &mut Vec<Box<Apart>>,
     first: &mut Written,
     second: Written,
 ) -> Result<(), AllocError>
@@ -109,28 +114,32 @@ pub(crate) fn join(
                     *end = to;
                     return Ok(());
                 }
-                let (start, end) = (*start, *end);
-                let mut bytes = room(alloc, spares);
-                append_range(out, from, to, &mut bytes)?;
-                *first = Written::Apart(start, end, bytes);
+                let mut all = room(alloc, spares)?;
+                append_range(out, from, to, &mut all.more)?;
+                all.start = *start;
+                all.end = *end;
+                *first = Written::Apart(all);
                 Ok(())
             }
-            Written::Apart(from, to, more) => {
+            Written::Apart(apart) => {
                 let (start, end) = (*start, *end);
-                if from == end {
-                    *first = Written::Apart(start, to, more);
+                if apart.start == end {
+                    let mut apart = apart;
+                    apart.start = start;
+                    *first = Written::Apart(apart);
                     return Ok(());
                 }
-                let mut bytes = room(alloc, spares);
-                append_range(out, from, to, &mut bytes)?;
-                bytes.extend_from_slice(&more)?;
-                give(spares, more);
-                *first = Written::Apart(start, end, bytes);
+                let mut all = room(alloc, spares)?;
+                append_apart(out, &apart, &mut all.more)?;
+                give(spares, apart);
+                all.start = start;
+                all.end = end;
+                *first = Written::Apart(all);
                 Ok(())
             }
         },
-        Written::Apart(_, _, bytes) => {
-            append_written(out, &second, bytes)?;
+        Written::Apart(apart) => {
+            append_written(out, &second, &mut apart.more)?;
             give_back(spares, second);
             Ok(())
         }
@@ -141,7 +150,7 @@ pub(crate) fn join(
 #[inline(always)]
 pub(crate) fn join_key(
     alloc: Global,
-    spares: &mut Vec<Vec<u8>>,
+    spares: &mut Vec<Box<Apart>>,
     first: &mut Written,
     key: &[u8],
 ) -> Result<(), AllocError>
@@ -149,13 +158,14 @@ pub(crate) fn join_key(
 {
     match first {
         Written::Range(start, end) => {
-            let (start, end) = (*start, *end);
-            let mut bytes = room(alloc, spares);
-            append_measured(key, &mut bytes)?;
-            *first = Written::Apart(start, end, bytes);
+            let mut all = room(alloc, spares)?;
+            append_measured(key, &mut all.more)?;
+            all.start = *start;
+            all.end = *end;
+            *first = Written::Apart(all);
             Ok(())
         }
-        Written::Apart(_, _, bytes) => append_measured(key, bytes),
+        Written::Apart(apart) => append_measured(key, &mut apart.more),
     }
 }
 

@@ -1,9 +1,9 @@
 //! Buffers that are kept for later, so that an array or a map need not take memory of its own.
 
-ghost use Rattle.std.specs.Prelude.{◌≡◌, []};
+ghost use Rattle.std.specs.Prelude.{◌≡◌, [], IfOk};
 
-use crate::written::Written;
-use std::alloc::Global;
+use crate::written::{Apart, Written};
+use std::alloc::{AllocError, Global};
 
 /// How many rooms are kept at most, and how many bytes each has room for at most.
 const ROOMS: usize = 16;
@@ -11,23 +11,30 @@ const ROOMS: usize = 16;
 const BYTES: usize = 8192;
 
 /// An empty room.
-pub(crate) fn room(alloc: Global, spares: &mut Vec<Vec<u8>>) -> Vec<u8>
-    ensures { result.items ≡ [] }
+pub(crate) fn room(alloc: Global, spares: &mut Vec<Box<Apart>>) -> Result<Box<Apart>, AllocError>
+    ensures { IfOk result (λ room. room.value.more.items ≡ []) }
 {
     match spares.pop() {
-        Some(bytes) => {
-            let mut bytes = bytes;
-            bytes.clear();
-            bytes
+        Some(room) => {
+            let mut room = room;
+            room.more.clear();
+            Ok(room)
         }
-        None => Vec::new(alloc),
+        None => Ok(Box::new(
+            alloc,
+            Apart {
+                start: 0,
+                end: 0,
+                more: Vec::new(alloc),
+            },
+        )?),
     }
 }
 
 /// Keeps a room for later, if few are kept and it is small. If memory runs out it is dropped.
-pub(crate) fn give(spares: &mut Vec<Vec<u8>>, bytes: Vec<u8>) {
-    if bytes.capacity() <= BYTES && spares.len() < ROOMS {
-        match spares.push(bytes) {
+pub(crate) fn give(spares: &mut Vec<Box<Apart>>, room: Box<Apart>) {
+    if room.more.capacity() <= BYTES && spares.len() < ROOMS {
+        match spares.push(room) {
             Ok(()) => {}
             Err(_) => {}
         }

@@ -4,5 +4,13 @@ pub enum Written {
     /// In the output, from one offset to another.
     Range(usize, usize),
     /// In the output, and after these in a room of their own.
-    Apart(usize, usize, Vec<u8>),
+    Apart(Box<Apart>),
+}
+
+/// Bytes of an output, from one offset to another, and those of a room after them.
+#[derive(Debug, Drop)]
+pub struct Apart {
+    pub(crate) start: usize,
+    pub(crate) end: usize,
+    pub(crate) more: Vec<u8>,
 }

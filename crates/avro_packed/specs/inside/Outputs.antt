@@ -24,7 +24,7 @@ stands_still s t start end bytes kept stand = record {
 
 pub still_holds : (s t : List ℕ) (w : Written) (bytes : List ℕ) → Grows s t → Holds s w bytes → Holds t w bytes
 still_holds s t (Written.Range start end) bytes kept holds = stands_still s t start end bytes kept holds
-still_holds s t (Written.Apart start end more) bytes kept holds = (holds.0, stands_still s t start end holds.0 kept holds.1, holds.2)
+still_holds s t (Written.Apart apart) bytes kept holds = (holds.0, stands_still s t apart.value.start apart.value.end holds.0 kept holds.1, holds.2)
 
 -- the end of an output
 pub stands_last : (out before bytes : List ℕ) (start end : ℕ) → out ≡ before ++ bytes → start ≡ length before → end ≡ length out → StandsAt out start end bytes

@@ -1,10 +1,15 @@
-use Rattle.std.proofs.Common.{subst, sym, ap, ◌∙◌, ◌++◌, List, ℕ}
-use Rattle.avro_packed.specs.Appended.{Holds}
-use Rattle.avro_packed.proofs.Gathering.{moved_behind}
+use Rattle.std.proofs.Common.{◌≡◌, ◌++◌, ◌∙◌, List, ℕ, ap, subst, sym, append_assoc}
+use Rattle.std.specs.Prelude.{OnOk}
+use Rattle.avro_packed.specs.Appended.{Holds, StandsAt}
+use Rattle.avro_packed.specs.declared.written.Apart.{Apart}
 use Rattle.avro_packed.proofs.moving.append_written.Goals as goal
 
-pub returns-in_ok-append_range-in-Apart : goal.returns-in_ok-append_range-in-Apart
-returns-in_ok-append_range-in-Apart c = λ bytes holds.
-    let apart = subst (λ w. Holds c.args.out.now w bytes) c.in-Apart.is holds in
-    moved_behind c.extend_from_slice.result c.args.to.now.items c.append_range-in-Apart.new.to.items c.extend_from_slice.new.self.items apart.0 c.deref.result.now bytes
-    (c.in_ok-append_range-in-Apart.ensures apart.0 apart.1) (apart.2 ∙ ap (λ (l : List ℕ). apart.0 ++ l) (sym c.deref.ensures.value)) c.extend_from_slice.ensures.items
+pub returns-in-Apart : goal.returns-in-Apart
+returns-in-Apart c = λ bytes holds.
+    let out = c.args.out.now in
+    let old = c.args.to.now.items in
+    let apart = subst (λ w. Holds out w bytes) c.in-Apart.is holds in
+    let here = subst (λ (r : Apart). StandsAt out r.start r.end apart.0) (sym c.deref.ensures) apart.1 in
+    subst (λ (l : List ℕ). OnOk c.append_apart.result (c.append_apart.new.to.items ≡ l))
+    (append_assoc old apart.0 c.deref.result.now.more.items ∙ ap (λ (l : List ℕ). old ++ l) (ap (λ (r : Apart). apart.0 ++ r.more.items) c.deref.ensures ∙ sym apart.2))
+    (c.append_apart.ensures apart.0 here)

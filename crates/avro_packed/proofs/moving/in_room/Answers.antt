@@ -1,11 +1,14 @@
-use Rattle.std.proofs.Common.{◌≡◌, ◌++◌, ◌∙◌, List, ℕ, ap, subst, rules}
-use Rattle.avro_packed.specs.Appended.{Holds}
+use Rattle.std.proofs.Common.{◌≡◌, ◌++◌, ◌∙◌, List, [], ℕ, ap, subst, sym}
+use Rattle.avro_packed.specs.Appended.{Holds, StandsAt}
+use Rattle.avro_packed.specs.declared.written.Apart.{Apart}
 use Rattle.avro_packed.proofs.moving.in_room.Goals as goal
 
-pub returns-in_ok-extend_from_slice-in-Apart : goal.returns-in_ok-extend_from_slice-in-Apart
-returns-in_ok-extend_from_slice-in-Apart c = λ bytes holds.
-    let apart = subst (λ w. Holds c.args.out.now w bytes) c.in-Apart.is holds in
-    let moved : c.append_range-in-Apart.new.to.items ≡ apart.0 =
-    c.in_ok-append_range-in-Apart.ensures apart.0 apart.1 ∙ ap (λ (l : List ℕ). l ++ apart.0) c.room-bytes-in-Apart.ensures in
-    let all : c.extend_from_slice.new.self.items ≡ c.append_range-in-Apart.new.to.items ++ c.deref.result.now = search rules in
-    cc (all, moved, c.deref.ensures.value, apart.2)
+pub returns-in_ok-append_apart-in-Apart : goal.returns-in_ok-append_apart-in-Apart
+returns-in_ok-append_apart-in-Apart c = λ bytes holds.
+    let out = c.args.out.now in
+    let apart = subst (λ w. Holds out w bytes) c.in-Apart.is holds in
+    let here = subst (λ (r : Apart). StandsAt out r.start r.end apart.0) (sym c.deref-in-Apart-2.ensures) apart.1 in
+    let empty : c.deref_mut-in-Apart.result.now.more.items ≡ [] =
+    ap (λ (r : Apart). r.more.items) c.deref_mut-in-Apart.ensures.value ∙ c.in_ok-all-in-Apart.ensures in
+    c.in_ok-append_apart-in-Apart.ensures apart.0 here ∙ ap (λ (l : List ℕ). (l ++ apart.0) ++ c.deref-in-Apart-2.result.now.more.items) empty
+    ∙ ap (λ (r : Apart). apart.0 ++ r.more.items) c.deref-in-Apart-2.ensures ∙ sym apart.2

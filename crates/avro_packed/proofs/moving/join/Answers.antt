@@ -1,6 +1,7 @@
 use Rattle.std.proofs.Common.{◌≡◌, ◌++◌, ◌∙◌, List, [], ℕ, ap, subst, sym, rules}
 use Rattle.avro_packed.specs.Appended.{Holds, StandsAt}
 use Rattle.avro_packed.specs.inside.Outputs.{stands_joined, holds_joined}
+use Rattle.avro_packed.specs.declared.written.Apart.{Apart}
 use Rattle.avro_packed.proofs.moving.join.Goals as goal
 
 pub returns-then-is_nothing : goal.returns-then-is_nothing
@@ -15,20 +16,27 @@ returns-then-from-end c = λ a b first second.
     let back = subst (λ w. Holds out w b) c.in-Range-second.is second in
     stands_joined out c.in-Range.start c.in-Range.end c.in-Range-second.to a b front (subst (λ n. StandsAt out n c.in-Range-second.to b) c.if-from-end.true back)
 
-pub returns-then-from-end-2 : goal.returns-then-from-end-2
-returns-then-from-end-2 c = λ a b first second.
+pub returns-then-deref-end : goal.returns-then-deref-end
+returns-then-deref-end c = λ a b first second.
     let out = c.args.out.now in
     let front = subst (λ w. Holds out w a) c.in-Range.is first in
     let back = subst (λ w. Holds out w b) c.in-Apart-second.is second in
-    holds_joined out c.in-Range.start c.in-Range.end c.in-Apart-second.to c.in-Apart-second.more.items a b back.0 front
-    (subst (λ n. StandsAt out n c.in-Apart-second.to back.0) c.if-from-end-2.true back.1) back.2
+    let room = c.in-Apart-second.apart.value in
+    let starts : room.start ≡ c.in-Range.end = ap (λ (r : Apart). r.start) (sym c.deref.ensures) ∙ c.if-deref-end.true in
+    let joined = holds_joined out c.in-Range.start c.in-Range.end room.end room.more.items a b back.0 front (subst (λ n. StandsAt out n room.end back.0) starts back.1) back.2 in
+    subst (λ (r : Apart). (x : List ℕ) × StandsAt out c.in-Range.start r.end x × (a ++ b ≡ x ++ r.more.items)) (sym c.deref_mut-then-deref-end.ensures.value) joined
 
-pub returns-in_ok-extend_from_slice-in-Apart-second : goal.returns-in_ok-extend_from_slice-in-Apart-second
-returns-in_ok-extend_from_slice-in-Apart-second c = λ a b first second.
+pub returns-in_ok-append_apart-in-Apart-second : goal.returns-in_ok-append_apart-in-Apart-second
+returns-in_ok-append_apart-in-Apart-second c = λ a b first second.
     let out = c.args.out.now in
     let front = subst (λ w. Holds out w a) c.in-Range.is first in
     let back = subst (λ w. Holds out w b) c.in-Apart-second.is second in
-    let moved : c.append_range-in-Apart-second.new.to.items ≡ back.0 =
-    c.in_ok-append_range-in-Apart-second.ensures back.0 back.1 ∙ ap (λ (l : List ℕ). l ++ back.0) c.room-bytes-in-Apart-second.ensures in
-    let all : c.extend_from_slice.new.self.items ≡ c.append_range-in-Apart-second.new.to.items ++ c.deref.result.now = search rules in
-    (a, front, ap (λ (l : List ℕ). a ++ l) (cc (all, moved, c.deref.ensures.value, back.2)))
+    let here = subst (λ (r : Apart). StandsAt out r.start r.end back.0) (sym c.deref-in-Apart-second.ensures) back.1 in
+    let empty : c.deref_mut-in-Apart-second.result.now.more.items ≡ [] =
+    ap (λ (r : Apart). r.more.items) c.deref_mut-in-Apart-second.ensures.value ∙ c.in_ok-all-in-Apart-second.ensures in
+    let all : c.append_apart.new.to.items ≡ b =
+    c.in_ok-append_apart-in-Apart-second.ensures back.0 here ∙ ap (λ (l : List ℕ). (l ++ back.0) ++ c.deref-in-Apart-second.result.now.more.items) empty
+    ∙ ap (λ (r : Apart). back.0 ++ r.more.items) c.deref-in-Apart-second.ensures ∙ sym back.2 in
+    let start : c.deref_mut-in-Apart-second-3.result.now.start ≡ c.in-Range.start = search rules in
+    let more : c.deref_mut-in-Apart-second-3.result.now.more.items ≡ c.append_apart.new.to.items = search rules in
+    (a, subst (λ n. StandsAt out n c.in-Range.end a) (sym start) front, ap (λ (l : List ℕ). a ++ l) (sym (more ∙ all)))
