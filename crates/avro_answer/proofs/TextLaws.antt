@@ -1,9 +1,7 @@
 -- What answers say of all schemas that the texts declare: each declares one.
-use Rattle.std.proofs.Common.{◌≡◌, ℕ, true, List, Some, refl, sym, ◌∙◌, ap, subst}
-use Rattle.std.specs.Prelude.{Option}
+use Rattle.std.proofs.Common.{◌≡◌, ℕ, true, List, Some, sym, ◌∙◌, ap, subst}
 use Rattle.avro_schema.specs.Node.{Node}
 use Rattle.avro_schema.specs.WellFormed.{is_schema}
-use Rattle.avro_schema_json.specs.Declaration.{HasTree}
 use Rattle.avro_schema_json.specs.DeclaredSchema.{DeclaresSchema, declared}
 use Rattle.avro_schema_json.specs.DeclaredText.{DeclaresText}
 use Rattle.avro_certificate.specs.Compatible.{AreCompatible}

@@ -1,5 +1,5 @@
 -- What is answered of a verdict that is right.
-use Rattle.std.proofs.Common.{◌≡◌, ◌↔◌, ℕ, ◌<◌, ◌≤◌, ◌*◌, ◌-◌, ◌^◌, Bool, true, false, List, ◌++◌, inl, inr, refl, sym, ap, subst, arith, length}
+use Rattle.std.proofs.Common.{◌≡◌, ℕ, ◌<◌, ◌≤◌, ◌*◌, ◌-◌, ◌^◌, Bool, true, false, List, ◌++◌, inl, inr, refl, sym, ap, subst, arith, length}
 use Rattle.std.proofs.lemmas.List.{append_cancel_left}
 use Rattle.std.specs.Prelude.{codes, slice_get, unwrap_or, nat_lt}
 use Rattle.avro_schema.specs.Fits.{fits}
