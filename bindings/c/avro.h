@@ -6,7 +6,7 @@
  * NULL, also for a length of 0. A schema's text of more than 1,048,576 bytes is refused with S12.
  *
  * The answer's text. It is what the program prints, without a zero byte at its end. `out` has room for `room` bytes and
- * is never NULL; the call puts there as much of the text as there is room for, and changes nothing behind it. `wanted`
+ * is never NULL; the call puts there as much of the text as there is room for, and changes nothing after it. `wanted`
  * gets the length of the whole text: where it is greater than `room`, the text was cut, and the same call with `wanted`
  * bytes of room gives all of it. `out` and `wanted` overlap with nothing else that the call takes.
  *
