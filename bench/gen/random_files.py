@@ -361,5 +361,7 @@ def case(choose, kind):
         ("check", ["check", "file.avro"]), ("show", ["show", "file.avro"]), ("show --reader", ["show", "file.avro", *by_reader]),
         ("copy", ["copy", "file.avro", "out.avro"]), ("copy --reader", ["copy", "file.avro", "out.avro", *by_reader]),
         ("copy --sync", ["copy", "file.avro", "out.avro", "--sync", OTHER_SYNC]),
+        ("check --json", ["check", "file.avro", "--json"]), ("show --limit", ["show", "file.avro", "--limit", "2"]),
+        ("header", ["header", "file.avro"]), ("header --metadata", ["header", "file.avro", "--metadata"]),
     ]
     return files, commands

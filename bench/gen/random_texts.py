@@ -345,7 +345,11 @@ def case(choose, kind):
     words = ["writer.avsc", "reader.avsc"]
     commands = [
         ("judge", ["judge", *words]), (CERTIFIED, ["judge", *words, "--certificate", "out.cert", "--refutation", "out.avro"]),
-        ("confirm any", ["confirm", *words, "any.cert"]),
+        ("confirm any", ["confirm", *words, "any.cert"]), ("confirm --json", ["confirm", *words, "any.cert", "--json"]),
+        ("judge --json", ["judge", *words, "--json"]), ("judge --max-size", ["judge", *words, "--max-size", "3"]),
+        ("explain", ["explain", *words]), ("explain --json", ["explain", *words, "--json"]),
+        ("history --mode", ["history", *words, "writer.avsc", "--mode", "full", "--next"]),
+        ("history --json", ["history", *words, "--json", "--mode", "full"]),
     ]
     if choose.randrange(4) == 0:
         commands.append(("history", ["history", *words, "writer.avsc", "reader.avsc", "--certificates", "out.cert"]))
