@@ -1,10 +1,11 @@
 //! Flattening pieces.
 
 ghost use Rattle.std.specs.Prelude.{◌≡◌, ◌++◌, [], ◌∷◌, List, ℕ, length, take, OnOk, OnErr};
-ghost use Rattle.avro_zigzag.specs.Number.{AreLeastGroups, number_bytes, zigzag};
+ghost use Rattle.avro_zigzag.specs.Number.{AreLeastGroups, number_bytes};
 ghost use Rattle.avro_packed.specs.Pieces.{bytes_of, bytes_of_all};
 
 use crate::pieces::Pieces;
+use avro_zigzag::to_zigzag;
 use std::alloc::AllocError;
 
 /// Appends the bytes of pieces, each of which is copied once.
@@ -84,18 +85,6 @@ pub(crate) fn append_number(number: i64, out: &mut Vec<u8>) -> Result<(), AllocE
         return append_byte(folded as u8, out);
     }
     append_groups(folded, out)
-}
-
-/// The zig-zag number of a number.
-#[inline(always)]
-fn to_zigzag(number: i64) -> u64
-    ensures { result ≡ zigzag number }
-{
-    if number >= 0 {
-        2 * (number as u64)
-    } else {
-        2 * (-(number + 1) as u64) + 1
-    }
 }
 
 /// Appends the groups of a number, no more than it takes.

@@ -1,7 +1,7 @@
 //! The numbers of Avro's binary encoding: zig-zag, and then groups of seven bits.
 //!
 //! [`read_long`] and [`read_int`] read the number at the front of bytes, padded or not, or return a [`VarError`];
-//! [`write_long`] writes the shortest spelling.
+//! [`write_long`] writes the shortest spelling, and [`to_zigzag`] gives the number whose groups those are.
 #![tactic(auto)]
 
 pub mod laws;
@@ -10,7 +10,7 @@ pub mod write;
 
 pub use read::{read_int, read_long};
 use thiserror::Error;
-pub use write::write_long;
+pub use write::{to_zigzag, write_long};
 
 /// Why no number can be read at the front of some bytes.
 #[derive(Clone, Copy, Debug, PartialEq, Eq, Hash, Error)]

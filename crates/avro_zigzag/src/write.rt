@@ -4,8 +4,10 @@ ghost use Rattle.std.specs.Prelude.{◌≡◌, ℕ, ◌≤◌, take, slice_index
 ghost use Rattle.avro_zigzag.specs.Number.{zigzag, AreLeastGroups, IsShortest};
 
 /// The zig-zag number of `value`: small for a value near 0 on either side.
+///
+/// Avro 1.11, "Binary Encoding", "Primitive Types".
 #[inline(always)]
-fn to_zigzag(value: i64) -> u64
+pub fn to_zigzag(value: i64) -> u64
     ensures { result ≡ zigzag value }
 {
     if value >= 0 {
