@@ -7,7 +7,7 @@ use Rattle.avro_zigzag.specs.declared.VarError.TheVariants.{EndOfInput, OutOfRan
 use Rattle.avro_binary.specs.Fault.{ReadFault, end_of_input, invalid_number, invalid_boolean, invalid_text, unknown_index, invalid_length, wrong_block_size, duplicate_key, limit_exceeded, behind}
 use Rattle.avro_binary.specs.Breaks.{LongBreaks, StartsWithLong, ContentBreaks}
 use Rattle.avro_binary.proofs.public.Behind.{behind-add}
-use Rattle.avro_container.specs.declared.part_error.PartError.{PartError}
+use Rattle.avro_container.specs.declared.input.PartError.{PartError}
 use Rattle.avro_container.specs.declared.error.CopyError.{CopyError}
 use Rattle.avro_container.specs.FileFault.{FileFault, in_header, invalid_metadata}
 use Rattle.avro_container.specs.FileSeen.{file_fault, header_part_fault}

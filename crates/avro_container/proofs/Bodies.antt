@@ -2,7 +2,7 @@
 use Rattle.std.proofs.Common.{◌≡◌, ℕ, ◌+◌, ◌<◌, ◌≤◌, List, ◌++◌, length, take, drop, Some, refl, sym, ap, subst, ◌∙◌, arith, append_assoc}
 use Rattle.std.proofs.lemmas.List.{drop-drop, length-drop}
 use Rattle.std.proofs.lemmas.Option.{same_Some, none-some}
-use Rattle.avro_container.specs.declared.part_error.PartError.{PartError}
+use Rattle.avro_container.specs.declared.input.PartError.{PartError}
 use Rattle.avro_container.specs.FileFault.{FileFault, in_block, cut_block, other_marker}
 use Rattle.avro_container.specs.FileSeen.{part_fault}
 use Rattle.avro_container.specs.inside.Filled.{GrowsBy, UnlessDevice}

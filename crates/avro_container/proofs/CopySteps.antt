@@ -2,9 +2,9 @@
 use Rattle.std.proofs.Common.{◌≡◌, ℕ, ◌+◌, ◌-◌, ◌*◌, ◌≤◌, List, [], ◌∷◌, ◌++◌, Some, None, Ok, Err, refl, sym, ap, subst, ◌∙◌, arith, append-nil}
 use Rattle.std.specs.List.{sum}
 use Rattle.std.proofs.lemmas.List.Sums.{sum_by_push}
-use Rattle.avro_container.specs.declared.copier_type.Copier.{Copier}
+use Rattle.avro_container.specs.declared.copying.copier.Copier.{Copier}
 use Rattle.avro_container.specs.declared.error.CopyError.{CopyError}
-use Rattle.avro_container.specs.declared.step.Step.{Step}
+use Rattle.avro_container.specs.declared.copying.Step.{Step}
 use Rattle.avro_container.specs.Copied.{Job}
 use Rattle.avro_container.specs.FileFault.{FileFault}
 use Rattle.avro_container.specs.FileSeen.{file_fault}

@@ -12,7 +12,7 @@ use Rattle.avro_container.specs.FileFault.{FileFault, in_header, invalid_metadat
 use Rattle.avro_container.specs.inside.HeaderParts.{PartStops, LengthBreaks, LengthWants, Stretch}
 use Rattle.avro_container.specs.inside.Filled.{GrowsBy}
 use Rattle.avro_container.specs.inside.MetadataParts.{TakesHead}
-use Rattle.avro_container.specs.declared.properties_head.PropertiesHead.{PropertiesHead}
+use Rattle.avro_container.specs.declared.header.properties_head.PropertiesHead.{PropertiesHead}
 use Rattle.avro_container.proofs.PropertyRuns.{stretch_join, stretch_grown}
 use Rattle.avro_container.proofs.Behind.{stops-as, stops-whole}
 

@@ -13,7 +13,7 @@ use Rattle.avro_container.specs.HeaderFails.{HeaderFails, EndsIn, MetadataStands
 use Rattle.avro_container.specs.HeaderTaken.{IsHeaderFault, TakesHeaderFault}
 use Rattle.avro_container.specs.inside.MetadataParts.{MetadataEnds}
 use Rattle.avro_container.specs.declared.error.CopyError.{CopyError}
-use Rattle.avro_container.specs.declared.part_error.PartError.{PartError}
+use Rattle.avro_container.specs.declared.input.PartError.{PartError}
 use Rattle.avro_container.proofs.PropertyRuns.{stretch_grown}
 
 -- ---- The magic

@@ -12,7 +12,7 @@ use Rattle.avro_container.specs.inside.Filled.{GrowsBy}
 use Rattle.avro_container.specs.HeaderFails.{PropertyWants, entry_limits}
 use Rattle.avro_container.specs.inside.HeaderParts.{Stretch, AreNames, names_of, left_after, PropertyBreaks, RunStops, PartStops, TakesProperties}
 use Rattle.avro_container.specs.inside.MetadataParts.{Blocks, BlockRun, MetadataRun, MetadataSoFar, MetadataEnds, TakesHead, metadata_left}
-use Rattle.avro_container.specs.declared.properties_head.PropertiesHead.{PropertiesHead}
+use Rattle.avro_container.specs.declared.header.properties_head.PropertiesHead.{PropertiesHead}
 use Rattle.avro_container.proofs.Behind.{stops-whole}
 use Rattle.avro_container.proofs.PropertyRuns.{stretch_none, stretch_join, stretch_grown, names-append, run_whole}
 use Rattle.avro_container.proofs.MetadataRuns.{metadata_none, metadata_push, metadata_whole, block_whole, head_few, groups-some}

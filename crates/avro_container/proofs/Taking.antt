@@ -2,7 +2,7 @@
 use Rattle.std.proofs.Common.{◌≡◌, ◌≢◌, refl, ℕ, ◌+◌, ◌-◌, ◌≤◌, max, List, [], ◌++◌, length, take, drop, sym, ap, ◌∙◌, arith, append_assoc, append-nil, length-append}
 use Rattle.std.proofs.lemmas.List.{take-append-drop}
 use Rattle.avro_container.specs.declared.error.CopyError.{CopyError}
-use Rattle.avro_container.specs.declared.part_error.PartError.{PartError}
+use Rattle.avro_container.specs.declared.input.PartError.{PartError}
 use Rattle.avro_container.specs.inside.Filled.{GrowsBy, TakesAtMost, UnlessDevice}
 use Rattle.avro_container.specs.PutFront.{PutsFrontOf}
 

@@ -1,8 +1,8 @@
 -- How contracts see a copier, and what a step answers.
 use Rattle.std.specs.Prelude.{option_map, Result, Ok, Err}
-use Rattle.avro_container.specs.declared.copier_type.Copier.{Copier}
+use Rattle.avro_container.specs.declared.copying.copier.Copier.{Copier}
 use Rattle.avro_container.specs.declared.error.CopyError.{CopyError}
-use Rattle.avro_container.specs.declared.step.Step.{Step}
+use Rattle.avro_container.specs.declared.copying.Step.{Step}
 use Rattle.avro_container.specs.BlockFails.{FileLimitValues}
 use Rattle.avro_container.specs.Copied.{Job}
 use Rattle.avro_container.specs.FileSeen.{file_fault}

@@ -1,8 +1,8 @@
 -- What a step and a copy do to their devices.
 use Rattle.std.specs.Prelude.{ℕ, List, Result, Ok}
-use Rattle.avro_container.specs.declared.copier_type.Copier.{Copier}
+use Rattle.avro_container.specs.declared.copying.copier.Copier.{Copier}
 use Rattle.avro_container.specs.declared.error.CopyError.{CopyError}
-use Rattle.avro_container.specs.declared.step.Step.{Step}
+use Rattle.avro_container.specs.declared.copying.Step.{Step}
 use Rattle.avro_container.specs.BlockFails.{FileLimitValues}
 use Rattle.avro_container.specs.Copied.{Job}
 use Rattle.avro_container.specs.CopierSeen.{stored_of, job_in, limits_in, outcome_of}

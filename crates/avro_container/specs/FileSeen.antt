@@ -7,7 +7,7 @@ use Rattle.avro_container.specs.declared.error.CopyError.{CopyError}
 use Rattle.avro_container.specs.declared.error.CountError.{CountError}
 use Rattle.avro_container.specs.declared.error.LimitPlace.{LimitPlace}
 use Rattle.avro_zigzag.specs.declared.VarError.TheVariants.{OutOfRange}
-use Rattle.avro_container.specs.declared.part_error.PartError.{PartError}
+use Rattle.avro_container.specs.declared.input.PartError.{PartError}
 use Rattle.avro_container.specs.FileFault.{FileFault, in_header, in_block, CountFault, no_magic, invalid_metadata, no_schema, refused_schema, unknown_codec, long_header, cut_header, invalid, negative, invalid_count, bytes_left, other_marker, limit_passed, large_datum, invalid_datum, unresolved_datum, cut_block}
 
 -- why a count is none

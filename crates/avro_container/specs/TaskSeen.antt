@@ -4,7 +4,7 @@ use Rattle.std.specs.Option.{option_copied}
 use Rattle.std.specs.Borrow.{Bor}
 use Rattle.avro_schema.specs.declared.schema.Schema.{Schema}
 use Rattle.avro_schema.specs.SeenSchema.{schema_nodes}
-use Rattle.avro_container.specs.declared.task.Task.{Task}
+use Rattle.avro_container.specs.declared.copying.state.Task.{Task}
 use Rattle.avro_container.specs.Copied.{Job}
 use Rattle.avro_container.specs.DataRead.{resolution}
 

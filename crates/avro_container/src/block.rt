@@ -12,12 +12,16 @@ ghost use Rattle.avro_container.specs.DataRead.{FitAll, IsDataFault, StandForDat
 ghost use Rattle.avro_container.specs.FileFault.{FileFault};
 ghost use Rattle.avro_container.specs.FileSeen.{file_fault};
 
-use crate::datum_read::datum_error;
+pub(crate) mod blocks;
+pub(crate) mod checker;
+pub(crate) mod datum;
+pub(crate) mod frame;
+pub(crate) mod head;
+
+use crate::block::datum::{datum_error, read_by_plan, walk_data};
 use crate::error::CopyError;
 use crate::header::Header;
 use crate::limits::FileLimits;
-use crate::planned::read_by_plan;
-use crate::walked::walk_data;
 use avro_binary::Build;
 use avro_resolve::laws::resolved_fits;
 use avro_resolve::{Plan, PlanRef};

@@ -8,14 +8,41 @@ ghost use Rattle.avro_container.specs.FileSeen.{file_fault};
 ghost use Rattle.avro_container.specs.Named.{IsNamed};
 ghost use Rattle.avro_container.specs.TaskSeen.{job_from};
 
-use crate::copier_type::Copier;
+mod block;
+pub(crate) mod copier;
+mod datum;
+mod header;
+mod opened;
+mod packing;
+mod state;
+
+use crate::copying::copier::Copier;
+use crate::device::putting::put_rest;
 use crate::device::{Input, Output};
 use crate::error::CopyError;
 use crate::limits::FileLimits;
-use crate::putting::put_rest;
-use crate::step::{Counts, Step};
 use avro_schema_json::ReaderText;
 use std::alloc::Global;
+
+/// What a step of a copy did.
+#[derive(Clone, Copy, Debug, PartialEq, Eq)]
+pub enum Step {
+    /// It put the header.
+    Header,
+    /// It put a block, which has this number of data.
+    Block(u64),
+    /// The input has reported its end.
+    End,
+}
+
+/// How many data and blocks a file has.
+#[derive(Clone, Copy, Debug, PartialEq, Eq)]
+pub struct Counts {
+    /// The data of all blocks.
+    pub items: u64,
+    /// The blocks.
+    pub blocks: u64,
+}
 
 /// Copies a whole file in one pass, and returns how many data and blocks it has: each datum as what
 /// it is for the reader, if there is one, and in its plain encoding. `sync` is the marker of the

@@ -11,9 +11,9 @@ ghost use Rattle.avro_container.specs.Parts.{block_part, header_part, properties
 ghost use Rattle.avro_container.specs.PutFront.{PutsFrontOf};
 
 use crate::device::Output;
+use crate::device::putting::put_all;
 use crate::error::CopyError;
-use crate::header_ends::MAGIC;
-use crate::putting::put_all;
+use crate::header::frame::MAGIC;
 use avro_zigzag::write_long;
 use std::alloc::{AllocError, Global};
 

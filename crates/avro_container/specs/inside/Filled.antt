@@ -1,7 +1,7 @@
 -- What filling a buffer does, where `gives` says which bytes an input moved between two states.
 use Rattle.std.specs.Prelude.{◌≡◌, ◌≢◌, ℕ, ◌≤◌, List, ◌++◌, length, Result, Ok, Err}
 use Rattle.avro_container.specs.declared.error.CopyError.{CopyError}
-use Rattle.avro_container.specs.declared.part_error.PartError.{PartError}
+use Rattle.avro_container.specs.declared.input.PartError.{PartError}
 
 -- the buffer grew by what was taken
 pub record GrowsBy {I : Type 0} (gives : I → List ℕ → I → Type 0) (from to : I) (old new : List ℕ) : Type 0 where

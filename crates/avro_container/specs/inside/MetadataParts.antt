@@ -12,7 +12,7 @@ use Rattle.avro_binary.specs.Fault.{ReadFault, behind}
 use Rattle.avro_binary.specs.Breaks.{Left, all_left, Head, head_count, IsHead, HasSize, BlocksBreak, EntriesAreWhole}
 use Rattle.avro_container.specs.File.{Property, metadata_nodes, metadata_value}
 use Rattle.avro_container.specs.HeaderFails.{PropertyWants, entry_limits}
-use Rattle.avro_container.specs.declared.properties_head.PropertiesHead.{PropertiesHead}
+use Rattle.avro_container.specs.declared.header.properties_head.PropertiesHead.{PropertiesHead}
 use Rattle.avro_container.specs.inside.HeaderParts.{AreNames, Stretch, names_of, EachProperty, PropertiesRun, left_after, PropertyBreaks}
 
 abbrev pub Blocks : (Left → List ℕ → ReadFault → Type 0) → Left → List ℕ → ReadFault → Type 0

@@ -1,0 +1,15 @@
+-- Why it is not known whether a block begins.
+use Rattle.std.proofs.Common.{Err, ap}
+use Rattle.avro_container.proofs.Taking.{unless_failed}
+use Rattle.avro_container.proofs.Heads.{err_inj}
+use Rattle.avro_container.proofs.block.head.begins_block.Goals as goal
+
+pub returns-in-Err-clause-taken : goal.returns-in-Err-clause-taken
+returns-in-Err-clause-taken g c = λ other.
+    unless_failed c.in-Err.error c.block_error.result c.block_error.ensures.failed c.in-Err.ensures.taken (λ is. other (ap Err is))
+
+pub returns-in-Err-clause-fails : goal.returns-in-Err-clause-fails
+returns-in-Err-clause-fails g c = λ q. c.in-Err.ensures.fails (ap Err (c.block_error.ensures.device (err_inj _ _ _ q)))
+
+pub returns-in-Err-Ended-clause-works : goal.returns-in-Err-Ended-clause-works
+returns-in-Err-Ended-clause-works g c = c.in-Err-Ended.ensures.still (ap Err c.in-Err-Ended.field-0-is)

@@ -1,0 +1,141 @@
+//! Bytes that were taken from an input and are not used yet.
+
+ghost use Rattle.std.specs.Prelude.{◌≡◌, ◌≢◌, ◌+◌, ◌^◌, ◌<◌, ◌≤◌, [], length, drop, IfOk, OnOk, OnErr, Err};
+ghost use Rattle.avro_container.specs.inside.Filled.{GrowsBy, TakesAtMost};
+
+use crate::device::Input;
+use std::alloc::{AllocError, Global};
+
+/// The most bytes that a buffer grows by ahead of what has arrived.
+pub(crate) const GROWTH: usize = 65_536;
+
+/// Why nothing was taken.
+#[derive(Clone, Copy, Debug)]
+pub(crate) enum TakeError {
+    /// The input failed in this call.
+    Device,
+    /// Memory ran out, before the call.
+    OutOfMemory,
+}
+
+impl From<AllocError> for TakeError {
+    ghost use Rattle.avro_container.specs.declared.input.buffer.TakeError.TheVariants.{OutOfMemory};
+
+    ghost from_gives = { λ _ error. error ≡ OutOfMemory };
+
+    fn from(_error: AllocError) -> TakeError {
+        TakeError::OutOfMemory
+    }
+}
+
+/// Bytes that were taken, from `start` to `end` of a room.
+///
+/// The room stays when bytes are passed, and is filled again: a take writes zeros only where there was no room before.
+#[derive(Drop)]
+pub(crate) struct Buffer {
+    room: Vec<u8>,
+    start: usize,
+    end: usize,
+    ghost ordered: { start ≤ end },
+    ghost within: { end ≤ length room.items },
+}
+
+impl Buffer {
+    ghost use Rattle.avro_container.specs.Held.{held, free};
+
+    /// An empty buffer.
+    pub(crate) fn new(alloc: Global) -> Buffer
+        ensures { held result ≡ [] }
+    {
+        Buffer {
+            room: Vec::new(alloc),
+            start: 0,
+            end: 0,
+        }
+    }
+
+    /// The bytes that it holds.
+    pub(crate) fn bytes(&self) -> &[u8]
+        ensures { result.now ≡ held self.now }
+    {
+        &self.room[self.start..self.end]
+    }
+
+    /// How many bytes it holds.
+    pub(crate) fn len(&self) -> usize
+        ensures { result ≡ length (held self.now) }
+    {
+        self.end - self.start
+    }
+
+    /// Drops a number of bytes at the front.
+    pub(crate) fn pass(&mut self, count: usize)
+        requires { count ≤ length (held self.old) }
+        ensures { held self.new ≡ drop count (held self.old) }
+    {
+        self.start += count;
+    }
+
+    /// Moves the bytes to the front of the room.
+    fn move_to_front(&mut self)
+        ensures same { held self.new ≡ held self.old }
+        ensures front { free self.new + length (held self.new) ≡ length self.new.room.items }
+    {
+        let (start, end) = (self.start, self.end);
+        self.room.as_mut_slice().copy_within(start..end, 0);
+        self.start = 0;
+        self.end = end - start;
+    }
+
+    /// Makes room for a number of bytes more, and for [`GROWTH`] at least if there is too little, so that a buffer that is
+    /// asked for a few bytes again and again is not moved for each.
+    fn make_room(&mut self, count: usize) -> Result<(), AllocError>
+        requires { length (held self.old) + count < 2 ^ 64 }
+        ensures same { held self.new ≡ held self.old }
+        ensures room { OnOk result (count ≤ free self.new) }
+    {
+        if self.room.len() - self.end >= count {
+            return Ok(());
+        }
+        self.move_to_front();
+        let end = self.end.saturating_add(count.max(GROWTH));
+        if self.room.len() < end {
+            self.room.reserve_exact(end - self.room.len())?;
+            self.room.resize(end, 0)?;
+        }
+        Ok(())
+    }
+
+    /// One take of at most a number of bytes, after those that it holds.
+    ///
+    /// # Errors
+    ///
+    /// `Device` or `OutOfMemory`; it holds what it held before.
+    pub(crate) fn take_more<I: Input>(
+        &mut self,
+        input: &mut I,
+        most: usize,
+    ) -> Result<usize, TakeError>
+        requires some { 0 < most }
+        requires fits { length (held self.old) + most < 2 ^ 64 }
+        ensures taken { OnOk result (GrowsBy I.gives input.old input.new (held self.old) (held self.new)) }
+        ensures count { IfOk result (λ n. length (held self.new) ≡ length (held self.old) + n) }
+        ensures within { IfOk result (λ n. n ≤ most) }
+        ensures end { IfOk result (λ n. n ≡ 0 → I.ended input.new) }
+        ensures works { OnOk result (I.failures input.new ≡ I.failures input.old) }
+        ensures fails { result ≡ Err TakeError.Device → I.failures input.new ≢ I.failures input.old }
+        ensures lost { OnErr result (TakesAtMost I.gives input.old input.new most) }
+        ensures not_taken { result ≡ Err TakeError.OutOfMemory → input.new ≡ input.old }
+        ensures same { OnErr result (held self.new ≡ held self.old) }
+    {
+        self.make_room(most)?;
+        let (start, end) = (self.end, self.end + most);
+        match input.take(&mut self.room[start..end]) {
+            Ok(count) => {
+                self.end += count;
+                Ok(count)
+            }
+            Err(_fault) => Err(TakeError::Device),
+        }
+    }
+}
