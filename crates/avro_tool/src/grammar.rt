@@ -1,6 +1,6 @@
 //! The words that the program takes.
 
-use crate::version::VERSION;
+use crate::commands::version::VERSION;
 use clap::{Arg, ArgAction, Command};
 use std::alloc::{AllocError, Global};
 

@@ -1,30 +1,19 @@
 //! The program `avro`, as a function over its words, a reader and two writers.
 #![tactic(auto)]
 
-mod checking;
-mod command;
-mod confirming;
-mod container_file;
-mod copying;
-mod explaining;
+mod command_line;
+mod commands;
 mod failure;
+mod files;
 mod grammar;
-mod header;
-mod history;
-mod judging;
-mod kept_files;
-mod late_file;
 mod number_options;
-mod piping;
 mod printing;
-mod refutation_file;
 mod request;
-mod schema_file;
-mod showing;
-mod showing_data;
-mod version;
 
-use command::request_of;
+use command_line::request_of;
+use commands::{
+    check, confirm, copy, explain, header, history, judge, pipe, schema, show, version,
+};
 use failure::Failure;
 use request::Request;
 use std::alloc::Global;
@@ -135,33 +124,33 @@ fn answer<'a, R: Files + AllocGlobal, I: Read, O: Write, E: Write>(
     err: &mut E,
 ) -> Result<Finding, Failure<'a>> {
     match request_of(rt.alloc(), words)? {
-        Request::Judge(asked) => judging::judge_files(rt, &asked, out),
-        Request::Explain(asked) => explaining::explain_files(rt, &asked, out),
+        Request::Judge(asked) => judge::judge_files(rt, &asked, out),
+        Request::Explain(asked) => explain::explain_files(rt, &asked, out),
         Request::Confirm {
             writer,
             reader,
             certificate,
             form,
-        } => confirming::confirm_files(rt, writer, reader, certificate, form, out),
+        } => confirm::confirm_files(rt, writer, reader, certificate, form, out),
         Request::History(history) => history::history_of_files(rt, &history, out),
-        Request::Schema { file, shown } => showing::show_schema(rt, file, shown, out),
-        Request::Check { files, form } => Ok(checking::check_files(rt, &files, form, out, err)),
+        Request::Schema { file, shown } => schema::show_schema(rt, file, shown, out),
+        Request::Check { files, form } => Ok(check::check_files(rt, &files, form, out, err)),
         Request::Show {
             file,
             reader,
             limit,
-        } => showing_data::show_file(rt, file, reader, limit, out),
+        } => show::show_file(rt, file, reader, limit, out),
         Request::Copy {
             source,
             output,
             reader,
             sync,
-        } => copying::copy_file(rt, source, output, reader, sync, out),
+        } => copy::copy_file(rt, source, output, reader, sync, out),
         Request::Pipe {
             reader,
             sync,
             is_counted,
-        } => piping::pipe_streams(rt, reader, sync, is_counted, input, out, err),
+        } => pipe::pipe_streams(rt, reader, sync, is_counted, input, out, err),
         Request::Header { file, is_metadata } => header::show_header(rt, file, is_metadata, out),
         Request::Version => version::tell_version(rt.alloc(), out),
     }

@@ -1,7 +1,7 @@
 use crate::Finding;
 use crate::failure::Failure;
+use crate::files::schema::read_schema_file;
 use crate::printing::print_bytes;
-use crate::schema_file::read_schema_file;
 use avro_answer::Shown;
 use std::io::Write;
 use std::rt::Files;

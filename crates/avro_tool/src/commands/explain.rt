@@ -2,9 +2,9 @@
 
 use crate::Finding;
 use crate::failure::Failure;
+use crate::files::schema::read_schema_file;
 use crate::printing::print;
 use crate::request::Explaining;
-use crate::schema_file::read_schema_file;
 use avro_answer::{Form, append_fault, begin_faults, end_of_faults, no_fault, over_pairs};
 use avro_explain::{ExplainError, Explanation, explain};
 use avro_schema::Schema;

@@ -1,10 +1,10 @@
 //! A container from one stream to another.
 
 use crate::Finding;
-use crate::container_file::{ROOM, print_counts};
-use crate::copying::marker_of;
+use crate::commands::copy::marker_of;
 use crate::failure::Failure;
-use crate::schema_file::read_reader;
+use crate::files::container::{ROOM, print_counts};
+use crate::files::schema::read_reader;
 use avro_container::{CopyError, Counts, FileLimits, ReadInput, WriteOutput, copy};
 use std::io::{BufReader, Read, Write};
 use std::rt::Files;

@@ -1,5 +1,5 @@
-use crate::container_file::{open_container, tell_file_counts};
 use crate::failure::Failure;
+use crate::files::container::{open_container, tell_file_counts};
 use crate::{Finding, report};
 use avro_answer::Form;
 use avro_container::{Blocks, Checker, CopyError, Counts, FileLimits, Header, Input};

@@ -6,9 +6,9 @@ ghost use Rattle.avro_schema.specs.Seen.{value_of};
 ghost use Rattle.avro_schema.specs.SeenSchema.{schema_nodes};
 
 use crate::Finding;
-use crate::container_file::{ROOM, open_container};
 use crate::failure::Failure;
-use crate::schema_file::read_reader;
+use crate::files::container::{ROOM, open_container};
+use crate::files::schema::read_reader;
 use avro_answer::datum_line;
 use avro_binary::{Nothing, Tree, decode};
 use avro_container::{Block, Blocks, CopyError, FileLimits, Header, Input};

@@ -1,16 +1,15 @@
 use crate::Finding;
-use crate::confirming::bytes_of_certificates;
 use crate::failure::Failure;
-use crate::kept_files::{refuse_read_file, refuse_schema_file};
+use crate::files::certificate::{read_history_file, write_history_file};
+use crate::files::kept::{refuse_read_file, refuse_schema_file};
+use crate::files::schema::read_schema_file;
 use crate::printing::print_bytes;
 use crate::request::{Evidence, History, Mode};
-use crate::schema_file::read_schema_file;
 use avro_answer::{Form, Judged, answer_confirmed, judge_json_line, judge_line};
-use avro_history::{HistoryCert, confirm_history};
+use avro_history::confirm_history;
 use avro_judge::{Certificate, Verdict};
 use avro_schema::{Memory, Schema};
 use std::alloc::{AllocError, Global};
-use std::fs;
 use std::io::Write;
 use std::rt::Files;
 
@@ -196,29 +195,4 @@ fn keep_certificate(
         }
     }
     Ok(())
-}
-
-/// Writes certificates into a file, in order.
-fn write_history_file<'a, R: Files + AllocGlobal>(
-    rt: &R,
-    certificates: Vec<Certificate>,
-    word: &'a str,
-) -> Result<(), Failure<'a>> {
-    let text = HistoryCert::new(certificates).write(rt.alloc())?;
-    match fs::write(rt, word, &text) {
-        Ok(()) => Ok(()),
-        Err(e) => Err(Failure::of_writing(word, &e)),
-    }
-}
-
-/// The history in a file.
-fn read_history_file<'a, R: Files + AllocGlobal>(
-    rt: &R,
-    word: &'a str,
-) -> Result<HistoryCert, Failure<'a>> {
-    let bytes = bytes_of_certificates(rt, word)?;
-    match HistoryCert::read(rt.alloc(), &bytes) {
-        Ok(history) => Ok(history),
-        Err(e) => Err(Failure::of_certificate(word, e)),
-    }
 }

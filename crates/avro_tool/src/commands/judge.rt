@@ -1,14 +1,14 @@
 use crate::Finding;
 use crate::failure::Failure;
-use crate::kept_files::{refuse_read_file, refuse_schema_file};
+use crate::files::certificate::write_certificate_file;
+use crate::files::kept::{refuse_read_file, refuse_schema_file};
+use crate::files::refutation::write_refutation_file;
+use crate::files::schema::{read_schema_file, read_text_file};
 use crate::printing::print_bytes;
-use crate::refutation_file::write_refutation_file;
 use crate::request::Judging;
-use crate::schema_file::{read_schema_file, read_text_file};
 use avro_answer::judge_schemas;
-use avro_judge::{Approved, Verdict};
+use avro_judge::Verdict;
 use avro_schema_json::ReaderText;
-use std::fs;
 use std::io::Write;
 use std::rt::Files;
 
@@ -50,19 +50,5 @@ fn write_evidence<'a, R: Files + AllocGlobal>(
             None => Ok(()),
         },
         Verdict::Undecided(_) => Ok(()),
-    }
-}
-
-/// Writes the certificate of an approval into a file.
-fn write_certificate_file<'a, R: Files + AllocGlobal>(
-    rt: &R,
-    approved: &Approved<'_>,
-    word: &'a str,
-) -> Result<(), Failure<'a>> {
-    let certificate = approved.certificate(rt.alloc())?;
-    let text = certificate.write(rt.alloc())?;
-    match fs::write(rt, word, &text) {
-        Ok(()) => Ok(()),
-        Err(e) => Err(Failure::of_writing(word, &e)),
     }
 }

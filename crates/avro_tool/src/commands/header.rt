@@ -1,8 +1,8 @@
 //! What the header of a container says.
 
 use crate::Finding;
-use crate::container_file::open_container;
 use crate::failure::Failure;
+use crate::files::container::open_container;
 use crate::printing::print_bytes;
 use avro_container::{CopyError, FileLimits, Input, read_metadata, schema_text};
 use serde_json::{Map, Value};

@@ -1,9 +1,9 @@
 use crate::Finding;
-use crate::container_file::{open_container, tell_counts};
 use crate::failure::Failure;
-use crate::kept_files::is_one_file;
-use crate::late_file::LateFile;
-use crate::schema_file::read_reader;
+use crate::files::container::{open_container, tell_counts};
+use crate::files::kept::is_one_file;
+use crate::files::late::LateFile;
+use crate::files::schema::read_reader;
 use avro_container::{CopyError, FileLimits, WriteOutput, copy};
 use hex::FromHex;
 use std::io::Write;

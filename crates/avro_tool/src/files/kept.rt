@@ -1,7 +1,7 @@
 //! Files that must not be overwritten: those that are read, and those that hold a schema.
 
 use crate::failure::Failure;
-use crate::schema_file::{MAX_TEXT, read_bytes};
+use crate::files::schema::{MAX_TEXT, read_bytes};
 use avro_schema_json::{SchemaError, read_schema};
 use std::fs::Metadata;
 use std::os::unix::fs::MetadataExt;

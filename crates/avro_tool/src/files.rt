@@ -1,0 +1,8 @@
+//! Files that are opened, read or written.
+
+pub(crate) mod certificate;
+pub(crate) mod container;
+pub(crate) mod kept;
+pub(crate) mod late;
+pub(crate) mod refutation;
+pub(crate) mod schema;

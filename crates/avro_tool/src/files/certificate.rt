@@ -1,0 +1,72 @@
+//! Files of certificates.
+
+use crate::failure::Failure;
+use crate::files::schema::bytes_of;
+use avro_history::HistoryCert;
+use avro_judge::{Approved, CertError, Certificate};
+use std::fs;
+use std::rt::Files;
+
+/// The certificate in a file.
+pub(crate) fn read_certificate_file<'a, R: Files + AllocGlobal>(
+    rt: &R,
+    word: &'a str,
+) -> Result<Certificate, Failure<'a>> {
+    let bytes = bytes_of_certificates(rt, word)?;
+    match Certificate::read(rt.alloc(), &bytes) {
+        Ok(certificate) => Ok(certificate),
+        Err(e) => Err(Failure::of_certificate(word, e)),
+    }
+}
+
+/// Writes the certificate of an approval into a file.
+pub(crate) fn write_certificate_file<'a, R: Files + AllocGlobal>(
+    rt: &R,
+    approved: &Approved<'_>,
+    word: &'a str,
+) -> Result<(), Failure<'a>> {
+    let certificate = approved.certificate(rt.alloc())?;
+    let text = certificate.write(rt.alloc())?;
+    match fs::write(rt, word, &text) {
+        Ok(()) => Ok(()),
+        Err(e) => Err(Failure::of_writing(word, &e)),
+    }
+}
+
+/// The history in a file.
+pub(crate) fn read_history_file<'a, R: Files + AllocGlobal>(
+    rt: &R,
+    word: &'a str,
+) -> Result<HistoryCert, Failure<'a>> {
+    let bytes = bytes_of_certificates(rt, word)?;
+    match HistoryCert::read(rt.alloc(), &bytes) {
+        Ok(history) => Ok(history),
+        Err(e) => Err(Failure::of_certificate(word, e)),
+    }
+}
+
+/// Writes certificates into a file, in order.
+pub(crate) fn write_history_file<'a, R: Files + AllocGlobal>(
+    rt: &R,
+    certificates: Vec<Certificate>,
+    word: &'a str,
+) -> Result<(), Failure<'a>> {
+    let text = HistoryCert::new(certificates).write(rt.alloc())?;
+    match fs::write(rt, word, &text) {
+        Ok(()) => Ok(()),
+        Err(e) => Err(Failure::of_writing(word, &e)),
+    }
+}
+
+/// The bytes of a file of certificates. At most one byte more than a text may have is read, once; a
+/// longer text is refused.
+fn bytes_of_certificates<'a, R: Files + AllocGlobal>(
+    rt: &R,
+    word: &'a str,
+) -> Result<Vec<u8>, Failure<'a>> {
+    let bytes = bytes_of(rt, word, Certificate::MAX_LEN as u64)?;
+    if bytes.len() > Certificate::MAX_LEN {
+        return Err(Failure::of_certificate(word, CertError::Malformed));
+    }
+    Ok(bytes)
+}
