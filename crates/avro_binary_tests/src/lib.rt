@@ -21,4 +21,6 @@ mod reading;
 #[cfg(test)]
 mod resolved;
 #[cfg(test)]
+mod shapes;
+#[cfg(test)]
 mod trees;

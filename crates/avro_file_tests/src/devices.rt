@@ -1,9 +1,10 @@
 //! Devices that move few bytes a call, and that fail.
 
-use crate::files::{FIVE, FIVE_COPIED, LONG_OR_INT, reader_of};
+use crate::files::reader_of;
 use avro_container::{
     Copier, CopyError, FileLimits, Input, Output, ReadInput, Step, WriteOutput, copy,
 };
+use avro_samples::{FIVE, FIVE_COPIED, LONG_OR_INT};
 use avro_schema_json::ReaderText;
 use std::alloc::Global;
 use std::io;
@@ -39,7 +40,7 @@ impl Read for Source<'_> {
 
 /// What a writer does in one call.
 #[derive(Clone, Copy, PartialEq, Eq)]
-enum Failing {
+pub(crate) enum Failing {
     Never,
     Put(usize),
     None(usize),
@@ -48,7 +49,7 @@ enum Failing {
 
 /// A writer that keeps one byte a call, and fails in one call. Writes and flushes are counted apart.
 #[derive(Drop)]
-struct Kept {
+pub(crate) struct Kept {
     bytes: Vec<u8>,
     calls: usize,
     flushes: usize,
@@ -56,7 +57,7 @@ struct Kept {
 }
 
 impl Kept {
-    fn new(alloc: Global, failing: Failing) -> Kept {
+    pub(crate) fn new(alloc: Global, failing: Failing) -> Kept {
         Kept {
             bytes: Vec::new(alloc),
             calls: 0,

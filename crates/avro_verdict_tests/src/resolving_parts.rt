@@ -3,7 +3,7 @@
 use crate::resolving_rows::Row;
 
 /// Items and entries.
-pub(crate) const PARTS: [Row; 13] = [
+pub(crate) const PARTS: [Row; 10] = [
     (
         r#"{"type":"array","items":"long"}"#,
         r#"{"type":"array","items":"long"}"#,
@@ -17,13 +17,6 @@ pub(crate) const PARTS: [Row; 13] = [
         b"\x02\x06\x02\x36\x00",
         "{\"array\":[3,27]} 5",
         b"\x02\x04\x06\x36\x00",
-    ),
-    (
-        r#"{"type":"array","items":"int"}"#,
-        r#"{"type":"array","items":"string"}"#,
-        b"\x00",
-        "NoMatch at /",
-        b"",
     ),
     (
         r#"{"type":"array","items":["int"]}"#,
@@ -40,24 +33,10 @@ pub(crate) const PARTS: [Row; 13] = [
         b"\x00",
     ),
     (
-        r#"{"type":"map","values":"int"}"#,
-        r#"{"type":"map","values":["string"]}"#,
-        b"\x02\x00\x00\x00",
-        "NoBranch at /0",
-        b"",
-    ),
-    (
         r#"{"type":"map","values":"bytes"}"#,
         r#"{"type":"map","values":"string"}"#,
         b"\x04\x02b\x02x\x02a\x02\xff\x00",
         "NotUtf8 at /1",
-        b"",
-    ),
-    (
-        r#"{"type":"map","values":["int","string"]}"#,
-        r#"{"type":"map","values":"long"}"#,
-        b"\x02\x02b\x00\x02\x02\x02a\x02\x00\x00",
-        "NoMatch at /1/0",
         b"",
     ),
     (
@@ -121,7 +100,7 @@ const FAULTY_REVERSED: &str =
     r#"{"type":"record","name":"R","fields":[{"name":"b","type":{"type":"enum","name":"E","symbols":["A"]}},{"name":"a","type":"string"}]}"#;
 
 /// Fields.
-pub(crate) const FIELDS: [Row; 14] = [
+pub(crate) const FIELDS: [Row; 11] = [
     (
         TEST,
         TEST_REVERSED,
@@ -152,13 +131,6 @@ pub(crate) const FIELDS: [Row; 14] = [
         b"",
     ),
     (
-        r#"{"type":"record","name":"R","fields":[]}"#,
-        r#"{"type":"record","name":"R","fields":[{"name":"u","type":["null","int"],"default":3}]}"#,
-        b"",
-        "{\"u\":{\"int\":3}} 0",
-        b"\x02\x06",
-    ),
-    (
         r#"{"type":"record","name":"R","fields":[{"name":"a","type":{"type":"record","name":"N","fields":[{"name":"x","type":"int"}]}}]}"#,
         r#"{"type":"record","name":"R","fields":[{"name":"a","type":{"type":"record","name":"N","fields":[{"name":"y","type":{"type":"array","items":"int"},"default":[1,2]},{"name":"x","type":"long"}]}}]}"#,
         b"\x04",
@@ -180,20 +152,12 @@ pub(crate) const FIELDS: [Row; 14] = [
         b"\x0a",
     ),
     (
-        r#"{"type":"record","name":"R","fields":[{"name":"a","type":{"type":"map","values":["null","string"]}},{"name":"b","type":"int"}]}"#,
-        INT_ALONE,
-        b"\x04\x02k\x00\x02k\x00\x00\x0a",
-        "B8 at 4",
-        b"",
-    ),
-    (
         FAULTY,
         FAULTY_REVERSED,
         b"\x02\xff\x02",
         "NotUtf8 at /0",
         b"",
     ),
-    (FAULTY, FAULTY_REVERSED, b"\x02\xff", "B1 at 2", b""),
     (FAULTY, FAULTY_REVERSED, b"\x02a\x02", "NoSymbol at /1", b""),
     (
         FAULTY,

@@ -17,12 +17,10 @@ const LETTERS: &str = r#"{"type":"enum","name":"E","symbols":["A","B","C"]}"#;
 const OLD: &str = r#"{"type":"record","name":"old.P","fields":[{"name":"x","type":"int"}]}"#;
 
 /// Data without parts, symbols, unions and names.
-pub(crate) const BRANCHES: [Row; 30] = [
+pub(crate) const BRANCHES: [Row; 22] = [
     (r#""null""#, r#""null""#, b"", "null 0", b""),
     (r#""boolean""#, r#""null""#, b"\x01", "NoMatch at /", b""),
     (r#""boolean""#, r#""boolean""#, b"\x02", "B3 at 0", b""),
-    (r#""boolean""#, r#""boolean""#, b"\x01", "true 1", b"\x01"),
-    (r#""int""#, r#""long""#, b"\x80\x01", "64 2", b"\x80\x01"),
     (
         r#""int""#,
         r#""long""#,
@@ -30,7 +28,6 @@ pub(crate) const BRANCHES: [Row; 30] = [
         "64 2",
         b"\x80\x01",
     ),
-    (r#""long""#, r#""int""#, b"\x00", "NoMatch at /", b""),
     (
         r#""int""#,
         r#"["long","int"]"#,
@@ -67,14 +64,6 @@ pub(crate) const BRANCHES: [Row; 30] = [
         "NotUtf8 at /",
         b"",
     ),
-    (r#""bytes""#, r#""string""#, b"\x02a", "\"a\" 2", b"\x02a"),
-    (
-        r#""bytes""#,
-        r#"["null","string","bytes"]"#,
-        b"\x02\xff",
-        "NotUtf8 at /",
-        b"",
-    ),
     (
         r#""bytes""#,
         r#"["null","string","bytes"]"#,
@@ -89,7 +78,6 @@ pub(crate) const BRANCHES: [Row; 30] = [
         "NotUtf8 at /0",
         b"",
     ),
-    (r#""string""#, r#""bytes""#, b"\x02a", "\"a\" 2", b"\x02a"),
     (
         LETTERS,
         r#"{"type":"enum","name":"E","symbols":["A","C"]}"#,
@@ -141,24 +129,10 @@ pub(crate) const BRANCHES: [Row; 30] = [
     ),
     (
         OLD,
-        r#"{"type":"record","name":"new.Q","aliases":["P"],"fields":[{"name":"y","type":"long","aliases":["x"]}]}"#,
-        b"\x04",
-        "NoMatch at /",
-        b"",
-    ),
-    (
-        OLD,
         r#"["null",{"type":"record","name":"a.Q","aliases":["old.P"],"fields":[{"name":"x","type":"long"}]},{"type":"record","name":"b.Q","aliases":["old.P"],"fields":[{"name":"x","type":"int"}]}]"#,
         b"\x04",
         "{\"a.Q\":{\"x\":2}} 1",
         b"\x02\x04",
-    ),
-    (
-        OLD,
-        r#"[{"type":"record","name":"a.Q","aliases":["old.P"],"fields":[{"name":"x","type":"string"}]},{"type":"record","name":"b.Q","aliases":["old.P"],"fields":[{"name":"x","type":"int"}]}]"#,
-        b"\x04",
-        "NoMatch at /0",
-        b"",
     ),
     (
         r#"{"type":"record","name":"Node","fields":[{"name":"value","type":"int"},{"name":"next","type":["null","Node"]}]}"#,

@@ -1,8 +1,7 @@
 //! The command that shows what the header of a container says.
 
-use crate::files::{FIVE, MARK, NULL_HEADER, NULLS, file_with};
-use avro_runs::{Full, Given, outcome_of, words_of};
-use avro_tool::run;
+use avro_runs::{Row, check_full, check_rows, check_run, check_usage, outcome_of};
+use avro_samples::{FIVE, MARK, NULL_HEADER, NULLS, file_with};
 use std::alloc::{AllocError, Global};
 use std::fs;
 use std::test::Fail;
@@ -57,10 +56,7 @@ fn schemas_of_headers_are_shown(rt: HostRuntime) -> Result<(), Fail> {
     for (metadata, code, out) in TEXTS {
         let file = file_with(rt.alloc(), metadata, &[])?;
         fs::write(&rt, "head.avro", &file)?;
-        let shown = outcome_of(&rt, "header head.avro")?;
-        assert_eq!(rt; shown.status, 0, "{code}");
-        assert_eq!(rt; shown.out.as_slice(), out, "{code}");
-        assert!(rt; shown.err.is_empty(), "{code}");
+        check_run(&rt, "header head.avro", 0, out, b"")?;
         let checked = outcome_of(&rt, "check head.avro")?;
         let line = line_of(rt.alloc(), code)?;
         assert_eq!(rt; checked.err.as_slice(), line.as_bytes(), "{code}");
@@ -97,10 +93,7 @@ fn refused_headers_are_told(rt: HostRuntime) -> Result<(), Fail> {
             "header head.avro",
             "header head.avro --metadata",
         ] {
-            let ran = outcome_of(&rt, words)?;
-            assert_eq!(rt; ran.status, 3, "{words} {code}");
-            assert_eq!(rt; ran.err.as_slice(), line.as_bytes(), "{words}");
-            assert!(rt; ran.out.is_empty(), "{words} {code}");
+            check_run(&rt, words, 3, b"", line.as_bytes())?;
         }
     }
     Ok(())
@@ -135,19 +128,16 @@ fn metadata_are_shown(rt: HostRuntime) -> Result<(), Fail> {
     for (metadata, out) in METADATA {
         let file = file_with(rt.alloc(), metadata, &[])?;
         fs::write(&rt, "head.avro", &file)?;
+        let line = format!(in rt.alloc(); "{out}\n")?;
         for words in ["header head.avro --metadata", "header --metadata head.avro"] {
-            let shown = outcome_of(&rt, words)?;
-            assert_eq!(rt; shown.status, 0, "{out}");
-            let line = format!(in rt.alloc(); "{out}\n")?;
-            assert_eq!(rt; shown.out.as_slice(), line.as_bytes(), "{out}");
-            assert!(rt; shown.err.is_empty(), "{out}");
+            check_run(&rt, words, 0, line.as_bytes(), b"")?;
         }
     }
     Ok(())
 }
 
 /// Words, and their status and output: a block that is refused is not read.
-const RUNS: [(&str, u8, &str, &str); 6] = [
+const RUNS: [Row; 6] = [
     ("header nulls.head", 0, "\"null\"\n", ""),
     ("header five.head", 0, "\"int\"\n", ""),
     ("header spoiled.head", 0, "\"null\"\n", ""),
@@ -174,13 +164,7 @@ fn headers_of_files_are_shown(rt: HostRuntime) -> Result<(), Fail> {
     spoiled.extend_from_slice(&MARK)?;
     fs::write(&rt, "spoiled.head", &spoiled)?;
     fs::create_dir(&rt, "head_folder")?;
-    for (line, status, out, err) in RUNS {
-        let ran = outcome_of(&rt, line)?;
-        assert_eq!(rt; ran.status, status, "{line}");
-        assert_eq!(rt; ran.out.as_slice(), out.as_bytes(), "{line}");
-        assert_eq!(rt; ran.err.as_slice(), err.as_bytes(), "{line}");
-    }
-    Ok(())
+    check_rows(&rt, &RUNS)
 }
 
 /// Words that have not the form of the program's.
@@ -195,32 +179,18 @@ const OTHER_WORDS: [&str; 6] = [
 
 #[test]
 fn other_words_of_headers_are_usage(rt: HostRuntime) -> Result<(), Fail> {
-    for line in OTHER_WORDS {
-        let ran = outcome_of(&rt, line)?;
-        assert_eq!(rt; ran.status, 64, "{line}");
-        assert!(rt; !ran.err.is_empty() && ran.out.is_empty(), "{line}");
-    }
-    Ok(())
+    check_usage(&rt, &OTHER_WORDS)
 }
+
+/// The words of runs, and how many bytes their output takes.
+const FULL: [(&str, usize); 3] = [
+    ("header full.head", 0),
+    ("header full.head", 6),
+    ("header full.head --metadata", 9),
+];
 
 #[test]
 fn a_full_output_of_headers_is_told(rt: HostRuntime) -> Result<(), Fail> {
     fs::write(&rt, "full.head", NULLS)?;
-    for (line, room) in [
-        ("header full.head", 0),
-        ("header full.head", 6),
-        ("header full.head --metadata", 9),
-    ] {
-        let words = words_of(&rt, line)?;
-        let mut err = Vec::new(rt.alloc());
-        let mut none = Given::all(&[]);
-        let status = run(&rt, &words, &mut none, &mut Full { room }, &mut err);
-        assert_eq!(rt; status, 4, "{line}");
-        assert_eq!(rt;
-            err.as_slice(),
-            b"avro: output: cannot write\n".as_slice(),
-            "{line}"
-        );
-    }
-    Ok(())
+    check_full(&rt, b"", &FULL)
 }

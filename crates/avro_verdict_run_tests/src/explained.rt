@@ -1,7 +1,7 @@
 //! All faults of two schemas, by names.
 
-use avro_runs::{lines_of, outcome_of};
-use serde_json::Value;
+use crate::json_faults::value_of;
+use avro_runs::{Row, check_rows, check_run, lines_of};
 use std::fs;
 use std::test::Fail;
 
@@ -112,16 +112,19 @@ fn each_fault_is_told_with_its_places(rt: HostRuntime) -> Result<(), Fail> {
     for (writer, reader, lines) in FAULTS {
         fs::write(&rt, "w", writer)?;
         fs::write(&rt, "r", reader)?;
-        let ran = outcome_of(&rt, "explain w r")?;
         let count = lines_of(lines);
         let answer = if count == 0 {
             String::from_str(rt.alloc(), "yes\n")?
         } else {
             format!(in rt.alloc(); "no {count}\n{lines}")?
         };
-        assert_eq!(rt; ran.out.as_slice(), answer.as_bytes(), "{writer} {reader}");
-        assert_eq!(rt; ran.status, u8::from(count > 0), "{writer} {reader}");
-        assert!(rt; ran.err.is_empty(), "{writer} {reader}");
+        check_run(
+            &rt,
+            "explain w r",
+            u8::from(count > 0),
+            answer.as_bytes(),
+            b"",
+        )?;
     }
     Ok(())
 }
@@ -175,31 +178,27 @@ fn answers_have_their_form_and_status(rt: HostRuntime) -> Result<(), Fail> {
         fs::write(&rt, "w", writer)?;
         fs::write(&rt, "r", reader)?;
         let words = format!(in rt.alloc(); "explain w r {options}")?;
-        let ran = outcome_of(&rt, &words)?;
-        assert_eq!(rt; ran.out.as_slice(), answer.as_bytes(), "{answer}");
-        assert_eq!(rt; ran.status, status, "{answer}");
+        check_run(&rt, &words, status, answer.as_bytes(), b"")?;
         if options.contains("--json") {
-            assert!(rt; Value::from_str(rt.alloc(), answer).is_ok(), "{answer}");
+            assert!(rt; value_of(rt.alloc(), answer)?.is_object(), "{answer}");
         }
     }
     Ok(())
 }
 
-/// Options that are out of range, and the number that is reported.
-const REFUSED: [&str; 3] = ["--max-pairs 0", "--max-pairs 16777217", "--max-pairs x"];
+/// What is reported of a number out of range.
+const RANGE: &str = "avro: --max-pairs takes 1 to 16777216\n";
+
+/// Options at the edges of their range, and past them.
+const LIMITS: [Row; 4] = [
+    ("explain w w --max-pairs 0", 64, "", RANGE),
+    ("explain w w --max-pairs 16777217", 64, "", RANGE),
+    ("explain w w --max-pairs x", 64, "", RANGE),
+    ("explain w w --max-pairs 16777216", 0, "yes\n", ""),
+];
 
 #[test]
 fn limits_are_tested(rt: HostRuntime) -> Result<(), Fail> {
     fs::write(&rt, "w", "\"int\"")?;
-    for options in REFUSED {
-        let words = format!(in rt.alloc(); "explain w w {options}")?;
-        let ran = outcome_of(&rt, &words)?;
-        assert_eq!(rt; ran.status, 64, "{options}");
-        let line = "avro: --max-pairs takes 1 to 16777216\n";
-        assert_eq!(rt; ran.err.as_slice(), line.as_bytes(), "{options}");
-        assert!(rt; ran.out.is_empty(), "{options}");
-    }
-    let ran = outcome_of(&rt, "explain w w --max-pairs 16777216")?;
-    assert_eq!(rt; ran.status, 0, "the greatest limit");
-    Ok(())
+    check_rows(&rt, &LIMITS)
 }

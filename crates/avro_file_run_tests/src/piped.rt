@@ -1,9 +1,11 @@
 //! Copies from the standard input to the standard output, and the version.
 
-use crate::files::{FIVE, FIVE_COPIED, LONG_OR_INT, NULL_HEADER, NULLS, file_of};
 use crate::program_copies::MARKED;
-use avro_runs::{Counted, Full, Given, outcome_from, outcome_of, words_of};
-use avro_tool::run;
+use avro_runs::{
+    Counted, Full, Given, InputRow, check_full, check_input, check_inputs, check_run, check_usage,
+    outcome_from, outcome_of, run, words_of,
+};
+use avro_samples::{FIVE, FIVE_COPIED, LONG_OR_INT, NULL_HEADER, NULLS, file_of};
 use std::alloc::{AllocError, Global};
 use std::fs;
 use std::test::Fail;
@@ -13,7 +15,7 @@ const NO_MARKER: &str = "avro: --sync takes 32 hexadecimal digits\n";
 const NO_SCHEMA: &str = "avro: no.avsc: cannot read\n";
 
 /// The words of a run, its standard input, its status, and its output.
-const PIPED: [(&str, &[u8], u8, &[u8], &str); 17] = [
+const PIPED: [InputRow; 17] = [
     ("pipe", NULL_HEADER, 0, NULL_HEADER, ""),
     ("pipe", NULLS, 0, NULLS, ""),
     ("pipe --counts", NULLS, 0, NULLS, "data 3 blocks 1\n"),
@@ -75,39 +77,29 @@ fn containers_are_piped(rt: HostRuntime) -> Result<(), Fail> {
     fs::write(&rt, "piped.avsc", LONG_OR_INT)?;
     fs::write(&rt, "string.avsc", "\"string\"")?;
     fs::write(&rt, "foo.avsc", "\"Foo\"")?;
-    for (line, input, status, out, err) in PIPED {
-        let ran = outcome_from(&rt, line, &mut Given::all(input))?;
-        assert_eq!(rt; ran.status, status, "{line}");
-        assert_eq!(rt; ran.out.as_slice(), out, "{line}");
-        assert_eq!(rt; ran.err.as_slice(), err.as_bytes(), "{line}");
-    }
-    Ok(())
+    check_inputs(&rt, &PIPED)
 }
 
-/// What is reported of the front of a file of three nulls, and what of the file was put.
-fn of_front(len: usize) -> (&'static str, &'static [u8]) {
+/// What a pipe of the front of a file of three nulls returns.
+fn of_front(len: usize) -> (u8, &'static [u8], &'static [u8]) {
     if len < 4 {
-        ("avro: -: C1\n", b"")
+        (3, b"", b"avro: -: C1\n")
     } else if len < NULL_HEADER.len() {
-        ("avro: -: C16\n", b"")
+        (3, b"", b"avro: -: C16\n")
     } else if len == NULL_HEADER.len() {
-        ("", NULL_HEADER)
+        (0, NULL_HEADER, b"")
     } else if len < NULLS.len() {
-        ("avro: -: C16 block 0\n", NULL_HEADER)
+        (3, NULL_HEADER, b"avro: -: C16 block 0\n")
     } else {
-        ("", NULLS)
+        (0, NULLS, b"")
     }
 }
 
 #[test]
 fn cut_inputs_are_told(rt: HostRuntime) -> Result<(), Fail> {
     for len in 0..60 {
-        let (front, _) = NULLS.split_at(len.min(NULLS.len()));
-        let (err, out) = of_front(len);
-        let ran = outcome_from(&rt, "pipe", &mut Given::all(front))?;
-        assert_eq!(rt; ran.status == 0, err.is_empty(), "{len}");
-        assert_eq!(rt; ran.err.as_slice(), err.as_bytes(), "{len}");
-        assert_eq!(rt; ran.out.as_slice(), out, "{len}");
+        let mut input = Given::all(NULLS.get(..len).unwrap_or(NULLS));
+        check_input(&rt, "pipe", &mut input, of_front(len))?;
     }
     Ok(())
 }
@@ -140,9 +132,9 @@ fn pipes_are_copies(rt: HostRuntime) -> Result<(), Fail> {
         };
         let copied = outcome_of(&rt, copy)?;
         let piped = outcome_from(&rt, pipe, &mut Given::all(&file))?;
+        let written = fs::read(&rt, "piped_out.avro")?;
         assert_eq!(rt; piped.status, copied.status, "{text}");
         assert_eq!(rt; piped.err.as_slice(), copied.err.as_slice(), "{text}");
-        let written = fs::read(&rt, "piped_out.avro")?;
         assert_eq!(rt; piped.out.as_slice(), written.as_slice(), "{text}");
     }
     Ok(())
@@ -164,34 +156,35 @@ fn a_failing_input_is_told(rt: HostRuntime) -> Result<(), Fail> {
         let mut input = Given::all(NULLS.get(..len).unwrap_or(NULLS));
         input.most = most;
         input.fails = true;
-        let ran = outcome_from(&rt, "pipe --counts", &mut input)?;
-        assert_eq!(rt; ran.status, 4, "{len}");
-        assert_eq!(rt;
-            ran.err.as_slice(),
-            b"avro: -: cannot read\n".as_slice(),
-            "{len}"
-        );
-        assert_eq!(rt; ran.out.as_slice(), out, "{len}");
+        check_input(
+            &rt,
+            "pipe --counts",
+            &mut input,
+            (4, out, b"avro: -: cannot read\n"),
+        )?;
     }
     Ok(())
 }
 
+/// The words of pipes of 59 bytes and of the version, and how many bytes their output takes.
+const FULL: [(&str, usize); 6] = [
+    ("pipe --counts", 0),
+    ("pipe --counts", 1),
+    ("pipe --counts", 40),
+    ("pipe --counts", 41),
+    ("pipe", 58),
+    ("--version", 3),
+];
+
 #[test]
 fn a_failing_output_is_told(rt: HostRuntime) -> Result<(), Fail> {
-    let words = words_of(&rt, "pipe --counts")?;
-    for room in [0, 1, 40, 41, 58] {
-        let mut err = Vec::new(rt.alloc());
-        let mut input = Given::all(NULLS);
-        let status = run(&rt, &words, &mut input, &mut Full { room }, &mut err);
-        assert_eq!(rt; status, 4);
-        assert_eq!(rt; err.as_slice(), b"avro: output: cannot write\n".as_slice());
-    }
+    check_full(&rt, NULLS, &FULL)?;
     // A copy that is whole is good though its numbers cannot be reported.
+    let words = words_of(&rt, "pipe --counts")?;
     let mut out = Vec::new(rt.alloc());
     let mut input = Given::all(NULLS);
     let status = run(&rt, &words, &mut input, &mut out, &mut Full { room: 3 });
-    assert_eq!(rt; status, 0);
-    assert_eq!(rt; out.as_slice(), NULLS);
+    assert_eq!(rt; (status, out.as_slice()), (0, NULLS));
     Ok(())
 }
 
@@ -216,10 +209,8 @@ fn blocks_are_put_whole(rt: HostRuntime) -> Result<(), Fail> {
     let mut out = Counted::new();
     let mut err = Counted::new();
     assert_eq!(rt; run(&rt, &words, &mut input, &mut out, &mut err), 0);
-    assert_eq!(rt; out.calls, 3);
-    assert_eq!(rt; out.bytes, file.len());
-    assert_eq!(rt; err.calls, 1);
-    assert_eq!(rt; err.bytes, 16);
+    assert_eq!(rt; (out.calls, out.bytes), (3, file.len()));
+    assert_eq!(rt; (err.calls, err.bytes), (1, 16));
     assert!(rt; input.calls < 8);
     Ok(())
 }
@@ -239,29 +230,13 @@ const OTHER_WORDS: [&str; 9] = [
 
 #[test]
 fn other_words_are_usage(rt: HostRuntime) -> Result<(), Fail> {
-    for line in OTHER_WORDS {
-        let mut input = Given::all(NULLS);
-        let ran = outcome_from(&rt, line, &mut input)?;
-        assert_eq!(rt; ran.status, 64, "{line}");
-        assert!(rt; !ran.err.is_empty() && ran.out.is_empty(), "{line}");
-        assert_eq!(rt; input.calls, 0, "{line}");
-    }
-    Ok(())
+    check_usage(&rt, &OTHER_WORDS)
 }
 
 #[test]
 fn the_version_is_told(rt: HostRuntime) -> Result<(), Fail> {
     for line in ["--version", "-V"] {
-        let ran = outcome_of(&rt, line)?;
-        assert_eq!(rt; ran.status, 0, "{line}");
-        assert_eq!(rt; ran.out.as_slice(), b"avro 1.0.0\n".as_slice(), "{line}");
-        assert!(rt; ran.err.is_empty(), "{line}");
+        check_run(&rt, line, 0, b"avro 1.0.0\n", b"")?;
     }
-    let words = words_of(&rt, "--version")?;
-    let mut err = Vec::new(rt.alloc());
-    let mut none = Given::all(&[]);
-    let status = run(&rt, &words, &mut none, &mut Full { room: 3 }, &mut err);
-    assert_eq!(rt; status, 4);
-    assert_eq!(rt; err.as_slice(), b"avro: output: cannot write\n".as_slice());
     Ok(())
 }

@@ -1,9 +1,7 @@
 //! Copies of a file into itself by another name, and how the program writes its reports on files.
 
-use crate::files::{FIVE, NULLS, file_of};
-use avro_runs::{Counted, Given, outcome_of, words_of};
-use avro_tool::run;
-use std::alloc::{AllocError, Global};
+use avro_runs::{Row, calls_of, check_rows};
+use avro_samples::{FIVE, NULLS, file_of};
 use std::fs;
 use std::os::unix::fs::symlink;
 use std::test::Fail;
@@ -17,7 +15,7 @@ const NO_MARKER: &str = "avro: --sync takes 32 hexadecimal digits\n";
 const ONE_BLOCK: &str = "data 1 blocks 1\n";
 
 /// The words of copies, and their status and output.
-const COPIES: [(&str, u8, &str, &str); 15] = [
+const COPIES: [Row; 15] = [
     ("copy five.avro five.avro", 64, "", ONE_WORD),
     ("copy five.avro ./five.avro", 64, "", ONE_FILE),
     ("copy ./five.avro five.avro", 64, "", ONE_FILE),
@@ -56,15 +54,9 @@ fn a_file_is_not_copied_into_itself(rt: HostRuntime) -> Result<(), Fail> {
     fs::hard_link(&rt, "five.avro", "hard.avro")?;
     symlink(&rt, "five.avro", "soft.avro")?;
     symlink(&rt, "made.avro", "loose.avro")?;
-    for (line, status, out, err) in COPIES {
-        let ran = outcome_of(&rt, line)?;
-        assert_eq!(rt; ran.status, status, "{line}");
-        assert_eq!(rt; ran.out.as_slice(), out.as_bytes(), "{line}");
-        assert_eq!(rt; ran.err.as_slice(), err.as_bytes(), "{line}");
-    }
+    check_rows(&rt, &COPIES)?;
     for file in ["five.avro", "hard.avro", "twin.avro", "made.avro"] {
-        let kept = fs::read(&rt, file)?;
-        assert_eq!(rt; kept.as_slice(), FIVE, "{file}");
+        assert_eq!(rt; fs::read(&rt, file)?.as_slice(), FIVE, "{file}");
     }
     Ok(())
 }
@@ -86,36 +78,30 @@ const WRITES: [(&str, usize, usize, usize); 11] = [
     ("show twice.avro", 1, 0, 20_000),
 ];
 
-/// A file of two blocks of nulls.
-fn nulls_of(alloc: Global, first: &[u8], second: &[u8]) -> Result<Vec<u8>, AllocError> {
-    file_of(alloc, "\"null\"", &[first, second])
-}
+/// Files, their schemas, and two blocks without their markers.
+const FILES: [(&str, &str, [&[u8]; 2]); 3] = [
+    (
+        "left.avro",
+        "\"int\"",
+        [b"\x02\x02\x0a", b"\x02\x04\x0a\x0a"],
+    ),
+    ("many.avro", "\"null\"", [b"\xc0\xb8\x02\x00", b"\x00\x00"]),
+    ("twice.avro", "\"null\"", [b"\xa0\x1f\x00", b"\xa0\x1f\x00"]),
+];
 
 #[test]
 fn lines_are_written_whole(rt: HostRuntime) -> Result<(), Fail> {
     fs::write(&rt, "five.avro", FIVE)?;
     fs::write(&rt, "nulls.avro", NULLS)?;
     fs::write(&rt, "open.avro", b"Obj")?;
-    let left = file_of(
-        rt.alloc(),
-        "\"int\"",
-        &[b"\x02\x02\x0a", b"\x02\x04\x0a\x0a"],
-    )?;
-    fs::write(&rt, "left.avro", &left)?;
-    let many = nulls_of(rt.alloc(), b"\xc0\xb8\x02\x00", b"\x00\x00")?;
-    fs::write(&rt, "many.avro", &many)?;
-    let twice = nulls_of(rt.alloc(), b"\xa0\x1f\x00", b"\xa0\x1f\x00")?;
-    fs::write(&rt, "twice.avro", &twice)?;
+    for (file, text, blocks) in FILES {
+        fs::write(&rt, file, &file_of(rt.alloc(), text, &blocks)?)?;
+    }
     for (line, outs, errs, bytes) in WRITES {
-        let words = words_of(&rt, line)?;
-        let mut out = Counted::new();
-        let mut err = Counted::new();
-        let _ = run(&rt, &words, &mut Given::all(&[]), &mut out, &mut err);
-        assert_eq!(rt; out.calls, outs, "{line}");
-        assert_eq!(rt; err.calls, errs, "{line}");
-        assert_eq!(rt; out.bytes, bytes, "{line}");
-        assert_eq!(rt; out.torn, 0, "{line}");
-        assert_eq!(rt; err.torn, 0, "{line}");
+        let (out, err) = calls_of(&rt, line)?;
+        let found = (out.calls, err.calls, out.bytes);
+        assert_eq!(rt; found, (outs, errs, bytes), "{line}");
+        assert_eq!(rt; (out.torn, err.torn), (0, 0), "{line}");
     }
     Ok(())
 }

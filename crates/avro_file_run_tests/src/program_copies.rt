@@ -1,7 +1,7 @@
 //! Copies through the program: its files, and the order of its faults.
 
-use crate::files::{FIVE, FIVE_COPIED, LONG_OR_INT, NULL_HEADER, NULLS, file_of};
-use avro_runs::outcome_of;
+use avro_runs::{check_run, check_usage};
+use avro_samples::{FIVE, FIVE_COPIED, LONG_OR_INT, NULL_HEADER, NULLS, file_of};
 use std::fs;
 use std::test::Fail;
 
@@ -81,12 +81,8 @@ fn copies_are_written(rt: HostRuntime) -> Result<(), Fail> {
     fs::write(&rt, "three.avro", NULLS)?;
     fs::write(&rt, "into.avsc", LONG_OR_INT)?;
     for (line, status, out, err, wanted) in COPIES {
-        let ran = outcome_of(&rt, line)?;
-        assert_eq!(rt; ran.status, status, "{line}");
-        assert_eq!(rt; ran.out.as_slice(), out.as_bytes(), "{line}");
-        assert_eq!(rt; ran.err.as_slice(), err.as_bytes(), "{line}");
-        let written = fs::read(&rt, "out.avro")?;
-        assert_eq!(rt; written.as_slice(), wanted, "{line}");
+        check_run(&rt, line, status, out.as_bytes(), err.as_bytes())?;
+        assert_eq!(rt; fs::read(&rt, "out.avro")?.as_slice(), wanted, "{line}");
     }
     Ok(())
 }
@@ -164,13 +160,9 @@ fn faults_before_the_copy_touch_no_file(rt: HostRuntime) -> Result<(), Fail> {
         fs::write(&rt, file, bytes)?;
     }
     for (line, status, err) in FAULTS {
-        let ran = outcome_of(&rt, line)?;
-        assert_eq!(rt; ran.status, status, "{line}");
-        assert_eq!(rt; ran.err.as_slice(), err.as_bytes());
-        assert!(rt; ran.out.is_empty());
+        check_run(&rt, line, status, b"", err.as_bytes())?;
     }
-    let kept = fs::read(&rt, "kept.avro")?;
-    assert_eq!(rt; kept.as_slice(), b"kept".as_slice());
+    assert_eq!(rt; fs::read(&rt, "kept.avro")?.as_slice(), b"kept".as_slice());
     Ok(())
 }
 
@@ -188,11 +180,5 @@ const OTHER_WORDS: [&str; 8] = [
 
 #[test]
 fn other_words_are_usage(rt: HostRuntime) -> Result<(), Fail> {
-    for line in OTHER_WORDS {
-        let ran = outcome_of(&rt, line)?;
-        assert_eq!(rt; ran.status, 64, "{line}");
-        assert!(rt; !ran.err.is_empty() && ran.err.as_slice() != ONE_WORD.as_bytes());
-        assert!(rt; ran.out.is_empty());
-    }
-    Ok(())
+    check_usage(&rt, &OTHER_WORDS)
 }

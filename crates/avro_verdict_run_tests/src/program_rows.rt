@@ -1,14 +1,25 @@
 //! Rows of the program's runs.
 
-use crate::confirming::{ONE, TEXT, TWO};
-use crate::texts::Text;
+use avro_runs::Row;
+use avro_samples::Text;
 
-/// A record whose second field is bytes, and not a text.
+/// A record of an int, a text and a null.
+const TEXT: &str =
+    r#"{"type":"record","name":"P","fields":[{"name":"a","type":"int"},{"name":"b","type":"string"},{"name":"d","type":"null"}]}"#;
+
+/// The same, whose second field is bytes, and not a text.
 const PLAIN: &str =
     r#"{"type":"record","name":"P","fields":[{"name":"a","type":"int"},{"name":"b","type":"bytes"},{"name":"d","type":"null"}]}"#;
 
+/// A record of two ints.
+const TWO: &str =
+    r#"{"type":"record","name":"R","fields":[{"name":"a","type":"int"},{"name":"b","type":"int"}]}"#;
+
+/// The same with the first field alone, as a long.
+const ONE: &str = r#"{"type":"record","name":"R","fields":[{"name":"a","type":"long"}]}"#;
+
 /// Files, and what they hold.
-pub(crate) const FILES: [(&str, &str); 16] = [
+pub(crate) const FILES: [(&str, &str); 13] = [
     ("int.avsc", "\"int\""),
     ("open.avsc", "{"),
     ("float.avsc", "\"float\""),
@@ -23,15 +34,6 @@ pub(crate) const FILES: [(&str, &str); 16] = [
     ),
     ("roots.cert", "approval 1\npair 0 0\nend\n"),
     ("least.cert", "approval 1\npair 0 0\npair 1 1\nend\n"),
-    (
-        "more.cert",
-        "approval 1\npair 0 0\npair 1 1\npair 2 1\nend\n",
-    ),
-    (
-        "unmatched.cert",
-        "approval 1\npair 0 0\npair 1 0\npair 1 1\nend\n",
-    ),
-    ("outside.cert", "approval 1\npair 0 0\npair 0 5\nend\n"),
     ("unended.cert", "approval 1\npair 0 0\n"),
     (
         "great_number.cert",
@@ -40,11 +42,10 @@ pub(crate) const FILES: [(&str, &str); 16] = [
 ];
 
 /// Files, and what their texts are built of.
-pub(crate) const BUILT: [(&str, Text); 9] = [
+pub(crate) const BUILT: [(&str, Text); 8] = [
     ("most.avsc", Text::Padded(1_048_576)),
     ("long.avsc", Text::Padded(1_048_577)),
     ("full.avsc", Text::Ints(4095)),
-    ("over.avsc", Text::Ints(4096)),
     ("deep.avsc", Text::Defaults(60)),
     ("large.avsc", Text::Doubled(11)),
     ("chain.avsc", Text::Chain(200)),
@@ -53,16 +54,9 @@ pub(crate) const BUILT: [(&str, Text); 9] = [
 ];
 
 /// The words of runs that judge, and their status and output.
-pub(crate) const VERDICTS: [(&str, u8, &str, &str); 16] = [
+pub(crate) const VERDICTS: [Row; 13] = [
     ("judge most.avsc int.avsc", 0, "yes\n", ""),
     ("judge long.avsc int.avsc", 3, "", "avro: long.avsc: S12\n"),
-    ("judge open.avsc int.avsc", 3, "", "avro: open.avsc: S1\n"),
-    (
-        "judge float.avsc int.avsc",
-        3,
-        "",
-        "avro: float.avsc: S10\n",
-    ),
     (
         "judge int.avsc float.avsc",
         3,
@@ -118,7 +112,6 @@ pub(crate) const VERDICTS: [(&str, u8, &str, &str); 16] = [
         "undecided Pairs\n",
         "",
     ),
-    ("judge large.avsc fieldless.avsc", 2, "undecided Size\n", ""),
     // A file that cannot be written is reported after the verdict.
     (
         "judge --certificate folder int.avsc int.avsc",
@@ -135,24 +128,11 @@ pub(crate) const VERDICTS: [(&str, u8, &str, &str); 16] = [
 ];
 
 /// The words of runs that confirm, and their status and output.
-pub(crate) const CONFIRMATIONS: [(&str, u8, &str, &str); 11] = [
+pub(crate) const CONFIRMATIONS: [Row; 8] = [
     ("confirm two.avsc one.avsc least.cert", 0, "confirmed\n", ""),
-    ("confirm two.avsc one.avsc more.cert", 0, "confirmed\n", ""),
-    // The certificate of an int for an int, one with a pair that does not match, and one with a number of no node.
+    // The certificate of an int for an int.
     (
         "confirm two.avsc one.avsc roots.cert",
-        1,
-        "not confirmed\n",
-        "",
-    ),
-    (
-        "confirm two.avsc one.avsc unmatched.cert",
-        1,
-        "not confirmed\n",
-        "",
-    ),
-    (
-        "confirm int.avsc int.avsc outside.cert",
         1,
         "not confirmed\n",
         "",
@@ -197,11 +177,10 @@ pub(crate) const CONFIRMATIONS: [(&str, u8, &str, &str); 11] = [
 ];
 
 /// The words of runs that read a schema, and their status and output.
-pub(crate) const SCHEMAS: [(&str, u8, &str, &str); 7] = [
+pub(crate) const SCHEMAS: [Row; 6] = [
     ("schema most.avsc", 0, "ok 1\n", ""),
     ("schema long.avsc", 3, "", "avro: long.avsc: S12\n"),
     ("schema full.avsc", 0, "ok 4096\n", ""),
-    ("schema over.avsc", 3, "", "avro: over.avsc: S12\n"),
     ("schema none.avsc", 4, "", "avro: none.avsc: cannot read\n"),
     (
         "schema unknown.avsc --canonical",
@@ -235,4 +214,11 @@ pub(crate) const USAGE: [&str; 21] = [
     "history int.avsc --confirm two.cert",
     "history int.avsc union.avsc --confirm two.cert --certificates no.cert",
     "history int.avsc union.avsc --certificates",
+];
+
+/// The words of runs, and how many bytes their output takes.
+pub(crate) const FULL: [(&str, usize); 3] = [
+    ("judge int.avsc int.avsc", 0),
+    ("judge int.avsc int.avsc", 3),
+    ("judge two.avsc int.avsc", 5),
 ];

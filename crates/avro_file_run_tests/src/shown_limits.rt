@@ -1,7 +1,7 @@
 //! Data that are shown up to a number of lines.
 
-use crate::files::{LONG_OR_INT, file_of};
-use avro_runs::outcome_of;
+use avro_runs::check_run;
+use avro_samples::{LONG_OR_INT, file_of};
 use std::fs;
 use std::test::Fail;
 
@@ -98,10 +98,7 @@ fn no_more_lines_are_shown_than_the_limit(rt: HostRuntime) -> Result<(), Fail> {
     fs::write(&rt, "refused.avsc", r#""Foo""#)?;
     for (words, status, out, err) in RUNS {
         let line = format!(in alloc; "show {words}")?;
-        let ran = outcome_of(&rt, &line)?;
-        assert_eq!(rt; ran.status, status, "{line}");
-        assert_eq!(rt; ran.out.as_slice(), out.as_bytes(), "{line}");
-        assert_eq!(rt; ran.err.as_slice(), err.as_bytes(), "{line}");
+        check_run(&rt, &line, status, out.as_bytes(), err.as_bytes())?;
     }
     Ok(())
 }

@@ -1,8 +1,7 @@
 //! Containers through the program: what it checks and shows, and the texts of its faults.
 
-use crate::files::{FIVE, LONG_OR_INT, NULL_HEADER, NULLS, file_of};
-use avro_runs::{Full, Given, outcome_of, words_of};
-use avro_tool::run;
+use avro_runs::{Row, check_full, check_rows, check_run, outcome_of};
+use avro_samples::{FIVE, LONG_OR_INT, NULL_HEADER, NULLS, file_of};
 use std::fs;
 use std::test::Fail;
 
@@ -18,7 +17,7 @@ const FILES: [(&str, &[u8]); 7] = [
 ];
 
 /// The words of runs on these files, and their status and output.
-const RUNS: [(&str, u8, &str, &str); 13] = [
+const RUNS: [Row; 13] = [
     ("check header.avro", 0, "data 0 blocks 0\n", ""),
     ("check nulls.avro", 0, "data 3 blocks 1\n", ""),
     ("check five.avro", 0, "data 1 blocks 1\n", ""),
@@ -55,13 +54,7 @@ fn runs_are_told(rt: HostRuntime) -> Result<(), Fail> {
         fs::write(&rt, file, bytes)?;
     }
     fs::create_dir(&rt, "folder")?;
-    for (line, status, out, err) in RUNS {
-        let ran = outcome_of(&rt, line)?;
-        assert_eq!(rt; ran.status, status, "{line}");
-        assert_eq!(rt; ran.out.as_slice(), out.as_bytes(), "{line}");
-        assert_eq!(rt; ran.err.as_slice(), err.as_bytes(), "{line}");
-    }
-    Ok(())
+    check_rows(&rt, &RUNS)
 }
 
 const RECORD: &str =
@@ -186,43 +179,28 @@ fn data_are_shown(rt: HostRuntime) -> Result<(), Fail> {
         let file = file_of(rt.alloc(), text, &[first, second])?;
         fs::write(&rt, "shown.avro", &file)?;
         fs::write(&rt, "shown.avsc", reader)?;
-        let ran = outcome_of(&rt, line_of(reader))?;
-        assert_eq!(rt; ran.status == 0, err.is_empty(), "{err}");
-        assert_eq!(rt; ran.out.as_slice(), out.as_bytes(), "{err}");
-        assert_eq!(rt; ran.err.as_slice(), err.as_bytes());
+        let status = if err.is_empty() { 0 } else { 3 };
+        check_run(&rt, line_of(reader), status, out.as_bytes(), err.as_bytes())?;
         let checked = outcome_of(&rt, "check shown.avro")?;
-        assert_eq!(rt;
-            checked.status == 0,
-            err.is_empty() || !reader.is_empty(),
-            "{err}"
-        );
+        let good = err.is_empty() || !reader.is_empty();
+        assert_eq!(rt; checked.status == 0, good, "{err}");
     }
     Ok(())
 }
 
+/// The words of runs, and how many bytes their output takes.
+const FULL: [(&str, usize); 5] = [
+    ("check full.avro", 0),
+    ("check full.avro", 15),
+    ("show full.avro", 0),
+    ("show full.avro", 14),
+    ("copy full.avro copied.avro", 3),
+];
+
 #[test]
 fn a_full_output_is_told(rt: HostRuntime) -> Result<(), Fail> {
     fs::write(&rt, "full.avro", NULLS)?;
-    for (line, room) in [
-        ("check full.avro", 0),
-        ("check full.avro", 15),
-        ("show full.avro", 0),
-        ("show full.avro", 14),
-        ("copy full.avro copied.avro", 3),
-    ] {
-        let words = words_of(&rt, line)?;
-        let mut err = Vec::new(rt.alloc());
-        let status = run(
-            &rt,
-            &words,
-            &mut Given::all(&[]),
-            &mut Full { room },
-            &mut err,
-        );
-        assert_eq!(rt; status, 4, "{line}");
-        assert_eq!(rt; err.as_slice(), "avro: output: cannot write\n".as_bytes());
-    }
-    let copied = fs::read(&rt, "copied.avro")?;
-    assert_eq!(rt; copied.as_slice(), NULLS);
+    check_full(&rt, b"", &FULL)?;
+    assert_eq!(rt; fs::read(&rt, "copied.avro")?.as_slice(), NULLS);
     Ok(())
 }

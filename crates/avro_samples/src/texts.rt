@@ -1,20 +1,30 @@
-//! Texts of schemas for the other files.
+//! Texts of schemas.
 
 use std::alloc::{AllocError, Global};
 
 /// The text of a schema, or what it is built of and how many.
 #[derive(Clone, Copy)]
-pub(crate) enum Text {
+pub enum Text {
+    /// This text.
     Plain(&'static str),
+    /// An int, with blanks up to this length.
     Padded(usize),
+    /// A record of this number of fields, each an int.
     Ints(u32),
+    /// A record of unions with a default of this depth, which no branch takes.
     Defaults(u32),
+    /// This number of records, each of which holds the one before twice.
     Doubled(u32),
+    /// A union of this number of records, each of which holds the one before.
     Chain(u32),
 }
 
 /// The text that is built.
-pub(crate) fn built(alloc: Global, text: Text) -> Result<String, AllocError> {
+///
+/// # Errors
+///
+/// Memory ran out.
+pub fn built(alloc: Global, text: Text) -> Result<String, AllocError> {
     match text {
         Text::Plain(text) => String::from_str(alloc, text),
         Text::Padded(len) => padded_int(alloc, len),
@@ -35,7 +45,7 @@ fn padded_int(alloc: Global, len: usize) -> Result<String, AllocError> {
 }
 
 /// A record of this number of fields, each an int.
-pub(crate) fn record_of_ints(alloc: Global, fields: u32) -> Result<String, AllocError> {
+fn record_of_ints(alloc: Global, fields: u32) -> Result<String, AllocError> {
     let mut text = String::from_str(alloc, r#"{"type":"record","name":"R","fields":["#)?;
     for number in 0..fields {
         if number > 0 {

@@ -1,8 +1,7 @@
 //! Checks of several files, and their answers as lines of JSON.
 
-use crate::files::{FIVE, NULL_HEADER, NULLS};
-use avro_runs::{Counted, Full, Given, lines_of, outcome_of, words_of};
-use avro_tool::run;
+use avro_runs::{Row, calls_of, check_rows, check_usage, lines_of, outcome_at, outcome_of};
+use avro_samples::{FIVE, NULL_HEADER, NULLS};
 use serde_json::Value;
 use std::fs;
 use std::test::Fail;
@@ -17,7 +16,7 @@ const FILES: [(&str, &[u8]); 5] = [
 ];
 
 /// The words of runs, and their status and output. The status is that of the first fault.
-const RUNS: [(&str, u8, &str, &str); 17] = [
+const RUNS: [Row; 17] = [
     ("check five", 0, "data 1 blocks 1\n", ""),
     (
         "check nulls five header",
@@ -112,26 +111,14 @@ fn each_of_several_files_is_checked(rt: HostRuntime) -> Result<(), Fail> {
     }
     fs::write(&rt, "q\"u\\o\u{1}\u{e9}\u{1f600}", FIVE)?;
     fs::create_dir(&rt, "many_folder")?;
-    for (line, status, out, err) in RUNS {
-        let ran = outcome_of(&rt, line)?;
-        assert_eq!(rt; ran.status, status, "{line}");
-        assert_eq!(rt; ran.out.as_slice(), out.as_bytes(), "{line}");
-        assert_eq!(rt; ran.err.as_slice(), err.as_bytes(), "{line}");
-        let words = words_of(&rt, line)?;
-        let mut told = Counted::new();
-        let mut faults = Counted::new();
-        let _ = run(&rt, &words, &mut Given::all(&[]), &mut told, &mut faults);
-        assert_eq!(rt; told.calls, lines_of(out), "{line}");
-        assert_eq!(rt; faults.calls, lines_of(err), "{line}");
-        assert_eq!(rt; told.torn, 0, "{line}");
-        assert_eq!(rt; faults.torn, 0, "{line}");
+    check_rows(&rt, &RUNS)?;
+    for (line, _, out, err) in RUNS {
+        let (told, faults) = calls_of(&rt, line)?;
+        let lines = (lines_of(out), lines_of(err));
+        assert_eq!(rt; (told.calls, faults.calls), lines, "{line}");
+        assert_eq!(rt; (told.torn, faults.torn), (0, 0), "{line}");
     }
-    for line in USAGE {
-        let ran = outcome_of(&rt, line)?;
-        assert_eq!(rt; ran.status, 64, "{line}");
-        assert!(rt; ran.out.is_empty(), "{line}");
-    }
-    Ok(())
+    check_usage(&rt, &USAGE)
 }
 
 #[test]
@@ -148,10 +135,10 @@ fn counts_are_values_of_json(rt: HostRuntime) -> Result<(), Fail> {
     };
     let file = value.pointer("/file").and_then(Value::as_str);
     assert_eq!(rt; file.unwrap_or(""), name);
-    let data = value.pointer("/data").and_then(Value::as_u64);
-    assert_eq!(rt; data, Some(3));
-    let blocks = value.pointer("/blocks").and_then(Value::as_u64);
-    assert_eq!(rt; blocks, Some(1));
+    for (place, count) in [("/data", 3), ("/blocks", 1)] {
+        let found = value.pointer(place).and_then(Value::as_u64);
+        assert_eq!(rt; found, Some(count), "{place}");
+    }
     Ok(())
 }
 
@@ -179,17 +166,9 @@ fn a_full_output_ends_the_checks(rt: HostRuntime) -> Result<(), Fail> {
         fs::write(&rt, file, bytes)?;
     }
     for (line, room, status, err) in FULL {
-        let words = words_of(&rt, line)?;
-        let mut told = Vec::new(rt.alloc());
-        let found = run(
-            &rt,
-            &words,
-            &mut Given::all(&[]),
-            &mut Full { room },
-            &mut told,
-        );
-        assert_eq!(rt; found, status, "{line}");
-        assert_eq!(rt; told.as_slice(), err.as_bytes(), "{line}");
+        let found = outcome_at(&rt, line, b"", room)?;
+        assert_eq!(rt; found.status, status, "{line}");
+        assert_eq!(rt; found.err.as_slice(), err.as_bytes(), "{line}");
     }
     Ok(())
 }
