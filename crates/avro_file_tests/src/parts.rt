@@ -110,12 +110,12 @@ fn sink_at(alloc: Global, call: usize) -> [Result<(), CopyError>; 3] {
 
 #[test]
 fn a_sink_stays_failed(rt: HostRuntime) -> Result<(), Fail> {
-    let (failed, again) = (Err(CopyError::OutputFailed), Err(CopyError::FailedBefore));
     for call in 0..40 {
         let wanted = if call < 21 {
-            [failed, Ok(()), Ok(())]
+            [Err(CopyError::OutputFailed), Ok(()), Ok(())]
         } else {
-            [Ok(()), failed, again]
+            let failed = Err(CopyError::OutputFailed);
+            [Ok(()), failed, Err(CopyError::FailedBefore)]
         };
         assert_eq!(rt; sink_at(rt.alloc(), call), wanted, "{call}");
     }
