@@ -15,7 +15,7 @@ DESTDIR ?=
 
 PROGRAM := crates/avro/out/avro
 LIBRARY := bindings/out/libavro.so
-TESTS := avro_rows avro_binary_rows avro_verdict_rows avro_file_rows
+TESTS := avro_schema_tests avro_binary_tests avro_verdict_tests avro_file_tests avro_verdict_run_tests avro_file_run_tests
 
 .DEFAULT_GOAL := help
 .PHONY: help try files program library install quick test check fmt bench robust words clean

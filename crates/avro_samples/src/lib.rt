@@ -1,0 +1,10 @@
+//! Samples for tests: texts of schemas, and container files.
+#![tactic(auto)]
+
+mod containers;
+mod texts;
+
+pub use containers::{
+    FIVE, FIVE_COPIED, LONG_OR_INT, MARK, NULL_HEADER, NULLS, file_of, file_with,
+};
+pub use texts::{Text, built};

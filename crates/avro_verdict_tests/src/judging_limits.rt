@@ -1,0 +1,110 @@
+//! Verdicts at the limits of judging, and beyond them.
+
+use crate::judging::verdict;
+use avro_judge::{JudgeLimits, Verdict, judge};
+use avro_schema::{Draft, Limits, Node};
+use avro_schema_json::read_schema;
+use std::alloc::Global;
+use std::test::Fail;
+
+/// A union of two records, of which the second is as large and less deep.
+const SHALLOWER: &str =
+    r#"[{"type":"record","name":"C","fields":[{"name":"f","type":{"type":"record","name":"D","fields":[{"name":"f","type":{"type":"record","name":"E","fields":[]}}]}}]},{"type":"record","name":"G","fields":[{"name":"a","type":"E"},{"name":"b","type":"E"}]}]"#;
+
+/// A record of one int.
+const ONE: &str = r#"{"type":"record","name":"R","fields":[{"name":"x","type":"int"}]}"#;
+
+const INT: &str = r#""int""#;
+
+/// A record of a fixed of two bytes and an int, and the same with a string for the int.
+const FIXED_AND_INT: &str =
+    r#"{"type":"record","name":"R","fields":[{"name":"f","type":{"type":"fixed","name":"F","size":2}},{"name":"x","type":"int"}]}"#;
+
+const FIXED_AND_STRING: &str =
+    r#"{"type":"record","name":"R","fields":[{"name":"f","type":{"type":"fixed","name":"F","size":2}},{"name":"x","type":"string"}]}"#;
+
+/// Writers and readers, limits of depth, size and pairs, and the verdict. Contents have no limit.
+const ROWS: [(&str, &str, (u32, u32, u32), &str); 7] = [
+    (
+        SHALLOWER,
+        INT,
+        (3, 4096, 4_194_304),
+        "no\nfault NoMatch at /0\nnodes 4\ndatum {\"G\":{\"a\":{},\"b\":{}}}\n",
+    ),
+    (SHALLOWER, INT, (2, 4096, 4_194_304), "undecided Depth\n"),
+    (SHALLOWER, INT, (3, 3, 4_194_304), "undecided Size\n"),
+    (ONE, INT, (128, 4096, 1), "undecided Pairs\n"),
+    (
+        ONE,
+        INT,
+        (128, 2, 2),
+        "no\nfault NoMatch at /\nnodes 2\ndatum {\"x\":0}\n",
+    ),
+    (ONE, ONE, (1, 1, 4), "yes\n"),
+    (
+        FIXED_AND_INT,
+        FIXED_AND_STRING,
+        (128, 4096, 4_194_304),
+        "no\nfault NoMatch at /1\nnodes 3\ndatum {\"f\":\"\\u0000\\u0000\",\"x\":0}\n",
+    ),
+];
+
+/// A verdict at limits of depth, size and pairs, of data without contents.
+fn verdict_at(
+    alloc: Global,
+    writer: &str,
+    reader: &str,
+    numbers: (u32, u32, u32),
+) -> Result<String, Fail> {
+    let (depth, size, pairs) = numbers;
+    let limits = Limits::new(depth, 1_048_576, 1).ok_or("limits")?;
+    let limits = JudgeLimits::new(pairs, size, limits).ok_or("limits of judging")?;
+    verdict(alloc, writer, reader, &limits)
+}
+
+#[test]
+fn limits_are_exact(rt: HostRuntime) -> Result<(), Fail> {
+    for (writer, reader, numbers, text) in ROWS {
+        let found = verdict_at(rt.alloc(), writer, reader, numbers)?;
+        assert_eq!(rt; found.as_str(), text, "{writer} {reader}");
+    }
+    Ok(())
+}
+
+/// The verdict of an int, in a schema with a second node, for an int at a limit of pairs.
+fn verdict_of_two_nodes(alloc: Global, pairs: u32) -> Result<String, Fail> {
+    let mut draft = Draft::new(alloc);
+    draft.add(Node::Int)?;
+    draft.add(Node::Long)?;
+    let writer = draft.finish()?;
+    let reader = read_schema(alloc, "\"int\"".as_bytes())?;
+    let limits = JudgeLimits::new(pairs, 1, Limits::default()).ok_or("limits")?;
+    match judge(alloc, &writer, &reader, &limits)? {
+        Verdict::Approved(_) => Ok(String::from_str(alloc, "yes")?),
+        Verdict::Undecided(cause) => Ok(format!(in alloc; "undecided {cause:?}")?),
+        Verdict::Refuted(_) => Ok(String::from_str(alloc, "no")?),
+    }
+}
+
+/// Numbers of pairs and sizes, and whether they are limits of judging data of at most 3 nodes.
+const RANGES: [(u32, u32, bool); 4] = [
+    (16_777_216, 3, true),
+    (0, 1, false),
+    (16_777_217, 1, false),
+    (1, 4, false),
+];
+
+#[test]
+fn limits_of_judging_have_ranges(rt: HostRuntime) -> Result<(), Fail> {
+    let limits = Limits::new(1, 3, 1).ok_or("limits")?;
+    for (pairs, size, good) in RANGES {
+        assert_eq!(rt; JudgeLimits::new(pairs, size, limits).is_some(), good);
+    }
+    let limits = JudgeLimits::default();
+    let found = (limits.pairs(), limits.size(), limits.limits().depth());
+    assert_eq!(rt; found, (4_194_304, 4096, 128));
+    for (pairs, text) in [(1, "undecided Pairs"), (2, "yes")] {
+        assert_eq!(rt; verdict_of_two_nodes(rt.alloc(), pairs)?.as_str(), text);
+    }
+    Ok(())
+}
