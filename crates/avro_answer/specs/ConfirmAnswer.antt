@@ -3,7 +3,7 @@ use Rattle.std.specs.Prelude.{◌≡◌, ◌↔◌, ℕ, true, false, List, code
 use Rattle.avro_schema.specs.Node.{Node}
 use Rattle.avro_schema_json.specs.DeclaredText.{DeclaresText}
 use Rattle.avro_certificate.specs.Closed.{Pair, is_closed}
-use Rattle.avro_certificate.specs.CertificateText.{CertText}
+use Rattle.avro_certificate.specs.CertificateText.{CertText, are_small}
 use Rattle.avro_certificate.specs.CertificateRead.{Refuses}
 use Rattle.avro_answer.specs.RefusalText.{HasCode, HasSchema}
 use Rattle.avro_answer.specs.declared.refusal.Refusal.{Refusal}
@@ -19,6 +19,11 @@ pub record SetsAnswer (writer reader : List Node) (dead : List ℕ) (pairs : Lis
   pub confirmed : IsConfirmed text status ↔ (is_closed writer reader dead pairs ≡ true)
   pub refused : IsNotConfirmed text status ↔ (is_closed writer reader dead pairs ≡ false)
 
+-- What the status says of them, in each form of the answer: 0 exactly where the sets are closed, 1 exactly where not.
+pub record SetsStatus (writer reader : List Node) (dead : List ℕ) (pairs : List Pair) (status : ℕ) : Type 0 where
+  pub confirmed : (status ≡ 0) ↔ (is_closed writer reader dead pairs ≡ true)
+  pub refused : (status ≡ 1) ↔ (is_closed writer reader dead pairs ≡ false)
+
 -- What is answered of three texts: two declare schemas, the third is a certificate's, and it is the answer of those.
 pub record ConfirmAnswer (writer reader certificate text : List ℕ) (status : ℕ) : Type 0 where
   pub written : List Node
@@ -29,6 +34,21 @@ pub record ConfirmAnswer (writer reader certificate text : List ℕ) (status : �
   pub declares_read : DeclaresText reader read
   pub certifies : CertText dead pairs certificate
   pub answered : SetsAnswer written read dead pairs text status
+
+-- What the status says of three texts, in each form of the answer.
+pub record ConfirmStatus (writer reader certificate : List ℕ) (status : ℕ) : Type 0 where
+  pub written : List Node
+  pub read : List Node
+  pub dead : List ℕ
+  pub pairs : List Pair
+  pub declares_written : DeclaresText writer written
+  pub declares_read : DeclaresText reader read
+  pub certifies : CertText dead pairs certificate
+  pub answered : SetsStatus written read dead pairs status
+
+-- the text is a certificate's, of numbers that a schema's nodes can have
+abbrev pub HasCertificate : List ℕ → Type 0
+HasCertificate text = (dead : List ℕ) × (pairs : List Pair) × CertText dead pairs text × (are_small dead pairs ≡ true)
 
 -- What a refusal says of three texts: the first that is refused is this one.
 abbrev pub RefusesOneOf : List ℕ → List ℕ → List ℕ → Refusal → Type 0

@@ -57,3 +57,11 @@ pub record JudgeAnswer (writer reader : List ℕ) (limits : JudgeLimitValues) (t
   pub declares_written : DeclaresText writer written
   pub declares_read : DeclaresText reader read
   pub answered : SchemasAnswer written read limits text status
+
+-- What the status says of two texts, in each form of the answer: both declare schemas, and it is the status of those.
+pub record JudgeStatus (writer reader : List ℕ) (limits : JudgeLimitValues) (status : ℕ) : Type 0 where
+  pub written : List Node
+  pub read : List Node
+  pub declares_written : DeclaresText writer written
+  pub declares_read : DeclaresText reader read
+  pub answered : StatusAnswer written read limits status

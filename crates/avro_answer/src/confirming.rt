@@ -2,8 +2,10 @@ ghost use Rattle.std.specs.Prelude.{◌≡◌, true, false, codes, IfOk};
 ghost use Rattle.std.specs.Result.{IfErr};
 ghost use Rattle.avro_schema.specs.SeenSchema.{schema_nodes};
 ghost use Rattle.avro_certificate.specs.SeenCertificate.{dead_of, pairs_in};
-ghost use Rattle.avro_answer.specs.ConfirmAnswer.{SetsAnswer, ConfirmAnswer, RefusesOneOf};
+ghost use Rattle.avro_answer.specs.ConfirmAnswer.{SetsAnswer, SetsStatus, ConfirmAnswer, ConfirmStatus, HasCertificate, RefusesOneOf};
+ghost use Rattle.avro_answer.specs.RefusalText.{HaveSchemas};
 ghost use Rattle.avro_answer.specs.declared.form.Form.{Form};
+ghost use Rattle.avro_answer.specs.declared.refusal.Refusal.TheVariants.{OutOfMemory};
 
 use crate::answer::Answer;
 use crate::form::Form;
@@ -28,6 +30,7 @@ pub fn confirm_schemas(
     form: Form,
 ) -> Result<Answer, Memory>
     ensures answered { IfOk result (λ a. form ≡ Form.Text → SetsAnswer (schema_nodes writer.now) (schema_nodes reader.now) (dead_of certificate.now) (pairs_in certificate.now) a.text.items a.status) }
+    ensures status { IfOk result (λ a. SetsStatus (schema_nodes writer.now) (schema_nodes reader.now) (dead_of certificate.now) (pairs_in certificate.now) a.status) }
 {
     let is_confirmed = confirm(alloc, writer, reader, certificate)?.is_some();
     Ok(answer_confirmed(alloc, is_confirmed, form)?)
@@ -77,7 +80,9 @@ pub fn confirm_text(
     form: Form,
 ) -> Result<Answer, Refusal>
     ensures answered { IfOk result (λ a. form ≡ Form.Text → ConfirmAnswer writer.now reader.now certificate.now a.text.items a.status) }
+    ensures status { IfOk result (λ a. ConfirmStatus writer.now reader.now certificate.now a.status) }
     ensures refused { IfErr result (RefusesOneOf writer.now reader.now certificate.now) }
+    ensures complete { HaveSchemas writer.now reader.now → HasCertificate certificate.now → IfErr result (λ e. e ≡ OutOfMemory) }
 {
     let writer = read_writer(alloc, writer)?;
     let reader = read_reader(alloc, reader)?;

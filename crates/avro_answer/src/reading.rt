@@ -7,9 +7,10 @@ ghost use Rattle.avro_schema_json.specs.Declaration.{max_text};
 ghost use Rattle.avro_schema_json.specs.DeclaredText.{DeclaresText};
 ghost use Rattle.avro_certificate.specs.CertificateText.{CertText};
 ghost use Rattle.avro_certificate.specs.SeenCertificate.{dead_of, pairs_in};
+ghost use Rattle.avro_answer.specs.ConfirmAnswer.{HasCertificate};
 ghost use Rattle.avro_answer.specs.RefusalText.{HasSchema, RefusesOne};
 ghost use Rattle.avro_answer.specs.inside.Read.{RefusesReader, RefusesCertificate};
-ghost use Rattle.avro_answer.specs.declared.refusal.Refusal.TheVariants.{OutOfMemory, Reader, Writer};
+ghost use Rattle.avro_answer.specs.declared.refusal.Refusal.TheVariants.{OutOfMemory};
 ghost use Rattle.avro_schema_json.specs.declared.error.SchemaError.{SchemaError};
 
 use crate::refusal::Refusal;
@@ -26,7 +27,7 @@ pub(crate) fn read_writer(alloc: Global, text: &[u8]) -> Result<Schema, Refusal>
 {
     match read_schema(alloc, text) {
         Ok(schema) => Ok(schema),
-        Err(e) => Err(writer_refusal(e)),
+        Err(e) => Err(unless_memory(e, Refusal::Writer(e))),
     }
 }
 
@@ -38,31 +39,19 @@ pub(crate) fn read_reader(alloc: Global, text: &[u8]) -> Result<Schema, Refusal>
 {
     match read_schema(alloc, text) {
         Ok(schema) => Ok(schema),
-        Err(e) => Err(reader_refusal(e)),
+        Err(e) => Err(unless_memory(e, Refusal::Reader(e))),
     }
 }
 
-/// The refusal of the writer's text.
-fn writer_refusal(e: SchemaError) -> Refusal
+/// A refusal, unless it is that memory ran out.
+fn unless_memory(e: SchemaError, refusal: Refusal) -> Refusal
     ensures memory { e ≡ SchemaError.OutOfMemory → result ≡ OutOfMemory }
-    ensures other { (e ≡ SchemaError.OutOfMemory → ⊥) → result ≡ Writer e }
+    ensures other { (e ≡ SchemaError.OutOfMemory → ⊥) → result ≡ refusal }
 {
     if e == SchemaError::OutOfMemory {
         Refusal::OutOfMemory
     } else {
-        Refusal::Writer(e)
-    }
-}
-
-/// The refusal of the reader's text.
-fn reader_refusal(e: SchemaError) -> Refusal
-    ensures memory { e ≡ SchemaError.OutOfMemory → result ≡ OutOfMemory }
-    ensures other { (e ≡ SchemaError.OutOfMemory → ⊥) → result ≡ Reader e }
-{
-    if e == SchemaError::OutOfMemory {
-        Refusal::OutOfMemory
-    } else {
-        Refusal::Reader(e)
+        refusal
     }
 }
 
@@ -70,6 +59,7 @@ fn reader_refusal(e: SchemaError) -> Refusal
 pub(crate) fn read_certificate(alloc: Global, text: &[u8]) -> Result<Certificate, Refusal>
     ensures found { IfOk result (λ c. CertText (dead_of c) (pairs_in c) text.now) }
     ensures refused { IfErr result (RefusesCertificate text.now) }
+    ensures complete { HasCertificate text.now → IfErr result (λ e. e ≡ OutOfMemory) }
 {
     match Certificate::read(alloc, text) {
         Ok(certificate) => Ok(certificate),
