@@ -18,3 +18,5 @@ mod refutations;
 mod shown_headers;
 #[cfg(test)]
 mod shown_limits;
+#[cfg(test)]
+mod words;

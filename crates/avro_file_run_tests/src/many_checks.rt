@@ -1,6 +1,6 @@
 //! Checks of several files, and their answers as lines of JSON.
 
-use avro_runs::{Row, calls_of, check_rows, check_usage, lines_of, outcome_at, outcome_of};
+use avro_runs::{Row, calls_of, check_rows, lines_of, outcome_at, outcome_of};
 use avro_samples::{FIVE, NULL_HEADER, NULLS};
 use serde_json::Value;
 use std::fs;
@@ -101,9 +101,6 @@ const RUNS: [Row; 17] = [
     ),
 ];
 
-/// Words that are usage.
-const USAGE: [&str; 3] = ["check", "check --json", "check five --limit 1"];
-
 #[test]
 fn each_of_several_files_is_checked(rt: HostRuntime) -> Result<(), Fail> {
     for (file, bytes) in FILES {
@@ -118,7 +115,7 @@ fn each_of_several_files_is_checked(rt: HostRuntime) -> Result<(), Fail> {
         assert_eq!(rt; (told.calls, faults.calls), lines, "{line}");
         assert_eq!(rt; (told.torn, faults.torn), (0, 0), "{line}");
     }
-    check_usage(&rt, &USAGE)
+    Ok(())
 }
 
 #[test]

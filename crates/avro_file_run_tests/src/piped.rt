@@ -1,9 +1,9 @@
-//! Copies from the standard input to the standard output, and the version.
+//! Copies from the standard input to the standard output.
 
 use crate::program_copies::MARKED;
 use avro_runs::{
-    Counted, Full, Given, InputRow, check_full, check_input, check_inputs, check_run, check_usage,
-    outcome_from, outcome_of, run, words_of,
+    Counted, Full, Given, InputRow, check_input, check_inputs, outcome_from, outcome_of, run,
+    words_of,
 };
 use avro_samples::{FIVE, FIVE_COPIED, LONG_OR_INT, NULL_HEADER, NULLS, file_of};
 use std::alloc::{AllocError, Global};
@@ -166,25 +166,15 @@ fn a_failing_input_is_told(rt: HostRuntime) -> Result<(), Fail> {
     Ok(())
 }
 
-/// The words of pipes of 59 bytes and of the version, and how many bytes their output takes.
-const FULL: [(&str, usize); 6] = [
-    ("pipe --counts", 0),
-    ("pipe --counts", 1),
-    ("pipe --counts", 40),
-    ("pipe --counts", 41),
-    ("pipe", 58),
-    ("--version", 3),
-];
-
+/// A copy that is whole is good though its numbers cannot be reported.
 #[test]
-fn a_failing_output_is_told(rt: HostRuntime) -> Result<(), Fail> {
-    check_full(&rt, NULLS, &FULL)?;
-    // A copy that is whole is good though its numbers cannot be reported.
+fn counts_may_be_lost(rt: HostRuntime) -> Result<(), Fail> {
     let words = words_of(&rt, "pipe --counts")?;
     let mut out = Vec::new(rt.alloc());
     let mut input = Given::all(NULLS);
     let status = run(&rt, &words, &mut input, &mut out, &mut Full { room: 3 });
-    assert_eq!(rt; (status, out.as_slice()), (0, NULLS));
+    assert_eq!(rt; status, 0);
+    assert_eq!(rt; out.as_slice(), NULLS);
     Ok(())
 }
 
@@ -212,31 +202,5 @@ fn blocks_are_put_whole(rt: HostRuntime) -> Result<(), Fail> {
     assert_eq!(rt; (out.calls, out.bytes), (3, file.len()));
     assert_eq!(rt; (err.calls, err.bytes), (1, 16));
     assert!(rt; input.calls < 8);
-    Ok(())
-}
-
-/// Words that have not the form of the program's.
-const OTHER_WORDS: [&str; 9] = [
-    "pipe x",
-    "pipe -",
-    "pipe x y",
-    "pipe --sync",
-    "pipe --reader",
-    "pipe --counts x",
-    "pipe --certificate y",
-    "pipe --help",
-    "pipe --version",
-];
-
-#[test]
-fn other_words_are_usage(rt: HostRuntime) -> Result<(), Fail> {
-    check_usage(&rt, &OTHER_WORDS)
-}
-
-#[test]
-fn the_version_is_told(rt: HostRuntime) -> Result<(), Fail> {
-    for line in ["--version", "-V"] {
-        check_run(&rt, line, 0, b"avro 1.0.0\n", b"")?;
-    }
     Ok(())
 }

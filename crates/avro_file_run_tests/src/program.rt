@@ -1,6 +1,6 @@
 //! Containers through the program: what it checks and shows, and the texts of its faults.
 
-use avro_runs::{Row, check_full, check_rows, check_run, outcome_of};
+use avro_runs::{Row, check_rows, check_run, outcome_of};
 use avro_samples::{FIVE, LONG_OR_INT, NULL_HEADER, NULLS, file_of};
 use std::fs;
 use std::test::Fail;
@@ -185,22 +185,5 @@ fn data_are_shown(rt: HostRuntime) -> Result<(), Fail> {
         let good = err.is_empty() || !reader.is_empty();
         assert_eq!(rt; checked.status == 0, good, "{err}");
     }
-    Ok(())
-}
-
-/// The words of runs, and how many bytes their output takes.
-const FULL: [(&str, usize); 5] = [
-    ("check full.avro", 0),
-    ("check full.avro", 15),
-    ("show full.avro", 0),
-    ("show full.avro", 14),
-    ("copy full.avro copied.avro", 3),
-];
-
-#[test]
-fn a_full_output_is_told(rt: HostRuntime) -> Result<(), Fail> {
-    fs::write(&rt, "full.avro", NULLS)?;
-    check_full(&rt, b"", &FULL)?;
-    assert_eq!(rt; fs::read(&rt, "copied.avro")?.as_slice(), NULLS);
     Ok(())
 }

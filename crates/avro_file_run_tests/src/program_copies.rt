@@ -1,6 +1,6 @@
 //! Copies through the program: its files, and the order of its faults.
 
-use avro_runs::{check_run, check_usage};
+use avro_runs::check_run;
 use avro_samples::{FIVE, FIVE_COPIED, LONG_OR_INT, NULL_HEADER, NULLS, file_of};
 use std::fs;
 use std::test::Fail;
@@ -164,21 +164,4 @@ fn faults_before_the_copy_touch_no_file(rt: HostRuntime) -> Result<(), Fail> {
     }
     assert_eq!(rt; fs::read(&rt, "kept.avro")?.as_slice(), b"kept".as_slice());
     Ok(())
-}
-
-/// Words that have not the form of the program's.
-const OTHER_WORDS: [&str; 8] = [
-    "copy x",
-    "copy x x x",
-    "copy x x --sync",
-    "copy x x --certificate y",
-    "check",
-    "check x --reader y",
-    "show x y",
-    "show x --sync 00",
-];
-
-#[test]
-fn other_words_are_usage(rt: HostRuntime) -> Result<(), Fail> {
-    check_usage(&rt, &OTHER_WORDS)
 }

@@ -1,6 +1,6 @@
 //! The command that shows what the header of a container says.
 
-use avro_runs::{Row, check_full, check_rows, check_run, check_usage, outcome_of};
+use avro_runs::{Row, check_rows, check_run, outcome_of};
 use avro_samples::{FIVE, MARK, NULL_HEADER, NULLS, file_with};
 use std::alloc::{AllocError, Global};
 use std::fs;
@@ -165,32 +165,4 @@ fn headers_of_files_are_shown(rt: HostRuntime) -> Result<(), Fail> {
     fs::write(&rt, "spoiled.head", &spoiled)?;
     fs::create_dir(&rt, "head_folder")?;
     check_rows(&rt, &RUNS)
-}
-
-/// Words that have not the form of the program's.
-const OTHER_WORDS: [&str; 6] = [
-    "header",
-    "header x y",
-    "header --metadata",
-    "header x --reader y",
-    "header x --counts",
-    "header x --version",
-];
-
-#[test]
-fn other_words_of_headers_are_usage(rt: HostRuntime) -> Result<(), Fail> {
-    check_usage(&rt, &OTHER_WORDS)
-}
-
-/// The words of runs, and how many bytes their output takes.
-const FULL: [(&str, usize); 3] = [
-    ("header full.head", 0),
-    ("header full.head", 6),
-    ("header full.head --metadata", 9),
-];
-
-#[test]
-fn a_full_output_of_headers_is_told(rt: HostRuntime) -> Result<(), Fail> {
-    fs::write(&rt, "full.head", NULLS)?;
-    check_full(&rt, b"", &FULL)
 }

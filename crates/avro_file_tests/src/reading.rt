@@ -170,8 +170,8 @@ fn no_byte_behind_a_part_is_taken(rt: HostRuntime) -> Result<(), Fail> {
     assert_eq!(rt; *header.sync(), MARK);
     assert_eq!(rt; header.metadata().len(), 1);
     for (name, content) in header.metadata() {
-        let found = (name.as_str(), content.as_slice());
-        assert_eq!(rt; found, ("avro.schema", INT.as_bytes()));
+        assert_eq!(rt; name.as_str(), "avro.schema");
+        assert_eq!(rt; content.as_slice(), INT.as_bytes());
     }
     let mut blocks = Blocks::new(alloc, &header, &limits);
     let mut file = rest.to_vec(alloc)?;
@@ -181,8 +181,8 @@ fn no_byte_behind_a_part_is_taken(rt: HostRuntime) -> Result<(), Fail> {
         let Some(block) = blocks.next(&mut ReadInput::new(&mut rest))? else {
             return Err(Fail::new("a block is there"));
         };
-        let found = (rest.len(), block.count(), block.body());
-        assert_eq!(rt; found, (left, 1, b"\x0a".as_slice()));
+        assert_eq!(rt; (rest.len(), block.count()), (left, 1));
+        assert_eq!(rt; block.body(), b"\x0a".as_slice());
         let data = block.read(None, &mut Tree)?;
         assert_eq!(rt; data.as_slice(), [Datum::Int(5)].as_slice());
     }

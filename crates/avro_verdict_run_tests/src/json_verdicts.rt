@@ -165,8 +165,8 @@ fn names_of_files_are_escaped(rt: HostRuntime) -> Result<(), Fail> {
             return Err(Fail::new("a line is text"));
         };
         let value = value_of(rt.alloc(), told)?;
-        let found = (text_at(&value, "/file"), text_at(&value, "/verdict"));
-        assert_eq!(rt; found, (name, "yes"), "{name}");
+        assert_eq!(rt; text_at(&value, "/file"), name, "{name}");
+        assert_eq!(rt; text_at(&value, "/verdict"), "yes", "{name}");
     }
     Ok(())
 }
