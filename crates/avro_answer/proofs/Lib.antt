@@ -1,3 +1,5 @@
+pub mod FaultsAnswers
+pub mod PairLimits
 pub mod Refused
 pub mod TextLaws
 pub mod VerdictAnswers

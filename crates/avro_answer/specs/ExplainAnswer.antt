@@ -1,5 +1,5 @@
 -- What `avro explain` answers of two texts: its verdict, and its exit status.
-use Rattle.std.specs.Prelude.{◌≡◌, ℕ, ◌⊎◌, List, codes}
+use Rattle.std.specs.Prelude.{◌≡◌, ◌↔◌, ℕ, ◌⊎◌, List, codes}
 use Rattle.avro_schema.specs.Node.{Node}
 use Rattle.avro_schema_json.specs.DeclaredText.{DeclaresText}
 use Rattle.avro_certificate.specs.Closed.{Pair}
@@ -11,15 +11,27 @@ use Rattle.avro_answer.specs.JudgeAnswer.{IsYes}
 abbrev pub IsOverPairs : List ℕ → ℕ → Type 0
 IsOverPairs text status = (text ≡ codes "undecided Pairs\n") × (status ≡ 2)
 
+-- the roots lead to more pairs of nodes than the limit, but for the writer's nodes that no datum has
+abbrev pub IsOverLimit : List Node → List Node → ℕ → Type 0
+IsOverLimit writer reader limit = (dead : List ℕ) × (pairs : List Pair) × IsGreatestDead writer dead × AreTooMany writer reader dead limit pairs
+
 -- What is answered of two schemas, of which at most so many pairs of nodes are gone through.
 pub record FaultsAnswer (writer reader : List Node) (limit : ℕ) (text : List ℕ) (status : ℕ) : Type 0 where
-  -- after a yes no datum of the writer's fails, of any size, and after a no some datum does
-  pub yes : IsYes text status → AreCompatible writer reader
-  pub no : status ≡ 1 → AreCompatible writer reader → ⊥
-  -- undecided only where the roots lead to more pairs than the limit
-  pub undecided : IsOverPairs text status → (dead : List ℕ) × (pairs : List Pair) × IsGreatestDead writer dead × AreTooMany writer reader dead limit pairs
+  -- yes exactly where the pairs are within the limit and no datum of the writer's fails, of any size
+  pub yes : IsYes text status ↔ ((IsOverLimit writer reader limit → ⊥) × AreCompatible writer reader)
+  -- a no exactly where they are within it and not every datum resolves
+  pub no : (status ≡ 1) ↔ ((IsOverLimit writer reader limit → ⊥) × (AreCompatible writer reader → ⊥))
+  -- undecided exactly where the roots lead to more pairs than the limit
+  pub undecided : IsOverPairs text status ↔ IsOverLimit writer reader limit
   -- there is no other answer
   pub known : IsYes text status ⊎ (status ≡ 1) ⊎ IsOverPairs text status
+
+-- What the status says of two schemas, in each form of the answer.
+pub record FaultsStatus (writer reader : List Node) (limit status : ℕ) : Type 0 where
+  pub yes : (status ≡ 0) ↔ ((IsOverLimit writer reader limit → ⊥) × AreCompatible writer reader)
+  pub no : (status ≡ 1) ↔ ((IsOverLimit writer reader limit → ⊥) × (AreCompatible writer reader → ⊥))
+  pub undecided : (status ≡ 2) ↔ IsOverLimit writer reader limit
+  pub known : (status ≡ 0) ⊎ (status ≡ 1) ⊎ (status ≡ 2)
 
 -- What is answered of two texts: both declare schemas, and it is the answer of those.
 pub record ExplainAnswer (writer reader : List ℕ) (limit : ℕ) (text : List ℕ) (status : ℕ) : Type 0 where
@@ -28,3 +40,11 @@ pub record ExplainAnswer (writer reader : List ℕ) (limit : ℕ) (text : List �
   pub declares_written : DeclaresText writer written
   pub declares_read : DeclaresText reader read
   pub answered : FaultsAnswer written read limit text status
+
+-- The same of the status alone, in each form of the answer.
+pub record ExplainStatus (writer reader : List ℕ) (limit status : ℕ) : Type 0 where
+  pub written : List Node
+  pub read : List Node
+  pub declares_written : DeclaresText writer written
+  pub declares_read : DeclaresText reader read
+  pub answered : FaultsStatus written read limit status

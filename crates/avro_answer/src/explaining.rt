@@ -3,9 +3,10 @@
 ghost use Rattle.std.specs.Prelude.{◌≡◌, codes, IfOk};
 ghost use Rattle.std.specs.Result.{IfErr};
 ghost use Rattle.avro_schema.specs.SeenSchema.{schema_nodes};
-ghost use Rattle.avro_answer.specs.ExplainAnswer.{FaultsAnswer, ExplainAnswer};
-ghost use Rattle.avro_answer.specs.RefusalText.{RefusesPair};
+ghost use Rattle.avro_answer.specs.ExplainAnswer.{FaultsAnswer, FaultsStatus, ExplainAnswer, ExplainStatus};
+ghost use Rattle.avro_answer.specs.RefusalText.{RefusesPair, HaveSchemas};
 ghost use Rattle.avro_answer.specs.declared.form.Form.{Form};
+ghost use Rattle.avro_answer.specs.declared.refusal.Refusal.TheVariants.{OutOfMemory};
 
 use crate::answer::Answer;
 use crate::form::Form;
@@ -29,7 +30,9 @@ pub fn explain_text(
     form: Form,
 ) -> Result<Answer, Refusal>
     ensures answered { IfOk result (λ a. form ≡ Form.Text → ExplainAnswer writer.now reader.now max_pairs a.text.items a.status) }
+    ensures status { IfOk result (λ a. ExplainStatus writer.now reader.now max_pairs a.status) }
     ensures refused { IfErr result (RefusesPair writer.now reader.now) }
+    ensures complete { HaveSchemas writer.now reader.now → IfErr result (λ e. e ≡ OutOfMemory) }
 {
     let writer = read_writer(alloc, writer)?;
     let reader = read_reader(alloc, reader)?;
@@ -44,7 +47,8 @@ fn explain_schemas(
     max_pairs: usize,
     form: Form,
 ) -> Result<Answer, Memory>
-    ensures { IfOk result (λ a. form ≡ Form.Text → FaultsAnswer (schema_nodes writer.now) (schema_nodes reader.now) max_pairs a.text.items a.status) }
+    ensures answered { IfOk result (λ a. form ≡ Form.Text → FaultsAnswer (schema_nodes writer.now) (schema_nodes reader.now) max_pairs a.text.items a.status) }
+    ensures status { IfOk result (λ a. FaultsStatus (schema_nodes writer.now) (schema_nodes reader.now) max_pairs a.status) }
 {
     match explain(alloc, writer, reader, max_pairs) {
         Ok(found) if found.faults.is_empty() => Ok(Answer {
