@@ -1,4 +1,6 @@
 pub mod FaultsAnswers
+pub mod HistoryLines
+pub mod HistoryTexts
 pub mod PairLimits
 pub mod Refused
 pub mod TextLaws

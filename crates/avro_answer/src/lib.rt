@@ -1,17 +1,20 @@
 //! What the program answers of the bytes of schemas and certificates: the bytes of a text, and an exit status.
 //!
-//! [`judge_text`], [`explain_text`], [`confirm_text`] and [`schema_text`] are for bytes; the other calls are for what
-//! is read already. Nothing here opens a file or prints.
+//! [`judge_text`], [`explain_text`], [`confirm_text`], [`history_text`] and [`schema_text`] are for bytes; the other
+//! calls are for what is read already. Nothing here opens a file or prints.
 #![tactic(auto)]
 
 mod answer;
 mod confirming;
+mod containers;
 mod datum_lines;
 mod explaining;
 mod fault_place;
 mod faults;
 mod form;
 mod history;
+mod history_lines;
+mod history_texts;
 mod json_answers;
 mod json_object;
 mod judging;
@@ -25,6 +28,9 @@ mod verdicts;
 
 pub use answer::Answer;
 pub use confirming::{answer_confirmed, confirm_schemas, confirm_text};
+pub use containers::{
+    ContainerCode, ContainerPlace, ContainerReason, ContainerRefusal, container_refusal,
+};
 pub use datum_lines::datum_line;
 pub use explaining::{
     append_fault, begin_faults, end_of_faults, explain_text, no_fault, over_pairs,

@@ -3,6 +3,7 @@
 
 mod command_line;
 mod commands;
+mod container_failure;
 mod failure;
 mod files;
 mod grammar;
