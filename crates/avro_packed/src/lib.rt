@@ -14,6 +14,7 @@ mod pieces;
 mod putting;
 mod reading;
 mod resolving;
+mod settling;
 mod short;
 mod spares;
 mod spelling;

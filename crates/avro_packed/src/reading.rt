@@ -12,6 +12,7 @@ ghost use Rattle.avro_binary.specs.Encoding.{Encodes, plain};
 ghost use Rattle.avro_binary.specs.Seen.{read_fault};
 
 use crate::appending::Appending;
+use crate::settling::settle;
 use avro_binary::{ReadError, read_made};
 use avro_schema::{Limits, Schema};
 use std::alloc::Global;
@@ -35,9 +36,19 @@ pub fn append_read(
         × Encodes (schema_nodes schema.now) (node_at (schema_nodes schema.now) 0) v (take len bytes.now) × (is_within limits.now v ≡ true)) }
     ensures refused { IfErr result (λ e. IfSome (read_fault e) (Breaks (schema_nodes schema.now) limits.now (node_at (schema_nodes schema.now) 0) bytes.now)) }
 {
-    room.clear();
-    let (written, len) = read_made(alloc, schema, schema.root(), bytes, limits, room, None)?;
-    room.append(&written, out)?;
-    room.keep_room(written);
-    Ok(len)
+    let end = out.len();
+    room.exchange(out);
+    let read = read_made(alloc, schema, schema.root(), bytes, limits, room, None);
+    room.exchange(out);
+    match read {
+        Ok((written, len)) => {
+            settle(out, end, &written)?;
+            room.keep_room(written);
+            Ok(len)
+        }
+        Err(error) => {
+            out.truncate(end);
+            Err(error)
+        }
+    }
 }

@@ -1,0 +1,102 @@
+//! Reading into an output that has bytes already, and settling what was written behind them.
+
+ghost use Rattle.std.specs.Prelude.{◌≡◌, ◌++◌, List, ℕ, length, OnOk, OnErr};
+ghost use Rattle.avro_packed.specs.Appended.{Grows, Holds, StandsAt};
+
+use crate::appending::Appending;
+use crate::written::{Apart, Written};
+use std::alloc::AllocError;
+use std::mem::swap;
+
+impl Appending {
+    ghost use Rattle.std.specs.Prelude.{◌≡◌};
+
+    /// Exchanges the output for another.
+    #[inline(always)]
+    pub(crate) fn exchange(&mut self, out: &mut Vec<u8>)
+        ensures taken { self.new ≡ out.old.items }
+        ensures given { out.new.items ≡ self.old }
+    {
+        swap(&mut self.out, out);
+    }
+}
+
+/// Takes back all behind the end that an output had, but what was written.
+///
+/// # Errors
+///
+/// Memory ran out; the output is as it was at that end.
+#[inline(always)]
+pub(crate) fn settle(out: &mut Vec<u8>, end: usize, written: &Written) -> Result<(), AllocError>
+    ensures settled { (old bytes : List ℕ) → Grows old out.old.items → end ≡ length old → Holds out.old.items written.now bytes
+        → OnOk result (out.new.items ≡ old ++ bytes) }
+    ensures unchanged { (old bytes : List ℕ) → Grows old out.old.items → end ≡ length old → Holds out.old.items written.now bytes
+        → OnErr result (out.new.items ≡ old) }
+{
+    match leave(out, end, written) {
+        Ok(()) => Ok(()),
+        Err(_) => {
+            out.truncate(end);
+            Err(AllocError)
+        }
+    }
+}
+
+/// Leaves what was written right behind the end that an output had; if memory runs out, anything behind that end.
+#[inline(always)]
+fn leave(out: &mut Vec<u8>, end: usize, written: &Written) -> Result<(), AllocError>
+    ensures left { (old bytes : List ℕ) → Grows old out.old.items → end ≡ length old → Holds out.old.items written.now bytes
+        → OnOk result (out.new.items ≡ old ++ bytes) }
+    ensures kept { (old bytes : List ℕ) → Grows old out.old.items → end ≡ length old → Holds out.old.items written.now bytes
+        → Grows old out.new.items }
+{
+    match written {
+        Written::Range(start, stop) => leave_range(out, end, *start, *stop),
+        Written::Apart(apart) => leave_apart(out, end, apart),
+    }
+}
+
+/// Leaves bytes of the output and those of a room right behind the end that the output had; if memory runs out, anything behind that
+/// end.
+#[inline(always)]
+fn leave_apart(out: &mut Vec<u8>, end: usize, apart: &Apart) -> Result<(), AllocError>
+    ensures left { (old front : List ℕ) → Grows old out.old.items → end ≡ length old → StandsAt out.old.items apart.now.start apart.now.end front
+        → OnOk result (out.new.items ≡ old ++ front ++ apart.now.more.items) }
+    ensures kept { (old front : List ℕ) → Grows old out.old.items → end ≡ length old → StandsAt out.old.items apart.now.start apart.now.end front
+        → Grows old out.new.items }
+{
+    leave_range(out, end, apart.start, apart.end)?;
+    out.extend_from_slice(&apart.more)
+}
+
+/// Leaves the bytes between two offsets right behind the end that an output had; if memory runs out, anything behind that end.
+#[inline(always)]
+fn leave_range(out: &mut Vec<u8>, end: usize, start: usize, stop: usize) -> Result<(), AllocError>
+    ensures left { (old bytes : List ℕ) → Grows old out.old.items → end ≡ length old → StandsAt out.old.items start stop bytes
+        → OnOk result (out.new.items ≡ old ++ bytes) }
+    ensures kept { (old bytes : List ℕ) → Grows old out.old.items → end ≡ length old → StandsAt out.old.items start stop bytes
+        → Grows old out.new.items }
+{
+    if start == end {
+        out.truncate(stop);
+        return Ok(());
+    }
+    bring_forward(out, end, start, stop)
+}
+
+/// Puts the bytes between two offsets in the place of all behind the end that an output had. They are few: those in front of a datum
+/// that begins with an array or a map. If memory runs out, the output is as it was.
+fn bring_forward(out: &mut Vec<u8>, end: usize, start: usize, stop: usize) -> Result<(), AllocError>
+    ensures left { (old bytes : List ℕ) → Grows old out.old.items → end ≡ length old → StandsAt out.old.items start stop bytes
+        → OnOk result (out.new.items ≡ old ++ bytes) }
+    ensures unchanged { OnErr result (out.new.items ≡ out.old.items) }
+{
+    let len = out.len();
+    if start > stop || stop > len || end > len {
+        return Ok(());
+    }
+    out.extend_from_within(start..stop)?;
+    out.copy_within(len.., end);
+    out.truncate(end + (stop - start));
+    Ok(())
+}
