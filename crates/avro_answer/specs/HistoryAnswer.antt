@@ -1,13 +1,21 @@
--- What a line of `avro history` answers of two schemas: its bytes, and the status of this line.
-use Rattle.std.specs.Prelude.{◌≡◌, ◌↔◌, ℕ, ◌⊎◌, List, ◌++◌, codes}
+-- What `avro history` answers: a line of two schemas, with its status; and all lines of several texts, with the status.
+use Rattle.std.specs.Prelude.{◌≡◌, ◌↔◌, ℕ, ◌<◌, ◌≤◌, ◌==◌, if◌then◌else◌, ◌⊎◌, List, [], ◌∷◌, ◌++◌, length, get_or, take, drop, codes}
+use Rattle.std.specs.List.{AllZip, AllByRecursion, list_any, concat}
 use Rattle.avro_schema.specs.Value.{Value}
 use Rattle.avro_schema.specs.Node.{Node}
+use Rattle.avro_schema_json.specs.Declaration.{max_text}
+use Rattle.avro_schema_json.specs.DeclaredText.{DeclaresText}
+use Rattle.avro_schema_json.specs.declared.error.SchemaError.{SchemaError}
 use Rattle.avro_compare.specs.Fault.{ResolutionFault}
 use Rattle.avro_certificate.specs.Compatible.{AreCompatible}
+use Rattle.avro_certificate.specs.CertificateText.{decimal}
 use Rattle.avro_judge.specs.Headline.{Refutes, InPairs, IsPassed}
 use Rattle.avro_judge.specs.JudgeRanges.{JudgeLimitValues}
 use Rattle.avro_judge.specs.declared.verdict.Cause.{Cause}
 use Rattle.avro_answer.specs.Texts.{cause_text}
+use Rattle.avro_answer.specs.JudgeAnswer.{StatusAnswer}
+use Rattle.avro_answer.specs.RefusalText.{HasCode, HasSchema}
+use Rattle.avro_answer.specs.declared.refusal.Refusal.{Refusal}
 
 abbrev pub IsLineOf : List ℕ → List ℕ → ℕ → List ℕ → ℕ → Type 0
 IsLineOf word verdict given text status = (text ≡ word ++ (verdict ++ codes "\n")) × (status ≡ given)
@@ -23,3 +31,68 @@ pub record LineAnswer (word : List ℕ) (writer reader : List Node) (limits : Ju
   -- there is no other line
   pub known : IsLineOf word (codes " yes") 0 text status ⊎ IsLineOf word (codes " no") 1 text status
       ⊎ ((cause : Cause) × IsLineOf word (codes " undecided " ++ cause_text cause) 2 text status)
+
+-- texts that follow one another, by their lengths; a length past the end is that of what is left
+abbrev pub cut_texts : List ℕ → List ℕ → List (List ℕ)
+cut_texts texts [] = []
+cut_texts texts (n ∷ lengths) = take n texts ∷ cut_texts (drop n texts) lengths
+
+-- the status of several lines: 1 if a line has it, else 2 if a line has it, else 0
+abbrev pub worst : List ℕ → ℕ
+worst statuses = if list_any (λ s. s == 1) statuses then 1 else (if list_any (λ s. s == 2) statuses then 2 else 0)
+
+-- A line for each writer's schema, in order, which begins with the digits of its number; the first one has the number 0.
+pub record LinesAnswer (writers : List (List Node)) (reader : List Node) (limits : JudgeLimitValues) (text : List ℕ) (status : ℕ) : Type 0 where
+  pub lines : List (List ℕ)
+  pub statuses : List ℕ
+  pub as_many : (length lines ≡ length writers) × (length statuses ≡ length writers)
+  pub each : (k : ℕ) → k < length writers → LineAnswer (decimal k) (get_or writers k []) reader limits (get_or lines k []) (get_or statuses k 0)
+  pub text_is : text ≡ concat lines
+  pub status_is : status ≡ worst statuses
+
+-- What the status says of each, whatever the form of the lines.
+pub record LinesStatus (writers : List (List Node)) (reader : List Node) (limits : JudgeLimitValues) (status : ℕ) : Type 0 where
+  pub statuses : List ℕ
+  pub as_many : length statuses ≡ length writers
+  pub each : (k : ℕ) → k < length writers → StatusAnswer (get_or writers k []) reader limits (get_or statuses k 0)
+  pub status_is : status ≡ worst statuses
+
+-- Of several schemas the last is the reader's, and each other one is a writer's; where there is none, nothing is answered.
+pub record SchemasHistory (schemas : List (List Node)) (limits : JudgeLimitValues) (text : List ℕ) (status : ℕ) : Type 0 where
+  pub none : schemas ≡ [] → (text ≡ []) × (status ≡ 0)
+  pub lines : (writers : List (List Node)) (reader : List Node) → schemas ≡ writers ++ (reader ∷ []) → LinesAnswer writers reader limits text status
+
+pub record SchemasStatus (schemas : List (List Node)) (limits : JudgeLimitValues) (status : ℕ) : Type 0 where
+  pub none : schemas ≡ [] → status ≡ 0
+  pub lines : (writers : List (List Node)) (reader : List Node) → schemas ≡ writers ++ (reader ∷ []) → LinesStatus writers reader limits status
+
+-- What is answered of several texts: each declares a schema, and it is the answer of those.
+pub record HistoryAnswer (texts : List (List ℕ)) (limits : JudgeLimitValues) (text : List ℕ) (status : ℕ) : Type 0 where
+  pub schemas : List (List Node)
+  pub declared : AllZip DeclaresText texts schemas
+  pub answered : SchemasHistory schemas limits text status
+
+pub record HistoryStatus (texts : List (List ℕ)) (limits : JudgeLimitValues) (status : ℕ) : Type 0 where
+  pub schemas : List (List Node)
+  pub declared : AllZip DeclaresText texts schemas
+  pub answered : SchemasStatus schemas limits status
+
+-- The first text that declares no schema has the code; the texts after it are given.
+pub record IsFirstRefused (texts after : List (List ℕ)) (e : SchemaError) : Type 0 where
+  pub before : List (List ℕ)
+  pub refused : List ℕ
+  pub parted : texts ≡ before ++ (refused ∷ after)
+  pub declare : AllByRecursion HasSchema before
+  pub code : HasCode refused e
+
+-- What a refusal says of several texts: the first that is refused is the last one, the reader's, or another, a writer's.
+-- Memory that runs out says nothing.
+abbrev pub RefusesHistory : List (List ℕ) → Refusal → Type 0
+RefusesHistory texts (Refusal.Writer e) = (next : List ℕ) × (later : List (List ℕ)) × IsFirstRefused texts (next ∷ later) e
+RefusesHistory texts (Refusal.Reader e) = IsFirstRefused texts [] e
+RefusesHistory texts (Refusal.Certificate e) = ⊥
+RefusesHistory texts Refusal.OutOfMemory = Unit {0}
+
+-- each text declares a schema, and none is longer than a text may be
+abbrev pub AllHaveSchemas : List (List ℕ) → Type 0
+AllHaveSchemas texts = AllByRecursion (λ text. HasSchema text × (length text ≤ max_text)) texts

@@ -1,15 +1,19 @@
 ghost use Rattle.std.specs.Prelude.{◌≡◌, ◌++◌, codes, IfOk};
+ghost use Rattle.std.specs.Result.{IfErr};
 ghost use Rattle.avro_schema.specs.SeenSchema.{schema_nodes};
 ghost use Rattle.avro_judge.specs.Headline.{IsRight};
-ghost use Rattle.avro_answer.specs.HistoryAnswer.{LineAnswer};
+ghost use Rattle.avro_answer.specs.HistoryAnswer.{LineAnswer, HistoryAnswer, HistoryStatus, cut_texts, RefusesHistory, AllHaveSchemas};
 ghost use Rattle.avro_answer.specs.JudgeAnswer.{StatusAnswer};
 ghost use Rattle.avro_answer.specs.inside.VerdictTexts.{verdict_words};
+ghost use Rattle.avro_answer.specs.declared.form.Form.{Form};
+ghost use Rattle.avro_answer.specs.declared.refusal.Refusal.TheVariants.{OutOfMemory};
 
 use crate::answer::Answer;
 use crate::form::Form;
+use crate::history_lines::judge_history;
+use crate::history_texts::read_texts;
 use crate::json_answers::history_line;
 use crate::judging::Judged;
-use crate::reading::{read_reader, read_writer};
 use crate::refusal::Refusal;
 use crate::verdicts::{append_verdict, status_of};
 use avro_judge::laws::judge_is_right;
@@ -94,49 +98,13 @@ pub fn history_text(
     lengths: &[usize],
     limits: &JudgeLimits,
     form: Form,
-) -> Result<Answer, Refusal> {
-    let schemas = read_schemas(alloc, texts, lengths)?;
-    let mut answer = Answer {
-        text: Vec::new(alloc),
-        status: 0,
-    };
-    let Some(reader) = schemas.last() else {
-        return Ok(answer);
-    };
-    for index in 0..schemas.len() - 1 {
-        let number = format!(in alloc; "{index}")?;
-        let judged = match form {
-            Form::Text => judge_line(alloc, &number, &schemas[index], reader, limits)?,
-            Form::Json => judge_json_line(alloc, &number, None, &schemas[index], reader, limits)?,
-        };
-        answer.text.extend_from_slice(&judged.answer.text)?;
-        answer.status = worse(answer.status, judged.answer.status);
-    }
+) -> Result<Answer, Refusal>
+    ensures answered { IfOk result (λ a. form ≡ Form.Text → HistoryAnswer (cut_texts texts.now lengths.now) limits.now a.text.items a.status) }
+    ensures status { IfOk result (λ a. HistoryStatus (cut_texts texts.now lengths.now) limits.now a.status) }
+    ensures refused { IfErr result (RefusesHistory (cut_texts texts.now lengths.now)) }
+    ensures complete { AllHaveSchemas (cut_texts texts.now lengths.now) → IfErr result (λ e. e ≡ OutOfMemory) }
+{
+    let schemas = read_texts(alloc, texts, lengths)?;
+    let answer = judge_history(alloc, &schemas, limits, form)?;
     Ok(answer)
-}
-
-/// The schemas of texts that follow one another.
-fn read_schemas(alloc: Global, texts: &[u8], lengths: &[usize]) -> Result<Vec<Schema>, Refusal> {
-    let mut schemas = Vec::new(alloc);
-    let mut rest = texts;
-    for index in 0..lengths.len() {
-        let (text, others) = rest.split_at(lengths[index].min(rest.len()));
-        let schema = if index + 1 == lengths.len() {
-            read_reader(alloc, text)?
-        } else {
-            read_writer(alloc, text)?
-        };
-        schemas.push(schema)?;
-        rest = others;
-    }
-    Ok(schemas)
-}
-
-/// The status of two verdicts: a no outranks an undecided, which outranks a yes.
-fn worse(status: u8, other: u8) -> u8 {
-    if status == 1 || other == 1 {
-        1
-    } else {
-        status.max(other)
-    }
 }

@@ -1,7 +1,7 @@
 //! What the program answers of the bytes of schemas and certificates: the bytes of a text, and an exit status.
 //!
-//! [`judge_text`], [`explain_text`], [`confirm_text`] and [`schema_text`] are for bytes; the other calls are for what
-//! is read already. Nothing here opens a file or prints.
+//! [`judge_text`], [`explain_text`], [`confirm_text`], [`history_text`] and [`schema_text`] are for bytes; the other
+//! calls are for what is read already. Nothing here opens a file or prints.
 #![tactic(auto)]
 
 mod answer;
@@ -12,6 +12,8 @@ mod fault_place;
 mod faults;
 mod form;
 mod history;
+mod history_lines;
+mod history_texts;
 mod json_answers;
 mod json_object;
 mod judging;
