@@ -5,4 +5,5 @@ pub mod ConfirmAnswer
 pub mod ExplainAnswer
 pub mod SchemaAnswer
 pub mod RefusalText
+pub mod ContainerText
 pub mod inside

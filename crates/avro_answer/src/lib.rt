@@ -6,6 +6,7 @@
 
 mod answer;
 mod confirming;
+mod containers;
 mod datum_lines;
 mod explaining;
 mod fault_place;
@@ -27,6 +28,9 @@ mod verdicts;
 
 pub use answer::Answer;
 pub use confirming::{answer_confirmed, confirm_schemas, confirm_text};
+pub use containers::{
+    ContainerCode, ContainerPlace, ContainerReason, ContainerRefusal, container_refusal,
+};
 pub use datum_lines::datum_line;
 pub use explaining::{
     append_fault, begin_faults, end_of_faults, explain_text, no_fault, over_pairs,

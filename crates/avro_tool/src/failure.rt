@@ -1,5 +1,6 @@
+use crate::container_failure::container_failure;
 use crate::number_options::NumberOption;
-use avro_answer::{certificate_refusal, schema_refusal};
+use avro_answer::{ContainerRefusal, certificate_refusal, container_refusal, schema_refusal};
 use avro_container::CopyError;
 use avro_judge::CertError;
 use avro_schema::Memory;
@@ -16,7 +17,7 @@ pub(crate) enum Failure<'a> {
     /// A certificate's text was refused.
     Certificate(&'a str, CertError),
     /// A container was refused.
-    Container(&'a str, CopyError),
+    Container(&'a str, ContainerRefusal),
     /// A file could not be opened or read.
     CannotRead(&'a str),
     /// A file could not be created or written.
@@ -93,12 +94,7 @@ impl<'a> Failure<'a> {
 
     /// The failure of reading or writing a container.
     pub(crate) fn of_container(word: &'a str, error: CopyError) -> Failure<'a> {
-        match error {
-            CopyError::InputFailed => Failure::CannotRead(word),
-            CopyError::OutputFailed => Failure::CannotWrite(word),
-            CopyError::OutOfMemory => Failure::OutOfMemory,
-            error => Failure::Container(word, error),
-        }
+        container_failure(word, error)
     }
 
     /// The exit status.
@@ -118,14 +114,14 @@ impl<'a> Failure<'a> {
         match self {
             Failure::Schema(word, error) => schema_refusal(alloc, word, *error),
             Failure::Certificate(word, error) => certificate_refusal(alloc, word, *error),
+            Failure::Container(word, refusal) => container_refusal(alloc, word, refusal),
             other => Ok(other.other_line(alloc)?.into_bytes()),
         }
     }
 
-    /// The line of a failure that is no refusal of a schema or a certificate.
+    /// The line of a failure that is no refusal.
     fn other_line(&self, alloc: Global) -> Result<String, AllocError> {
         match self {
-            Failure::Container(word, error) => format!(in alloc; "avro: {word}: {error}\n"),
             Failure::CannotRead(word) => format!(in alloc; "avro: {word}: cannot read\n"),
             Failure::CannotWrite(word) => format!(in alloc; "avro: {word}: cannot write\n"),
             Failure::Usage(text) => format!(in alloc; "{text}"),

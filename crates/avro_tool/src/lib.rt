@@ -4,6 +4,7 @@
 mod checking;
 mod command;
 mod confirming;
+mod container_failure;
 mod container_file;
 mod copying;
 mod explaining;
