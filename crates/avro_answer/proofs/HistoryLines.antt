@@ -1,8 +1,8 @@
 -- The lines of a history so far, and one more.
-use Rattle.std.proofs.Common.{◌≡◌, ℕ, ◌+◌, ◌<◌, ◌≤◌, Bool, true, false, ◌⊎◌, inl, inr, List, [], ◌∷◌, ◌++◌, length, get_or, take, map, refl, sym, ap, ◌∙◌, subst, arith, append_assoc, append-nil}
+use Rattle.std.proofs.Common.{◌≡◌, ℕ, ◌+◌, ◌<◌, ◌≤◌, Bool, true, false, ◌⊎◌, inl, inr, List, [], ◌∷◌, ◌++◌, length, get_or, take, map, Result, Ok, Err, refl, sym, ap, ◌∙◌, subst, arith, append_assoc, append-nil}
 use Rattle.std.proofs.lemmas.List.{get_or_append_left, get_or_at, length_push, length-map, length-take-le, map-append, take_more}
 use Rattle.std.proofs.lemmas.List.Folds.{list_any-append}
-use Rattle.std.specs.Prelude.{◌==◌, ◌||◌, if◌then◌else◌}
+use Rattle.std.specs.Prelude.{◌==◌, ◌||◌, if◌then◌else◌, IfOk}
 use Rattle.std.specs.List.{list_any, concat}
 use borrow.Author.Count.{below_more}
 use Rattle.avro_schema.specs.Node.{Node}
@@ -12,6 +12,10 @@ use Rattle.avro_certificate.specs.CertificateText.{decimal}
 use Rattle.avro_judge.specs.JudgeRanges.{JudgeLimitValues}
 use Rattle.avro_answer.specs.JudgeAnswer.{StatusAnswer}
 use Rattle.avro_answer.specs.HistoryAnswer.{LineAnswer, LinesAnswer, LinesStatus, SchemasHistory, SchemasStatus, worst}
+
+pub if_ok : {A E : Type 0} (P Q : A → Type 0) → ((a : A) → P a → Q a) → (r : Result A E) → IfOk r P → IfOk r Q
+if_ok P Q f (Ok a) h = f a h
+if_ok P Q f (Err e) h = tt
 
 -- the status of two
 abbrev pub worse_of : ℕ → ℕ → ℕ

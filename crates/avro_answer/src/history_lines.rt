@@ -67,11 +67,16 @@ fn judge_numbered(
     ensures status { IfOk result (λ a. StatusAnswer (schema_nodes writer.now) (schema_nodes reader.now) limits.now a.status) }
 {
     let word = digits(alloc, number)?;
-    let judged = match form {
-        Form::Text => judge_line(alloc, &word, writer, reader, limits)?,
-        Form::Json => judge_json_line(alloc, &word, None, writer, reader, limits)?,
-    };
-    Ok(judged.answer)
+    match form {
+        Form::Text => {
+            let judged = judge_line(alloc, &word, writer, reader, limits)?;
+            Ok(judged.answer)
+        }
+        Form::Json => {
+            let judged = judge_json_line(alloc, &word, None, writer, reader, limits)?;
+            Ok(judged.answer)
+        }
+    }
 }
 
 /// The digits of a number.

@@ -1,4 +1,4 @@
-use Rattle.std.proofs.Common.{◌≡◌, ◌++◌, ◌∙◌, ap, take_all}
+use Rattle.std.proofs.Common.{◌≡◌, ◌++◌, ◌∙◌, ap}
 use Rattle.avro_schema.specs.SeenSchema.{schema_nodes}
 use Rattle.avro_answer.specs.declared.form.Form.{Form}
 use Rattle.avro_answer.proofs.HistoryLines.{so_far_none, so_far_more}
