@@ -169,12 +169,6 @@ pub snoc_nodes : (schemas writers : List Schema) (reader : Schema) → schemas �
 snoc_nodes schemas writers reader e = ap (map schema_nodes) e ∙ map-append schema_nodes writers (reader ∷ [])
 
 module _ (limits : JudgeLimitValues) (schemas : List (List Node)) where
-  pub nothing : schemas ≡ [] → SchemasHistory schemas limits [] 0
-  nothing e = record { none = λ _. (refl, refl); lines = λ writers reader h. absurd (never_none writers reader (sym h ∙ e)) }
-
-  pub no_status : schemas ≡ [] → SchemasStatus schemas limits 0
-  no_status e = record { none = λ _. refl; lines = λ writers reader h. absurd (never_none writers reader (sym h ∙ e)) }
-
   module _ (writers : List (List Node)) (reader : List Node) (e : schemas ≡ writers ++ (reader ∷ [])) where
     pub lines_of_all : (text : List ℕ) (status : ℕ) → LinesAnswer writers reader limits text status → SchemasHistory schemas limits text status
     lines_of_all text status answer = record {
