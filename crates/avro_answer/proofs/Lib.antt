@@ -2,4 +2,5 @@ pub mod FaultsAnswers
 pub mod PairLimits
 pub mod Refused
 pub mod TextLaws
+pub mod TypeLevels
 pub mod VerdictAnswers
