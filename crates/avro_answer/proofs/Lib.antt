@@ -4,4 +4,5 @@ pub mod HistoryTexts
 pub mod PairLimits
 pub mod Refused
 pub mod TextLaws
+pub mod TypeLevels
 pub mod VerdictAnswers

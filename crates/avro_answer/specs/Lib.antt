@@ -3,6 +3,8 @@ pub mod JudgeAnswer
 pub mod HistoryAnswer
 pub mod ConfirmAnswer
 pub mod ExplainAnswer
+pub mod PlaceText
+pub mod FaultLine
 pub mod SchemaAnswer
 pub mod RefusalText
 pub mod ContainerText

@@ -1,9 +1,10 @@
 //! All faults of two schemas, by names.
 
-ghost use Rattle.std.specs.Prelude.{◌≡◌, codes, IfOk};
+ghost use Rattle.std.specs.Prelude.{◌≡◌, ◌<◌, [], length, codes, string_bytes, IfOk, OnOk};
 ghost use Rattle.std.specs.Result.{IfErr};
 ghost use Rattle.avro_schema.specs.SeenSchema.{schema_nodes};
 ghost use Rattle.avro_answer.specs.ExplainAnswer.{FaultsAnswer, FaultsStatus, ExplainAnswer, ExplainStatus};
+ghost use Rattle.avro_answer.specs.FaultLine.{IsLineAdded, no_line};
 ghost use Rattle.avro_answer.specs.RefusalText.{RefusesPair, HaveSchemas};
 ghost use Rattle.avro_answer.specs.declared.form.Form.{Form};
 ghost use Rattle.avro_answer.specs.declared.refusal.Refusal.TheVariants.{OutOfMemory};
@@ -13,7 +14,7 @@ use crate::form::Form;
 use crate::named_fault::name_fault;
 use crate::reading::{read_reader, read_writer};
 use crate::refusal::Refusal;
-use avro_explain::{ExplainError, Explanation, Finding, explain};
+use avro_explain::{ExplainError, Explanation, Finding, Place, explain};
 use avro_schema::{Memory, Schema};
 use std::alloc::{AllocError, Global};
 
@@ -112,11 +113,24 @@ fn faults_text(
 /// # Errors
 ///
 /// Memory ran out.
-pub fn begin_faults(alloc: Global, count: usize, form: Form) -> Result<String, AllocError> {
+pub fn begin_faults(alloc: Global, count: usize, form: Form) -> Result<String, AllocError>
+    ensures { IfOk result (λ begun. form ≡ Form.Text → string_bytes begun ≡ no_line count) }
+{
     match form {
-        Form::Text => format!(in alloc; "no {count}\n"),
+        Form::Text => begin_lines(alloc, count),
         Form::Json => String::from_str(alloc, "{\"verdict\":\"no\",\"faults\":["),
     }
+}
+
+/// The line before those of the faults.
+fn begin_lines(alloc: Global, count: usize) -> Result<String, AllocError>
+    ensures { IfOk result (λ begun. string_bytes begun ≡ no_line count) }
+{
+    let mut line = String::from_str(alloc, "no ")?;
+    let digits = count.to_string(alloc)?;
+    line.push_str(digits.as_str())?;
+    line.push_str("\n")?;
+    Ok(line)
 }
 
 /// Appends a fault by names.
@@ -133,25 +147,62 @@ pub fn append_fault(
     fault: Finding,
     form: Form,
     is_first: bool,
-) -> Result<(), Memory> {
-    let Some(named) = name_fault(alloc, writer, reader, &found.places, fault)? else {
-        return Ok(());
-    };
+) -> Result<(), Memory>
+    ensures { form ≡ Form.Text → fault.place < length found.now.places.items → OnOk result (IsLineAdded (schema_nodes writer.now) (schema_nodes reader.now)
+        found.now.places.items fault (string_bytes text.old) (string_bytes text.new)) }
+{
     match form {
-        Form::Text => named.put_line(text)?,
-        Form::Json => {
-            if !is_first {
-                text.push(',')?;
-            }
-            let json = named.json(alloc)?;
-            text.push_str(&json)?;
+        Form::Text => append_line(text, alloc, writer, reader, &found.places, fault),
+        Form::Json => append_json(text, alloc, writer, reader, &found.places, fault, is_first),
+    }
+}
+
+/// Appends the line of a fault.
+fn append_line(
+    text: &mut String,
+    alloc: Global,
+    writer: &Schema,
+    reader: &Schema,
+    places: &[Place],
+    fault: Finding,
+) -> Result<(), Memory>
+    ensures { fault.place < length places.now → OnOk result (IsLineAdded (schema_nodes writer.now) (schema_nodes reader.now) places.now fault
+        (string_bytes text.old) (string_bytes text.new)) }
+{
+    match name_fault(alloc, writer, reader, places, fault)? {
+        None => Ok(()),
+        Some(named) => {
+            named.put_line(text)?;
+            Ok(())
         }
     }
+}
+
+/// Appends the object of a fault, after a comma unless it is the first.
+fn append_json(
+    text: &mut String,
+    alloc: Global,
+    writer: &Schema,
+    reader: &Schema,
+    places: &[Place],
+    fault: Finding,
+    is_first: bool,
+) -> Result<(), Memory> {
+    let Some(named) = name_fault(alloc, writer, reader, places, fault)? else {
+        return Ok(());
+    };
+    if !is_first {
+        text.push(',')?;
+    }
+    let json = named.json(alloc)?;
+    text.push_str(&json)?;
     Ok(())
 }
 
 /// What is after the faults.
-pub fn end_of_faults(form: Form) -> &'static str {
+pub fn end_of_faults(form: Form) -> &'static str
+    ensures { form ≡ Form.Text → result.now ≡ [] }
+{
     match form {
         Form::Text => "",
         Form::Json => "]}\n",

@@ -1,6 +1,7 @@
 //! Where a datum of a writer's schema fails, by the names of the schemas.
 
-use crate::named_place::{field_name, node_at, push_all, push_branch};
+use crate::named_place::{field_name, push_all, push_branch};
+use crate::type_names::node_at;
 use avro_compare::{Aim, At, FaultKind, Names, compare};
 use avro_judge::Refutation;
 use avro_schema::{Datum, Memory, Node, NodeId, Schema};

@@ -24,6 +24,7 @@ mod named_place;
 mod reading;
 mod refusal;
 mod schemas;
+mod type_names;
 mod verdicts;
 
 pub use answer::Answer;

@@ -1,7 +1,14 @@
 //! A fault of two schemas, with the names of what it speaks of.
 
+ghost use Rattle.std.specs.Prelude.{◌≡◌, ◌<◌, ◌++◌, None, length, slice_get, string_bytes, option_map, OnOk, IfOk};
+ghost use Rattle.std.specs.Option.{IfSome};
+ghost use Rattle.avro_schema.specs.SeenSchema.{schema_nodes};
+ghost use Rattle.avro_answer.specs.FaultLine.{symbol_at, field_at, missing_of, fault_word, kind_part, reason_text, field_part, writer_part};
+ghost use Rattle.avro_answer.specs.inside.NamedLine.{IsNamed, named_line, missing_seen};
+
 use crate::json_object::JsonObject;
-use crate::named_place::{NamedPlace, field_name, name_place, node_at};
+use crate::named_place::{NamedPlace, field_name, name_place};
+use crate::type_names::node_at;
 use avro_explain::{Detail, Finding, Place, way_to};
 use avro_schema::{Memory, NodeId, Schema};
 use std::alloc::{AllocError, Global};
@@ -24,17 +31,27 @@ pub(crate) fn name_fault<'a>(
     reader: &'a Schema,
     places: &[Place],
     fault: Finding,
-) -> Result<Option<NamedFault<'a>>, Memory> {
-    let Some(place) = places.get(fault.place) else {
+) -> Result<Option<NamedFault<'a>>, Memory>
+    ensures named { IfOk result (λ found. IfSome found (IsNamed (schema_nodes writer.now) (schema_nodes reader.now) places.now fault)) }
+    ensures some { fault.place < length places.now → IfOk result (λ found. found ≡ None → ⊥) }
+{
+    let Some(place) = place_at(places, fault.place) else {
         return Ok(None);
     };
     let way = way_to(alloc, places, fault.place)?;
     Ok(Some(NamedFault {
         detail: fault.detail,
-        missing: missing_name(writer, reader, place, fault.detail),
+        missing: missing_name(writer, reader, &place, fault.detail),
         writer: name_place(alloc, writer, place.w, &way.writer)?,
         reader: name_place(alloc, reader, place.r, &way.reader)?,
     }))
+}
+
+/// The place at an index.
+fn place_at(places: &[Place], index: usize) -> Option<Place>
+    ensures { result ≡ slice_get places.now index }
+{
+    places.get(index).copied()
 }
 
 /// The name of what is missing.
@@ -43,22 +60,35 @@ fn missing_name<'a>(
     reader: &'a Schema,
     place: &Place,
     detail: Detail,
-) -> Option<&'a str> {
+) -> Option<&'a str>
+    ensures { option_map (λ name. name.now) result ≡ missing_of (schema_nodes writer.now) (schema_nodes reader.now) place.now detail }
+{
     match detail {
         Detail::NoSymbol(index) => symbol_name(writer, place.w, index),
-        Detail::MissingField(index) => field_name(node_at(reader, place.r)?, index),
+        Detail::MissingField(index) => name_of_field(reader, place.r, index),
         _ => None,
     }
 }
 
+/// The name of a record's field at an index.
+fn name_of_field(schema: &Schema, id: NodeId, index: usize) -> Option<&str>
+    ensures { option_map (λ name. name.now) result ≡ field_at (schema_nodes schema.now) id.0 index }
+{
+    field_name(node_at(schema, id)?, index)
+}
+
 /// The symbol of an enum at an index.
-fn symbol_name(schema: &Schema, id: NodeId, index: usize) -> Option<&str> {
+fn symbol_name(schema: &Schema, id: NodeId, index: usize) -> Option<&str>
+    ensures { option_map (λ name. name.now) result ≡ symbol_at (schema_nodes schema.now) id.0 index }
+{
     let symbol = node_at(schema, id)?.symbols()?.get(index)?;
     Some(symbol.as_str())
 }
 
 /// The word of a kind of fault.
-fn kind_word(detail: Detail) -> &'static str {
+fn kind_word(detail: Detail) -> &'static str
+    ensures { result.now ≡ fault_word detail }
+{
     match detail {
         Detail::NoMatch => "NoMatch",
         Detail::NoBranch => "NoBranch",
@@ -68,25 +98,53 @@ fn kind_word(detail: Detail) -> &'static str {
     }
 }
 
+/// Appends the word of a kind of fault, between colons.
+fn put_kind(text: &mut String, detail: Detail) -> Result<(), AllocError>
+    ensures { OnOk result (string_bytes text.new ≡ string_bytes text.old ++ kind_part detail) }
+{
+    text.push_str(": ")?;
+    text.push_str(kind_word(detail))?;
+    text.push_str(": ")
+}
+
+/// Appends the writer's place, and the end of the line.
+fn put_writer(text: &mut String, at: &str) -> Result<(), AllocError>
+    ensures { OnOk result (string_bytes text.new ≡ string_bytes text.old ++ writer_part at.now) }
+{
+    text.push_str(" (writer's ")?;
+    text.push_str(at)?;
+    text.push_str(")\n")
+}
+
 impl<'a> NamedFault<'a> {
     /// Appends the line of the fault.
-    pub(crate) fn put_line(&self, text: &mut String) -> Result<(), AllocError> {
-        text.push_str(&self.reader.at)?;
-        if let Detail::MissingField(_) = self.detail {
-            text.push('.')?;
-            self.put_missing(text)?;
-        }
-        text.push_str(": ")?;
-        text.push_str(kind_word(self.detail))?;
-        text.push_str(": ")?;
+    pub(crate) fn put_line(&self, text: &mut String) -> Result<(), AllocError>
+        ensures { OnOk result (string_bytes text.new ≡ string_bytes text.old ++ named_line self.now) }
+    {
+        text.push_str(self.reader.at.as_str())?;
+        self.put_field(text)?;
+        put_kind(text, self.detail)?;
         self.put_reason(text)?;
-        text.push_str(" (writer's ")?;
-        text.push_str(&self.writer.at)?;
-        text.push_str(")\n")
+        put_writer(text, self.writer.at.as_str())
+    }
+
+    /// Appends the field that is missing, if one is.
+    fn put_field(&self, text: &mut String) -> Result<(), AllocError>
+        ensures { OnOk result (string_bytes text.new ≡ string_bytes text.old ++ field_part self.now.detail (missing_seen self.now)) }
+    {
+        match self.detail {
+            Detail::MissingField(_) => {
+                text.push_str(".")?;
+                self.put_missing(text)
+            }
+            _ => Ok(()),
+        }
     }
 
     /// Appends the name of what is missing.
-    fn put_missing(&self, text: &mut String) -> Result<(), AllocError> {
+    fn put_missing(&self, text: &mut String) -> Result<(), AllocError>
+        ensures { OnOk result (string_bytes text.new ≡ string_bytes text.old ++ missing_seen self.now) }
+    {
         match self.missing {
             Some(name) => text.push_str(name),
             None => Ok(()),
@@ -94,27 +152,36 @@ impl<'a> NamedFault<'a> {
     }
 
     /// Appends what is wrong, in words.
-    fn put_reason(&self, text: &mut String) -> Result<(), AllocError> {
+    fn put_reason(&self, text: &mut String) -> Result<(), AllocError>
+        ensures { OnOk result (string_bytes text.new ≡ string_bytes text.old
+            ++ reason_text self.now.detail (missing_seen self.now) (string_bytes self.now.writer.type_text) (string_bytes self.now.reader.type_text)) }
+    {
         match self.detail {
             Detail::NoMatch => {
-                text.push_str(&self.writer.type_text)?;
+                text.push_str(self.writer.type_text.as_str())?;
                 text.push_str(" is read as ")?;
-                text.push_str(&self.reader.type_text)
+                text.push_str(self.reader.type_text.as_str())
             }
             Detail::NoBranch => {
                 text.push_str("no branch takes ")?;
-                text.push_str(&self.writer.type_text)
+                text.push_str(self.writer.type_text.as_str())?;
+                Ok(())
             }
-            Detail::NotUtf8 => text.push_str("bytes are read as string"),
+            Detail::NotUtf8 => {
+                text.push_str("bytes are read as string")?;
+                Ok(())
+            }
             Detail::NoSymbol(_) => {
                 self.put_missing(text)?;
                 text.push_str(" of the writer is none of ")?;
-                text.push_str(&self.reader.type_text)?;
-                text.push_str(", which has no default")
+                text.push_str(self.reader.type_text.as_str())?;
+                text.push_str(", which has no default")?;
+                Ok(())
             }
             Detail::MissingField(_) => {
-                text.push_str(&self.writer.type_text)?;
-                text.push_str(" of the writer has no such field, and there is no default")
+                text.push_str(self.writer.type_text.as_str())?;
+                text.push_str(" of the writer has no such field, and there is no default")?;
+                Ok(())
             }
         }
     }

@@ -1,14 +1,16 @@
 //! A node of a schema, with the way to it by names.
 
+ghost use Rattle.std.specs.Prelude.{◌≡◌, ◌++◌, Some, string_bytes, option_map, option_and_then, slice_get, OnOk, IfOk};
+ghost use Rattle.avro_schema.specs.Seen.{node_of};
+ghost use Rattle.avro_schema.specs.SeenSchema.{schema_nodes};
+ghost use Rattle.avro_answer.specs.PlaceText.{type_text, branch_mark, field_mark, field_name_at, field_id_at, branch_id_at, mark_from, end_from, step_mark, step_end, way_text, place_text};
+
 use crate::json_object::JsonObject;
+use crate::type_names::{node_at, push_branch_word, push_type};
 use avro_explain::PathStep;
-use avro_name::FullName;
 use avro_schema::{Node, NodeId, Schema};
 use serde_json::Value;
 use std::alloc::{AllocError, Global};
-
-/// How many arrays and maps within one another the text of a type shows.
-const LEVELS: usize = 256;
 
 /// A node of a schema, by names.
 #[derive(Drop)]
@@ -38,7 +40,10 @@ pub(crate) fn name_place(
     schema: &Schema,
     id: NodeId,
     way: &[PathStep],
-) -> Result<NamedPlace, AllocError> {
+) -> Result<NamedPlace, AllocError>
+    ensures at { IfOk result (λ p. string_bytes p.at ≡ place_text (schema_nodes schema.now) way.now) }
+    ensures type_text { IfOk result (λ p. string_bytes p.type_text ≡ type_text 256 (schema_nodes schema.now) id.0) }
+{
     let mut at = String::from_str(alloc, "$")?;
     push_way(schema, way, &mut at)?;
     let mut type_text = String::new(alloc);
@@ -58,44 +63,56 @@ pub(crate) fn push_all(text: &mut String, parts: &[&str]) -> Result<(), AllocErr
     Ok(())
 }
 
-/// The node of an id, where there is one.
-pub(crate) fn node_at(schema: &Schema, id: NodeId) -> Option<&Node> {
-    if schema.has(id) {
-        Some(schema.node(id))
-    } else {
-        None
-    }
-}
-
 /// Appends the steps of a way from the root.
-fn push_way(schema: &Schema, way: &[PathStep], text: &mut String) -> Result<(), AllocError> {
+fn push_way(schema: &Schema, way: &[PathStep], text: &mut String) -> Result<(), AllocError>
+    ensures { OnOk result (string_bytes text.new ≡ string_bytes text.old ++ way_text (schema_nodes schema.now) (Some 0) way.now) }
+{
     let mut here = Some(schema.root());
     for step in way {
-        if let Some(id) = here {
-            here = push_step(schema, id, *step, text)?;
-        }
+        here = push_from(schema, here, *step, text)?;
     }
     Ok(())
+}
+
+/// Appends one step from a node, if there is one, and returns the node that it leads to.
+fn push_from(
+    schema: &Schema,
+    here: Option<NodeId>,
+    step: PathStep,
+    text: &mut String,
+) -> Result<Option<NodeId>, AllocError>
+    ensures text { OnOk result (string_bytes text.new ≡ string_bytes text.old
+        ++ mark_from (schema_nodes schema.now) (option_and_then (slice_get (schema_nodes schema.now)) (option_map (λ id. id.0) here)) step) }
+    ensures next { IfOk result (λ next. option_map (λ id. id.0) next
+        ≡ end_from (option_and_then (slice_get (schema_nodes schema.now)) (option_map (λ id. id.0) here)) step) }
+{
+    let Some(id) = here else {
+        return Ok(None);
+    };
+    match node_at(schema, id) {
+        None => Ok(None),
+        Some(node) => push_step(schema, node, step, text),
+    }
 }
 
 /// Appends one step from a node, and returns the node that it leads to.
 fn push_step(
     schema: &Schema,
-    id: NodeId,
+    node: &Node,
     step: PathStep,
     text: &mut String,
-) -> Result<Option<NodeId>, AllocError> {
-    let Some(node) = node_at(schema, id) else {
-        return Ok(None);
-    };
+) -> Result<Option<NodeId>, AllocError>
+    ensures text { OnOk result (string_bytes text.new ≡ string_bytes text.old ++ step_mark (schema_nodes schema.now) (node_of node.now) step) }
+    ensures next { IfOk result (λ next. option_map (λ id. id.0) next ≡ step_end (node_of node.now) step) }
+{
     match step {
-        PathStep::Field(index) => push_field(node, index, text),
+        PathStep::Field(index) => {
+            push_field(field_name(node, index), text)?;
+            Ok(field_id(node, index))
+        }
         PathStep::Branch(index) => {
-            let branch = branch_id(node, index);
-            if let Some(id) = branch {
-                push_branch(schema, id, text)?;
-            }
-            Ok(branch)
+            push_branch_at(schema, branch_id(node, index), text)?;
+            Ok(branch_id(node, index))
         }
         PathStep::Items => {
             text.push_str("[]")?;
@@ -109,104 +126,58 @@ fn push_step(
 }
 
 /// The node of a union's branch at an index.
-fn branch_id(node: &Node, index: usize) -> Option<NodeId> {
+fn branch_id(node: &Node, index: usize) -> Option<NodeId>
+    ensures { option_map (λ id. id.0) result ≡ branch_id_at (node_of node.now) index }
+{
     node.branches()?.get(index).copied()
 }
 
 /// Appends a step to a record's field.
-fn push_field(node: &Node, index: usize, text: &mut String) -> Result<Option<NodeId>, AllocError> {
-    let Some(name) = field_name(node, index) else {
-        return Ok(None);
+fn push_field(name: Option<&str>, text: &mut String) -> Result<(), AllocError>
+    ensures { OnOk result (string_bytes text.new ≡ string_bytes text.old ++ field_mark (option_map (λ n. n.now) name.entry)) }
+{
+    let Some(name) = name else {
+        return Ok(());
     };
-    push_all(text, &[".", name])?;
-    Ok(field_id(node, index))
+    text.push_str(".")?;
+    text.push_str(name)
 }
 
 /// The name of a record's field at an index.
-pub(crate) fn field_name(node: &Node, index: usize) -> Option<&str> {
+pub(crate) fn field_name(node: &Node, index: usize) -> Option<&str>
+    ensures { option_map (λ n. n.now) result ≡ field_name_at (node_of node.now) index }
+{
     let field = node.fields()?.get(index)?;
     Some(field.name.as_str())
 }
 
 /// The node of a record's field at an index.
-fn field_id(node: &Node, index: usize) -> Option<NodeId> {
+fn field_id(node: &Node, index: usize) -> Option<NodeId>
+    ensures { option_map (λ id. id.0) result ≡ field_id_at (node_of node.now) index }
+{
     let field = node.fields()?.get(index)?;
     Some(field.node)
 }
 
+/// Appends a step to a branch of a union, if there is one.
+fn push_branch_at(schema: &Schema, id: Option<NodeId>, text: &mut String) -> Result<(), AllocError>
+    ensures { OnOk result (string_bytes text.new ≡ string_bytes text.old
+        ++ branch_mark (option_and_then (slice_get (schema_nodes schema.now)) (option_map (λ i. i.0) id))) }
+{
+    match id {
+        None => Ok(()),
+        Some(id) => push_branch(schema, id, text),
+    }
+}
+
 /// Appends a step to a branch of a union: its fullname, or the word of its type.
-pub(crate) fn push_branch(
-    schema: &Schema,
-    id: NodeId,
-    text: &mut String,
-) -> Result<(), AllocError> {
+pub(crate) fn push_branch(schema: &Schema, id: NodeId, text: &mut String) -> Result<(), AllocError>
+    ensures { OnOk result (string_bytes text.new ≡ string_bytes text.old ++ branch_mark (slice_get (schema_nodes schema.now) id.0)) }
+{
     let Some(branch) = node_at(schema, id) else {
         return Ok(());
     };
-    text.push('<')?;
-    match branch.name() {
-        Some(name) => push_name(name, text)?,
-        None => text.push_str(word_of(branch))?,
-    }
-    text.push('>')
-}
-
-/// Appends a type: a fullname, that of a fixed with its size, or a word, that of an array or a map with what it holds.
-fn push_type(schema: &Schema, id: NodeId, text: &mut String) -> Result<(), AllocError> {
-    let mut id = id;
-    for _level in 0..LEVELS {
-        match node_at(schema, id) {
-            Some(Node::Array(items)) => {
-                text.push_str("array of ")?;
-                id = *items;
-            }
-            Some(Node::Map(values)) => {
-                text.push_str("map of ")?;
-                id = *values;
-            }
-            Some(node) => return push_own_type(node, text),
-            None => return Ok(()),
-        }
-    }
-    Ok(())
-}
-
-/// Appends the type of a node that is no array and no map.
-fn push_own_type(node: &Node, text: &mut String) -> Result<(), AllocError> {
-    let Some(name) = node.name() else {
-        return text.push_str(word_of(node));
-    };
-    push_name(name, text)?;
-    if let Node::Fixed(fixed) = node {
-        let size = format!(in *text.allocator(); "({})", fixed.size)?;
-        text.push_str(&size)?;
-    }
-    Ok(())
-}
-
-/// Appends a fullname.
-fn push_name(name: &FullName, text: &mut String) -> Result<(), AllocError> {
-    if name.namespace().is_empty() {
-        text.push_str(name.simple())
-    } else {
-        push_all(text, &[name.namespace(), ".", name.simple()])
-    }
-}
-
-/// The word of a kind of type.
-fn word_of(node: &Node) -> &'static str {
-    match node {
-        Node::Null => "null",
-        Node::Boolean => "boolean",
-        Node::Int => "int",
-        Node::Long => "long",
-        Node::Bytes => "bytes",
-        Node::Str => "string",
-        Node::Array(_) => "array",
-        Node::Map(_) => "map",
-        Node::Union(_) => "union",
-        Node::Record(_) => "record",
-        Node::Enum(_) => "enum",
-        Node::Fixed(_) => "fixed",
-    }
+    text.push_str("<")?;
+    push_branch_word(branch, text)?;
+    text.push_str(">")
 }
