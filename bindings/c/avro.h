@@ -93,7 +93,8 @@ uint32_t avro_confirm_text(const uint8_t *writer, size_t writer_length, const ui
  * Does the last schema read all data of each one before it, as `avro history`? The texts follow one another in `texts`;
  * `lengths` has the length of each, in order, and there are at least two. The answer's text has a line for each schema
  * but the last, which begins with its number, from 0. AVRO_NO where some line is a no, else AVRO_UNDECIDED where some is
- * undecided, else AVRO_YES. AVRO_USAGE where the sum of the lengths is not `texts_length`.
+ * undecided, else AVRO_YES. AVRO_USAGE where there are fewer than two lengths, where their sum is not `texts_length`, or
+ * where a limit is out of range.
  */
 uint32_t avro_history_text(const uint8_t *texts, size_t texts_length, const size_t *lengths, size_t lengths_count,
                            const avro_limits *limits, uint8_t *out, size_t room, size_t *wanted);

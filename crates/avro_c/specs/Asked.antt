@@ -1,5 +1,5 @@
 -- What a caller asks for by numbers.
-use Rattle.std.specs.Prelude.{ℕ, ◌==◌, if◌then◌else◌}
+use Rattle.std.specs.Prelude.{◌≡◌, ℕ, ◌≤◌, ◌==◌, if◌then◌else◌, List, length, sum}
 use Rattle.avro_judge.specs.JudgeRanges.{JudgeLimitValues}
 use Rattle.avro_answer.specs.declared.schemas.Shown.{Shown}
 
@@ -18,3 +18,7 @@ asked_limits pairs size depth = record {
 -- what is shown of a schema; only 0 to 2 ask for something
 abbrev pub asked_shown : ℕ → Shown
 asked_shown number = if number == 0 then Shown.Count else (if number == 1 then Shown.Canonical else Shown.Fingerprint)
+
+-- lengths of at least two texts, which follow one another and are all of these bytes
+abbrev pub AreLengthsOf : List ℕ → List ℕ → Type 0
+AreLengthsOf lengths texts = (2 ≤ length lengths) × (sum lengths ≡ length texts)

@@ -4,14 +4,15 @@
 //! is room for, and `wanted` is the length of all of it.
 #![tactic(auto)]
 
-ghost use Rattle.std.specs.Prelude.{◌≡◌, ℕ, ◌≤◌, ◌<◌, ◌↔◌, ◌⊎◌, List, codes};
+ghost use Rattle.std.specs.Prelude.{◌≡◌, ◌≤◌, ◌<◌, ◌↔◌, ◌⊎◌, codes};
 ghost use Rattle.avro_judge.specs.JudgeRanges.{AreJudgeLimits};
 ghost use Rattle.avro_answer.specs.JudgeAnswer.{JudgeAnswer};
 ghost use Rattle.avro_answer.specs.ExplainAnswer.{ExplainAnswer};
-ghost use Rattle.avro_answer.specs.ConfirmAnswer.{ConfirmAnswer, RefusesOneOf};
+ghost use Rattle.avro_answer.specs.ConfirmAnswer.{ConfirmAnswer, HasCertificate, RefusesOneOf};
+ghost use Rattle.avro_answer.specs.HistoryAnswer.{HistoryAnswer, cut_texts, RefusesHistory, AllHaveSchemas};
 ghost use Rattle.avro_answer.specs.SchemaAnswer.{SchemaAnswer};
 ghost use Rattle.avro_answer.specs.RefusalText.{RefusesOne, RefusesPair, HaveSchemas};
-ghost use Rattle.avro_c.specs.Asked.{asked_or, asked_limits, asked_shown};
+ghost use Rattle.avro_c.specs.Asked.{asked_or, asked_limits, asked_shown, AreLengthsOf};
 ghost use Rattle.avro_c.specs.Room.{IsPut, IsUntouched};
 ghost use Rattle.avro_c.specs.Told.{IsTold, IsRefused};
 
@@ -67,6 +68,7 @@ pub extern "C" fn avro_explain_text(
     ensures refused { result ≡ 3 → IsRefused (RefusesPair writer.now reader.now) out.old out.new wanted.new }
     ensures nothing { 3 < result → IsUntouched out.old out.new wanted.new }
     ensures usage { asked_or max_pairs 4194304 ≤ 16777216 → result ≡ 64 → ⊥ }
+    ensures complete { asked_or max_pairs 4194304 ≤ 16777216 → HaveSchemas writer.now reader.now → (result ≤ 2) ⊎ (result ≡ 5) }
 {
     let Some(pairs) = pairs_of(max_pairs) else {
         return put_nothing(status::USAGE, wanted);
@@ -90,6 +92,7 @@ pub extern "C" fn avro_confirm_text(
     ensures answered { result ≤ 2 → IsTold (ConfirmAnswer writer.now reader.now certificate.now) out.old out.new wanted.new result }
     ensures refused { result ≡ 3 → IsRefused (RefusesOneOf writer.now reader.now certificate.now) out.old out.new wanted.new }
     ensures nothing { 3 < result → IsUntouched out.old out.new wanted.new }
+    ensures complete { HaveSchemas writer.now reader.now → HasCertificate certificate.now → (result ≤ 2) ⊎ (result ≡ 5) }
 {
     match confirm_text(alloc, writer, reader, certificate, Form::Text) {
         Ok(answer) => tell(&answer, out, wanted),
@@ -108,7 +111,11 @@ pub extern "C" fn avro_history_text(
     out: &mut [u8],
     wanted: &mut usize,
 ) -> u32
-    ensures { ((text : List ℕ) × IsPut text out.old out.new wanted.new) ⊎ IsUntouched out.old out.new wanted.new }
+    ensures answered { result ≤ 2 → IsTold (HistoryAnswer (cut_texts texts.now lengths.now) (asked_limits limits.now.pairs limits.now.size limits.now.depth)) out.old out.new wanted.new result }
+    ensures refused { result ≡ 3 → IsRefused (RefusesHistory (cut_texts texts.now lengths.now)) out.old out.new wanted.new }
+    ensures nothing { 3 < result → IsUntouched out.old out.new wanted.new }
+    ensures usage { (result ≡ 64) ↔ (AreLengthsOf lengths.now texts.now × AreJudgeLimits (asked_limits limits.now.pairs limits.now.size limits.now.depth) → ⊥) }
+    ensures complete { AreLengthsOf lengths.now texts.now → AreJudgeLimits (asked_limits limits.now.pairs limits.now.size limits.now.depth) → AllHaveSchemas (cut_texts texts.now lengths.now) → (result ≤ 2) ⊎ (result ≡ 5) }
 {
     if lengths.len() < 2 || !are_lengths_of(lengths, texts) {
         return put_nothing(status::USAGE, wanted);
