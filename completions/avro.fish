@@ -44,3 +44,5 @@ complete -c avro -n '__fish_seen_subcommand_from pipe' -l reader -r -F -d 'resol
 complete -c avro -n '__fish_seen_subcommand_from pipe' -l sync -x -d 'use this sync marker of 32 hexadecimal digits'
 complete -c avro -n '__fish_seen_subcommand_from pipe' -l counts -d 'print the numbers of data and blocks'
 complete -c avro -n '__fish_seen_subcommand_from header' -l metadata -d 'print all metadata as JSON'
+
+complete -c avro -n '__fish_seen_subcommand_from help' -f -a 'judge explain confirm history schema check show copy pipe header'
