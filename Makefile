@@ -60,7 +60,7 @@ install: $(PROGRAM) ## installs the proved program, its man page and its complet
 	install -D -m 644 completions/avro.zsh $(DESTDIR)$(PREFIX)/share/zsh/site-functions/_avro
 	install -D -m 644 completions/avro.fish $(DESTDIR)$(PREFIX)/share/fish/vendor_completions.d/avro.fish
 
-quick: words ## runs all tests without any proof (nine minutes of processor time)
+quick: words ## runs all tests without any proof (thirteen minutes of processor time)
 	@for crate in $(TESTS); do echo "== $$crate"; (cd crates/$$crate && rt try --test) || exit 1; done
 
 test: ## the gate: each proof, test, program and must-fail edit, from scratch (two to five processor hours)
