@@ -5,7 +5,7 @@ use Rattle.std.specs.Prelude.{◌==◌, codes}
 use Rattle.avro_schema.specs.Node.{Node}
 use Rattle.avro_certificate.specs.Compatible.{AreCompatible}
 use Rattle.avro_answer.specs.JudgeAnswer.{IsYes}
-use Rattle.avro_answer.specs.ExplainAnswer.{IsOverPairs, IsOverLimit, FaultsAnswer, FaultsStatus}
+use Rattle.avro_answer.specs.ExplainAnswer.{AreAllFaults, IsOverPairs, IsOverLimit, FaultsAnswer, FaultsStatus}
 
 -- what the test of a list says of it
 pub no_member : {A : Type 0} (xs : List A) (count : ℕ) (test : Bool) → count ≡ length xs → test ≡ (count == 0) → test ≡ true → xs ≡ []
@@ -43,10 +43,11 @@ module _ (writer reader : List Node) (limit : ℕ) where
 
   -- the text of a yes and that of an undecided go with their statuses
   pub with_texts : (text : List ℕ) (status : ℕ) → FaultsStatus writer reader limit status → (status ≡ 0 → text ≡ codes "yes\n")
-      → (status ≡ 2 → text ≡ codes "undecided Pairs\n") → FaultsAnswer writer reader limit text status
-  with_texts text status own is_yes is_over = record {
+      → (status ≡ 2 → text ≡ codes "undecided Pairs\n") → (status ≡ 1 → AreAllFaults writer reader text) → FaultsAnswer writer reader limit text status
+  with_texts text status own is_yes is_over all = record {
     yes = (λ h. own.yes.0 h.1, λ h. (is_yes (own.yes.1 h), own.yes.1 h));
     no = own.no;
+    faults = all;
     undecided = (λ h. own.undecided.0 h.1, λ h. (is_over (own.undecided.1 h), own.undecided.1 h));
     known = texts_known own.known;
   }

@@ -1,3 +1,4 @@
+pub mod FaultLines
 pub mod FaultsAnswers
 pub mod HistoryLines
 pub mod HistoryTexts

@@ -8,7 +8,8 @@ use Rattle.std.specs.List.{AllByRecursion, IsDistinct}
 use Rattle.std.specs.Prelude.{◌==◌}
 use Rattle.avro_schema.specs.Distinct.{are_distinct}
 use Rattle.avro_schema.specs.Node.{Node}
-use Rattle.avro_certificate.specs.Closed.{Pair, same_pair, is_among, is_among_pairs}
+use Rattle.avro_compare.specs.Children.{Pair}
+use Rattle.avro_certificate.specs.Closed.{same_pair, is_among, is_among_pairs}
 use Rattle.avro_certificate.specs.Evidence.{IsGreatestDead, IsReached, roots, child}
 use Rattle.avro_certificate.proofs.public.Rising.{both_true}
 use Rattle.avro_certificate.proofs.public.Tests.{and_left, and_right, or_left, or_right, not_true, same_pair-true}

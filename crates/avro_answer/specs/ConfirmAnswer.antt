@@ -2,7 +2,8 @@
 use Rattle.std.specs.Prelude.{◌≡◌, ◌↔◌, ℕ, true, false, List, codes}
 use Rattle.avro_schema.specs.Node.{Node}
 use Rattle.avro_schema_json.specs.DeclaredText.{DeclaresText}
-use Rattle.avro_certificate.specs.Closed.{Pair, is_closed}
+use Rattle.avro_compare.specs.Children.{Pair}
+use Rattle.avro_certificate.specs.Closed.{is_closed}
 use Rattle.avro_certificate.specs.CertificateText.{CertText, are_small}
 use Rattle.avro_certificate.specs.CertificateRead.{Refuses}
 use Rattle.avro_answer.specs.RefusalText.{HasCode, HasSchema}

@@ -2,10 +2,13 @@
 use Rattle.std.specs.Prelude.{◌≡◌, ◌↔◌, ℕ, ◌⊎◌, List, codes}
 use Rattle.avro_schema.specs.Node.{Node}
 use Rattle.avro_schema_json.specs.DeclaredText.{DeclaresText}
-use Rattle.avro_certificate.specs.Closed.{Pair}
+use Rattle.avro_compare.specs.Children.{Pair}
 use Rattle.avro_certificate.specs.Compatible.{AreCompatible}
 use Rattle.avro_certificate.specs.Evidence.{IsGreatestDead}
-use Rattle.avro_explain.specs.Places.{AreTooMany}
+use Rattle.avro_explain.specs.Places.{pairs_of, AreByBreadth, AreFaults, ArePlaced, AreReached, AreTooMany}
+use Rattle.avro_explain.specs.declared.found.Finding.{Finding}
+use Rattle.avro_explain.specs.declared.found.Place.{Place}
+use Rattle.avro_answer.specs.FaultLine.{AreFaultLines}
 use Rattle.avro_answer.specs.JudgeAnswer.{IsYes}
 
 abbrev pub IsOverPairs : List ℕ → ℕ → Type 0
@@ -15,12 +18,27 @@ IsOverPairs text status = (text ≡ codes "undecided Pairs\n") × (status ≡ 2)
 abbrev pub IsOverLimit : List Node → List Node → ℕ → Type 0
 IsOverLimit writer reader limit = (dead : List ℕ) × (pairs : List Pair) × IsGreatestDead writer dead × AreTooMany writer reader dead limit pairs
 
+-- The text of a no: the pairs of nodes that the roots lead to, each once and by breadth, but for the writer's nodes that no
+-- datum has; exactly their faults; and a line for each of these, in order.
+pub record AreAllFaults (writer reader : List Node) (text : List ℕ) : Type 0 where
+  pub dead : List ℕ
+  pub greatest : IsGreatestDead writer dead
+  pub places : List Place
+  pub reached : AreReached writer reader dead (pairs_of places)
+  pub placed : ArePlaced writer reader places
+  pub breadth : AreByBreadth places
+  pub faults : List Finding
+  pub exact : AreFaults writer reader places faults
+  pub told : AreFaultLines writer reader places faults text
+
 -- What is answered of two schemas, of which at most so many pairs of nodes are gone through.
 pub record FaultsAnswer (writer reader : List Node) (limit : ℕ) (text : List ℕ) (status : ℕ) : Type 0 where
   -- yes exactly where the pairs are within the limit and no datum of the writer's fails, of any size
   pub yes : IsYes text status ↔ ((IsOverLimit writer reader limit → ⊥) × AreCompatible writer reader)
   -- a no exactly where they are within it and not every datum resolves
   pub no : (status ≡ 1) ↔ ((IsOverLimit writer reader limit → ⊥) × (AreCompatible writer reader → ⊥))
+  -- and then all faults are told
+  pub faults : status ≡ 1 → AreAllFaults writer reader text
   -- undecided exactly where the roots lead to more pairs than the limit
   pub undecided : IsOverPairs text status ↔ IsOverLimit writer reader limit
   -- there is no other answer

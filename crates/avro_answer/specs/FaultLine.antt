@@ -1,5 +1,6 @@
 -- The line of a fault in the answer of `explain` as text. The forms are this project's own.
-use Rattle.std.specs.Prelude.{◌≡◌, ℕ, List, [], ◌++◌, Option, Some, None, codes, decimal, slice_get, option_and_then, unwrap_or}
+use Rattle.std.specs.Prelude.{◌≡◌, ℕ, List, [], ◌++◌, Option, Some, None, codes, decimal, length, slice_get, option_and_then, unwrap_or}
+use Rattle.std.specs.List.{AllZip, concat}
 use Rattle.avro_schema.specs.Node.{Node, symbols_of}
 use Rattle.avro_explain.specs.Places.{ArePlaced}
 use Rattle.avro_explain.specs.Ways.{IsWay}
@@ -79,3 +80,9 @@ pub record IsLineAdded (writer reader : List Node) (places : List Place) (fault 
   pub line : List ℕ
   pub is : IsFaultLine writer reader places fault line
   pub added : after ≡ before ++ line
+
+-- a line that counts faults, and a line for each of them, in order
+pub record AreFaultLines (writer reader : List Node) (places : List Place) (faults : List Finding) (text : List ℕ) : Type 0 where
+  pub lines : List (List ℕ)
+  pub each : AllZip (IsFaultLine writer reader places) faults lines
+  pub written : text ≡ no_line (length faults) ++ concat lines

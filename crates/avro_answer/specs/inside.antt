@@ -1,4 +1,5 @@
 -- What only proofs and private contracts need.
+pub mod FaultsAdded
 pub mod NamedLine
 pub mod Read
 pub mod VerdictTexts

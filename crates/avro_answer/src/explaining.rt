@@ -1,22 +1,23 @@
 //! All faults of two schemas, by names.
 
-ghost use Rattle.std.specs.Prelude.{◌≡◌, ◌<◌, [], length, codes, string_bytes, IfOk, OnOk};
+ghost use Rattle.std.specs.Prelude.{◌≡◌, codes, IfOk};
 ghost use Rattle.std.specs.Result.{IfErr};
 ghost use Rattle.avro_schema.specs.SeenSchema.{schema_nodes};
+ghost use Rattle.avro_explain.specs.Places.{AreFaults};
 ghost use Rattle.avro_answer.specs.ExplainAnswer.{FaultsAnswer, FaultsStatus, ExplainAnswer, ExplainStatus};
-ghost use Rattle.avro_answer.specs.FaultLine.{IsLineAdded, no_line};
+ghost use Rattle.avro_answer.specs.FaultLine.{AreFaultLines};
 ghost use Rattle.avro_answer.specs.RefusalText.{RefusesPair, HaveSchemas};
 ghost use Rattle.avro_answer.specs.declared.form.Form.{Form};
 ghost use Rattle.avro_answer.specs.declared.refusal.Refusal.TheVariants.{OutOfMemory};
 
 use crate::answer::Answer;
+use crate::fault_lines::put_faults;
 use crate::form::Form;
-use crate::named_fault::name_fault;
 use crate::reading::{read_reader, read_writer};
 use crate::refusal::Refusal;
-use avro_explain::{ExplainError, Explanation, Finding, Place, explain};
+use avro_explain::{ExplainError, Explanation, explain};
 use avro_schema::{Memory, Schema};
-use std::alloc::{AllocError, Global};
+use std::alloc::Global;
 
 /// Finds all faults of the schemas of two texts, of which the roots lead to `max_pairs` pairs of nodes at most.
 ///
@@ -95,116 +96,13 @@ fn faults_text(
     reader: &Schema,
     found: &Explanation,
     form: Form,
-) -> Result<Vec<u8>, Memory> {
-    let mut text = begin_faults(alloc, found.faults.len(), form)?;
-    let mut is_first = true;
-    for fault in &found.faults {
-        append_fault(
-            &mut text, alloc, writer, reader, found, *fault, form, is_first,
-        )?;
-        is_first = false;
-    }
-    text.push_str(end_of_faults(form))?;
-    Ok(text.into_bytes())
-}
-
-/// What is before the faults, of which there are some.
-///
-/// # Errors
-///
-/// Memory ran out.
-pub fn begin_faults(alloc: Global, count: usize, form: Form) -> Result<String, AllocError>
-    ensures { IfOk result (λ begun. form ≡ Form.Text → string_bytes begun ≡ no_line count) }
+) -> Result<Vec<u8>, Memory>
+    ensures { form ≡ Form.Text → AreFaults (schema_nodes writer.now) (schema_nodes reader.now) found.now.places.items found.now.faults.items
+        → IfOk result (λ text. AreFaultLines (schema_nodes writer.now) (schema_nodes reader.now) found.now.places.items found.now.faults.items text.items) }
 {
-    match form {
-        Form::Text => begin_lines(alloc, count),
-        Form::Json => String::from_str(alloc, "{\"verdict\":\"no\",\"faults\":["),
-    }
-}
-
-/// The line before those of the faults.
-fn begin_lines(alloc: Global, count: usize) -> Result<String, AllocError>
-    ensures { IfOk result (λ begun. string_bytes begun ≡ no_line count) }
-{
-    let mut line = String::from_str(alloc, "no ")?;
-    let digits = count.to_string(alloc)?;
-    line.push_str(digits.as_str())?;
-    line.push_str("\n")?;
-    Ok(line)
-}
-
-/// Appends a fault by names.
-///
-/// # Errors
-///
-/// Memory ran out.
-pub fn append_fault(
-    text: &mut String,
-    alloc: Global,
-    writer: &Schema,
-    reader: &Schema,
-    found: &Explanation,
-    fault: Finding,
-    form: Form,
-    is_first: bool,
-) -> Result<(), Memory>
-    ensures { form ≡ Form.Text → fault.place < length found.now.places.items → OnOk result (IsLineAdded (schema_nodes writer.now) (schema_nodes reader.now)
-        found.now.places.items fault (string_bytes text.old) (string_bytes text.new)) }
-{
-    match form {
-        Form::Text => append_line(text, alloc, writer, reader, &found.places, fault),
-        Form::Json => append_json(text, alloc, writer, reader, &found.places, fault, is_first),
-    }
-}
-
-/// Appends the line of a fault.
-fn append_line(
-    text: &mut String,
-    alloc: Global,
-    writer: &Schema,
-    reader: &Schema,
-    places: &[Place],
-    fault: Finding,
-) -> Result<(), Memory>
-    ensures { fault.place < length places.now → OnOk result (IsLineAdded (schema_nodes writer.now) (schema_nodes reader.now) places.now fault
-        (string_bytes text.old) (string_bytes text.new)) }
-{
-    match name_fault(alloc, writer, reader, places, fault)? {
-        None => Ok(()),
-        Some(named) => {
-            named.put_line(text)?;
-            Ok(())
-        }
-    }
-}
-
-/// Appends the object of a fault, after a comma unless it is the first.
-fn append_json(
-    text: &mut String,
-    alloc: Global,
-    writer: &Schema,
-    reader: &Schema,
-    places: &[Place],
-    fault: Finding,
-    is_first: bool,
-) -> Result<(), Memory> {
-    let Some(named) = name_fault(alloc, writer, reader, places, fault)? else {
-        return Ok(());
-    };
-    if !is_first {
-        text.push(',')?;
-    }
-    let json = named.json(alloc)?;
-    text.push_str(&json)?;
-    Ok(())
-}
-
-/// What is after the faults.
-pub fn end_of_faults(form: Form) -> &'static str
-    ensures { form ≡ Form.Text → result.now ≡ [] }
-{
-    match form {
-        Form::Text => "",
-        Form::Json => "]}\n",
+    let mut text: Vec<u8> = Vec::new(alloc);
+    match put_faults(&mut text, alloc, writer, reader, found, form) {
+        Ok(()) => Ok(text),
+        Err(_) => Err(Memory),
     }
 }

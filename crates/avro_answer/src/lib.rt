@@ -9,6 +9,7 @@ mod confirming;
 mod containers;
 mod datum_lines;
 mod explaining;
+mod fault_lines;
 mod fault_place;
 mod faults;
 mod form;
@@ -33,9 +34,8 @@ pub use containers::{
     ContainerCode, ContainerPlace, ContainerReason, ContainerRefusal, container_refusal,
 };
 pub use datum_lines::datum_line;
-pub use explaining::{
-    append_fault, begin_faults, end_of_faults, explain_text, no_fault, over_pairs,
-};
+pub use explaining::{explain_text, no_fault, over_pairs};
+pub use fault_lines::{PutError, put_faults};
 pub use form::Form;
 pub use history::{history_text, judge_json_line, judge_line};
 pub use json_answers::counts_line;

@@ -187,7 +187,7 @@ none_within W nodes few blob (suc depth) n h (suc c) bytes f b limit v front res
 
 -- ---- Of a schema
 
-within-small : (limits : LimitValues) (v : Value) → is_within limits v ≡ true → IsSmall limits.depth limits.nodes limits.blob v
+pub within-small : (limits : LimitValues) (v : Value) → is_within limits v ≡ true → IsSmall limits.depth limits.nodes limits.blob v
 within-small limits v h =
     let both = and_parts (nat_le (depth v) limits.depth && nat_le (size v) limits.nodes) (nat_le (longest_blob v) limits.blob) h in
     let two = and_parts (nat_le (depth v) limits.depth) (nat_le (size v) limits.nodes) both.0 in

@@ -11,3 +11,4 @@ pub mod CursorValue
 pub mod Elements
 pub mod BlockHeads
 pub mod CursorReads
+pub mod inside

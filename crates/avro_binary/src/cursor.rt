@@ -1,14 +1,16 @@
-ghost use Rattle.std.specs.Prelude.{◌≡◌, ◌⊎◌, ◌+◌, ◌^◌, ◌≤◌, ◌<◌, length, take, Some, OnOk, OnErr};
+ghost use Rattle.std.specs.Prelude.{◌≡◌, ◌⊎◌, ◌+◌, ◌*◌, ◌^◌, ◌≤◌, ◌<◌, ℕ, length, slice_index, take, Some, OnOk, OnErr};
 ghost use Rattle.std.specs.Result.{IfErr};
 ghost use Rattle.avro_binary.specs.Breaks.{number_fault};
 ghost use Rattle.avro_binary.specs.CursorValue.{Passes, Enters, Counts};
 ghost use Rattle.avro_binary.specs.Fault.{behind, limit_exceeded};
+ghost use Rattle.avro_binary.specs.inside.CountsAgain.{CountsAgain};
 ghost use Rattle.avro_binary.specs.Seen.{read_fault};
 
 mod blocks;
 mod elements;
 
 use crate::error::ReadError;
+use crate::leaves::drop_content;
 use avro_schema::Limits;
 use avro_zigzag::VarError;
 use std::marker::Model;
@@ -59,7 +61,16 @@ impl<'a> Cursor<'a> {
         self.len - self.rest.len()
     }
 
+    /// How many bytes are left.
+    #[inline(always)]
+    pub(crate) fn left(&self) -> usize
+        ensures { result ≡ length self.now.bytes }
+    {
+        self.rest.len()
+    }
+
     /// How many nodes are left of the limit.
+    #[inline(always)]
     pub(crate) fn nodes(&self) -> u32
         ensures count { result ≡ self.now.nodes }
         ensures in_range { self.now.nodes < 2 ^ 32 }
@@ -113,6 +124,31 @@ impl<'a> Cursor<'a> {
         }
         self.nodes -= 1;
         Ok(())
+    }
+
+    /// Counts the nodes of a number of data, each of which takes as many.
+    ///
+    /// # Errors
+    ///
+    /// `LimitExceeded` where fewer are left.
+    pub(crate) fn count_again(&mut self, size: u32, count: u32) -> Result<(), ReadError>
+        ensures counted { OnOk result (CountsAgain self.old (size * count) self.new) }
+        ensures refused { IfErr result (λ e. (read_fault e ≡ Some limit_exceeded) × (self.old.nodes < size * count)) }
+        ensures in_range { (self.old.nodes < 2 ^ 32) × (self.old.blob < 2 ^ 32) }
+        ensures are_bytes { (i : ℕ) → slice_index self.old.bytes i < 2 ^ 8 }
+    {
+        drop_content(self.rest);
+        let _blob = self.blob;
+        match size.checked_mul(count) {
+            Some(all) => match self.nodes.checked_sub(all) {
+                Some(left) => {
+                    self.nodes = left;
+                    Ok(())
+                }
+                None => Err(ReadError::LimitExceeded),
+            },
+            None => Err(ReadError::LimitExceeded),
+        }
     }
 
     /// Enters a node: it takes one of the nodes left and one of the depth.

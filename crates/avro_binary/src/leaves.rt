@@ -135,6 +135,6 @@ pub(crate) fn read_fixed<M: Make>(
 
 /// Keeps nothing of the content: the type of its parameter says that each byte is below 256.
 #[inline(always)]
-fn drop_content(_content: &[u8])
+pub(crate) fn drop_content(_content: &[u8])
     ensures { (i : ℕ) → slice_index _content.now i < 2 ^ 8 }
 {}

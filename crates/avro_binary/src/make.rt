@@ -1,4 +1,4 @@
-ghost use Rattle.std.specs.Prelude.{◌≡◌, ◌<◌, ℕ, List, [], ◌∷◌, ◌++◌, Option, Some, true, length, slice_get, IfOk, OnOk};
+ghost use Rattle.std.specs.Prelude.{◌≡◌, ◌<◌, ℕ, List, [], ◌∷◌, ◌++◌, Option, Some, true, false, length, replicate, slice_get, IfOk, OnOk};
 ghost use Rattle.avro_name.specs.Name.{Name};
 ghost use Rattle.avro_schema.specs.Fits.{fields_fit};
 ghost use Rattle.avro_schema.specs.Node.{Node, FieldNode, node_at, field_ids};
@@ -142,6 +142,16 @@ pub trait Make {
         ensures stands { (nodes : List Node) (id : ℕ) (at : Self.At) (vs : List Value) (v : Value) → items_stand_for self.old nodes id at items.old vs
             → stands_for self.old nodes (node_at nodes id) (item_at self.old items.old) value v
             → OnOk result (items_stand_for self.new nodes id at items.new (vs ++ v ∷ [])) };
+
+    /// Adds a number of items, each of which is what `value` stands for, and says so, or adds none.
+    ///
+    /// It is asked of an item without bytes before that item is added itself: all the others of its block are the same.
+    fn repeat(&self, items: &mut Self::Items, value: &Self::Out, count: u32) -> bool
+        ensures added { (nodes : List Node) (id : ℕ) (at : Self.At) (vs : List Value) (v : Value) → result ≡ true → items_stand_for self.now nodes id at items.old vs
+            → stands_for self.now nodes (node_at nodes id) (item_at self.now items.old) value.now v
+            → items_stand_for self.now nodes id at items.new (vs ++ replicate count v) }
+        ensures next { item_at self.now items.new ≡ item_at self.now items.old }
+        ensures none { result ≡ false → items.new ≡ items.old };
 
     /// Makes an array from its items.
     fn array(&mut self, alloc: Global, items: Self::Items) -> Result<Self::Out, AllocError>

@@ -207,6 +207,10 @@ impl Make for Nothing {
         Ok(())
     }
 
+    fn repeat(&self, _items: &mut (), _value: &(), _count: u32) -> bool {
+        true
+    }
+
     fn array(&mut self, _alloc: Global, _items: ()) -> Result<(), AllocError> {
         Ok(())
     }

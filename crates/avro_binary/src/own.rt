@@ -126,6 +126,10 @@ impl<'b, B: Build> Make for Own<'b, B> {
         self.builder.item(alloc, items, value)
     }
 
+    fn repeat(&self, _items: &mut B::Items, _value: &B::Out, _count: u32) -> bool {
+        false
+    }
+
     fn array(&mut self, alloc: Global, items: B::Items) -> Result<B::Out, AllocError> {
         self.builder.array(alloc, items)
     }

@@ -1,4 +1,4 @@
-ghost use Rattle.std.specs.Prelude.{◌≡◌, List, [], ◌++◌};
+ghost use Rattle.std.specs.Prelude.{◌≡◌, ℕ, List, [], ◌++◌, replicate, true, false};
 ghost use Rattle.avro_name.specs.Name.{Name};
 ghost use Rattle.avro_schema.specs.Fits.{LimitValues};
 ghost use Rattle.avro_schema.specs.Node.{Node as SeenNode, node_at};
@@ -113,12 +113,45 @@ fn read_items<M: Make>(
         ReadsRun (ValuesRun nodes limits n) (value_breaks nodes limits n)
         (λ vs after. M.keeps maker.old maker.new × ((at : M.At) (us : List Value) → M.items_stand_for maker.old nodes id.0 at items.old us → M.items_stand_for maker.new nodes id.0 at items.new (us ++ vs))) count [] cursor.old cursor.new result) }
 {
-    for _done in 0..count {
+    // Its contract says that the schema is well formed, which the laws of faults ask for.
+    let _count = schema.len();
+    for done in 0..count {
+        let left = cursor.left();
+        let nodes = cursor.nodes();
         let at = maker.item_at(items);
         let value = read_at(alloc, schema, id, cursor, maker, at)?;
+        let is_empty = cursor.left() == left;
+        let size = nodes - cursor.nodes();
+        let others = count - 1 - done;
+        let alike = add_others(is_empty, maker, items, &value, others);
         maker.item(alloc, items, value)?;
+        if alike {
+            return cursor.count_again(size, others);
+        }
     }
     Ok(())
+}
+
+/// Adds the other items of a block where the first of them took no bytes, so that they are the same, and the maker needs no more than their number.
+#[inline(always)]
+fn add_others<M: Make>(
+    is_empty: bool,
+    maker: &M,
+    items: &mut M::Items,
+    value: &M::Out,
+    others: u32,
+) -> bool
+    ensures empty { result ≡ true → is_empty ≡ true }
+    ensures added { (nodes : List SeenNode) (id : ℕ) (at : M.At) (vs : List Value) (v : Value) → result ≡ true → M.items_stand_for maker.now nodes id at items.old vs
+        → M.stands_for maker.now nodes (node_at nodes id) (M.item_at maker.now items.old) value.now v
+        → M.items_stand_for maker.now nodes id at items.new (vs ++ replicate others v) }
+    ensures next { M.item_at maker.now items.new ≡ M.item_at maker.now items.old }
+    ensures none { result ≡ false → items.new ≡ items.old }
+{
+    if is_empty {
+        return maker.repeat(items, value, others);
+    }
+    false
 }
 
 /// Reads a union.

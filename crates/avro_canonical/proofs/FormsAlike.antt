@@ -1,6 +1,6 @@
 -- Data that fit nodes of one form are the same.
 use Rattle.std.proofs.Common.{◌≡◌, ◌⊎◌, inl, inr, ⊎_elim, ℕ, Bool, true, false, ◌||◌, List, [], ◌∷◌, Some, None, refl, sym, ◌∙◌, subst}
-use Rattle.std.proofs.lemmas.Bool.{false≢true}
+use Rattle.std.proofs.lemmas.Bool.{false≢true, or_cases, or_right}
 use Rattle.avro_name.specs.Name.{Name, same_name}
 use Rattle.avro_schema.specs.Value.{Value}
 use Rattle.avro_schema.specs.Node.{items_node, values_node, branches_of, fields_of, Node, FieldNode, node_at, root_of, node_name, field_ids}
@@ -40,23 +40,15 @@ record Defined (a b : List Node) (all : List Name) (name : Name) : Type 0 where
   first_named : node_name (node_at a here) ≡ Some own
   second_named : node_name (node_at b there) ≡ Some own
 
-or_cases : (s t : Bool) → (s || t) ≡ true → (s ≡ true) ⊎ (t ≡ true)
-or_cases true t h = inl refl
-or_cases false t h = inr h
-
-pub or_later : (s t : Bool) → t ≡ true → (s || t) ≡ true
-or_later true t h = refl
-or_later false t h = h
-
 mutual
   pub grows : (name : Name) (w : List Name) (f : Form) → is_among name w ≡ true → is_among name (written_after w f) ≡ true
   grows name w (Form.primitive word) h = h
   grows name w (Form.array f) h = grows name w f h
   grows name w (Form.map_of f) h = grows name w f h
   grows name w (Form.union fs) h = grows_all name w fs h
-  grows name w (Form.record_of own fs) h = grows_fields name (own ∷ w) fs (or_later (same_name name own) (is_among name w) h)
-  grows name w (Form.enum own symbols) h = or_later (same_name name own) (is_among name w) h
-  grows name w (Form.fixed own count) h = or_later (same_name name own) (is_among name w) h
+  grows name w (Form.record_of own fs) h = grows_fields name (own ∷ w) fs (or_right (same_name name own) (is_among name w) h)
+  grows name w (Form.enum own symbols) h = or_right (same_name name own) (is_among name w) h
+  grows name w (Form.fixed own count) h = or_right (same_name name own) (is_among name w) h
   grows name w (Form.reference own) h = h
 
   grows_all : (name : Name) (w : List Name) (fs : Forms) → is_among name w ≡ true → is_among name (written_after_all w fs) ≡ true

@@ -1,17 +1,17 @@
 -- The form of a node of a schema is well made.
 use Rattle.std.proofs.Common.{◌≡◌, ℕ, zero, suc, Bool, true, false, not, ◌&&◌, List, [], ◌∷◌, ◌++◌, Option, Some, None, refl, sym, ◌∙◌, ap, map, flat_map, filter_map, length, unwrap_or, slice_get, bytes_eq, nat_lt, nat_le, is_some}
 use Rattle.std.specs.List.{list_all, list_any}
-use Rattle.std.proofs.lemmas.Bool.{and_parts, and_from, not-true, not_from_false}
+use Rattle.std.proofs.lemmas.Bool.{and_parts, and_from, or_parts, not-true, not_from_false}
 use Rattle.std.proofs.lemmas.List.{length-map}
 use Rattle.std.proofs.lemmas.List.Folds.{list_all-append, list_any-append, list_all-map}
-use Rattle.avro_name.specs.Name.{Name, is_full_name, is_simple_name, same_name}
-use Rattle.avro_schema.specs.Node.{Node, FieldNode, node_at, node_name, edges_of}
+use Rattle.avro_name.specs.Name.{Name, is_full_name, is_simple_name}
+use Rattle.avro_schema.specs.Node.{Node, FieldNode, node_at, node_name}
 use Rattle.avro_schema.specs.Distinct.{are_distinct}
-use Rattle.avro_schema.specs.WellFormed.{is_schema, is_good_node, are_good_nodes, is_edge, has_good_names, meets_its_rules, max_nodes, max_count, BranchKind, named, branch_kind, is_union, is_enum, is_default, are_fields, has_good_default, field_names}
+use Rattle.avro_schema.specs.WellFormed.{is_schema, has_good_names, max_count, BranchKind, named, branch_kind, is_union, is_enum, is_default, are_fields, has_good_default, field_names}
+use Rattle.avro_schema.proofs.public.GoodNodes.{IsGood, good_at}
 use Rattle.avro_canonical.specs.Form.{Form, Forms, FieldForms}
 use Rattle.avro_canonical.specs.Canonical.{IsForm, AreForms, AreFieldForms, primitive_word, no_branch, branch, no_field, next_field}
 use Rattle.avro_canonical.specs.inside.WellMade.{node_of_word, form_kind, form_kinds, are_branches, names_of, are_names, WellMade, AreWellMade, FieldsWellMade}
-use Rattle.avro_canonical.proofs.NamesWritten.{or-left, or-right}
 use Rattle.avro_canonical.proofs.Words.{by_word, by_name}
 
 -- a word is that of its node alone
@@ -60,8 +60,8 @@ no_names : (p : List ℕ → Bool) (xs : List FieldNode) → list_any p (flat_ma
 no_names p [] h = refl
 no_names p (x ∷ xs) h =
     let cut = sym (list_any-append p (field_names x) (flat_map field_names xs)) ∙ h in
-    let here = or-left (p x.name) (list_any p x.aliases) (or-left (list_any p (field_names x)) (list_any p (flat_map field_names xs)) cut) in
-    rw here (no_names p xs (or-right (list_any p (field_names x)) (list_any p (flat_map field_names xs)) cut))
+    let both = or_parts (list_any p (field_names x)) (list_any p (flat_map field_names xs)) cut in
+    rw (or_parts (p x.name) (list_any p x.aliases) both.0).0 (no_names p xs both.1)
 
 distinct_behind : {A : Type 0} (e : A → A → Bool) (xs ys : List A) → are_distinct e (xs ++ ys) ≡ true → are_distinct e ys ≡ true
 distinct_behind e [] ys h = h
@@ -72,9 +72,9 @@ distinct_names e [] h = refl
 distinct_names e (x ∷ xs) h =
     let others = x.aliases ++ flat_map field_names xs in
     let both = and_parts (not (list_any (e x.name) others)) (are_distinct e others) h in
-    let none = or-right (list_any (e x.name) x.aliases) (list_any (e x.name) (flat_map field_names xs))
+    let none = or_parts (list_any (e x.name) x.aliases) (list_any (e x.name) (flat_map field_names xs))
     (sym (list_any-append (e x.name) x.aliases (flat_map field_names xs)) ∙ not-true _ both.0) in
-    and_from _ _ (not_from_false _ (no_names (e x.name) xs none)) (distinct_names e xs (distinct_behind e x.aliases (flat_map field_names xs) both.1))
+    and_from _ _ (not_from_false _ (no_names (e x.name) xs none.1)) (distinct_names e xs (distinct_behind e x.aliases (flat_map field_names xs) both.1))
 
 names_seen : {nodes : List Node} {written : List Name} {xs : List FieldNode} {fs : FieldForms} → AreFieldForms nodes written xs fs → map (λ x. x.name) xs ≡ names_of fs
 names_seen no_field = refl
@@ -85,29 +85,6 @@ good_names nodes xs h =
     let both = and_parts (list_all is_simple_name (flat_map field_names xs) && are_distinct bytes_eq (flat_map field_names xs)) (list_all (has_good_default nodes) xs) h in
     let named = and_parts (list_all is_simple_name (flat_map field_names xs)) (are_distinct bytes_eq (flat_map field_names xs)) both.0 in
     and_from _ _ (all_names is_simple_name xs named.0) (distinct_names bytes_eq xs named.1)
-
--- a node that meets its rules
-pub record IsGood (nodes : List Node) (n : Node) : Type 0 where
-  pub named : has_good_names n ≡ true
-  pub ruled : meets_its_rules nodes n ≡ true
-
-good_node : (nodes : List Node) (k : ℕ) (n : Node) → is_good_node nodes k n ≡ true → IsGood nodes n
-good_node nodes k n h =
-    let both = and_parts (list_all (is_edge nodes k) (edges_of n) && has_good_names n) (meets_its_rules nodes n) h in
-    record { named = (and_parts (list_all (is_edge nodes k) (edges_of n)) (has_good_names n) both.0).1; ruled = both.1 }
-
-good_from : (nodes : List Node) (k : ℕ) (ns : List Node) (p : ℕ) → are_good_nodes nodes k ns ≡ true → IsGood nodes (unwrap_or (slice_get ns p) Node.null)
-good_from nodes k [] p h = record { named = refl; ruled = refl }
-good_from nodes k (n ∷ ns) zero h = good_node nodes k n (and_parts (is_good_node nodes k n) (are_good_nodes nodes (suc k) ns) h).0
-good_from nodes k (n ∷ ns) (suc p) h = good_from nodes (suc k) ns p (and_parts (is_good_node nodes k n) (are_good_nodes nodes (suc k) ns) h).1
-
-pub good_nodes : (nodes : List Node) → is_schema nodes ≡ true → are_good_nodes nodes 0 nodes ≡ true
-good_nodes nodes h =
-    let first = (and_parts (nat_lt 0 (length nodes) && nat_le (length nodes) max_nodes && are_good_nodes nodes 0 nodes) (are_distinct same_name (filter_map node_name nodes)) h).0 in
-    (and_parts (nat_lt 0 (length nodes) && nat_le (length nodes) max_nodes) (are_good_nodes nodes 0 nodes) first).1
-
-pub good_at : (nodes : List Node) → is_schema nodes ≡ true → (p : ℕ) → IsGood nodes (node_at nodes p)
-good_at nodes h p = good_from nodes 0 nodes p (good_nodes nodes h)
 
 full_of : (name : Name) (others : Bool) → (is_full_name name && others) ≡ true → is_full_name name ≡ true
 full_of name others h = (and_parts (is_full_name name) others h).0
@@ -124,7 +101,7 @@ without_default symbols default h =
     and_from rules true (and_parts rules (is_default symbols default) h).0 refl
 
 mutual
-  pub well_made : {nodes : List Node} {written : List Name} {n : Node} {f : Form} → is_schema nodes ≡ true → IsGood nodes n → IsForm nodes written n f → WellMade written f
+  pub well_made : {nodes : List Node} {written : List Name} {id : ℕ} {n : Node} {f : Form} → is_schema nodes ≡ true → IsGood nodes id n → IsForm nodes written n f → WellMade written f
   well_made {n = n} formed good (IsForm.primitive {word = word} h) = ap primitive_word (word_node n word h) ∙ h
   well_made {nodes = nodes} formed good (IsForm.array {id = id} d) = well_made formed (good_at nodes formed id) d
   well_made {nodes = nodes} formed good (IsForm.map_of {id = id} d) = well_made formed (good_at nodes formed id) d

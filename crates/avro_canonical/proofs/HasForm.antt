@@ -1,17 +1,18 @@
 -- Each schema has a canonical text.
 use Rattle.std.proofs.Common.{◌≡◌, ◌<◌, ◌≤◌, ℕ, zero, suc, ◌+◌, Bool, true, false, ◌&&◌, ◌||◌, cond, if◌then◌else◌, List, [], ◌∷◌, Option, Some, None, refl, sym, ◌∙◌, ap, subst, arith, map, length, unwrap_or, slice_get, nat_lt, is_some}
 use Rattle.std.specs.List.{list_all}
-use Rattle.std.proofs.lemmas.Bool.{and_parts, false≢true, ltb-true}
+use Rattle.std.proofs.lemmas.Bool.{and_parts, false≢true, ltb-true, or_right}
 use Rattle.std.proofs.lemmas.Option.{slice_get_past}
 use Rattle.avro_name.specs.Name.{Name, same_name}
 use Rattle.avro_schema.specs.Node.{Node, FieldNode, node_at, node_name, edges_of}
-use Rattle.avro_schema.specs.WellFormed.{is_schema, is_edge, is_good_node, are_good_nodes, has_good_names, meets_its_rules}
+use Rattle.avro_schema.specs.WellFormed.{is_schema, is_edge}
 use Rattle.avro_canonical.specs.Form.{Form, Forms, FieldForms, no_forms, form, no_fields, field, form_text, written_after}
 use Rattle.avro_canonical.specs.Canonical.{IsForm, AreForms, AreFieldForms, IsCanonical, is_among, no_branch, branch, no_field, next_field}
 use Rattle.avro_canonical.proofs.Words.{some-is, none_apart, by_name}
-use Rattle.avro_canonical.proofs.NamesWritten.{same-refl, named-at}
-use Rattle.avro_canonical.proofs.FormsWellMade.{good_nodes}
-use Rattle.avro_canonical.proofs.FormsAlike.{grows, or_later}
+use Rattle.avro_canonical.proofs.NamesWritten.{named-at}
+use Rattle.avro_name.proofs.public.Names.{same_name-self}
+use Rattle.avro_schema.proofs.public.GoodNodes.{good_at}
+use Rattle.avro_canonical.proofs.FormsAlike.{grows}
 
 -- how many of the names are not written
 unwritten : List Name → List (Option Name) → ℕ
@@ -90,12 +91,12 @@ abbrev Deeper : List Node → ℕ → Type 0
 Deeper nodes k = (written : List Name) (q : ℕ) → left nodes written < k → HasForm nodes written (node_at nodes q)
 
 grown_by : (name : Name) (written : List Name) → Grown written (name ∷ written)
-grown_by name written other h = or_later (same_name other name) (is_among other written) h
+grown_by name written other h = or_right (same_name other name) (is_among other written) h
 
 one_fewer : (nodes : List Node) (written : List Name) (p : ℕ) (name : Name) → node_name (node_at nodes p) ≡ Some name → is_among name written ≡ false
     → left nodes (name ∷ written) < left nodes written
 one_fewer nodes written p name named new =
-    fewer written (name ∷ written) (map node_name nodes) p name (grown_by name written) (named-at nodes p name named) new (rw (same-refl name) refl)
+    fewer written (name ∷ written) (map node_name nodes) p name (grown_by name written) (named-at nodes p name named) new (rw (same_name-self name) refl)
 
 -- a type that is not written
 new_form : (nodes : List Node) (k : ℕ) → Deeper nodes k → (written : List Name) (n : Node) (name : Name) → left nodes (name ∷ written) < k → node_name n ≡ Some name
@@ -115,19 +116,6 @@ named_form nodes k deeper written p name few named =
       | true ↦ λ h. (Form.reference name, IsForm.again named h)
       | false ↦ λ h. new_form nodes k deeper written (node_at nodes p) name (omega (arith, few, one_fewer nodes written p name named h)) named h
     ]) refl
-
-good_edges : (nodes : List Node) (k : ℕ) (ns : List Node) (p : ℕ) → are_good_nodes nodes k ns ≡ true
-    → list_all (is_edge nodes (k + p)) (edges_of (unwrap_or (slice_get ns p) Node.null)) ≡ true
-good_edges nodes k [] p h = refl
-good_edges nodes k (n ∷ ns) zero h =
-    let good = (and_parts (is_good_node nodes k n) (are_good_nodes nodes (suc k) ns) h).0 in
-    let first = (and_parts (list_all (is_edge nodes k) (edges_of n) && has_good_names n) (meets_its_rules nodes n) good).0 in
-    let at : k ≡ k + 0 = omega arith in
-    subst (λ id. list_all (is_edge nodes id) (edges_of n) ≡ true) at (and_parts (list_all (is_edge nodes k) (edges_of n)) (has_good_names n) first).0
-good_edges nodes k (n ∷ ns) (suc p) h =
-    let at : suc k + p ≡ k + suc p = omega arith in
-    subst (λ id. list_all (is_edge nodes id) (edges_of (unwrap_or (slice_get ns p) Node.null)) ≡ true) at
-    (good_edges nodes (suc k) ns p (and_parts (is_good_node nodes k n) (are_good_nodes nodes (suc k) ns) h).1)
 
 some_name : (o : Option Name) → is_some o ≡ true → (name : Name) × (o ≡ Some name)
 some_name None h = absurd (false≢true h)
@@ -170,8 +158,7 @@ by_id nodes formed k deeper zero p written past few =
     subst (λ n. HasForm nodes written n) (sym (ap (λ o. unwrap_or o Node.null) (slice_get_past nodes p (omega (arith, past))))) (_, IsForm.primitive refl)
 by_id nodes formed k deeper (suc j) p written past few =
     by_node nodes k deeper p (by_edge nodes k deeper p (λ w q after le. by_id nodes formed k deeper j q w (omega (arith, past, after)) le)) written (node_at nodes p) refl
-    (let at : 0 + p ≡ p = omega arith in
-    subst (λ id. list_all (is_edge nodes id) (edges_of (node_at nodes p)) ≡ true) at (good_edges nodes 0 nodes p (good_nodes nodes formed))) few
+    (good_at nodes formed p).edges few
 
 all_forms : (nodes : List Node) → is_schema nodes ≡ true → (k : ℕ) (written : List Name) (p : ℕ) → left nodes written ≤ k → HasForm nodes written (node_at nodes p)
 all_forms nodes formed zero written p few =

@@ -10,7 +10,7 @@ use Rattle.avro_canonical.specs.CanonicalTree.{nodes_in}
 use Rattle.avro_canonical.specs.inside.WellMade.{WellMade, AreWellMade, FieldsWellMade}
 use Rattle.avro_canonical.specs.inside.Laid.{known_after, known_after_all, known_after_fields, laid_id, laid_ids, laid_fields, laid, laid_all, laid_in_fields}
 use Rattle.avro_canonical.proofs.Words.{some-is}
-use Rattle.avro_canonical.proofs.OneNamed.{name_is}
+use Rattle.avro_name.proofs.public.Names.{same_name-is}
 use Rattle.avro_canonical.proofs.LaidRead.{IsKnown, known_more, known_then, laid_count, id_is}
 
 -- some nodes are in a list from an id on, and others after them
@@ -64,7 +64,7 @@ last_id x name p q (d ∷ known) e =
 pub stand_defining : (nodes : List Node) (known : Known) (name : Name) (next : ℕ) → KnownStand nodes known → node_name (node_at nodes next) ≡ Some name
     → KnownStand nodes (defining name next known)
 stand_defining nodes known name next stands named x p at =
-    ⊎_elim (λ before. stands x p before) (λ now. subst (λ q. node_name (node_at nodes q) ≡ Some x) now.1 (named ∙ ap (λ it. Some it) (sym (name_is x name now.0))))
+    ⊎_elim (λ before. stands x p before) (λ now. subst (λ q. node_name (node_at nodes q) ≡ Some x) now.1 (named ∙ ap (λ it. Some it) (sym (same_name-is x name now.0))))
     (last_id x name next p known at)
 
 mutual

@@ -1,7 +1,7 @@
 -- The nodes that are laid for a form are a schema.
 use Rattle.std.proofs.Common.{◌≡◌, ◌<◌, ◌≤◌, ℕ, zero, suc, ◌+◌, true, List, [], ◌∷◌, ◌++◌, Some, refl, sym, ◌∙◌, ap, subst, arith, drop, flat_map, length, length-drop, is_some, unwrap_or, bytes_eq, nat_lt}
 use Rattle.std.specs.List.{list_all}
-use Rattle.std.proofs.lemmas.Bool.{and_parts, and_from, lt-ltb}
+use Rattle.std.proofs.lemmas.Bool.{and_parts, and_from, lt-ltb, or_right}
 use Rattle.std.proofs.lemmas.Option.{slice_get_past}
 use Rattle.avro_name.specs.Name.{Name, is_full_name, is_simple_name}
 use Rattle.avro_schema.specs.Node.{Node, node_at, node_name, field_ids}
@@ -14,7 +14,6 @@ use Rattle.avro_canonical.specs.CanonicalTree.{nodes_in}
 use Rattle.avro_canonical.specs.inside.WellMade.{node_of_word, are_branches, names_of, are_names, WellMade, AreWellMade, FieldsWellMade}
 use Rattle.avro_canonical.specs.inside.Laid.{known_after, laid_id, laid_ids, laid_fields, laid, laid_all, laid_in_fields}
 use Rattle.avro_canonical.proofs.FormsWellMade.{kinds_same, union_seen}
-use Rattle.avro_canonical.proofs.FormsAlike.{or_later}
 use Rattle.avro_canonical.proofs.LaidRead.{IsKnown, known_more, known_then, laid_count}
 use Rattle.avro_canonical.proofs.LaidForms.{Stand, stand_first, stand_cut, KnownStand, stand_defining, known_stand, named_there, laid_forms}
 use Rattle.avro_canonical.proofs.Words.{by_word, none_apart}
@@ -27,7 +26,7 @@ edge_later nodes from p after within = rw (lt-ltb p (length nodes) within, lt-lt
 
 edge_named : (nodes : List Node) (from p : ℕ) (name : Name) → node_name (node_at nodes p) ≡ Some name → is_edge nodes from p ≡ true
 edge_named nodes from p name named =
-    and_from (nat_lt p (length nodes)) _ (lt-ltb p (length nodes) (within p named)) (or_later (nat_lt from p) _ (ap is_some named))
+    and_from (nat_lt p (length nodes)) _ (lt-ltb p (length nodes) (within p named)) (or_right (nat_lt from p) _ (ap is_some named))
   where
     below : (p n : ℕ) → (n ≤ p → ⊥) → p < n
     below p zero h = absurd (h (omega arith))

@@ -1,7 +1,7 @@
 -- The names that are laid for a form are distinct.
 use Rattle.std.proofs.Common.{◌≡◌, ℕ, suc, ◌+◌, true, false, ◌||◌, List, [], ◌∷◌, ◌++◌, Some, None, refl, sym, ◌∙◌, ap, subst, filter_map}
 use Rattle.std.specs.List.{list_any}
-use Rattle.std.proofs.lemmas.Bool.{and_from, false≢true, not_from_false}
+use Rattle.std.proofs.lemmas.Bool.{and_from, false≢true, not_from_false, or_right}
 use Rattle.std.proofs.lemmas.List.Elements.{filter_map-append}
 use Rattle.avro_name.specs.Name.{Name, same_name}
 use Rattle.avro_schema.specs.Node.{Node, node_name}
@@ -12,9 +12,7 @@ use Rattle.avro_canonical.specs.Canonical.{primitive_word, is_among}
 use Rattle.avro_canonical.specs.CanonicalTree.{nodes_in}
 use Rattle.avro_canonical.specs.inside.WellMade.{node_of_word, WellMade, AreWellMade, FieldsWellMade}
 use Rattle.avro_canonical.specs.inside.Laid.{known_after, laid, laid_all, laid_in_fields}
-use Rattle.avro_canonical.proofs.NamesWritten.{same-refl}
-use Rattle.avro_canonical.proofs.FormsAlike.{or_later}
-use Rattle.avro_canonical.proofs.OneNamed.{name_is}
+use Rattle.avro_name.proofs.public.Names.{same_name-self, same_name-is}
 use Rattle.avro_canonical.proofs.Words.{by_word}
 
 -- the names that a form defines, in order
@@ -103,14 +101,14 @@ fresh_apart : (name : Name) (written xs : List Name) → Fresh written xs → is
 fresh_apart name written [] fresh old = refl
 fresh_apart name written (x ∷ xs) fresh old =
     (elim (same_name name x) as (λ b. same_name name x ≡ b → (b || list_any (same_name name) xs) ≡ false) [
-      | true ↦ λ e. absurd (false≢true (sym fresh.0 ∙ ap (λ it. is_among it written) (sym (name_is name x e)) ∙ old))
-      | false ↦ λ e. fresh_apart name (x ∷ written) xs fresh.1 (or_later (same_name name x) (is_among name written) old)
+      | true ↦ λ e. absurd (false≢true (sym fresh.0 ∙ ap (λ it. is_among it written) (sym (same_name-is name x e)) ∙ old))
+      | false ↦ λ e. fresh_apart name (x ∷ written) xs fresh.1 (or_right (same_name name x) (is_among name written) old)
     ]) refl
 
 fresh_distinct : (written xs : List Name) → Fresh written xs → are_distinct same_name xs ≡ true
 fresh_distinct written [] fresh = refl
 fresh_distinct written (x ∷ xs) fresh =
-    let here : is_among x (x ∷ written) ≡ true = rw (same-refl x) refl in
+    let here : is_among x (x ∷ written) ≡ true = rw (same_name-self x) refl in
     and_from _ _ (not_from_false _ (fresh_apart x (x ∷ written) xs fresh.1 here)) (fresh_distinct (x ∷ written) xs fresh.1)
 
 word_unnamed : (n : Node) (word : List ℕ) → primitive_word n ≡ Some word → node_name n ≡ None

@@ -100,9 +100,6 @@ pub above_clean : {A : Type 0} (next : ℕ) (node : A → RawNode) (faults : Lis
     → node_with next node faults parts ≡ record { result = next; nodes = node parts.result ∷ parts.nodes; known = parts.known; faults = [] }
 above_clean next node faults parts within none no_more = rw (within, none, no_more) refl
 
-within_of : (next more : ℕ) → next + suc more ≤ max_nodes → nat_lt next max_nodes ≡ true
-within_of next more h = lt-ltb next max_nodes (omega (arith, h))
-
 pub word_read : (word : List ℕ) (known : Known) (next : ℕ) (enclosing : List ℕ) → primitive_word (node_of_word word) ≡ Some word → nat_lt next max_nodes ≡ true
     → meaning_of (Data.string word) enclosing known next ≡ made known next (Form.primitive word)
 word_read word known next enclosing h within =
@@ -128,10 +125,6 @@ name_no_word name full =
       not_word name full (codes "float") refl,
       not_word name full (codes "double") refl,
     ) refl
-
-empty_is : (text : List ℕ) → is_empty_text text ≡ true → text ≡ []
-empty_is [] h = refl
-empty_is (c ∷ cs) h = absurd (false≢true h)
 
 kept_is : (enclosing : List ℕ) (name : Name) → is_kept enclosing name ≡ true → name.namespace ≡ [] → enclosing ≡ []
 kept_is [] name kept null = refl

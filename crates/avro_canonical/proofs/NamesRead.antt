@@ -8,6 +8,7 @@ use Rattle.std.proofs.lemmas.List.Folds.{list_all-append, list_any-append}
 use Rattle.std.proofs.lemmas.List.Sums.{suffix_len_is}
 use Rattle.std.proofs.lemmas.Bool.{cond-true, cond-false, and_parts, and_from, not_from_true, not_from_false, not-true, false≢true}
 use Rattle.avro_name.specs.Name.{Name, is_name_start, is_name_character, is_simple_name, onto_first, dotted_parts, is_dotted_name, is_namespace, is_primitive_word, is_full_name, has_dot, split_name, name_of}
+use Rattle.avro_name.proofs.public.Names.{parts_at}
 use Rattle.avro_display.specs.DisplayTree.{name_text}
 use Rattle.avro_canonical.proofs.Words.{some-is}
 
@@ -31,29 +32,6 @@ simple_passes c cs h =
 pub simple_free_of : (q : ℕ) → is_name_character q ≡ false → (text : List ℕ) → is_simple_name text ≡ true → is_free_of q text ≡ true
 simple_free_of q out [] h = refl
 simple_free_of q out (c ∷ cs) h = free_of is_name_character q out (c ∷ cs) (simple_passes c cs h)
-
-onto_append : (c : ℕ) (xs ys : List (List ℕ)) → (x : List ℕ) (rest : List (List ℕ)) → xs ≡ x ∷ rest → onto_first c (xs ++ ys) ≡ onto_first c xs ++ ys
-onto_append c xs ys x rest some = rw some refl
-
-parts_some : (text : List ℕ) → (x : List ℕ) × (rest : List (List ℕ)) × (dotted_parts text ≡ x ∷ rest)
-parts_some [] = ([], [], refl)
-parts_some (c ∷ cs) =
-    let later = parts_some cs in
-    elim (c == 46) as (λ dot. (x : List ℕ) × (rest : List (List ℕ)) × (cond dot ([] ∷ dotted_parts cs) (onto_first c (dotted_parts cs)) ≡ x ∷ rest)) [
-      | true ↦ ([], dotted_parts cs, refl)
-      | false ↦ (c ∷ later.0, later.1, ap (onto_first c) later.2)
-    ]
-
--- the parts of two texts with a dot between them
-parts_between : (xs ys : List ℕ) → dotted_parts (xs ++ 46 ∷ ys) ≡ dotted_parts xs ++ dotted_parts ys
-parts_between [] ys = refl
-parts_between (c ∷ cs) ys =
-    let some = parts_some cs in
-    elim (c == 46) as (λ dot. cond dot ([] ∷ dotted_parts (cs ++ 46 ∷ ys)) (onto_first c (dotted_parts (cs ++ 46 ∷ ys)))
-    ≡ cond dot ([] ∷ dotted_parts cs) (onto_first c (dotted_parts cs)) ++ dotted_parts ys) [
-      | true ↦ ap (λ parts. [] ∷ parts) (parts_between cs ys)
-      | false ↦ ap (onto_first c) (parts_between cs ys) ∙ onto_append c (dotted_parts cs) (dotted_parts ys) some.0 some.1 some.2
-    ]
 
 -- a text without a dot is one part
 part_alone : (text : List ℕ) → is_free_of 46 text ≡ true → dotted_parts text ≡ text ∷ []
@@ -108,7 +86,7 @@ alone_dotted text good = ap (list_all is_simple_name) (part_alone text (simple_f
 
 both_dotted : (front text : List ℕ) → is_dotted_name front ≡ true → is_simple_name text ≡ true → is_dotted_name (front ++ 46 ∷ text) ≡ true
 both_dotted front text spaced good =
-    ap (list_all is_simple_name) (parts_between front text) ∙ list_all-append is_simple_name (dotted_parts front) (dotted_parts text)
+    ap (list_all is_simple_name) (parts_at front text) ∙ list_all-append is_simple_name (dotted_parts front) (dotted_parts text)
     ∙ and_from (is_dotted_name front) (is_dotted_name text) spaced (alone_dotted text good)
 
 text_dotted : (namespace simple : List ℕ) → is_namespace namespace ≡ true → is_simple_name simple ≡ true → is_dotted_name (name_text (record { namespace = namespace; simple = simple })) ≡ true
@@ -158,6 +136,16 @@ parts_pass ([] ∷ parts) h = absurd (false≢true h)
 parts_pass ((c ∷ cs) ∷ parts) h =
     let both = and_parts (is_simple_name (c ∷ cs)) (list_all is_simple_name parts) h in
     and_from (list_all is_name_character (c ∷ cs)) (list_all (list_all is_name_character) parts) (simple_passes c cs both.0) (parts_pass parts both.1)
+
+-- a text has a first part
+parts_some : (text : List ℕ) → (x : List ℕ) × (rest : List (List ℕ)) × (dotted_parts text ≡ x ∷ rest)
+parts_some [] = ([], [], refl)
+parts_some (c ∷ cs) =
+    let later = parts_some cs in
+    elim (c == 46) as (λ dot. (x : List ℕ) × (rest : List (List ℕ)) × (cond dot ([] ∷ dotted_parts cs) (onto_first c (dotted_parts cs)) ≡ x ∷ rest)) [
+      | true ↦ ([], dotted_parts cs, refl)
+      | false ↦ (c ∷ later.0, later.1, ap (onto_first c) later.2)
+    ]
 
 characters_pass : (text : List ℕ) → list_all (list_all is_name_character) (dotted_parts text) ≡ true → list_all is_full_character text ≡ true
 characters_pass [] h = refl

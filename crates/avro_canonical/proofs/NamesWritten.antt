@@ -1,35 +1,19 @@
 -- The marks of nodes whose names are written.
-use Rattle.std.proofs.Common.{subst, ◌≡◌, ℕ, zero, suc, List, [], ◌∷◌, refl, ap, ◌∙◌, sym, true, false, Bool, ◌||◌, not, Some, None, Option, map, filter_map, length, replicate, slice_set, slice_get, option_map, bytes_eq, unwrap_or}
-use Rattle.std.proofs.lemmas.Slice.Eq.{bytes_eq-Decides}
-use Rattle.std.proofs.lemmas.Bool.{false≢true, and_parts, not-true}
+use Rattle.std.proofs.Common.{subst, ◌≡◌, ℕ, zero, suc, List, [], ◌∷◌, refl, ap, ◌∙◌, sym, true, false, not, Some, None, Option, map, filter_map, length, replicate, slice_set, slice_get, option_map, unwrap_or}
+use Rattle.std.proofs.lemmas.Bool.{and_parts, or_parts, not-true}
 use Rattle.std.proofs.lemmas.Option.{slice_get-map, none-some}
 use Rattle.std.proofs.lemmas.List.{length-map}
 use Rattle.std.specs.List.{list_any}
 use Rattle.avro_name.specs.Name.{Name, same_name}
+use Rattle.avro_name.proofs.public.Names.{same_name-self, same_name-sym}
 use Rattle.avro_schema.specs.Node.{Node, node_name, node_at}
 use Rattle.avro_schema.specs.Distinct.{are_distinct}
 use Rattle.avro_canonical.specs.Canonical.{is_among}
 use Rattle.avro_canonical.specs.inside.Pending.{is_name_written, is_written, marks_of}
 use Rattle.avro_canonical.proofs.Words.{some-is}
 
-pub same-refl : (a : Name) → same_name a a ≡ true
-same-refl a = rw ((bytes_eq-Decides a.namespace a.namespace).1 refl, (bytes_eq-Decides a.simple a.simple).1 refl) refl
-
-both-ways : (p q : Bool) → (p ≡ true → q ≡ true) → (q ≡ true → p ≡ true) → p ≡ q
-both-ways true q h k = sym (h refl)
-both-ways false true h k = k refl
-both-ways false false h k = refl
-
-bytes_eq-sym : (xs ys : List ℕ) → bytes_eq xs ys ≡ bytes_eq ys xs
-bytes_eq-sym xs ys = both-ways (bytes_eq xs ys) (bytes_eq ys xs)
-    (λ h. (bytes_eq-Decides ys xs).1 (sym ((bytes_eq-Decides xs ys).0 h)))
-    (λ h. (bytes_eq-Decides xs ys).1 (sym ((bytes_eq-Decides ys xs).0 h)))
-
-same-sym : (a b : Name) → same_name a b ≡ same_name b a
-same-sym a b = rw (bytes_eq-sym a.namespace b.namespace, bytes_eq-sym a.simple b.simple) refl
-
 named_or : (name : Name) (written : List Name) (other : Name) → same_name name other ≡ false → is_among other (name ∷ written) ≡ is_among other written
-named_or name written other apart = rw (same-sym other name, apart) refl
+named_or name written other apart = rw (same_name-sym other name, apart) refl
 
 -- names, and where there is none
 names_in : List (Option Name) → List Name
@@ -51,14 +35,6 @@ none-yet (Some name ∷ os) = ap (λ marks. false ∷ marks) (none-yet os)
 pub no_marks_yet : (nodes : List Node) → replicate (length nodes) false ≡ marks_of [] nodes
 no_marks_yet nodes = rw (marks-seen [] nodes, ← none-yet (map node_name nodes), length-map nodes node_name) refl
 
-pub or-left : (a b : Bool) → (a || b) ≡ false → a ≡ false
-or-left false b h = refl
-or-left true b h = h
-
-pub or-right : (a b : Bool) → (a || b) ≡ false → b ≡ false
-or-right false b h = h
-or-right true b h = absurd (false≢true (sym h))
-
 no_none : {A : Type 0} {x : A} → Some x ≡ None → ⊥
 no_none {x = x} e = none-some x (sym e)
 
@@ -76,9 +52,8 @@ marks-apart : (name : Name) (written : List Name) (os : List (Option Name)) → 
 marks-apart name written [] apart = refl
 marks-apart name written (None ∷ os) apart = ap (λ marks. false ∷ marks) (marks-apart name written os apart)
 marks-apart name written (Some other ∷ os) apart =
-    let this = or-left (same_name name other) (list_any (same_name name) (filter_map (λ o. o) os)) apart in
-    let later = or-right (same_name name other) (list_any (same_name name) (filter_map (λ o. o) os)) apart in
-    rw (named_or name written other this) (ap (λ marks. is_among other written ∷ marks) (marks-apart name written os later))
+    let both = or_parts (same_name name other) (list_any (same_name name) (filter_map (λ o. o) os)) apart in
+    rw (named_or name written other both.0) (ap (λ marks. is_among other written ∷ marks) (marks-apart name written os both.1))
 
 -- a name that is at an index is another than one that is apart from all
 pub apart-at : (name : Name) (os : List (Option Name)) (p : ℕ) (other : Name) → list_any (same_name name) (filter_map (λ o. o) os) ≡ false
@@ -86,10 +61,10 @@ pub apart-at : (name : Name) (os : List (Option Name)) (p : ℕ) (other : Name) 
 apart-at name [] p other apart at = absurd (no_none (sym at))
 apart-at name (None ∷ os) zero other apart at = absurd (no_none (some-is (sym at)))
 apart-at name (Some first ∷ os) zero other apart at =
-    subst (λ o. same_name name o ≡ false) (some-is (some-is at)) (or-left (same_name name first) (list_any (same_name name) (filter_map (λ o. o) os)) apart)
+    subst (λ o. same_name name o ≡ false) (some-is (some-is at)) (or_parts (same_name name first) (list_any (same_name name) (filter_map (λ o. o) os)) apart).0
 apart-at name (None ∷ os) (suc p) other apart at = apart-at name os p other apart at
 apart-at name (Some first ∷ os) (suc p) other apart at =
-    apart-at name os p other (or-right (same_name name first) (list_any (same_name name) (filter_map (λ o. o) os)) apart) at
+    apart-at name os p other (or_parts (same_name name first) (list_any (same_name name) (filter_map (λ o. o) os)) apart).1 at
 
 marked-at : (written : List Name) (name : Name) (os : List (Option Name)) (p : ℕ) → are_distinct same_name (filter_map (λ o. o) os) ≡ true
     → slice_get os p ≡ Some (Some name) → slice_set (map (is_name_written written) os) p true ≡ map (is_name_written (name ∷ written)) os
@@ -99,12 +74,12 @@ marked-at written name (Some first ∷ os) zero distinct at =
     let none = not-true (list_any (same_name first) (filter_map (λ o. o) os)) (and_parts (not (list_any (same_name first) (filter_map (λ o. o) os))) (are_distinct same_name (filter_map (λ o. o) os)) distinct).0 in
     let is : first ≡ name = some-is (some-is at) in
     subst (λ it. true ∷ map (is_name_written written) os ≡ map (is_name_written (it ∷ written)) (Some first ∷ os)) is
-    (rw (same-refl first) (ap (λ marks. true ∷ marks) (marks-apart first written os none)))
+    (rw (same_name-self first) (ap (λ marks. true ∷ marks) (marks-apart first written os none)))
 marked-at written name (None ∷ os) (suc p) distinct at = ap (λ marks. false ∷ marks) (marked-at written name os p distinct at)
 marked-at written name (Some first ∷ os) (suc p) distinct at =
     let parts = and_parts (not (list_any (same_name first) (filter_map (λ o. o) os))) (are_distinct same_name (filter_map (λ o. o) os)) distinct in
     let none = not-true (list_any (same_name first) (filter_map (λ o. o) os)) parts.0 in
-    let other : same_name name first ≡ false = same-sym name first ∙ apart-at first os p name none at in
+    let other : same_name name first ≡ false = same_name-sym name first ∙ apart-at first os p name none at in
     rw (named_or name written first other) (ap (λ marks. is_among first written ∷ marks) (marked-at written name os p parts.1 at))
 
 -- marking a type's node is writing its name

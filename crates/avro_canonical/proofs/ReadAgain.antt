@@ -16,7 +16,8 @@ use Rattle.avro_canonical.specs.Canonical.{IsForm, IsCanonical, primitive_word}
 use Rattle.avro_canonical.specs.CanonicalTree.{text_items, form_tree, form_trees, field_trees, nodes_in, keeps_names}
 use Rattle.avro_canonical.specs.inside.WellMade.{node_of_word, WellMade, AreWellMade, FieldsWellMade}
 use Rattle.avro_canonical.specs.inside.Laid.{known_after, laid_id, laid_fields, laid, laid_all, laid_in_fields, raw_field, raw_node, raw_nodes}
-use Rattle.avro_canonical.proofs.FormsWellMade.{good_at, well_made}
+use Rattle.avro_schema.proofs.public.GoodNodes.{good_at}
+use Rattle.avro_canonical.proofs.FormsWellMade.{well_made}
 use Rattle.avro_canonical.proofs.LaidRead.{made, laid_count}
 use Rattle.avro_canonical.proofs.FormsRead.{form_read}
 use Rattle.avro_canonical.proofs.LaidForms.{laid_form}

@@ -5,7 +5,8 @@ use Rattle.avro_schema.specs.Node.{Node, root_of}
 use Rattle.avro_schema.specs.WellFormed.{is_schema}
 use Rattle.avro_binary.specs.Encoding.{Encodes}
 use Rattle.avro_canonical.specs.Canonical.{IsForm, IsCanonical}
-use Rattle.avro_canonical.proofs.FormsWellMade.{good_at, well_made}
+use Rattle.avro_schema.proofs.public.GoodNodes.{good_at}
+use Rattle.avro_canonical.proofs.FormsWellMade.{well_made}
 use Rattle.avro_canonical.proofs.SameText.{same_form}
 use Rattle.avro_canonical.proofs.FormsAlike.{same_at_roots}
 

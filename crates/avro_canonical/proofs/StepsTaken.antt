@@ -1,13 +1,12 @@
 -- Each step of writing: what is left then, after the text then, is what was left, after the text that was.
-use Rattle.std.proofs.Common.{subst, arith, zero, suc, ◌≡◌, ◌≤◌, ℕ, List, [], ◌∷◌, ◌++◌, refl, ap, ◌∙◌, sym, true, false, Bool, ◌&&◌, Some, None, map, filter_map, codes, slice_set, slice_get, unwrap_or, length, nat_lt, nat_le}
-use Rattle.std.specs.Prelude.{Result, Ok, Err, OnOk, IsTrue, ◌↔◌, ◌<◌}
-use Rattle.std.proofs.lemmas.Bool.{and_parts, false≢true}
-use Rattle.std.proofs.lemmas.Option.{slice_get-map, slice_get_past}
+use Rattle.std.proofs.Common.{subst, ◌≡◌, ℕ, List, [], ◌∷◌, ◌++◌, refl, ap, ◌∙◌, sym, true, false, Bool, Some, None, map, codes, slice_set, slice_get, unwrap_or}
+use Rattle.std.specs.Prelude.{Result, Ok, Err, OnOk}
+use Rattle.std.proofs.lemmas.Option.{slice_get-map}
 use Rattle.std.proofs.lemmas.List.{append_assoc, append-nil}
-use Rattle.avro_name.specs.Name.{Name, same_name}
+use Rattle.avro_name.specs.Name.{Name}
 use Rattle.avro_schema.specs.Node.{Node, FieldNode, node_at, node_name}
-use Rattle.avro_schema.specs.Distinct.{are_distinct}
-use Rattle.avro_schema.specs.WellFormed.{is_schema, are_good_nodes, max_nodes}
+use Rattle.avro_schema.specs.WellFormed.{is_schema}
+use Rattle.avro_schema.proofs.public.GoodNodes.{names_apart}
 use Rattle.avro_canonical.specs.Form.{Form, full_text, form_text}
 use Rattle.avro_canonical.specs.Canonical.{IsForm, IsCanonical, is_among}
 use Rattle.avro_canonical.specs.inside.Pending.{Pending, of_node, branches, fields, end, IsLeft, IsStep, is_name_written, marks_of, opening_of, parts_of, before_branch, next_branch, before_field, following_fields}
@@ -19,18 +18,6 @@ mark-at : (written : List Name) (nodes : List Node) (p : ℕ) (name : Name) → 
     → unwrap_or (slice_get (marks_of written nodes) p) false ≡ is_among name written
 mark-at written nodes p name at =
     rw (marks-seen written nodes, slice_get-map (is_name_written written) (map node_name nodes) p, at) refl
-
-pub step-out : (nodes : List Node) (marks : List Bool) (p : ℕ) (ps : List Pending) (old : List ℕ) → slice_get nodes p ≡ None
-    → IsStep nodes marks (of_node p ∷ ps) old marks ps (old ++ codes "\"null\"")
-step-out nodes marks p ps old past written seen = (
-  written,
-  seen,
-  λ rest left. (
-    codes "\"null\"" ++ rest,
-    (Form.primitive (codes "null"), rest, IsForm.primitive (rw past refl), left, refl),
-    sym (append_assoc old (codes "\"null\"") rest),
-  ),
-)
 
 pub step-unnamed : (nodes : List Node) (marks : List Bool) (p : ℕ) (n : Node) (ps : List Pending) (old : List ℕ) → n ≡ node_at nodes p → node_name n ≡ None
     → IsStep nodes marks (of_node p ∷ ps) old marks (parts_of n ++ ps) (old ++ opening_of n)
@@ -49,10 +36,6 @@ step-again nodes marks p n name ps old here named set written seen =
     let among : is_among name written ≡ true = sym (mark-at written nodes p name (named-at nodes p name there)) ∙ subst (λ ms. unwrap_or (slice_get ms p) false ≡ true) seen set in
     (written, seen, λ rest left. (full_text name ++ rest, (Form.reference name, rest, IsForm.again there among, left, refl), sym (append_assoc old (full_text name) rest)))
 
-distinct-names : (nodes : List Node) → is_schema nodes ≡ true → are_distinct same_name (filter_map node_name nodes) ≡ true
-distinct-names nodes h =
-    (and_parts (nat_lt 0 (length nodes) && nat_le (length nodes) max_nodes && are_good_nodes nodes 0 nodes) (are_distinct same_name (filter_map node_name nodes)) h).1
-
 pub step-new : (nodes : List Node) (marks : List Bool) (p : ℕ) (n : Node) (name : Name) (ps : List Pending) (old : List ℕ) → is_schema nodes ≡ true → n ≡ node_at nodes p
     → node_name n ≡ Some name → unwrap_or (slice_get marks p) false ≡ false → IsStep nodes marks (of_node p ∷ ps) old (slice_set marks p true) (parts_of n ++ ps) (old ++ opening_of n)
 step-new nodes marks p n name ps old formed here named clear written seen =
@@ -60,7 +43,7 @@ step-new nodes marks p n name ps old formed here named clear written seen =
     let at : slice_get (map node_name nodes) p ≡ Some (Some name) = named-at nodes p name there in
     let new : is_among name written ≡ false = sym (mark-at written nodes p name at) ∙ subst (λ ms. unwrap_or (slice_get ms p) false ≡ false) seen clear in (
       name ∷ written,
-      subst (λ ms. slice_set ms p true ≡ marks_of (name ∷ written) nodes) (sym seen) (marked written name nodes p (distinct-names nodes formed) at),
+      subst (λ ms. slice_set ms p true ≡ marks_of (name ∷ written) nodes) (sym seen) (marked written name nodes p (names_apart nodes formed) at),
       λ rest left.
           let o = opened nodes written n ps rest (rw named new) (subst (λ it. IsLeft nodes (begun_name written it) (parts_of n ++ ps) rest) (sym named) left) in
           (opening_of n ++ rest, (o.0, o.1, subst (λ m. IsForm nodes written m o.0) here o.2, o.3, o.4), sym (append_assoc old (opening_of n) rest)),
@@ -135,11 +118,3 @@ pub ok-text : {E : Type 0} (r : Result (Unit {0}) E) (nodes : List Node) (marks 
     → OnOk r (new ≡ new-is) → IsStep nodes marks before old marks-then then new-is → OnOk r (IsStep nodes marks before old marks-then then new)
 ok-text (Ok x) nodes marks marks-then before then old new new-is text step = subst (λ t. IsStep nodes marks before old marks-then then t) (sym text) step
 ok-text (Err e) nodes marks marks-then before then old new new-is text step = tt
-
-not-below : (p n : ℕ) → (p < n → ⊥) → n ≤ p
-not-below p zero h = omega arith
-not-below zero (suc n) h = absurd (h (omega arith))
-not-below (suc p) (suc n) h = let r : n ≤ p = not-below p n (λ below. h (omega arith)) in omega arith
-
-pub past-end : {X : Type 0} (xs : List X) (p : ℕ) (b : Bool) → IsTrue b ↔ (p < length xs) → b ≡ false → slice_get xs p ≡ None
-past-end xs p b tested failed = slice_get_past xs p (not-below p (length xs) (λ below. false≢true (sym failed ∙ tested.1 below)))

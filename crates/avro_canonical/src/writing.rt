@@ -1,7 +1,6 @@
-ghost use Rattle.std.specs.Prelude.{◌≡◌, ◌++◌, ◌∷◌, true, OnOk, string_bytes};
+ghost use Rattle.std.specs.Prelude.{◌≡◌, ◌++◌, ◌∷◌, OnOk, string_bytes};
 ghost use Rattle.avro_schema.specs.Seen.{seen_fields, ids_of};
 ghost use Rattle.avro_schema.specs.SeenSchema.{schema_nodes};
-ghost use Rattle.avro_schema.specs.WellFormed.{is_schema};
 ghost use Rattle.avro_canonical.specs.inside.Pending.{pending_of, pendings_of, of_node, before_branch, next_branch as branches_next, before_field, following_fields, IsStep};
 
 use crate::marks::{is_marked, mark};
@@ -20,14 +19,10 @@ fn write_node<'a>(
     parts: &mut Vec<Part<'a>>,
     marks: &mut [bool],
 ) -> Result<(), Memory>
-    requires { is_schema (schema_nodes schema.now) ≡ true }
     ensures { OnOk result (IsStep (schema_nodes schema.now) marks.old (of_node id.0 ∷ pendings_of parts.old.items) (string_bytes out.old)
         marks.new (pendings_of parts.new.items) (string_bytes out.new)) }
 {
-    if !schema.has(id) {
-        return put(out, "\"null\"");
-    }
-    let node = schema.node(id);
+    let node = schema.get(id);
     match node.name() {
         None => open_node(alloc, out, parts, node),
         Some(name) => {
@@ -81,7 +76,6 @@ pub(crate) fn write_part<'a>(
     parts: &mut Vec<Part<'a>>,
     marks: &mut [bool],
 ) -> Result<(), Memory>
-    requires { is_schema (schema_nodes schema.now) ≡ true }
     ensures { OnOk result (IsStep (schema_nodes schema.now) marks.old (pending_of part.entry ∷ pendings_of parts.old.items) (string_bytes out.old)
         marks.new (pendings_of parts.new.items) (string_bytes out.new)) }
 {

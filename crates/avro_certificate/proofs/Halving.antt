@@ -7,7 +7,8 @@ use Rattle.std.specs.Prelude.{◌==◌, nat_lt, Result, Ok, Err, is_ok}
 use Rattle.std.specs.Ordering.{nat_cmp}
 use Rattle.std.specs.List.{list_all, AllWithin}
 use Rattle.std.specs.List.Sorted.{IsBinarySearchResult, IsPartitionedBy, IsPartitionPoint}
-use Rattle.avro_certificate.specs.Closed.{Pair, is_among, same_pair, is_among_pairs}
+use Rattle.avro_compare.specs.Children.{Pair}
+use Rattle.avro_certificate.specs.Closed.{is_among, same_pair, is_among_pairs}
 use Rattle.avro_certificate.specs.CertificateText.{is_rising, is_before}
 use Rattle.avro_certificate.specs.SeenPair.{pair_of, pairs_of}
 use Rattle.avro_certificate.proofs.public.Tests.{and_left, and_right, or_from_left, or_from_right, same_pair-true}

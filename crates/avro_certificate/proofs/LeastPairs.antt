@@ -4,7 +4,8 @@ use Rattle.std.proofs.lemmas.Bool.{true≢false}
 use Rattle.std.specs.Prelude.{nat_lt}
 use Rattle.std.specs.List.{list_all}
 use Rattle.avro_schema.specs.Node.{Node, node_at}
-use Rattle.avro_certificate.specs.Closed.{Pair, is_among, is_among_pairs, is_dead, children_of, has_local_fault, is_closed, is_closed_at}
+use Rattle.avro_compare.specs.Children.{Pair, children_of, has_local_fault}
+use Rattle.avro_certificate.specs.Closed.{is_among, is_among_pairs, is_dead, is_closed, is_closed_at}
 use Rattle.avro_certificate.specs.Evidence.{IsReached, roots, child}
 use Rattle.avro_certificate.proofs.public.Tests.{and_left, and_right, or_not, all_among_pairs}
 

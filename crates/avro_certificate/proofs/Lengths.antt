@@ -4,7 +4,7 @@ use Rattle.std.proofs.lemmas.Bool.Decides.{nat_tests}
 use Rattle.std.proofs.lemmas.Int.Digits.{length-digits_of-le}
 use Rattle.std.specs.Prelude.{nat_lt, codes}
 use Rattle.std.specs.List.{list_all}
-use Rattle.avro_certificate.specs.Closed.{Pair}
+use Rattle.avro_compare.specs.Children.{Pair}
 use Rattle.avro_certificate.specs.CertificateText.{CertText, decimal, dead_line, pair_line, is_rising, is_before, is_small, is_small_pair, are_small}
 use Rattle.avro_certificate.proofs.public.Tests.{and_left, and_right}
 use Rattle.avro_certificate.proofs.Decimal.{length_digits}

@@ -6,7 +6,7 @@ use Rattle.std.proofs.lemmas.Int.Digits.{same_from_digits_of}
 use Rattle.std.proofs.lemmas.Bool.{false≢true}
 use Rattle.std.specs.Prelude.{codes, MatchOption, ◌==◌}
 use Rattle.std.specs.Int.Digits.{digits_of}
-use Rattle.avro_certificate.specs.Closed.{Pair}
+use Rattle.avro_compare.specs.Children.{Pair}
 use Rattle.avro_certificate.specs.CertificateText.{decimal, dead_line, pair_line, certificate_text}
 use Rattle.avro_certificate.specs.inside.CertificateLines.{NoneAhead}
 use Rattle.avro_certificate.proofs.Decimal.{decimal_digits, decimal_first, above_zero}

@@ -2,7 +2,7 @@
 use Rattle.std.proofs.Common.{◌≡◌, ℕ, ◌⊎◌, inl, inr, Bool, true, false, List, map, sym, ap, ◌∙◌}
 use Rattle.std.proofs.lemmas.Bool.{true≢false}
 use Rattle.std.specs.Prelude.{nat_lt, Err}
-use Rattle.avro_certificate.specs.Closed.{Pair}
+use Rattle.avro_compare.specs.Children.{Pair}
 use Rattle.avro_certificate.specs.CertificateText.{CertText, certificate_text, is_rising, is_before, are_small}
 use Rattle.avro_certificate.specs.inside.CertificateLines.{bounded, bounded_pair}
 use Rattle.avro_certificate.specs.CertificateRead.{HasGreatNumber, Refuses, UnlessOutOfMemory}

@@ -2,7 +2,7 @@
 use Rattle.std.proofs.Common.{◌≡◌, ℕ, inr, true, false, List, [], ◌∷◌, refl, ap, ◌∙◌}
 use Rattle.std.proofs.lemmas.Bool.{false≢true}
 use Rattle.std.specs.Prelude.{codes}
-use Rattle.avro_certificate.specs.Closed.{Pair}
+use Rattle.avro_compare.specs.Children.{Pair}
 use Rattle.avro_certificate.specs.CertificateText.{CertText, certificate_text, decimal, is_rising, is_before, are_small}
 use Rattle.avro_certificate.specs.CertificateRead.{HasGreatNumber, IsMalformed}
 use Rattle.avro_certificate.proofs.LineTexts.{text_same}

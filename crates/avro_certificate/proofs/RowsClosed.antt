@@ -2,7 +2,8 @@
 use Rattle.std.proofs.Common.{◌≡◌, refl, ℕ, true, false, List, [], ◌∷◌, Some, None}
 use Rattle.avro_schema.specs.Node.{Node}
 use Rattle.avro_schema.proofs.public.RowsSchemas.{array_of_int, array_of_string, array_of_int_union, long_or_int, long_and_string, string_and_long, three_symbols, two_symbols, one_of_int, two_of_one_simple_name, linked_list, record_of_itself, int_or_nothing, chain_of_three, array_of_one, array_of_two, second_field, second_field_by_default, before_renaming, after_renaming}
-use Rattle.avro_certificate.specs.Closed.{Pair, is_dead, is_closed}
+use Rattle.avro_compare.specs.Children.{Pair}
+use Rattle.avro_certificate.specs.Closed.{is_dead, is_closed}
 
 abbrev pair : ℕ → ℕ → Pair
 pair w r = record { w = w; r = r }

@@ -4,7 +4,8 @@ use Rattle.std.proofs.lemmas.Bool.{false≢true, ltb-true}
 use Rattle.std.specs.Prelude.{nat_lt, ◌&&◌, length}
 use Rattle.avro_schema.specs.Node.{Node, node_at}
 use Rattle.avro_schema.proofs.public.RowsSchemas.{linked_list, record_of_itself, int_or_nothing}
-use Rattle.avro_certificate.specs.Closed.{Pair, is_among, is_dead_node}
+use Rattle.avro_compare.specs.Children.{Pair}
+use Rattle.avro_certificate.specs.Closed.{is_among, is_dead_node}
 use Rattle.avro_certificate.specs.Evidence.{IsGreatestDead, IsReached, roots, child}
 use Rattle.avro_certificate.proofs.LeastPairs.{closed_holds}
 use Rattle.avro_certificate.proofs.public.Tests.{and_left, all_among}

@@ -1,10 +1,7 @@
-pub mod Aims
 pub mod DeadNodes
-pub mod NodeKinds
 pub mod Resolving
 pub mod Rising
 pub mod Shapes
 pub mod SoundPairs
 pub mod Successes
-pub mod Symbols
 pub mod Tests

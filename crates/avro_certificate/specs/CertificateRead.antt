@@ -1,7 +1,7 @@
 -- What a refusal of a certificate's text says of it.
 use Rattle.std.specs.Prelude.{◌≡◌, ℕ, ◌<◌, ◌⊎◌, false, List, length, Ok, Err}
 use Rattle.std.specs.declared.result.Result.{Result}
-use Rattle.avro_certificate.specs.Closed.{Pair}
+use Rattle.avro_compare.specs.Children.{Pair}
 use Rattle.avro_certificate.specs.CertificateText.{CertText, certificate_text, are_small}
 use Rattle.avro_certificate.specs.declared.error.CertError.{CertError}
 use Rattle.avro_certificate.specs.declared.kept.Certificate.{Certificate}

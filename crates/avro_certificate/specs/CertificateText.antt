@@ -2,7 +2,7 @@
 use Rattle.std.specs.Prelude.{◌≡◌, ℕ, Bool, true, ◌+◌, ◌==◌, ◌&&◌, ◌||◌, cond, nat_lt, List, [], ◌∷◌, ◌++◌, map, flat_map, codes}
 use Rattle.std.specs.List.{list_all}
 use Rattle.std.specs.Int.Digits.{digits_of}
-use Rattle.avro_certificate.specs.Closed.{Pair}
+use Rattle.avro_compare.specs.Children.{Pair}
 
 -- a number in decimal digits of ASCII, the highest first, without leading zeros
 abbrev pub decimal : ℕ → List ℕ

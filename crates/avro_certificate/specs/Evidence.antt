@@ -1,7 +1,8 @@
 -- What shows of two compatible schemas that they are: all dead nodes, and the pairs that the roots lead to.
 use Rattle.std.specs.Prelude.{◌≡◌, ℕ, true, false, List}
 use Rattle.avro_schema.specs.Node.{Node, node_at}
-use Rattle.avro_certificate.specs.Closed.{Pair, is_among, is_among_pairs, is_dead, children_of}
+use Rattle.avro_compare.specs.Children.{Pair, children_of}
+use Rattle.avro_certificate.specs.Closed.{is_among, is_among_pairs, is_dead}
 
 -- a dead set that has the nodes of each dead set
 pub record IsGreatestDead (writer : List Node) (dead : List ℕ) : Type 0 where

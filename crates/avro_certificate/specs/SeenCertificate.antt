@@ -1,6 +1,6 @@
 -- How contracts see a certificate: as a list of nodes and a list of pairs.
 use Rattle.std.specs.Prelude.{ℕ, List}
-use Rattle.avro_certificate.specs.Closed.{Pair}
+use Rattle.avro_compare.specs.Children.{Pair}
 use Rattle.avro_certificate.specs.declared.kept.Certificate.{Certificate}
 use Rattle.avro_certificate.specs.SeenPair.{pairs_of}
 

@@ -1,6 +1,6 @@
 -- How contracts see pairs of numbers of nodes.
 use Rattle.std.specs.Prelude.{ℕ, List, map}
-use Rattle.avro_certificate.specs.Closed.{Pair}
+use Rattle.avro_compare.specs.Children.{Pair}
 
 abbrev pub pair_of : ℕ × ℕ → Pair
 pair_of p = record { w = p.0; r = p.1 }

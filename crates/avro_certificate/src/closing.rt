@@ -1,21 +1,21 @@
 //! Whether the sets of a certificate are closed over two schemas.
 
-ghost use Rattle.std.specs.Prelude.{◌≡◌, ◌&&◌, true, is_some, nat_lt, length, map, unwrap_or, slice_get, IfOk, OnOk};
+ghost use Rattle.std.specs.Prelude.{◌≡◌, ◌&&◌, true, is_some, nat_lt, length, map, IfOk, OnOk};
 ghost use Rattle.std.specs.Option.{IfSome};
 ghost use Rattle.std.specs.List.{list_all, list_any};
 ghost use Rattle.avro_schema.specs.Node.{node_at, field_ids};
-ghost use Rattle.avro_schema.specs.Seen.{node_of, ids_of, seen_fields, field_of};
+ghost use Rattle.avro_schema.specs.Seen.{ids_of, seen_fields};
 ghost use Rattle.avro_schema.specs.SeenSchema.{schema_nodes};
-ghost use Rattle.avro_compare.specs.Planned.{AreInside, AreComparisons, AreSources, IsComparison};
-ghost use Rattle.avro_compare.specs.Source.{source_of};
+ghost use Rattle.avro_compare.specs.Leads.{lead_pair};
+ghost use Rattle.avro_compare.specs.Planned.{AreComparisons, IsComparison};
 ghost use Rattle.avro_certificate.specs.Closed.{is_among, is_dead, is_dead_node, is_closed, is_closed_at};
-ghost use Rattle.avro_certificate.specs.inside.ClosedParts.{stands, closed_inside, closed_fields, closed_live, closed_source};
+ghost use Rattle.avro_certificate.specs.inside.ClosedParts.{stands, closed_live};
 ghost use Rattle.avro_certificate.specs.SeenCertificate.{dead_of, pairs_in};
 ghost use Rattle.avro_certificate.specs.SeenPair.{pair_of};
 
 use crate::kept::Certificate;
 use crate::lookup::{has, has_dead};
-use avro_compare::{Aim, Comparison, Names, compare};
+use avro_compare::{Comparison, Lead, Names, compare, has_fault, leads};
 use avro_schema::{Field, Memory, Node, NodeId, Schema};
 use std::alloc::Global;
 
@@ -144,118 +144,36 @@ fn is_closed_at(
         return Ok(true);
     }
     let kept = compare(alloc, names, w, r)?;
-    let n = writer.node(w);
-    let q = reader.node(r);
-    let closed = is_closed_live(certificate, writer, reader, n, q, &kept);
+    let closed = is_closed_live(alloc, names, certificate, &kept)?;
     found.push(kept)?;
     Ok(closed)
 }
 
-/// Whether a pair is closed whose writer's node is not dead.
+/// Whether a pair has no fault of its own, and each pair that it leads to is accounted for.
 fn is_closed_live(
+    alloc: Global,
+    names: &Names,
     certificate: &Certificate,
-    writer: &Schema,
-    reader: &Schema,
-    n: &Node,
-    q: &Node,
     pair: &Comparison,
-) -> bool
-    requires pair { IsComparison (schema_nodes writer.now) (schema_nodes reader.now) pair.now }
-    requires from { node_of n.now ≡ node_at (schema_nodes writer.now) pair.now.w.0 }
-    requires to { node_of q.now ≡ node_at (schema_nodes reader.now) pair.now.r.0 }
-    ensures { result ≡ closed_live (schema_nodes writer.now) (schema_nodes reader.now) (dead_of certificate.now) (pairs_in certificate.now) pair.now.w.0 pair.now.r.0 (node_of n.now) (node_of q.now) }
+) -> Result<bool, Memory>
+    requires { IsComparison (schema_nodes names.now.0) (schema_nodes names.now.1) pair.now }
+    ensures { IfOk result (λ b. b ≡ closed_live (schema_nodes names.now.0) (schema_nodes names.now.1) (dead_of certificate.now) (pairs_in certificate.now) pair.now.w.0 pair.now.r.0) }
 {
-    match n {
-        Node::Union(ids) => has_branches(certificate, ids, pair.r),
-        _ => match pair.aim {
-            Aim::Fault(_) => false,
-            Aim::To(Some(_), branch) => has(certificate, pair.w.0, branch.0),
-            Aim::To(None, _) => is_closed_inside(certificate, n, q, pair),
-        },
+    if has_fault(names, pair) {
+        return Ok(false);
     }
+    let leads = leads(alloc, names, pair)?;
+    Ok(all_stand(certificate, &leads))
 }
 
-/// Whether each branch of a writer's union is accounted for with the reader's node.
-fn has_branches(certificate: &Certificate, ids: &[NodeId], r: NodeId) -> bool
-    ensures { result ≡ list_all (stands (dead_of certificate.now) (pairs_in certificate.now)) (map (λ id. record { w = id; r = r.0 }) (ids_of ids.now)) }
+/// Whether the pairs of all leads are accounted for.
+fn all_stand(certificate: &Certificate, leads: &[Lead]) -> bool
+    ensures { result ≡ list_all (stands (dead_of certificate.now) (pairs_in certificate.now)) (map lead_pair leads.now) }
 {
-    for id in ids {
-        if !has(certificate, id.0, r.0) {
+    for lead in leads {
+        if !has(certificate, lead.w.0, lead.r.0) {
             return false;
         }
     }
     true
-}
-
-/// Whether two nodes that match, and are no unions, have no fault of their own and their parts are
-/// accounted for.
-fn is_closed_inside(certificate: &Certificate, n: &Node, q: &Node, pair: &Comparison) -> bool
-    requires { AreInside (node_of n.now) (node_of q.now) pair.now }
-    ensures { result ≡ closed_inside (dead_of certificate.now) (pairs_in certificate.now) (node_of n.now) (node_of q.now) }
-{
-    match n {
-        Node::Bytes => !matches!(q, Node::Str),
-        Node::Array(a) => match q {
-            Node::Array(b) => has(certificate, a.0, b.0),
-            _ => true,
-        },
-        Node::Map(a) => match q {
-            Node::Map(b) => has(certificate, a.0, b.0),
-            _ => true,
-        },
-        Node::Record(a) => match q {
-            Node::Record(b) => are_sourced(certificate, &a.fields, &b.fields, &pair.sources),
-            _ => true,
-        },
-        Node::Enum(_) => match q {
-            Node::Enum(_) => !pair.lacks_symbol(),
-            _ => true,
-        },
-        _ => true,
-    }
-}
-
-/// Whether each of the reader's fields has a source that is accounted for, or a default.
-fn are_sourced(
-    certificate: &Certificate,
-    fields: &[Field],
-    theirs: &[Field],
-    sources: &[Option<usize>],
-) -> bool
-    requires each { AreSources (seen_fields fields.now) (seen_fields theirs.now) sources.now }
-    requires all { length sources.now ≡ length theirs.now }
-    ensures { result ≡ closed_fields (dead_of certificate.now) (pairs_in certificate.now) (seen_fields fields.now) (seen_fields theirs.now) }
-{
-    for index in 0..theirs.len() {
-        if !has_source(certificate, fields, sources[index], &theirs[index]) {
-            return false;
-        }
-    }
-    true
-}
-
-/// Whether a reader's field has a source that is accounted for, or a default.
-fn has_source(
-    certificate: &Certificate,
-    fields: &[Field],
-    source: Option<usize>,
-    field: &Field,
-) -> bool
-    requires { source ≡ source_of (seen_fields fields.now) (field_of field.now) }
-    ensures { result ≡ closed_source (dead_of certificate.now) (pairs_in certificate.now) (seen_fields fields.now) (field_of field.now) }
-{
-    match source {
-        None => field.default.is_some(),
-        Some(index) => has(certificate, id_or_root(fields, index), field.node.0),
-    }
-}
-
-/// The number of the node of a field; past the end, the root's.
-fn id_or_root(fields: &[Field], index: usize) -> u32
-    ensures { result ≡ unwrap_or (slice_get (field_ids (seen_fields fields.now)) index) 0 }
-{
-    match fields.get(index) {
-        None => 0,
-        Some(field) => field.node.0,
-    }
 }

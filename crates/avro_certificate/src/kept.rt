@@ -25,7 +25,7 @@ impl Certificate {
     ghost use Rattle.std.specs.Result.{IfErr};
     ghost use Rattle.avro_certificate.specs.CertificateText.{CertText, is_rising, is_before, are_small};
     ghost use Rattle.avro_certificate.specs.CertificateRead.{Refuses, UnlessOutOfMemory};
-    ghost use Rattle.avro_certificate.specs.Closed.{Pair};
+    ghost use Rattle.avro_compare.specs.Children.{Pair};
     ghost use Rattle.avro_certificate.specs.SeenCertificate.{dead_of, pairs_in};
     ghost use Rattle.avro_certificate.specs.SeenPair.{pairs_of};
 

@@ -4,7 +4,8 @@ ghost use Rattle.std.specs.Prelude.{◌≡◌, ℕ, true, List};
 ghost use Rattle.avro_schema.specs.Node.{Node};
 ghost use Rattle.avro_schema.specs.WellFormed.{is_schema};
 ghost use Rattle.avro_certificate.specs.Compatible.{AreCompatible};
-ghost use Rattle.avro_certificate.specs.Closed.{Pair, is_among_pairs, is_closed};
+ghost use Rattle.avro_compare.specs.Children.{Pair};
+ghost use Rattle.avro_certificate.specs.Closed.{is_among_pairs, is_closed};
 ghost use Rattle.avro_certificate.specs.Evidence.{IsReached};
 
 /// Two sets that are closed show that no datum of the writer's schema has a fault.

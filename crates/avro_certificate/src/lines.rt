@@ -3,7 +3,7 @@
 ghost use Rattle.std.specs.Prelude.{◌≡◌, ◌≢◌, ℕ, List, ◌++◌, ◌∷◌, MatchOption, ◌<◌, ◌-◌, length, slice_index};
 ghost use Rattle.avro_certificate.specs.CertificateText.{decimal, dead_line, pair_line};
 ghost use Rattle.avro_certificate.specs.inside.CertificateLines.{bounded, bounded_pair};
-ghost use Rattle.avro_certificate.specs.Closed.{Pair};
+ghost use Rattle.avro_compare.specs.Children.{Pair};
 ghost use Rattle.avro_certificate.specs.SeenPair.{pair_of};
 
 /// One more than the greatest number of a certificate; it stands for each greater number.

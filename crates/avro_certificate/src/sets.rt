@@ -4,7 +4,7 @@ ghost use Rattle.std.specs.Prelude.{◌≡◌, ℕ, List, ◌++◌, map, flat_ma
 ghost use Rattle.std.specs.Result.{IfErr};
 ghost use Rattle.avro_certificate.specs.CertificateText.{dead_line, pair_line, certificate_text};
 ghost use Rattle.avro_certificate.specs.inside.CertificateLines.{bounded, bounded_pair, NoneAhead};
-ghost use Rattle.avro_certificate.specs.Closed.{Pair};
+ghost use Rattle.avro_compare.specs.Children.{Pair};
 ghost use Rattle.avro_certificate.specs.SeenPair.{pairs_of};
 ghost use Rattle.avro_certificate.specs.inside.CertificateSets.{RefusesSets};
 

@@ -14,7 +14,6 @@ use Rattle.avro_compare.specs.inside.NameTables.{named_type, NameKey, NumberMap,
 use Rattle.avro_compare.specs.inside.NameNumbers.{AreOfWriter, NumbersBy, IsTable, both_numbers, full_number, full_of, simple_of, aliases_of, types_alike, is_full}
 use Rattle.avro_compare.specs.declared.name_numbers.NameTable.{NameTable}
 use Rattle.avro_compare.proofs.public.Lists.{next_in}
-use Rattle.avro_compare.proofs.public.Planning.{same_some}
 
 -- ---- Texts that are numbered
 

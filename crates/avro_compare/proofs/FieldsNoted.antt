@@ -1,6 +1,5 @@
 -- What the writer's fields are for, as the reader's are gone through from the last.
 use Rattle.std.proofs.Common.{◌≡◌, ℕ, zero, suc, ◌+◌, ◌<◌, ◌≤◌, false, List, [], ◌∷◌, length, drop, Option, Some, None, refl, sym, ap, ◌∙◌, subst, arith, ⊎_elim}
-use Rattle.std.proofs.Math.ListN.{set}
 use Rattle.std.proofs.Math.Seq.{drop-length}
 use Rattle.std.specs.Prelude.{slice_get, slice_index_or, unwrap_or, ◌==◌}
 use Rattle.std.proofs.lemmas.Bool.{cases_eq, eq-eqb, eqb-true, false_from_ne_true}
@@ -16,11 +15,6 @@ use Rattle.avro_compare.specs.declared.guided.At.TheVariants.{Pair}
 use Rattle.avro_compare.proofs.public.Planning.{part_found, reader_past}
 
 -- ---- The part that is noted
-
-pub noted_set : (parts : List At) (index : ℕ) (at : At) → index < length parts → set parts index at ≡ noted parts index at
-noted_set [] index at h = absurd (omega (arith, h))
-noted_set (part ∷ parts) zero at h = refl
-noted_set (part ∷ parts) (suc index) at h = ap (λ (rest : List At). part ∷ rest) (noted_set parts index at (omega (arith, h)))
 
 pub noted_past : (parts : List At) (index : ℕ) (at : At) → length parts ≤ index → parts ≡ noted parts index at
 noted_past [] index at h = refl

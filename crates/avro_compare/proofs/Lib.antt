@@ -1,6 +1,7 @@
 pub mod public
 pub mod EnoughSteps
 pub mod Pairing
+pub mod FaultsLed
 pub mod FieldsNoted
 pub mod Named
 pub mod NamedKeys

@@ -1,6 +1,10 @@
+pub mod Aims
+pub mod LeadPairs
 pub mod Leading
 pub mod Lists
 pub mod MatchTest
+pub mod NodeKinds
 pub mod Planning
 pub mod Rules
 pub mod Sources
+pub mod Symbols

@@ -6,4 +6,6 @@ pub mod Resolve
 pub mod Seen
 pub mod Pairs
 pub mod Planned
+pub mod Children
+pub mod Leads
 pub mod inside

@@ -3,3 +3,4 @@ pub mod ByNode
 pub mod NameNumbers
 pub mod NameTables
 pub mod Noting
+pub mod Led

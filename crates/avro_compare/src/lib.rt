@@ -4,6 +4,7 @@
 #![tactic(auto)]
 
 mod by_node;
+mod children;
 mod comparing;
 mod comparison;
 mod error;
@@ -11,11 +12,13 @@ mod field_tables;
 mod first_branches;
 mod guided;
 pub mod laws;
+mod lead;
 mod matching;
 mod name_numbers;
 mod named_type;
 mod names;
 mod naming;
+mod nodes;
 mod numbering;
 mod pairs;
 mod sourcing;
@@ -23,12 +26,15 @@ mod symbol_tables;
 mod symbols;
 mod union_tables;
 
+pub use children::{has_fault, leads};
 pub use comparing::{compare, compare_all, compare_inside};
 pub use comparison::Comparison;
 pub use error::{Fault, FaultKind};
 pub use guided::{Aim, At};
+pub use lead::{Lead, Step};
 pub use matching::matches;
 pub use names::Names;
+pub use nodes::node_or;
 pub use pairs::{aim, first_match};
 pub use sourcing::{fields_of, missing, part_among, part_for, source, source_kept};
 pub use symbols::symbol_for;

@@ -1,5 +1,6 @@
 -- The display of data of the program, as it is built part by part.
 use Rattle.std.proofs.Common.{◌≡◌, ℕ, zero, suc, List, [], ◌∷◌, ◌++◌, length, map, drop, refl, ap, ◌∙◌, sym, ◌≤◌, arith}
+use Rattle.std.proofs.lemmas.List.{append-nil, drop_all}
 use Rattle.avro_schema.specs.Node.{Node}
 use Rattle.avro_schema.specs.Seen.{value_of, values_of, seen_fields}
 use Rattle.avro_schema.specs.Value.{Values, value, no_values}
@@ -14,16 +15,6 @@ use Rattle.avro_display.specs.DisplayTree.{display_tree, display_items, display_
 abbrev pub tree_of : List Node → Node → Datum → Data
 tree_of nodes n d = display_tree nodes n (value_of d)
 
-append_none : (ds : List Data) → ds ++ [] ≡ ds
-append_none [] = refl
-append_none (d ∷ ds) = ap (λ rest. d ∷ rest) (append_none ds)
-
-drop_past : (ds : List Datum) (i : ℕ) → length ds ≤ i → drop i ds ≡ []
-drop_past [] zero h = refl
-drop_past [] (suc i) h = refl
-drop_past (d ∷ ds) zero h = absurd (omega arith)
-drop_past (d ∷ ds) (suc i) h = drop_past ds i (omega arith)
-
 items_seen : (nodes : List Node) (n : Node) (ds : List Datum) → items_of (map (tree_of nodes n) ds) ≡ display_items nodes n (values_of ds)
 items_seen nodes n [] = refl
 items_seen nodes n (d ∷ ds) = ap (item (tree_of nodes n d)) (items_seen nodes n ds)
@@ -32,7 +23,7 @@ items_seen nodes n (d ∷ ds) = ap (item (tree_of nodes n d)) (items_seen nodes 
 pub items_past : (nodes : List Node) (n : Node) (ds : List Datum) (i : ℕ) (done : List Value) → length ds ≤ i
     → map view done ++ map (tree_of nodes n) (drop i ds) ≡ map (tree_of nodes n) ds → items_view done ≡ display_items nodes n (values_of ds)
 items_past nodes n ds i done h all =
-    let rest : map view done ++ map (tree_of nodes n) (drop i ds) ≡ map view done = rw (drop_past ds i h) (append_none (map view done)) in
+    let rest : map view done ++ map (tree_of nodes n) (drop i ds) ≡ map view done = rw (drop_all i ds h) (append-nil (map view done)) in
     ap items_of (sym rest ∙ all) ∙ items_seen nodes n ds
 
 -- where the fields end, the members are whole

@@ -1,5 +1,6 @@
 -- The tree that displays a datum has no float.
-use Rattle.std.proofs.Common.{◌≡◌, ◌||◌, ℕ, ℤ, pos, negsuc, Bool, true, false, List, [], ◌∷◌, Ordering, Less, Equal, Greater, refl, ap, ◌∙◌}
+use Rattle.std.proofs.Common.{◌≡◌, ℕ, ℤ, pos, negsuc, false, List, [], ◌∷◌, Ordering, Less, Equal, Greater, refl, ap, ◌∙◌}
+use Rattle.std.proofs.lemmas.Bool.{or_parts, or_from}
 use Rattle.std.specs.Ordering.{nat_cmp, match_ordering}
 use Rattle.std.specs.Cmp.Lexicographic.{slice_cmp}
 use Rattle.avro_schema.specs.Value.{Value, Values, no_values, value, Entries, no_entries, entry}
@@ -14,17 +15,6 @@ no_float-integer : (i : ℤ) → is_float (of_integer i) ≡ false
 no_float-integer (pos n) = refl
 no_float-integer (negsuc n) = refl
 
-neither : (a b : Bool) → a ≡ false → b ≡ false → (a || b) ≡ false
-neither a b h k = rw (h, k) refl
-
-or_left : (a b : Bool) → (a || b) ≡ false → a ≡ false
-or_left true b h = h
-or_left false b h = refl
-
-or_right : (a b : Bool) → (a || b) ≡ false → b ≡ false
-or_right true b h = absurd cc
-or_right false b h = h
-
 -- members keep none where one more is put among them
 no_float-ordered : (o : Ordering) (a b c : Members) → members_have_float a ≡ false → members_have_float b ≡ false → members_have_float c ≡ false
     → members_have_float (match_ordering o a b c) ≡ false
@@ -35,16 +25,15 @@ no_float-ordered Greater a b c h k l = l
 no_float-put : (k : List ℕ) (d : Data) (ms : Members) → has_float d ≡ false → members_have_float ms ≡ false → members_have_float (put k d ms) ≡ false
 no_float-put k d no_members h none = rw h refl
 no_float-put k d (member l e ms) h none =
-    let first = or_left (has_float e) (members_have_float ms) none in
-    let others = or_right (has_float e) (members_have_float ms) none in
+    let parts = or_parts (has_float e) (members_have_float ms) none in
     no_float-ordered (slice_cmp nat_cmp k l) (member k d (member l e ms)) (member l d ms) (member l e (put k d ms))
-    (neither (has_float d) (members_have_float (member l e ms)) h none)
-    (neither (has_float d) (members_have_float ms) h others)
-    (neither (has_float e) (members_have_float (put k d ms)) first (no_float-put k d ms h others))
+    (or_from (has_float d) (members_have_float (member l e ms)) h none)
+    (or_from (has_float d) (members_have_float ms) h parts.1)
+    (or_from (has_float e) (members_have_float (put k d ms)) parts.0 (no_float-put k d ms h parts.1))
 
 no_float-branch : (n : Node) (d : Data) → has_float d ≡ false → has_float (branch_tree n d) ≡ false
 no_float-branch Node.null d h = refl
-no_float-branch _ d h = neither (has_float d) false h refl
+no_float-branch _ d h = or_from (has_float d) false h refl
 
 mutual
   pub no_float : (nodes : List Node) (n : Node) (v : Value) → has_float (display_tree nodes n v) ≡ false
@@ -64,7 +53,7 @@ mutual
   no_float-items : (nodes : List Node) (n : Node) (vs : Values) → items_have_float (display_items nodes n vs) ≡ false
   no_float-items nodes n no_values = refl
   no_float-items nodes n (value v vs) =
-      neither (has_float (display_tree nodes n v)) (items_have_float (display_items nodes n vs)) (no_float nodes n v) (no_float-items nodes n vs)
+      or_from (has_float (display_tree nodes n v)) (items_have_float (display_items nodes n vs)) (no_float nodes n v) (no_float-items nodes n vs)
 
   no_float-entries : (nodes : List Node) (n : Node) (es : Entries) (ms : Members) → members_have_float ms ≡ false
       → members_have_float (display_entries nodes n es ms) ≡ false

@@ -139,12 +139,7 @@ fn displayed_fields(
         if i >= fields.len() {
             return Ok(Value::from(members));
         }
-        let tree = displayed(
-            alloc,
-            schema,
-            part(schema, &Node::Null, Some(fields[i].node)),
-            &values[i],
-        )?;
+        let tree = displayed(alloc, schema, schema.get(fields[i].node), &values[i])?;
         put_member(alloc, &mut members, fields[i].name.as_str(), tree)?;
     }
     Ok(Value::from(members))

@@ -12,13 +12,7 @@ pub(crate) fn part<'a>(schema: &'a Schema, null: &'a Node, id: Option<NodeId>) -
     ensures { node_of result.now ≡ part_at (schema_nodes schema.now) (option_map (λ id. id.0) id) }
 {
     match id {
-        Some(id) => {
-            if schema.has(id) {
-                schema.node(id)
-            } else {
-                null
-            }
-        }
+        Some(id) => schema.get(id),
         None => null,
     }
 }

@@ -8,7 +8,7 @@ use Rattle.avro_compare.specs.declared.error.FaultKind.{FaultKind}
 use Rattle.avro_compare.specs.declared.error.FaultKind.TheVariants.{NoMatch}
 use Rattle.avro_compare.specs.declared.guided.Aim.{Aim}
 use Rattle.avro_compare.specs.declared.guided.Aim.TheVariants.{To, Fault}
-use Rattle.avro_certificate.proofs.public.NodeKinds.{union_of_branches}
+use Rattle.avro_compare.proofs.public.NodeKinds.{union_of_branches}
 use Rattle.avro_explain.specs.Details.{details_of_kind, details_of, unless_some}
 use Rattle.avro_explain.specs.inside.Walks.{detail_for}
 use Rattle.avro_explain.specs.declared.found.Detail.{Detail}

@@ -19,13 +19,14 @@ use Rattle.avro_compare.specs.Source.{source_of, reader_field, missing_field}
 use Rattle.avro_compare.specs.Resolve.{Resolved, Sourced, inside, result_map, both, matched, through, into_branch, bytes_as, enum_as, enum_or_default, part_at, symbol_at, fields_at, field_values, branch_node, record_or_missing, with_sourced, resolve, resolve_items, resolve_entries, resolve_sources}
 use Rattle.avro_compare.proofs.public.Rules.{distinct_fields}
 use Rattle.avro_compare.proofs.public.Sources.{reader_field-source}
-use Rattle.avro_certificate.specs.Closed.{Pair, same_pair, is_among, is_among_pairs, has_fault_of_kind, has_local_fault, lacks_symbol, children_of, field_children}
+use Rattle.avro_compare.specs.Children.{Pair, has_fault_of_kind, has_local_fault, lacks_symbol, children_of, field_children}
+use Rattle.avro_certificate.specs.Closed.{same_pair, is_among, is_among_pairs}
 use Rattle.avro_certificate.specs.Compatible.{AreCompatible}
 use Rattle.avro_certificate.specs.Evidence.{IsGreatestDead, IsReached, roots, child}
-use Rattle.avro_certificate.proofs.public.NodeKinds.{is_plain_value, union_of_branches, fault_of_union, fault_of_others, children_of_union}
+use Rattle.avro_compare.proofs.public.NodeKinds.{is_plain_value, union_of_branches, fault_of_union, fault_of_others, children_of_union}
 use Rattle.avro_certificate.proofs.public.Resolving.{slice_get_of_drop, drop_more}
 use Rattle.avro_certificate.proofs.public.Shapes.{first_match_within, plain_branch}
-use Rattle.avro_certificate.proofs.public.Successes.{bytes_eq-sym}
+use Rattle.avro_compare.proofs.public.Symbols.{bytes_eq-sym}
 use Rattle.avro_certificate.proofs.public.Tests.{and_left, and_right, or_cases, not_true, none_at, same_pair-true}
 use Rattle.avro_explain.specs.Details.{details_of}
 use Rattle.avro_explain.proofs.LiveData.{HasDatum, live_datum, empty_text}

@@ -12,23 +12,25 @@ use Rattle.avro_compare.specs.Fault.{ResolutionFault, fault_here, fault_in, no_m
 use Rattle.avro_compare.specs.Match.{match_within, is_match, first_match}
 use Rattle.avro_compare.specs.Source.{source_of, is_index, reader_field, missing_field_from, missing_field}
 use Rattle.avro_compare.specs.Resolve.{Resolved, Sourced, inside, result_map, both, matched, through, into_branch, int_as, bytes_as, string_as, enum_as, enum_or_default, part_at, symbol_at, fields_at, field_values, branch_node, record_or_missing, with_sourced, resolve, resolve_items, resolve_entries, resolve_sources}
-use Rattle.avro_certificate.specs.Closed.{Pair, is_among, is_among_pairs, is_dead}
+use Rattle.avro_compare.specs.Children.{Pair}
+use Rattle.avro_certificate.specs.Closed.{is_among, is_among_pairs, is_dead}
 use Rattle.avro_certificate.specs.Compatible.{ErrsWith}
 use Rattle.avro_certificate.specs.Evidence.{IsReached, roots, child}
 use Rattle.avro_certificate.proofs.public.DeadNodes.{no_dead_datum}
-use Rattle.avro_certificate.proofs.public.NodeKinds.{is_plain_value, plain_node, union_of_branches}
+use Rattle.avro_compare.proofs.public.NodeKinds.{is_plain_value, plain_node, union_of_branches}
 use Rattle.avro_certificate.proofs.public.Resolving.{slice_get_of_drop, drop_more}
 use Rattle.avro_certificate.proofs.public.Shapes.{first_match_within, plain_branch}
 use Rattle.avro_certificate.proofs.public.Successes.{Succeeds, succeeds_int, succeeds_string}
-use Rattle.avro_certificate.proofs.public.Symbols.{some_position}
+use Rattle.avro_compare.proofs.public.Symbols.{some_position}
 use Rattle.avro_certificate.proofs.public.Tests.{and_left, and_right}
 use Rattle.avro_explain.specs.Blamed.{cause_for, goes_to, is_choice, IsPath, ends, chooses, goes, IsFaultFrom, IsAtOne}
 use Rattle.avro_explain.specs.Details.{lacking_one, lacking_from, missing_from, unless_some, details_of_kind, details_of}
-use Rattle.avro_explain.specs.Leads.{lead_by, branch_leads, choice_leads, field_lead, field_leads, leads_of, leads_at}
+use Rattle.avro_compare.specs.Leads.{lead_by, branch_leads, choice_leads, field_lead, field_leads, leads_of, leads_at, lead_pair}
 use Rattle.avro_explain.specs.declared.found.Detail.{Detail}
-use Rattle.avro_explain.specs.declared.found.Lead.{Lead}
-use Rattle.avro_explain.specs.declared.found.Step.{Step}
-use Rattle.avro_explain.proofs.LeadPairs.{lead_among, lead_children, lead_pair}
+use Rattle.avro_compare.specs.declared.lead.Lead.{Lead}
+use Rattle.avro_compare.specs.declared.lead.Step.{Step}
+use Rattle.avro_compare.proofs.public.LeadPairs.{lead_children}
+use Rattle.avro_explain.proofs.LeadPairs.{lead_among}
 use Rattle.avro_explain.proofs.LocalFaults.{details_of_union, details_of_others}
 
 -- a result, the fault of which is such a one
@@ -64,15 +66,6 @@ blames_more T U (Err e) up h = up e h
 detail_shifted : (ds es : List Detail) (i : ℕ) (d : Detail) → slice_get es i ≡ Some d → (k : ℕ) × (slice_get (ds ++ es) k ≡ Some d)
 detail_shifted [] es i d h = (i, h)
 detail_shifted (x ∷ ds) es i d h = let own = detail_shifted ds es i d h in (suc own.0, own.1)
-
-detail_first : (ds es : List Detail) (i : ℕ) (d : Detail) → slice_get ds i ≡ Some d → slice_get (ds ++ es) i ≡ Some d
-detail_first [] es i d h = absurd (grind arith)
-detail_first (x ∷ ds) es zero d h = h
-detail_first (x ∷ ds) es (suc i) d h = detail_first ds es i d h
-
-lead_shifted : (xs ys : List Lead) (i : ℕ) (lead : Lead) → slice_get ys i ≡ Some lead → (k : ℕ) × (slice_get (xs ++ ys) k ≡ Some lead)
-lead_shifted [] ys i lead h = (i, h)
-lead_shifted (x ∷ xs) ys i lead h = let own = lead_shifted xs ys i lead h in (suc own.0, own.1)
 
 -- the missing field is among the missing ones
 missing_there : (index : ℕ) (fields theirs : List FieldNode) (m : ℕ) → missing_field_from index fields theirs ≡ Some m

@@ -1,7 +1,6 @@
 pub mod DetailsLed
 pub mod FaultyData
 pub mod FirstFaults
-pub mod KeptNodes
 pub mod KnownPairs
 pub mod LeadPairs
 pub mod LiveData

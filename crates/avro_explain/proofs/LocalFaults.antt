@@ -6,8 +6,8 @@ use Rattle.std.specs.List.{list_any}
 use Rattle.avro_schema.specs.Node.{Node, FieldNode, branches_of}
 use Rattle.avro_compare.specs.Match.{is_match, first_match}
 use Rattle.avro_compare.specs.Source.{source_of, missing_field_from}
-use Rattle.avro_certificate.specs.Closed.{lacks_symbol, has_fault_of_kind, has_local_fault}
-use Rattle.avro_certificate.proofs.public.NodeKinds.{union_of_branches, fault_of_union, fault_of_others}
+use Rattle.avro_compare.specs.Children.{lacks_symbol, has_fault_of_kind, has_local_fault}
+use Rattle.avro_compare.proofs.public.NodeKinds.{union_of_branches, fault_of_union, fault_of_others}
 use Rattle.avro_explain.specs.Details.{lacking_from, lacking, missing_from, details_of_kind, unless_some, details_of}
 use Rattle.avro_explain.specs.declared.found.Detail.{Detail}
 use Rattle.avro_explain.specs.declared.found.Detail.TheVariants.{NoMatch}

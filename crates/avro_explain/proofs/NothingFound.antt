@@ -10,10 +10,11 @@ use Rattle.avro_schema.specs.WellFormed.{is_schema, is_edge, are_good_nodes, max
 use Rattle.avro_compare.specs.Match.{first_match}
 use Rattle.avro_compare.specs.Source.{source_of}
 use Rattle.avro_compare.proofs.public.Rules.{edges-at}
-use Rattle.avro_certificate.specs.Closed.{Pair, same_pair, is_among, is_among_pairs, is_dead, children_of, field_children, has_local_fault, is_closed, is_closed_at}
+use Rattle.avro_compare.specs.Children.{Pair, children_of, field_children, has_local_fault}
+use Rattle.avro_certificate.specs.Closed.{same_pair, is_among, is_among_pairs, is_dead, is_closed, is_closed_at}
 use Rattle.avro_certificate.specs.Compatible.{AreCompatible}
 use Rattle.avro_certificate.specs.Evidence.{IsGreatestDead, IsReached, roots, child}
-use Rattle.avro_certificate.proofs.public.NodeKinds.{union_of_branches, children_of_union}
+use Rattle.avro_compare.proofs.public.NodeKinds.{union_of_branches, children_of_union}
 use Rattle.avro_certificate.proofs.public.Resolving.{closed_compatible}
 use Rattle.avro_certificate.proofs.public.Tests.{and_left, and_right, all_among_pairs, or_cases, or_from_left, or_from_right, same_pair-true}
 use Rattle.avro_explain.specs.Details.{details_of}

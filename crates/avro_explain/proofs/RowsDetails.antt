@@ -4,12 +4,12 @@ use Rattle.avro_schema.specs.Node.{Node}
 use Rattle.avro_schema.specs.Value.{Value}
 use Rattle.avro_schema.proofs.public.RowsSchemas.{simply, plain_field, aliased_field, default_field}
 use Rattle.avro_explain.specs.Details.{details_of}
-use Rattle.avro_explain.specs.Leads.{lead_by, leads_of}
+use Rattle.avro_compare.specs.Leads.{lead_by, leads_of}
 use Rattle.avro_explain.specs.Places.{findings_from}
 use Rattle.avro_explain.specs.Ways.{IsWay}
 use Rattle.avro_explain.specs.declared.found.Detail.TheVariants.{NoMatch, NoBranch, NotUtf8, NoSymbol, MissingField}
 use Rattle.avro_explain.specs.declared.found.PathStep.TheVariants.{Items, Values, Branch}
-use Rattle.avro_explain.specs.declared.found.Step.{Step}
+use Rattle.avro_compare.specs.declared.lead.Step.{Step}
 
 -- two enums of E, of which the reader's has a symbol of the writer's three, with a default or without
 abbrev three : Node

@@ -4,7 +4,7 @@ use Rattle.std.specs.Prelude.{bytes_eq, position}
 use Rattle.avro_name.specs.Name.{Name}
 use Rattle.avro_schema.specs.Node.{Node}
 use Rattle.avro_compare.specs.Resolve.{enum_or_default}
-use Rattle.avro_certificate.proofs.public.Symbols.{some_position}
+use Rattle.avro_compare.proofs.public.Symbols.{some_position}
 use Rattle.avro_explain.specs.Details.{lacking_one, lacking_from, lacking}
 use Rattle.avro_explain.specs.inside.Walks.{is_taken, untaken_from}
 use Rattle.avro_explain.specs.declared.found.Detail.{Detail}

@@ -7,17 +7,19 @@ use Rattle.std.specs.Prelude.{slice_get, nat_lt}
 use Rattle.std.specs.List.{list_any}
 use Rattle.avro_schema.specs.Distinct.{are_distinct}
 use Rattle.avro_schema.specs.Node.{Node, node_at}
-use Rattle.avro_certificate.specs.Closed.{Pair, same_pair, is_among, is_among_pairs, children_of}
+use Rattle.avro_compare.specs.Children.{Pair, children_of}
+use Rattle.avro_certificate.specs.Closed.{same_pair, is_among, is_among_pairs}
 use Rattle.avro_certificate.specs.Evidence.{IsReached, roots, child}
 use Rattle.avro_certificate.proofs.public.Tests.{or_cases, or_from_left, or_from_right, same_pair-true, and_left, and_right, not_true}
-use Rattle.avro_explain.specs.Leads.{leads_at}
+use Rattle.avro_compare.specs.Leads.{leads_at, lead_pair}
 use Rattle.avro_explain.specs.Places.{pair_of, pairs_of, came, round_of, AreReached, AreTooMany, IsFoundBy, findings_at, findings_from}
 use Rattle.avro_explain.specs.inside.Walks.{IsWalk, with_place, led_from, with_lead, with_leads, roots_place}
 use Rattle.avro_explain.specs.declared.found.Finding.{Finding}
-use Rattle.avro_explain.specs.declared.found.Lead.{Lead}
+use Rattle.avro_compare.specs.declared.lead.Lead.{Lead}
 use Rattle.avro_explain.specs.declared.found.Place.{Place}
-use Rattle.avro_explain.specs.declared.found.Step.{Step}
-use Rattle.avro_explain.proofs.LeadPairs.{IsLead, later_lead, lead_pair, lead_children, lead_among, same_itself}
+use Rattle.avro_compare.specs.declared.lead.Step.{Step}
+use Rattle.avro_compare.proofs.public.LeadPairs.{lead_children}
+use Rattle.avro_explain.proofs.LeadPairs.{IsLead, later_lead, lead_among, same_itself}
 
 some_same : {A : Type 0} (a b : A) → Some a ≡ Some b → a ≡ b
 some_same a b e = cc

@@ -6,16 +6,16 @@ use Rattle.std.specs.Prelude.{slice_get, unwrap_or, option_and_then, reverse, by
 use Rattle.avro_schema.specs.Node.{Node, FieldNode, node_at, field_ids, branches_of}
 use Rattle.avro_compare.specs.Match.{first_match}
 use Rattle.avro_compare.specs.Source.{field_index, first_index, or_else, source_of}
-use Rattle.avro_certificate.proofs.public.NodeKinds.{union_of_branches}
+use Rattle.avro_compare.proofs.public.NodeKinds.{union_of_branches}
 use Rattle.avro_certificate.proofs.public.Shapes.{first_match_within}
-use Rattle.avro_explain.specs.Leads.{lead_by, branch_leads, choice_leads, field_lead, field_leads, leads_inside, leads_of}
+use Rattle.avro_compare.specs.Leads.{lead_by, branch_leads, choice_leads, field_lead, field_leads, leads_inside, leads_of}
 use Rattle.avro_explain.specs.Places.{ArePlaced, IsLed, came}
 use Rattle.avro_explain.specs.Ways.{step_from, follow}
 use Rattle.avro_explain.specs.inside.Walks.{writer_steps, reader_steps}
-use Rattle.avro_explain.specs.declared.found.Lead.{Lead}
+use Rattle.avro_compare.specs.declared.lead.Lead.{Lead}
 use Rattle.avro_explain.specs.declared.found.PathStep.{PathStep}
 use Rattle.avro_explain.specs.declared.found.Place.{Place}
-use Rattle.avro_explain.specs.declared.found.Step.{Step}
+use Rattle.avro_compare.specs.declared.lead.Step.{Step}
 
 -- each lead of some
 abbrev EachLead : (Lead → Type 0) → List Lead → Type 0
@@ -217,16 +217,6 @@ way_whole writer reader places here p ws rs way placed none = chosen way.place.f
     chosen None e roots =
         (subst (λ (i : ℕ). follow writer i (reverse ws) ≡ Some p.w.0) roots.0 way.writer_way, subst (λ (i : ℕ). follow reader i (reverse rs) ≡ Some p.r.0) roots.1 way.reader_way)
     chosen (Some from) e led = absurd (none way.place way.there from e led.before)
-
--- no steps yet
-pub way_start : (writer reader : List Node) (places : List Place) (at : ℕ) (p : Place) (ws rs : List PathStep) → ws ≡ [] → rs ≡ [] → slice_get places at ≡ Some p
-    → IsWayFrom writer reader places at p ws rs
-way_start writer reader places at p ws rs none their_none got = record {
-  place = p;
-  there = got;
-  writer_way = ap (λ (steps : List PathStep). follow writer p.w.0 (reverse steps)) none;
-  reader_way = ap (λ (steps : List PathStep). follow reader p.r.0 (reverse steps)) their_none;
-}
 
 -- one step more
 pub way_next : (writer reader : List Node) (places : List Place) (here : ℕ) (p : Place) (ws rs new_ws new_rs : List PathStep) (from : ℕ × Step)

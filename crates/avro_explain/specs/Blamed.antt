@@ -2,13 +2,14 @@
 use Rattle.std.specs.Prelude.{◌≡◌, ℕ, Bool, true, false, ◌==◌, List, [], ◌∷◌, Some, slice_get}
 use Rattle.avro_schema.specs.Node.{Node, node_at}
 use Rattle.avro_compare.specs.Fault.{FaultCause, no_match, no_branch, missing_field_at, no_symbol, not_utf8, ResolutionFault}
-use Rattle.avro_certificate.specs.Closed.{Pair, is_among}
+use Rattle.avro_compare.specs.Children.{Pair}
+use Rattle.avro_certificate.specs.Closed.{is_among}
 use Rattle.avro_certificate.specs.Evidence.{IsReached}
 use Rattle.avro_explain.specs.Details.{details_of}
-use Rattle.avro_explain.specs.Leads.{leads_at}
+use Rattle.avro_compare.specs.Leads.{leads_at}
 use Rattle.avro_explain.specs.declared.found.Detail.{Detail}
-use Rattle.avro_explain.specs.declared.found.Lead.{Lead}
-use Rattle.avro_explain.specs.declared.found.Step.{Step}
+use Rattle.avro_compare.specs.declared.lead.Lead.{Lead}
+use Rattle.avro_compare.specs.declared.lead.Step.{Step}
 
 -- the cause of what fails
 abbrev pub cause_for : Detail → FaultCause

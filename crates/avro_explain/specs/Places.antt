@@ -2,14 +2,15 @@
 use Rattle.std.specs.Prelude.{◌≡◌, ◌<◌, ◌≤◌, ℕ, suc, Bool, true, false, cond, List, [], ◌∷◌, ◌++◌, Option, Some, None, map, length, slice_get}
 use Rattle.avro_schema.specs.Distinct.{are_distinct}
 use Rattle.avro_schema.specs.Node.{Node, node_at}
-use Rattle.avro_certificate.specs.Closed.{Pair, same_pair, is_among, is_among_pairs, children_of}
+use Rattle.avro_compare.specs.Children.{Pair, children_of}
+use Rattle.avro_certificate.specs.Closed.{same_pair, is_among, is_among_pairs}
 use Rattle.avro_certificate.specs.Evidence.{IsReached}
 use Rattle.avro_explain.specs.Details.{details_of}
-use Rattle.avro_explain.specs.Leads.{leads_at}
+use Rattle.avro_compare.specs.Leads.{leads_at}
 use Rattle.avro_explain.specs.declared.found.Detail.{Detail}
 use Rattle.avro_explain.specs.declared.found.Finding.{Finding}
 use Rattle.avro_explain.specs.declared.found.Place.{Place}
-use Rattle.avro_explain.specs.declared.found.Step.{Step}
+use Rattle.avro_compare.specs.declared.lead.Step.{Step}
 
 -- the nodes that are marked, from an id on
 abbrev pub marked_from : ℕ → List Bool → List ℕ

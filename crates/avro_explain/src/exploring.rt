@@ -1,13 +1,14 @@
 //! The pairs of nodes that the roots lead to, and what fails at them.
 
-ghost use Rattle.std.specs.Prelude.{◌≡◌, ◌<◌, ◌≤◌, ℕ, ◌++◌, ◌∷◌, [], List, Some, None, length, slice_get, IfOk, OnOk};
+ghost use Rattle.std.specs.Prelude.{◌≡◌, ◌<◌, ◌≤◌, ℕ, ◌++◌, [], List, Some, None, length, slice_get, IfOk, OnOk};
 ghost use Rattle.std.specs.Result.{IfErr};
 ghost use Rattle.indexmap.specs.IndexSet.{keys};
 ghost use Rattle.avro_schema.specs.SeenSchema.{schema_nodes};
-ghost use Rattle.avro_certificate.specs.Closed.{Pair, is_among};
+ghost use Rattle.avro_compare.specs.Children.{Pair};
+ghost use Rattle.avro_certificate.specs.Closed.{is_among};
 ghost use Rattle.avro_certificate.specs.Compatible.{AreCompatible};
 ghost use Rattle.avro_certificate.specs.Evidence.{IsGreatestDead};
-ghost use Rattle.avro_explain.specs.Leads.{leads_at};
+ghost use Rattle.avro_compare.specs.Leads.{leads_at};
 ghost use Rattle.avro_explain.specs.Places.{marked, pairs_of, ArePlaced, AreByBreadth, AreFollowed, AreReached, AreTooMany, AreFaults, findings, findings_at};
 ghost use Rattle.avro_explain.specs.inside.Walks.{IsWalk, keys_of, roots_place, with_place, with_lead, with_leads};
 ghost use Rattle.avro_explain.specs.declared.error.ExplainError.TheVariants.{TooManyPairs, OutOfMemory};
@@ -16,9 +17,8 @@ ghost use Rattle.avro_explain.specs.declared.found.Place.{Place};
 use crate::dying::{dead_nodes, is_marked};
 use crate::error::ExplainError;
 use crate::failing::details;
-use crate::found::{Detail, Explanation, Finding, Lead, Place};
-use crate::leading::leads;
-use avro_compare::Names;
+use crate::found::{Detail, Explanation, Finding, Place};
+use avro_compare::{Lead, Names, compare, leads};
 use avro_schema::{Memory, NodeId, Schema};
 use indexmap::IndexSet;
 use std::alloc::Global;
@@ -200,6 +200,7 @@ fn visit(
     let place = walk.places[at];
     let details = details(alloc, names, place.w, place.r)?;
     add_findings(&mut walk.faults, at, &details)?;
-    let leads = leads(alloc, names, place.w, place.r)?;
+    let pair = compare(alloc, names, place.w, place.r)?;
+    let leads = leads(alloc, names, &pair)?;
     add_leads(walk, dead, at, &leads)
 }

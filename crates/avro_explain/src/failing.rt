@@ -9,8 +9,7 @@ ghost use Rattle.avro_explain.specs.Details.{details_of, details_of_kind, missin
 ghost use Rattle.avro_explain.specs.inside.Walks.{detail_for, untaken_from, untaken_one};
 
 use crate::found::Detail;
-use crate::nodes::node_or;
-use avro_compare::{Aim, FaultKind, Names};
+use avro_compare::{Aim, FaultKind, Names, node_or};
 use avro_schema::{Field, Memory, Node, NodeId};
 use std::alloc::Global;
 

@@ -10,11 +10,10 @@ mod exploring;
 mod failing;
 mod found;
 pub mod laws;
-mod leading;
-mod nodes;
 mod paths;
 
+pub use avro_compare::Step;
 pub use error::ExplainError;
 pub use exploring::explain;
-pub use found::{Detail, Explanation, Finding, PathStep, Place, Step};
+pub use found::{Detail, Explanation, Finding, PathStep, Place};
 pub use paths::{Way, way_to};

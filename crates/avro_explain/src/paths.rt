@@ -7,9 +7,10 @@ ghost use Rattle.avro_explain.specs.Places.{ArePlaced};
 ghost use Rattle.avro_explain.specs.Ways.{IsWay};
 ghost use Rattle.avro_explain.specs.inside.Walks.{writer_steps, reader_steps};
 ghost use Rattle.avro_explain.specs.declared.found.Place.{Place};
-ghost use Rattle.avro_explain.specs.declared.found.Step.{Step as SeenStep};
+ghost use Rattle.avro_compare.specs.declared.lead.Step.{Step as SeenStep};
 
-use crate::found::{PathStep, Place, Step};
+use crate::found::{PathStep, Place};
+use avro_compare::Step;
 use avro_schema::Memory;
 use std::alloc::Global;
 

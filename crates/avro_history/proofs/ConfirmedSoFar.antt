@@ -32,9 +32,6 @@ pub record ConfirmedSoFar (writers : List Schema) (reader : Schema) (certificate
       → AllByRecursion (λ writer. AreCompatible writer (schema_nodes reader)) (nodes_of_all writers)
   pub approved : approvals ++ beside reader (drop i writers) ≡ beside reader writers
 
-pub confirmed_none : (writers : List Schema) (reader : Schema) (certificates : List Certificate) → ConfirmedSoFar writers reader certificates 0 []
-confirmed_none writers reader certificates = record { closed = refl; compatible = λ h. h; approved = refl }
-
 -- where there are not as many certificates as writers
 pub uneven : (writers : List Schema) (reader : List Node) (certificates : List Certificate) → (length writers ≡ length certificates → ⊥)
     → are_closed (nodes_of_all writers) reader (map set_of certificates) ≡ false

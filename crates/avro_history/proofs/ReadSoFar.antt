@@ -4,7 +4,7 @@ use Rattle.std.proofs.lemmas.List.Folds.{list_all-append}
 use Rattle.std.proofs.lemmas.Bool.{true≢false, false≢true, and_from, and_parts, and_left, and_right}
 use Rattle.std.specs.Prelude.{codes, ◌==◌}
 use Rattle.std.specs.List.{list_all}
-use Rattle.avro_certificate.specs.Closed.{Pair}
+use Rattle.avro_compare.specs.Children.{Pair}
 use Rattle.avro_certificate.specs.CertificateText.{CertText, are_small}
 use Rattle.avro_history.specs.HistoryText.{Sets, sets_text, do_rise, has_small, all_small}
 use Rattle.avro_history.specs.inside.CertificatesRead.{lines_of, AreLines, HasGreatLines}

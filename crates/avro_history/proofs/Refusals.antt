@@ -27,10 +27,6 @@ lines_in text rest sets e h = record { rising = h.rising; written = ap (drop 10)
 pub text_of : (text rest : List ℕ) (sets : List Sets) → text ≡ codes "history 1\n" ++ rest → AreLines sets rest → HistoryText sets text
 text_of text rest sets e h = record { rising = h.rising; written = e ∙ ap (λ l. codes "history 1\n" ++ l) h.written }
 
--- a text that begins otherwise
-pub no_history : (text : List ℕ) → ((rest : List ℕ) → text ≡ codes "history 1\n" ++ rest → ⊥) → (sets : List Sets) → HistoryText sets text → ⊥
-no_history text none sets h = none _ h.written
-
 pub refusal : (e : CertError) (text rest : List ℕ) → text ≡ codes "history 1\n" ++ rest → RefusesLines e rest → RefusesHistory e text
 refusal CertError.Malformed text rest e (inl long) = inl (omega (arith, long, ap length e))
 refusal CertError.Malformed text rest e (inr none) = inr (λ sets h. none sets (lines_in text rest sets e h))

@@ -1,7 +1,7 @@
 -- The text of a history: the texts of several certificates, one after the other, between two lines of its own.
 use Rattle.std.specs.Prelude.{◌≡◌, ℕ, Bool, true, ◌&&◌, nat_lt, List, ◌++◌, flat_map, codes}
 use Rattle.std.specs.List.{list_all}
-use Rattle.avro_certificate.specs.Closed.{Pair}
+use Rattle.avro_compare.specs.Children.{Pair}
 use Rattle.avro_certificate.specs.CertificateText.{certificate_text, is_rising, is_before, are_small}
 
 -- what a certificate has: a set of nodes and a set of pairs of nodes, each as a list

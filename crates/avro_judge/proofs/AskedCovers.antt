@@ -15,10 +15,10 @@ use Rattle.avro_compare.specs.Match.{is_match, first_match}
 use Rattle.avro_compare.specs.Source.{reader_field, source_of}
 use Rattle.avro_compare.specs.Fields.{IsField, here, later}
 use Rattle.avro_compare.proofs.public.Sources.{first_index-named, reader_field-source}
-use Rattle.avro_certificate.specs.Closed.{Pair, children_of, field_children, has_local_fault, has_fault_of_kind}
+use Rattle.avro_compare.specs.Children.{Pair, children_of, field_children, has_local_fault, has_fault_of_kind}
 use Rattle.avro_least.specs.Asked.{Row, Asked, rows_from, asked_inside, asked_branch, asked, row_child, asked_children}
 use Rattle.avro_certificate.proofs.public.Tests.{and_left, and_right, or_left, or_right, not_false}
-use Rattle.avro_certificate.proofs.public.NodeKinds.{fault_of_union, fault_of_others, children_of_union}
+use Rattle.avro_compare.proofs.public.NodeKinds.{fault_of_union, fault_of_others, children_of_union}
 
 module _ (writer reader : List Node) (test : Pair → Bool) where
   row_passes : (ws rs : List FieldNode) (index : ℕ) (ps : List ℕ) → list_all test (flat_map row_child (rows_from ws rs index ps)) ≡ true

@@ -6,10 +6,11 @@ use Rattle.std.specs.List.{list_all}
 use Rattle.avro_schema.specs.Node.{Node, FieldNode, branches_of, field_ids}
 use Rattle.avro_compare.specs.Match.{is_match, first_match}
 use Rattle.avro_compare.specs.Source.{reader_field, missing_field, source_of}
-use Rattle.avro_certificate.specs.Closed.{Pair, same_pair, is_among_pairs, children_of, field_children, lacks_symbol}
+use Rattle.avro_compare.specs.Children.{Pair, children_of, field_children, lacks_symbol}
+use Rattle.avro_certificate.specs.Closed.{same_pair, is_among_pairs}
 use Rattle.avro_least.specs.Asked.{Asked, rows_from, asked_inside, asked_branch, asked, row_child, asked_children}
 use Rattle.avro_certificate.proofs.public.Tests.{and_left, and_right, or_from_left, or_from_right}
-use Rattle.avro_certificate.proofs.public.NodeKinds.{children_of_union}
+use Rattle.avro_compare.proofs.public.NodeKinds.{children_of_union}
 
 module _ (writer reader : List Node) (test : Pair → Bool) where
   -- the pair of a writer's field and the reader's field whose source it is

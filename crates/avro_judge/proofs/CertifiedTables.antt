@@ -6,7 +6,8 @@ use Rattle.std.specs.List.{list_all}
 use Rattle.avro_schema.specs.Node.{Node}
 use Rattle.avro_schema.specs.WellFormed.{is_schema}
 use Rattle.avro_certificate.specs.CertificateText.{is_rising, is_before}
-use Rattle.avro_certificate.specs.Closed.{Pair, is_among, is_closed}
+use Rattle.avro_compare.specs.Children.{Pair}
+use Rattle.avro_certificate.specs.Closed.{is_among, is_closed}
 use Rattle.avro_certificate.specs.Evidence.{IsEvidence, IsGreatestDead}
 use Rattle.avro_least.specs.Asked.{ArePairsShown, steps_at}
 use Rattle.avro_judge.specs.inside.Evidence.{dead_below, pairs_at, AreCalm, AreOfKeys, AreCertified}

@@ -73,7 +73,7 @@ module _ (table : LeastTable) where
       chosen true before = rising_after (dead_below table n) n before (all_from (λ x. nat_lt x n) (dead_below table n) (λ x m. lt-ltb x n (listed_dead n x m).0))
       chosen false before = rw (append-nil (dead_below table n)) before
 
-none_of : (e : Option Least) → is_none e ≡ true → e ≡ None
+pub none_of : (e : Option Least) → is_none e ≡ true → e ≡ None
 none_of None h = refl
 none_of (Some e) h = absurd (false≢true h)
 

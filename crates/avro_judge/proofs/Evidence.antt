@@ -7,7 +7,8 @@ use Rattle.std.specs.List.{list_all}
 use Rattle.avro_schema.specs.Node.{Node, node_at}
 use Rattle.avro_schema.specs.WellFormed.{is_schema}
 use Rattle.avro_certificate.specs.CertificateText.{is_small, is_small_pair, are_small}
-use Rattle.avro_certificate.specs.Closed.{Pair, same_pair, is_among, is_among_pairs, is_dead, is_dead_node, children_of, has_local_fault, is_closed, is_closed_at}
+use Rattle.avro_compare.specs.Children.{Pair, children_of, has_local_fault}
+use Rattle.avro_certificate.specs.Closed.{same_pair, is_among, is_among_pairs, is_dead, is_dead_node, is_closed, is_closed_at}
 use Rattle.avro_certificate.specs.Evidence.{IsGreatestDead, roots, IsEvidence}
 use Rattle.avro_least.specs.Asked.{steps_at}
 use Rattle.avro_judge.specs.inside.Evidence.{pairs_at}

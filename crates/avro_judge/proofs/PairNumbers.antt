@@ -5,7 +5,8 @@ use Rattle.std.proofs.lemmas.Nat.{div-mul-add, mod-mul-add, div-add-mod', le-div
 use Rattle.std.proofs.Math.Nat.{div-mul-le_self}
 use Rattle.std.specs.Prelude.{nat_lt, ◌==◌}
 use Rattle.std.specs.List.{list_all}
-use Rattle.avro_certificate.specs.Closed.{Pair, same_pair, is_among_pairs}
+use Rattle.avro_compare.specs.Children.{Pair}
+use Rattle.avro_certificate.specs.Closed.{same_pair, is_among_pairs}
 use Rattle.avro_certificate.specs.CertificateText.{is_rising, is_before}
 use Rattle.avro_least.specs.Tables.{pair_number}
 use Rattle.avro_least.specs.Reached.{is_key}
@@ -15,10 +16,6 @@ use Rattle.avro_certificate.proofs.public.Tests.{and_left, and_right, or_cases, 
 -- a pair is that of its number
 pub number_back : (count : ℕ) (p : Pair) → p.r < count → pair_at count (pair_number count p.w p.r) ≡ p
 number_back count p h = λ i. record { w = div-mul-add p.w count p.r h i; r = mod-mul-add p.w count p.r h i }
-
--- and a number that of its pair
-pub pair_back : (count k : ℕ) → pair_number count (k / count) (k % count) ≡ k
-pair_back count k = div-add-mod' k count
 
 pub same_itself : (p : Pair) → same_pair p p ≡ true
 same_itself p = and_from (p.w == p.w) (p.r == p.r) (eq-eqb p.w p.w refl) (eq-eqb p.r p.r refl)

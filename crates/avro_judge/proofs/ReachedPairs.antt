@@ -4,7 +4,8 @@ use Rattle.std.proofs.lemmas.Bool.{false≢true, true≢false, eqb-true, ltb-tru
 use Rattle.std.specs.Prelude.{nat_lt, ◌==◌, is_none, is_some}
 use Rattle.avro_schema.specs.Node.{Node, node_at}
 use Rattle.avro_schema.specs.WellFormed.{is_schema}
-use Rattle.avro_certificate.specs.Closed.{Pair, same_pair, is_among, is_among_pairs, children_of}
+use Rattle.avro_compare.specs.Children.{Pair, children_of}
+use Rattle.avro_certificate.specs.Closed.{same_pair, is_among, is_among_pairs}
 use Rattle.avro_certificate.specs.Evidence.{IsReached, roots, child}
 use Rattle.avro_least.specs.Asked.{asked, asked_children, children_at, is_known, live_numbers, steps_at}
 use Rattle.avro_judge.specs.inside.Evidence.{pair_at}
@@ -12,6 +13,7 @@ use Rattle.avro_least.specs.FoundTables.{AreTables}
 use Rattle.avro_least.specs.Tables.{Least, LeastTable, erring_of, pair_number}
 use Rattle.avro_least.specs.Reached.{is_key, IsSteppedTo, from_first, one_step}
 use Rattle.avro_judge.proofs.AskedCovers.{covers}
+use Rattle.avro_judge.proofs.DeadIds.{none_of}
 use Rattle.avro_judge.proofs.AskedTaken.{taken, all_among_themselves}
 use Rattle.avro_least.proofs.public.Exact.{known_children}
 use Rattle.avro_judge.proofs.PairNumbers.{number_back, same_itself}
@@ -19,10 +21,6 @@ use Rattle.avro_least.proofs.public.Quiet.{quiet, IsQuiet, is_quiet}
 use Rattle.avro_certificate.proofs.public.Shapes.{meets_rules_at}
 use Rattle.avro_least.proofs.public.Stepping.{some_nodes}
 use Rattle.avro_certificate.proofs.public.Tests.{and_left, and_right, or_cases, or_not, or_from_left, or_from_right, all_among_pairs}
-
-none_of : (e : Option Least) → is_none e ≡ true → e ≡ None
-none_of None h = refl
-none_of (Some e) h = absurd (false≢true h)
 
 some_of : (e : Option Least) → is_none e ≡ false → is_some e ≡ true
 some_of None h = absurd (true≢false h)

@@ -15,7 +15,7 @@ use Rattle.avro_compare.specs.Fault.{ResolutionFault}
 use Rattle.avro_compare.specs.Match.{is_match, first_match}
 use Rattle.avro_compare.specs.Source.{reader_field, missing_field}
 use Rattle.avro_compare.specs.Resolve.{Resolved, Sourced, matched, into_branch, fields_at, branch_node, record_or_missing, resolve, resolve_sources}
-use Rattle.avro_certificate.specs.Closed.{Pair, lacks_symbol}
+use Rattle.avro_compare.specs.Children.{Pair, lacks_symbol}
 use Rattle.avro_least.specs.Tables.{Least, LeastTable, ErringTable, IsWithin, count_of, around, together, best_of, all_of, no_parts, one}
 use Rattle.avro_least.specs.Asked.{Row, row_child, Asked, rows_from, asked_inside, asked_branch, asked, err_of_row, err_of_rows, asked_value, asked_children}
 use Rattle.avro_least.specs.inside.Built.{Builds}
@@ -67,11 +67,6 @@ module _ (writer reader : List Node) (limit : ℕ) (table : LeastTable) (erring 
 
   pub none_left : (left w r : ℕ) (a : Asked) (v : Value) → left ≡ 0 → BuildsAsked writer reader limit table erring left w r a v
   none_left left w r a v none ns is known ex kn within few = absurd (omega (arith, none, few, ex.some w r kn within))
-
-  pub quiet_builds : (left w r : ℕ) (v : Value) → BuildsAsked writer reader limit table erring left w r Asked.quiet v
-  quiet_builds left w r v ns is known ex kn within few =
-      let step : None ≡ erring w r = step_of known ex w r Asked.quiet is kn within in
-      absurd (subst (λ (o : Option Least). IsWithin limit o) (sym step) within)
 
   pub whole_builds : (left w r : ℕ) (v : Value) → Builds writer table left w v → BuildsAsked writer reader limit table erring left w r Asked.whole v
   whole_builds left w r v b ns is known ex kn within few =

@@ -6,7 +6,7 @@ use Rattle.std.specs.List.{list_all}
 use Rattle.avro_schema.specs.Node.{Node, FieldNode, branches_of, field_ids}
 use Rattle.avro_compare.specs.Match.{is_match, first_match}
 use Rattle.avro_compare.specs.Source.{reader_field, missing_field}
-use Rattle.avro_certificate.specs.Closed.{Pair, lacks_symbol}
+use Rattle.avro_compare.specs.Children.{Pair, lacks_symbol}
 use Rattle.avro_least.specs.Tables.{LeastTable, ErringTable, around, best_of, err_of, err_inside, err_of_field, err_of_fields, one}
 use Rattle.avro_least.specs.Asked.{Row, Asked, rows_from, asked_inside, asked_branch, asked, err_of_row, err_of_rows, asked_value, row_child, asked_children}
 use Rattle.avro_certificate.proofs.public.Tests.{and_left, and_right}

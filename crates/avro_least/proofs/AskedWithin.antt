@@ -7,7 +7,7 @@ use Rattle.avro_schema.specs.Node.{Node, FieldNode, node_at, field_ids, edges_of
 use Rattle.avro_schema.specs.WellFormed.{is_schema, is_edge, is_good_node, are_good_nodes}
 use Rattle.avro_compare.specs.Match.{is_match, first_match}
 use Rattle.avro_compare.specs.Source.{reader_field, missing_field, is_index, source_of}
-use Rattle.avro_certificate.specs.Closed.{Pair, lacks_symbol}
+use Rattle.avro_compare.specs.Children.{Pair, lacks_symbol}
 use Rattle.avro_least.specs.Asked.{Asked, rows_from, asked_inside, asked_branch, asked, row_child, asked_children}
 use Rattle.avro_certificate.proofs.public.Tests.{and_left, and_right}
 use Rattle.avro_certificate.proofs.public.Shapes.{first_match_within}

@@ -3,7 +3,7 @@ use Rattle.std.proofs.Common.{◌≡◌, ℕ, suc, ◌+◌, true, List, [], ◌�
 use Rattle.std.proofs.lemmas.Bool.{false≢true}
 use Rattle.std.proofs.lemmas.Option.{slice_get-map}
 use Rattle.std.specs.Prelude.{max, slice_get, unwrap_or, option_map, map, is_some}
-use Rattle.avro_certificate.specs.Closed.{Pair}
+use Rattle.avro_compare.specs.Children.{Pair}
 use Rattle.avro_least.specs.Tables.{Least, LeastTable, ErringTable, AtMost, capped, around, together, best_of, all_of}
 use Rattle.avro_least.specs.Asked.{Row, Asked, err_of_row, err_of_rows, asked_value}
 use Rattle.avro_least.specs.inside.Parts.{least_of_others, row_part, entry_of_part, part_at, value_alone, value_by_part}

@@ -1,18 +1,17 @@
 -- What is built of what a pair asks for is a least datum that errs.
-use Rattle.std.proofs.Common.{◌≡◌, ℕ, suc, ◌+◌, ◌^◌, ◌≤◌, ◌<◌, Bool, true, false, ◌&&◌, ◌||◌, cond, List, [], ◌∷◌, Option, Some, None, Ok, Err, length, refl, sym, ◌∙◌, ap, subst, arith}
+use Rattle.std.proofs.Common.{◌≡◌, ℕ, suc, ◌+◌, ◌<◌, Bool, true, false, ◌&&◌, ◌||◌, cond, List, [], ◌∷◌, Option, Some, None, Ok, Err, length, refl, sym, ◌∙◌, ap, subst, arith}
 use Rattle.std.proofs.lemmas.Bool.{and_from, false≢true, lt-ltb}
 use Rattle.std.specs.Prelude.{slice_get, is_some, unwrap_or, position, bytes_eq}
 use Rattle.std.specs.List.{list_any}
 use Rattle.avro_schema.specs.Value.{Value, no_values, value, no_entries, entry, size, depth}
 use Rattle.avro_schema.specs.Node.{Node, node_at, branches_of, items_node, values_node, field_ids}
 use Rattle.avro_schema.specs.Fits.{fits, entries_fit, is_some_and, is_text}
-use Rattle.avro_schema.specs.WellFormed.{is_schema}
-use Rattle.avro_schema.proofs.public.Choices.{HasFewChoices, HasFewChoices-from_is_schema}
+use Rattle.avro_schema.proofs.public.Choices.{HasFewChoices}
 use Rattle.avro_compare.specs.Fault.{fault_here, no_match}
 use Rattle.avro_compare.specs.Match.{is_match, first_match}
 use Rattle.avro_compare.specs.Source.{missing_field}
 use Rattle.avro_compare.specs.Resolve.{Resolved, inside, result_map, into_branch, bytes_as, enum_as, enum_or_default, part_at, symbol_at, resolve, resolve_items, resolve_entries}
-use Rattle.avro_certificate.specs.Closed.{lacks_symbol}
+use Rattle.avro_compare.specs.Children.{lacks_symbol}
 use Rattle.avro_least.specs.Asked.{Asked, rows_from, asked_inside, asked_branch, asked}
 use Rattle.avro_least.specs.BuiltErrors.{first_from, is_lacking, IsLone, part_value, is_same}
 use Rattle.avro_certificate.proofs.public.Tests.{not_true}
@@ -154,9 +153,6 @@ lacking_index symbols theirs None h =
           (subst (λ (o : Option (List ℕ)). IsFault (enum_or_default (position (λ t. bytes_eq t (unwrap_or o [])) theirs) None)) (sym found.here)
           (subst (λ (o : Option ℕ). IsFault (enum_or_default o None)) (sym (no_index found.one theirs (not_true _ found.passes))) tt)),
     )
-
-few_symbols : (nodes : List Node) → is_schema nodes ≡ true → (p : ℕ) (a : _) (xs : _) (symbols : List (List ℕ)) (x : Option ℕ) → node_at nodes p ≡ Node.enum a xs symbols x → length symbols ≤ 2 ^ 31
-few_symbols nodes formed p a xs symbols x here = subst (λ (n : Node). HasFewChoices n) here (HasFewChoices-from_is_schema nodes formed p)
 
 module _ (writer reader : List Node) where
   pub record Errs (n q : Node) (v : Value) (nodes levels : ℕ) : Type 0 where

@@ -11,9 +11,9 @@ use Rattle.avro_compare.specs.Match.{is_match, match_within, first_match}
 use Rattle.avro_compare.specs.Source.{reader_field, missing_field}
 use Rattle.avro_compare.specs.Resolve.{Resolved, inside, result_map, matched, into_branch, through, int_as, bytes_as, string_as, enum_as, part_at, symbol_at, fields_at, branch_node, record_or_missing, resolve, resolve_items, resolve_entries, resolve_sources}
 use Rattle.avro_least.specs.Tables.{Least, LeastTable, ErringTable, AtMost, AreLow, err_of, err_inside, err_of_fields, err_of_field, best_of, all_of, around, together, one}
-use Rattle.avro_certificate.specs.Closed.{lacks_symbol}
+use Rattle.avro_compare.specs.Children.{lacks_symbol}
 use Rattle.avro_certificate.proofs.public.Tests.{and_left, and_right}
-use Rattle.avro_certificate.proofs.public.NodeKinds.{is_plain_value, plain_node, union_of_branches}
+use Rattle.avro_compare.proofs.public.NodeKinds.{is_plain_value, plain_node, union_of_branches}
 use Rattle.avro_certificate.proofs.public.Shapes.{plain_branch, first_match_within}
 use Rattle.avro_certificate.proofs.public.Successes.{Succeeds, succeeds_enum}
 use Rattle.avro_certificate.proofs.public.Resolving.{slice_get_of_drop, drop_more}

@@ -15,7 +15,7 @@ use Rattle.avro_compare.specs.Resolve.{enum_or_default}
 use Rattle.avro_compare.specs.declared.error.FaultKind.TheVariants.{NoMatch}
 use Rattle.avro_compare.specs.declared.guided.Aim.TheVariants.{Fault, To}
 use Rattle.avro_compare.specs.declared.comparison.Comparison.{Comparison}
-use Rattle.avro_certificate.proofs.public.Symbols.{lacks_here}
+use Rattle.avro_compare.proofs.public.Symbols.{lacks_here}
 use Rattle.avro_least.specs.Asked.{Asked, asked, asked_inside}
 use Rattle.avro_least.specs.BuiltErrors.{IsLone, first_from, is_lacking}
 use Rattle.avro_least.proofs.BuiltErrors.{asks_inside, lone_union}

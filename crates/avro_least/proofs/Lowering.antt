@@ -1,7 +1,7 @@
 -- A search after an entry was lowered.
 use Rattle.std.proofs.Common.{◌≡◌, ◌⊎◌, ◌<◌, ◌≤◌, ℕ, zero, suc, ◌+◌, Bool, true, false, List, [], ◌∷◌, Option, inl, inr, length, take, get_or, refl, sym, ◌∙◌, ap, subst, arith}
 use Rattle.std.proofs.lemmas.Bool.{eq-eqb, eqb-true}
-use Rattle.std.proofs.lemmas.List.Folds.{list_any_at, list_any_more}
+use Rattle.std.proofs.lemmas.List.Folds.{list_any_more}
 use Rattle.std.proofs.lemmas.Option.{slice_get-get_or}
 use Rattle.std.specs.Prelude.{slice_get, is_some, ◌==◌}
 use Rattle.std.specs.List.{list_any}
@@ -14,7 +14,7 @@ use Rattle.avro_least.specs.declared.kept.Least.{Least as KeptLeast}
 use Rattle.avro_least.specs.Reached.{is_key}
 use Rattle.avro_least.specs.inside.Falling.{lowered, effort, IsSearch}
 use Rattle.avro_least.specs.inside.Settled.{IsNoMore, IsSettled, IsOver, AreSettled, AreSettledBut, HaveFallen, waits_in, waits_or, table_in}
-use Rattle.avro_least.specs.declared.search.Search.{Search}
+use Rattle.avro_least.specs.declared.queue.Search.{Search}
 use Rattle.avro_certificate.proofs.public.Tests.{or_cases, or_from_left, or_from_right}
 use Rattle.avro_least.proofs.LoweredNodes.{lowered_found, lowered_less, lowered_falls, lowered_shown}
 use Rattle.avro_least.proofs.Searching.{length_lowered}
@@ -101,6 +101,3 @@ taken_is xs n k within m = elim (or_cases (is_key (take n xs) k) (k == get_or xs
   | inl before ↦ inl before
   | inr last ↦ inr (eqb-true k (get_or xs n 0) last)
 ]
-
-pub own_place : (xs : List ℕ) (n : ℕ) → n < length xs → is_key xs (get_or xs n 0) ≡ true
-own_place xs n within = list_any_at (λ x. get_or xs n 0 == x) xs n 0 within (eq-eqb (get_or xs n 0) (get_or xs n 0) refl)

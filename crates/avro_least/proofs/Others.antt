@@ -11,13 +11,13 @@ use Rattle.avro_schema.specs.Node.{Node, node_at, field_ids}
 use Rattle.avro_schema.specs.Seen.{ids_of, field_of, seen_fields}
 use Rattle.avro_schema.specs.declared.schema.NodeId.{NodeId}
 use Rattle.avro_schema.specs.declared.schema.Field.{Field}
-use Rattle.avro_certificate.specs.Closed.{Pair}
+use Rattle.avro_compare.specs.Children.{Pair}
 use Rattle.avro_least.specs.Tables.{Least, LeastTable, ErringTable, together, all_of, no_parts}
 use Rattle.avro_least.specs.Asked.{Row, Asked, asked}
 use Rattle.avro_least.specs.SeenAsk.{row_of, rows_of}
 use Rattle.avro_least.specs.declared.kept.Least.{Least as KeptLeast}
-use Rattle.avro_least.specs.declared.asking.FieldAsk.{FieldAsk}
-use Rattle.avro_least.specs.declared.leads.Lead.{Lead}
+use Rattle.avro_least.specs.declared.pairs.asking.FieldAsk.{FieldAsk}
+use Rattle.avro_least.specs.declared.pairs.leads.Lead.{Lead}
 use Rattle.avro_least.specs.inside.Parts.{least_of_others, nodes_of, row_part, parts_of, part_at, seen_pair, row_items, AreOthersOf, AreOthers}
 use Rattle.avro_least.specs.inside.Leading.{is_lead, leads_at}
 use Rattle.avro_certificate.proofs.public.Tests.{or_from_left, or_from_right}

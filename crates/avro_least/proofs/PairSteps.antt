@@ -11,14 +11,14 @@ use Rattle.std.specs.Prelude.{slice_get, unwrap_or, option_map, position, nat_lt
 use Rattle.std.specs.List.{list_all, list_any, position_from}
 use Rattle.avro_schema.specs.Node.{Node, node_at}
 use Rattle.avro_schema.specs.WellFormed.{is_schema}
-use Rattle.avro_certificate.specs.Closed.{Pair, children_of}
+use Rattle.avro_compare.specs.Children.{Pair, children_of}
 use Rattle.avro_least.specs.Tables.{Least, LeastTable, ErringTable, AreDataShown, AreErrorsShown, ShowsError, no_parts, pair_number, reached_entry, erring_of, err_of}
 use Rattle.avro_least.specs.SeenLeast.{seen, seen_all, given_entry}
 use Rattle.avro_least.specs.declared.kept.Least.{Least as KeptLeast}
 use Rattle.avro_least.specs.Reached.{is_key}
 use Rattle.avro_least.specs.Asked.{Asked, asked_at, asked_value, children_at, live_numbers, steps_at, is_known, AreAsked, ArePairsShown}
 use Rattle.avro_least.specs.SeenAsk.{ask_of, asks_of}
-use Rattle.avro_least.specs.declared.asking.Ask.{Ask}
+use Rattle.avro_least.specs.declared.pairs.asking.Ask.{Ask}
 use Rattle.avro_certificate.proofs.public.Tests.{all_at, and_left, and_right, or_from_left, or_from_right}
 use Rattle.avro_least.proofs.Rounds.{set_here, set_other}
 use Rattle.avro_least.proofs.AskedValue.{value_is, value_same}

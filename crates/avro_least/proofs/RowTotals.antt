@@ -7,7 +7,7 @@ use Rattle.avro_least.specs.Tables.{Least, LeastTable, ErringTable, capped, toge
 use Rattle.avro_least.specs.Asked.{Row, err_of_row}
 use Rattle.avro_least.specs.BuiltErrors.{part_of_row, total_from}
 use Rattle.avro_least.specs.SeenAsk.{row_of, rows_of}
-use Rattle.avro_least.specs.declared.asking.FieldAsk.{FieldAsk}
+use Rattle.avro_least.specs.declared.pairs.asking.FieldAsk.{FieldAsk}
 
 module _ (limit : ℕ) where
   is_few : (e : Least) → e.nodes ≤ limit → capped limit e ≡ e

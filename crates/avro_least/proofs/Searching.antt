@@ -1,6 +1,6 @@
 -- Entries that fall, and marks that are set and cleared.
-use Rattle.std.proofs.Common.{◌≡◌, ◌<◌, ℕ, zero, suc, ◌⊎◌, ◌||◌, Bool, true, false, cond, List, ◌∷◌, Option, None, inl, inr, length, get_or, refl, sym, ◌∙◌, ap, subst, arith}
-use Rattle.std.proofs.Math.ListN.{set, replicate}
+use Rattle.std.proofs.Common.{◌≡◌, ◌<◌, ℕ, ◌⊎◌, ◌||◌, Bool, true, false, cond, List, ◌∷◌, Option, None, inl, inr, length, get_or, refl, sym, ◌∙◌, ap, subst, arith}
+use Rattle.std.proofs.Math.ListN.{set}
 use Rattle.std.proofs.lemmas.Bool.{false≢true, true≢false, eqb-true, cases_eq, cases_lt}
 use Rattle.std.proofs.lemmas.List.{length-set}
 use Rattle.std.proofs.lemmas.List.Sorted.{list_any-IsPermutation}
@@ -26,18 +26,6 @@ pub marked_within : (waiting : List Bool) (i : ℕ) → is_waiting waiting i ≡
 marked_within waiting i m = elim (cases_lt i (length waiting)) [
   | inl within ↦ within
   | inr past ↦ absurd (false≢true (sym (ap (λ (o : Option Bool). unwrap_or o false) (slice_get_past waiting i past)) ∙ m))
-]
-
-pub none_marked : (n i : ℕ) → is_waiting (replicate n false) i ≡ false
-none_marked zero i = refl
-none_marked (suc n) zero = refl
-none_marked (suc n) (suc i) = none_marked n i
-
--- a mark that is set stays
-pub mark_kept : (waiting : List Bool) (i k : ℕ) → is_waiting waiting k ≡ true → is_waiting (set waiting i true) k ≡ true
-mark_kept waiting i k m = elim (cases_eq k i) [
-  | inl same ↦ subst (λ (n : ℕ). is_waiting (set waiting n true) k ≡ true) same (mark_here waiting k true (marked_within waiting k m))
-  | inr apart ↦ mark_other waiting i k true apart ∙ m
 ]
 
 -- another is marked, or was marked before

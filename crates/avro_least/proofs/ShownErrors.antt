@@ -7,7 +7,7 @@ use Rattle.std.proofs.lemmas.List.Folds.{list_all-map}
 use Rattle.std.specs.Str.{is_utf8, chars}
 use Rattle.std.proofs.lemmas.List.Quantifiers.{position-Some}
 use Rattle.std.proofs.lemmas.Option.{unwrap_or-slice_get}
-use Rattle.avro_certificate.proofs.public.Successes.{bytes_eq-sym}
+use Rattle.avro_compare.proofs.public.Symbols.{bytes_eq-sym}
 use Rattle.avro_schema.specs.Value.{Value, Values, no_values, value, no_entries, entry, size, depth, values_size, values_depth, values_count}
 use Rattle.avro_schema.specs.Node.{Node, FieldNode, node_at, branches_of, items_node, values_node, field_ids}
 use Rattle.avro_schema.specs.Fits.{fits, entries_fit, fields_fit, is_some_and, is_count, are_bytes, is_text}
@@ -16,10 +16,10 @@ use Rattle.avro_compare.specs.Fault.{ResolutionFault, fault_here, no_match}
 use Rattle.avro_compare.specs.Match.{is_match, first_match}
 use Rattle.avro_compare.specs.Source.{reader_field, missing_field}
 use Rattle.avro_compare.specs.Resolve.{Resolved, Sourced, inside, result_map, both, matched, into_branch, through, bytes_as, enum_as, enum_or_default, part_at, symbol_at, fields_at, branch_node, record_or_missing, with_sourced, resolve, resolve_items, resolve_entries, resolve_sources}
-use Rattle.avro_certificate.specs.Closed.{Pair, children_of, field_children, lacks_symbol}
+use Rattle.avro_compare.specs.Children.{Pair, children_of, field_children, lacks_symbol}
 use Rattle.avro_least.specs.Tables.{Least, LeastTable, ErringTable, Exactly, ShowsData, AreDataShown, ShowsError, AreErrorsShown, around, together, best_of, all_of, err_of, err_inside, err_of_field, err_of_fields, one}
 use Rattle.avro_certificate.proofs.public.Tests.{and_left, and_right, all_at, none_at, not_true, or_cases}
-use Rattle.avro_certificate.proofs.public.NodeKinds.{is_plain_value, children_of_union}
+use Rattle.avro_compare.proofs.public.NodeKinds.{is_plain_value, children_of_union}
 use Rattle.avro_certificate.proofs.public.Shapes.{plain_branch, first_match_within}
 use Rattle.avro_certificate.proofs.public.SoundPairs.{source_child}
 use Rattle.avro_certificate.proofs.public.Resolving.{slice_get_of_drop, drop_more}

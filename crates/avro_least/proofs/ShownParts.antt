@@ -8,7 +8,7 @@ use Rattle.std.specs.List.{list_all}
 use Rattle.avro_schema.specs.Node.{Node, FieldNode, node_at, field_ids}
 use Rattle.avro_schema.specs.WellFormed.{is_schema}
 use Rattle.avro_compare.specs.Source.{reader_field}
-use Rattle.avro_certificate.specs.Closed.{Pair}
+use Rattle.avro_compare.specs.Children.{Pair}
 use Rattle.avro_least.specs.Tables.{Least, LeastTable, ErringTable, AreDataShown, AreErrorsShown, ShowsError, around, together, all_of, erring_of}
 use Rattle.avro_least.specs.Reached.{is_key}
 use Rattle.avro_least.specs.Asked.{Row, Asked, rows_from, asked_value, row_child, asked_children, asked_at, children_at, steps_at, is_known, ArePairsShown}

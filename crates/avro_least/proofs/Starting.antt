@@ -9,12 +9,12 @@ use Rattle.indexmap.specs.IndexSet.{keys}
 use Rattle.avro_schema.specs.Node.{Node, node_at}
 use Rattle.avro_schema.specs.SeenSchema.{schema_nodes}
 use Rattle.avro_schema.specs.WellFormed.{is_schema}
-use Rattle.avro_certificate.specs.Closed.{Pair}
+use Rattle.avro_compare.specs.Children.{Pair}
 use Rattle.avro_least.specs.Tables.{Least, LeastTable, ErringTable, AtMost, ShowsError, erring_of, no_parts}
 use Rattle.avro_least.specs.SeenLeast.{seen, seen_all, table_of, given_entry, improves}
 use Rattle.avro_least.specs.declared.kept.Least.{Least as KeptLeast}
-use Rattle.avro_least.specs.declared.graph.Graph.{Graph}
-use Rattle.avro_least.specs.declared.search.Search.{Search}
+use Rattle.avro_least.specs.declared.pairs.graph.Graph.{Graph}
+use Rattle.avro_least.specs.declared.queue.Search.{Search}
 use Rattle.avro_least.specs.Reached.{is_key}
 use Rattle.avro_least.specs.Asked.{Row, Asked, asked_at, asked_children, row_child, children_at, steps_at, is_known, ArePairsShown}
 use Rattle.avro_least.specs.inside.Parts.{part_at, row_part, entry_of_part, around_part, value_by_part}

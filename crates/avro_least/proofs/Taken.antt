@@ -10,11 +10,11 @@ use Rattle.std.specs.Prelude.{slice_get, unwrap_or, ◌==◌, is_none, nat_eq, p
 use Rattle.std.specs.Global.{Vec}
 use Rattle.std.specs.List.{IsDistinct}
 use Rattle.avro_schema.specs.Node.{Node, node_at}
-use Rattle.avro_certificate.specs.Closed.{Pair}
+use Rattle.avro_compare.specs.Children.{Pair}
 use Rattle.avro_least.specs.Tables.{Least, LeastTable, AtMost, no_parts, pair_number, erring_of}
 use Rattle.avro_least.specs.SeenLeast.{seen, seen_all, given_entry, improves}
 use Rattle.avro_least.specs.declared.kept.Least.{Least as KeptLeast}
-use Rattle.avro_least.specs.declared.leads.Lead.{Lead}
+use Rattle.avro_least.specs.declared.pairs.leads.Lead.{Lead}
 use Rattle.avro_least.specs.Asked.{asked_at, IsLowAtIndex}
 use Rattle.avro_least.specs.inside.Parts.{part_at, entry_of_part, around_part, value_by_part}
 use Rattle.avro_least.specs.inside.Falling.{is_waiting, lowered}

@@ -3,7 +3,7 @@ use Rattle.std.specs.Prelude.{◌≡◌, true, ℕ, suc, cond, List, [], ◌∷�
 use Rattle.avro_schema.specs.Node.{Node, FieldNode, node_at, field_ids}
 use Rattle.avro_compare.specs.Match.{is_match, first_match}
 use Rattle.avro_compare.specs.Source.{reader_field, missing_field}
-use Rattle.avro_certificate.specs.Closed.{Pair, lacks_symbol}
+use Rattle.avro_compare.specs.Children.{Pair, lacks_symbol}
 use Rattle.avro_least.specs.Tables.{Least, LeastTable, ErringTable, one, around, together, lesser, best_of, all_of, pair_number, AreErrorsShown, erring_of, IsLowPair, no_parts}
 use Rattle.avro_least.specs.Reached.{is_key}
 

@@ -7,7 +7,7 @@ use Rattle.avro_schema.specs.Fits.{fits}
 use Rattle.avro_schema.specs.WellFormed.{is_schema}
 use Rattle.avro_compare.specs.Fault.{ResolutionFault}
 use Rattle.avro_compare.specs.Resolve.{resolve}
-use Rattle.avro_certificate.specs.Closed.{Pair}
+use Rattle.avro_compare.specs.Children.{Pair}
 use Rattle.avro_least.specs.Asked.{Row, Asked, asked, asked_value, asked_children, err_of_row}
 use Rattle.avro_least.specs.inside.Built.{Builds}
 use Rattle.avro_least.specs.Tables.{Least, LeastTable, ErringTable, IsLowForData, AreDataShown, IsWithin, count_of, together, no_parts}

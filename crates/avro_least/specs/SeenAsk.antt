@@ -3,8 +3,8 @@ use Rattle.std.specs.Prelude.{ℕ, suc, List, [], ◌∷◌, Option, Some, None,
 use Rattle.avro_schema.specs.Seen.{ids_of}
 use Rattle.avro_compare.specs.declared.guided.At.{At}
 use Rattle.avro_least.specs.Asked.{Row, Asked}
-use Rattle.avro_least.specs.declared.asking.FieldAsk.{FieldAsk}
-use Rattle.avro_least.specs.declared.asking.Ask.{Ask}
+use Rattle.avro_least.specs.declared.pairs.asking.FieldAsk.{FieldAsk}
+use Rattle.avro_least.specs.declared.pairs.asking.Ask.{Ask}
 
 abbrev pub row_of : FieldAsk → Row
 row_of row = record { node = row.node.0; theirs = option_map (λ id. id.0) row.theirs }

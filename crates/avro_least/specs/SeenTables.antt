@@ -2,7 +2,7 @@
 use Rattle.indexmap.specs.IndexSet.{keys}
 use Rattle.avro_least.specs.Tables.{ErringTable, LeastTable, erring_of}
 use Rattle.avro_least.specs.SeenLeast.{seen_all, table_of}
-use Rattle.avro_least.specs.declared.pair_tables.Tables.{Tables}
+use Rattle.avro_least.specs.declared.datum.tables.Tables.{Tables}
 
 -- the least data of the writer's nodes
 abbrev pub least_in : Tables → LeastTable

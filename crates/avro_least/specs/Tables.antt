@@ -7,7 +7,7 @@ use Rattle.avro_compare.specs.Match.{is_match, first_match}
 use Rattle.avro_compare.specs.Source.{reader_field, missing_field}
 use Rattle.avro_compare.specs.Fault.{ResolutionFault}
 use Rattle.avro_compare.specs.Resolve.{resolve}
-use Rattle.avro_certificate.specs.Closed.{Pair, lacks_symbol}
+use Rattle.avro_compare.specs.Children.{Pair, lacks_symbol}
 
 -- the number of nodes of a datum, and its depth
 pub record Least : Type 0 where

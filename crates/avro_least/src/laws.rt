@@ -8,7 +8,7 @@ ghost use Rattle.avro_schema.specs.Fits.{fits};
 ghost use Rattle.avro_schema.specs.WellFormed.{is_schema, meets_its_rules};
 ghost use Rattle.avro_compare.specs.Fault.{ResolutionFault};
 ghost use Rattle.avro_compare.specs.Resolve.{resolve};
-ghost use Rattle.avro_certificate.specs.Closed.{Pair, children_of};
+ghost use Rattle.avro_compare.specs.Children.{Pair, children_of};
 ghost use Rattle.avro_certificate.specs.Compatible.{AreCompatible, ErrsOnlyAbove, ErrsLeastDeep};
 ghost use Rattle.avro_least.specs.Tables.{LeastTable, ErringTable, AtMost, IsLowForData, AreLow, AreDataShown, ShowsData, least_datum, AreErrorsShown, ShowsError, err_of, Least};
 

@@ -5,32 +5,19 @@
 //! table. [`build_error`] builds a datum from them.
 #![tactic(auto)]
 
-mod asking;
-mod build;
-mod build_errors;
-mod erring;
-mod found_pairs;
-mod graph;
+mod datum;
 mod kept;
 pub mod laws;
-mod leads;
-mod least;
-mod least_search;
-mod made;
-mod pair_tables;
-mod parts;
-mod reaching;
-mod search;
-mod selecting;
-mod taking;
-mod uses;
+mod nodes;
+mod pairs;
+mod queue;
 
-pub use asking::{Ask, FieldAsk};
-pub use build_errors::build_error;
-pub use erring::pair_entry;
+pub use datum::failing::build_error;
+pub use datum::tables::Tables;
 pub use kept::Least;
-pub use least::{count, entry};
-pub use least_search::least_data;
-pub use pair_tables::Tables;
-pub use reaching::{Reached, reach, readers, writers};
-pub use taking::least_errors;
+pub use nodes::least::{count, entry};
+pub use nodes::search::least_data;
+pub use pairs::asking::{Ask, FieldAsk};
+pub use pairs::erring::pair_entry;
+pub use pairs::reaching::{Reached, reach, readers, writers};
+pub use pairs::search::least_errors;

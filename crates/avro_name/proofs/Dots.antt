@@ -9,6 +9,7 @@ use Rattle.std.proofs.lemmas.Bool.{cond-true, cond-false, or_parts, or_from, and
 use Rattle.std.proofs.lemmas.List.{drop_more}
 use Rattle.std.proofs.lemmas.List.Folds.{list_all-append, list_any_at}
 use Rattle.std.proofs.lemmas.List.Sums.{suffix_len_is}
+use Rattle.avro_name.proofs.public.Names.{parts_at}
 use Rattle.avro_name.specs.Name.{Name, is_simple_name, onto_first, dotted_parts, is_dotted_name, is_namespace, is_primitive_word, is_full_name, has_dot, split_name, name_of}
 
 -- a text without a dot is one part
@@ -17,34 +18,6 @@ parts_alone [] h = refl
 parts_alone (c ∷ cs) h =
     let both = or_parts (c == 46) (has_dot cs) h in
     cond-false (c == 46) ([] ∷ dotted_parts cs) (onto_first c (dotted_parts cs)) both.0 ∙ ap (onto_first c) (parts_alone cs both.1)
-
--- there is a first part
-onto_some : (c : ℕ) (parts : List (List ℕ)) → 0 < length (onto_first c parts)
-onto_some c [] = omega arith
-onto_some c (part ∷ parts) = omega arith
-
-parts_some : (text : List ℕ) → 0 < length (dotted_parts text)
-parts_some [] = omega arith
-parts_some (c ∷ cs) =
-    elim (c == 46) as (λ dot. 0 < length (cond dot ([] ∷ dotted_parts cs) (onto_first c (dotted_parts cs)))) [
-      | true ↦ omega arith
-      | false ↦ onto_some c (dotted_parts cs)
-    ]
-
--- a character before the first part, where more parts come after
-onto_append : (c : ℕ) (parts more : List (List ℕ)) → 0 < length parts → onto_first c (parts ++ more) ≡ onto_first c parts ++ more
-onto_append c [] more some = absurd (omega arith)
-onto_append c (part ∷ parts) more some = refl
-
--- the parts before and after a dot
-parts_at : (xs ys : List ℕ) → dotted_parts (xs ++ 46 ∷ ys) ≡ dotted_parts xs ++ dotted_parts ys
-parts_at [] ys = refl
-parts_at (c ∷ cs) ys =
-    elim (c == 46) as (λ dot. cond dot ([] ∷ dotted_parts (cs ++ 46 ∷ ys)) (onto_first c (dotted_parts (cs ++ 46 ∷ ys)))
-    ≡ cond dot ([] ∷ dotted_parts cs) (onto_first c (dotted_parts cs)) ++ dotted_parts ys) [
-      | true ↦ ap (λ parts. [] ∷ parts) (parts_at cs ys)
-      | false ↦ ap (onto_first c) (parts_at cs ys) ∙ onto_append c (dotted_parts cs) (dotted_parts ys) (parts_some cs)
-    ]
 
 -- a text that is nowhere a dot
 pub no_dot : (text : List ℕ) → ((i : ℕ) → i < length text → get_or text i 0 ≢ 46) → has_dot text ≡ false

@@ -2,3 +2,4 @@ mod Dots
 mod Rows
 mod Scanning
 mod Spellings
+pub mod public

@@ -1,7 +1,7 @@
 -- What is gathered of items and entries, and what is moved.
-use Rattle.std.proofs.Common.{◌≡◌, ℕ, zero, suc, ◌+◌, List, [], ◌∷◌, ◌++◌, length, Option, refl, sym, ap, subst, ◌∙◌, append_assoc, arith, if◌then◌else◌}
+use Rattle.std.proofs.Common.{◌≡◌, ℕ, zero, suc, ◌+◌, List, [], ◌∷◌, ◌++◌, length, replicate, Option, refl, sym, ap, subst, ◌∙◌, append_assoc, arith, if◌then◌else◌}
 use Rattle.std.specs.Prelude.{Result, Ok, Err, OnOk, is_ok, pos}
-use Rattle.std.proofs.lemmas.List.{length-append}
+use Rattle.std.proofs.lemmas.List.{length-append, length-replicate}
 use Rattle.avro_schema.specs.Value.{Value}
 use Rattle.avro_schema.specs.Seen.{values_from, entries_from}
 use Rattle.avro_binary.specs.Encoding.{plain, plain_bytes, plain_blocks, plain_values, plain_entries}
@@ -19,6 +19,20 @@ pub item_gathered : {T E : Type 0} (r : Result T E) (out : List ℕ) (at branch 
 item_gathered (Err e) out at branch count new old vs v are same one holds = tt
 item_gathered (Ok u) out at branch count new old vs v are same one holds =
     (same ∙ are.0, omega (arith, one, are.1, length-append vs (v ∷ [])), subst (λ (l : List ℕ). Holds out new l) (sym (values_with_one vs v)) holds)
+
+-- more items that have no bytes
+plain-none : (n : ℕ) (vs : List Value) (v : Value) → plain v ≡ [] → plain_values (values_from (vs ++ replicate n v)) ≡ plain_values (values_from vs)
+plain-none zero [] v none = refl
+plain-none (suc n) [] v none = ap (λ (b : List ℕ). b ++ plain_values (values_from (replicate n v))) none ∙ plain-none n [] v none
+plain-none n (u ∷ vs) v none = ap (λ (b : List ℕ). plain u ++ b) (plain-none n vs v none)
+
+pub items_repeated : (out : List ℕ) (at : Option ℕ) (new old : Gathered) (n : ℕ) (vs : List Value) (v : Value) → AreItems out at old vs → plain v ≡ []
+    → new.branch ≡ old.branch → new.count ≡ old.count + n → new.written ≡ old.written → AreItems out at new (vs ++ replicate n v)
+items_repeated out at new old n vs v are none same more written = (
+  same ∙ are.0,
+  omega (arith, more, are.1, length-append vs (replicate n v), length-replicate n v),
+  subst (λ (w : Written). Holds out w (plain_values (values_from (vs ++ replicate n v)))) (sym written) (subst (λ (b : List ℕ). Holds out old.written b) (sym (plain-none n vs v none)) are.2),
+)
 
 pub entry_gathered : {T E : Type 0} (r : Result T E) (out : List ℕ) (at branch : Option ℕ) (count : ℕ) (key : List ℕ) (new : Written) (old : Gathered) (es : List (List ℕ × Value)) (v : Value)
     → AreEntries out at old es → branch ≡ old.branch → count ≡ old.count + 1 → OnOk r (Holds out new ((plain_entries (entries_from es) ++ plain_bytes key) ++ plain v))

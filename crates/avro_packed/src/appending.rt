@@ -7,7 +7,7 @@ ghost use Rattle.avro_packed.specs.Appended.{Grows, Holds, branch_bytes};
 
 use crate::flatten::{append_byte, append_number};
 use crate::gathered::Gathered;
-use crate::moving::{append_written, give_back, in_room, join, join_key};
+use crate::moving::{append_written, give_back, in_room, is_nothing, join, join_key};
 use crate::written::{Apart, Written};
 use avro_binary::Make;
 use std::alloc::{AllocError, Global};
@@ -333,6 +333,13 @@ impl Make for Appending {
             &mut items.written,
             value,
         )
+    }
+
+    fn repeat(&self, items: &mut Gathered, value: &Written, count: u32) -> bool {
+        if is_nothing(value) {
+            return items.count_more(count);
+        }
+        false
     }
 
     #[inline(always)]

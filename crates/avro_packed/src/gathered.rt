@@ -10,7 +10,7 @@ pub struct Gathered {
 }
 
 impl Gathered {
-    ghost use Rattle.std.specs.Prelude.{◌≡◌, ◌+◌, OnOk};
+    ghost use Rattle.std.specs.Prelude.{◌≡◌, ◌+◌, OnOk, true, false};
 
     /// The same, that go into a branch.
     #[inline(always)]
@@ -39,6 +39,22 @@ impl Gathered {
                 Ok(())
             }
             None => Err(AllocError),
+        }
+    }
+
+    /// Counts so many more, or none where no block can have them.
+    pub(crate) fn count_more(&mut self, more: u32) -> bool
+        ensures count { result ≡ true → self.new.count ≡ self.old.count + more }
+        ensures branch { self.new.branch ≡ self.old.branch }
+        ensures written { self.new.written ≡ self.old.written }
+        ensures none { result ≡ false → self.new ≡ self.old }
+    {
+        match self.count.checked_add(u64::from(more)) {
+            Some(count) => {
+                self.count = count;
+                true
+            }
+            None => false,
         }
     }
 }

@@ -23,6 +23,7 @@ fn append_range(out: &[u8], start: usize, end: usize, to: &mut Vec<u8>) -> Resul
 }
 
 /// Appends to other bytes what was written.
+#[inline(always)]
 pub(crate) fn append_written(
     out: &[u8],
     written: &Written,
@@ -83,7 +84,7 @@ pub(crate) fn in_room(
 
 /// Whether these are no bytes, where none is apart.
 #[inline(always)]
-fn is_nothing(written: &Written) -> bool
+pub(crate) fn is_nothing(written: &Written) -> bool
     ensures { (out bytes : List ℕ) → result ≡ true → Holds out written.now bytes → bytes ≡ [] }
 {
     match written {

@@ -10,6 +10,42 @@ use avro_resolve::Put;
 use avro_schema::Datum;
 use std::alloc::{AllocError, Global};
 
+impl Appending {
+    ghost use Rattle.std.specs.Prelude.{IfOk, OnOk};
+    ghost use Rattle.avro_schema.specs.Seen.{value_of};
+    ghost use Rattle.avro_binary.specs.Encoding.{plain};
+    ghost use Rattle.avro_zigzag.specs.Number.{number_bytes};
+    ghost use Rattle.avro_packed.specs.Appended.{Grows, Holds};
+
+    /// Writes an int at hand.
+    #[inline(always)]
+    fn int_at(&mut self, value: &i32) -> Result<Written, AllocError>
+        ensures kept { OnOk result (Grows self.old self.new) }
+        ensures holds { IfOk result (λ out. Holds self.new out (number_bytes value.now)) }
+    {
+        self.number(None, i64::from(*value))
+    }
+
+    /// Writes a long at hand.
+    #[inline(always)]
+    fn long_at(&mut self, value: &i64) -> Result<Written, AllocError>
+        ensures kept { OnOk result (Grows self.old self.new) }
+        ensures holds { IfOk result (λ out. Holds self.new out (number_bytes value.now)) }
+    {
+        self.number(None, *value)
+    }
+
+    /// Writes a datum at hand.
+    fn whole(&mut self, datum: &Datum) -> Result<Written, AllocError>
+        ensures kept { OnOk result (Grows self.old self.new) }
+        ensures holds { IfOk result (λ out. Holds self.new out (plain (value_of datum.now))) }
+    {
+        let start = self.out.len();
+        append_plain(datum, &mut self.out)?;
+        Ok(self.since(start))
+    }
+}
+
 impl Put for Appending {
     ghost use Rattle.std.specs.Prelude.{◌≡◌, ◌++◌, [], List, ℕ, None, Option};
     ghost use Rattle.avro_schema.specs.Seen.{values_from, entries_from};
@@ -118,10 +154,14 @@ impl Put for Appending {
         self.number(into, i64::from(index))
     }
 
-    fn default(&mut self, _alloc: Global, datum: &Datum) -> Result<Written, AllocError> {
-        let start = self.begin(None)?;
-        append_plain(datum, &mut self.out)?;
-        Ok(self.since(start))
+    #[inline(always)]
+    fn default(&mut self, alloc: Global, datum: &Datum) -> Result<Written, AllocError> {
+        match datum {
+            Datum::Int(value) => self.int_at(value),
+            Datum::Long(value) => self.long_at(value),
+            Datum::Str(text) => Make::string(self, alloc, None, text),
+            _ => self.whole(datum),
+        }
     }
 
     #[inline(always)]
@@ -137,6 +177,10 @@ impl Put for Appending {
         value: Written,
     ) -> Result<(), AllocError> {
         Make::item(self, alloc, items, value)
+    }
+
+    fn repeat(&self, items: &mut Gathered, value: &Written, count: u32) -> bool {
+        Make::repeat(self, items, value, count)
     }
 
     #[inline(always)]

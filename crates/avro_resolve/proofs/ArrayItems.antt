@@ -1,8 +1,8 @@
 -- Items of an array that are resolved as they are read.
-use Rattle.std.proofs.Common.{◌≡◌, ℕ, suc, ◌+◌, ◌-◌, ◌≤◌, ◌^◌, List, [], ◌∷◌, ◌++◌, length, Option, Result, Ok, Err, refl, sym, ap, ◌∙◌, subst, arith}
+use Rattle.std.proofs.Common.{◌≡◌, ℕ, zero, suc, ◌+◌, ◌-◌, ◌≤◌, ◌<◌, ◌^◌, List, [], ◌∷◌, ◌++◌, length, replicate, length-append, Option, Result, Ok, Err, refl, sym, ap, ◌∙◌, subst, arith}
 use Rattle.std.specs.Prelude.{min}
 use Rattle.std.specs.Global.{Box}
-use Rattle.std.proofs.lemmas.List.{append-nil, append_assoc}
+use Rattle.std.proofs.lemmas.List.{append-nil, append_assoc, length-replicate}
 use Rattle.avro_schema.specs.Value.{Value, Values, value, size, values_size}
 use Rattle.avro_schema.specs.Node.{Node, node_at, items_node}
 use Rattle.avro_schema.specs.Seen.{values_from}
@@ -10,15 +10,15 @@ use Rattle.avro_schema.specs.declared.schema.NodeId.{NodeId}
 use Rattle.avro_schema.proofs.public.Parts.{size-positive}
 use Rattle.avro_resolve.specs.Ends.{turned, values_before}
 use Rattle.avro_compare.specs.Fault.{ResolutionFault, fault_in}
-use Rattle.avro_resolve.specs.inside.Guided.{MadeAs, StandsAs, IsSmall, ItemsGood, ItemsStandAs}
+use Rattle.avro_resolve.specs.inside.Guided.{MadeAs, StandsAs, IsSmall, SoFar, ItemsGood, ItemsStandAs}
 use Rattle.avro_resolve.specs.IntoBranch.{in_branch}
 use Rattle.avro_compare.specs.Pairs.{wrapped, item_id}
 use Rattle.avro_compare.specs.Resolve.{Resolved, resolve, resolve_items, both, inside, result_map, part_at}
 use Rattle.avro_compare.specs.declared.error.Fault.{Fault}
 use Rattle.avro_compare.specs.declared.guided.At.{At}
 use Rattle.avro_compare.specs.declared.guided.At.TheVariants.{Ignored, Pair}
-use Rattle.avro_resolve.specs.declared.guided.Made.{Made}
-use Rattle.avro_resolve.specs.declared.guided.Run.{Run}
+use Rattle.avro_resolve.specs.declared.resolving.guided.Made.{Made}
+use Rattle.avro_resolve.specs.declared.resolving.guided.Run.{Run}
 use Rattle.avro_compare.proofs.public.Lists.{one_longer}
 use Rattle.avro_resolve.proofs.Guiding.{as_fault, good_made, made_in, smaller, wrapped_fault, so_far_more, so_far_fails, so_far_whole}
 use Rattle.avro_resolve.proofs.InOrder.{values_before-none, values_before-more}
@@ -40,6 +40,9 @@ size_count (v ∷ vs) = omega (arith, size-positive v, size_count vs)
 -- one more is counted
 counted_up : (vs : List Value) (v : Value) (count next : ℕ) → count ≡ length vs → next ≡ min (count + 1) (2 ^ 64 - 1) → IsSmall (values_size (values_from (vs ++ v ∷ []))) → next ≡ length (vs ++ v ∷ [])
 counted_up vs v count next counted up small = omega (arith, counted, up, small, one_longer vs v, size_count (vs ++ v ∷ []))
+
+counted_more : (vs more : List Value) (count next n : ℕ) → length more ≡ n → count ≡ length vs → next ≡ min (count + n) (2 ^ 64 - 1) → IsSmall (values_size (values_from (vs ++ more))) → next ≡ length (vs ++ more)
+counted_more vs more count next n long counted up small = omega (arith, long, counted, up, small, length-append vs more, size_count (vs ++ more))
 
 -- ---- Steps
 
@@ -85,6 +88,19 @@ module _ {I : Type 0} (S : I → List Value → Type 0) (writer reader : List No
       (so_far_fails items_run values_before vs v good.made (fault_in (length vs) f) good.so_far (λ rest. item_bad writer reader (node_at writer a.0) (node_at reader b.0) (length vs) v rest f e) more)
       ∙ wrapped_fault branch (fault_in (length vs) f) ∙ ap (λ (k : ℕ). as_fault (fault_in k f)) (sym good.counted)
 
+-- so many that are the same
+module _ (writer reader : List Node) (w r : Node) (v u : Value) (is : resolve writer reader w r v ≡ Ok u) where
+  abbrev same_run : ℕ → List Value → Result Values ResolutionFault
+  same_run k us = resolve_items writer reader w r k (values_from us)
+
+  pub so_far_again : (n : ℕ) (vs made : List Value) → SoFar same_run values_before vs made → SoFar same_run values_before (vs ++ replicate n v) (made ++ replicate n u)
+  so_far_again zero vs made h =
+      subst (λ (xs : List Value). SoFar same_run values_before xs (made ++ [])) (sym (append-nil vs)) (subst (λ (us : List Value). SoFar same_run values_before vs us) (sym (append-nil made)) h)
+  so_far_again (suc n) vs made h =
+      let more = so_far_again n (vs ++ v ∷ []) (made ++ u ∷ []) (so_far_more same_run values_before vs v made (made ++ u ∷ []) h (λ rest. item_good writer reader w r (length vs) v rest made u is)) in
+      subst (λ (xs : List Value). SoFar same_run values_before xs (made ++ replicate (suc n) u)) (append_assoc vs (v ∷ []) (replicate n v))
+      (subst (λ (us : List Value). SoFar same_run values_before ((vs ++ v ∷ []) ++ replicate n v) us) (append_assoc made (u ∷ []) (replicate n u)) more)
+
 -- ---- Items of a run
 
 module _ {I O : Type 0} (S : I → List Value → Type 0) (SO : O → Value → Type 0) (writer reader nodes : List Node) (id : ℕ) (vs : List Value) (v : Value) where
@@ -111,6 +127,30 @@ module _ {I O : Type 0} (S : I → List Value → Type 0) (SO : O → Value → 
         stands = law good.made made.0 good.stands made.2;
       }
 
+  -- so many more, that are the same
+  pub good_items : (n : ℕ) (at : At) (old new : I) (count next : ℕ) (branch : Option ℕ) (a b : NodeId) (out : O) → ((us : List Value) (u : Value) → S old us → SO out u → S new (us ++ replicate n u))
+      → 0 < n → next ≡ min (count + n) (2 ^ 64 - 1)
+      → ItemsStandAs S writer reader nodes id at (Run.Good old count branch a b) vs → StandsAs SO writer reader nodes (node_at nodes id) (Pair a b) (Made.Good out) v
+      → ItemsStandAs S writer reader nodes id at (Run.Good new next branch a b) (vs ++ replicate n v)
+  good_items n Ignored old new count next branch a b out law some up h stands = absurd h
+  good_items zero (Pair w r) old new count next branch a b out law some up h stands = absurd (omega (arith, some))
+  good_items (suc n) (Pair w r) old new count next branch a b out law some up h stands = λ are is small.
+      let wn = node_at writer w.0 in
+      let rn = node_at reader r.0 in
+      let good = h are is (smaller (values_size (values_from vs)) (values_size (values_from (vs ++ replicate (suc n) v))) (size_front vs (replicate (suc n) v)) small) in
+      let made = good_made SO out (resolve writer reader (node_at writer a.0) (node_at reader b.0) v)
+      (stands are (node_there S writer reader wn rn old count branch a b vs good nodes id are is) (smaller (size v) (values_size (values_from (vs ++ v ∷ replicate n v))) (size_item vs v (replicate n v)) small)) in
+      record {
+        to = good.to;
+        leads = good.leads;
+        of_writer = good.of_writer;
+        of_reader = good.of_reader;
+        counted = counted_more vs (replicate (suc n) v) count next (suc n) (length-replicate (suc n) v) good.counted up small;
+        made = good.made ++ replicate (suc n) made.0;
+        so_far = so_far_again writer reader (node_at writer a.0) (node_at reader b.0) v made.0 made.1 (suc n) vs good.made good.so_far;
+        stands = law good.made made.0 good.stands made.2;
+      }
+
   pub faulty_item : (at : At) (old : I) (count : ℕ) (branch : Option ℕ) (a b : NodeId) (fault outer : Box Fault) → turned outer.value ≡ fault_in count (turned fault.value)
       → ItemsStandAs S writer reader nodes id at (Run.Good old count branch a b) vs → StandsAs SO writer reader nodes (node_at nodes id) (Pair a b) (Made.Faulty fault) v
       → ItemsStandAs S writer reader nodes id at (Run.Faulty outer) (vs ++ v ∷ [])
@@ -131,6 +171,12 @@ module _ {I O : Type 0} (S : I → List Value → Type 0) (SO : O → Value → 
       let good = h are is (smaller (values_size (values_from vs)) (values_size (values_from (vs ++ v ∷ []))) (size_front vs (v ∷ [])) small) in
       absurd (stands are (node_there S writer reader (node_at writer w.0) (node_at reader r.0) old count branch a b vs good nodes id are is)
       (smaller (size v) (values_size (values_from (vs ++ v ∷ []))) (size_item vs v []) small))
+
+  pub items_after_fault : (n : ℕ) (at : At) (fault : Box Fault) → ItemsStandAs S writer reader nodes id at (Run.Faulty fault) vs → ItemsStandAs S writer reader nodes id at (Run.Faulty fault) (vs ++ replicate n v)
+  items_after_fault n Ignored fault h = absurd h
+  items_after_fault n (Pair w r) fault h = λ are is more.
+      subst (λ (xs : List Value). IsSmall (values_size (values_from xs)) → resolve writer reader (node_at writer w.0) (node_at reader r.0) (Value.array (values_from xs)) ≡ Err (turned fault.value)) (sym (append_assoc vs (replicate n v) more))
+      (h are is (replicate n v ++ more))
 
   pub item_after_fault : (at : At) (fault : Box Fault) → ItemsStandAs S writer reader nodes id at (Run.Faulty fault) vs → ItemsStandAs S writer reader nodes id at (Run.Faulty fault) (vs ++ v ∷ [])
   item_after_fault Ignored fault h = absurd h

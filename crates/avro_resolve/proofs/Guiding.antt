@@ -18,7 +18,7 @@ use Rattle.avro_compare.specs.declared.guided.Aim.{Aim}
 use Rattle.avro_compare.specs.declared.guided.At.{At}
 use Rattle.avro_compare.specs.declared.guided.At.TheVariants.{Ignored, Pair}
 use Rattle.avro_compare.proofs.public.Lists.{one_longer}
-use Rattle.avro_resolve.specs.declared.guided.Made.{Made}
+use Rattle.avro_resolve.specs.declared.resolving.guided.Made.{Made}
 
 abbrev pub as_fault : ResolutionFault → Resolved
 as_fault f = Err f

@@ -17,8 +17,8 @@ use Rattle.avro_compare.specs.Resolve.{Resolved, resolve, resolve_entries, both,
 use Rattle.avro_compare.specs.declared.error.Fault.{Fault}
 use Rattle.avro_compare.specs.declared.guided.At.{At}
 use Rattle.avro_compare.specs.declared.guided.At.TheVariants.{Ignored, Pair}
-use Rattle.avro_resolve.specs.declared.guided.Made.{Made}
-use Rattle.avro_resolve.specs.declared.guided.Run.{Run}
+use Rattle.avro_resolve.specs.declared.resolving.guided.Made.{Made}
+use Rattle.avro_resolve.specs.declared.resolving.guided.Run.{Run}
 use Rattle.avro_compare.proofs.public.Lists.{one_longer}
 use Rattle.avro_resolve.proofs.Guiding.{as_fault, good_made, made_in, smaller, wrapped_fault, so_far_more, so_far_fails, so_far_whole}
 use Rattle.avro_resolve.proofs.InOrder.{entries_before-none, entries_before-more}

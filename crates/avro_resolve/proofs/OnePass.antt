@@ -20,7 +20,7 @@ use Rattle.avro_resolve.specs.Seen.{UnlessOutOfMemory}
 use Rattle.avro_compare.specs.declared.error.Fault.{Fault}
 use Rattle.avro_resolve.specs.declared.error.ReadResolveError.{ReadResolveError}
 use Rattle.avro_compare.specs.declared.guided.At.TheVariants.{Pair}
-use Rattle.avro_resolve.specs.declared.guided.Made.{Made}
+use Rattle.avro_resolve.specs.declared.resolving.guided.Made.{Made}
 use Rattle.avro_resolve.proofs.Guiding.{as_fault, good_made}
 
 -- two pairs of schemas are the same

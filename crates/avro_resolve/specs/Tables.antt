@@ -2,7 +2,7 @@
 use Rattle.std.specs.Prelude.{List}
 use Rattle.avro_schema.specs.Node.{Node}
 use Rattle.avro_compare.specs.Planned.{AreComparisons}
-use Rattle.avro_resolve.specs.declared.plan_table.PlanTable.{PlanTable}
+use Rattle.avro_resolve.specs.declared.plan.plan_table.PlanTable.{PlanTable}
 
 -- what is kept of each pair is what the nodes are to each other in these schemas
 abbrev pub IsTableOf : List Node → List Node → PlanTable → Type 0

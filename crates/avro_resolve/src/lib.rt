@@ -13,26 +13,12 @@
 #![tactic(auto)]
 
 mod error;
-mod failing;
-mod filling;
-mod found;
-mod guided;
-mod keeping;
 pub mod laws;
-mod leaves;
-mod making;
-mod ordering;
-mod parts;
 mod plan;
-mod plan_ref;
-mod plan_table;
 mod put;
 mod read;
-mod recording;
 mod resolution;
 mod resolving;
-mod running;
-mod walking;
 mod wrapping;
 
 pub use avro_binary::{Build, Nothing, Tree, read_own};
@@ -41,8 +27,8 @@ pub use avro_compare::{
 };
 pub use error::{ReadResolveError, ResolveError};
 pub use plan::Plan;
-pub use plan_ref::PlanRef;
-pub use plan_table::PlanTable;
+pub use plan::plan_ref::PlanRef;
+pub use plan::plan_table::PlanTable;
 pub use put::Put;
 pub use read::{decode_resolved, read_resolved};
 pub use resolution::resolve;

@@ -1,6 +1,14 @@
+pub(crate) mod found;
+pub(crate) mod keeping;
+pub(crate) mod ordering;
+pub(crate) mod parts;
+pub(crate) mod plan_ref;
+pub(crate) mod plan_table;
+pub(crate) mod walking;
+
 use crate::error::ReadResolveError;
-use crate::plan_ref::PlanRef;
-use crate::plan_table::PlanTable;
+use crate::plan::plan_ref::PlanRef;
+use crate::plan::plan_table::PlanTable;
 use avro_binary::Build;
 use avro_compare::compare_all;
 use avro_schema::{Limits, Memory, NodeId, Schema};

@@ -1,4 +1,4 @@
-ghost use Rattle.std.specs.Prelude.{◌≡◌, ℕ, List, [], ◌∷◌, ◌++◌, Option, IfOk, OnOk};
+ghost use Rattle.std.specs.Prelude.{◌≡◌, ℕ, List, [], ◌∷◌, ◌++◌, Option, IfOk, OnOk, replicate, true, false};
 ghost use Rattle.avro_schema.specs.Seen.{values_from, entries_from, value_of};
 ghost use Rattle.avro_schema.specs.Value.{Value};
 ghost use Rattle.avro_resolve.specs.IntoBranch.{in_branch};
@@ -129,6 +129,12 @@ pub trait Put {
         ensures kept { OnOk result (keeps self.old self.new) }
         ensures stands { (vs : List Value) (v : Value) → items_stand_for self.old items.old vs → stands_for self.old value v
             → OnOk result (items_stand_for self.new items.new (vs ++ v ∷ [])) };
+
+    /// Adds a number of items, each of which is what `value` stands for, and says so, or adds none.
+    fn repeat(&self, items: &mut Self::Items, value: &Self::Out, count: u32) -> bool
+        ensures added { (vs : List Value) (v : Value) → result ≡ true → items_stand_for self.now items.old vs → stands_for self.now value.now v
+            → items_stand_for self.now items.new (vs ++ replicate count v) }
+        ensures none { result ≡ false → items.new ≡ items.old };
 
     /// Makes an array from its items.
     fn array(

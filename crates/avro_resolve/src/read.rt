@@ -2,11 +2,11 @@ ghost use Rattle.avro_schema.specs.SeenSchema.{schema_nodes};
 ghost use Rattle.avro_resolve.specs.Reading.{BuildsResolved, ReadsResolved};
 
 use crate::error::ReadResolveError;
-use crate::failing::turn_apart;
-use crate::guided::{Made, Part};
-use crate::plan_ref::PlanRef;
+use crate::plan::plan_ref::PlanRef;
 use crate::put::Put;
 use crate::resolving::Resolving;
+use crate::resolving::failing::turn_apart;
+use crate::resolving::guided::{Made, Part};
 use crate::wrapping::Wrapping;
 use avro_binary::{Build, Tree, read_made};
 use avro_compare::At;

@@ -11,10 +11,10 @@ ghost use Rattle.avro_compare.specs.Planned.{AreInside};
 ghost use Rattle.avro_resolve.specs.Ends.{Ends, EndsFound, EndsSlot, field_step, taken_as};
 
 use crate::error::ResolveError;
-use crate::failing::{fault_here, fault_in, turn};
-use crate::filling::fill_data;
-use crate::leaves::{leaf, wrapped};
-use crate::parts::{branch_of, items_of, values_of};
+use crate::plan::parts::{branch_of, items_of, values_of};
+use crate::resolving::failing::{fault_here, fault_in, turn};
+use crate::resolving::filling::fill_data;
+use crate::resolving::leaves::{leaf, wrapped};
 use avro_compare::{Aim, At, Comparison, FaultKind, Names, compare_inside, fields_of, part_among};
 use avro_schema::{Datum, NodeId, Schema};
 use std::alloc::{AllocError, Global};

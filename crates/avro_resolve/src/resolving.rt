@@ -1,11 +1,19 @@
-use crate::failing::{fault_apart, step_apart};
-use crate::guided::{Filling, Made, Part, Run};
-use crate::making::{make_bytes, make_int, make_string, make_symbol};
-use crate::plan_ref::PlanRef;
+pub(crate) mod failing;
+pub(crate) mod filling;
+pub(crate) mod guided;
+pub(crate) mod leaves;
+pub(crate) mod making;
+pub(crate) mod recording;
+pub(crate) mod running;
+
+use crate::plan::plan_ref::PlanRef;
 use crate::put::Put;
-use crate::recording::{fill_next, make_record, start_filling};
-use crate::running::{
-    make_array, make_map, next_part, put_entry, put_item, start_entries, start_items,
+use crate::resolving::failing::{fault_apart, step_apart};
+use crate::resolving::guided::{Filling, Made, Part, Run};
+use crate::resolving::making::{make_bytes, make_int, make_string, make_symbol};
+use crate::resolving::recording::{fill_next, make_record, start_filling};
+use crate::resolving::running::{
+    make_array, make_map, next_part, put_entry, put_item, repeat_item, start_entries, start_items,
 };
 use avro_binary::Make;
 use avro_compare::{Aim, At};
@@ -48,7 +56,7 @@ impl<'p, 'a, 'b, P: Put> Make for Resolving<'p, 'a, 'b, P> {
 
     type Entries = (Run<P::Entries>, u32);
 
-    type Fields = Filling<P::Out, P::Fields>;
+    type Fields = Filling<'a, P::Out, P::Fields>;
 
     ghost keeps = { λ s t. AreKept (P.keeps s.builder.now t.builder.now × (t.builder.ghost_name ≡ s.builder.ghost_name)) (schema_nodes s.plan.now.0) (schema_nodes s.plan.now.1) (schema_nodes t.plan.now.0) (schema_nodes t.plan.now.1) };
 
@@ -90,6 +98,7 @@ impl<'p, 'a, 'b, P: Put> Make for Resolving<'p, 'a, 'b, P> {
 
     ghost field_at_kept = { λ s t fields kept. refl };
 
+    #[inline(always)]
     fn null(&mut self, alloc: Global, at: Part) -> Result<Made<P::Out>, AllocError> {
         match at.at {
             At::Ignored => Ok(Made::Nothing),
@@ -103,6 +112,7 @@ impl<'p, 'a, 'b, P: Put> Make for Resolving<'p, 'a, 'b, P> {
         }
     }
 
+    #[inline(always)]
     fn boolean(
         &mut self,
         alloc: Global,
@@ -121,6 +131,7 @@ impl<'p, 'a, 'b, P: Put> Make for Resolving<'p, 'a, 'b, P> {
         }
     }
 
+    #[inline(always)]
     fn int(&mut self, alloc: Global, at: Part, value: i32) -> Result<Made<P::Out>, AllocError> {
         match at.at {
             At::Ignored => Ok(Made::Nothing),
@@ -133,6 +144,7 @@ impl<'p, 'a, 'b, P: Put> Make for Resolving<'p, 'a, 'b, P> {
         }
     }
 
+    #[inline(always)]
     fn long(&mut self, alloc: Global, at: Part, value: i64) -> Result<Made<P::Out>, AllocError> {
         match at.at {
             At::Ignored => Ok(Made::Nothing),
@@ -146,6 +158,7 @@ impl<'p, 'a, 'b, P: Put> Make for Resolving<'p, 'a, 'b, P> {
         }
     }
 
+    #[inline(always)]
     fn bytes(
         &mut self,
         alloc: Global,
@@ -163,6 +176,7 @@ impl<'p, 'a, 'b, P: Put> Make for Resolving<'p, 'a, 'b, P> {
         }
     }
 
+    #[inline(always)]
     fn string(&mut self, alloc: Global, at: Part, text: &str) -> Result<Made<P::Out>, AllocError> {
         match at.at {
             At::Ignored => Ok(Made::Nothing),
@@ -175,6 +189,7 @@ impl<'p, 'a, 'b, P: Put> Make for Resolving<'p, 'a, 'b, P> {
         }
     }
 
+    #[inline(always)]
     fn fixed(
         &mut self,
         alloc: Global,
@@ -193,6 +208,7 @@ impl<'p, 'a, 'b, P: Put> Make for Resolving<'p, 'a, 'b, P> {
         }
     }
 
+    #[inline(always)]
     fn symbol(&mut self, alloc: Global, at: Part, symbol: u32) -> Result<Made<P::Out>, AllocError> {
         match at.at {
             At::Ignored => Ok(Made::Nothing),
@@ -245,6 +261,10 @@ impl<'p, 'a, 'b, P: Put> Make for Resolving<'p, 'a, 'b, P> {
         put_item(alloc, self.builder, &mut items.0, value)
     }
 
+    fn repeat(&self, items: &mut (Run<P::Items>, u32), value: &Made<P::Out>, count: u32) -> bool {
+        repeat_item(self.builder, &mut items.0, value, count)
+    }
+
     fn array(
         &mut self,
         alloc: Global,
@@ -283,18 +303,18 @@ impl<'p, 'a, 'b, P: Put> Make for Resolving<'p, 'a, 'b, P> {
         &mut self,
         alloc: Global,
         at: Part,
-    ) -> Result<Filling<P::Out, P::Fields>, AllocError> {
+    ) -> Result<Filling<'a, P::Out, P::Fields>, AllocError> {
         start_filling(alloc, self.builder, self.plan, at)
     }
 
-    fn field_at(&self, fields: &Filling<P::Out, P::Fields>) -> Part {
+    fn field_at(&self, fields: &Filling<'a, P::Out, P::Fields>) -> Part {
         fields.next
     }
 
     fn field(
         &mut self,
         _alloc: Global,
-        fields: &mut Filling<P::Out, P::Fields>,
+        fields: &mut Filling<'a, P::Out, P::Fields>,
         value: Made<P::Out>,
     ) -> Result<(), AllocError> {
         fill_next(self.builder, self.plan, fields, value)
@@ -303,7 +323,7 @@ impl<'p, 'a, 'b, P: Put> Make for Resolving<'p, 'a, 'b, P> {
     fn record(
         &mut self,
         alloc: Global,
-        fields: Filling<P::Out, P::Fields>,
+        fields: Filling<'a, P::Out, P::Fields>,
     ) -> Result<Made<P::Out>, AllocError> {
         make_record(alloc, self.builder, self.plan, fields.index, fields.slots)
     }

@@ -152,6 +152,10 @@ impl<'b, B: Build> Put for Wrapping<'b, B> {
         self.builder.item(alloc, items, value)
     }
 
+    fn repeat(&self, _items: &mut B::Items, _value: &B::Out, _count: u32) -> bool {
+        false
+    }
+
     fn array(
         &mut self,
         alloc: Global,

@@ -147,9 +147,7 @@ fn check_record(
     ensures good { OnOk result (is_good_node (nodes_of nodes.now) id (node_of (kept.Record record_node.now)) ≡ true) }
     ensures broken { IfErr result (IsRefusedAt (nodes_of nodes.now) id (node_of (kept.Record record_node.now))) }
 {
-    // A name that is read is known to be a fullname, as the rules of the node require.
-    let _ = record_node.name.simple();
-    read_names(&record_node.aliases);
+    read_names(&record_node.name, &record_node.aliases);
     if !are_field_edges(nodes, id, &record_node.fields) {
         return Err(DraftError::UnknownNode);
     }
@@ -176,9 +174,7 @@ fn check_enum(
     ensures good { OnOk result (is_good_node (nodes_of nodes.now) id (node_of (kept.Enum enumeration.now)) ≡ true) }
     ensures broken { IfErr result (IsRefusedAt (nodes_of nodes.now) id (node_of (kept.Enum enumeration.now))) }
 {
-    // A name that is read is known to be a fullname, as the rules of the node require.
-    let _ = enumeration.name.simple();
-    read_names(&enumeration.aliases);
+    read_names(&enumeration.name, &enumeration.aliases);
     let count = enumeration.symbols.len();
     if count == 0 {
         return Err(DraftError::InvalidSymbols);
@@ -209,9 +205,7 @@ fn check_fixed(nodes: &[Node], id: usize, fixed: &FixedNode) -> Result<(), Draft
     ensures good { OnOk result (is_good_node (nodes_of nodes.now) id (node_of (kept.Fixed fixed.now)) ≡ true) }
     ensures broken { IfErr result (IsRefusedAt (nodes_of nodes.now) id (node_of (kept.Fixed fixed.now))) }
 {
-    // A name that is read is known to be a fullname, as the rules of the node require.
-    let _ = fixed.name.simple();
-    read_names(&fixed.aliases);
+    read_names(&fixed.name, &fixed.aliases);
     if fixed.size > FixedNode::MAX_SIZE {
         return Err(DraftError::LimitExceeded);
     }

@@ -51,13 +51,15 @@ pub(crate) fn names_of_fields(alloc: Global, fields: &[Field]) -> Result<Vec<&st
     Ok(names)
 }
 
-/// Reads names, which are fullnames by their type.
-pub(crate) fn read_names(names: &[FullName])
-    ensures { list_all is_full_name names.now ≡ true }
+/// Reads the name of a type and its aliases, which are fullnames by their type, as the rules of a node require.
+pub(crate) fn read_names(name: &FullName, aliases: &[FullName])
+    ensures own { is_full_name name.now ≡ true }
+    ensures others { list_all is_full_name aliases.now ≡ true }
 {
-    for name in names {
-        // A name that is read is known to be a fullname; nothing is done with its part.
-        let _ = name.simple();
+    // A name that is read is known to be a fullname; nothing is done with its part.
+    let _ = name.simple();
+    for alias in aliases {
+        let _ = alias.simple();
     }
 }
 

@@ -1,5 +1,6 @@
 ghost use Rattle.std.specs.Prelude.{◌≡◌, true};
-ghost use Rattle.avro_schema.specs.Seen.{nodes_of};
+ghost use Rattle.avro_schema.specs.Seen.{node_of, nodes_of};
+ghost use Rattle.avro_schema.specs.Fits.{is_null_node};
 ghost use Rattle.avro_schema.specs.WellFormed.{is_schema};
 
 use crate::datum::Datum;
@@ -100,6 +101,9 @@ impl FixedNode {
 #[derive(Debug, Drop)]
 pub struct Schema {
     nodes: Vec<Node>,
+    // what an id without a node is read as
+    null: Node,
+    ghost is_null: { is_null_node (node_of null) ≡ true },
     ghost formed: { is_schema (nodes_of nodes.items) ≡ true },
 }
 
@@ -118,7 +122,10 @@ impl Schema {
         requires { is_schema (nodes_of nodes.items) ≡ true }
         ensures { schema_nodes result ≡ nodes_of nodes.items }
     {
-        Schema { nodes }
+        Schema {
+            nodes,
+            null: Node::Null,
+        }
     }
 
     /// The nodes, in the order of their numbers.
@@ -134,8 +141,6 @@ impl Schema {
         ensures in_schema { result.0 < length (schema_nodes self.now) }
         ensures formed { is_schema (schema_nodes self.now) ≡ true }
     {
-        // Nodes that are reached are known to be a schema.
-        let _ = &self.nodes;
         NodeId(0)
     }
 
@@ -145,6 +150,17 @@ impl Schema {
         ensures { node_of result.now ≡ node_at (schema_nodes self.now) id.0 }
     {
         &self.nodes[id.0 as usize]
+    }
+
+    /// The node of an id; an id without a node is that of null.
+    pub fn get(&self, id: NodeId) -> &Node
+        ensures node { node_of result.now ≡ node_at (schema_nodes self.now) id.0 }
+        ensures formed { is_schema (schema_nodes self.now) ≡ true }
+    {
+        match self.nodes.get(id.0 as usize) {
+            Some(node) => node,
+            None => &self.null,
+        }
     }
 
     /// The number of nodes: 1 to 4,096.

@@ -7,7 +7,6 @@ use Rattle.std.specs.Cmp.Lexicographic.{slice_cmp}
 use Rattle.std.specs.BTreeMap.{BTreeMap, get_by}
 use Rattle.std.specs.BTreeSet.{BTreeSet}
 use Rattle.std.proofs.lemmas.Bool.{false≢true}
-use Rattle.std.proofs.lemmas.List.{drop_more}
 use Rattle.std.proofs.lemmas.Map.Lookups.{exact_unsigned}
 use Rattle.std.proofs.lemmas.Slice.Eq.{bytes_eq-Decides}
 use denote.Ref.{Bor}
@@ -21,9 +20,9 @@ use Rattle.serde_json.specs.View.{view, items_view}
 use Rattle.serde_json.specs.declared.value.Value.{Value as Tree}
 use Rattle.serde_json.proofs.Views.{get_item_within}
 use Rattle.avro_schema_json.specs.DeclaredDefaults.{default_of, default_under, each_default, entries_default, fields_default, first_fit, member_keys, names_only, only_if}
-use Rattle.avro_schema_json.specs.inside.Misfits.{has_id, AreMisfits, FitsNoBranch, IsMemberMisfit, AreItemMisfits, AreMemberMisfits}
+use Rattle.avro_schema_json.specs.inside.Misfits.{has_id, AreMisfits, IsMemberMisfit, AreItemMisfits, AreMemberMisfits}
 use Rattle.avro_schema_json.specs.inside.OwnDefaults.{own_default, default_of_fields}
-use Rattle.avro_schema_json.proofs.DefaultsSeen.{branch_next, drop_past}
+use Rattle.avro_schema_json.proofs.DefaultsSeen.{branch_next}
 use Rattle.avro_schema_json.proofs.DefaultSteps.{field_at-found}
 use Rattle.avro_schema_json.proofs.RawSeen.{name_and_node}
 use Rattle.avro_schema_json.proofs.DeclarationLaws.{default_under-found}
@@ -151,13 +150,6 @@ pub branch-pass : (nodes : List Node) (d : Data) (ids : List NodeId) (i : ℕ) (
     → first_fit nodes (own_default nodes d) i (ids_of (drop i ids)) ≡ all → first_fit nodes (own_default nodes d) (i + 1) (ids_of (drop (i + 1) ids)) ≡ all
 branch-pass nodes d ids i id all below none whole =
     branch_next nodes d ids i (get_or ids i id) all below (same-again ids i id) whole none
-
-pub no_branch-end : (nodes : List Node) (d : Data) (ids : List NodeId) (i : ℕ) → length ids ≤ i → FitsNoBranch nodes d (drop i ids)
-no_branch-end nodes d ids i past = let none : drop i ids ≡ [] = drop_past ids i past in rw none (λ k. refl)
-
-pub no_branch-next : (nodes : List Node) (d : Data) (ids : List NodeId) (i : ℕ) (id : NodeId) → i < length ids
-    → own_default nodes d (node_at nodes (get_or ids i id).0) ≡ None → FitsNoBranch nodes d (drop (i + 1) ids) → FitsNoBranch nodes d (drop i ids)
-no_branch-next nodes d ids i id below none rest = λ k. rw (drop_more ids i id below, none) (rest (suc k))
 
 -- ---- what is kept of parts
 

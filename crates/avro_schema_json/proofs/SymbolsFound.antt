@@ -18,7 +18,7 @@ none_later : (o : Option ℕ) → option_map (λ k. k + 0) o ≡ o
 none_later None = refl
 none_later (Some index) = ap Some (omega arith)
 
-next_here : (symbols : List (String Global)) (n : ℕ) (symbol : String Global) → n < length symbols → symbol ≡ get_or symbols n symbol
+pub next_here : (symbols : List (String Global)) (n : ℕ) (symbol : String Global) → n < length symbols → symbol ≡ get_or symbols n symbol
     → drop n symbols ≡ symbol ∷ drop (suc n) symbols
 next_here symbols n symbol within is = drop-cons symbols n symbol within ∙ ap (λ s. s ∷ drop (suc n) symbols) (sym is)
 

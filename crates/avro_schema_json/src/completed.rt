@@ -105,7 +105,8 @@ fn defaults_of_nodes(alloc: Global, raws: &[RawNode]) -> Result<Defaults, Memory
     ensures data { IfOk result (λ defaults. lists_seen defaults.of_nodes.items ≡ map (node_defaults_by (all_without_defaults raws.now)) (raw_nodes_of raws.now)) }
     ensures read { IfOk result (λ defaults. defaults.are_read ≡ are_all_defaults_read (raw_nodes_of raws.now)) }
 {
-    let tables = tables_of(alloc, raws)?;
+    let null = RawNode::Null;
+    let tables = tables_of(alloc, raws, &null)?;
     let mut of_nodes: Vec<Vec<Option<Datum>>> = Vec::new(alloc);
     let mut are_read = true;
     for raw in raws {

@@ -55,9 +55,9 @@ pub(crate) fn default_of(
     match branches(node) {
         None => own_default(alloc, raws, tables, tree, node),
         Some(ids) => {
-            let misfits = skipped_branches(alloc, raws, tree, ids)?;
+            let misfits = skipped_branches(alloc, raws, tables, tree, ids)?;
             let nothing = no_table(alloc);
-            let table = table_at(raws, tables, &nothing, id, ids);
+            let table = table_at(raws, &*tables, &nothing, id, ids);
             branch_default(alloc, raws, tables, table, &null, tree, ids, &misfits)
         }
     }

@@ -11,10 +11,11 @@ use Rattle.avro_schema.specs.WellFormed.{is_schema}
 use Rattle.avro_compare.specs.Match.{match_within}
 use Rattle.avro_compare.specs.Source.{reader_field, missing_field}
 use Rattle.avro_compare.specs.Resolve.{inside, result_map, through, int_as, bytes_as, string_as, enum_as, part_at, symbol_at, fields_at, branch_node, record_or_missing, resolve, resolve_items, resolve_entries, resolve_sources}
-use Rattle.avro_certificate.specs.Closed.{Pair, is_dead, is_closed, is_closed_at, has_fault_of_kind, children_of, field_children}
+use Rattle.avro_compare.specs.Children.{Pair, has_fault_of_kind, children_of, field_children}
+use Rattle.avro_certificate.specs.Closed.{is_dead, is_closed, is_closed_at}
 use Rattle.avro_certificate.specs.Compatible.{AreCompatible}
 use Rattle.avro_certificate.proofs.public.Tests.{and_left, and_right, all_at}
-use Rattle.avro_certificate.proofs.public.NodeKinds.{is_plain_value, plain_node}
+use Rattle.avro_compare.proofs.public.NodeKinds.{is_plain_value, plain_node}
 use Rattle.avro_certificate.proofs.public.Successes.{Succeeds, succeeds_inside, succeeds_map, succeeds_both, succeeds_int, succeeds_bytes, succeeds_string, succeeds_enum, succeeds_record, succeeds_sourced}
 use Rattle.avro_certificate.proofs.public.SoundPairs.{stands, Reaches, sound, reach, source_child}
 

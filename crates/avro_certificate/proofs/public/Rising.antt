@@ -4,7 +4,7 @@ use Rattle.std.proofs.lemmas.Bool.{false≢true}
 use Rattle.std.proofs.lemmas.Bool.Decides.{nat_tests}
 use Rattle.std.specs.Prelude.{nat_lt}
 use Rattle.std.specs.List.{list_all}
-use Rattle.avro_certificate.specs.Closed.{Pair}
+use Rattle.avro_compare.specs.Children.{Pair}
 use Rattle.avro_certificate.specs.CertificateText.{is_rising, is_before, is_small, is_small_pair, are_small}
 use Rattle.avro_certificate.specs.inside.CertificateLines.{bounded, bounded_pair, follows}
 use Rattle.avro_certificate.proofs.public.Tests.{and_left, and_right}

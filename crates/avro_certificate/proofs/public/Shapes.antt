@@ -8,7 +8,7 @@ use Rattle.avro_schema.specs.WellFormed.{branch_kind, same_kind, meets_its_rules
 use Rattle.avro_name.specs.Name.{same_name}
 use Rattle.avro_compare.specs.Match.{is_match, first_match_from, first_match}
 use Rattle.avro_certificate.proofs.public.Tests.{and_left, and_right, all_at}
-use Rattle.avro_certificate.proofs.public.NodeKinds.{no_union}
+use Rattle.avro_compare.proofs.public.NodeKinds.{no_union}
 
 -- each of some good nodes meets the rules of its kind
 good_at : (nodes : List Node) (id : ℕ) (ns : List Node) (k : ℕ) (n : Node) → are_good_nodes nodes id ns ≡ true → slice_get ns k ≡ Some n

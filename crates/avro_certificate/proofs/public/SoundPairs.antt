@@ -10,9 +10,10 @@ use Rattle.avro_schema.specs.WellFormed.{is_schema}
 use Rattle.avro_compare.specs.Match.{is_match, first_match}
 use Rattle.avro_compare.specs.Source.{source_of, reader_field}
 use Rattle.avro_compare.specs.Resolve.{Resolved, matched, through, branch_node}
-use Rattle.avro_certificate.specs.Closed.{Pair, is_among, is_among_pairs, is_dead, has_fault_of_kind, has_local_fault, children_of, field_children, is_closed_at}
+use Rattle.avro_compare.specs.Children.{Pair, has_fault_of_kind, has_local_fault, children_of, field_children}
+use Rattle.avro_certificate.specs.Closed.{is_among, is_among_pairs, is_dead, is_closed_at}
 use Rattle.avro_certificate.proofs.public.Tests.{and_left, and_right, or_left, or_right, or_not, not_true, not_false, all_among_pairs}
-use Rattle.avro_certificate.proofs.public.NodeKinds.{fault_of_union, fault_of_others, children_of_union, union_of_branches}
+use Rattle.avro_compare.proofs.public.NodeKinds.{fault_of_union, fault_of_others, children_of_union, union_of_branches}
 use Rattle.avro_certificate.proofs.public.DeadNodes.{no_dead_datum}
 use Rattle.avro_certificate.proofs.public.Shapes.{plain_branch, first_match_within}
 use Rattle.avro_certificate.proofs.public.Successes.{Succeeds, succeeds_map, succeeds_matched, through_plain, matched_plain}

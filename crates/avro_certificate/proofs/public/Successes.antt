@@ -1,7 +1,6 @@
 -- When a resolution succeeds.
 use Rattle.std.proofs.Common.{◌≡◌, ℕ, ℤ, Bool, true, false, List, [], ◌∷◌, Option, Some, None, Result, Ok, Err, length, refl, sym, ◌∙◌, inl, inr, cond, arith}
 use Rattle.std.proofs.lemmas.Bool.{false≢true, true≢false, ltb-true, lt-ltb, cond-true}
-use Rattle.std.proofs.lemmas.Slice.Eq.{bytes_eq-Decides}
 use Rattle.std.specs.Prelude.{is_some, slice_get, unwrap_or, nat_lt, position, bytes_eq}
 use Rattle.std.specs.List.{list_any, position_or_len}
 use Rattle.avro_schema.specs.Value.{Value}
@@ -10,7 +9,8 @@ use Rattle.avro_schema.specs.Fits.{is_bytes_node}
 use Rattle.avro_compare.specs.Fault.{ResolutionFault, fault_here, no_match}
 use Rattle.avro_compare.specs.Match.{is_match}
 use Rattle.avro_compare.specs.Resolve.{Resolved, inside, result_map, both, matched, through, int_as, bytes_as, string_as, enum_or_default, record_or_missing, Sourced, with_sourced, field_values}
-use Rattle.avro_certificate.specs.Closed.{has_fault_of_kind, lacks_symbol}
+use Rattle.avro_compare.specs.Children.{has_fault_of_kind, lacks_symbol}
+use Rattle.avro_compare.proofs.public.Symbols.{bytes_eq-sym}
 use Rattle.avro_certificate.proofs.public.Tests.{not_false, or_cases, or_from_left, or_from_right, none_at, prefix_len_below}
 
 -- a result that is no fault
@@ -71,17 +71,6 @@ succeeds_bytes b _ _ h faultless = absurd (false≢true h)
 pub succeeds_string : (t : List ℕ) (q : Node) → Succeeds (string_as t q)
 succeeds_string t Node.bytes = tt
 succeeds_string t _ = tt
-
--- equality of texts is symmetric
-pub bytes_eq-sym : (a b : List ℕ) → bytes_eq a b ≡ bytes_eq b a
-bytes_eq-sym a b = same (bytes_eq a b) (bytes_eq b a)
-    (λ h. (bytes_eq-Decides b a).1 (sym ((bytes_eq-Decides a b).0 h))) (λ h. (bytes_eq-Decides a b).1 (sym ((bytes_eq-Decides b a).0 h)))
-  where
-    same : (x y : Bool) → (x ≡ true → y ≡ true) → (y ≡ true → x ≡ true) → x ≡ y
-    same true true f g = refl
-    same false false f g = refl
-    same true false f g = sym (f refl)
-    same false true f g = g refl
 
 -- tests that agree pass alike
 list_any-same : {A : Type 0} (f g : A → Bool) (xs : List A) → ((x : A) → f x ≡ g x) → list_any f xs ≡ true → list_any g xs ≡ true

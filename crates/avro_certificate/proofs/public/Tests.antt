@@ -3,7 +3,8 @@ use Rattle.std.proofs.Common.{◌≡◌, ℕ, zero, suc, Bool, true, false, not,
 use Rattle.std.proofs.lemmas.Bool.{false≢true, true≢false, eqb-true}
 use Rattle.std.specs.Prelude.{◌==◌, slice_get, unwrap_or}
 use Rattle.std.specs.List.{list_all, list_any, prefix_len}
-use Rattle.avro_certificate.specs.Closed.{Pair, is_among, same_pair, is_among_pairs}
+use Rattle.avro_compare.specs.Children.{Pair}
+use Rattle.avro_certificate.specs.Closed.{is_among, same_pair, is_among_pairs}
 
 -- what passes both tests passes the first
 pub and_left : (a b : Bool) → (a && b) ≡ true → a ≡ true

@@ -1,6 +1,6 @@
 -- What is kept of the numbers of a text.
 use Rattle.std.specs.Prelude.{◌≡◌, ℕ, Bool, true, cond, List, ◌++◌, Option, Some, None}
-use Rattle.avro_certificate.specs.Closed.{Pair}
+use Rattle.avro_compare.specs.Children.{Pair}
 use Rattle.avro_certificate.specs.CertificateText.{is_small}
 
 -- a number up to 4,095, and 4,096 in place of each greater one

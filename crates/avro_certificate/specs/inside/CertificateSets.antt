@@ -1,6 +1,6 @@
 -- What a refusal of the lines of a text says, whether or not they rise.
 use Rattle.std.specs.Prelude.{◌≡◌, ℕ, List}
-use Rattle.avro_certificate.specs.Closed.{Pair}
+use Rattle.avro_compare.specs.Children.{Pair}
 use Rattle.avro_certificate.specs.CertificateText.{certificate_text}
 use Rattle.avro_certificate.specs.declared.error.CertError.{CertError}
 

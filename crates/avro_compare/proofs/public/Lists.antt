@@ -1,7 +1,6 @@
 -- Lists from an index on, and lists with one more at their end.
-use Rattle.std.proofs.Common.{◌≡◌, ℕ, zero, suc, ◌+◌, ◌<◌, List, [], ◌∷◌, ◌++◌, drop, length, Option, Some, None, refl, sym, ap, ◌∙◌, subst, arith}
-use Rattle.std.specs.Prelude.{slice_index_or, slice_get, map}
-use Rattle.avro_schema.specs.Node.{FieldNode}
+use Rattle.std.proofs.Common.{◌≡◌, ℕ, zero, suc, ◌+◌, ◌<◌, List, [], ◌∷◌, ◌++◌, drop, length, Some, None, refl, sym, ap, subst, arith}
+use Rattle.std.specs.Prelude.{slice_index_or, slice_get}
 use Rattle.avro_schema.specs.Seen.{seen_fields, field_of}
 use Rattle.avro_schema.specs.declared.schema.Field.{Field}
 

@@ -10,10 +10,10 @@ use Rattle.avro_certificate.specs.Evidence.{IsReached}
 use Rattle.avro_explain.specs.Places.{pair_of, pairs_of, ArePlaced, AreByBreadth, AreFollowed, IsFoundBy, round_of}
 use Rattle.avro_explain.specs.declared.found.Detail.{Detail}
 use Rattle.avro_explain.specs.declared.found.Detail.TheVariants.{NoMatch, NoBranch, NoSymbol}
-use Rattle.avro_explain.specs.declared.found.Lead.{Lead}
+use Rattle.avro_compare.specs.declared.lead.Lead.{Lead}
 use Rattle.avro_explain.specs.declared.found.PathStep.{PathStep}
 use Rattle.avro_explain.specs.declared.found.Place.{Place}
-use Rattle.avro_explain.specs.declared.found.Step.{Step}
+use Rattle.avro_compare.specs.declared.lead.Step.{Step}
 
 -- the place of the roots, unless the writer's is dead
 abbrev pub roots_place : Bool → List Place

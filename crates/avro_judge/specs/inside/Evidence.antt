@@ -2,7 +2,8 @@
 use Rattle.std.specs.Prelude.{◌≡◌, ℕ, zero, suc, ◌/◌, ◌%◌, true, cond, Option, None, List, [], ◌∷◌, ◌++◌, length, map, is_none, nat_lt}
 use Rattle.avro_schema.specs.Node.{Node}
 use Rattle.avro_certificate.specs.CertificateText.{is_rising, is_before, are_small}
-use Rattle.avro_certificate.specs.Closed.{Pair, is_closed}
+use Rattle.avro_compare.specs.Children.{Pair}
+use Rattle.avro_certificate.specs.Closed.{is_closed}
 use Rattle.avro_certificate.specs.Evidence.{IsEvidence}
 use Rattle.avro_least.specs.FoundTables.{AreTables}
 use Rattle.avro_least.specs.Tables.{Least, LeastTable, erring_of}

@@ -7,7 +7,7 @@ use Rattle.std.specs.List.{list_all}
 use Rattle.avro_schema.specs.Value.{size, depth}
 use Rattle.avro_schema.specs.Node.{Node, node_at}
 use Rattle.avro_schema.specs.WellFormed.{is_schema}
-use Rattle.avro_certificate.specs.Closed.{Pair}
+use Rattle.avro_compare.specs.Children.{Pair}
 use Rattle.avro_least.specs.Asked.{asked, asked_value, asked_children, is_known, steps_at}
 use Rattle.avro_least.specs.BuiltErrors.{AreExact}
 use Rattle.avro_least.specs.FoundTables.{AreTables}

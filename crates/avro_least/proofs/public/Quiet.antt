@@ -15,10 +15,11 @@ use Rattle.avro_compare.specs.Match.{is_match, first_match}
 use Rattle.avro_compare.specs.Source.{source_of, reader_field, missing_field}
 use Rattle.avro_compare.specs.Fields.{IsField, here, later}
 use Rattle.avro_compare.proofs.public.Sources.{first_index-named, reader_field-source}
-use Rattle.avro_certificate.specs.Closed.{Pair, is_among, is_dead_node, children_of, field_children, has_local_fault, has_fault_of_kind, lacks_symbol}
+use Rattle.avro_compare.specs.Children.{Pair, children_of, field_children, has_local_fault, has_fault_of_kind, lacks_symbol}
+use Rattle.avro_certificate.specs.Closed.{is_among, is_dead_node}
 use Rattle.avro_least.specs.Tables.{Least, LeastTable, ErringTable, AtMost, IsLowForData, AreLow, AreDataShown, ShowsData, around, together, lesser, precedes, best_of, all_of, least_datum, err_of, err_inside, err_of_field, err_of_fields, one}
 use Rattle.avro_certificate.proofs.public.Tests.{and_left, and_right, or_cases, or_from_left, or_from_right}
-use Rattle.avro_certificate.proofs.public.NodeKinds.{fault_of_union, fault_of_others, children_of_union}
+use Rattle.avro_compare.proofs.public.NodeKinds.{fault_of_union, fault_of_others, children_of_union}
 use Rattle.avro_certificate.proofs.public.Shapes.{meets_rules_at}
 use Rattle.avro_certificate.proofs.public.Resolving.{slice_get_of_drop, drop_more}
 use Rattle.avro_least.proofs.LeastOrder.{under_more_left, under_more_right}

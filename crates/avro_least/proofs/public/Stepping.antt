@@ -8,7 +8,7 @@ use Rattle.std.specs.Prelude.{slice_get, nat_lt, is_none}
 use Rattle.std.specs.List.{list_all}
 use Rattle.avro_schema.specs.Node.{Node, node_at}
 use Rattle.avro_schema.specs.WellFormed.{is_schema}
-use Rattle.avro_certificate.specs.Closed.{Pair}
+use Rattle.avro_compare.specs.Children.{Pair}
 use Rattle.avro_least.specs.Tables.{LeastTable, pair_number}
 use Rattle.avro_least.specs.Asked.{Asked, asked_at, children_at, live_numbers, steps_at, AreAsked}
 use Rattle.avro_certificate.proofs.public.Tests.{and_left, and_right}

@@ -5,7 +5,7 @@ use Rattle.std.specs.BinaryHeap.{heap_items, heap_len}
 use Rattle.std.proofs.Math.ListN.{set}
 use Rattle.avro_least.specs.SeenLeast.{seen, given_entry, improves, weights}
 use Rattle.avro_least.specs.declared.kept.Least.{Least as KeptLeast}
-use Rattle.avro_least.specs.declared.search.Search.{Search}
+use Rattle.avro_least.specs.declared.queue.Search.{Search}
 
 -- whether the entry at an index waits
 abbrev pub is_waiting : List Bool → ℕ → Bool

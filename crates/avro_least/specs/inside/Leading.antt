@@ -6,7 +6,7 @@ use Rattle.indexmap.specs.IndexSet.{keys}
 use Rattle.avro_schema.specs.Node.{Node}
 use Rattle.avro_schema.specs.SeenSchema.{schema_nodes}
 use Rattle.avro_schema.specs.WellFormed.{is_schema}
-use Rattle.avro_certificate.specs.Closed.{Pair}
+use Rattle.avro_compare.specs.Children.{Pair}
 use Rattle.avro_least.specs.Tables.{Least, LeastTable, AtMost, AreDataShown, no_parts, pair_number, erring_of}
 use Rattle.avro_least.specs.SeenLeast.{seen_all, table_of}
 use Rattle.avro_least.specs.SeenAsk.{asks_of}
@@ -14,9 +14,9 @@ use Rattle.avro_least.specs.Reached.{AreFollowed}
 use Rattle.avro_least.specs.Asked.{asked_at, steps_at, AreAsked, ArePairsShown}
 use Rattle.avro_least.specs.inside.Parts.{part_at, value_by_part, value_alone, AreOthers}
 use Rattle.avro_least.specs.inside.Falling.{is_waiting, IsSearch}
-use Rattle.avro_least.specs.declared.leads.Lead.{Lead}
-use Rattle.avro_least.specs.declared.graph.Graph.{Graph}
-use Rattle.avro_least.specs.declared.search.Search.{Search}
+use Rattle.avro_least.specs.declared.pairs.leads.Lead.{Lead}
+use Rattle.avro_least.specs.declared.pairs.graph.Graph.{Graph}
+use Rattle.avro_least.specs.declared.queue.Search.{Search}
 
 -- whether the pair at an index is among some leads, by the part of an index
 abbrev pub is_lead : List Lead → ℕ → ℕ → Bool

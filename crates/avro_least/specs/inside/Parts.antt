@@ -3,7 +3,7 @@ use Rattle.std.specs.Prelude.{◌≡◌, ◌<◌, ℕ, zero, suc, List, [], ◌�
 use Rattle.std.specs.Global.{Vec}
 use Rattle.avro_schema.specs.Node.{Node, node_at, fields_of, field_ids}
 use Rattle.avro_schema.specs.declared.schema.NodeId.{NodeId}
-use Rattle.avro_certificate.specs.Closed.{Pair}
+use Rattle.avro_compare.specs.Children.{Pair}
 use Rattle.avro_least.specs.Tables.{Least, LeastTable, ErringTable, around, together, all_of, no_parts, one}
 use Rattle.avro_least.specs.Asked.{Row, Asked}
 use Rattle.avro_least.specs.SeenLeast.{given_entry}

@@ -7,7 +7,7 @@ use Rattle.avro_least.specs.SeenLeast.{table_of}
 use Rattle.avro_least.specs.Reached.{is_key}
 use Rattle.avro_least.specs.inside.Uses.{inner_ids}
 use Rattle.avro_least.specs.inside.Falling.{is_waiting, effort, IsSearch}
-use Rattle.avro_least.specs.declared.search.Search.{Search}
+use Rattle.avro_least.specs.declared.queue.Search.{Search}
 
 -- the first entry is no more than the second
 abbrev pub IsNoMore : Option Least → Option Least → Type 0

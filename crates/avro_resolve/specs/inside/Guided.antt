@@ -6,16 +6,17 @@ use Rattle.avro_schema.specs.Seen.{values_from, entries_from}
 use Rattle.avro_schema.specs.declared.schema.NodeId.{NodeId}
 use Rattle.avro_compare.specs.Fault.{ResolutionFault}
 use Rattle.avro_resolve.specs.Ends.{turned, SlotsAre, AllBelow, values_before, entries_before, before}
+use Rattle.avro_compare.specs.Planned.{AreFor}
 use Rattle.avro_compare.specs.Pairs.{wrapped, item_id, value_id, branch_id, field_for}
 use Rattle.avro_compare.specs.Resolve.{Resolved, Sourced, resolve, resolve_items, resolve_entries, resolve_sources, fields_at, result_map, through}
 use Rattle.avro_compare.specs.Source.{missing_field}
 use Rattle.avro_compare.specs.declared.guided.At.{At}
 use Rattle.avro_compare.specs.declared.guided.At.TheVariants.{Ignored, Pair}
-use Rattle.avro_resolve.specs.declared.guided.Made.{Made}
-use Rattle.avro_resolve.specs.declared.guided.Run.{Run}
-use Rattle.avro_resolve.specs.declared.guided.Slots.{Slots}
-use Rattle.avro_resolve.specs.declared.guided.Part.{Part}
-use Rattle.avro_resolve.specs.declared.guided.Filling.{Filling}
+use Rattle.avro_resolve.specs.declared.resolving.guided.Made.{Made}
+use Rattle.avro_resolve.specs.declared.resolving.guided.Run.{Run}
+use Rattle.avro_resolve.specs.declared.resolving.guided.Slots.{Slots}
+use Rattle.avro_resolve.specs.declared.resolving.guided.Part.{Part}
+use Rattle.avro_resolve.specs.declared.resolving.guided.Filling.{Filling}
 
 -- what was made is what resolution gives
 abbrev pub MadeAs : {O : Type 0} → (O → Value → Type 0) → Made O → Resolved → Type 0
@@ -155,9 +156,16 @@ branch_part writer part k = record { at = branch_for writer part.at k; index = p
 abbrev pub part_below : At → ℕ → Part
 part_below at index = record { at = at; index = index; branch = None }
 
+-- what is kept of the first fields is what these are for
+abbrev pub KnowsFields : {O F : Type 0} → List Node → List Node → Slots O F → List At → Type 0
+KnowsFields writer reader (Slots.Good slots start branch a b) known = AreFor (fields_at (node_at writer a.0)) (fields_at (node_at reader b.0)) known
+KnowsFields writer reader (Slots.Faulty fault) known = Unit {0}
+KnowsFields writer reader Slots.Nothing known = Unit {0}
+
 -- fields that were made so far, with what the next is for
 abbrev pub FillsAs : {O F : Type 0} → (O → Value → Type 0) → (Option ℕ → F → List Value → Type 0) → List Node → List Node → List Node → List FieldNode → At → Filling O F → List Value → Type 0
-FillsAs S T writer reader nodes fs at fields vs = FieldsStandAs S T writer reader nodes fs at fields.slots vs × (fields.next.at ≡ next_field writer reader fields.slots)
+FillsAs S T writer reader nodes fs at fields vs =
+    FieldsStandAs S T writer reader nodes fs at fields.slots vs × (fields.next.at ≡ next_field writer reader fields.slots) × KnowsFields writer reader fields.slots fields.known.now
 
 -- what was made is kept, and the two schemas are the same
 abbrev pub AreKept : Type 0 → List Node → List Node → List Node → List Node → Type 0

@@ -9,10 +9,10 @@ use Rattle.avro_resolve.specs.inside.Guided.{MadeAs, StandsAs, ItemsGood, RunAs,
 use Rattle.avro_compare.specs.Resolve.{Resolved, Sourced, sourced_at}
 use Rattle.avro_compare.specs.declared.guided.At.{At}
 use Rattle.avro_compare.specs.declared.guided.At.TheVariants.{Ignored, Pair}
-use Rattle.avro_resolve.specs.declared.guided.Made.{Made}
-use Rattle.avro_resolve.specs.declared.guided.Run.{Run}
-use Rattle.avro_resolve.specs.declared.guided.Slots.{Slots}
-use Rattle.avro_resolve.specs.declared.guided.Filling.{Filling}
+use Rattle.avro_resolve.specs.declared.resolving.guided.Made.{Made}
+use Rattle.avro_resolve.specs.declared.resolving.guided.Run.{Run}
+use Rattle.avro_resolve.specs.declared.resolving.guided.Slots.{Slots}
+use Rattle.avro_resolve.specs.declared.resolving.guided.Filling.{Filling}
 
 -- what some answers stand for, at a maker and at a later one
 abbrev pub Implies : {O V : Type 0} → (O → V → Type 0) → (O → V → Type 0) → Type 0
@@ -85,4 +85,4 @@ module _ {O F : Type 0} (S T : O → Value → Type 0) (law : Implies S T) (U V 
   fields_later (Pair w r) Slots.Nothing vs h = h
 
   pub fills_later : (at : At) (fields : Filling O F) (vs : List Value) → FillsAs S U writer reader nodes fs at fields vs → FillsAs T V writer reader nodes fs at fields vs
-  fills_later at fields vs h = (fields_later at fields.slots vs h.0, h.1)
+  fills_later at fields vs h = (fields_later at fields.slots vs h.0, h.1, h.2)

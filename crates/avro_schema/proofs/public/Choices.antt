@@ -19,14 +19,14 @@ HasFewChoices _ = Unit {0}
 
 -- ---- The branches of a union are distinct ids
 
-same_kind-self : (k : BranchKind) → same_kind k k ≡ true
+pub same_kind-self : (k : BranchKind) → same_kind k k ≡ true
 same_kind-self (unnamed a) = (Decides-eqb a a).1 refl
 same_kind-self (named name) =
     let first : bytes_eq name.namespace name.namespace ≡ true = (bytes_eq-Decides name.namespace name.namespace).1 refl in
     let second : bytes_eq name.simple name.simple ≡ true = (bytes_eq-Decides name.simple name.simple).1 refl in
     rw (first, second) refl
 
-has_some : {A : Type 0} (o : Option A) → is_some o ≡ true → (x : A) × (o ≡ Some x)
+pub has_some : {A : Type 0} (o : Option A) → is_some o ≡ true → (x : A) × (o ≡ Some x)
 has_some None h = absurd (false≢true h)
 has_some (Some x) h = (x, refl)
 
@@ -53,7 +53,7 @@ module _ (nodes : List Node) where
       let both = or_parts (same_kind k found.0) (list_any (same_kind k) (filter_map kind_at_id ys)) none' in
       (another x y k found.0 (eqb x y) e found.1 both.0 refl, kinds_apart x k ys e parts.1 both.1)
 
-  distinct_ids : (xs : List ℕ) → list_all (λ id. is_some (kind_at_id id)) xs ≡ true → are_distinct same_kind (filter_map kind_at_id xs) ≡ true → IsDistinct eqb xs
+  pub distinct_ids : (xs : List ℕ) → list_all (λ id. is_some (kind_at_id id)) xs ≡ true → are_distinct same_kind (filter_map kind_at_id xs) ≡ true → IsDistinct eqb xs
   unfolding IsDistinct
   distinct_ids [] some h = tt
   distinct_ids (x ∷ xs) some h =

@@ -12,12 +12,6 @@ use Rattle.avro_schema.specs.declared.datum.Datum.TheVariants as variants
 use Rattle.avro_schema.specs.declared.datum.Datum.TheFolds.{fold-roll-Datum}
 use Rattle.avro_schema.specs.declared.datum.Datum.TheShapes.{former-Datum-Map-0-at-2}
 
-pub value_of-Null : value_of Datum.Null ≡ Value.null
-value_of-Null = ap value_of (sym variants.rolls-Null) ∙ fold-roll-Datum Value view_step Datum-F.Null
-
-pub value_of-Bool : (b : Bool) → value_of (Datum.Bool b) ≡ Value.boolean b
-value_of-Bool b = ap value_of (sym (variants.rolls-Bool b)) ∙ fold-roll-Datum Value view_step (Datum-F.Bool b)
-
 pub value_of-Int : (i : ℤ) → value_of (Datum.Int i) ≡ Value.int i
 value_of-Int i = ap value_of (sym (variants.rolls-Int i)) ∙ fold-roll-Datum Value view_step (Datum-F.Int i)
 

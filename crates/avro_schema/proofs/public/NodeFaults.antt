@@ -2,7 +2,7 @@
 use Rattle.std.proofs.Common.{◌≡◌, ℕ, zero, suc, ◌+◌, ◌<◌, Bool, true, false, not, ◌&&◌, ◌||◌, List, [], ◌∷◌, length, refl, sym, ap, subst, ◌∙◌, arith, nat_lt, nat_le}
 use Rattle.std.specs.Prelude.{bytes_eq, filter_map, flat_map, Contains, slice_index_or, ◌↔◌}
 use Rattle.std.specs.List.{list_all, filter}
-use Rattle.std.proofs.lemmas.Bool.{and_parts, or_parts, false≢true, false_from_ne_true}
+use Rattle.std.proofs.lemmas.Bool.{and_parts, or_parts, or_right, not-false, not_from_true, false≢true, false_from_ne_true}
 use Rattle.std.proofs.lemmas.Option.{IfSome_then}
 use Rattle.avro_name.specs.Name.{is_simple_name, same_name}
 use Rattle.avro_schema.specs.Node.{Node, node_at, node_name}
@@ -11,27 +11,14 @@ use Rattle.avro_schema.specs.WellFormed.{max_nodes, max_count, is_default, field
 use Rattle.avro_schema.specs.Faulty.{NodeFault, unknown_node, duplicate_name, invalid_name, invalid_union, invalid_symbols, duplicate_field, invalid_default, limit_exceeded, all_faults, has_good_edges, names_inside, has_union_rule, has_symbols_rule, has_fields_rule, has_defaults_rule, is_within_limit, breaks, some_breaks, list_breaks, has_fault, faults_of_nodes, IsThere, fault_of, IsRefused, IsRefusedSomewhere}
 use Rattle.avro_schema.specs.declared.fault.DraftError.{DraftError}
 
--- a rule that is kept is not broken, and one that is not broken is kept; where it is asked only if another holds, too
-kept : (b : Bool) → not b ≡ false → b ≡ true
-kept true h = refl
-kept false h = absurd (false≢true (sym h))
-
-unbroken : (b : Bool) → b ≡ true → not b ≡ false
-unbroken true h = refl
-unbroken false h = absurd (false≢true h)
-
+-- a rule that is asked only if another holds
 kept-under : (a b : Bool) → a ≡ true → (a && not b) ≡ false → b ≡ true
-kept-under true b h k = kept b k
+kept-under true b h k = not-false b k
 kept-under false b h k = absurd (false≢true h)
 
 unbroken-under : (a b : Bool) → b ≡ true → (a && not b) ≡ false
-unbroken-under true b h = unbroken b h
+unbroken-under true b h = not_from_true b h
 unbroken-under false b h = refl
-
--- where the second is so, one of both is
-or_right : (a b : Bool) → b ≡ true → (a || b) ≡ true
-or_right true b h = refl
-or_right false b h = h
 
 -- ---- a node
 
@@ -77,16 +64,16 @@ no_rules nodes _ met = record { names = refl; branches = refl; symbols = refl; f
 
 good-from_none_broken : (nodes : List Node) (id : ℕ) (n : Node) → ((fault : NodeFault) → breaks fault nodes id n ≡ false) → is_good_node nodes id n ≡ true
 good-from_none_broken nodes id n clean =
-    let edges = kept (has_good_edges nodes id n) (clean unknown_node) in
+    let edges = not-false (has_good_edges nodes id n) (clean unknown_node) in
     let names = and_parts (list_all is_simple_name (names_inside n)) (has_good_names n)
-    (kept (list_all is_simple_name (names_inside n) && has_good_names n) (clean invalid_name)) in
+    (not-false (list_all is_simple_name (names_inside n) && has_good_names n) (clean invalid_name)) in
     let rules = rules_meet nodes n (record {
       names = names.0;
       branches = kept-under (has_good_edges nodes id n) (has_union_rule nodes n) edges (clean invalid_union);
-      symbols = kept (has_symbols_rule n) (clean invalid_symbols);
-      fields = kept (has_fields_rule n) (clean duplicate_field);
+      symbols = not-false (has_symbols_rule n) (clean invalid_symbols);
+      fields = not-false (has_fields_rule n) (clean duplicate_field);
       defaults = kept-under (has_good_edges nodes id n) (has_defaults_rule nodes n) edges (clean invalid_default);
-      limit = kept (is_within_limit n) (clean limit_exceeded);
+      limit = not-false (is_within_limit n) (clean limit_exceeded);
     }) in
     rw (edges, names.1, rules) refl
 
@@ -98,14 +85,14 @@ none_broken-from_good fault nodes id n good =
     by_fault fault two.0 two.1 (no_rules nodes n three.1)
   where
     by_fault : (fault : NodeFault) → has_good_edges nodes id n ≡ true → has_good_names n ≡ true → KindRules nodes n → breaks fault nodes id n ≡ false
-    by_fault unknown_node edges names rules = unbroken (has_good_edges nodes id n) edges
+    by_fault unknown_node edges names rules = not_from_true (has_good_edges nodes id n) edges
     by_fault duplicate_name edges names rules = refl
-    by_fault invalid_name edges names rules = unbroken (list_all is_simple_name (names_inside n) && has_good_names n) (rw (rules.names, names) refl)
+    by_fault invalid_name edges names rules = not_from_true (list_all is_simple_name (names_inside n) && has_good_names n) (rw (rules.names, names) refl)
     by_fault invalid_union edges names rules = unbroken-under (has_good_edges nodes id n) (has_union_rule nodes n) rules.branches
-    by_fault invalid_symbols edges names rules = unbroken (has_symbols_rule n) rules.symbols
-    by_fault duplicate_field edges names rules = unbroken (has_fields_rule n) rules.fields
+    by_fault invalid_symbols edges names rules = not_from_true (has_symbols_rule n) rules.symbols
+    by_fault duplicate_field edges names rules = not_from_true (has_fields_rule n) rules.fields
     by_fault invalid_default edges names rules = unbroken-under (has_good_edges nodes id n) (has_defaults_rule nodes n) rules.defaults
-    by_fault limit_exceeded edges names rules = unbroken (is_within_limit n) rules.limit
+    by_fault limit_exceeded edges names rules = not_from_true (is_within_limit n) rules.limit
 
 -- ---- nodes
 
@@ -126,8 +113,8 @@ pub is_schema-from_no_fault : (nodes : List Node) → ((fault : NodeFault) → h
 is_schema-from_no_fault nodes clean =
     let parts : (fault : NodeFault) → (list_breaks fault nodes ≡ false) × (some_breaks fault nodes 0 nodes ≡ false) =
     λ fault. or_parts (list_breaks fault nodes) (some_breaks fault nodes 0 nodes) (clean fault) in
-    let counted = kept (nat_lt 0 (length nodes) && nat_le (length nodes) max_nodes) (parts limit_exceeded).0 in
-    let distinct = kept (are_distinct same_name (filter_map node_name nodes)) (parts duplicate_name).0 in
+    let counted = not-false (nat_lt 0 (length nodes) && nat_le (length nodes) max_nodes) (parts limit_exceeded).0 in
+    let distinct = not-false (are_distinct same_name (filter_map node_name nodes)) (parts duplicate_name).0 in
     let good = good_nodes-from_none_broken nodes 0 nodes (λ fault. (parts fault).1) in
     rw (counted, good, distinct) refl
 
@@ -142,8 +129,8 @@ no_fault-from_is_schema nodes formed fault =
   where
     by_fault : (fault : NodeFault) → (nat_lt 0 (length nodes) && nat_le (length nodes) max_nodes) ≡ true
         → are_distinct same_name (filter_map node_name nodes) ≡ true → list_breaks fault nodes ≡ false
-    by_fault duplicate_name counted distinct = unbroken (are_distinct same_name (filter_map node_name nodes)) distinct
-    by_fault limit_exceeded counted distinct = unbroken (nat_lt 0 (length nodes) && nat_le (length nodes) max_nodes) counted
+    by_fault duplicate_name counted distinct = not_from_true (are_distinct same_name (filter_map node_name nodes)) distinct
+    by_fault limit_exceeded counted distinct = not_from_true (nat_lt 0 (length nodes) && nat_le (length nodes) max_nodes) counted
     by_fault unknown_node counted distinct = refl
     by_fault invalid_name counted distinct = refl
     by_fault invalid_union counted distinct = refl

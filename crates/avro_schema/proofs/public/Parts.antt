@@ -50,22 +50,3 @@ mutual
   size-among_entries (first_entry {k = k} {v = v} {es = es}) = omega arith
   size-among_entries (in_entry {k = k} {v = v} {w = w} {es = es} part) = omega (arith, size-part part)
   size-among_entries (later_entry {k = k} {v = v} {w = w} {es = es} among) = omega (arith, size-among_entries among)
-
--- a part has fewer levels than the whole
-mutual
-  pub depth-part : {v w : Value} → IsPart v w → depth v < depth w
-  depth-part (of_array {v = v} {vs = vs} among) = omega (arith, depth-among_values among)
-  depth-part (of_map {v = v} {es = es} among) = omega (arith, depth-among_entries among)
-  depth-part (of_union {v = v} {k = k}) = omega arith
-  depth-part (of_branch {v = v} {w = w} {k = k} part) = omega (arith, depth-part part)
-  depth-part (of_record {v = v} {vs = vs} among) = omega (arith, depth-among_values among)
-
-  pub depth-among_values : {v : Value} {vs : Values} → IsAmongValues v vs → depth v ≤ values_depth vs
-  depth-among_values (first_value {v = v} {vs = vs}) = omega arith
-  depth-among_values (in_value {v = v} {w = w} {vs = vs} part) = omega (arith, depth-part part)
-  depth-among_values (later_value {v = v} {w = w} {vs = vs} among) = omega (arith, depth-among_values among)
-
-  pub depth-among_entries : {v : Value} {es : Entries} → IsAmongEntries v es → depth v ≤ entries_depth es
-  depth-among_entries (first_entry {k = k} {v = v} {es = es}) = omega arith
-  depth-among_entries (in_entry {k = k} {v = v} {w = w} {es = es} part) = omega (arith, depth-part part)
-  depth-among_entries (later_entry {k = k} {v = v} {w = w} {es = es} among) = omega (arith, depth-among_entries among)

@@ -1,11 +1,14 @@
--- The keys of branches: JSON fits a branch of one of two keys alone.
-use Rattle.std.specs.Prelude.{◌≡◌, ◌+◌, ◌≤◌, ◌<◌, ℕ, List, [], ◌∷◌, length, slice_get, Some, None}
+-- The keys of branches: JSON fits a branch of one of two keys, or an enum of which it is a symbol.
+use Rattle.std.specs.Prelude.{◌≡◌, ◌+◌, ◌≤◌, ◌<◌, ℕ, List, [], ◌∷◌, length, slice_get, Option, Some, None}
 use Rattle.std.specs.Option.{unwrap_or}
 use Rattle.std.specs.Ordering.{nat_cmp}
 use Rattle.std.specs.Str.{chars}
-use Rattle.std.specs.BTreeMap.{get}
+use Rattle.std.specs.Cmp.Lexicographic.{slice_cmp}
+use Rattle.std.specs.BTreeMap.{BTreeMap, get, get_by}
+use denote.Ref.{Bor}
 use Rattle.avro_schema.specs.Node.{Node, FieldNode, node_at, branches_of}
 use Rattle.serde_json.specs.Data.{Data, Members, no_members, member}
+use Rattle.avro_schema_json.specs.DeclaredAttributes.{symbol_index}
 use Rattle.avro_schema_json.specs.inside.OwnDefaults.{own_default}
 use Rattle.avro_schema_json.specs.declared.defaults.union_table.UnionTable.{UnionTable}
 
@@ -21,10 +24,10 @@ branch_key Node.int = 2
 branch_key Node.long = 2
 branch_key Node.bytes = 3
 branch_key Node.string = 3
-branch_key (Node.enum name aliases symbols default) = 3
 branch_key (Node.array id) = 4
 branch_key (Node.map_of id) = 5
 branch_key (Node.union ids) = 6
+branch_key (Node.enum name aliases symbols default) = 6
 branch_key (Node.record_of name aliases fields) = fields_key fields
 branch_key (Node.fixed name aliases count) = count + 9
 
@@ -54,13 +57,33 @@ size_key (Data.object ms) = members_key ms
 abbrev pub Skips : List Node → List ℕ → ℕ → ℕ → ℕ → Type 0
 Skips nodes ids key from to = (j id : ℕ) → from ≤ j → j < to → slice_get ids j ≡ Some id → branch_key (node_at nodes id) ≡ key → ⊥
 
--- no branch of a key is before the index that a table has for it
+-- the symbols of a node
+abbrev pub symbols_of : Node → List (List ℕ)
+symbols_of (Node.enum name aliases symbols default) = symbols
+symbols_of _ = []
+
+-- no branch from one index up to another is an enum of a symbol
+abbrev pub SkipsSymbol : List Node → List ℕ → List ℕ → ℕ → ℕ → Type 0
+SkipsSymbol nodes ids word from to = (j id : ℕ) → from ≤ j → j < to → slice_get ids j ≡ Some id → symbol_index word (symbols_of (node_at nodes id)) ≡ None
+
+-- what is kept for a word
+abbrev pub find_word : BTreeMap (Bor (List ℕ)) ℕ → List ℕ → Option ℕ
+find_word kept word = get_by (λ k. slice_cmp nat_cmp word k.now) kept
+
+-- no branch of a key is before the index that a table has for it, and no enum of a symbol
 abbrev pub IsTable : List Node → List ℕ → UnionTable → Type 0
-IsTable nodes ids table = (key : ℕ) → Skips nodes ids key 0 (unwrap_or (get nat_cmp table.first key) table.other)
+IsTable nodes ids table =
+    ((key : ℕ) → Skips nodes ids key 0 (unwrap_or (get nat_cmp table.first key) table.other))
+    × ((word : List ℕ) → SkipsSymbol nodes ids word 0 (unwrap_or (find_word table.symbols word) table.no_symbol))
 
 -- one table for each union
 abbrev pub AreTables : List Node → List UnionTable → Type 0
 AreTables nodes tables = (m : ℕ) (ids : List ℕ) (table : UnionTable) → branches_of (node_at nodes m) ≡ Some ids → slice_get tables m ≡ Some table → IsTable nodes ids table
+
+-- no branch before an index has one of the two keys of the JSON
+abbrev pub HasNoKeyBefore : List Node → Data → List ℕ → ℕ → Type 0
+HasNoKeyBefore nodes d ids to =
+    (j id : ℕ) → j < to → slice_get ids j ≡ Some id → (branch_key (node_at nodes id) ≡ kind_key d → ⊥) × (branch_key (node_at nodes id) ≡ size_key d → ⊥)
 
 -- the JSON is not a default of a branch before an index
 abbrev pub FitsNoneBefore : List Node → Data → List ℕ → ℕ → Type 0

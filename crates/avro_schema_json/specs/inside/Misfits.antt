@@ -6,11 +6,9 @@ use Rattle.std.specs.BTreeMap.{BTreeMap, get_by}
 use Rattle.std.specs.BTreeSet.{BTreeSet, contains}
 use denote.Ref.{Bor}
 use Rattle.avro_schema.specs.Node.{Node, node_at}
-use Rattle.avro_schema.specs.Seen.{ids_of}
-use Rattle.avro_schema.specs.declared.schema.NodeId.{NodeId}
 use Rattle.serde_json.specs.Data.{Data, Items, Members}
 use Rattle.serde_json.specs.Find.{get_item, get_member}
-use Rattle.avro_schema_json.specs.DeclaredDefaults.{default_of, first_fit}
+use Rattle.avro_schema_json.specs.DeclaredDefaults.{default_of}
 use Rattle.avro_schema_json.specs.inside.OwnDefaults.{own_default}
 
 abbrev pub has_id : BTreeSet ℕ → ℕ → Bool
@@ -19,10 +17,6 @@ has_id ids m = contains nat_cmp ids m
 -- the JSON is not a default of the nodes of these ids
 abbrev pub AreMisfits : List Node → Data → BTreeSet ℕ → Type 0
 AreMisfits nodes d ids = (m : ℕ) → has_id ids m ≡ true → own_default nodes d (node_at nodes m) ≡ None
-
--- the JSON is not a default of any of these branches
-abbrev pub FitsNoBranch : List Node → Data → List NodeId → Type 0
-FitsNoBranch nodes d ids = (k : ℕ) → first_fit nodes (own_default nodes d) k (ids_of ids) ≡ None
 
 -- the member of a key is not a default of the node of an id
 abbrev pub IsMemberMisfit : List Node → Members → List ℕ → ℕ → Type 0

@@ -3,6 +3,7 @@
 ghost use Rattle.std.specs.Prelude.{◌≡◌, true, None, List, IfOk};
 ghost use Rattle.avro_schema.specs.Node.{Node as SeenNode, node_at};
 ghost use Rattle.avro_schema.specs.Seen.{ids_of};
+ghost use Rattle.avro_schema_json.specs.inside.BranchKeys.{IsTable, AreTables};
 ghost use Rattle.avro_schema_json.specs.inside.Misfits.{AreMisfits, AreItemMisfits, AreMemberMisfits, IsMemberMisfit};
 ghost use Rattle.avro_schema_json.specs.inside.Characters.{characters_in};
 ghost use Rattle.avro_schema_json.specs.inside.OwnDefaults.{own_default as own_default_by, default_of_fields, fields_seen, all_without_defaults, without_defaults};
@@ -13,7 +14,9 @@ ghost use Rattle.serde_json.specs.View.{view, items_view, members_view};
 use crate::defaults::fields::names_fields;
 use crate::defaults::known::{has, next_index, of_item, of_member};
 use crate::defaults::plain_defaults::{number_default, text_default};
+use crate::defaults::tables::{first_branch, no_table, table_at};
 use crate::defaults::unfit::{characters_of, is_unfit};
+use crate::defaults::union_table::UnionTable;
 use crate::raw::{RawField, RawNode};
 use crate::raw_nodes::{branches, raw_at};
 use avro_schema::{Memory, NodeId};
@@ -26,37 +29,46 @@ use std::collections::{BTreeMap, BTreeSet};
 pub(crate) fn is_misfit(
     alloc: Global,
     raws: &[RawNode],
+    tables: &[UnionTable],
     tree: &Value,
     known: &BTreeSet<u32>,
     id: NodeId,
 ) -> Result<bool, Memory>
+    requires tables { AreTables (all_without_defaults raws.now) tables.now }
     requires known { AreMisfits (all_without_defaults raws.now) (view tree.now) known.now }
     ensures { IfOk result (λ answer. answer ≡ true → default_by (all_without_defaults raws.now) (view tree.now) (node_at (all_without_defaults raws.now) id.0) ≡ None) }
 {
     let null = RawNode::Null;
     match branches(raw_at(&*raws, &null, id)) {
         None => is_own_misfit(alloc, raws, &null, tree, characters_of(tree), known, id),
-        Some(ids) => fits_no_branch(alloc, raws, &null, tree, known, ids),
+        Some(ids) => {
+            let nothing = no_table(alloc);
+            let table = table_at(raws, tables, &nothing, id, ids);
+            fits_no_branch(alloc, raws, table, &null, tree, known, ids)
+        }
     }
 }
 
-/// Whether JSON is a default of none of some branches.
+/// Whether JSON is a default of none of some branches. The table tells where to begin.
 fn fits_no_branch(
     alloc: Global,
     raws: &[RawNode],
+    table: &UnionTable,
     null: &RawNode,
     tree: &Value,
     known: &BTreeSet<u32>,
     ids: &[NodeId],
 ) -> Result<bool, Memory>
+    requires table { IsTable (all_without_defaults raws.now) (ids_of ids.now) table.now }
     requires null { without_defaults null.now ≡ SeenNode.null }
     requires known { AreMisfits (all_without_defaults raws.now) (view tree.now) known.now }
     ensures { IfOk result (λ answer. answer ≡ true
         → first_fit (all_without_defaults raws.now) (own_default_by (all_without_defaults raws.now) (view tree.now)) 0 (ids_of ids.now) ≡ None) }
 {
     let characters = characters_of(tree);
-    for id in ids {
-        if !is_own_misfit(alloc, raws, null, tree, characters, known, *id)? {
+    let start = first_branch(table, tree, characters)?;
+    for i in start..ids.len() {
+        if !is_own_misfit(alloc, raws, null, tree, characters, known, ids[i])? {
             return Ok(false);
         }
     }
@@ -121,17 +133,19 @@ fn is_text_misfit(alloc: Global, text: &str, node: &RawNode) -> Result<bool, Mem
 pub(crate) fn is_array_misfit(
     alloc: Global,
     raws: &[RawNode],
+    tables: &[UnionTable],
     items: &Vec<Value>,
     parts: &[BTreeSet<u32>],
     id: NodeId,
 ) -> Result<bool, Memory>
+    requires tables { AreTables (all_without_defaults raws.now) tables.now }
     requires parts { AreItemMisfits (all_without_defaults raws.now) (items_view items.now.items) parts.now }
     ensures { IfOk result (λ answer. answer ≡ true
         → own_default_by (all_without_defaults raws.now) (Data.array (items_view items.now.items)) (node_at (all_without_defaults raws.now) id.0) ≡ None) }
 {
     let null = RawNode::Null;
     match raw_at(&*raws, &null, id) {
-        RawNode::Array(of_items) => is_one_misfit(alloc, raws, items, parts, *of_items),
+        RawNode::Array(of_items) => is_one_misfit(alloc, raws, tables, items, parts, *of_items),
         _ => Ok(true),
     }
 }
@@ -140,10 +154,12 @@ pub(crate) fn is_array_misfit(
 fn is_one_misfit(
     alloc: Global,
     raws: &[RawNode],
+    tables: &[UnionTable],
     items: &Vec<Value>,
     parts: &[BTreeSet<u32>],
     id: NodeId,
 ) -> Result<bool, Memory>
+    requires tables { AreTables (all_without_defaults raws.now) tables.now }
     requires parts { AreItemMisfits (all_without_defaults raws.now) (items_view items.now.items) parts.now }
     ensures { IfOk result (λ answer. answer ≡ true
         → each_default (all_without_defaults raws.now) (items_view items.now.items) (node_at (all_without_defaults raws.now) id.0) ≡ None) }
@@ -152,7 +168,7 @@ fn is_one_misfit(
     let mut index = 0usize;
     for item in items {
         let known = of_item(parts, &nothing, index);
-        if is_misfit(alloc, raws, item, known, id)? {
+        if is_misfit(alloc, raws, tables, item, known, id)? {
             return Ok(true);
         }
         index = next_index(index)?;
@@ -164,18 +180,22 @@ fn is_one_misfit(
 pub(crate) fn is_object_misfit(
     alloc: Global,
     raws: &[RawNode],
+    tables: &[UnionTable],
     members: &Map<String, Value>,
     parts: &BTreeMap<&str, BTreeSet<u32>>,
     id: NodeId,
 ) -> Result<bool, Memory>
+    requires tables { AreTables (all_without_defaults raws.now) tables.now }
     requires parts { AreMemberMisfits (all_without_defaults raws.now) (members_view members.now.entries) parts.now }
     ensures { IfOk result (λ answer. answer ≡ true
         → own_default_by (all_without_defaults raws.now) (Data.object (members_view members.now.entries)) (node_at (all_without_defaults raws.now) id.0) ≡ None) }
 {
     let null = RawNode::Null;
     match raw_at(&*raws, &null, id) {
-        RawNode::Map(values) => is_map_misfit(alloc, raws, members, parts, *values),
-        RawNode::Record(record) => { is_record_misfit(alloc, raws, members, parts, &record.fields) }
+        RawNode::Map(values) => is_map_misfit(alloc, raws, tables, members, parts, *values),
+        RawNode::Record(record) => {
+            is_record_misfit(alloc, raws, tables, members, parts, &record.fields)
+        }
         _ => Ok(true),
     }
 }
@@ -184,16 +204,18 @@ pub(crate) fn is_object_misfit(
 fn is_map_misfit(
     alloc: Global,
     raws: &[RawNode],
+    tables: &[UnionTable],
     members: &Map<String, Value>,
     parts: &BTreeMap<&str, BTreeSet<u32>>,
     id: NodeId,
 ) -> Result<bool, Memory>
+    requires tables { AreTables (all_without_defaults raws.now) tables.now }
     requires parts { AreMemberMisfits (all_without_defaults raws.now) (members_view members.now.entries) parts.now }
     ensures { IfOk result (λ answer. answer ≡ true
         → entries_default (all_without_defaults raws.now) (members_view members.now.entries) (node_at (all_without_defaults raws.now) id.0) ≡ None) }
 {
     for (key, _) in members.iter() {
-        if is_member_misfit(alloc, raws, members, parts, key.as_str(), id)? {
+        if is_member_misfit(alloc, raws, tables, members, parts, key.as_str(), id)? {
             return Ok(true);
         }
     }
@@ -204,17 +226,26 @@ fn is_map_misfit(
 fn is_member_misfit(
     alloc: Global,
     raws: &[RawNode],
+    tables: &[UnionTable],
     members: &Map<String, Value>,
     parts: &BTreeMap<&str, BTreeSet<u32>>,
     key: &str,
     id: NodeId,
 ) -> Result<bool, Memory>
+    requires tables { AreTables (all_without_defaults raws.now) tables.now }
     requires parts { AreMemberMisfits (all_without_defaults raws.now) (members_view members.now.entries) parts.now }
     ensures { IfOk result (λ answer. answer ≡ true → IsMemberMisfit (all_without_defaults raws.now) (members_view members.now.entries) key.now id.0) }
 {
     let nothing: BTreeSet<u32> = BTreeSet::new(alloc);
     match members.get(key) {
-        Some(tree) => is_misfit(alloc, raws, tree, of_member(parts, &nothing, key), id),
+        Some(tree) => is_misfit(
+            alloc,
+            raws,
+            tables,
+            tree,
+            of_member(parts, &nothing, key),
+            id,
+        ),
         None => Ok(false),
     }
 }
@@ -223,10 +254,12 @@ fn is_member_misfit(
 fn is_record_misfit(
     alloc: Global,
     raws: &[RawNode],
+    tables: &[UnionTable],
     members: &Map<String, Value>,
     parts: &BTreeMap<&str, BTreeSet<u32>>,
     fields: &[RawField],
 ) -> Result<bool, Memory>
+    requires tables { AreTables (all_without_defaults raws.now) tables.now }
     requires parts { AreMemberMisfits (all_without_defaults raws.now) (members_view members.now.entries) parts.now }
     ensures { IfOk result (λ answer. answer ≡ true
         → default_of_fields (all_without_defaults raws.now) (members_view members.now.entries) (fields_seen fields.now) ≡ None) }
@@ -234,7 +267,7 @@ fn is_record_misfit(
     if lacks_field(members, fields) {
         return Ok(true);
     }
-    if is_field_misfit(alloc, raws, members, parts, fields)? {
+    if is_field_misfit(alloc, raws, tables, members, parts, fields)? {
         return Ok(true);
     }
     Ok(!names_fields(alloc, members, fields)?)
@@ -256,16 +289,26 @@ pub(crate) fn lacks_field(members: &Map<String, Value>, fields: &[RawField]) -> 
 fn is_field_misfit(
     alloc: Global,
     raws: &[RawNode],
+    tables: &[UnionTable],
     members: &Map<String, Value>,
     parts: &BTreeMap<&str, BTreeSet<u32>>,
     fields: &[RawField],
 ) -> Result<bool, Memory>
+    requires tables { AreTables (all_without_defaults raws.now) tables.now }
     requires parts { AreMemberMisfits (all_without_defaults raws.now) (members_view members.now.entries) parts.now }
     ensures { IfOk result (λ answer. answer ≡ true
         → default_of_fields (all_without_defaults raws.now) (members_view members.now.entries) (fields_seen fields.now) ≡ None) }
 {
     for field in fields {
-        if is_member_misfit(alloc, raws, members, parts, field.name.as_str(), field.node)? {
+        if is_member_misfit(
+            alloc,
+            raws,
+            tables,
+            members,
+            parts,
+            field.name.as_str(),
+            field.node,
+        )? {
             return Ok(true);
         }
     }

@@ -1,11 +1,17 @@
 use std::collections::BTreeMap;
 
-/// Where in a union the first branch of each key is. A key tells the JSON that may fit a branch.
+/// Where in a union the first branch of each key is, and the first enum of each symbol. A key tells
+/// the JSON that may fit a branch.
 #[derive(Drop)]
-pub(crate) struct UnionTable {
+pub(crate) struct UnionTable<'a> {
     /// The index of the first branch of each key.
     pub first: BTreeMap<usize, usize>,
     /// The result for a key that no branch has: the number of branches, or 0 where there is no
     /// table.
     pub other: usize,
+    /// The index of the first enum of each symbol.
+    pub symbols: BTreeMap<&'a str, usize>,
+    /// The result for a word that is no symbol: the number of branches, or 0 where the symbols are
+    /// not kept.
+    pub no_symbol: usize,
 }

@@ -5,15 +5,12 @@ use crate::failure::Failure;
 use crate::files::schema::read_schema_file;
 use crate::printing::print;
 use crate::request::Explaining;
-use avro_answer::{Form, append_fault, begin_faults, end_of_faults, no_fault, over_pairs};
+use avro_answer::{Form, PutError, no_fault, over_pairs, put_faults};
 use avro_explain::{ExplainError, Explanation, explain};
 use avro_schema::Schema;
 use std::alloc::Global;
 use std::io::Write;
 use std::rt::Files;
-
-/// An answer that is longer is printed in several writes.
-const PIECE: usize = 1_048_576;
 
 /// Finds all faults of the schemas of two files, and prints them.
 pub(crate) fn explain_files<'a, R: Files + AllocGlobal, O: Write>(
@@ -49,18 +46,9 @@ fn print_faults<'a, O: Write>(
     form: Form,
     out: &mut O,
 ) -> Result<(), Failure<'a>> {
-    let mut text = begin_faults(alloc, found.faults.len(), form)?;
-    let mut is_first = true;
-    for fault in &found.faults {
-        append_fault(
-            &mut text, alloc, writer, reader, found, *fault, form, is_first,
-        )?;
-        is_first = false;
-        if text.len() > PIECE {
-            print(out, &text)?;
-            text.clear();
-        }
+    match put_faults(out, alloc, writer, reader, found, form) {
+        Ok(()) => Ok(()),
+        Err(PutError::CannotWrite) => Err(Failure::CannotPrint),
+        Err(PutError::OutOfMemory) => Err(Failure::OutOfMemory),
     }
-    text.push_str(end_of_faults(form))?;
-    print(out, &text)
 }

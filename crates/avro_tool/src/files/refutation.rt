@@ -1,3 +1,6 @@
+ghost use Rattle.std.specs.Prelude.{◌++◌, OnOk};
+ghost use Rattle.avro_container.specs.Parts.{header_part, block_part, properties_of};
+
 use crate::failure::Failure;
 use avro_binary::append_plain;
 use avro_canonical::fingerprint;
@@ -48,7 +51,9 @@ fn put_block<O: Output>(
     metadata: &[(String, Vec<u8>)],
     sync: [u8; 16],
     body: &[u8],
-) -> Result<(), CopyError> {
+) -> Result<(), CopyError>
+    ensures { OnOk result (O.keeps output.old (header_part (properties_of metadata.now) sync ++ block_part sync 1 body.now) output.new) }
+{
     let mut sink = Sink::start(alloc, output, metadata, sync)?;
     sink.block(output, 1, body)?;
     match output.flush() {

@@ -2,8 +2,6 @@
 use Rattle.std.proofs.Common.{◌≡◌, ℕ, zero, suc, ◌+◌, ◌*◌, ◌/◌, ◌%◌, ◌^◌, ◌<◌, ◌≤◌, ℤ, pos, negsuc, Bool, true, false, List, [], ◌∷◌, ◌++◌, length, refl, sym, ap, ◌∙◌, add-one, arith}
 use Rattle.std.proofs.lemmas.Bool.Decides.{nat_tests}
 use Rattle.std.specs.Prelude.{nat_lt}
-use Rattle.std.specs.List.{All}
-use Rattle.std.proofs.lemmas.List.Elements.{All-nil, All-cons}
 use Rattle.std.proofs.Math.Nat.{pow-suc}
 use Rattle.avro_zigzag.specs.Number.{zigzag, are_groups, groups_value, AreGroups, AreLeastGroups, SpellsInt, SpellsLong, IsShortest, groups_within, number_bytes, is_int, is_long}
 
@@ -131,9 +129,6 @@ none_shorter_lem most v short bytes s t = s.shortest bytes t.groups t.value
 
 -- ---- How long a spelling is
 
-pub spelling-some : {most : ℕ} (v : ℤ) (a : List ℕ) → AreGroups most (zigzag v) a → 1 ≤ length a
-spelling-some v a s = are_groups-some a s.groups
-
 -- one power of 128 more
 pub power-more : (k : ℕ) → 128 ^ (k + 1) ≡ 128 * 128 ^ k
 power-more k = rw add-one (omega (arith, pow-suc 128 k))
@@ -193,15 +188,3 @@ SpellsLong-number_bytes v h = SpellsLong-from_shortest v (number_bytes v) h (IsS
 
 pub SpellsInt-number_bytes : (v : ℤ) → is_int v ≡ true → SpellsInt v (number_bytes v)
 SpellsInt-number_bytes v h = SpellsInt-from_shortest v (number_bytes v) h (IsShortest-number_bytes v)
-
--- ---- Bytes
-
--- groups are bytes
-pub are_groups-bytes : (bytes : List ℕ) → are_groups bytes ≡ true → All (λ b. b < 256) bytes
-are_groups-bytes [] h = absurd (grind arith)
-are_groups-bytes (b ∷ []) h = let low = are_groups-last b h in All-cons (λ x. x < 256) b [] (omega arith) (All-nil (λ x. x < 256))
-are_groups-bytes (b ∷ c ∷ bytes) h =
-    let parts = are_groups-more b c bytes h in All-cons (λ x. x < 256) b (c ∷ bytes) parts.1 (are_groups-bytes (c ∷ bytes) parts.2)
-
-pub spelling-bytes : {most : ℕ} (v : ℤ) (a : List ℕ) → AreGroups most (zigzag v) a → All (λ b. b < 256) a
-spelling-bytes v a s = are_groups-bytes a s.groups

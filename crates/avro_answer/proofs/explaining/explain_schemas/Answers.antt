@@ -27,6 +27,7 @@ returns-in_ok-from_slice-in-Ok-clause-answered c = λ is_text.
     (c.in-Ok.ensures.compatible (no_member found.faults.items found.faults.len c.is_empty.result found.faults.ok.0 c.is_empty.ensures c.if-is_empty.true)))
     (λ h. c.in_ok-from_slice-in-Ok.ensures.items ∙ (c.as_bytes.ensures.value ∙ c.no_fault.ensures is_text))
     (λ h. absurd (omega (arith, h)))
+    (λ h. absurd (omega (arith, h)))
 
 pub returns-in_ok-faults_text-in-Ok-2-clause-status :
     goal.returns-in_ok-faults_text-in-Ok-2-clause-status
@@ -50,3 +51,14 @@ returns-in_ok-faults_text-in-Ok-2-clause-answered c = λ is_text.
     (λ compatible. some_member found.faults.items found.faults.len c.is_empty.result found.faults.ok.0 c.is_empty.ensures c.if-is_empty.false (c.in-Ok.ensures.none compatible)))
     (λ h. absurd (omega (arith, h)))
     (λ h. absurd (omega (arith, h)))
+    (λ h. record {
+      dead = marked found.dead.items;
+      greatest = c.in-Ok.ensures.dead;
+      places = found.places.items;
+      reached = c.in-Ok.ensures.visited;
+      placed = c.in-Ok.ensures.placed;
+      breadth = c.in-Ok.ensures.breadth;
+      faults = found.faults.items;
+      exact = c.in-Ok.ensures.faults;
+      told = c.in_ok-faults_text-in-Ok-2.ensures is_text c.in-Ok.ensures.faults;
+    })

@@ -1,18 +1,24 @@
 use Rattle.std.proofs.Common.{zero, suc, get_or, ◌+◌, drop, Bool, false, nat_lt, rules, tests, ◌≡◌, refl, sym, ap, ◌∙◌, subst, ℕ, List, [], ◌∷◌, ◌++◌, ◌<◌, ◌≤◌, length, take, arith, true, length-append, append_assoc, append-nil}
-use Rattle.std.specs.Prelude.{IsTrue, Some, slice_get}
+use Rattle.std.specs.Prelude.{IsTrue, Some, slice_get, replicate, OnOk, ◌-◌, ◌*◌, ◌^◌}
+use Rattle.std.specs.Result.{IfErr}
 use Rattle.std.specs.List.{concat}
 use Rattle.std.proofs.lemmas.Bool.{false≢true}
 use Rattle.avro_schema.specs.declared.schema.Field.{Field}
 use Rattle.std.proofs.lemmas.Result.{err_from_is_err_and}
-use Rattle.avro_schema.specs.Value.{Value}
+use Rattle.avro_schema.specs.Value.{Value, size}
 use Rattle.avro_schema.specs.Node.{Node, node_at, field_ids}
 use Rattle.avro_schema.specs.Seen.{node_of, ids_of, seen_fields, texts_of}
 use Rattle.avro_schema.specs.SeenSchema.{schema_nodes}
 use Rattle.avro_binary.specs.Elements.{Finds, IsIndex}
+use Rattle.avro_binary.specs.Fault.{limit_exceeded}
+use Rattle.avro_binary.specs.Seen.{read_fault}
+use Rattle.avro_binary.specs.inside.CountsAgain.{CountsAgain}
 use Rattle.avro_binary.specs.Making.{Made}
 use Rattle.avro_binary.specs.CursorReads.{limits_at}
 use Rattle.avro_binary.proofs.BlockSteps.{head_read, end_read, has_size, blocks_none, head_refused, item_refused, size_refused, depth_kept, blob_kept, offset_is, block_smaller, blocks_push}
 use Rattle.avro_binary.proofs.NodeSteps.{node_left, node_refused, enter_refused, ArrayDone, array_found, map_found, FieldsDone, fields_none, branch_refused, union_found, branch_at, ids-length, texts-length, null_past, fields_push, field_breaks, record_found, record_refused, ids_split, ids_next, ids_all}
+use Rattle.avro_binary.proofs.public.Ranges.{bytes-below}
+use Rattle.avro_binary.proofs.Repeated.{others_last, same_reads}
 use Rattle.avro_binary.proofs.RunLaws.{values_kind, entries_kind}
 use Rattle.avro_binary.proofs.RunSteps.{run_none, run_push, run_breaks, value_run, value_report, entry_run, entry_report, key_report, moves-join, moves-passed}
 use Rattle.avro_binary.proofs.reading.+reading.Goals as goal
@@ -266,7 +272,11 @@ read_items-loop-done-preserved g t c =
     let now = c.loop-done.cursor in
     let after = c.read_at.new.cursor in
     let v = found.0 in
-    let value = found.1 in (
+    let value = found.1 in
+    let maker = c.loop-done.maker in
+    let made = c.read_at.new.maker in
+    let items = c.loop-done.items in
+    let same = sym (c.add_others-alike.ensures.none c.if-alike.false) in (
       value.moves.depth ∙ c.loop-done.invariant.0,
       λ limits d b.
           let so_far = c.loop-done.invariant.1 limits d b in
@@ -274,23 +284,56 @@ read_items-loop-done-preserved g t c =
           let counted = so_far.1 in
           let one = value_run nodes limits n now after [] v value (d ∙ sym so_far.2.moves.depth) (b ∙ sym so_far.2.moves.blob) in
           let more = run_push (values_kind nodes limits n) so_far.2 after [] v value.front one value.moves in
-          let maker = c.loop-done.maker in
-          let made = c.read_at.new.maker in
-          let items = c.loop-done.items in
-          let is_for = subst (λ (a : g.row.M-At.Denot). g.M.Make.stands_for made nodes n a c.in_ok-value.value v) (c.item_at-at.ensures ∙ g.met.M.Make.item_at_kept maker made items found.2.0) found.2.1 in
+          let is_for = subst (λ (a : g.row.M-At.Denot). g.M.Make.stands_for made nodes n a c.in_ok-value.value v) (c.item_at-at.ensures ∙ g.met.M.Make.item_at_kept maker made items found.2.0 ∙ sym c.add_others-alike.ensures.next) found.2.1 in
           let kept = g.met.M.Make.keeps_on c.args.maker.now maker c.item.new.self so_far.3 (g.met.M.Make.keeps_on maker made c.item.new.self found.2.0 c.in_ok-item.ensures.kept) in
           let stand = λ (at : g.row.M-At.Denot) (us : List Value) (h : g.M.Make.items_stand_for c.args.maker.now nodes c.args.id.0 at c.args.items.now us).
+          let before = subst (λ held. g.M.Make.items_stand_for made nodes c.args.id.0 at held (us ++ xs)) same (g.met.M.Make.items_kept maker made nodes c.args.id.0 at items (us ++ xs) found.2.0 (so_far.4 at us h)) in
           subst (λ (vs : List Value). g.M.Make.items_stand_for c.item.new.self nodes c.args.id.0 at c.item.new.items vs) (append_assoc us xs (v ∷ []))
-          (c.in_ok-item.ensures.stands nodes c.args.id.0 at (us ++ xs) v (g.met.M.Make.items_kept maker made nodes c.args.id.0 at items (us ++ xs) found.2.0 (so_far.4 at us h)) is_for) in
+          (c.in_ok-item.ensures.stands nodes c.args.id.0 at (us ++ xs) v before is_for) in
           (xs ++ v ∷ [], omega (arith, length-append xs (v ∷ [])), more, kept, stand),
     )
+
+pub read_items-returns-then-alike : goal.read_items-returns-then-alike
+read_items-returns-then-alike g t c = λ limits d b.
+    let found = c.in_ok-value.ensures.found in
+    let nodes = schema_nodes c.args.schema.now in
+    let n = node_at nodes c.args.id.0 in
+    let now = c.loop-done.cursor in
+    let after = c.read_at.new.cursor in
+    let v = found.0 in
+    let value = found.1 in
+    let maker = c.loop-done.maker in
+    let made = c.read_at.new.maker in
+    let items = c.loop-done.items in
+    let so_far = c.loop-done.invariant.1 limits d b in
+    let xs = so_far.0 in
+    let counted = so_far.1 in
+    let before_end = c.loop-done-test.true in
+    let alike = c.if-alike.true in
+    let added = c.add_others-alike.ensures in
+    let others = c.args.count - 1 - c.loop-done.done in
+    let stood : length after.bytes ≡ length now.bytes = search (rules, tests) in
+    let sized : c.nodes-nodes.result - c.nodes.result ≡ size v = let many = value.many in let a = c.nodes-nodes.ensures.count in let z = c.nodes.ensures.count in omega arith in
+    let is_for = subst (λ (a : g.row.M-At.Denot). g.M.Make.stands_for made nodes n a c.in_ok-value.value v) (c.item_at-at.ensures ∙ g.met.M.Make.item_at_kept maker made items found.2.0) found.2.1 in
+    let is_next = subst (λ (a : g.row.M-At.Denot). g.M.Make.stands_for made nodes n a c.in_ok-value.value v) (sym added.next) is_for in
+    let kept = g.met.M.Make.keeps_on c.args.maker.now maker c.item.new.self so_far.3 (g.met.M.Make.keeps_on maker made c.item.new.self found.2.0 c.in_ok-item.ensures.kept) in
+    let stand = λ (at : g.row.M-At.Denot) (us : List Value) (h : g.M.Make.items_stand_for c.args.maker.now nodes c.args.id.0 at c.args.items.now us).
+    let before = g.met.M.Make.items_kept maker made nodes c.args.id.0 at items (us ++ xs) found.2.0 (so_far.4 at us h) in
+    subst (λ (vs : List Value). g.M.Make.items_stand_for c.item.new.self nodes c.args.id.0 at c.item.new.items vs) (others_last us xs v others)
+    (c.in_ok-item.ensures.stands nodes c.args.id.0 at ((us ++ xs) ++ replicate others v) v (added.added nodes c.args.id.0 at (us ++ xs) v alike before is_for) is_next) in
+    let small : limits.blob < 2 ^ 63 = let r = c.count_again.ensures.in_range.1 in let m = value.moves.blob in let k = so_far.2.moves.blob in omega (arith, r, m, k, b) in
+    same_reads nodes limits c.args.id.0 so_far.2 v value stood (d ∙ sym so_far.2.moves.depth) (b ∙ sym so_far.2.moves.blob) c.count_again.result
+    (λ vs keys. g.M.Make.keeps c.args.maker.now c.item.new.self × ((at : g.row.M-At.Denot) (us : List Value) → g.M.Make.items_stand_for c.args.maker.now nodes c.args.id.0 at c.args.items.now us → g.M.Make.items_stand_for c.item.new.self nodes c.args.id.0 at c.item.new.items (us ++ vs)))
+    c.count_again.new.self others c.args.count c.len-count.ensures.formed (bytes-below after.bytes c.count_again.ensures.are_bytes) c.count_again.ensures.in_range.0 small (omega arith)
+    (subst (λ (s : ℕ). OnOk c.count_again.result (CountsAgain after (s * others) c.count_again.new.self)) sized c.count_again.ensures.counted)
+    (subst (λ (s : ℕ). IfErr c.count_again.result (λ e. (read_fault e ≡ Some limit_exceeded) × (after.nodes < s * others))) sized c.count_again.ensures.refused) (kept, stand)
 
 pub read_items-returns : goal.read_items-returns
 read_items-returns g t c = λ limits d b.
     let so_far = c.loop-done.invariant.1 limits d b in
     let counted = so_far.1 in
     let ended = c.loop-done-test.false in
-    let inside = c.loop-done.auto._done-end in
+    let inside = c.loop-done.auto.done-end in
     let all : length so_far.0 ≡ c.args.count = omega arith in
     record { found = (so_far.0, [], all, so_far.2, (so_far.3, so_far.4)); refused = tt }
 

@@ -63,7 +63,7 @@ decreases-maps::read_entry_blocks-loop-entries g l = l.cursor.nodes
 abbrev pub invariant-read_items-loop-done : goal.invariant-read_items-loop-done
 invariant-read_items-loop-done g l =
     (l.cursor.depth ≡ l.initial.cursor.depth) × ((limits : LimitValues) → limits.depth ≡ l.initial.cursor.depth → limits.blob ≡ l.initial.cursor.blob
-    → (xs : List Value) × (length xs ≡ l._done) × FindsRun (ValuesRun (schema_nodes l.schema) limits (node_at (schema_nodes l.schema) l.id.0)) l.initial.cursor l.cursor [] [] xs
+    → (xs : List Value) × (length xs ≡ l.done) × FindsRun (ValuesRun (schema_nodes l.schema) limits (node_at (schema_nodes l.schema) l.id.0)) l.initial.cursor l.cursor [] [] xs
     × g.M.Make.keeps l.initial.maker l.maker
     × ((at : _) (us : List Value) → g.M.Make.items_stand_for l.initial.maker (schema_nodes l.schema) l.id.0 at l.initial.items us → g.M.Make.items_stand_for l.maker (schema_nodes l.schema) l.id.0 at l.items (us ++ xs)))
 

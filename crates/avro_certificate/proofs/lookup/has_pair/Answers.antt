@@ -1,6 +1,7 @@
 use Rattle.std.proofs.Common.{◌≡◌, ◌≤◌, true, List, length, sym, ◌∙◌, subst, ap, arith}
 use Rattle.std.proofs.lemmas.Bool.Decides.{nat_tests}
-use Rattle.avro_certificate.specs.Closed.{Pair, same_pair, is_among_pairs}
+use Rattle.avro_compare.specs.Children.{Pair}
+use Rattle.avro_certificate.specs.Closed.{same_pair, is_among_pairs}
 use Rattle.avro_certificate.specs.CertificateText.{is_rising, is_before}
 use Rattle.avro_certificate.specs.SeenPair.{pair_of}
 use Rattle.avro_certificate.proofs.Halving.{pair_past, pair_at, other_number, test_here, test_elsewhere}

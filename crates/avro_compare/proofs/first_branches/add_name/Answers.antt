@@ -1,4 +1,4 @@
-use Rattle.std.proofs.Common.{◌≡◌, ℕ, List, ◌∙◌, ap, sym}
+use Rattle.std.proofs.Common.{ℕ, List, ◌∙◌, ap, sym}
 use Rattle.std.specs.BTreeMap.{get}
 use Rattle.avro_compare.specs.inside.NameTables.{key_cmp, number}
 use Rattle.avro_compare.proofs.ByNumber.{branch_put, branch_none}

@@ -1,4 +1,4 @@
-use Rattle.std.proofs.Common.{◌≡◌, ◌∙◌, Some, sym, rules}
+use Rattle.std.proofs.Common.{◌≡◌, Some, rules}
 use Rattle.std.specs.Prelude.{slice_get}
 use Rattle.avro_compare.proofs.ByNumber.{told}
 use Rattle.avro_compare.proofs.numbering.number_of.Goals as goal

@@ -2,7 +2,7 @@ use Rattle.std.proofs.Common.{◌≡◌, ◌∙◌, ◌+◌, ◌<◌, ℕ, suc, 
 use Rattle.avro_schema.specs.SeenSchema.{schema_nodes}
 use Rattle.avro_explain.specs.Places.{marked}
 use Rattle.avro_explain.specs.inside.Walks.{IsWalk}
-use Rattle.avro_explain.specs.Leads.{leads_at}
+use Rattle.avro_compare.specs.Leads.{leads_at}
 use Rattle.avro_explain.specs.declared.found.Place.{Place}
 use Rattle.avro_explain.proofs.WalkSteps.{walk_start, walk_visit, too_many, extended, findings_more, get_there}
 use Rattle.avro_explain.proofs.exploring.explore.Goals as goal

@@ -4,7 +4,7 @@ use Rattle.avro_schema.specs.SeenSchema.{schema_nodes}
 use Rattle.avro_compare.specs.declared.guided.Aim.TheVariants.{To, Fault}
 use Rattle.avro_explain.specs.declared.found.Detail.{Detail}
 use Rattle.avro_explain.proofs.DetailsLed.{details_fault, details_choice, details_plain, aim_here}
-use Rattle.avro_explain.proofs.KeptNodes.{plain_kept}
+use Rattle.avro_compare.proofs.public.Aims.{plain_kept}
 use Rattle.avro_explain.proofs.failing.details_of_nodes.Goals as goal
 
 pub returns-in-Fault : goal.returns-in-Fault

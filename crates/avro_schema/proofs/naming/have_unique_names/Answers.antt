@@ -1,6 +1,6 @@
 use Rattle.std.proofs.Common.{sym}
 use Rattle.avro_name.specs.Name.{same_name}
-use Rattle.avro_schema.proofs.Ordered.{is_eq-names}
+use Rattle.avro_name.proofs.public.Names.{is_eq-names}
 use Rattle.avro_schema.proofs.Unique.{are_distinct-map}
 use Rattle.avro_schema.proofs.naming.have_unique_names.Goals as goal
 

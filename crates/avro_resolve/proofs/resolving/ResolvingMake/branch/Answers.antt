@@ -1,5 +1,5 @@
 use Rattle.avro_schema.specs.SeenSchema.{schema_nodes}
-use Rattle.avro_resolve.specs.declared.guided.Made.{Made}
+use Rattle.avro_resolve.specs.declared.resolving.guided.Made.{Made}
 use Rattle.avro_resolve.proofs.Guiding.{branch_made, branch_good, branch_bad}
 use Rattle.avro_resolve.proofs.resolving.ResolvingMake.branch.Goals as goal
 

@@ -1,13 +1,23 @@
+use Rattle.std.proofs.Common.{sym, arith}
+use Rattle.avro_schema.specs.Seen.{ids_of}
 use Rattle.serde_json.specs.View.{view}
 use Rattle.avro_schema_json.specs.inside.OwnDefaults.{all_without_defaults}
-use Rattle.avro_schema_json.proofs.MisfitsSeen.{no_branch-end, no_branch-next}
+use Rattle.avro_schema_json.proofs.DefaultsSeen.{branches_end}
+use Rattle.avro_schema_json.proofs.MisfitsSeen.{branch-pass}
+use Rattle.avro_schema_json.proofs.TablesSeen.{begins_late}
 use Rattle.avro_schema_json.proofs.defaults.misfit.fits_no_branch.Goals as goal
 
-pub loop-id-preserved : goal.loop-id-preserved
-loop-id-preserved c = λ rest.
-    c.loop-id.invariant (no_branch-next (all_without_defaults c.args.raws.now) (view c.args.tree.now) c.args.ids.now c.loop-id.id-index _ c.loop-id-test.true
-    (c.in_ok-is_own_misfit.ensures c.if-not-branch.false) rest)
+pub loop-i-init : goal.loop-i-init
+loop-i-init c =
+    let nodes = all_without_defaults c.args.raws.now in
+    let ids = c.args.ids.now in
+    begins_late nodes (view c.args.tree.now) ids c.in_ok-start.start (c.in_ok-start.ensures nodes (ids_of ids) c.requires.table)
+
+pub loop-i-preserved : goal.loop-i-preserved
+loop-i-preserved c =
+    branch-pass (all_without_defaults c.args.raws.now) (view c.args.tree.now) c.args.ids.now c.loop-i.i _ _ c.loop-i-test.true
+    (c.in_ok-is_own_misfit.ensures c.if-not-branch.false) c.loop-i.invariant
 
 pub returns : goal.returns
 returns c = λ holds.
-    c.loop-id.invariant (no_branch-end (all_without_defaults c.args.raws.now) (view c.args.tree.now) c.args.ids.now c.loop-id.id-index c.loop-id-test.false) 0
+    sym (branches_end (all_without_defaults c.args.raws.now) (view c.args.tree.now) c.args.ids.now c.loop-i.i _ (omega (arith, c.loop-i-test.false)) c.loop-i.invariant)

@@ -1,10 +1,11 @@
-use Rattle.std.proofs.Common.{drop}
-use Rattle.avro_schema_json.specs.inside.Misfits.{FitsNoBranch}
-use Rattle.avro_schema_json.specs.inside.OwnDefaults.{all_without_defaults}
+use Rattle.std.proofs.Common.{◌≡◌, drop}
+use Rattle.avro_schema.specs.Seen.{ids_of}
+use Rattle.avro_schema_json.specs.DeclaredDefaults.{first_fit}
+use Rattle.avro_schema_json.specs.inside.OwnDefaults.{all_without_defaults, own_default}
 use Rattle.serde_json.specs.View.{view}
 use Rattle.avro_schema_json.proofs.defaults.misfit.fits_no_branch.Given as goal
 
-abbrev pub invariant-loop-id : goal.invariant-loop-id
-invariant-loop-id l =
+abbrev pub invariant-loop-i : goal.invariant-loop-i
+invariant-loop-i l =
     let nodes = all_without_defaults l.raws in
-    FitsNoBranch nodes (view l.tree) (drop l.id-index l.ids) → FitsNoBranch nodes (view l.tree) l.ids
+    first_fit nodes (own_default nodes (view l.tree)) l.i (ids_of (drop l.i l.ids)) ≡ first_fit nodes (own_default nodes (view l.tree)) 0 (ids_of l.ids)

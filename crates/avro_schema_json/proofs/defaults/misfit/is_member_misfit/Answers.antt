@@ -15,7 +15,7 @@ is_misfit-requires c =
     let key = c.args.key.now in
     let d = view c.in-Some.tree.now in
     let there : get_member key (members_view es) ≡ Some d = sym (ap (option_map view) c.in-Some.ensures.value ∙ view-lookup key es) in
-    record { known = c.of_member.ensures (all_without_defaults c.args.raws.now) (members_view es) d c.requires.parts there }
+    record { tables = c.requires.tables; known = c.of_member.ensures (all_without_defaults c.args.raws.now) (members_view es) d c.requires.parts there }
 
 pub returns-in-Some : goal.returns-in-Some
 returns-in-Some c =

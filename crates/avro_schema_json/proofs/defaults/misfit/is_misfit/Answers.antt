@@ -13,3 +13,6 @@ returns c =
     let ids = ids_of c.in-Some.ids.now in
     let here : branches_of n ≡ Some ids = ap branches_of (sym c.raw_at.ensures) ∙ sym c.in-Some.ensures in
     rw (default-union nodes (view c.args.tree.now) n ids here) c.fits_no_branch.ensures
+
+pub table_at-table-requires-clause-union : goal.table_at-table-requires-clause-union
+table_at-table-requires-clause-union c = ap branches_of (sym c.raw_at.ensures) ∙ sym c.in-Some.ensures

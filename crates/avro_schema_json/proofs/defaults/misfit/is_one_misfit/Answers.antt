@@ -12,7 +12,7 @@ is_misfit-requires c =
     let x = c.item-item.result in
     let ys = c.args.items.now.items in
     let at = item-at c.deref-item-items.result.now ys l.item-index l.index x c.deref-item-items.ensures.value l.invariant c.loop-item-test.true c.item-item.is in
-    record { known = c.of_item-known.ensures (all_without_defaults c.args.raws.now) (items_view ys) (view x) c.requires.parts at }
+    record { tables = c.requires.tables; known = c.of_item-known.ensures (all_without_defaults c.args.raws.now) (items_view ys) (view x) c.requires.parts at }
 
 pub returns-then-branch : goal.returns-then-branch
 returns-then-branch c = λ holds.

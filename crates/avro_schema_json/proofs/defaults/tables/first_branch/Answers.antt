@@ -1,16 +1,12 @@
-use Rattle.std.proofs.Common.{arith}
 use Rattle.serde_json.specs.View.{view}
-use Rattle.avro_schema_json.proofs.TablesSeen.{none_before}
+use Rattle.avro_schema_json.proofs.TablesSeen.{none_of_keys, none_of_symbol}
 use Rattle.avro_schema_json.proofs.defaults.tables.first_branch.Goals as goal
 
-pub returns-then-of_kind-of_size : goal.returns-then-of_kind-of_size
-returns-then-of_kind-of_size c = λ nodes ids good.
-    none_before nodes (view c.args.tree.now) ids c.args.table.now _ _ c.first_of-of_kind.result c.first_of-of_size.result c.first_of-of_kind.result
-    c.key_of_kind.ensures c.in_ok-key_of_tree.ensures c.first_of-of_kind.ensures c.first_of-of_size.ensures (omega arith)
-    (omega (arith, c.if-of_kind-of_size.true)) good
+pub returns-in-Some : goal.returns-in-Some
+returns-in-Some c = λ nodes ids good.
+    none_of_symbol nodes (view c.args.tree.now) c.in-Some.word.now ids c.args.table.now c.in_ok-by_keys.by_keys c.first_of_symbol.result c.lesser.result
+    c.in-Some.ensures c.first_of_symbol.ensures c.lesser.ensures.one c.lesser.ensures.other good (c.in_ok-by_keys.ensures nodes ids good)
 
-pub returns-else-of_kind-of_size : goal.returns-else-of_kind-of_size
-returns-else-of_kind-of_size c = λ nodes ids good.
-    none_before nodes (view c.args.tree.now) ids c.args.table.now _ _ c.first_of-of_kind.result c.first_of-of_size.result c.first_of-of_size.result
-    c.key_of_kind.ensures c.in_ok-key_of_tree.ensures c.first_of-of_kind.ensures c.first_of-of_size.ensures
-    (omega (arith, c.if-of_kind-of_size.false)) (omega arith) good
+pub returns-in-None : goal.returns-in-None
+returns-in-None c = λ nodes ids good.
+    none_of_keys nodes (view c.args.tree.now) ids c.in_ok-by_keys.by_keys c.in-None.ensures (c.in_ok-by_keys.ensures nodes ids good)

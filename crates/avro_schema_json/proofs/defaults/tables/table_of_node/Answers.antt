@@ -6,5 +6,5 @@ use Rattle.avro_schema_json.proofs.defaults.tables.table_of_node.Goals as goal
 
 pub returns-in-Some : goal.returns-in-Some
 returns-in-Some c =
-    table_of_found (all_without_defaults c.args.raws.now) (ids_of c.in-Some.ids.now) (branches_of (without_defaults c.args.raw.now)) c.table_of.result
-    c.in-Some.ensures c.table_of.ensures
+    table_of_found (all_without_defaults c.args.raws.now) (ids_of c.in-Some.ids.now) (branches_of (without_defaults c.args.raw.now)) c.table_of_branches.result
+    c.in-Some.ensures c.table_of_branches.ensures

@@ -1,0 +1,207 @@
+//! The lines of all faults of two schemas, by names.
+
+ghost use Rattle.std.specs.Prelude.{◌≡◌, ◌<◌, ◌++◌, ℕ, List, [], length, string_bytes, IfOk, OnOk};
+ghost use Rattle.std.specs.Io.KnownBytes.{Appends};
+ghost use Rattle.avro_schema.specs.SeenSchema.{schema_nodes};
+ghost use Rattle.avro_explain.specs.Places.{AreFaults};
+ghost use Rattle.avro_answer.specs.FaultLine.{AreFaultLines, IsLineAdded, no_line};
+ghost use Rattle.avro_answer.specs.inside.FaultsAdded.{HavePlaces, AreLinesAdded};
+ghost use Rattle.avro_answer.specs.declared.form.Form.{Form};
+
+use crate::form::Form;
+use crate::named_fault::name_fault;
+use avro_explain::{Explanation, Finding, Place};
+use avro_schema::{Memory, Schema};
+use std::alloc::{AllocError, Global};
+use std::io;
+use std::io::Write;
+
+/// A text that is longer is put in several pieces.
+const PIECE: usize = 1_048_576;
+
+/// Why the faults were not put.
+#[derive(Clone, Copy, Debug, PartialEq, Eq)]
+pub enum PutError {
+    /// The writer failed.
+    CannotWrite,
+    /// Memory ran out.
+    OutOfMemory,
+}
+
+impl From<Memory> for PutError {
+    fn from(_error: Memory) -> PutError {
+        PutError::OutOfMemory
+    }
+}
+
+impl From<AllocError> for PutError {
+    fn from(_error: AllocError) -> PutError {
+        PutError::OutOfMemory
+    }
+}
+
+impl From<io::Error> for PutError {
+    fn from(_error: io::Error) -> PutError {
+        PutError::CannotWrite
+    }
+}
+
+/// Puts a no and all faults that were found, of which there are some, by names into a writer.
+///
+/// # Errors
+///
+/// The writer failed, after some of the text or none; memory ran out.
+pub fn put_faults<O: Write>(
+    out: &mut O,
+    alloc: Global,
+    writer: &Schema,
+    reader: &Schema,
+    found: &Explanation,
+    form: Form,
+) -> Result<(), PutError>
+    ensures { form ≡ Form.Text → AreFaults (schema_nodes writer.now) (schema_nodes reader.now) found.now.places.items found.now.faults.items → OnOk result ((text : List ℕ)
+        × AreFaultLines (schema_nodes writer.now) (schema_nodes reader.now) found.now.places.items found.now.faults.items text × Appends (O.contents out.old) (O.contents out.new) text) }
+{
+    let mut text = begin_faults(alloc, found.faults.len(), form)?;
+    put_lines(&mut *out, &mut text, alloc, writer, reader, found, form)?;
+    text.push_str(end_of_faults(form))?;
+    put_text(out, text.as_str())
+}
+
+/// Puts all faults by names, but for what is left in the text.
+fn put_lines<O: Write>(
+    out: &mut O,
+    text: &mut String,
+    alloc: Global,
+    writer: &Schema,
+    reader: &Schema,
+    found: &Explanation,
+    form: Form,
+) -> Result<(), PutError>
+    ensures { form ≡ Form.Text → HavePlaces found.now.places.items found.now.faults.items → OnOk result ((put : List ℕ) × Appends (O.contents out.old) (O.contents out.new) put
+        × AreLinesAdded (schema_nodes writer.now) (schema_nodes reader.now) found.now.places.items found.now.faults.items (string_bytes text.old) (put ++ string_bytes text.new)) }
+{
+    let mut is_first = true;
+    for fault in &found.faults {
+        append_fault(
+            &mut *text, alloc, writer, reader, found, *fault, form, is_first,
+        )?;
+        is_first = false;
+        put_piece(&mut *out, &mut *text)?;
+    }
+    Ok(())
+}
+
+/// Puts a text that is long and clears it, and nothing of one that is short.
+fn put_piece<O: Write>(out: &mut O, text: &mut String) -> Result<(), PutError>
+    ensures { OnOk result ((put : List ℕ) × Appends (O.contents out.old) (O.contents out.new) put × (string_bytes text.old ≡ put ++ string_bytes text.new)) }
+{
+    if text.len() <= PIECE {
+        return Ok(());
+    }
+    put_text(out, text.as_str())?;
+    text.clear();
+    Ok(())
+}
+
+/// Puts a text by one write, if the writer takes it whole.
+fn put_text<O: Write>(out: &mut O, text: &str) -> Result<(), PutError>
+    ensures { OnOk result (Appends (O.contents out.old) (O.contents out.new) text.now) }
+{
+    out.write_all(text.as_bytes())?;
+    out.flush()?;
+    Ok(())
+}
+
+/// What is before the faults, of which there are some.
+fn begin_faults(alloc: Global, count: usize, form: Form) -> Result<String, AllocError>
+    ensures { IfOk result (λ begun. form ≡ Form.Text → string_bytes begun ≡ no_line count) }
+{
+    match form {
+        Form::Text => begin_lines(alloc, count),
+        Form::Json => String::from_str(alloc, "{\"verdict\":\"no\",\"faults\":["),
+    }
+}
+
+/// The line before those of the faults.
+fn begin_lines(alloc: Global, count: usize) -> Result<String, AllocError>
+    ensures { IfOk result (λ begun. string_bytes begun ≡ no_line count) }
+{
+    let mut line = String::from_str(alloc, "no ")?;
+    let digits = count.to_string(alloc)?;
+    line.push_str(digits.as_str())?;
+    line.push_str("\n")?;
+    Ok(line)
+}
+
+/// Appends a fault by names.
+fn append_fault(
+    text: &mut String,
+    alloc: Global,
+    writer: &Schema,
+    reader: &Schema,
+    found: &Explanation,
+    fault: Finding,
+    form: Form,
+    is_first: bool,
+) -> Result<(), Memory>
+    ensures { form ≡ Form.Text → fault.place < length found.now.places.items → OnOk result (IsLineAdded (schema_nodes writer.now) (schema_nodes reader.now)
+        found.now.places.items fault (string_bytes text.old) (string_bytes text.new)) }
+{
+    match form {
+        Form::Text => append_line(text, alloc, writer, reader, &found.places, fault),
+        Form::Json => append_json(text, alloc, writer, reader, &found.places, fault, is_first),
+    }
+}
+
+/// Appends the line of a fault.
+fn append_line(
+    text: &mut String,
+    alloc: Global,
+    writer: &Schema,
+    reader: &Schema,
+    places: &[Place],
+    fault: Finding,
+) -> Result<(), Memory>
+    ensures { fault.place < length places.now → OnOk result (IsLineAdded (schema_nodes writer.now) (schema_nodes reader.now) places.now fault
+        (string_bytes text.old) (string_bytes text.new)) }
+{
+    match name_fault(alloc, writer, reader, places, fault)? {
+        None => Ok(()),
+        Some(named) => {
+            named.put_line(text)?;
+            Ok(())
+        }
+    }
+}
+
+/// Appends the object of a fault, after a comma unless it is the first.
+fn append_json(
+    text: &mut String,
+    alloc: Global,
+    writer: &Schema,
+    reader: &Schema,
+    places: &[Place],
+    fault: Finding,
+    is_first: bool,
+) -> Result<(), Memory> {
+    let Some(named) = name_fault(alloc, writer, reader, places, fault)? else {
+        return Ok(());
+    };
+    if !is_first {
+        text.push(',')?;
+    }
+    let json = named.json(alloc)?;
+    text.push_str(&json)?;
+    Ok(())
+}
+
+/// What is after the faults.
+fn end_of_faults(form: Form) -> &'static str
+    ensures { form ≡ Form.Text → result.now ≡ [] }
+{
+    match form {
+        Form::Text => "",
+        Form::Json => "]}\n",
+    }
+}

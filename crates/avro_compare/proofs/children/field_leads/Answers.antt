@@ -1,0 +1,12 @@
+use Rattle.std.proofs.Common.{◌≡◌, List, Some, subst}
+use Rattle.std.specs.Prelude.{slice_get}
+use Rattle.avro_schema.specs.Node.{FieldNode}
+use Rattle.avro_schema.specs.Seen.{field_of}
+use Rattle.avro_compare.proofs.public.Lists.{seen_at}
+use Rattle.avro_compare.proofs.children.field_leads.Goals as goal
+
+pub source_by-source-requires-clause-there : goal.source_by-source-requires-clause-there
+source_by-source-requires-clause-there c =
+    let field = c.index-theirs-index.result in
+    subst (λ (fs : List FieldNode). slice_get fs c.loop-index.index ≡ Some (field_of field)) c.requires.to
+    (seen_at c.args.theirs.now c.loop-index.index field c.loop-index-test.true c.index-theirs-index.is)

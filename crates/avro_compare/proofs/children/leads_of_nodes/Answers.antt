@@ -1,0 +1,18 @@
+use Rattle.std.proofs.Common.{◌≡◌, List, IfOk, ap, subst}
+use Rattle.avro_schema.specs.Seen.{node_of, ids_of}
+use Rattle.avro_schema.specs.SeenSchema.{schema_nodes}
+use Rattle.avro_compare.specs.declared.lead.Lead.{Lead}
+use Rattle.avro_compare.proofs.public.Aims.{aims_of, plain_kept}
+use Rattle.avro_compare.proofs.FaultsLed.{led_leads}
+use Rattle.avro_compare.proofs.children.leads_of_nodes.Goals as goal
+
+pub returns-in-Union-q : goal.returns-in-Union-q
+returns-in-Union-q c =
+    let writer = schema_nodes c.args.names.now.0 in
+    let reader = schema_nodes c.args.names.now.1 in
+    let pair = c.args.pair.now in
+    let n = node_of c.args.n.now in
+    let q = node_of c.args.q.now in
+    let aims = aims_of writer reader pair n q c.requires.pair c.requires.from c.requires.to in
+    let led = led_leads writer reader n pair.r pair.w.0 (ids_of c.in-Union-q.field-0.items) q pair.aim (plain_kept c.args.n.now c.in_default.not-Union) (ap node_of c.in-Union-q.is) aims in
+    subst (λ (ls : List Lead). IfOk c.choice_leads.result (λ found. found.items ≡ ls)) led c.choice_leads.ensures

@@ -1,0 +1,234 @@
+//! The pairs that a pair of nodes leads to, and whether the pair fails by itself.
+
+ghost use Rattle.std.specs.Prelude.{◌≡◌, ◌++◌, [], ◌∷◌, IfOk, OnOk, Some, slice_get};
+ghost use Rattle.avro_schema.specs.Node.{node_at};
+ghost use Rattle.avro_schema.specs.Seen.{node_of, ids_of, seen_fields, field_of};
+ghost use Rattle.avro_schema.specs.SeenSchema.{schema_nodes};
+ghost use Rattle.avro_compare.specs.Children.{has_fault_of_kind, has_local_fault};
+ghost use Rattle.avro_compare.specs.Leads.{branch_leads, field_lead, field_leads, leads_at, leads_inside, leads_of};
+ghost use Rattle.avro_compare.specs.Planned.{AreInside, IsComparison};
+ghost use Rattle.avro_compare.specs.Resolve.{fields_at};
+ghost use Rattle.avro_compare.specs.Source.{source_of};
+ghost use Rattle.avro_compare.specs.inside.Led.{led_by};
+
+use crate::comparison::Comparison;
+use crate::guided::Aim;
+use crate::lead::{Lead, Step};
+use crate::names::Names;
+use crate::nodes::node_or;
+use crate::sourcing::{node_of_field, source_kept};
+use avro_schema::{Field, Memory, Node, NodeId};
+use std::alloc::Global;
+
+/// Whether a pair of nodes fails by itself, whatever becomes of the pairs that it leads to.
+pub fn has_fault(names: &Names, pair: &Comparison) -> bool
+    requires { IsComparison (schema_nodes names.now.0) (schema_nodes names.now.1) pair.now }
+    ensures { result ≡ has_local_fault (schema_nodes names.now.0) (schema_nodes names.now.1)
+        (node_at (schema_nodes names.now.0) pair.now.w.0) (node_at (schema_nodes names.now.1) pair.now.r.0) }
+{
+    let null = Node::Null;
+    let n = node_or(names.writer(), pair.w, &null);
+    let q = node_or(names.reader(), pair.r, &null);
+    has_fault_of_nodes(names, n, q, pair)
+}
+
+/// The same, given the two nodes.
+fn has_fault_of_nodes(names: &Names, n: &Node, q: &Node, pair: &Comparison) -> bool
+    requires pair { IsComparison (schema_nodes names.now.0) (schema_nodes names.now.1) pair.now }
+    requires from { node_of n.now ≡ node_at (schema_nodes names.now.0) pair.now.w.0 }
+    requires to { node_of q.now ≡ node_at (schema_nodes names.now.1) pair.now.r.0 }
+    ensures { result ≡ has_local_fault (schema_nodes names.now.0) (schema_nodes names.now.1) (node_of n.now) (node_of q.now) }
+{
+    match n {
+        Node::Union(_) => false,
+        _ => match pair.aim {
+            Aim::Fault(_) => true,
+            Aim::To(Some(_), _) => false,
+            Aim::To(None, _) => has_fault_inside(n, q, pair),
+        },
+    }
+}
+
+/// Whether two nodes that match, and are no unions, fail by themselves.
+fn has_fault_inside(n: &Node, q: &Node, pair: &Comparison) -> bool
+    requires { AreInside (node_of n.now) (node_of q.now) pair.now }
+    ensures { result ≡ has_fault_of_kind (node_of n.now) (node_of q.now) }
+{
+    match n {
+        Node::Bytes => matches!(q, Node::Str),
+        Node::Record(_) => match q {
+            Node::Record(_) => pair.missing.is_some(),
+            _ => false,
+        },
+        Node::Enum(_) => match q {
+            Node::Enum(_) => pair.lacks_symbol(),
+            _ => false,
+        },
+        _ => false,
+    }
+}
+
+/// The pairs that a pair of nodes leads to, each with its step.
+///
+/// # Errors
+///
+/// Memory ran out.
+pub fn leads(alloc: Global, names: &Names, pair: &Comparison) -> Result<Vec<Lead>, Memory>
+    requires { IsComparison (schema_nodes names.now.0) (schema_nodes names.now.1) pair.now }
+    ensures { IfOk result (λ found. found.items ≡ leads_at (schema_nodes names.now.0) (schema_nodes names.now.1) pair.now.w.0 pair.now.r.0) }
+{
+    let null = Node::Null;
+    let n = node_or(names.writer(), pair.w, &null);
+    let q = node_or(names.reader(), pair.r, &null);
+    leads_of_nodes(alloc, names, n, q, pair)
+}
+
+/// The same, given the two nodes.
+fn leads_of_nodes(
+    alloc: Global,
+    names: &Names,
+    n: &Node,
+    q: &Node,
+    pair: &Comparison,
+) -> Result<Vec<Lead>, Memory>
+    requires pair { IsComparison (schema_nodes names.now.0) (schema_nodes names.now.1) pair.now }
+    requires from { node_of n.now ≡ node_at (schema_nodes names.now.0) pair.now.w.0 }
+    requires to { node_of q.now ≡ node_at (schema_nodes names.now.1) pair.now.r.0 }
+    ensures { IfOk result (λ found. found.items ≡ leads_of (schema_nodes names.now.0) (schema_nodes names.now.1) pair.now.w.0 pair.now.r.0 (node_of n.now) (node_of q.now)) }
+{
+    match n {
+        Node::Union(ids) => branch_leads(alloc, ids, pair.r),
+        _ => match q {
+            Node::Union(_) => choice_leads(alloc, pair.w, pair.aim),
+            _ => leads_inside(alloc, names, n, q, pair),
+        },
+    }
+}
+
+/// The branches of a writer's union.
+fn branch_leads(alloc: Global, ids: &[NodeId], r: NodeId) -> Result<Vec<Lead>, Memory>
+    ensures { IfOk result (λ found. found.items ≡ branch_leads 0 r.0 (ids_of ids.now)) }
+{
+    let mut found = Vec::new(alloc);
+    for index in 0..ids.len() {
+        found.push(Lead {
+            step: Step::Branch(index),
+            w: ids[index],
+            r,
+        })?;
+    }
+    Ok(found)
+}
+
+/// The branch of a reader's union that matches, if there is one.
+fn choice_leads(alloc: Global, w: NodeId, aim: Aim) -> Result<Vec<Lead>, Memory>
+    ensures { IfOk result (λ found. found.items ≡ led_by w.0 aim) }
+{
+    match aim {
+        Aim::To(Some(branch), node) => one_lead(alloc, Step::Choice(branch as usize), w, node),
+        Aim::To(None, _) => Ok(Vec::new(alloc)),
+        Aim::Fault(_) => Ok(Vec::new(alloc)),
+    }
+}
+
+/// One step.
+fn one_lead(alloc: Global, step: Step, w: NodeId, r: NodeId) -> Result<Vec<Lead>, Memory>
+    ensures { IfOk result (λ found. found.items ≡ record { step = step; w = w; r = r } ∷ []) }
+{
+    let mut found = Vec::new(alloc);
+    found.push(Lead { step, w, r })?;
+    Ok(found)
+}
+
+/// The parts of two nodes that are no unions.
+fn leads_inside(
+    alloc: Global,
+    names: &Names,
+    n: &Node,
+    q: &Node,
+    pair: &Comparison,
+) -> Result<Vec<Lead>, Memory>
+    requires pair { IsComparison (schema_nodes names.now.0) (schema_nodes names.now.1) pair.now }
+    requires from { node_of n.now ≡ node_at (schema_nodes names.now.0) pair.now.w.0 }
+    requires to { node_of q.now ≡ node_at (schema_nodes names.now.1) pair.now.r.0 }
+    ensures { IfOk result (λ found. found.items ≡ leads_inside (node_of n.now) (node_of q.now)) }
+{
+    match n {
+        Node::Array(a) => match q {
+            Node::Array(b) => one_lead(alloc, Step::Items, *a, *b),
+            _ => Ok(Vec::new(alloc)),
+        },
+        Node::Map(a) => match q {
+            Node::Map(b) => one_lead(alloc, Step::Values, *a, *b),
+            _ => Ok(Vec::new(alloc)),
+        },
+        Node::Record(a) => match q {
+            Node::Record(b) => field_leads(alloc, names, &a.fields, &b.fields, pair),
+            _ => Ok(Vec::new(alloc)),
+        },
+        _ => Ok(Vec::new(alloc)),
+    }
+}
+
+/// The reader's fields that have a source.
+fn field_leads(
+    alloc: Global,
+    names: &Names,
+    fields: &[Field],
+    theirs: &[Field],
+    pair: &Comparison,
+) -> Result<Vec<Lead>, Memory>
+    requires pair { IsComparison (schema_nodes names.now.0) (schema_nodes names.now.1) pair.now }
+    requires from { seen_fields fields.now ≡ fields_at (node_at (schema_nodes names.now.0) pair.now.w.0) }
+    requires to { seen_fields theirs.now ≡ fields_at (node_at (schema_nodes names.now.1) pair.now.r.0) }
+    ensures { IfOk result (λ found. found.items ≡ field_leads 0 (seen_fields fields.now) (seen_fields theirs.now)) }
+{
+    let mut found = Vec::new(alloc);
+    for index in 0..theirs.len() {
+        let field = &theirs[index];
+        let source = source_by(names, pair, fields, index, field);
+        add_field(&mut found, fields, source, field, index)?;
+    }
+    Ok(found)
+}
+
+/// The source of the reader's field at an index, as it is kept of the pair or else by name.
+fn source_by(
+    names: &Names,
+    pair: &Comparison,
+    fields: &[Field],
+    index: usize,
+    field: &Field,
+) -> Option<usize>
+    requires pair { IsComparison (schema_nodes names.now.0) (schema_nodes names.now.1) pair.now }
+    requires from { seen_fields fields.now ≡ fields_at (node_at (schema_nodes names.now.0) pair.now.w.0) }
+    requires there { slice_get (fields_at (node_at (schema_nodes names.now.1) pair.now.r.0)) index ≡ Some (field_of field.now) }
+    ensures { result ≡ source_of (seen_fields fields.now) (field_of field.now) }
+{
+    match pair.aim {
+        Aim::To(None, _) => source_kept(fields, &pair.sources, index, field),
+        _ => names.source(pair.w, field),
+    }
+}
+
+/// Adds a reader's field, if it has a source.
+fn add_field(
+    found: &mut Vec<Lead>,
+    fields: &[Field],
+    source: Option<usize>,
+    field: &Field,
+    index: usize,
+) -> Result<(), Memory>
+    requires { source ≡ source_of (seen_fields fields.now) (field_of field.now) }
+    ensures { OnOk result (found.new.items ≡ found.old.items ++ field_lead index (seen_fields fields.now) (field_of field.now) (source_of (seen_fields fields.now) (field_of field.now))) }
+{
+    match source {
+        None => {}
+        Some(source) => found.push(Lead {
+            step: Step::Field(source, index),
+            w: node_of_field(fields, source),
+            r: field.node,
+        })?,
+    }
+    Ok(())
+}

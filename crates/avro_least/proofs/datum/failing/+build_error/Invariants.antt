@@ -1,0 +1,27 @@
+use Rattle.std.proofs.Common.{◌*◌, ◌+◌, take}
+use Rattle.std.specs.Prelude.{map}
+use Rattle.avro_schema.specs.Seen.{value_of}
+use Rattle.avro_schema.specs.SeenSchema.{schema_nodes}
+use Rattle.avro_least.specs.SeenAsk.{rows_of}
+use Rattle.avro_least.specs.BuiltErrors.{BuildsRows}
+use Rattle.avro_least.specs.SeenTables.{erring_in, least_in}
+use Rattle.avro_least.proofs.datum.failing.+build_error.Given as goal
+
+abbrev pub decreases-build_error : goal.decreases-build_error
+decreases-build_error l = 4 * l.left + 2
+
+abbrev pub decreases-build_asked : goal.decreases-build_asked
+decreases-build_asked l = 4 * l.left + 1
+
+abbrev pub decreases-build_branches : goal.decreases-build_branches
+decreases-build_branches l = 4 * l.left + 4
+
+abbrev pub decreases-build_rows : goal.decreases-build_rows
+decreases-build_rows l = 4 * l.left + 4
+
+abbrev pub decreases-build_row : goal.decreases-build_row
+decreases-build_row l = 4 * l.left + 3
+
+abbrev pub invariant-build_rows-loop-i : goal.invariant-build_rows-loop-i
+invariant-build_rows-loop-i l = BuildsRows (schema_nodes l.tables.writer.now) (schema_nodes l.tables.reader.now) l.tables.limit (least_in l.tables)
+    (erring_in l.tables) l.left l.k 0 (rows_of (take l.i l.rows)) (map value_of l.values.items)

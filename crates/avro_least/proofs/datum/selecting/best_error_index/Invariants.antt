@@ -1,0 +1,10 @@
+use Rattle.std.proofs.Common.{◌≡◌, ◌<◌, ℕ, Some}
+use Rattle.std.specs.Prelude.{slice_get}
+use Rattle.avro_schema.specs.Seen.{ids_of}
+use Rattle.avro_least.specs.SeenLeast.{seen}
+use Rattle.avro_least.specs.SeenTables.{erring_in}
+use Rattle.avro_least.proofs.datum.selecting.best_error_index.Given as goal
+
+abbrev pub invariant-loop-i : goal.invariant-loop-i
+invariant-loop-i l = (j p : ℕ) → j < l.i → slice_get (ids_of l.ids) j ≡ Some p
+    → erring_in l.tables p l.r.0 ≡ seen l.best → ⊥

@@ -1,0 +1,41 @@
+use Rattle.std.proofs.Common.{◌≡◌, ◌∙◌, ap, sym, subst, cond, is_some}
+use Rattle.std.specs.Prelude.{IfOk}
+use Rattle.avro_schema.specs.Node.{field_ids}
+use Rattle.avro_schema.specs.Seen.{node_of, seen_fields, texts_of}
+use Rattle.avro_schema.specs.declared.schema.Node.{Node as KeptNode}
+use Rattle.avro_compare.specs.Planned.{AreInside}
+use Rattle.avro_compare.proofs.public.Symbols.{lacks_same}
+use Rattle.avro_least.specs.Asked.{Asked, asked_inside, rows_from}
+use Rattle.avro_least.specs.SeenAsk.{ask_of, rows_by}
+use Rattle.avro_least.proofs.AskedLed.{rows_same}
+use Rattle.avro_least.proofs.pairs.asking.ask_inside.Goals as goal
+
+pub returns-in-Enum-r : goal.returns-in-Enum-r
+returns-in-Enum-r c =
+    let pair = c.args.pair.now in
+    let w = KeptNode.Enum c.in-Enum.field-0 in
+    let r = KeptNode.Enum c.in-Enum-r.field-0 in
+    let inside : AreInside (node_of w) (node_of r) pair =
+    subst (λ (n : KeptNode). AreInside (node_of w) (node_of n) pair) c.in-Enum-r.is (subst (λ (n : KeptNode). AreInside (node_of n) (node_of c.args.r.now) pair) c.in-Enum.is c.requires) in
+    c.ask_symbols.ensures
+    ∙ ap (λ b. cond b Asked.lone Asked.quiet)
+    (lacks_same (texts_of c.in-Enum.field-0.symbols.items) (texts_of c.in-Enum-r.field-0.symbols.items) c.in-Enum-r.field-0.default pair.symbols.items inside.all_symbols inside.symbols)
+    ∙ ap (λ (n : KeptNode). asked_inside (node_of w) (node_of n)) (sym c.in-Enum-r.is)
+    ∙ ap (λ (n : KeptNode). asked_inside (node_of n) (node_of c.args.r.now)) (sym c.in-Enum.is)
+
+pub returns-in-Record-r : goal.returns-in-Record-r
+returns-in-Record-r c =
+    let pair = c.args.pair.now in
+    let result = c.ask_fields.result in
+    let w = KeptNode.Record c.in-Record.a in
+    let r = KeptNode.Record c.in-Record-r.field-0 in
+    let ws = seen_fields c.in-Record.a.fields.items in
+    let rs = seen_fields c.in-Record-r.field-0.fields.items in
+    let inside : AreInside (node_of w) (node_of r) pair =
+    subst (λ (n : KeptNode). AreInside (node_of w) (node_of n) pair) c.in-Record-r.is (subst (λ (n : KeptNode). AreInside (node_of n) (node_of c.args.r.now) pair) c.in-Record.is c.requires) in
+    let same = ap (λ fs. cond (is_some pair.missing) Asked.whole (Asked.fields (rows_by pair.fields.items 0 (field_ids (seen_fields fs))))) c.deref.ensures.value
+    ∙ ap (λ rows. cond (is_some pair.missing) Asked.whole (Asked.fields rows)) (rows_same ws rs pair.fields.items inside.fields inside.all_fields)
+    ∙ ap (λ o. cond (is_some o) Asked.whole (Asked.fields (rows_from ws rs 0 (field_ids ws)))) inside.complete
+    ∙ ap (λ (n : KeptNode). asked_inside (node_of w) (node_of n)) (sym c.in-Record-r.is)
+    ∙ ap (λ (n : KeptNode). asked_inside (node_of n) (node_of c.args.r.now)) (sym c.in-Record.is) in
+    subst (λ a. IfOk result (λ b. ask_of b ≡ a)) same c.ask_fields.ensures

@@ -1,0 +1,13 @@
+use Rattle.std.proofs.Common.{◌≡◌, ◌≤◌, length, drop}
+use Rattle.indexmap.specs.IndexSet.{keys}
+use Rattle.avro_schema.specs.Seen.{ids_of}
+use Rattle.avro_least.specs.Tables.{best_of, erring_of}
+use Rattle.avro_least.specs.SeenLeast.{seen, seen_all, table_of}
+use Rattle.avro_least.proofs.pairs.erring.best_branch.Given as goal
+
+abbrev pub invariant-loop-i : goal.invariant-loop-i
+invariant-loop-i l = (l.i ≤ length l.ids)
+    × (seen l.best ≡ best_of (λ p. erring_of l.count (table_of l.table) (keys l.known) (seen_all l.entries) p l.r.0) (ids_of (drop l.i l.ids)))
+
+abbrev pub decreases-loop-i : goal.decreases-loop-i
+decreases-loop-i l = l.i

@@ -1,0 +1,56 @@
+use Rattle.std.proofs.Common.{◌≡◌, ◌*◌, ◌+◌, ◌/◌, ◌%◌, ℕ, true, false, Some, List, length, get_or, ◌<◌, arith, sym, ◌∙◌, ap, subst}
+use Rattle.std.proofs.lemmas.List.{with_items_is}
+use Rattle.std.proofs.lemmas.Option.{slice_get_within, slice_get-get_or}
+use Rattle.std.specs.Global.{Vec}
+use Rattle.std.specs.Prelude.{slice_get, is_none, position, ◌==◌}
+use Rattle.indexmap.specs.IndexSet.{keys}
+use Rattle.avro_schema.specs.Node.{Node}
+use Rattle.avro_schema.specs.SeenSchema.{schema_nodes}
+use Rattle.avro_least.specs.Tables.{pair_number}
+use Rattle.avro_least.specs.Asked.{Asked, asked_at}
+use Rattle.avro_least.specs.SeenAsk.{ask_of}
+use Rattle.avro_least.specs.SeenLeast.{table_of}
+use Rattle.avro_least.specs.declared.pairs.asking.Ask.{Ask}
+use Rattle.avro_least.specs.declared.pairs.leads.Lead.{Lead}
+use Rattle.avro_least.specs.inside.Parts.{part_at}
+use Rattle.avro_least.specs.inside.Leading.{is_lead, leads_at, AreLeads}
+use Rattle.avro_least.proofs.PairSteps.{below_at, own_ask}
+use Rattle.avro_least.proofs.Taken.{leads_more}
+use Rattle.avro_least.proofs.pairs.leads.leads.Goals as goal
+
+pub writers-w-requires : goal.writers-w-requires
+writers-w-requires c = below_at (length (schema_nodes c.args.writer.now) * length (schema_nodes c.args.reader.now)) (keys c.args.reached.now.known) c.loop-i.i c.in-Some.key.now
+    c.requires.below (sym c.in-Some.ensures.key)
+
+pub loop-i-preserved : goal.loop-i-preserved
+loop-i-preserved c =
+    let inv = c.loop-i.invariant in
+    let new = c.in_ok-add_parts-in-Some.ensures in
+    let i : ℕ = c.loop-i.i in
+    let ks : List ℕ = keys c.args.reached.now.known in
+    let ns : List Node = schema_nodes c.args.writer.now in
+    let qs : List Node = schema_nodes c.args.reader.now in
+    let asks : List Ask = c.args.reached.now.asks.items in
+    let key : ℕ = c.in-Some.key.now in
+    let here : slice_get ks i ≡ Some key = sym c.in-Some.ensures.key in
+    let rows : List (Vec Lead) = c.add_parts.new.rows in
+    let as_many : length rows ≡ length c.loop-i.rows.items = new.one_each ∙ ap length c.deref_mut.ensures.value in
+    let written = with_items_is c.loop-i.rows rows (as_many ∙ sym c.loop-i.rows.ok.0) in
+    let within : i < length asks = omega (arith, slice_get_within ks i key here, c.requires.asks) in
+    let kept : (j p n : ℕ) → is_lead (leads_at c.loop-i.rows.items j) p n ≡ true → is_lead (leads_at rows j) p n ≡ true =
+    subst (λ (old : List (Vec Lead)). (j p n : ℕ) → is_lead (leads_at old j) p n ≡ true → is_lead (leads_at rows j) p n ≡ true) c.deref_mut.ensures.value new.kept in
+    let added : (j n a b : ℕ) → part_at (key / length qs) (key % length qs) (asked_at ns qs key) n ≡ Some (record { w = a; r = b }) → is_none (table_of c.args.table.now a) ≡ false
+    → position (λ q. pair_number (length qs) a b == q) ks ≡ Some j → is_lead (leads_at rows j) i n ≡ true =
+    λ j n a b is live there. new.added (get_or asks i Ask.Quiet) j n a b (slice_get-get_or asks i Ask.Quiet within)
+    (ap (λ (m : ℕ). part_at m c.readers-r.result.0 (ask_of (get_or asks i Ask.Quiet)) n) c.writers-w.ensures.is
+    ∙ ap (λ (m : ℕ). part_at (key / length qs) m (ask_of (get_or asks i Ask.Quiet)) n) c.readers-r.ensures.is
+    ∙ ap (λ (x : Asked). part_at (key / length qs) (key % length qs) x n)
+    (own_ask ns qs ks asks (get_or asks i Ask.Quiet) i key c.requires.asked here (slice_get-get_or asks i Ask.Quiet within)) ∙ is) live
+    (ap (λ (m : ℕ). position (λ q. pair_number m a b == q) ks) c.count-nodes.ensures.count ∙ there) in record {
+      one_each = ap length written ∙ as_many ∙ inv.one_each;
+      leads = subst (λ (rs : List (Vec Lead)). AreLeads ns qs (table_of c.args.table.now) ks (i + 1) rs) (sym written)
+          (leads_more ns qs (table_of c.args.table.now) ks c.loop-i.rows.items rows i key c.len-pairs.ensures.unique here kept added inv.leads);
+    }
+
+pub returns : goal.returns
+returns c i k j key within = c.loop-i.invariant.leads i k j key (omega (arith, within, c.loop-i-test.false, c.len-pairs.ensures.len))

@@ -1,0 +1,123 @@
+use Rattle.std.proofs.Common.{length-append, ◌||◌, inl, inr, ◌≡◌, ◌≤◌, ◌<◌, ℕ, ◌+◌, ◌-◌, ◌*◌, true, List, [], ◌∷◌, ◌++◌, Some, length, refl, sym, ◌∙◌, ap, subst, arith}
+use Rattle.std.proofs.lemmas.Bool.{and_from, lt-ltb, ltb-true}
+use Rattle.std.proofs.lemmas.List.{length-map, map-append}
+use Rattle.std.specs.Prelude.{nat_lt, slice_get}
+use Rattle.std.specs.List.{list_all}
+use Rattle.indexmap.specs.IndexSet.{keys}
+use Rattle.avro_schema.specs.SeenSchema.{schema_nodes}
+use Rattle.avro_schema.specs.Node.{Node}
+use Rattle.avro_compare.specs.Planned.{AreComparisons}
+use Rattle.avro_compare.specs.declared.comparison.Comparison.{Comparison}
+use Rattle.avro_least.specs.SeenLeast.{table_of}
+use Rattle.avro_least.specs.Reached.{is_key, AreFollowed, IsSteppedTo, from_first, one_step}
+use Rattle.avro_least.specs.Asked.{Asked, asked_at, steps_at, AreAsked}
+use Rattle.avro_least.specs.SeenAsk.{ask_of, asks_of}
+use Rattle.avro_least.specs.declared.pairs.asking.Ask.{Ask}
+use Rattle.avro_least.proofs.public.Keys.{key_kept, followed_more, few_keys, none_pass, key_at, no_key, only_key}
+use Rattle.avro_certificate.proofs.public.Tests.{and_left, or_cases, all_at}
+use Rattle.avro_least.proofs.PairSteps.{below_at}
+use Rattle.avro_least.proofs.public.Stepping.{some_pairs, steps_below, asked_more}
+use Rattle.avro_least.proofs.pairs.reaching.reach.Goals as goal
+
+none_asked : (writer reader : List Node) (ks : List ℕ) (asks : List Ask) → asks ≡ [] → AreAsked writer reader ks (asks_of asks)
+none_asked writer reader ks asks e i k found within = absurd (omega (arith, ltb-true i (length (asks_of asks)) within, length-map asks ask_of, ap length e))
+
+none_found : (writer reader : List Node) (found : List Comparison) → found ≡ [] → AreComparisons writer reader found
+none_found writer reader found e = subst (λ (ps : List Comparison). AreComparisons writer reader ps) (sym e) (λ k p got. absurd cc)
+
+-- the first key alone
+first_stepped : (steps : ℕ → List ℕ) (none : List ℕ) (k : ℕ) → length none ≡ 0 → (is_key none k || is_key (0 ∷ []) k) ≡ true → IsSteppedTo steps k
+first_stepped steps none k e h = elim (or_cases (is_key none k) (is_key (0 ∷ []) k) h) [
+  | inl m ↦ absurd (no_key none k e m)
+  | inr m ↦ subst (λ (x : ℕ). IsSteppedTo steps x) (sym (only_key 0 k m)) from_first
+]
+
+-- the keys, and what one of them leads to
+more_stepped : (steps : ℕ → List ℕ) (ks : List ℕ) (j k : ℕ) → ((x : ℕ) → is_key ks x ≡ true → IsSteppedTo steps x) → is_key ks j ≡ true
+    → (is_key ks k || is_key (steps j) k) ≡ true → IsSteppedTo steps k
+more_stepped steps ks j k before there h = elim (or_cases (is_key ks k) (is_key (steps j) k) h) [
+  | inl m ↦ before k m
+  | inr m ↦ one_step j k (before j there) m
+]
+
+pub loop-next-init : goal.loop-next-init
+loop-next-init c =
+    let total : ℕ = length (schema_nodes c.args.writer.now) * length (schema_nodes c.args.reader.now) in (
+      and_left (is_key (keys c.add_all.new.known) 0) true c.in_ok-add_all.ensures.added,
+      c.in_ok-add_all.ensures.all (λ x. nat_lt x total) (none_pass (λ x. nat_lt x total) (keys c.new-known.result) c.new-known.ensures.len)
+          (and_from (nat_lt 0 total) true (lt-ltb 0 total (some_pairs (schema_nodes c.args.writer.now) (schema_nodes c.args.reader.now) c.count.ensures.formed c.count-2.ensures.formed)) refl),
+      λ i k found within. absurd (omega (arith, ltb-true i 0 within)),
+      omega arith,
+      ap length c.new-asks.ensures.items,
+      none_asked (schema_nodes c.args.writer.now) (schema_nodes c.args.reader.now) (keys c.add_all.new.known) c.new-asks.result.items c.new-asks.ensures.items,
+      λ P zero step. c.in_ok-add_all.ensures.all P (none_pass P (keys c.new-known.result) c.new-known.ensures.len) (and_from (P 0) true zero refl),
+      λ k m. first_stepped (steps_at (schema_nodes c.args.writer.now) (schema_nodes c.args.reader.now) (table_of c.args.table.now)) (keys c.new-known.result) k c.new-known.ensures.len
+          (c.in_ok-add_all.ensures.old_or_new k m),
+      none_found (schema_nodes c.args.writer.now) (schema_nodes c.args.reader.now) c.new-found.result.items c.new-found.ensures.items,
+    )
+
+pub ask_at-requires-clause-within : goal.ask_at-requires-clause-within
+ask_at-requires-clause-within c = below_at (length (schema_nodes c.args.writer.now) * length (schema_nodes c.args.reader.now)) (keys c.loop-next.known) c.loop-next.next c.in-Some.key.now
+    c.loop-next.invariant.1 (sym c.in-Some.ensures.key)
+
+pub steps-requires-clause-within : goal.steps-requires-clause-within
+steps-requires-clause-within c = below_at (length (schema_nodes c.args.writer.now) * length (schema_nodes c.args.reader.now)) (keys c.loop-next.known) c.loop-next.next c.in-Some.key.now
+    c.loop-next.invariant.1 (sym c.in-Some.ensures.key)
+
+pub loop-next-smaller : goal.loop-next-smaller
+loop-next-smaller c =
+    let total : ℕ = length (schema_nodes c.args.writer.now) * length (schema_nodes c.args.reader.now) in
+    let few = few_keys (keys c.loop-next.known) total c.len.ensures.unique c.loop-next.invariant.1 in
+    let low : c.loop-next.next < length (keys c.loop-next.known) = omega (arith, c.loop-next-test.true, c.len.ensures.len) in
+    falls total c.loop-next.next (omega (arith, few, low))
+  where
+    falls : (n i : ℕ) → i < n → n - (i + 1) < n - i
+    falls n i h = omega (arith, h)
+
+longer : (ks rest new : List ℕ) (i : ℕ) → new ≡ ks ++ rest → i < length ks → i + 1 ≤ length new
+longer ks rest new i is h = omega (arith, ap length is ∙ length-append ks rest, h)
+
+grown : (asks new : List Ask) (ask : Ask) (next : ℕ) → new ≡ asks ++ ask ∷ [] → length asks ≡ next → length new ≡ next + 1
+grown asks new ask next is h = omega (arith, ap length is ∙ length-append asks (ask ∷ []), h)
+
+more_asked : (writer reader : List Node) (ks rest keys : List ℕ) (asks new : List Ask) (ask : Ask) (key next : ℕ) → new ≡ asks ++ ask ∷ [] → keys ≡ ks ++ rest
+    → AreAsked writer reader ks (asks_of asks) → length asks ≡ next → slice_get ks next ≡ Some key → ask_of ask ≡ asked_at writer reader key
+    → AreAsked writer reader keys (asks_of new)
+more_asked writer reader ks rest keys asks new ask key next is all before h here own =
+    subst (λ (qs : List ℕ). AreAsked writer reader qs (asks_of new)) (sym all)
+    (subst (λ (es : List Asked). AreAsked writer reader (ks ++ rest) es)
+    (sym (ap asks_of is ∙ map-append ask_of asks (ask ∷ []) ∙ ap (λ (a : Asked). asks_of asks ++ a ∷ []) own))
+    (asked_more writer reader ks rest (asks_of asks) key before (ap (slice_get ks) (length-map asks ask_of ∙ h) ∙ here)))
+
+pub loop-next-preserved : goal.loop-next-preserved
+loop-next-preserved c =
+    let inv = c.loop-next.invariant in
+    let total : ℕ = length (schema_nodes c.args.writer.now) * length (schema_nodes c.args.reader.now) in
+    let more = c.in_ok-add_all-in-Some.ensures in
+    let rest : List ℕ = more.kept.0 in
+    let is : keys c.add_all-in-Some.new.known ≡ keys c.loop-next.known ++ rest = more.kept.1 in
+    let key : ℕ = c.in-Some.key.now in
+    let here : slice_get (keys c.loop-next.known) c.loop-next.next ≡ Some key = sym c.in-Some.ensures.key in
+    let row : c.deref.result.now ≡ steps_at (schema_nodes c.args.writer.now) (schema_nodes c.args.reader.now) (table_of c.args.table.now) key =
+    c.deref.ensures.value ∙ c.in_ok-more-in-Some.ensures in
+    let all : list_all (is_key (keys c.add_all-in-Some.new.known)) (steps_at (schema_nodes c.args.writer.now) (schema_nodes c.args.reader.now) (table_of c.args.table.now) key) ≡ true =
+    subst (λ (ks : List ℕ). list_all (is_key (keys c.add_all-in-Some.new.known)) ks ≡ true) row more.added in (
+      subst (λ (ks : List ℕ). is_key ks 0 ≡ true) (sym is) (key_kept (keys c.loop-next.known) rest 0 inv.0),
+      more.all (λ x. nat_lt x total) inv.1
+          (subst (λ (ks : List ℕ). list_all (λ x. nat_lt x total) ks ≡ true) (sym row)
+          (steps_below (schema_nodes c.args.writer.now) (schema_nodes c.args.reader.now) (table_of c.args.table.now) c.count.ensures.formed c.count-2.ensures.formed key
+          (below_at total (keys c.loop-next.known) c.loop-next.next key inv.1 here))),
+      subst (λ (ks : List ℕ). AreFollowed (steps_at (schema_nodes c.args.writer.now) (schema_nodes c.args.reader.now) (table_of c.args.table.now)) ks (c.loop-next.next + 1)) (sym is)
+          (followed_more (steps_at (schema_nodes c.args.writer.now) (schema_nodes c.args.reader.now) (table_of c.args.table.now)) (keys c.loop-next.known) rest c.loop-next.next key inv.2 here
+          (subst (λ (ks : List ℕ). list_all (is_key ks) (steps_at (schema_nodes c.args.writer.now) (schema_nodes c.args.reader.now) (table_of c.args.table.now) key) ≡ true) is all)),
+      longer (keys c.loop-next.known) rest (keys c.add_all-in-Some.new.known) c.loop-next.next is (omega (arith, c.loop-next-test.true, c.len.ensures.len)),
+      grown c.loop-next.asks.items c.push.new.self.items c.in_ok-ask-in-Some.ask c.loop-next.next c.in_ok-push-in-Some.ensures.items inv.4,
+      more_asked (schema_nodes c.args.writer.now) (schema_nodes c.args.reader.now) (keys c.loop-next.known) rest (keys c.add_all-in-Some.new.known)
+          c.loop-next.asks.items c.push.new.self.items c.in_ok-ask-in-Some.ask key c.loop-next.next c.in_ok-push-in-Some.ensures.items is inv.5 inv.4 here c.in_ok-ask-in-Some.ensures.asked,
+      λ P zero step. more.all P (inv.6 P zero step) (subst (λ (ks : List ℕ). list_all P ks ≡ true) (sym row)
+          (step key (all_at P (keys c.loop-next.known) c.loop-next.next key (inv.6 P zero step) here))),
+      λ k m. more_stepped (steps_at (schema_nodes c.args.writer.now) (schema_nodes c.args.reader.now) (table_of c.args.table.now)) (keys c.loop-next.known) key k inv.7
+          (key_at (keys c.loop-next.known) c.loop-next.next key here)
+          (subst (λ (ks : List ℕ). (is_key (keys c.loop-next.known) k || is_key ks k) ≡ true) row (more.old_or_new k m)),
+      c.in_ok-ask-in-Some.ensures.found inv.8,
+    )

@@ -1,0 +1,10 @@
+use Rattle.std.proofs.Common.{◌<◌, ℕ, []}
+use Rattle.avro_least.specs.inside.Leading.{HasTakenAlone, HaveTakenBut, IsSearchOf}
+use Rattle.avro_least.proofs.pairs.search.start.Given as goal
+
+abbrev pub invariant-loop-i : goal.invariant-loop-i
+invariant-loop-i l = record {
+  search : IsSearchOf l.graph l.search;
+  alone : (k : ℕ) → k < l.i → HasTakenAlone l.graph l.search k;
+  taken : HaveTakenBut [] l.graph l.search;
+}

@@ -1,0 +1,165 @@
+//! Which pairs lead to a pair.
+
+ghost use Rattle.std.specs.Prelude.{◌≡◌, ◌<◌, ◌*◌, ◌==◌, ℕ, Some, true, false, List, length, nat_lt, position, slice_get, is_none, IfOk, OnOk};
+ghost use Rattle.std.specs.List.{list_all};
+ghost use Rattle.indexmap.specs.IndexSet.{keys};
+ghost use Rattle.avro_schema.specs.SeenSchema.{schema_nodes};
+ghost use Rattle.avro_least.specs.SeenAsk.{ask_of, asks_of};
+ghost use Rattle.avro_least.specs.SeenLeast.{table_of};
+ghost use Rattle.avro_least.specs.Tables.{pair_number};
+ghost use Rattle.avro_least.specs.Asked.{asked_at, AreAsked};
+ghost use Rattle.avro_least.specs.inside.Parts.{part_at};
+ghost use Rattle.avro_least.specs.inside.Leading.{is_lead, leads_at, AreLeads};
+ghost use Rattle.avro_least.specs.declared.pairs.asking.Ask.{Ask};
+
+use crate::kept::Least;
+use crate::nodes::least::{count, entry};
+use crate::pairs::asking::Ask;
+use crate::pairs::parts::{part_at, part_count};
+use crate::pairs::reaching::{Reached, ask_at_index, number, readers, writers};
+use avro_schema::{Memory, NodeId, Schema};
+use indexmap::IndexSet;
+use std::alloc::Global;
+
+/// A pair that leads to another one, by the part at an index.
+#[derive(Clone, Copy, Debug)]
+pub(crate) struct Lead {
+    /// The index of the pair.
+    pub(crate) pair: usize,
+    /// The index of its part.
+    pub(crate) part: usize,
+}
+
+/// The row at an index, or nothing past the end.
+pub(crate) fn leads_at(rows: &[Vec<Lead>], i: usize) -> &[Lead]
+    ensures { result.now ≡ leads_at rows.now i }
+{
+    match rows.get(i) {
+        None => &[],
+        Some(row) => row,
+    }
+}
+
+/// This many empty rows.
+fn empty_rows(alloc: Global, count: usize) -> Result<Vec<Vec<Lead>>, Memory>
+    ensures { IfOk result (λ t. length t.items ≡ count) }
+{
+    let mut rows = Vec::new(alloc);
+    for done in 0..count {
+        rows.push(Vec::new(alloc))?;
+    }
+    Ok(rows)
+}
+
+/// Adds a lead to the row of the pair of this number.
+fn add_lead(
+    known: &IndexSet<u64>,
+    key: u64,
+    lead: Lead,
+    rows: &mut [Vec<Lead>],
+) -> Result<(), Memory>
+    requires { length rows.old ≡ length (keys known.now) }
+    ensures one_each { OnOk result (length rows.new ≡ length rows.old) }
+    ensures kept { OnOk result ((j i k : ℕ) → is_lead (leads_at rows.old j) i k ≡ true → is_lead (leads_at rows.new j) i k ≡ true) }
+    ensures added { OnOk result ((j : ℕ) → position (λ q. key == q) (keys known.now) ≡ Some j → is_lead (leads_at rows.new j) lead.pair lead.part ≡ true) }
+{
+    match known.get_index_of(&key) {
+        None => Ok(()),
+        Some(j) => {
+            let row = &mut rows[j];
+            row.push(lead)?;
+            Ok(())
+        }
+    }
+}
+
+/// Adds a lead to the row of the pair that its part at an index is. A part whose writer's node has no data needs none.
+fn add_part(
+    table: &[Option<Least>],
+    count: u32,
+    known: &IndexSet<u64>,
+    part: Option<(NodeId, NodeId)>,
+    lead: Lead,
+    rows: &mut [Vec<Lead>],
+) -> Result<(), Memory>
+    requires { length rows.old ≡ length (keys known.now) }
+    ensures one_each { OnOk result (length rows.new ≡ length rows.old) }
+    ensures kept { OnOk result ((j i k : ℕ) → is_lead (leads_at rows.old j) i k ≡ true → is_lead (leads_at rows.new j) i k ≡ true) }
+    ensures added { OnOk result ((j : ℕ) (a b : NodeId) → part ≡ Some (a, b) → is_none (table_of table.now a.0) ≡ false
+        → position (λ q. pair_number count a.0 b.0 == q) (keys known.now) ≡ Some j → is_lead (leads_at rows.new j) lead.pair lead.part ≡ true) }
+{
+    match part {
+        None => Ok(()),
+        Some((a, b)) => {
+            if entry(table, a).is_none() {
+                return Ok(());
+            }
+            add_lead(known, number(count, a, b), lead, rows)
+        }
+    }
+}
+
+/// Adds the pair at an index to the rows of those that it leads to.
+fn add_parts(
+    table: &[Option<Least>],
+    count: u32,
+    reached: &Reached,
+    w: NodeId,
+    r: NodeId,
+    i: usize,
+    rows: &mut [Vec<Lead>],
+) -> Result<(), Memory>
+    requires rows { length rows.old ≡ length (keys reached.now.known) }
+    requires within { i < length reached.now.asks.items }
+    ensures one_each { OnOk result (length rows.new ≡ length rows.old) }
+    ensures kept { OnOk result ((j p k : ℕ) → is_lead (leads_at rows.old j) p k ≡ true → is_lead (leads_at rows.new j) p k ≡ true) }
+    ensures added { OnOk result ((ask : Ask) (j k a b : ℕ) → slice_get reached.now.asks.items i ≡ Some ask → part_at w.0 r.0 (ask_of ask) k ≡ Some (record { w = a; r = b })
+        → is_none (table_of table.now a) ≡ false → position (λ q. pair_number count a b == q) (keys reached.now.known) ≡ Some j → is_lead (leads_at rows.new j) i k ≡ true) }
+{
+    let ask = ask_at_index(reached, i);
+    for k in 0..part_count(ask) {
+        let part = part_at(w, r, ask, k);
+        add_part(
+            table,
+            count,
+            &reached.known,
+            part,
+            Lead { pair: i, part: k },
+            rows,
+        )?;
+    }
+    Ok(())
+}
+
+/// For the pair at each index, the pairs that lead to it.
+///
+/// # Errors
+///
+/// Memory ran out.
+pub(crate) fn leads(
+    alloc: Global,
+    writer: &Schema,
+    reader: &Schema,
+    table: &[Option<Least>],
+    reached: &Reached,
+) -> Result<Vec<Vec<Lead>>, Memory>
+    requires below { list_all (λ k. nat_lt k (length (schema_nodes writer.now) * length (schema_nodes reader.now))) (keys reached.now.known) ≡ true }
+    requires asks { length reached.now.asks.items ≡ length (keys reached.now.known) }
+    requires asked { AreAsked (schema_nodes writer.now) (schema_nodes reader.now) (keys reached.now.known) (asks_of reached.now.asks.items) }
+    ensures { IfOk result (λ t. AreLeads (schema_nodes writer.now) (schema_nodes reader.now) (table_of table.now) (keys reached.now.known) (length (keys reached.now.known)) t.items) }
+{
+    let pairs = reached.known.len();
+    let nodes = count(reader);
+    let mut rows = empty_rows(alloc, pairs)?;
+    for i in 0..pairs {
+        match reached.known.get_index(i) {
+            None => unreachable!(),
+            Some(key) => {
+                let w = writers(writer, reader, *key);
+                let r = readers(reader, *key);
+                add_parts(table, nodes, reached, w, r, i, &mut rows)?;
+            }
+        }
+    }
+    Ok(rows)
+}

@@ -1,0 +1,213 @@
+//! The parts of a pair of nodes: the pairs that it leads to, and what its entry comes to by one of them.
+
+ghost use Rattle.std.specs.Prelude.{◌≡◌, ◌<◌, ◌≤◌, ◌+◌, ℕ, List, Some, IfOk, length, slice_get, None, map, unwrap_or};
+ghost use Rattle.std.proofs.Math.ListN.{drop};
+ghost use Rattle.avro_schema.specs.Node.{field_ids};
+ghost use Rattle.avro_schema.specs.Seen.{ids_of, node_of, seen_fields};
+ghost use Rattle.avro_schema.specs.SeenSchema.{schema_nodes};
+ghost use Rattle.avro_least.specs.Asked.{Row, Asked};
+ghost use Rattle.avro_least.specs.SeenAsk.{ask_of, rows_of};
+ghost use Rattle.avro_least.specs.SeenLeast.{seen, given_entry, table_of};
+ghost use Rattle.avro_least.specs.Tables.{all_of};
+ghost use Rattle.avro_least.specs.inside.Parts.{around_part, least_of_others, nodes_of, others_at, part_at, parts_of, row_part, seen_pair, value_alone, AreOthers, AreOthersOf};
+
+use crate::kept::Least;
+use crate::nodes::least::{around, count, entry, together, unknown};
+use crate::pairs::asking::{Ask, FieldAsk};
+use crate::queue::entry_at;
+use avro_schema::{Field, Memory, Node, NodeId, Schema};
+use std::alloc::Global;
+
+/// The number of parts that a pair has.
+pub(crate) fn part_count(ask: &Ask) -> usize
+    ensures { (w r : ℕ) → result ≡ length (parts_of w r (ask_of ask.now)) }
+{
+    match ask {
+        Ask::Quiet => 0,
+        Ask::Whole => 0,
+        Ask::Lone => 0,
+        Ask::Same(_) => 1,
+        Ask::Part(_, _) => 1,
+        Ask::Branches(ids) => ids.len(),
+        Ask::Fields(rows) => rows.len(),
+    }
+}
+
+/// The id at an index, if there is one.
+fn id_at(ids: &[NodeId], k: usize) -> Option<NodeId>
+    ensures { result ≡ slice_get ids.now k }
+{
+    ids.get(k).copied()
+}
+
+/// The row at an index, if there is one.
+fn row_at(rows: &[FieldAsk], k: usize) -> Option<FieldAsk>
+    ensures { result ≡ slice_get rows.now k }
+{
+    rows.get(k).copied()
+}
+
+/// The branch at an index against a reader's node.
+fn branch_at(ids: &[NodeId], r: NodeId, k: usize) -> Option<(NodeId, NodeId)>
+    ensures { seen_pair result ≡ unwrap_or (slice_get (map (λ p. Some (record { w = p; r = r.0 })) (ids_of ids.now)) k) None }
+{
+    match id_at(ids, k) {
+        None => None,
+        Some(id) => Some((id, r)),
+    }
+}
+
+/// The field at an index against the reader's field that takes its value, if there is one.
+fn field_at(rows: &[FieldAsk], k: usize) -> Option<(NodeId, NodeId)>
+    ensures { seen_pair result ≡ unwrap_or (slice_get (map row_part (rows_of rows.now)) k) None }
+{
+    match row_at(rows, k) {
+        None => None,
+        Some(row) => match row.theirs {
+            None => None,
+            Some(theirs) => Some((row.node, theirs)),
+        },
+    }
+}
+
+/// The nodes of the part at an index. There are none past the last part, and of a field that no reader's field takes.
+pub(crate) fn part_at(w: NodeId, r: NodeId, ask: &Ask, k: usize) -> Option<(NodeId, NodeId)>
+    ensures { seen_pair result ≡ part_at w.0 r.0 (ask_of ask.now) k }
+{
+    match ask {
+        Ask::Quiet => None,
+        Ask::Whole => None,
+        Ask::Lone => None,
+        Ask::Same(q) => (k == 0).then_some((w, *q)),
+        Ask::Part(a, b) => (k == 0).then_some((*a, *b)),
+        Ask::Branches(ids) => branch_at(ids, r, k),
+        Ask::Fields(rows) => field_at(rows, k),
+    }
+}
+
+/// The entry of a pair around that of its part at an index. `others` has the least data of all of the writer's fields but each.
+pub(crate) fn around_part(
+    limit: u32,
+    table: &[Option<Least>],
+    others: &[Option<Least>],
+    ask: &Ask,
+    k: usize,
+    part: Option<Least>,
+) -> Option<Least>
+    requires range { limit ≤ 16777216 }
+    requires others { (rows : List Row) → ask_of ask.now ≡ Asked.fields rows
+        → given_entry (slice_get others.now k) ≡ least_of_others limit (table_of table.now) (map (λ row. row.node) rows) k }
+    ensures { seen result ≡ around_part limit (table_of table.now) (ask_of ask.now) k (seen part) }
+{
+    match ask {
+        Ask::Quiet => None,
+        Ask::Whole => None,
+        Ask::Lone => None,
+        Ask::Same(_) => part,
+        Ask::Part(_, _) => around(limit, part),
+        Ask::Branches(_) => around(limit, part),
+        Ask::Fields(_) => around(limit, together(limit, part, entry_at(others, k))),
+    }
+}
+
+/// The entry of a pair that needs no part.
+pub(crate) fn value_alone(table: &[Option<Least>], w: NodeId, ask: &Ask) -> Option<Least>
+    ensures { seen result ≡ value_alone (table_of table.now) w.0 (ask_of ask.now) }
+{
+    match ask {
+        Ask::Whole => entry(table, w),
+        Ask::Lone => Some(Least { nodes: 1, depth: 1 }),
+        _ => None,
+    }
+}
+
+/// For each field, the entry of the least data of all after it.
+fn behind(
+    alloc: Global,
+    limit: u32,
+    table: &[Option<Least>],
+    fields: &[Field],
+) -> Result<Vec<Option<Least>>, Memory>
+    requires { limit ≤ 16777216 }
+    ensures one_each { IfOk result (λ b. length b.items ≡ length fields.now) }
+    ensures each { IfOk result (λ b. (k : ℕ) → k < length fields.now → given_entry (slice_get b.items k) ≡ all_of limit (table_of table.now) (drop (k + 1) (field_ids (seen_fields fields.now)))) }
+{
+    let mut behind = unknown(alloc, fields.len())?;
+    let mut all = Some(Least { nodes: 0, depth: 0 });
+    let mut i = fields.len();
+    while i > 0 {
+        i -= 1;
+        behind[i] = all;
+        all = together(limit, entry(table, fields[i].node), all);
+    }
+    Ok(behind)
+}
+
+/// For each field, the entry of the least data of all others.
+fn others_of(
+    alloc: Global,
+    limit: u32,
+    table: &[Option<Least>],
+    fields: &[Field],
+) -> Result<Vec<Option<Least>>, Memory>
+    requires { limit ≤ 16777216 }
+    ensures { IfOk result (λ o. AreOthersOf limit (table_of table.now) (field_ids (seen_fields fields.now)) o.items) }
+{
+    let mut others = behind(alloc, limit, table, fields)?;
+    let mut before = Some(Least { nodes: 0, depth: 0 });
+    for i in 0..fields.len() {
+        let behind = entry_at(&others, i);
+        others[i] = together(limit, before, behind);
+        before = together(limit, before, entry(table, fields[i].node));
+    }
+    Ok(others)
+}
+
+/// The same for the fields of a node, which has none unless it is a record.
+fn others_of_node(
+    alloc: Global,
+    limit: u32,
+    table: &[Option<Least>],
+    node: &Node,
+) -> Result<Vec<Option<Least>>, Memory>
+    requires { limit ≤ 16777216 }
+    ensures { IfOk result (λ o. AreOthersOf limit (table_of table.now) (nodes_of (node_of node.now)) o.items) }
+{
+    match node {
+        Node::Record(record) => others_of(alloc, limit, table, &record.fields),
+        _ => Ok(Vec::new(alloc)),
+    }
+}
+
+/// For each of the writer's nodes and each of its fields, the entry of the least data of all other fields.
+///
+/// # Errors
+///
+/// Memory ran out.
+pub(crate) fn others(
+    alloc: Global,
+    writer: &Schema,
+    limit: u32,
+    table: &[Option<Least>],
+) -> Result<Vec<Vec<Option<Least>>>, Memory>
+    requires { limit ≤ 16777216 }
+    ensures { IfOk result (λ o. AreOthers (schema_nodes writer.now) limit (table_of table.now) (length (schema_nodes writer.now)) o.items) }
+{
+    let count = count(writer);
+    let mut rows = Vec::new(alloc);
+    for i in 0..count {
+        let node = writer.node(NodeId(i));
+        rows.push(others_of_node(alloc, limit, table, node)?)?;
+    }
+    Ok(rows)
+}
+
+/// The row at an index, or nothing past the end.
+pub(crate) fn others_at(rows: &[Vec<Option<Least>>], i: usize) -> &[Option<Least>]
+    ensures { result.now ≡ others_at rows.now i }
+{
+    match rows.get(i) {
+        None => &[],
+        Some(row) => row,
+    }
+}

@@ -1,0 +1,174 @@
+//! Finds the least data that fail at the pairs that were reached, the least of all first.
+
+ghost use Rattle.std.specs.Prelude.{◌≡◌, ◌<◌, ◌≤◌, ◌*◌, ◌/◌, ◌%◌, ℕ, List, [], ◌∷◌, Some, true, length, nat_lt, slice_get, IfOk, OnOk};
+ghost use Rattle.std.proofs.Math.ListN.{drop};
+ghost use Rattle.std.specs.List.{list_all};
+ghost use Rattle.indexmap.specs.IndexSet.{keys};
+ghost use Rattle.avro_schema.specs.SeenSchema.{schema_nodes};
+ghost use Rattle.avro_least.specs.Asked.{asked_at, steps_at, AreAsked, ArePairsShown};
+ghost use Rattle.avro_least.specs.Reached.{AreFollowed};
+ghost use Rattle.avro_least.specs.SeenAsk.{asks_of};
+ghost use Rattle.avro_least.specs.SeenLeast.{seen, seen_all, table_of};
+ghost use Rattle.avro_least.specs.Tables.{erring_of, AreDataShown, AreLow, IsLowForData};
+ghost use Rattle.avro_least.specs.inside.Parts.{value_alone, value_by_part};
+ghost use Rattle.avro_least.specs.inside.Falling.{effort, IsSearch};
+ghost use Rattle.avro_least.specs.inside.Leading.{leads_at, HasTakenAlone, HaveTakenBut, IsGraph, IsSearchOf};
+ghost use Rattle.avro_least.specs.declared.pairs.leads.Lead.{Lead};
+
+use crate::kept::Least;
+use crate::nodes::least::count;
+use crate::pairs::erring::pair_entry;
+use crate::pairs::graph::Graph;
+use crate::pairs::leads::{Lead, leads, leads_at};
+use crate::pairs::parts::{around_part, others, others_at, part_at, value_alone};
+use crate::pairs::reaching::{Reached, ask_at_index, readers, writers};
+use crate::queue::Search;
+use avro_schema::{Memory, NodeId, Schema};
+use std::alloc::Global;
+
+/// What the entry of a pair comes to by its part at an index. The pair is given by its number and the index of that.
+fn value_by_part(
+    graph: &Graph,
+    entries: &[Option<Least>],
+    i: usize,
+    key: u64,
+    k: usize,
+) -> Option<Least>
+    requires graph { IsGraph graph.now }
+    requires here { slice_get (keys graph.now.reached.now.known) i ≡ Some key }
+    ensures { seen result ≡ value_by_part graph.now.limit (table_of graph.now.table.now)
+        (erring_of (length (schema_nodes graph.now.reader.now)) (table_of graph.now.table.now) (keys graph.now.reached.now.known) (seen_all entries.now))
+        (key / length (schema_nodes graph.now.reader.now)) (key % length (schema_nodes graph.now.reader.now)) (asked_at (schema_nodes graph.now.writer.now) (schema_nodes graph.now.reader.now) key) k }
+{
+    let nodes = count(graph.reader);
+    let w = writers(graph.writer, graph.reader, key);
+    let r = readers(graph.reader, key);
+    let ask = ask_at_index(graph.reached, i);
+    match part_at(w, r, ask, k) {
+        None => None,
+        Some((a, b)) => {
+            let part = pair_entry(graph.table, nodes, &graph.reached.known, entries, a, b);
+            let others = others_at(graph.others, w.0 as usize);
+            around_part(graph.limit, graph.table, others, ask, k, part)
+        }
+    }
+}
+
+/// What the entry of the pair at an index comes to by no part.
+fn value_without_parts(graph: &Graph, i: usize) -> Option<Least>
+    requires { IsGraph graph.now }
+    ensures is { (key : ℕ) → slice_get (keys graph.now.reached.now.known) i ≡ Some key
+        → seen result ≡ value_alone (table_of graph.now.table.now) (key / length (schema_nodes graph.now.reader.now)) (asked_at (schema_nodes graph.now.writer.now) (schema_nodes graph.now.reader.now) key) }
+{
+    match graph.reached.known.get_index(i) {
+        None => None,
+        Some(key) => {
+            let w = writers(graph.writer, graph.reader, *key);
+            value_alone(graph.table, w, ask_at_index(graph.reached, i))
+        }
+    }
+}
+
+/// The entries of the pairs that need no part. All others are unknown.
+fn start(alloc: Global, graph: &Graph) -> Result<Search, Memory>
+    requires { IsGraph graph.now }
+    ensures search { IfOk result (IsSearchOf graph.now) }
+    ensures alone { IfOk result (λ s. (i : ℕ) → HasTakenAlone graph.now s i) }
+    ensures taken { IfOk result (HaveTakenBut [] graph.now) }
+{
+    let count = graph.reached.known.len();
+    let mut search = Search::new(alloc, count)?;
+    for i in 0..count {
+        search.lower(i, value_without_parts(graph, i))?;
+    }
+    Ok(search)
+}
+
+/// Lowers the entry of a pair to what it comes to by a part.
+fn take_part(graph: &Graph, lead: Lead, search: &mut Search) -> Result<(), Memory>
+    requires graph { IsGraph graph.now }
+    requires search { IsSearchOf graph.now search.old }
+    ensures search { OnOk result (IsSearchOf graph.now search.new) }
+    ensures alone { OnOk result ((i : ℕ) → HasTakenAlone graph.now search.old i → HasTakenAlone graph.now search.new i) }
+    ensures taken { OnOk result ((rest : List Lead) → HaveTakenBut (lead ∷ rest) graph.now search.old → HaveTakenBut rest graph.now search.new) }
+    ensures effort { OnOk result (effort search.new ≤ effort search.old) }
+{
+    if let Some(key) = graph.reached.known.get_index(lead.pair) {
+        let found = value_by_part(graph, &search.entries, lead.pair, *key, lead.part);
+        search.lower(lead.pair, found)?;
+    }
+    Ok(())
+}
+
+/// Lowers the entries of all pairs that lead to the pair at an index.
+fn take_parts(graph: &Graph, i: usize, search: &mut Search) -> Result<(), Memory>
+    requires graph { IsGraph graph.now }
+    requires search { IsSearchOf graph.now search.old }
+    requires taken { HaveTakenBut (leads_at graph.now.leads.now i) graph.now search.old }
+    ensures search { OnOk result (IsSearchOf graph.now search.new) }
+    ensures alone { OnOk result ((k : ℕ) → HasTakenAlone graph.now search.old k → HasTakenAlone graph.now search.new k) }
+    ensures taken { OnOk result (HaveTakenBut [] graph.now search.new) }
+    ensures effort { OnOk result (effort search.new ≤ effort search.old) }
+{
+    let leads = leads_at(graph.leads, i);
+    for n in 0..leads.len() {
+        take_part(graph, leads[n], search)?;
+    }
+    Ok(())
+}
+
+/// Finds the entries of all pairs. Each pair is looked at once for each that leads to it.
+fn search(alloc: Global, graph: &Graph) -> Result<Vec<Option<Least>>, Memory>
+    requires graph { IsGraph graph.now }
+    requires least { IsLowForData (schema_nodes graph.now.writer.now) graph.now.limit (table_of graph.now.table.now) }
+    ensures shown { IfOk result (λ t. ArePairsShown (schema_nodes graph.now.writer.now) (schema_nodes graph.now.reader.now) graph.now.limit (table_of graph.now.table.now) (keys graph.now.reached.now.known) (seen_all t.items)) }
+    ensures low { IfOk result (λ t. AreLow (schema_nodes graph.now.writer.now) (schema_nodes graph.now.reader.now) graph.now.limit (table_of graph.now.table.now)
+        (erring_of (length (schema_nodes graph.now.reader.now)) (table_of graph.now.table.now) (keys graph.now.reached.now.known) (seen_all t.items))) }
+{
+    let mut search = start(alloc, graph)?;
+    while let Some(i) = search.next() {
+        take_parts(graph, i, &mut search)?;
+    }
+    Ok(search.entries)
+}
+
+/// The table of the least data that fail at each pair that was reached, from the table of least data.
+///
+/// # Errors
+///
+/// Memory ran out.
+pub fn least_errors(
+    alloc: Global,
+    writer: &Schema,
+    reader: &Schema,
+    limit: u32,
+    table: &[Option<Least>],
+    reached: &Reached,
+) -> Result<Vec<Option<Least>>, Memory>
+    requires range { limit ≤ 16777216 }
+    requires data { AreDataShown (schema_nodes writer.now) limit (table_of table.now) }
+    requires least { IsLowForData (schema_nodes writer.now) limit (table_of table.now) }
+    requires below { list_all (λ k. nat_lt k (length (schema_nodes writer.now) * length (schema_nodes reader.now))) (keys reached.now.known) ≡ true }
+    requires closed { AreFollowed (steps_at (schema_nodes writer.now) (schema_nodes reader.now) (table_of table.now)) (keys reached.now.known) (length (keys reached.now.known)) }
+    requires asks { length reached.now.asks.items ≡ length (keys reached.now.known) }
+    requires asked { AreAsked (schema_nodes writer.now) (schema_nodes reader.now) (keys reached.now.known) (asks_of reached.now.asks.items) }
+    ensures shown { IfOk result (λ t. ArePairsShown (schema_nodes writer.now) (schema_nodes reader.now) limit (table_of table.now) (keys reached.now.known) (seen_all t.items)) }
+    ensures low { IfOk result (λ t. AreLow (schema_nodes writer.now) (schema_nodes reader.now) limit (table_of table.now)
+        (erring_of (length (schema_nodes reader.now)) (table_of table.now) (keys reached.now.known) (seen_all t.items))) }
+{
+    // The contracts of these calls say that the schemas are well formed, which the proof needs.
+    let _ = count(writer);
+    let _ = count(reader);
+    let others = others(alloc, writer, limit, table)?;
+    let leads = leads(alloc, writer, reader, table, reached)?;
+    let graph = Graph {
+        writer,
+        reader,
+        limit,
+        table,
+        others: &others,
+        reached,
+        leads: &leads,
+    };
+    search(alloc, &graph)
+}

@@ -1,4 +1,0 @@
-use Rattle.avro_resolve.proofs.plan_ref.PlanRef.aim.Goals as goal
-
-pub aim_kept-requires : goal.aim_kept-requires
-aim_kept-requires c = c.self.invariant

@@ -1,0 +1,161 @@
+ghost use Rattle.std.specs.Prelude.{◌≡◌, List, IfSome};
+ghost use Rattle.avro_schema.specs.Node.{Node, node_at};
+ghost use Rattle.avro_schema.specs.SeenSchema.{schema_nodes};
+ghost use Rattle.avro_compare.specs.Pairs.{IsAim, IsSymbol, field_for};
+ghost use Rattle.avro_compare.specs.Planned.{AreInside, AreComparisons, AreFor, AreSources, IsComparison};
+ghost use Rattle.avro_compare.specs.Resolve.{enum_as, fields_at, symbol_at};
+ghost use Rattle.avro_compare.specs.Source.{missing_field};
+
+use avro_compare::{Aim, At, Comparison, aim, fields_of, missing, part_for, symbol_for};
+use avro_schema::{NodeId, Schema};
+
+/// What is kept at an index, if it is of these two nodes.
+#[inline(always)]
+fn pair_of(pairs: &[Comparison], index: u32, w: NodeId, r: NodeId) -> Option<&Comparison>
+    ensures { (writer reader : List Node) → AreComparisons writer reader pairs.now
+        → IfSome result (λ p. IsComparison writer reader p.now × (p.now.w ≡ w) × (p.now.r ≡ r)) }
+{
+    if (index as usize) >= pairs.len() {
+        return None;
+    }
+    let pair = &pairs[index as usize];
+    if pair.w == w && pair.r == r {
+        Some(pair)
+    } else {
+        None
+    }
+}
+
+/// What is kept at an index, if it is of these two nodes and is kept inside them.
+#[inline(always)]
+fn inside_of(pairs: &[Comparison], index: u32, w: NodeId, q: NodeId) -> Option<&Comparison>
+    ensures { (writer reader : List Node) → AreComparisons writer reader pairs.now
+        → IfSome result (λ p. AreInside (node_at writer w.0) (node_at reader q.0) p.now) }
+{
+    match pair_of(pairs, index, w, q) {
+        Some(pair) => match pair.aim {
+            Aim::To(None, _) => Some(pair),
+            Aim::To(Some(_), _) => None,
+            Aim::Fault(_) => None,
+        },
+        None => None,
+    }
+}
+
+/// Where a pair of nodes leads, as it is kept at an index or else by name.
+#[inline(always)]
+pub(crate) fn aim_kept(
+    pairs: &[Comparison],
+    index: u32,
+    writer: &Schema,
+    w: NodeId,
+    reader: &Schema,
+    r: NodeId,
+) -> Aim
+    requires { AreComparisons (schema_nodes writer.now) (schema_nodes reader.now) pairs.now }
+    ensures { IsAim (schema_nodes writer.now) (schema_nodes reader.now)
+        (node_at (schema_nodes writer.now) w.0) (node_at (schema_nodes reader.now) r.0) result }
+{
+    match pair_of(pairs, index, w, r) {
+        Some(pair) => pair.aim,
+        None => aim(writer, w, reader, r),
+    }
+}
+
+/// The reader's first field without a source and a default, as it is kept at an index or else by name.
+pub(crate) fn missing_kept(
+    pairs: &[Comparison],
+    index: u32,
+    writer: &Schema,
+    w: NodeId,
+    reader: &Schema,
+    q: NodeId,
+) -> Option<usize>
+    requires { AreComparisons (schema_nodes writer.now) (schema_nodes reader.now) pairs.now }
+    ensures { result ≡ missing_field (fields_at (node_at (schema_nodes writer.now) w.0)) (fields_at (node_at (schema_nodes reader.now) q.0)) }
+{
+    match inside_of(pairs, index, w, q) {
+        Some(pair) => pair.missing,
+        None => missing(fields_of(writer, w), fields_of(reader, q)),
+    }
+}
+
+/// What the writer's first fields are for, as many as are kept at an index.
+#[inline(always)]
+pub(crate) fn fields_kept<'p>(
+    pairs: &'p [Comparison],
+    index: u32,
+    writer: &Schema,
+    w: NodeId,
+    reader: &Schema,
+    q: NodeId,
+) -> &'p [At]
+    requires { AreComparisons (schema_nodes writer.now) (schema_nodes reader.now) pairs.now }
+    ensures { AreFor (fields_at (node_at (schema_nodes writer.now) w.0)) (fields_at (node_at (schema_nodes reader.now) q.0)) result.now }
+{
+    match inside_of(pairs, index, w, q) {
+        Some(pair) => &pair.fields,
+        None => &[],
+    }
+}
+
+/// What a writer's field, by its index in its record, is for, by what is known of the first fields or else by name.
+#[inline(always)]
+pub(crate) fn field_kept(
+    known: &[At],
+    writer: &Schema,
+    w: NodeId,
+    reader: &Schema,
+    q: NodeId,
+    field: usize,
+) -> At
+    ensures { AreFor (fields_at (node_at (schema_nodes writer.now) w.0)) (fields_at (node_at (schema_nodes reader.now) q.0)) known.now
+        → result ≡ field_for (fields_at (node_at (schema_nodes writer.now) w.0)) (fields_at (node_at (schema_nodes reader.now) q.0)) field }
+{
+    if field < known.len() {
+        return known[field];
+    }
+    part_for(fields_of(writer, w), fields_of(reader, q), field)
+}
+
+/// The sources of the reader's fields, as far as they are kept at an index.
+pub(crate) fn sources_kept<'p>(
+    pairs: &'p [Comparison],
+    index: u32,
+    writer: &Schema,
+    w: NodeId,
+    reader: &Schema,
+    q: NodeId,
+) -> &'p [Option<usize>]
+    requires { AreComparisons (schema_nodes writer.now) (schema_nodes reader.now) pairs.now }
+    ensures { AreSources (fields_at (node_at (schema_nodes writer.now) w.0)) (fields_at (node_at (schema_nodes reader.now) q.0)) result.now }
+{
+    match inside_of(pairs, index, w, q) {
+        Some(pair) => &pair.sources,
+        None => &[],
+    }
+}
+
+/// The reader's symbol for a writer's, as it is kept at an index or else by name.
+pub(crate) fn symbol_kept(
+    pairs: &[Comparison],
+    index: u32,
+    writer: &Schema,
+    w: NodeId,
+    symbol: u32,
+    reader: &Schema,
+    q: NodeId,
+) -> Option<u32>
+    requires { AreComparisons (schema_nodes writer.now) (schema_nodes reader.now) pairs.now }
+    ensures { IsSymbol (enum_as (symbol_at (node_at (schema_nodes writer.now) w.0) symbol) (node_at (schema_nodes reader.now) q.0)) result }
+{
+    match inside_of(pairs, index, w, q) {
+        Some(pair) => {
+            if (symbol as usize) < pair.symbols.len() {
+                return pair.symbols[symbol as usize];
+            }
+        }
+        None => {}
+    }
+    symbol_for(writer, w, symbol, reader, q)
+}

@@ -1,0 +1,258 @@
+use crate::error::ReadResolveError;
+use crate::plan::keeping::{
+    aim_kept, field_kept, fields_kept, missing_kept, sources_kept, symbol_kept,
+};
+use crate::plan::parts::{branch_of, items_of, values_of};
+use crate::put::Put;
+use crate::read::{put_planned, read_planned};
+use crate::resolving::guided::Part;
+use avro_binary::Build;
+use avro_compare::{Aim, At, Comparison};
+use avro_schema::{Limits, NodeId, Schema};
+use std::alloc::Global;
+use std::marker::Model;
+
+/// A plan by reference: the two schemas, and what is kept of pairs of their nodes. Contracts see the two schemas.
+#[derive(Drop)]
+pub struct PlanRef<'a> {
+    writer: &'a Schema,
+    reader: &'a Schema,
+    pairs: &'a [Comparison],
+    parts: &'a [Vec<u32>],
+    root: u32,
+}
+
+impl<'a> Model for PlanRef<'a> {
+    ghost use Rattle.std.specs.Coded.{codes};
+    ghost use Rattle.avro_schema.specs.contracts.datum.Datum as datum;
+    ghost use Rattle.avro_schema.specs.declared.schema.Schema.{Schema};
+    ghost use Rattle.avro_schema.specs.SeenSchema.{schema_nodes};
+    ghost use Rattle.avro_compare.specs.Planned.{AreComparisons};
+
+    ghost Value = { Schema × Schema };
+
+    ghost coded = { Prim.hlevel (codes, datum.the_row.coded) };
+
+    ghost view = { λ p. (p.writer.now, p.reader.now) };
+
+    ghost invariant = { λ p. AreComparisons (schema_nodes p.writer.now) (schema_nodes p.reader.now) p.pairs.now };
+}
+
+impl<'a> PlanRef<'a> {
+    ghost use Rattle.std.specs.Prelude.{◌≡◌, IfOk};
+    ghost use Rattle.avro_schema.specs.Node.{node_at};
+    ghost use Rattle.avro_schema.specs.SeenSchema.{schema_nodes};
+    ghost use Rattle.avro_resolve.specs.inside.Guided.{branch_part};
+    ghost use Rattle.avro_compare.specs.Pairs.{IsAim, IsSymbol, field_for, item_id, value_id, branch_id};
+    ghost use Rattle.avro_compare.specs.Planned.{AreComparisons, AreFor, AreSources};
+    ghost use Rattle.avro_resolve.specs.Reading.{BuildsResolved};
+    ghost use Rattle.avro_compare.specs.Resolve.{enum_as, fields_at, symbol_at};
+    ghost use Rattle.avro_compare.specs.Source.{missing_field};
+
+    /// The plan of two schemas that keeps these pairs. `parts` holds for each pair the indices of the pairs of its
+    /// parts, and `root` is the index of the roots' pair. A pair that is not at its index is resolved by its names.
+    pub(crate) fn new(
+        writer: &'a Schema,
+        reader: &'a Schema,
+        pairs: &'a [Comparison],
+        parts: &'a [Vec<u32>],
+        root: u32,
+    ) -> PlanRef<'a>
+        requires { AreComparisons (schema_nodes writer.now) (schema_nodes reader.now) pairs.now }
+        ensures { result ≡ (writer.now, reader.now) }
+    {
+        PlanRef {
+            writer,
+            reader,
+            pairs,
+            parts,
+            root,
+        }
+    }
+
+    /// Reads a writer's datum as [`Plan::read`](crate::Plan::read) does.
+    ///
+    /// # Errors
+    ///
+    /// The first fault of the bytes, and else the first fault of resolution; `OutOfMemory`.
+    pub fn read<B: Build>(
+        &self,
+        alloc: Global,
+        bytes: &[u8],
+        limits: &Limits,
+        builder: &mut B,
+    ) -> Result<(B::Out, usize), ReadResolveError>
+        ensures { BuildsResolved B.stands_for (schema_nodes self.now.0) (schema_nodes self.now.1) limits.now bytes.now result }
+    {
+        read_planned(alloc, self, bytes, limits, builder)
+    }
+
+    /// Reads a writer's datum once, as [`read`](PlanRef::read) does, and returns what a
+    /// [`Put`](crate::Put) makes of what it is for the reader, with the length of its encoding.
+    ///
+    /// # Errors
+    ///
+    /// The first fault of the bytes, and else the first fault of resolution; `OutOfMemory`.
+    pub fn put<P: Put>(
+        &self,
+        alloc: Global,
+        bytes: &[u8],
+        limits: &Limits,
+        builder: &mut P,
+    ) -> Result<(P::Out, usize), ReadResolveError>
+        ensures { BuildsResolved (P.stands_for builder.new) (schema_nodes self.now.0) (schema_nodes self.now.1) limits.now bytes.now result }
+    {
+        put_planned(alloc, self, bytes, limits, builder)
+    }
+
+    /// The writer's schema.
+    pub fn writer(&self) -> &'a Schema
+        ensures { result.now ≡ self.now.0 }
+    {
+        self.writer
+    }
+
+    /// The reader's schema.
+    pub fn reader(&self) -> &'a Schema
+        ensures { result.now ≡ self.now.1 }
+    {
+        self.reader
+    }
+
+    /// The index at which the roots' pair is kept, if it is kept.
+    pub(crate) fn root(&self) -> u32 {
+        self.root
+    }
+
+    /// The index at which the pair of a part is kept, if it is kept.
+    #[inline(always)]
+    pub(crate) fn index_of(&self, part: Part) -> u32 {
+        match part.branch {
+            Some(branch) => self.index_below(part.index, branch as usize),
+            None => part.index,
+        }
+    }
+
+    /// The index at which the pair of a part is kept, if it is kept. The part is one of the pair at `index`.
+    #[inline(always)]
+    pub(crate) fn index_below(&self, index: u32, part: usize) -> u32 {
+        index_at(self.parts(index), part)
+    }
+
+    /// The indices at which the pairs of the parts of the pair at `index` are kept, as far as they are known.
+    #[inline(always)]
+    pub(crate) fn parts(&self, index: u32) -> &'a [u32] {
+        match self.parts.get(index as usize) {
+            Some(parts) => parts,
+            None => &[],
+        }
+    }
+
+    /// The index of the pair that the pair at `index` leads to, if it is kept. That is another pair
+    /// if it leads to a branch of the reader's union, and else the same.
+    #[inline(always)]
+    pub(crate) fn index_to(&self, index: u32, branch: Option<u32>) -> u32 {
+        match branch {
+            Some(_) => self.index_below(index, 0),
+            None => index,
+        }
+    }
+
+    /// Where a pair of nodes leads.
+    #[inline(always)]
+    pub(crate) fn aim(&self, index: u32, w: NodeId, r: NodeId) -> Aim
+        ensures { IsAim (schema_nodes self.now.0) (schema_nodes self.now.1)
+            (node_at (schema_nodes self.now.0) w.0) (node_at (schema_nodes self.now.1) r.0) result }
+    {
+        aim_kept(self.pairs, index, self.writer, w, self.reader, r)
+    }
+
+    /// The nodes of the items of two nodes.
+    pub(crate) fn items(&self, w: NodeId, q: NodeId) -> (NodeId, NodeId)
+        ensures of_writer { result.0.0 ≡ item_id (node_at (schema_nodes self.now.0) w.0) }
+        ensures of_reader { result.1.0 ≡ item_id (node_at (schema_nodes self.now.1) q.0) }
+    {
+        (items_of(self.writer, w), items_of(self.reader, q))
+    }
+
+    /// The nodes of the values of two nodes.
+    pub(crate) fn values(&self, w: NodeId, q: NodeId) -> (NodeId, NodeId)
+        ensures of_writer { result.0.0 ≡ value_id (node_at (schema_nodes self.now.0) w.0) }
+        ensures of_reader { result.1.0 ≡ value_id (node_at (schema_nodes self.now.1) q.0) }
+    {
+        (values_of(self.writer, w), values_of(self.reader, q))
+    }
+
+    /// The node of a branch of a writer's node.
+    pub(crate) fn branch(&self, w: NodeId, branch: u32) -> NodeId
+        ensures { result.0 ≡ branch_id (node_at (schema_nodes self.now.0) w.0) branch }
+    {
+        branch_of(self.writer, w, branch)
+    }
+
+    /// What the value of a branch of a part is for.
+    #[inline(always)]
+    pub(crate) fn part_of_branch(&self, part: Part, branch: u32) -> Part
+        ensures { result ≡ branch_part (schema_nodes self.now.0) part branch }
+    {
+        let at = match part.at {
+            At::Ignored => At::Ignored,
+            At::Pair(w, r) => At::Pair(self.branch(w, branch), r),
+        };
+        Part {
+            at,
+            index: part.index,
+            branch: Some(branch),
+        }
+    }
+
+    /// The reader's first field without a source and a default.
+    #[inline(always)]
+    pub(crate) fn missing(&self, index: u32, w: NodeId, q: NodeId) -> Option<usize>
+        ensures { result ≡ missing_field (fields_at (node_at (schema_nodes self.now.0) w.0)) (fields_at (node_at (schema_nodes self.now.1) q.0)) }
+    {
+        missing_kept(self.pairs, index, self.writer, w, self.reader, q)
+    }
+
+    /// What the writer's first fields are for, as many as are kept.
+    #[inline(always)]
+    pub(crate) fn fields(&self, index: u32, w: NodeId, q: NodeId) -> &'a [At]
+        ensures { AreFor (fields_at (node_at (schema_nodes self.now.0) w.0)) (fields_at (node_at (schema_nodes self.now.1) q.0)) result.now }
+    {
+        fields_kept(self.pairs, index, self.writer, w, self.reader, q)
+    }
+
+    /// What the writer's field at an index is for, by what is known of the first fields.
+    #[inline(always)]
+    pub(crate) fn field(&self, known: &[At], w: NodeId, q: NodeId, field: usize) -> At
+        ensures { AreFor (fields_at (node_at (schema_nodes self.now.0) w.0)) (fields_at (node_at (schema_nodes self.now.1) q.0)) known.now
+            → result ≡ field_for (fields_at (node_at (schema_nodes self.now.0) w.0)) (fields_at (node_at (schema_nodes self.now.1) q.0)) field }
+    {
+        field_kept(known, self.writer, w, self.reader, q, field)
+    }
+
+    /// The sources of the reader's fields, as far as they are kept.
+    #[inline(always)]
+    pub(crate) fn sources(&self, index: u32, w: NodeId, q: NodeId) -> &[Option<usize>]
+        ensures { AreSources (fields_at (node_at (schema_nodes self.now.0) w.0)) (fields_at (node_at (schema_nodes self.now.1) q.0)) result.now }
+    {
+        sources_kept(self.pairs, index, self.writer, w, self.reader, q)
+    }
+
+    /// The reader's symbol for a writer's.
+    #[inline(always)]
+    pub(crate) fn symbol(&self, index: u32, w: NodeId, symbol: u32, q: NodeId) -> Option<u32>
+        ensures { IsSymbol (enum_as (symbol_at (node_at (schema_nodes self.now.0) w.0) symbol) (node_at (schema_nodes self.now.1) q.0)) result }
+    {
+        symbol_kept(self.pairs, index, self.writer, w, symbol, self.reader, q)
+    }
+}
+
+/// The index at which the pair of a part is kept, and 0 where it is not known.
+#[inline(always)]
+pub(crate) fn index_at(parts: &[u32], part: usize) -> u32 {
+    match parts.get(part) {
+        Some(below) => *below,
+        None => 0,
+    }
+}

@@ -1,0 +1,60 @@
+ghost use Rattle.std.specs.Prelude.{◌≡◌, IfOk};
+ghost use Rattle.avro_schema.specs.SeenSchema.{schema_nodes};
+ghost use Rattle.avro_compare.specs.Planned.{AreComparisons};
+
+use crate::plan::found::Found;
+use crate::plan::ordering::{count_of_parts, part_at};
+use avro_compare::{At, Comparison, Names, compare};
+use avro_schema::{Memory, NodeId, Schema};
+use std::alloc::Global;
+
+/// What a plan keeps of the pairs of nodes that the roots lead to, and the indices of the pairs of their parts.
+/// The roots' pair is the first.
+pub(crate) fn compare_reached(
+    alloc: Global,
+    writer: &Schema,
+    reader: &Schema,
+) -> Result<(Vec<Comparison>, Vec<Vec<u32>>), Memory>
+    ensures { IfOk result (λ r. AreComparisons (schema_nodes writer.now) (schema_nodes reader.now) r.0.items) }
+{
+    let names = Names::new(alloc, writer, reader)?;
+    let mut found = Found::new(alloc);
+    found.index_of(writer.root(), reader.root())?;
+    let mut kept = Vec::new(alloc);
+    let mut parts = Vec::new(alloc);
+    for _round in 0..most_pairs(writer, reader) {
+        match found.pair(kept.len()) {
+            Some((w, r)) => {
+                let comparison = compare(alloc, &names, w, r)?;
+                parts.push(find_parts(alloc, writer, reader, &comparison, &mut found)?)?;
+                kept.push(comparison)?;
+            }
+            None => return Ok((kept, parts)),
+        }
+    }
+    Ok((kept, parts))
+}
+
+/// How many pairs of nodes there are.
+fn most_pairs(writer: &Schema, reader: &Schema) -> usize {
+    writer.len().saturating_mul(reader.len())
+}
+
+/// The indices of the pairs of the parts of a pair, which are found with it.
+fn find_parts(
+    alloc: Global,
+    writer: &Schema,
+    reader: &Schema,
+    pair: &Comparison,
+    found: &mut Found,
+) -> Result<Vec<u32>, Memory> {
+    let mut parts = Vec::new(alloc);
+    for part in 0..count_of_parts(writer, pair) {
+        let index = match part_at(writer, reader, pair, part) {
+            At::Ignored => 0,
+            At::Pair(w, r) => found.index_of(w, r)?,
+        };
+        parts.push(index)?;
+    }
+    Ok(parts)
+}

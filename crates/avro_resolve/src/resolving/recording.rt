@@ -1,0 +1,205 @@
+ghost use Rattle.std.specs.Prelude.{◌≡◌, ◌++◌, ◌∷◌, [], ℕ, IfOk, List, OnOk, Some, length, slice_get};
+ghost use Rattle.avro_name.specs.Name.{Name};
+ghost use Rattle.avro_schema.specs.Node.{FieldNode, Node, field_ids, node_at};
+ghost use Rattle.avro_schema.specs.Seen.{values_from};
+ghost use Rattle.avro_schema.specs.SeenSchema.{schema_nodes};
+ghost use Rattle.avro_schema.specs.Value.{Value};
+ghost use Rattle.avro_resolve.specs.inside.Guided.{FieldsStandAs, FillsAs, KnowsFields, StandsAs, next_field};
+
+use crate::plan::plan_ref::{PlanRef, index_at};
+use crate::put::Put;
+use crate::resolving::failing::{fault_apart, step_apart};
+use crate::resolving::filling::fill;
+use crate::resolving::guided::{Filling, Made, Part, Slots};
+use avro_compare::{Aim, At, FaultKind, fields_of};
+use std::alloc::{AllocError, Global};
+
+/// What was made of no fields, and what the first is for.
+pub(crate) fn start_filling<'a, P: Put>(
+    alloc: Global,
+    builder: &mut P,
+    plan: &PlanRef<'a>,
+    part: Part,
+) -> Result<Filling<'a, P::Out, P::Fields>, AllocError>
+    ensures kept { OnOk result (P.keeps builder.old builder.new) }
+    ensures stands { (nodes : List Node) (fs : List FieldNode) → IfOk result (λ filling. FillsAs (P.stands_for builder.new) (P.fields_stand_for builder.new) (schema_nodes plan.now.0) (schema_nodes plan.now.1) nodes fs part.at filling []) }
+{
+    let start = plan.index_of(part);
+    let slots = start_fields(alloc, builder, plan, start, part.at)?;
+    let index = index_of_records(plan, start, &slots);
+    let known = known_fields(plan, index, &slots);
+    let parts = plan.parts(index);
+    let next = next_field_part(plan, known, parts, &slots);
+    Ok(Filling {
+        slots,
+        index,
+        known,
+        parts,
+        next,
+    })
+}
+
+/// What was made of no fields: where a pair of nodes leads to a fault, or a reader's field is missing, that
+/// fault.
+fn start_fields<P: Put>(
+    alloc: Global,
+    builder: &mut P,
+    plan: &PlanRef<'_>,
+    index: u32,
+    at: At,
+) -> Result<Slots<P::Out, P::Fields>, AllocError>
+    ensures kept { OnOk result (P.keeps builder.old builder.new) }
+    ensures stands { (nodes : List Node) (fs : List FieldNode) → IfOk result (λ slots. FieldsStandAs (P.stands_for builder.new) (P.fields_stand_for builder.new) (schema_nodes plan.now.0) (schema_nodes plan.now.1) nodes fs at slots []) }
+{
+    match at {
+        At::Ignored => Ok(Slots::Nothing),
+        At::Pair(w, r) => match plan.aim(index, w, r) {
+            Aim::Fault(kind) => Ok(Slots::Faulty(fault_apart(alloc, kind)?)),
+            Aim::To(branch, q) => match plan.missing(plan.index_to(index, branch), w, q) {
+                Some(field) => {
+                    let fault = fault_apart(alloc, FaultKind::MissingField(field))?;
+                    Ok(Slots::Faulty(fault))
+                }
+                None => {
+                    let slots = builder.slots(alloc);
+                    let fields = builder.fields(alloc, branch)?;
+                    Ok(Slots::Good(slots, fields, branch, w, q))
+                }
+            },
+        },
+    }
+}
+
+/// Where the pair of the records may be kept, by the index of the pair that leads to it.
+fn index_of_records<O, F>(plan: &PlanRef<'_>, index: u32, slots: &Slots<O, F>) -> u32 {
+    match slots {
+        Slots::Good(_, _, branch, _, _) => plan.index_to(index, *branch),
+        Slots::Faulty(_) => 0,
+        Slots::Nothing => 0,
+    }
+}
+
+/// What the writer's first fields are for, as many as are kept at an index.
+#[inline(always)]
+fn known_fields<'a, O, F>(plan: &PlanRef<'a>, index: u32, fields: &Slots<O, F>) -> &'a [At]
+    ensures { KnowsFields (schema_nodes plan.now.0) (schema_nodes plan.now.1) fields.now result.now }
+{
+    match fields {
+        Slots::Good(_, _, _, w, q) => plan.fields(index, *w, *q),
+        Slots::Faulty(_) => &[],
+        Slots::Nothing => &[],
+    }
+}
+
+/// What the next field is for.
+#[inline(always)]
+fn next_field_part<O, F>(
+    plan: &PlanRef<'_>,
+    known: &[At],
+    parts: &[u32],
+    fields: &Slots<O, F>,
+) -> Part
+    ensures { KnowsFields (schema_nodes plan.now.0) (schema_nodes plan.now.1) fields.now known.now
+        → result.at ≡ next_field (schema_nodes plan.now.0) (schema_nodes plan.now.1) fields.now }
+{
+    match fields {
+        Slots::Good(slots, _, _, w, q) => {
+            let field = slots.len();
+            Part {
+                at: plan.field(known, *w, *q, field),
+                index: index_at(parts, field),
+                branch: None,
+            }
+        }
+        Slots::Faulty(_) => ignored(),
+        Slots::Nothing => ignored(),
+    }
+}
+
+/// A part that is for nothing.
+fn ignored() -> Part
+    ensures { result.at ≡ At.Ignored }
+{
+    Part {
+        at: At::Ignored,
+        index: 0,
+        branch: None,
+    }
+}
+
+/// Adds what was made of a field after those before, and finds what the next is for.
+#[inline(always)]
+pub(crate) fn fill_next<P: Put>(
+    builder: &P,
+    plan: &PlanRef<'_>,
+    fields: &mut Filling<'_, P::Out, P::Fields>,
+    made: Made<P::Out>,
+) -> Result<(), AllocError>
+    ensures { (nodes : List Node) (fs : List FieldNode) (id : ℕ) (at : At) (vs : List Value) (v : Value) → FillsAs (P.stands_for builder.now) (P.fields_stand_for builder.now) (schema_nodes plan.now.0) (schema_nodes plan.now.1) nodes fs at fields.old vs
+        → slice_get (field_ids fs) (length vs) ≡ Some id → StandsAs (P.stands_for builder.now) (schema_nodes plan.now.0) (schema_nodes plan.now.1) nodes (node_at nodes id) fields.old.next.at made v
+        → OnOk result (FillsAs (P.stands_for builder.now) (P.fields_stand_for builder.now) (schema_nodes plan.now.0) (schema_nodes plan.now.1) nodes fs at fields.new (vs ++ v ∷ [])) }
+{
+    put_field(builder, &mut fields.slots, made)?;
+    fields.next = next_field_part(plan, fields.known, fields.parts, &fields.slots);
+    Ok(())
+}
+
+/// Adds what was made of a field after those before.
+#[inline(always)]
+fn put_field<P: Put>(
+    _builder: &P,
+    fields: &mut Slots<P::Out, P::Fields>,
+    made: Made<P::Out>,
+) -> Result<(), AllocError>
+    ensures known { (writer reader : List Node) (known : List At) → KnowsFields writer reader fields.old known → OnOk result (KnowsFields writer reader fields.new known) }
+    ensures stands { (writer reader nodes : List Node) (fs : List FieldNode) (id : ℕ) (at : At) (vs : List Value) (v : Value) → FieldsStandAs (P.stands_for _builder.now) (P.fields_stand_for _builder.now) writer reader nodes fs at fields.old vs
+        → slice_get (field_ids fs) (length vs) ≡ Some id → StandsAs (P.stands_for _builder.now) writer reader nodes (node_at nodes id) (next_field writer reader fields.old) made v
+        → OnOk result (FieldsStandAs (P.stands_for _builder.now) (P.fields_stand_for _builder.now) writer reader nodes fs at fields.new (vs ++ v ∷ [])) }
+{
+    match fields {
+        Slots::Good(slots, _, _, _, _) => match made {
+            Made::Good(out) => {
+                slots.push(Some(out))?;
+                Ok(())
+            }
+            Made::Faulty(fault) => {
+                let outer = step_apart(slots.len(), fault)?;
+                *fields = Slots::Faulty(outer);
+                Ok(())
+            }
+            Made::Nothing => {
+                slots.push(None)?;
+                Ok(())
+            }
+        },
+        Slots::Faulty(_) => Ok(()),
+        Slots::Nothing => Ok(()),
+    }
+}
+
+/// What was made of a record, from its fields: the reader's in its order.
+pub(crate) fn make_record<P: Put>(
+    alloc: Global,
+    builder: &mut P,
+    plan: &PlanRef<'_>,
+    index: u32,
+    fields: Slots<P::Out, P::Fields>,
+) -> Result<Made<P::Out>, AllocError>
+    ensures kept { OnOk result (P.keeps builder.old builder.new) }
+    ensures stands { (nodes : List Node) (name : Name) (aliases : List Name) (fs : List FieldNode) (at : At) (vs : List Value) → FieldsStandAs (P.stands_for builder.old) (P.fields_stand_for builder.old) (schema_nodes plan.now.0) (schema_nodes plan.now.1) nodes fs at fields vs
+        → IfOk result (λ made. StandsAs (P.stands_for builder.new) (schema_nodes plan.now.0) (schema_nodes plan.now.1) nodes (Node.record_of name aliases fs) at made (Value.record_of (values_from vs))) }
+{
+    match fields {
+        Slots::Good(slots, start, _, w, q) => {
+            let writes = fields_of(plan.writer(), w);
+            let reads = fields_of(plan.reader(), q);
+            let sources = plan.sources(index, w, q);
+            let (taken, filled) = fill(alloc, builder, writes, reads, sources, slots, start)?;
+            let out = builder.record(alloc, filled)?;
+            builder.keep_slots(taken);
+            Ok(Made::Good(out))
+        }
+        Slots::Faulty(fault) => Ok(Made::Faulty(fault)),
+        Slots::Nothing => Ok(Made::Nothing),
+    }
+}

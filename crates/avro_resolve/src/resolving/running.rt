@@ -1,0 +1,230 @@
+ghost use Rattle.std.specs.Prelude.{◌≡◌, ◌++◌, ◌∷◌, [], ℕ, IfOk, List, OnOk, min, replicate, true, false, ◌+◌, ◌-◌, ◌<◌, ◌^◌};
+ghost use Rattle.avro_schema.specs.Node.{Node, node_at};
+ghost use Rattle.avro_schema.specs.Seen.{entries_from, values_from};
+ghost use Rattle.avro_schema.specs.SeenSchema.{schema_nodes};
+ghost use Rattle.avro_schema.specs.Value.{Value};
+ghost use Rattle.avro_resolve.specs.inside.Guided.{EntriesStandAs, ItemsStandAs, StandsAs, next_at, part_below};
+
+use crate::plan::plan_ref::PlanRef;
+use crate::put::Put;
+use crate::resolving::failing::{fault_apart, step_apart};
+use crate::resolving::guided::{Made, Part, Run};
+use avro_compare::{Aim, At};
+use std::alloc::{AllocError, Global};
+
+/// What the next item or entry is for, whose pair may be kept at an index.
+pub(crate) fn next_part<I>(run: &Run<I>, index: u32) -> Part
+    ensures { result ≡ part_below (next_at run.now) index }
+{
+    let at = match run {
+        Run::Good(_, _, _, a, b) => At::Pair(*a, *b),
+        Run::Faulty(_) => At::Ignored,
+        Run::Nothing => At::Ignored,
+    };
+    Part {
+        at,
+        index,
+        branch: None,
+    }
+}
+
+/// What was made of no items: where a pair of nodes leads to a fault, that fault.
+pub(crate) fn start_items<P: Put>(
+    alloc: Global,
+    builder: &mut P,
+    plan: &PlanRef<'_>,
+    part: Part,
+) -> Result<(Run<P::Items>, u32), AllocError>
+    ensures kept { OnOk result (P.keeps builder.old builder.new) }
+    ensures stands { (nodes : List Node) (id : ℕ) → IfOk result (λ run. ItemsStandAs (P.items_stand_for builder.new) (schema_nodes plan.now.0) (schema_nodes plan.now.1) nodes id part.at run.0 []) }
+{
+    let index = plan.index_of(part);
+    match part.at {
+        At::Ignored => Ok((Run::Nothing, 0)),
+        At::Pair(w, r) => match plan.aim(index, w, r) {
+            Aim::Fault(kind) => Ok((Run::Faulty(fault_apart(alloc, kind)?), 0)),
+            Aim::To(branch, q) => {
+                let (a, b) = plan.items(w, q);
+                let kept = builder.items(alloc)?;
+                let below = plan.index_below(plan.index_to(index, branch), 0);
+                Ok((Run::Good(kept, 0, branch, a, b), below))
+            }
+        },
+    }
+}
+
+/// Adds what was made of an item after those before.
+pub(crate) fn put_item<P: Put>(
+    alloc: Global,
+    builder: &mut P,
+    items: &mut Run<P::Items>,
+    made: Made<P::Out>,
+) -> Result<(), AllocError>
+    ensures kept { OnOk result (P.keeps builder.old builder.new) }
+    ensures stands { (writer reader nodes : List Node) (id : ℕ) (at : At) (vs : List Value) (v : Value) → ItemsStandAs (P.items_stand_for builder.old) writer reader nodes id at items.old vs
+        → StandsAs (P.stands_for builder.old) writer reader nodes (node_at nodes id) (next_at items.old) made v
+        → OnOk result (ItemsStandAs (P.items_stand_for builder.new) writer reader nodes id at items.new (vs ++ v ∷ [])) }
+{
+    match items {
+        Run::Good(kept, count, _, _, _) => match made {
+            Made::Good(out) => {
+                builder.item(alloc, kept, out)?;
+                *count = count.saturating_add(1);
+                Ok(())
+            }
+            Made::Faulty(fault) => {
+                let outer = step_apart(*count, fault)?;
+                *items = Run::Faulty(outer);
+                Ok(())
+            }
+            Made::Nothing => Ok(()),
+        },
+        Run::Faulty(_) => Ok(()),
+        Run::Nothing => Ok(()),
+    }
+}
+
+/// Adds a number of items, each of which is what was made, or adds none and answers false. Where no item is asked for, none is missed.
+pub(crate) fn repeat_item<P: Put>(
+    builder: &P,
+    items: &mut Run<P::Items>,
+    made: &Made<P::Out>,
+    count: u32,
+) -> bool
+    ensures added { (writer reader nodes : List Node) (id : ℕ) (at : At) (vs : List Value) (v : Value) → result ≡ true → ItemsStandAs (P.items_stand_for builder.now) writer reader nodes id at items.old vs
+        → StandsAs (P.stands_for builder.now) writer reader nodes (node_at nodes id) (next_at items.old) made.now v
+        → ItemsStandAs (P.items_stand_for builder.now) writer reader nodes id at items.new (vs ++ replicate count v) }
+    ensures next { next_at items.new ≡ next_at items.old }
+    ensures none { result ≡ false → items.new ≡ items.old }
+{
+    match items {
+        Run::Good(kept, known, _, _, _) => match made {
+            Made::Good(out) => repeat_good(builder, kept, known, out, count),
+            Made::Faulty(_) => false,
+            Made::Nothing => false,
+        },
+        Run::Faulty(_) => true,
+        Run::Nothing => true,
+    }
+}
+
+/// Adds a number of items, each of which is what was made, and counts them, or adds none.
+fn repeat_good<P: Put>(
+    builder: &P,
+    kept: &mut P::Items,
+    known: &mut usize,
+    out: &P::Out,
+    count: u32,
+) -> bool
+    ensures added { (vs : List Value) (v : Value) → result ≡ true → P.items_stand_for builder.now kept.old vs → P.stands_for builder.now out.now v
+        → P.items_stand_for builder.now kept.new (vs ++ replicate count v) }
+    ensures some { result ≡ true → 0 < count }
+    ensures counted { result ≡ true → known.new ≡ min (known.old + count) (2 ^ 64 - 1) }
+    ensures none { result ≡ false → (kept.new ≡ kept.old) × (known.new ≡ known.old) }
+{
+    if count == 0 {
+        return false;
+    }
+    if builder.repeat(kept, out, count) {
+        *known = known.saturating_add(count as usize);
+        return true;
+    }
+    false
+}
+
+/// What was made of an array, from its items.
+pub(crate) fn make_array<P: Put>(
+    alloc: Global,
+    builder: &mut P,
+    items: Run<P::Items>,
+) -> Result<Made<P::Out>, AllocError>
+    ensures kept { OnOk result (P.keeps builder.old builder.new) }
+    ensures stands { (writer reader nodes : List Node) (id : ℕ) (at : At) (vs : List Value) → ItemsStandAs (P.items_stand_for builder.old) writer reader nodes id at items vs
+        → IfOk result (λ made. StandsAs (P.stands_for builder.new) writer reader nodes (Node.array id) at made (Value.array (values_from vs))) }
+{
+    match items {
+        Run::Good(kept, _, branch, _, _) => {
+            let out = builder.array(alloc, branch, kept)?;
+            Ok(Made::Good(out))
+        }
+        Run::Faulty(fault) => Ok(Made::Faulty(fault)),
+        Run::Nothing => Ok(Made::Nothing),
+    }
+}
+
+/// What was made of no entries: where a pair of nodes leads to a fault, that fault.
+pub(crate) fn start_entries<P: Put>(
+    alloc: Global,
+    builder: &mut P,
+    plan: &PlanRef<'_>,
+    part: Part,
+) -> Result<(Run<P::Entries>, u32), AllocError>
+    ensures kept { OnOk result (P.keeps builder.old builder.new) }
+    ensures stands { (nodes : List Node) (id : ℕ) → IfOk result (λ run. EntriesStandAs (P.entries_stand_for builder.new) (schema_nodes plan.now.0) (schema_nodes plan.now.1) nodes id part.at run.0 []) }
+{
+    let index = plan.index_of(part);
+    match part.at {
+        At::Ignored => Ok((Run::Nothing, 0)),
+        At::Pair(w, r) => match plan.aim(index, w, r) {
+            Aim::Fault(kind) => Ok((Run::Faulty(fault_apart(alloc, kind)?), 0)),
+            Aim::To(branch, q) => {
+                let (a, b) = plan.values(w, q);
+                let kept = builder.entries(alloc)?;
+                let below = plan.index_below(plan.index_to(index, branch), 0);
+                Ok((Run::Good(kept, 0, branch, a, b), below))
+            }
+        },
+    }
+}
+
+/// Adds what was made of an entry's value after those before.
+pub(crate) fn put_entry<P: Put>(
+    alloc: Global,
+    builder: &mut P,
+    entries: &mut Run<P::Entries>,
+    key: &str,
+    made: Made<P::Out>,
+) -> Result<(), AllocError>
+    ensures kept { OnOk result (P.keeps builder.old builder.new) }
+    ensures stands { (writer reader nodes : List Node) (id : ℕ) (at : At) (es : List (List ℕ × Value)) (v : Value) → EntriesStandAs (P.entries_stand_for builder.old) writer reader nodes id at entries.old es
+        → StandsAs (P.stands_for builder.old) writer reader nodes (node_at nodes id) (next_at entries.old) made v
+        → OnOk result (EntriesStandAs (P.entries_stand_for builder.new) writer reader nodes id at entries.new (es ++ (key.now, v) ∷ [])) }
+{
+    match entries {
+        Run::Good(kept, count, _, _, _) => match made {
+            Made::Good(out) => {
+                builder.entry(alloc, kept, key, out)?;
+                *count = count.saturating_add(1);
+                Ok(())
+            }
+            Made::Faulty(fault) => {
+                let outer = step_apart(*count, fault)?;
+                *entries = Run::Faulty(outer);
+                Ok(())
+            }
+            Made::Nothing => Ok(()),
+        },
+        Run::Faulty(_) => Ok(()),
+        Run::Nothing => Ok(()),
+    }
+}
+
+/// What was made of a map, from its entries.
+pub(crate) fn make_map<P: Put>(
+    alloc: Global,
+    builder: &mut P,
+    entries: Run<P::Entries>,
+) -> Result<Made<P::Out>, AllocError>
+    ensures kept { OnOk result (P.keeps builder.old builder.new) }
+    ensures stands { (writer reader nodes : List Node) (id : ℕ) (at : At) (es : List (List ℕ × Value)) → EntriesStandAs (P.entries_stand_for builder.old) writer reader nodes id at entries es
+        → IfOk result (λ made. StandsAs (P.stands_for builder.new) writer reader nodes (Node.map_of id) at made (Value.map_of (entries_from es))) }
+{
+    match entries {
+        Run::Good(kept, _, branch, _, _) => {
+            let out = builder.map(alloc, branch, kept)?;
+            Ok(Made::Good(out))
+        }
+        Run::Faulty(fault) => Ok(Made::Faulty(fault)),
+        Run::Nothing => Ok(Made::Nothing),
+    }
+}

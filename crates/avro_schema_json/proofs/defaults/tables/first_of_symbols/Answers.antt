@@ -1,0 +1,22 @@
+use Rattle.std.proofs.Common.{arith, ◌≡◌, ◌-◌, suc, subst}
+use Rattle.avro_schema_json.specs.inside.OwnDefaults.{all_without_defaults, without_defaults}
+use Rattle.avro_schema_json.proofs.TablesSeen.{SymbolsFrom, symbols_start, symbols_next, symbols_end}
+use Rattle.avro_schema_json.proofs.defaults.tables.first_of_symbols.Goals as goal
+
+pub loop-left-init : goal.loop-left-init
+loop-left-init c = (omega arith, symbols_start (all_without_defaults c.args.raws.now) c.args.ids.now c.new-symbols.result)
+
+pub loop-left-preserved : goal.loop-left-preserved
+loop-left-preserved c =
+    let l = c.loop-left in
+    let nodes = all_without_defaults c.args.raws.now in
+    let one : l.left ≡ suc (l.left - 1) = omega (arith, c.loop-left-test.true) in (
+      omega (arith, l.invariant.0),
+      symbols_next nodes c.args.ids.now l.symbols c.put_symbols_of.new.kept (l.left - 1) _ (without_defaults c.raw_at.result.now)
+          (omega (arith, c.loop-left-test.true, l.invariant.0)) c.raw_at.ensures c.in_ok-put_symbols_of.ensures
+          (subst (λ n. SymbolsFrom nodes c.args.ids.now l.symbols n) one l.invariant.1),
+    )
+
+pub returns : goal.returns
+returns c =
+    symbols_end (all_without_defaults c.args.raws.now) c.args.ids.now c.loop-left.symbols c.loop-left.left (omega (arith, c.loop-left-test.false)) c.loop-left.invariant.1

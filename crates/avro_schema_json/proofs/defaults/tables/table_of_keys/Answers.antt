@@ -1,0 +1,11 @@
+use Rattle.avro_schema.specs.Seen.{ids_of}
+use Rattle.avro_schema_json.specs.inside.OwnDefaults.{all_without_defaults}
+use Rattle.avro_schema_json.proofs.TablesSeen.{symbols_none}
+use Rattle.avro_schema_json.proofs.defaults.tables.table_of_keys.Goals as goal
+
+pub returns : goal.returns
+returns c = (
+  c.in_ok-first.ensures,
+  λ word.
+      symbols_none (all_without_defaults c.args.raws.now) (ids_of c.args.ids.now) c.no_symbols-symbols.result word (c.no_symbols-symbols.ensures word),
+)
