@@ -1,7 +1,7 @@
 -- Pairs of nodes.
 use Rattle.std.proofs.Common.{◌≡◌, ℕ, zero, suc, ◌-◌, ◌+◌, ◌<◌, ◌≤◌, Bool, true, false, IsTrue, List, [], ◌∷◌, length, refl, sym, ap, ◌∙◌, subst, arith, ◌↔◌, ⊎_elim}
 use Rattle.std.specs.Prelude.{slice_index_or, unwrap_or, Some, slice_get, drop}
-use Rattle.std.proofs.lemmas.Bool.{both_ways, cond-true, cases_lt}
+use Rattle.std.proofs.lemmas.Bool.{cond-true, cases_lt}
 use Rattle.avro_schema.specs.Node.{Node, node_at, field_ids}
 use Rattle.avro_schema.specs.Seen.{ids_of, seen_fields}
 use Rattle.avro_schema.specs.declared.schema.NodeId.{NodeId}
@@ -16,9 +16,6 @@ pub node_past : (nodes : List Node) (k : ℕ) → (k < length nodes → ⊥) →
 node_past [] k past = refl
 node_past (n ∷ ns) zero past = absurd (past (omega arith))
 node_past (n ∷ ns) (suc k) past = node_past ns k (λ h. past (omega (h, arith)))
-
-pub node_unless : (nodes : List Node) (k : ℕ) (test : Bool) → (k < length nodes → IsTrue test) → test ≡ false → node_at nodes k ≡ Node.null
-node_unless nodes k test has unless = node_past nodes k (λ h. both_ways false refl (subst IsTrue unless (has h)))
 
 -- ---- The loop over arrays and maps
 
@@ -98,6 +95,3 @@ ids_count (x ∷ ids) = ap suc (ids_count ids)
 
 pub id_below : (ids : List NodeId) (i : ℕ) → i < length ids → i < length (ids_of ids)
 id_below ids i low = omega (arith, low, ids_count ids)
-
-pub node_high : (nodes : List Node) (k count : ℕ) → count ≡ length nodes → count ≤ k → node_at nodes k ≡ Node.null
-node_high nodes k count e high = node_past nodes k (λ low. omega (low, high, e, arith))

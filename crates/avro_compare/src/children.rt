@@ -15,7 +15,6 @@ use crate::comparison::Comparison;
 use crate::guided::Aim;
 use crate::lead::{Lead, Step};
 use crate::names::Names;
-use crate::nodes::node_or;
 use crate::sourcing::{node_of_field, source_kept};
 use avro_schema::{Field, Memory, Node, NodeId};
 use std::alloc::Global;
@@ -26,9 +25,8 @@ pub fn has_fault(names: &Names, pair: &Comparison) -> bool
     ensures { result ≡ has_local_fault (schema_nodes names.now.0) (schema_nodes names.now.1)
         (node_at (schema_nodes names.now.0) pair.now.w.0) (node_at (schema_nodes names.now.1) pair.now.r.0) }
 {
-    let null = Node::Null;
-    let n = node_or(names.writer(), pair.w, &null);
-    let q = node_or(names.reader(), pair.r, &null);
+    let n = names.writer().get(pair.w);
+    let q = names.reader().get(pair.r);
     has_fault_of_nodes(names, n, q, pair)
 }
 
@@ -77,9 +75,8 @@ pub fn leads(alloc: Global, names: &Names, pair: &Comparison) -> Result<Vec<Lead
     requires { IsComparison (schema_nodes names.now.0) (schema_nodes names.now.1) pair.now }
     ensures { IfOk result (λ found. found.items ≡ leads_at (schema_nodes names.now.0) (schema_nodes names.now.1) pair.now.w.0 pair.now.r.0) }
 {
-    let null = Node::Null;
-    let n = node_or(names.writer(), pair.w, &null);
-    let q = node_or(names.reader(), pair.r, &null);
+    let n = names.writer().get(pair.w);
+    let q = names.reader().get(pair.r);
     leads_of_nodes(alloc, names, n, q, pair)
 }
 

@@ -104,9 +104,5 @@ fn add_name(
 pub(crate) fn type_at(schema: &Schema, id: NodeId) -> Option<NamedType<'_>>
     ensures { result ≡ type_of (node_at (schema_nodes schema.now) id.0) }
 {
-    if schema.has(id) {
-        named_type(schema.node(id))
-    } else {
-        None
-    }
+    named_type(schema.get(id))
 }

@@ -84,16 +84,12 @@ fn step(
     ensures { IsStep (schema_nodes writer.now) (schema_nodes reader.now)
         (node_at (schema_nodes writer.now) w.0) (node_at (schema_nodes reader.now) r.0) result }
 {
-    if writer.has(w) {
-        step_to(
-            alike(numbers, writer, w, reader, r),
-            writer.node(w),
-            reader,
-            r,
-        )
-    } else {
-        step_to(None, &Node::Null, reader, r)
-    }
+    step_to(
+        alike(numbers, writer, w, reader, r),
+        writer.get(w),
+        reader,
+        r,
+    )
 }
 
 /// What a node and that of an id say about their match. Whether they are named alike may be known.
@@ -102,11 +98,7 @@ fn step_to(known: Option<bool>, a: &Node, reader: &Schema, r: NodeId) -> Step
     ensures { (writer : List SeenNode) → IsStep writer (schema_nodes reader.now)
         (node_of a.now) (node_at (schema_nodes reader.now) r.0) result }
 {
-    if reader.has(r) {
-        step_of(known, a, reader.node(r))
-    } else {
-        step_of(None, a, &Node::Null)
-    }
+    step_of(known, a, reader.get(r))
 }
 
 /// What two nodes say about their match. Whether they are named alike may be known.

@@ -39,10 +39,7 @@ pub(crate) fn first_match_after(
     ensures { result ≡ first_match_at (schema_nodes writer.now) (schema_nodes reader.now)
         (node_at (schema_nodes writer.now) w.0) (node_at (schema_nodes reader.now) r.0) }
 {
-    if !reader.has(r) {
-        return None;
-    }
-    match reader.node(r) {
+    match reader.get(r) {
         Node::Union(branches) => match first_matched(numbers, writer, w, reader, branches, start) {
             Some(found) => Some(found.0),
             None => None,
@@ -98,11 +95,7 @@ pub(crate) fn aim_after(
         (node_at (schema_nodes writer.now) w.0) (node_at (schema_nodes reader.now) r.0) start }
     ensures { result ≡ aim_at (schema_nodes writer.now) (schema_nodes reader.now) w r }
 {
-    if (r.0 as usize) < reader.len() {
-        aim_to(numbers, writer, w, reader, r, reader.node(r), start)
-    } else {
-        aim_to(numbers, writer, w, reader, r, &Node::Null, start)
-    }
+    aim_to(numbers, writer, w, reader, r, reader.get(r), start)
 }
 
 /// Where a pair of nodes leads, given the reader's node.

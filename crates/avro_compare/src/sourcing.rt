@@ -80,10 +80,7 @@ pub fn fields_of(schema: &Schema, id: NodeId) -> &[Field]
     ensures seen { seen_fields result.now ≡ fields_at (node_at (schema_nodes schema.now) id.0) }
     ensures distinct { are_distinct bytes_eq (flat_map field_names (seen_fields result.now)) ≡ true }
 {
-    if (id.0 as usize) >= schema.len() {
-        return &[];
-    }
-    schema.node(id).fields().unwrap_or(&[])
+    schema.get(id).fields().unwrap_or(&[])
 }
 
 /// The node of the field at an index.

@@ -75,11 +75,7 @@ fn symbol_of_table(
     requires { FindsSymbols (symbols_at (node_at (schema_nodes reader.now) q.0)) names.now }
     ensures { IsSymbol (enum_as symbol.now (node_at (schema_nodes reader.now) q.0)) result }
 {
-    if (q.0 as usize) < reader.len() {
-        symbol_of_node(names, reader.node(q), symbol)
-    } else {
-        None
-    }
+    symbol_of_node(names, reader.get(q), symbol)
 }
 
 /// The same, given the enum's node.

@@ -51,11 +51,7 @@ fn symbol_in(node: &Node, symbol: &str) -> Option<u32>
 pub(crate) fn symbol_of_id(reader: &Schema, q: NodeId, symbol: &str) -> Option<u32>
     ensures { IsSymbol (enum_as symbol.now (node_at (schema_nodes reader.now) q.0)) result }
 {
-    if (q.0 as usize) < reader.len() {
-        symbol_in(reader.node(q), symbol)
-    } else {
-        symbol_in(&Node::Null, symbol)
-    }
+    symbol_in(reader.get(q), symbol)
 }
 
 /// The text of a writer's symbol, and none where there is none.
@@ -88,21 +84,14 @@ pub fn symbol_for(
 pub(crate) fn text_of(schema: &Schema, id: NodeId, symbol: u32) -> &str
     ensures { result.now ≡ symbol_at (node_at (schema_nodes schema.now) id.0) symbol }
 {
-    if schema.has(id) {
-        text_at(schema.node(id), symbol)
-    } else {
-        ""
-    }
+    text_at(schema.get(id), symbol)
 }
 
 /// The symbols of a node, and none where it has none.
 pub(crate) fn symbols_of(schema: &Schema, id: NodeId) -> &[String]
     ensures { texts_of result.now ≡ unwrap_or (texts_in (node_at (schema_nodes schema.now) id.0)) [] }
 {
-    if !schema.has(id) {
-        return &[];
-    }
-    schema.node(id).symbols().unwrap_or(&[])
+    schema.get(id).symbols().unwrap_or(&[])
 }
 
 /// The index of a reader's symbol, or its default, by the names of the reader's symbols.

@@ -58,10 +58,7 @@ fn branches_of(schema: &Schema, id: NodeId) -> &[NodeId]
     ensures ids { ids_of result.now ≡ branches_at (node_at (schema_nodes schema.now) id.0) }
     ensures plain { list_all (λ branch. is_some (branch_kind (node_at (schema_nodes schema.now) branch))) (ids_of result.now) ≡ true }
 {
-    if (id.0 as usize) >= schema.len() {
-        return &[];
-    }
-    match schema.node(id) {
+    match schema.get(id) {
         Node::Union(branches) => branches,
         _ => &[],
     }

@@ -13,4 +13,4 @@ use Rattle.avro_compare.proofs.sourcing.fields_of.Goals as goal
 pub returns-clause-distinct : goal.returns-clause-distinct
 returns-clause-distinct c =
     let seen : seen_fields c.unwrap_or.result.now ≡ fields_at (node_at (schema_nodes c.args.schema.now) c.args.id.0) = search rules in
-    subst (λ fs. are_distinct bytes_eq (flat_map field_names fs) ≡ true) (sym seen) (distinct_fields (schema_nodes c.args.schema.now) c.args.id.0 c.len.ensures.formed)
+    subst (λ fs. are_distinct bytes_eq (flat_map field_names fs) ≡ true) (sym seen) (distinct_fields (schema_nodes c.args.schema.now) c.args.id.0 c.get.ensures.formed)

@@ -3,13 +3,10 @@ use Rattle.avro_schema.specs.SeenSchema.{schema_nodes}
 use Rattle.avro_schema.proofs.public.Choices.{HasFewChoices, HasFewChoices-from_is_schema}
 use Rattle.avro_compare.specs.Resolve.{enum_as}
 use Rattle.avro_compare.specs.Pairs.{IsSymbol}
-use Rattle.avro_compare.proofs.Pairing.{node_high}
 use Rattle.avro_compare.proofs.symbols.symbol_of_id.Goals as goal
 
 pub symbol_in-requires : goal.symbol_in-requires
-symbol_in-requires c = record { few = subst HasFewChoices (sym c.node.ensures) (HasFewChoices-from_is_schema (schema_nodes c.args.reader.now) c.len.ensures.formed c.args.q.0) }
+symbol_in-requires c = record { few = subst HasFewChoices (sym c.get.ensures.node) (HasFewChoices-from_is_schema (schema_nodes c.args.reader.now) c.get.ensures.formed c.args.q.0) }
 
-pub returns-else-q-len : goal.returns-else-q-len
-returns-else-q-len c =
-    subst (λ n. IsSymbol (enum_as c.args.symbol.now n) c.symbol_in-else-q-len.result) (sym (node_high (schema_nodes c.args.reader.now) c.args.q.0 c.len.result c.len.ensures.count c.if-q-len.false))
-    c.symbol_in-else-q-len.ensures
+pub returns : goal.returns
+returns c = subst (λ n. IsSymbol (enum_as c.args.symbol.now n) c.symbol_in.result) c.get.ensures.node c.symbol_in.ensures

@@ -13,5 +13,5 @@ pub returns-in-Union-clause-plain : goal.returns-in-Union-clause-plain
 returns-in-Union-clause-plain c =
     let nodes = schema_nodes c.args.schema.now in
     subst (λ ids. list_all (λ branch. is_some (branch_kind (node_at nodes branch))) ids ≡ true)
-    (sym (ap (λ ids. ids_of ids) c.deref.ensures.value ∙ ap (λ n. branches_at (node_of n)) (sym c.in-Union.is) ∙ ap branches_at c.node.ensures))
-    (all_plain nodes c.args.id.0 c.len.ensures.formed)
+    (sym (ap (λ ids. ids_of ids) c.deref.ensures.value ∙ ap (λ n. branches_at (node_of n)) (sym c.in-Union.is) ∙ ap branches_at c.get.ensures.node))
+    (all_plain nodes c.args.id.0 c.get.ensures.formed)
