@@ -13,7 +13,7 @@ use Rattle.avro_container.specs.File.{HeaderValue}
 use Rattle.avro_container.specs.FileFault.{FileFault}
 use Rattle.avro_container.specs.FileSeen.{file_fault}
 use Rattle.avro_container.specs.inside.Filled.{GrowsBy, TakesAtMost, UnlessFailed}
-use Rattle.avro_container.specs.inside.Moved.{Moved}
+use Rattle.avro_container.specs.Moved.{Moved}
 use Rattle.avro_container.specs.Parts.{block_part}
 use Rattle.avro_container.specs.PutFront.{PutsFrontOf}
 use Rattle.avro_container.specs.Steps.{HasFault, PutsFront, Stored, reading_of}

@@ -9,7 +9,7 @@ use Rattle.avro_container.specs.Copied.{Job}
 use Rattle.avro_container.specs.FileFault.{FileFault}
 use Rattle.avro_container.specs.FileSeen.{file_fault}
 use Rattle.avro_container.specs.BlockFails.{FileLimitValues, max_blocks}
-use Rattle.avro_container.specs.inside.Moved.{Moved}
+use Rattle.avro_container.specs.Moved.{Moved}
 use Rattle.avro_container.specs.Steps.{Stored, Outcome, GoesOn, Steps, Done, PutInAll, CopiedWhole, FaultStands, fresh}
 use Rattle.avro_container.specs.CopierSeen.{stored_of, job_in, limits_in}
 use Rattle.avro_container.specs.Copying.{Moves, CopiesFile, CopiesFront, CopiesUpTo}

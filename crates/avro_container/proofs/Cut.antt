@@ -32,13 +32,6 @@ pub no_bytes : (xs : List ℕ) → length xs ≤ 0 → xs ≡ []
 no_bytes [] h = refl
 no_bytes (x ∷ xs) h = absurd (omega (arith, h))
 
--- where nothing came, what is held is what was held
-pub grown-none : {I : Type 0} (gives : I → List ℕ → I → Type 0) (a b : I) (old new : List ℕ) → GrowsBy gives a b old new
-    → length new ≤ length old → new ≡ old
-grown-none gives a b old new p short =
-    let long : length new ≡ length old + length p.bytes = ap length p.grown ∙ length-append old p.bytes in
-    p.grown ∙ ap (λ more. old ++ more) (no_bytes p.bytes (omega (arith, long, short))) ∙ append-nil old
-
 -- what stands after an offset goes on in what has grown
 pub grown-behind : {I : Type 0} (gives : I → List ℕ → I → Type 0) (a b : I) (old new : List ℕ) (at : ℕ) (p : GrowsBy gives a b old new) → at ≤ length old
     → drop at new ≡ drop at old ++ p.bytes

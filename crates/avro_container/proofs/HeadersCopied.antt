@@ -14,7 +14,7 @@ use Rattle.avro_container.specs.PutFront.{PutsFrontOf}
 use Rattle.avro_container.specs.inside.HeaderCopied.{CopiesHeader}
 use Rattle.avro_container.specs.HeaderFails.{HeaderFails}
 use Rattle.avro_container.specs.HeaderTaken.{IsHeaderFault}
-use Rattle.avro_container.specs.inside.Moved.{Moved}
+use Rattle.avro_container.specs.Moved.{Moved}
 use Rattle.avro_container.specs.Steps.{HasFault, PutsFront, Stored}
 use Rattle.avro_container.proofs.Heads.{not_failed}
 

@@ -22,7 +22,6 @@ pub mod BlocksCopied
 pub mod BlocksPacked
 pub mod CopySteps
 pub mod HeadersCopied
-pub mod Naming
 pub mod EmptyData
 pub mod KnownEmpty
 pub mod PackedData

@@ -7,7 +7,7 @@ use Rattle.avro_container.specs.Copied.{Job}
 use Rattle.avro_container.specs.File.{HeaderValue}
 use Rattle.avro_container.specs.FileFault.{FileFault}
 use Rattle.avro_container.specs.inside.HeaderCopied.{CopiesHeader}
-use Rattle.avro_container.specs.inside.Moved.{Moved}
+use Rattle.avro_container.specs.Moved.{Moved}
 use Rattle.avro_container.specs.Steps.{GoesOn, Outcome, Steps, Stored}
 
 -- a step after an error

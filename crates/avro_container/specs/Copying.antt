@@ -7,7 +7,7 @@ use Rattle.avro_container.specs.BlockFails.{FileLimitValues}
 use Rattle.avro_container.specs.Copied.{Job}
 use Rattle.avro_container.specs.CopierSeen.{stored_of, job_in, limits_in, outcome_of}
 use Rattle.avro_container.specs.FileFault.{FileFault}
-use Rattle.avro_container.specs.inside.Moved.{Moved}
+use Rattle.avro_container.specs.Moved.{Moved}
 use Rattle.avro_container.specs.Steps.{Steps, CopiedWhole, PutInAll, FaultStands}
 
 -- A step took some bytes and put some, as it answers.

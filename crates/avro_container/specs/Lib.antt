@@ -5,6 +5,7 @@ pub mod HeaderFails
 pub mod BlockFails
 pub mod FileRanges
 pub mod Held
+pub mod Moved
 pub mod FileSeen
 pub mod Named
 pub mod BlockStands

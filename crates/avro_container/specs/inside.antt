@@ -6,7 +6,6 @@ pub mod HeaderEnds
 pub mod HeaderParts
 pub mod MetadataParts
 pub mod Filled
-pub mod Moved
 pub mod DatumRead
 pub mod NoBytes
 pub mod DeviceLaws

@@ -9,7 +9,7 @@ ghost use Rattle.avro_container.specs.BlockFails.{max_blocks};
 ghost use Rattle.avro_container.specs.FileSeen.{file_fault};
 ghost use Rattle.avro_container.specs.Held.{held};
 ghost use Rattle.avro_container.specs.Named.{IsNamed};
-ghost use Rattle.avro_container.specs.inside.Moved.{Moved};
+ghost use Rattle.avro_container.specs.Moved.{Moved};
 ghost use Rattle.avro_container.specs.Steps.{Stored, reading_of};
 ghost use Rattle.avro_container.specs.HeaderTaken.{header_value};
 ghost use Rattle.avro_container.specs.inside.NoBytes.{PacksNoBytes};

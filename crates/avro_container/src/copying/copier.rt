@@ -48,7 +48,7 @@ impl<'a> Copier<'a> {
     ghost use Rattle.avro_container.specs.CopierSeen.{job_in, limits_in, outcome_of, stored_of};
     ghost use Rattle.avro_container.specs.Copying.{IfBlock, Moves};
     ghost use Rattle.avro_container.specs.FileSeen.{file_fault};
-    ghost use Rattle.avro_container.specs.inside.Moved.{Moved};
+    ghost use Rattle.avro_container.specs.Moved.{Moved};
     ghost use Rattle.avro_container.specs.Named.{IsNamed};
     ghost use Rattle.avro_container.specs.Steps.{GoesOn, fresh, most_ahead};
     ghost use Rattle.avro_container.specs.TaskSeen.{job_from};

@@ -11,7 +11,7 @@ ghost use Rattle.avro_container.specs.inside.HeaderCopied.{CopiesHeader};
 ghost use Rattle.avro_container.specs.HeaderTaken.{header_value};
 ghost use Rattle.avro_container.specs.Held.{held};
 ghost use Rattle.avro_container.specs.Named.{IsNamed};
-ghost use Rattle.avro_container.specs.inside.Moved.{Moved};
+ghost use Rattle.avro_container.specs.Moved.{Moved};
 ghost use Rattle.avro_container.specs.Steps.{Stored};
 ghost use Rattle.avro_container.specs.TaskSeen.{job_of};
 ghost use Rattle.avro_container.specs.Parts.{properties_of, property_of};
