@@ -1,9 +1,9 @@
 -- What fails at a pair of nodes, by where it leads.
-use Rattle.std.proofs.Common.{◌≡◌, ◌∙◌, ℕ, Bool, true, false, cond, List, [], ◌∷◌, Option, Some, None, refl, sym, ap, subst, arith}
-use Rattle.avro_schema.specs.Node.{Node, node_at, branches_of}
+use Rattle.std.proofs.Common.{◌≡◌, ℕ, Bool, true, false, cond, List, [], ◌∷◌, Option, Some, None, refl, sym, subst, arith}
+use Rattle.avro_schema.specs.Node.{Node, branches_of}
 use Rattle.avro_schema.specs.declared.schema.NodeId.{NodeId}
 use Rattle.avro_compare.specs.Match.{is_match, first_match}
-use Rattle.avro_compare.specs.Pairs.{aim_of, aim_at, branch_aim}
+use Rattle.avro_compare.specs.Pairs.{aim_of, branch_aim}
 use Rattle.avro_compare.specs.declared.error.FaultKind.{FaultKind}
 use Rattle.avro_compare.specs.declared.error.FaultKind.TheVariants.{NoMatch}
 use Rattle.avro_compare.specs.declared.guided.Aim.{Aim}
@@ -13,12 +13,6 @@ use Rattle.avro_explain.specs.Details.{details_of_kind, details_of, unless_some}
 use Rattle.avro_explain.specs.inside.Walks.{detail_for}
 use Rattle.avro_explain.specs.declared.found.Detail.{Detail}
 use Rattle.avro_explain.proofs.LocalFaults.{details_of_union, details_of_others}
-
--- where two nodes at hand lead
-pub aim_here : (writer reader : List Node) (w r : NodeId) (n q : Node) (aim : Aim) → n ≡ node_at writer w.0 → q ≡ node_at reader r.0 → aim ≡ aim_at writer reader w r
-    → aim ≡ aim_of writer reader n r q
-aim_here writer reader w r n q aim from to is =
-    is ∙ ap (λ (m : Node). aim_of writer reader m r (node_at reader r.0)) (sym from) ∙ ap (aim_of writer reader n r) (sym to)
 
 module _ (writer reader : List Node) (n : Node) (r : NodeId) where
   aim_of_others : (q : Node) → branches_of q ≡ None → aim_of writer reader n r q ≡ cond (is_match writer reader n q) (To None r) (Fault NoMatch)

@@ -30,8 +30,9 @@ use Rattle.avro_compare.proofs.public.Symbols.{bytes_eq-sym}
 use Rattle.avro_certificate.proofs.public.Tests.{and_left, and_right, or_cases, not_true, none_at, same_pair-true}
 use Rattle.avro_explain.specs.Details.{details_of}
 use Rattle.avro_explain.proofs.LiveData.{HasDatum, live_datum, empty_text}
-use Rattle.avro_explain.proofs.LocalFaults.{no_details}
+use Rattle.avro_explain.proofs.LocalFaults.{no_details, through_others}
 use Rattle.avro_explain.proofs.WaysFollowed.{first_within, there}
+use Rattle.avro_explain.proofs.LeadPairs.{some_same}
 
 -- a result that is a fault
 abbrev IsFault : {A : Type 0} → Result A ResolutionFault → Type 0
@@ -168,10 +169,6 @@ record Fails (writer reader : List Node) (n q : Node) : Type 0 where
   faulty : IsFault (resolve writer reader n q datum)
 
 module _ (writer reader : List Node) (formed : is_schema writer ≡ true) (theirs_formed : is_schema reader ≡ true) where
-  through_others : (n q : Node) (f : Node → Resolved) → branches_of q ≡ None → through writer reader n q f ≡ matched writer reader n q f
-  through_others n (Node.union ids) f h = absurd (grind arith)
-  through_others n _ f h = refl
-
   -- each datum of a node fails, where it leads to no node
   any_fails : (n q : Node) → branches_of n ≡ None → ((f : Node → Resolved) → IsFault (through writer reader n q f)) → HasDatum writer formed n → Fails writer reader n q
   any_fails n q plain faults d =
@@ -218,7 +215,7 @@ module _ (writer reader : List Node) (formed : is_schema writer ≡ true) (their
       by_match : branches_of n ≡ None → branches_of q ≡ None → (t : Bool) → is_match writer reader n q ≡ t → (not t || has_fault_of_kind n q) ≡ true → Fails writer reader n q
       by_match plain theirs true e k = kind_fails n q k d
       by_match plain theirs false e k = any_fails n q plain
-          (λ f. subst (λ (x : Resolved). IsFault x) (sym (through_others n q f theirs)) (subst (λ (b : Bool). IsFault (cond b (f q) (Err (fault_here no_match)))) (sym e) tt)) d
+          (λ f. subst (λ (x : Resolved). IsFault x) (sym (through_others writer reader n q f theirs)) (subst (λ (b : Bool). IsFault (cond b (f q) (Err (fault_here no_match)))) (sym e) tt)) d
 
       by_choice : (ids : List ℕ) → branches_of n ≡ None → q ≡ Node.union ids → (o : Option ℕ) → first_match writer reader n ids ≡ o → is_none o ≡ true → Fails writer reader n q
       by_choice ids plain is None e k = any_fails n q plain
@@ -259,9 +256,6 @@ module _ (writer reader : List Node) (formed : is_schema writer ≡ true) (their
         (resolve_sources writer reader fields theirs (suc index) vs) (fault_inside index (resolve writer reader (node_at writer p) (node_at reader f.node) part.datum) part.faulty));
   }
     where
-      some_same : (a b : ℕ) → Some a ≡ Some b → a ≡ b
-      some_same a b g = cc
-
       same : id ≡ p
       same = some_same id p got
 
@@ -369,7 +363,7 @@ module _ (writer reader : List Node) (formed : is_schema writer ≡ true) (their
         faulty = subst (λ (x : Resolved). IsFault x) (sym (form.1 (Node.union ids)))
             (subst (λ (o : Option ℕ). IsFault (into_branch writer reader n ids o form.0)) (sym e)
             (fault_map (Value.union k) (matched writer reader n (branch_node reader ids k) form.0)
-            (subst (λ (x : Resolved). IsFault x) (form.1 (branch_node reader ids k) ∙ through_others n (branch_node reader ids k) form.0 their_plain) own.faulty)));
+            (subst (λ (x : Resolved). IsFault x) (form.1 (branch_node reader ids k) ∙ through_others writer reader n (branch_node reader ids k) form.0 their_plain) own.faulty)));
       }
 
   -- a writer's union

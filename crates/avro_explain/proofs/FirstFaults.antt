@@ -30,8 +30,8 @@ use Rattle.avro_explain.specs.declared.found.Detail.{Detail}
 use Rattle.avro_compare.specs.declared.lead.Lead.{Lead}
 use Rattle.avro_compare.specs.declared.lead.Step.{Step}
 use Rattle.avro_compare.proofs.public.LeadPairs.{lead_children}
-use Rattle.avro_explain.proofs.LeadPairs.{lead_among}
-use Rattle.avro_explain.proofs.LocalFaults.{details_of_union, details_of_others}
+use Rattle.avro_explain.proofs.LeadPairs.{lead_among, some_same}
+use Rattle.avro_explain.proofs.LocalFaults.{details_of_union, details_of_others, through_others}
 
 -- a result, the fault of which is such a one
 abbrev Blames : {A : Type 0} → (ResolutionFault → Type 0) → Result A ResolutionFault → Type 0
@@ -73,14 +73,11 @@ missing_there : (index : ℕ) (fields theirs : List FieldNode) (m : ℕ) → mis
 missing_there index fields [] m h = absurd (grind arith)
 missing_there index fields (f ∷ theirs) m h = chosen (is_some (source_of fields f) || is_some f.default) refl h (missing_there (suc index) fields theirs m)
   where
-    same : (a b : ℕ) → Some a ≡ Some b → a ≡ b
-    same a b e = cc
-
     chosen : (t : Bool) → (is_some (source_of fields f) || is_some f.default) ≡ t → cond t (missing_field_from (suc index) fields theirs) (Some index) ≡ Some m
         → (missing_field_from (suc index) fields theirs ≡ Some m → (i : ℕ) × (slice_get (missing_from (suc index) fields theirs) i ≡ Some (Detail.MissingField m)))
         → (i : ℕ) × (slice_get (cond t [] (Detail.MissingField index ∷ []) ++ missing_from (suc index) fields theirs) i ≡ Some (Detail.MissingField m))
     chosen true e g later = later g
-    chosen false e g later = (0, ap (λ (k : ℕ). Some (Detail.MissingField k)) (same index m g))
+    chosen false e g later = (0, ap (λ (k : ℕ). Some (Detail.MissingField k)) (some_same index m g))
 
 -- a symbol that the reader lacks is among those that it lacks
 lacking_there : (index : ℕ) (symbols theirs : List (List ℕ)) (k : ℕ) → k < length symbols
@@ -98,10 +95,7 @@ lacking_there index (s ∷ ss) theirs (suc k) h none =
 branch_there : (index r : ℕ) (ids : List ℕ) (k id : ℕ) → slice_get ids k ≡ Some id
     → (j : ℕ) × ((n : ℕ) × (slice_get (branch_leads index r ids) j ≡ Some (lead_by (Step.Branch n) id r)))
 branch_there index r [] k id h = absurd (grind arith)
-branch_there index r (b ∷ bs) zero id h = (0, (index, ap (λ (x : ℕ). Some (lead_by (Step.Branch index) x r)) (same b id h)))
-  where
-    same : (a c : ℕ) → Some a ≡ Some c → a ≡ c
-    same a c e = cc
+branch_there index r (b ∷ bs) zero id h = (0, (index, ap (λ (x : ℕ). Some (lead_by (Step.Branch index) x r)) (some_same b id h)))
 branch_there index r (b ∷ bs) (suc k) id h = let own = branch_there (suc index) r bs k id h in (suc own.0, own.1)
 
 -- the reader's field whose source is at an index
@@ -110,9 +104,6 @@ field_there : (index : ℕ) (fields theirs : List FieldNode) (s : ℕ) (f : Fiel
 field_there index fields [] s f h = absurd (grind arith)
 field_there index fields (g ∷ gs) s f h = of_source (source_of fields g) h (field_there (suc index) fields gs s f)
   where
-    same : (a b : FieldNode) → Some a ≡ Some b → a ≡ b
-    same a b e = cc
-
     of_source : (o : Option ℕ) → cond (is_index o s) (Some g) (reader_field fields gs s) ≡ Some f
         → (reader_field fields gs s ≡ Some f → (j : ℕ) × ((n : ℕ) × (slice_get (field_leads (suc index) fields gs) j ≡ Some (lead_by (Step.Field s n) (unwrap_or (slice_get (field_ids fields) s) 0) f.node))))
         → (j : ℕ) × ((n : ℕ) × (slice_get (field_lead index fields g o ++ field_leads (suc index) fields gs) j ≡ Some (lead_by (Step.Field s n) (unwrap_or (slice_get (field_ids fields) s) 0) f.node)))
@@ -127,7 +118,7 @@ field_there index fields (g ∷ gs) s f h = of_source (source_of fields g) h (fi
           (
             index,
             ap (λ (x : ℕ). Some (lead_by (Step.Field x index) (unwrap_or (slice_get (field_ids fields) x) 0) g.node)) (eqb-true k s is)
-                ∙ ap (λ (x : FieldNode). Some (lead_by (Step.Field s index) (unwrap_or (slice_get (field_ids fields) s) 0) x.node)) (same g f got),
+                ∙ ap (λ (x : FieldNode). Some (lead_by (Step.Field s index) (unwrap_or (slice_get (field_ids fields) s) 0) x.node)) (some_same g f got),
           ),
         )
         chosen false is got = let own = later got in (suc own.0, own.1)
@@ -184,10 +175,6 @@ module _ (writer reader : List Node) (dead : List ℕ) (dead_set : is_dead write
           (ap (λ (ds : List Detail). slice_get ds 0) (details_of_others writer reader (node_at writer w) (node_at reader r) plain theirs
           ∙ ap (λ (t : Bool). cond t (details_of_kind (node_at writer w) (node_at reader r)) (Detail.NoMatch ∷ [])) e))
 
-  through_others : (n q : Node) (f : Node → Resolved) → branches_of q ≡ None → through writer reader n q f ≡ matched writer reader n q f
-  through_others n (Node.union ids) f h = absurd (grind arith)
-  through_others n _ f h = refl
-
   choice_there : (w r k : ℕ) (n : Node) (ids : List ℕ) → branches_of n ≡ None → first_match writer reader n ids ≡ Some k
       → leads_of writer reader w r n (Node.union ids) ≡ lead_by (Step.Choice k) w (unwrap_or (slice_get ids k) 0) ∷ []
   choice_there w r k (Node.union ps) ids h e = absurd (grind arith)
@@ -217,7 +204,7 @@ module _ (writer reader : List Node) (dead : List ℕ) (dead_set : is_dead write
           (blames_matched w b f live plain theirs (each b theirs)))
 
       by_reader : (o : Option (List ℕ)) → branches_of (node_at reader r) ≡ o → Blames (From w r) (through writer reader (node_at writer w) (node_at reader r) f)
-      by_reader None e = subst (λ (x : Resolved). Blames (From w r) x) (sym (through_others (node_at writer w) (node_at reader r) f e))
+      by_reader None e = subst (λ (x : Resolved). Blames (From w r) x) (sym (through_others writer reader (node_at writer w) (node_at reader r) f e))
           (blames_matched w r f live plain e (each r e))
       by_reader (Some ids) e =
           let is : node_at reader r ≡ Node.union ids = union_of_branches (node_at reader r) ids e in

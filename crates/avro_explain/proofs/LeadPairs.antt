@@ -9,6 +9,9 @@ use Rattle.avro_certificate.specs.Closed.{same_pair, is_among_pairs}
 use Rattle.avro_certificate.proofs.public.Tests.{or_from_left, or_from_right}
 use Rattle.avro_certificate.proofs.public.Rising.{both_true}
 
+pub some_same : {A : Type 0} (a b : A) → Some a ≡ Some b → a ≡ b
+some_same a b e = cc
+
 pub same_itself : (p : Pair) → same_pair p p ≡ true
 same_itself p = both_true (p.w == p.w) (p.r == p.r) (eq-eqb p.w p.w refl) (eq-eqb p.r p.r refl)
 
@@ -25,7 +28,4 @@ pub lead_among : (leads : List Lead) (k : ℕ) (lead : Lead) → slice_get leads
 lead_among [] k lead h = absurd (grind arith)
 lead_among (first ∷ leads) zero lead h = or_from_left (same_pair (lead_pair lead) (lead_pair first)) _
     (subst (λ (l : Lead). same_pair (lead_pair l) (lead_pair first) ≡ true) (some_same first lead h) (same_itself (lead_pair first)))
-  where
-    some_same : (a b : Lead) → Some a ≡ Some b → a ≡ b
-    some_same a b e = cc
 lead_among (first ∷ leads) (suc k) lead h = or_from_right (same_pair (lead_pair lead) (lead_pair first)) _ (lead_among leads k lead h)

@@ -1,5 +1,5 @@
 -- A writer's node that is not dead has a datum.
-use Rattle.std.proofs.Common.{◌≡◌, ℕ, zero, suc, ◌<◌, ◌≤◌, ◌^◌, Bool, true, false, not, cond, ◌&&◌, ◌||◌, pos, List, [], ◌∷◌, Some, length, refl, sym, ◌∙◌, ap, subst, arith}
+use Rattle.std.proofs.Common.{◌≡◌, ℕ, zero, suc, ◌<◌, ◌≤◌, ◌^◌, Bool, true, false, not, cond, ◌&&◌, pos, List, [], ◌∷◌, Some, length, refl, sym, ◌∙◌, ap, subst, arith}
 use Rattle.std.proofs.lemmas.Bool.{true≢false, leb-true, lt-ltb, ltb-true, ltb-false, eq-eqb, eqb-true, and_from}
 use Rattle.std.proofs.lemmas.List.{length-replicate}
 use Rattle.std.proofs.lemmas.Option.{slice_get_past}
@@ -114,9 +114,6 @@ module _ (writer : List Node) (formed : is_schema writer ≡ true) where
   settled_live : (ms : List Bool) (id : ℕ) → AreLive ms → AreLive (settled writer ms id)
   settled_live ms id live = decided (keeps writer ms id) refl
     where
-      right : (a b : Bool) → (a || b) ≡ false → b ≡ false
-      right a b h = or_right a b h
-
       decided : (t : Bool) → keeps writer ms id ≡ t → AreLive (cond t ms (set ms id false))
       decided true e = live
       decided false e = λ p unmarked. by_id p unmarked (id == p) refl
@@ -127,7 +124,7 @@ module _ (writer : List Node) (formed : is_schema writer ≡ true) where
 
           by_id : (p : ℕ) → is_mark (set ms id false) p ≡ false → (t : Bool) → (id == p) ≡ t → HasDatum (node_at writer p)
           by_id p unmarked true s = subst (λ (x : ℕ). HasDatum (node_at writer x)) (eqb-true id p s)
-              (has_datum ms (node_at writer id) live (MeetRules-from_is_schema writer formed id) (right (not (is_mark ms id)) (is_dead_node (marked ms) (node_at writer id)) e))
+              (has_datum ms (node_at writer id) live (MeetRules-from_is_schema writer formed id) (or_right (not (is_mark ms id)) (is_dead_node (marked ms) (node_at writer id)) e))
           by_id p unmarked false s = live p (was p (λ same. true≢false (sym (eq-eqb id p same) ∙ s)) unmarked (is_mark ms p) refl)
 
   round_live : (ms : List Bool) (n : ℕ) → AreLive ms → AreLive (settled_below writer ms n)

@@ -1,6 +1,6 @@
 -- Marks of nodes that may be dead: which are among them, and what is left when some are taken away.
 use Rattle.std.proofs.Common.{◌≡◌, ℕ, zero, suc, ◌+◌, ◌<◌, ◌≤◌, Bool, true, false, not, ◌&&◌, ◌||◌, List, [], ◌∷◌, cond, length, get_or, inl, inr, refl, sym, ◌∙◌, ap, subst, arith}
-use Rattle.std.proofs.lemmas.Bool.{false≢true, true≢false, eq-eqb, eqb-true, eqb-false, lt-ltb, ltb-true, and_from}
+use Rattle.std.proofs.lemmas.Bool.{false≢true, true≢false, eq-eqb, eqb-true, eqb-false, lt-ltb, ltb-true, and_from, ne_eqb}
 use Rattle.std.proofs.lemmas.List.{length-set}
 use Rattle.std.proofs.Math.ListN.{set}
 use Rattle.std.specs.Prelude.{◌==◌, nat_lt}
@@ -9,21 +9,14 @@ use Rattle.avro_schema.specs.Node.{Node, node_at, field_ids}
 use Rattle.avro_certificate.specs.Closed.{is_among, is_dead_node}
 use Rattle.avro_certificate.specs.Evidence.{IsGreatestDead}
 use Rattle.avro_certificate.proofs.public.DeadNodes.{dead_at}
-use Rattle.avro_certificate.proofs.public.Tests.{and_left, and_right, or_cases, or_from_left, or_from_right, or_not, not_true}
+use Rattle.avro_certificate.proofs.public.Tests.{and_left, and_right, or_cases, or_from_left, or_from_right, or_not, not_true, or_right}
 use Rattle.avro_explain.specs.Places.{marked, marked_from}
 use Rattle.avro_explain.specs.inside.Marks.{is_mark, keeps, settled, settled_below, AreGreatest, AreSettled}
-
-other_id : (a b : ℕ) → (a ≡ b → ⊥) → (a == b) ≡ false
-other_id a b h = decided (a == b) refl
-  where
-    decided : (t : Bool) → (a == b) ≡ t → t ≡ false
-    decided true e = absurd (h (eqb-true a b e))
-    decided false e = refl
 
 -- no node before the first id is among them
 none_before : (id p : ℕ) (ms : List Bool) → p < id → is_among (marked_from id ms) p ≡ false
 none_before id p [] h = refl
-none_before id p (true ∷ ms) h = rw (other_id id p (λ e. omega (arith, h, e))) (none_before (suc id) p ms (omega (arith, h)))
+none_before id p (true ∷ ms) h = rw (ne_eqb id p (λ e. omega (arith, h, e))) (none_before (suc id) p ms (omega (arith, h)))
 none_before id p (false ∷ ms) h = none_before (suc id) p ms (omega (arith, h))
 
 none_there : (k : ℕ) → is_mark [] k ≡ false
@@ -33,7 +26,7 @@ among_from : (id : ℕ) (ms : List Bool) (k p : ℕ) → p ≡ id + k → is_amo
 among_from id [] k p e = sym (none_there k)
 among_from id (true ∷ ms) zero p e = or_from_left (id == p) _ (eq-eqb id p (omega (arith, e)))
 among_from id (false ∷ ms) zero p e = none_before (suc id) p ms (omega (arith, e))
-among_from id (true ∷ ms) (suc k) p e = rw (other_id id p (λ s. omega (arith, e, s))) (among_from (suc id) ms k p (omega (arith, e)))
+among_from id (true ∷ ms) (suc k) p e = rw (ne_eqb id p (λ s. omega (arith, e, s))) (among_from (suc id) ms k p (omega (arith, e)))
 among_from id (false ∷ ms) (suc k) p e = among_from (suc id) ms k p (omega (arith, e))
 
 -- a node is among those that are marked where it has a mark
@@ -131,12 +124,8 @@ settled_greatest writer ms id before = decided (keeps writer ms id) refl
     decided true e = before
     decided false e = λ other dead p among. mark_stays ms id p
         (λ same. true≢false (sym (dead_more other (marked ms) (node_at writer p) (λ x there. among_marked ms x ∙ before other dead x there) (dead_at writer other p dead among))
-        ∙ subst (λ (x : ℕ). is_dead_node (marked ms) (node_at writer x) ≡ false) same (or_right_false (not (is_mark ms id)) (is_dead_node (marked ms) (node_at writer id)) e)))
+        ∙ subst (λ (x : ℕ). is_dead_node (marked ms) (node_at writer x) ≡ false) same (or_right (not (is_mark ms id)) (is_dead_node (marked ms) (node_at writer id)) e)))
         (before other dead p among)
-      where
-        or_right_false : (a b : Bool) → (a || b) ≡ false → b ≡ false
-        or_right_false true b h = absurd (true≢false h)
-        or_right_false false b h = h
 
 pub round_greatest : (writer : List Node) (ms : List Bool) (n : ℕ) → AreGreatest writer ms → AreGreatest writer (settled_below writer ms n)
 round_greatest writer ms zero before = before

@@ -1,6 +1,6 @@
 -- Where no fault is found at the pairs that the roots lead to, these show that the schemas are compatible.
 use Rattle.std.proofs.Common.{◌≡◌, ℕ, zero, suc, Bool, true, false, not, ◌&&◌, ◌||◌, List, [], ◌∷◌, ◌++◌, Option, Some, None, map, length, inl, inr, refl, sym, ◌∙◌, ap, subst, arith}
-use Rattle.std.proofs.lemmas.Bool.{false≢true, and_from}
+use Rattle.std.proofs.lemmas.Bool.{false≢true, and_from, not_from_false}
 use Rattle.std.specs.Prelude.{slice_get, unwrap_or, nat_lt, nat_le, filter_map}
 use Rattle.std.specs.List.{list_all}
 use Rattle.avro_name.specs.Name.{same_name}
@@ -178,10 +178,6 @@ module _ (writer reader : List Node) where
           decided true e = or_from_left (is_among dead c.w) (is_among_pairs pairs c) e
           decided false e = or_from_right (is_among dead c.w) (is_among_pairs pairs c) (h e)
 
-      denied : (t : Bool) → t ≡ false → not t ≡ true
-      denied true e = sym e
-      denied false e = refl
-
       closed_at : (p : Pair) → is_among_pairs pairs p ≡ true → is_closed_at writer reader dead pairs p ≡ true
       closed_at p among =
           let cs = children_of writer reader p.w p.r (node_at writer p.w) (node_at reader p.r) in
@@ -191,7 +187,7 @@ module _ (writer reader : List Node) where
           (reached_within dead formed theirs p own)
           (or_from_right (is_among dead p.w) _
           (and_from (not (has_local_fault writer reader (node_at writer p.w) (node_at reader p.r))) (list_all (λ c. is_among dead c.w || is_among_pairs pairs c) cs)
-          (denied _ (faultless_at 0 places (sym none) p among))
+          (not_from_false _ (faultless_at 0 places (sym none) p among))
           (all_themselves (λ c. is_among dead c.w || is_among_pairs pairs c) cs
           (λ c there. stands_there c (λ live. reached.all_reached c (child p c own there live))))))
 

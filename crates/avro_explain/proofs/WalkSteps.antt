@@ -1,6 +1,6 @@
 -- What holds of the places when one more is added, and when all are that a place leads to.
 use Rattle.std.proofs.Common.{◌≡◌, ℕ, zero, suc, ◌+◌, ◌<◌, ◌≤◌, ◌⊎◌, Bool, true, false, not, cond, ◌||◌, List, [], ◌∷◌, ◌++◌, Option, Some, None, map, length, take, inl, inr, refl, sym, ◌∙◌, ap, subst, append_assoc, arith}
-use Rattle.std.proofs.lemmas.Bool.{false≢true, true≢false, and_from, ltb-true, ltb-false}
+use Rattle.std.proofs.lemmas.Bool.{false≢true, true≢false, and_from, ltb-true, ltb-false, not_from_false}
 use Rattle.std.proofs.lemmas.List.{append-nil, map-append, length-append, length-map}
 use Rattle.std.proofs.lemmas.List.Folds.{list_any-append}
 use Rattle.std.specs.Prelude.{slice_get, nat_lt}
@@ -10,7 +10,7 @@ use Rattle.avro_schema.specs.Node.{Node, node_at}
 use Rattle.avro_compare.specs.Children.{Pair, children_of}
 use Rattle.avro_certificate.specs.Closed.{same_pair, is_among, is_among_pairs}
 use Rattle.avro_certificate.specs.Evidence.{IsReached, roots, child}
-use Rattle.avro_certificate.proofs.public.Tests.{or_cases, or_from_left, or_from_right, same_pair-true, and_left, and_right, not_true}
+use Rattle.avro_certificate.proofs.public.Tests.{or_cases, or_from_left, or_from_right, same_pair-true, and_left, and_right, not_true, or_left, or_right}
 use Rattle.avro_compare.specs.Leads.{leads_at, lead_pair}
 use Rattle.avro_explain.specs.Places.{pair_of, pairs_of, came, round_of, AreReached, AreTooMany, IsFoundBy, findings_at, findings_from}
 use Rattle.avro_explain.specs.inside.Walks.{IsWalk, with_place, led_from, with_lead, with_leads, roots_place}
@@ -19,10 +19,9 @@ use Rattle.avro_compare.specs.declared.lead.Lead.{Lead}
 use Rattle.avro_explain.specs.declared.found.Place.{Place}
 use Rattle.avro_compare.specs.declared.lead.Step.{Step}
 use Rattle.avro_compare.proofs.public.LeadPairs.{lead_children}
-use Rattle.avro_explain.proofs.LeadPairs.{IsLead, later_lead, lead_among, same_itself}
-
-some_same : {A : Type 0} (a b : A) → Some a ≡ Some b → a ≡ b
-some_same a b e = cc
+use Rattle.avro_explain.proofs.LeadPairs.{IsLead, later_lead, lead_among, same_itself, some_same}
+use Rattle.avro_compare.proofs.public.Lists.{get_last}
+use Rattle.std.proofs.lemmas.Option.{slice_get_within}
 
 -- what stands at an index, of a list and one more
 
@@ -30,15 +29,6 @@ pub get_kept : {A : Type 0} (xs ys : List A) (k : ℕ) (x : A) → slice_get xs 
 get_kept [] ys k x h = absurd (grind arith)
 get_kept (y ∷ xs) ys zero x h = h
 get_kept (y ∷ xs) ys (suc k) x h = get_kept xs ys k x h
-
-get_last : {A : Type 0} (xs : List A) (x : A) → slice_get (xs ++ x ∷ []) (length xs) ≡ Some x
-get_last [] x = refl
-get_last (y ∷ xs) x = get_last xs x
-
-get_within : {A : Type 0} (xs : List A) (k : ℕ) (x : A) → slice_get xs k ≡ Some x → k < length xs
-get_within [] k x h = absurd (grind arith)
-get_within (y ∷ xs) zero x h = omega arith
-get_within (y ∷ xs) (suc k) x h = omega (arith, get_within xs k x h)
 
 get_more : {A : Type 0} (xs : List A) (x y : A) (k : ℕ) → slice_get (xs ++ x ∷ []) k ≡ Some y → (slice_get xs k ≡ Some y) ⊎ ((k ≡ length xs) × (x ≡ y))
 get_more [] x y zero h = inr (refl, cc)
@@ -84,29 +74,17 @@ distinct_more : (ps : List Pair) (p : Pair) → are_distinct same_pair ps ≡ tr
 distinct_more [] p h none = refl
 distinct_more (q ∷ qs) p h none =
     and_from (not (list_any (same_pair q) (qs ++ p ∷ []))) (are_distinct same_pair (qs ++ p ∷ []))
-    (not_there (list_any (same_pair q) (qs ++ p ∷ [])) (list_any-append (same_pair q) qs (p ∷ []) ∙ both_false (list_any (same_pair q) qs) (same_pair q p)
+    (not_from_false (list_any (same_pair q) (qs ++ p ∷ [])) (list_any-append (same_pair q) qs (p ∷ []) ∙ both_false (list_any (same_pair q) qs) (same_pair q p)
     (not_true (list_any (same_pair q) qs) (and_left _ _ h)) (turned (same_pair q p) refl)))
-    (distinct_more qs p (and_right (not (list_any (same_pair q) qs)) _ h) (right_false (same_pair p q) (is_among_pairs qs p) none))
+    (distinct_more qs p (and_right (not (list_any (same_pair q) qs)) _ h) (or_right (same_pair p q) (is_among_pairs qs p) none))
   where
-    right_false : (a b : Bool) → (a || b) ≡ false → b ≡ false
-    right_false true b e = absurd (true≢false e)
-    right_false false b e = e
-
-    left_false : (a b : Bool) → (a || b) ≡ false → a ≡ false
-    left_false true b e = e
-    left_false false b e = refl
-
-    not_there : (a : Bool) → a ≡ false → not a ≡ true
-    not_there true e = sym e
-    not_there false e = refl
-
     both_false : (a b : Bool) → a ≡ false → b ≡ false → (a || (b || false)) ≡ false
     both_false true b e f = e
     both_false false true e f = f
     both_false false false e f = refl
 
     turned : (t : Bool) → same_pair q p ≡ t → same_pair q p ≡ false
-    turned true e = absurd (true≢false (sym (subst (λ (x : Pair). same_pair p x ≡ true) (sym (same_pair-true q p e)) (same_itself p)) ∙ left_false (same_pair p q) (is_among_pairs qs p) none))
+    turned true e = absurd (true≢false (sym (subst (λ (x : Pair). same_pair p x ≡ true) (sym (same_pair-true q p e)) (same_itself p)) ∙ or_left (same_pair p q) (is_among_pairs qs p) none))
     turned false e = e
 
 -- the place of a pair that is there
@@ -178,7 +156,7 @@ module _ (writer reader : List Node) (dead : List ℕ) where
       ordered j k a b at_j (inr here) le =
           let early = early_more j a at_j in
           subst (λ (x : Place). round_of a.from ≤ round_of x.from) here.1 (omega (arith, next.round, early))
-      ordered j k a b (inr last) (inl before) le = absurd (omega (arith, last.0, le, get_within places k b before))
+      ordered j k a b (inr last) (inl before) le = absurd (omega (arith, last.0, le, slice_get_within places k b before))
 
       followed_more : (k : ℕ) (q : Place) → (slice_get places k ≡ Some q) ⊎ ((k ≡ length places) × (p ≡ q)) → k < count → (c : Pair)
           → is_among_pairs (children_of writer reader q.w.0 q.r.0 (node_at writer q.w.0) (node_at reader q.r.0)) c ≡ true → is_among dead c.w ≡ false
@@ -211,7 +189,7 @@ module _ (writer reader : List Node) (dead : List ℕ) where
         decided true e = walk
         decided false e = walk_place at (suc at) places (led_from at lead) walk (record {
           reached = child (pair_of q) (lead_pair lead) (walk.reached at q here) among e;
-          came_here = record { before = get_within places at q here; place = q; there = here; index = own.index; leads = own.there };
+          came_here = record { before = slice_get_within places at q here; place = q; there = here; index = own.index; leads = own.there };
           round = refl;
         })
 
@@ -288,7 +266,7 @@ module _ (writer reader : List Node) (dead : List ℕ) where
       placed = all.placed;
       early = all.early;
       breadth = all.breadth;
-      counted = get_within new at q here_new;
+      counted = slice_get_within new at q here_new;
       followed = λ k p got within c among live. followed_now k p got within c among live (decided k within);
     }
       where
@@ -347,11 +325,11 @@ module _ (writer reader : List Node) (dead : List ℕ) where
       decided : (t : Bool) → is_among dead 0 ≡ t → IsWalk writer reader dead 0 0 (roots_place t)
       decided true e = record {
         root = λ live. absurd (true≢false (sym e ∙ live));
-        reached = λ k p got. absurd (omega (arith, get_within [] k p got));
+        reached = λ k p got. absurd (omega (arith, slice_get_within [] k p got));
         once = refl;
-        placed = λ k p got. absurd (omega (arith, get_within [] k p got));
-        early = λ k p got. absurd (omega (arith, get_within [] k p got));
-        breadth = λ j k p q got at_k le. absurd (omega (arith, get_within [] j p got));
+        placed = λ k p got. absurd (omega (arith, slice_get_within [] k p got));
+        early = λ k p got. absurd (omega (arith, slice_get_within [] k p got));
+        breadth = λ j k p q got at_k le. absurd (omega (arith, slice_get_within [] j p got));
         counted = omega arith;
         followed = λ k p got within. absurd (omega (arith, within));
       }
@@ -372,7 +350,7 @@ module _ (writer reader : List Node) (dead : List ℕ) where
   reached_there rounds places walk p (roots live) = found_there places 0 p (walk.root live)
   reached_there rounds places walk p (child q c before among live) =
       let own = place_of places q (reached_there rounds places walk q before) in
-      found_there places (suc own.index) p (walk.followed own.index own.place own.there (get_within places own.index own.place own.there) p
+      found_there places (suc own.index) p (walk.followed own.index own.place own.there (slice_get_within places own.index own.place own.there) p
       (subst (λ (x : Pair). is_among_pairs (children_of writer reader x.w x.r (node_at writer x.w) (node_at reader x.r)) p ≡ true) (sym own.is) among) live)
 
   pub there_reached : (count rounds : ℕ) (places : List Place) → IsWalk writer reader dead count rounds places → (p : Pair) → is_among_pairs (pairs_of places) p ≡ true

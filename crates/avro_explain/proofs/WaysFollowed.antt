@@ -16,6 +16,7 @@ use Rattle.avro_compare.specs.declared.lead.Lead.{Lead}
 use Rattle.avro_explain.specs.declared.found.PathStep.{PathStep}
 use Rattle.avro_explain.specs.declared.found.Place.{Place}
 use Rattle.avro_compare.specs.declared.lead.Step.{Step}
+use Rattle.avro_explain.proofs.LeadPairs.{some_same}
 
 -- each lead of some
 abbrev EachLead : (Lead → Type 0) → List Lead → Type 0
@@ -26,9 +27,6 @@ each_none P j lead h = absurd (grind arith)
 
 each_next : (P : Lead → Type 0) (first : Lead) (leads : List Lead) → P first → EachLead P leads → EachLead P (first ∷ leads)
 each_next P first leads h each zero lead got = subst P (some_same first lead got) h
-  where
-    some_same : (a b : Lead) → Some a ≡ Some b → a ≡ b
-    some_same a b e = cc
 each_next P first leads h each (suc j) lead got = each j lead got
 
 -- a source is a field's index
@@ -157,9 +155,6 @@ module _ (writer reader : List Node) (w r : ℕ) (n q : Node) (from : node_at wr
 follow_more : (nodes : List Node) (id x y : ℕ) (steps more : List PathStep) → follow nodes id steps ≡ Some x → follow nodes x more ≡ Some y
     → follow nodes id (steps ++ more) ≡ Some y
 follow_more nodes id x y [] more h k = subst (λ (i : ℕ). follow nodes i more ≡ Some y) (sym (some_same id x h)) k
-  where
-    some_same : (a b : ℕ) → Some a ≡ Some b → a ≡ b
-    some_same a b e = cc
 follow_more nodes id x y (s ∷ steps) more h k =
     chosen (step_from (node_at nodes id) s) refl h (λ next f. follow_more nodes next x y steps more f k)
   where

@@ -198,9 +198,9 @@ fn visit(
         × (walk.new.faults.items ≡ walk.old.faults.items ++ findings_at (schema_nodes names.now.0) (schema_nodes names.now.1) at p)) }
 {
     let place = walk.places[at];
-    let details = details(alloc, names, place.w, place.r)?;
-    add_findings(&mut walk.faults, at, &details)?;
     let pair = compare(alloc, names, place.w, place.r)?;
+    let details = details(alloc, names, &pair)?;
+    add_findings(&mut walk.faults, at, &details)?;
     let leads = leads(alloc, names, &pair)?;
     add_leads(walk, dead, at, &leads)
 }

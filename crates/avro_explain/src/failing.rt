@@ -2,31 +2,31 @@
 
 ghost use Rattle.std.specs.Prelude.{◌≡◌, ◌++◌, [], ◌∷◌, IfOk, OnOk};
 ghost use Rattle.avro_schema.specs.Node.{node_at};
-ghost use Rattle.avro_schema.specs.Seen.{node_of, seen_fields, field_of, texts_of};
+ghost use Rattle.avro_schema.specs.Seen.{node_of, seen_fields, field_of};
 ghost use Rattle.avro_schema.specs.SeenSchema.{schema_nodes};
-ghost use Rattle.avro_compare.specs.Resolve.{fields_at};
+ghost use Rattle.avro_compare.specs.Planned.{AreInside, AreSources, IsComparison};
+ghost use Rattle.avro_compare.specs.Source.{source_of};
 ghost use Rattle.avro_explain.specs.Details.{details_of, details_of_kind, missing_from, missing_one};
 ghost use Rattle.avro_explain.specs.inside.Walks.{detail_for, untaken_from, untaken_one};
 
 use crate::found::Detail;
-use avro_compare::{Aim, FaultKind, Names, node_or};
-use avro_schema::{Field, Memory, Node, NodeId};
+use avro_compare::{Aim, Comparison, FaultKind, Names, source_kept};
+use avro_schema::{Field, Memory, Node};
 use std::alloc::Global;
 
 /// All that fails at a pair of nodes itself, in the order of the symbols or of the fields.
 pub(crate) fn details(
     alloc: Global,
     names: &Names,
-    w: NodeId,
-    r: NodeId,
+    pair: &Comparison,
 ) -> Result<Vec<Detail>, Memory>
+    requires { IsComparison (schema_nodes names.now.0) (schema_nodes names.now.1) pair.now }
     ensures { IfOk result (λ found. found.items ≡ details_of (schema_nodes names.now.0) (schema_nodes names.now.1)
-        (node_at (schema_nodes names.now.0) w.0) (node_at (schema_nodes names.now.1) r.0)) }
+        (node_at (schema_nodes names.now.0) pair.now.w.0) (node_at (schema_nodes names.now.1) pair.now.r.0)) }
 {
-    let null = Node::Null;
-    let n = node_or(names.writer(), w, &null);
-    let q = node_or(names.reader(), r, &null);
-    details_of_nodes(alloc, names, n, q, w, r)
+    let n = names.writer().get(pair.w);
+    let q = names.reader().get(pair.r);
+    details_of_nodes(alloc, names, n, q, pair)
 }
 
 /// The same, given the two nodes.
@@ -35,19 +35,19 @@ fn details_of_nodes(
     names: &Names,
     n: &Node,
     q: &Node,
-    w: NodeId,
-    r: NodeId,
+    pair: &Comparison,
 ) -> Result<Vec<Detail>, Memory>
-    requires from { node_of n.now ≡ node_at (schema_nodes names.now.0) w.0 }
-    requires to { node_of q.now ≡ node_at (schema_nodes names.now.1) r.0 }
+    requires pair { IsComparison (schema_nodes names.now.0) (schema_nodes names.now.1) pair.now }
+    requires from { node_of n.now ≡ node_at (schema_nodes names.now.0) pair.now.w.0 }
+    requires to { node_of q.now ≡ node_at (schema_nodes names.now.1) pair.now.r.0 }
     ensures { IfOk result (λ found. found.items ≡ details_of (schema_nodes names.now.0) (schema_nodes names.now.1) (node_of n.now) (node_of q.now)) }
 {
     match n {
         Node::Union(_) => Ok(Vec::new(alloc)),
-        _ => match names.aim(w, r) {
+        _ => match pair.aim {
             Aim::Fault(kind) => one_detail(alloc, detail_of(kind)),
             Aim::To(Some(_), _) => Ok(Vec::new(alloc)),
-            Aim::To(None, _) => details_inside(alloc, names, n, q, w, r),
+            Aim::To(None, _) => details_inside(alloc, n, q, pair),
         },
     }
 }
@@ -74,14 +74,11 @@ fn one_detail(alloc: Global, detail: Detail) -> Result<Vec<Detail>, Memory>
 /// What fails at two nodes that match and are no unions.
 fn details_inside(
     alloc: Global,
-    names: &Names,
     n: &Node,
     q: &Node,
-    w: NodeId,
-    r: NodeId,
+    pair: &Comparison,
 ) -> Result<Vec<Detail>, Memory>
-    requires from { node_of n.now ≡ node_at (schema_nodes names.now.0) w.0 }
-    requires to { node_of q.now ≡ node_at (schema_nodes names.now.1) r.0 }
+    requires { AreInside (node_of n.now) (node_of q.now) pair.now }
     ensures { IfOk result (λ found. found.items ≡ details_of_kind (node_of n.now) (node_of q.now)) }
 {
     match n {
@@ -89,12 +86,12 @@ fn details_inside(
             Node::Str => one_detail(alloc, Detail::NotUtf8),
             _ => Ok(Vec::new(alloc)),
         },
-        Node::Record(_) => match q {
-            Node::Record(b) => missing_fields(alloc, names, w, &b.fields),
+        Node::Record(a) => match q {
+            Node::Record(b) => missing_fields(alloc, &a.fields, &b.fields, &pair.sources),
             _ => Ok(Vec::new(alloc)),
         },
-        Node::Enum(a) => match q {
-            Node::Enum(_) => lacking_symbols(alloc, names, &a.symbols, r),
+        Node::Enum(_) => match q {
+            Node::Enum(_) => lacking_symbols(alloc, &pair.symbols),
             _ => Ok(Vec::new(alloc)),
         },
         _ => Ok(Vec::new(alloc)),
@@ -104,15 +101,18 @@ fn details_inside(
 /// The reader's fields without a source and a default.
 fn missing_fields(
     alloc: Global,
-    names: &Names,
-    w: NodeId,
+    fields: &[Field],
     theirs: &[Field],
+    sources: &[Option<usize>],
 ) -> Result<Vec<Detail>, Memory>
-    ensures { IfOk result (λ found. found.items ≡ missing_from 0 (fields_at (node_at (schema_nodes names.now.0) w.0)) (seen_fields theirs.now)) }
+    requires { AreSources (seen_fields fields.now) (seen_fields theirs.now) sources.now }
+    ensures { IfOk result (λ found. found.items ≡ missing_from 0 (seen_fields fields.now) (seen_fields theirs.now)) }
 {
     let mut found = Vec::new(alloc);
     for index in 0..theirs.len() {
-        add_missing(&mut found, names, w, &theirs[index], index)?;
+        let field = &theirs[index];
+        let source = source_kept(fields, sources, index, field);
+        add_missing(&mut found, fields, source, field, index)?;
     }
     Ok(found)
 }
@@ -120,46 +120,36 @@ fn missing_fields(
 /// Adds a reader's field, if it has neither a source nor a default.
 fn add_missing(
     found: &mut Vec<Detail>,
-    names: &Names,
-    w: NodeId,
+    fields: &[Field],
+    source: Option<usize>,
     field: &Field,
     index: usize,
 ) -> Result<(), Memory>
-    ensures { OnOk result (found.new.items ≡ found.old.items ++ missing_one index (fields_at (node_at (schema_nodes names.now.0) w.0)) (field_of field.now)) }
+    requires { source ≡ source_of (seen_fields fields.now) (field_of field.now) }
+    ensures { OnOk result (found.new.items ≡ found.old.items ++ missing_one index (seen_fields fields.now) (field_of field.now)) }
 {
-    if field.default.is_none() && names.source(w, field).is_none() {
+    if field.default.is_none() && source.is_none() {
         found.push(Detail::MissingField(index))?;
     }
     Ok(())
 }
 
 /// The writer's symbols that the reader's enum lacks, where it has no default.
-fn lacking_symbols(
-    alloc: Global,
-    names: &Names,
-    symbols: &[String],
-    r: NodeId,
-) -> Result<Vec<Detail>, Memory>
-    ensures { IfOk result (λ found. found.items ≡ untaken_from 0 (texts_of symbols.now) (node_at (schema_nodes names.now.1) r.0)) }
+fn lacking_symbols(alloc: Global, symbols: &[Option<u32>]) -> Result<Vec<Detail>, Memory>
+    ensures { IfOk result (λ found. found.items ≡ untaken_from 0 symbols.now) }
 {
     let mut found = Vec::new(alloc);
     for index in 0..symbols.len() {
-        add_lacking(&mut found, names, symbols[index].as_str(), r, index)?;
+        add_lacking(&mut found, symbols[index], index)?;
     }
     Ok(found)
 }
 
 /// Adds a writer's symbol, if the reader's enum lacks it and has no default.
-fn add_lacking(
-    found: &mut Vec<Detail>,
-    names: &Names,
-    symbol: &str,
-    r: NodeId,
-    index: usize,
-) -> Result<(), Memory>
-    ensures { OnOk result (found.new.items ≡ found.old.items ++ untaken_one index symbol.now (node_at (schema_nodes names.now.1) r.0)) }
+fn add_lacking(found: &mut Vec<Detail>, symbol: Option<u32>, index: usize) -> Result<(), Memory>
+    ensures { OnOk result (found.new.items ≡ found.old.items ++ untaken_one index symbol) }
 {
-    match names.symbol(symbol, r) {
+    match symbol {
         None => found.push(Detail::NoSymbol(index))?,
         Some(_) => {}
     }

@@ -1,6 +1,6 @@
 -- What is built of each thing that a pair may ask for.
 use Rattle.std.proofs.Common.{◌≡◌, ℕ, suc, ◌+◌, ◌≤◌, ◌<◌, Bool, true, false, cond, List, [], ◌∷◌, ◌++◌, Option, Some, None, Result, inl, inr, length, drop, refl, sym, ◌∙◌, ap, subst, arith}
-use Rattle.std.proofs.lemmas.Bool.{and_from, false≢true, true≢false, eq-eqb, eqb-true}
+use Rattle.std.proofs.lemmas.Bool.{and_from, false≢true, true≢false, eq-eqb, ne_eqb}
 use Rattle.std.proofs.lemmas.List.Folds.{list_all-map, list_all-append}
 use Rattle.std.proofs.lemmas.Option.{slice_get_within}
 use Rattle.std.specs.Prelude.{slice_get, is_some, max, unwrap_or, option_map, map, flat_map, ◌==◌}
@@ -28,10 +28,10 @@ use Rattle.avro_least.proofs.ShownErrors.{IsFault, the_fault, is_fault, fault_in
 use Rattle.avro_certificate.proofs.public.Resolving.{slice_get_of_drop, drop_more}
 use Rattle.avro_least.proofs.Building.{around_is, together_is}
 use Rattle.avro_least.proofs.Built.{few_branches}
-use Rattle.avro_least.proofs.BuiltErrors.{whole_errs, lone_errs, part_errs, not_same, asked_of_union, asked_of_plain, asks_inside}
-
-some_least : (a b : Least) → Some a ≡ Some b → a ≡ b
-some_least a b e = cc
+use Rattle.avro_least.proofs.BuiltErrors.{whole_errs, lone_errs, part_errs, not_same, asks_inside}
+use Rattle.avro_least.proofs.RowTotals.{past}
+use Rattle.avro_least.proofs.public.Keys.{some_same}
+use Rattle.avro_least.proofs.AskedValue.{asked_of_plain, asked_of_union}
 
 -- an entry within the limit
 the_entry : (limit : ℕ) (o : Option Least) → IsWithin limit o → (e : Least) × (o ≡ Some e) × (e.nodes ≤ limit)
@@ -42,18 +42,11 @@ the_entry limit (Some e) h = (e, refl, h)
 around_numbers : (e b : Least) (s d : ℕ) → Some (record { nodes = s; depth = d }) ≡ Some b → e.nodes ≡ suc b.nodes → e.depth ≡ suc b.depth
     → e ≡ record { nodes = suc s; depth = suc d }
 around_numbers e b s d same n l =
-    let is : record { nodes = s; depth = d } ≡ b = some_least (record { nodes = s; depth = d }) b same in
+    let is : record { nodes = s; depth = d } ≡ b = some_same (record { nodes = s; depth = d }) b same in
     λ i. record { nodes = (n ∙ ap (λ (x : Least). suc x.nodes) (sym is)) i; depth = (l ∙ ap (λ (x : Least). suc x.depth) (sym is)) i }
 
 numbers_of : (e : Least) (s d : ℕ) → s ≡ e.nodes → d ≡ e.depth → e ≡ record { nodes = s; depth = d }
 numbers_of e s d n l = λ i. record { nodes = sym n i; depth = sym l i }
-
-not_equal : (i j : ℕ) → (i ≡ j → ⊥) → (i == j) ≡ false
-not_equal i j h = by (i == j) refl
-  where
-    by : (t : Bool) → (i == j) ≡ t → (i == j) ≡ false
-    by true e = absurd (h (eqb-true i j e))
-    by false e = e
 
 module _ (writer reader : List Node) (limit : ℕ) (table : LeastTable) (erring : ErringTable) where
   -- what the pair asks for comes to its entry
@@ -239,11 +232,6 @@ module _ (writer reader : List Node) (limit : ℕ) (table : LeastTable) (erring 
         numbers = sym step ∙ part.numbers;
       }
 
-  -- past the chosen field stand the least data
-  total_past : (k i : ℕ) (rows : List Row) → k < i → total_from limit table erring k i rows ≡ all_of limit table (map (λ r. r.node) rows)
-  total_past k i [] h = refl
-  total_past k i (row ∷ rows) h = rw (not_equal i k (λ e. omega (arith, e, h)), total_past k (suc i) rows (omega (arith, h))) refl
-
   -- some field's total is the best
   pub some_total : (i : ℕ) (rows : List Row) (e : Least) → err_of_rows limit table erring rows ≡ Some e → e.nodes ≤ limit
       → (k : ℕ) × (k < length rows) × (total_from limit table erring (i + k) i rows ≡ Some e)
@@ -253,11 +241,11 @@ module _ (writer reader : List Node) (limit : ℕ) (table : LeastTable) (erring 
       (together limit (table row.node) (err_of_rows limit table erring rows)) (subst (λ (o : Option Least). is_some o ≡ true) (sym is) refl)) [
         | inl first ↦
             let at : (i == i + 0) ≡ true = eq-eqb i (i + 0) (omega arith) in
-            (0, omega arith, rw (at, total_past (i + 0) (suc i) rows (omega arith)) (sym first.1 ∙ is))
+            (0, omega arith, rw (at, past limit table erring (i + 0) (suc i) rows (omega arith)) (sym first.1 ∙ is))
         | inr later ↦
             let both = together_is limit (table row.node) (err_of_rows limit table erring rows) e (sym later.1 ∙ is) few in
             let rest = some_total (suc i) rows both.second both.second_is (omega (arith, few, both.nodes)) in
-            let at : (i == i + suc rest.0) ≡ false = not_equal i (i + suc rest.0) (λ h. omega (arith, h)) in
+            let at : (i == i + suc rest.0) ≡ false = ne_eqb i (i + suc rest.0) (λ h. omega (arith, h)) in
             let moved : total_from limit table erring (i + suc rest.0) (suc i) rows ≡ err_of_rows limit table erring rows =
             subst (λ (n : ℕ). total_from limit table erring n (suc i) rows ≡ err_of_rows limit table erring rows) (omega arith) (rest.2 ∙ sym both.second_is) in
             (suc rest.0, omega (arith, rest.1), rw (at, moved) (sym later.1 ∙ is))
@@ -288,14 +276,14 @@ module _ (writer reader : List Node) (limit : ℕ) (table : LeastTable) (erring 
         (subst (λ (o : Option Least). IsWithin limit o) (sym is) few) (subst (λ (o : Option Least). count_of o ≤ less) (sym is) small) in
         record {
           fitting = own.fitting;
-          numbers = some_least (record { nodes = size v; depth = depth v }) e (sym own.numbers ∙ is);
+          numbers = some_same (record { nodes = size v; depth = depth v }) e (sym own.numbers ∙ is);
           faulty = λ t. (f, found, is_fault (resolve writer reader (node_at writer p) (node_at reader f.node) v) own.faulty.0 own.faulty.1);
         }
     row_is fields theirs index false p v e o found b kn is few small =
         let own = b.fits_in refl limit ex.formed ex.low ex.shown (subst (λ (o : Option Least). IsWithin limit o) (sym is) few) (subst (λ (o : Option Least). count_of o ≤ less) (sym is) small) in
         record {
           fitting = own.fitting;
-          numbers = some_least (record { nodes = size v; depth = depth v }) e (sym own.numbers ∙ is);
+          numbers = some_same (record { nodes = size v; depth = depth v }) e (sym own.numbers ∙ is);
           faulty = λ t. absurd (false≢true t);
         }
 
@@ -305,7 +293,7 @@ module _ (writer reader : List Node) (limit : ℕ) (table : LeastTable) (erring 
         → (e : Least) → total_from limit table erring k index (rows_from fields theirs index ps) ≡ Some e → e.nodes ≤ limit → e.nodes ≤ less
         → RowsErr fields theirs index k ps vs e
     rows_err fields theirs index k [] [] at b kn e is few small =
-        let same : no_parts ≡ e = some_least no_parts e is in
+        let same : no_parts ≡ e = some_same no_parts e is in
         record { fitting = refl; nodes_is = ap (λ (l : Least). l.nodes) same; depth_is = ap (λ (l : Least). l.depth) same; faulty = λ from to. absurd (omega (arith, from, to)) }
     rows_err fields theirs index k [] (v ∷ vs) at b kn e is few small = absurd b
     rows_err fields theirs index k (p ∷ ps) [] at b kn e is few small = absurd b

@@ -1,11 +1,8 @@
 -- What a pair asks for, by what is found of it.
-use Rattle.std.proofs.Common.{◌≡◌, ℕ, zero, suc, ◌+◌, ◌≤◌, ◌<◌, Bool, true, false, cond, List, [], ◌∷◌, Option, Some, None, Vec, length, refl, sym, ap, ◌∙◌, arith}
-use Rattle.std.specs.declared.alloc.Global.{Global}
+use Rattle.std.proofs.Common.{◌≡◌, ℕ, suc, ◌+◌, ◌≤◌, ◌<◌, Bool, true, false, cond, List, [], ◌∷◌, Option, Some, None, length, refl, sym, ap, ◌∙◌, arith, get_or}
 use Rattle.std.specs.Prelude.{option_map, slice_get, unwrap_or}
 use Rattle.avro_schema.specs.Node.{Node, FieldNode, branches_of, field_ids}
 use Rattle.avro_schema.specs.declared.schema.NodeId.{NodeId}
-use Rattle.avro_schema.specs.declared.schema.Node.{Node as KeptNode}
-use Rattle.avro_schema.specs.Seen.{node_of}
 use Rattle.avro_compare.specs.Match.{is_match, first_match}
 use Rattle.avro_compare.specs.Pairs.{aim_of, branch_aim, part_to}
 use Rattle.avro_compare.specs.Planned.{AreFor}
@@ -17,6 +14,8 @@ use Rattle.avro_compare.specs.declared.guided.Aim.TheVariants.{Fault, To}
 use Rattle.avro_compare.specs.declared.guided.At.{At}
 use Rattle.avro_least.specs.Asked.{Asked, Row, asked, asked_branch, asked_inside, rows_from}
 use Rattle.avro_least.specs.SeenAsk.{rows_by, theirs_at, theirs_in}
+use Rattle.avro_compare.specs.declared.guided.At.TheVariants.{Ignored}
+use Rattle.std.proofs.lemmas.Option.{slice_get-get_or}
 
 -- ---- Where a pair leads
 
@@ -48,26 +47,16 @@ module _ (writer reader : List Node) where
   pub asked_own : (n q : Node) (r b : NodeId) (aim : Aim) → branches_of n ≡ None → aim ≡ aim_of writer reader n r q → aim ≡ To None b → asked_inside n q ≡ asked writer reader n q
   asked_own n q r b aim plain e is = ap (asked_of_aim (asked_inside n q)) (sym is ∙ e) ∙ by_aim n q r plain
 
--- a node that is no union
-pub plain_node : (n : KeptNode) → ((ids : Vec NodeId Global) → n ≡ KeptNode.Union ids → ⊥) → branches_of (node_of n) ≡ None
-plain_node (KeptNode.Union ids) h = absurd (h ids refl)
-plain_node _ h = refl
-
 -- ---- Fields
 
 theirs_same : (j : ℕ) (o : Option FieldNode) → theirs_in (Some (part_to j o)) ≡ option_map (λ f. f.node) o
 theirs_same j None = refl
 theirs_same j (Some f) = refl
 
-there : {A : Type 0} (xs : List A) (k : ℕ) → k < length xs → (x : A) × (slice_get xs k ≡ Some x)
-there [] k h = absurd (omega (arith, h))
-there (x ∷ xs) zero h = (x, refl)
-there (x ∷ xs) (suc k) h = there xs k (omega (arith, h))
-
 theirs_found : (ws rs : List FieldNode) (parts : List At) (k : ℕ) → AreFor ws rs parts → k < length parts → theirs_at parts k ≡ option_map (λ f. f.node) (reader_field ws rs k)
 theirs_found ws rs parts k h low =
-    let found = there parts k low in
-    ap theirs_in (found.1 ∙ ap Some (h k found.0 found.1)) ∙ theirs_same (unwrap_or (slice_get (field_ids ws) k) 0) (reader_field ws rs k)
+    let found = slice_get-get_or parts k Ignored low in
+    ap theirs_in (found ∙ ap Some (h k (get_or parts k Ignored) found)) ∙ theirs_same (unwrap_or (slice_get (field_ids ws) k) 0) (reader_field ws rs k)
 
 rows_found : (ws rs : List FieldNode) (parts : List At) (k : ℕ) (ps : List ℕ) → AreFor ws rs parts → k + length ps ≤ length parts → rows_by parts k ps ≡ rows_from ws rs k ps
 rows_found ws rs parts k [] h all = refl

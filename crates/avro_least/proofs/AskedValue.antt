@@ -12,6 +12,17 @@ use Rattle.avro_least.specs.Asked.{Row, Asked, rows_from, asked_inside, asked_br
 use Rattle.avro_certificate.proofs.public.Tests.{and_left, and_right}
 use Rattle.avro_least.proofs.LeastErrors.{err_of_plain, err_of_none, err_of_some}
 
+module _ (writer reader : List Node) where
+  pub asked_of_plain : (n q : Node) → branches_of n ≡ None → branches_of q ≡ None → asked writer reader n q ≡ cond (is_match writer reader n q) (asked_inside n q) Asked.whole
+  asked_of_plain (Node.union ps) _ h k = absurd (grind arith)
+  asked_of_plain _ (Node.union ps) h k = absurd (grind arith)
+  asked_of_plain Node.null Node.null h k = refl
+  asked_of_plain _ _ h k = refl
+
+  pub asked_of_union : (n : Node) (ids : List ℕ) → branches_of n ≡ None → asked writer reader n (Node.union ids) ≡ asked_branch ids (first_match writer reader n ids)
+  asked_of_union (Node.union ps) ids h = absurd (grind arith)
+  asked_of_union _ ids h = refl
+
 module _ (limit : ℕ) (table : LeastTable) (erring : ErringTable) where
   -- the nodes of the rows are those of the fields
   pub row_nodes : (ws rs : List FieldNode) (index : ℕ) (ps : List ℕ) → map (λ r. r.node) (rows_from ws rs index ps) ≡ ps
@@ -54,18 +65,6 @@ module _ (limit : ℕ) (table : LeastTable) (erring : ErringTable) where
   branch_value writer reader w r n ids plain None e = sym (err_of_none writer reader limit table erring w r n ids plain e)
   branch_value writer reader w r n ids plain (Some k) e = sym (err_of_some writer reader limit table erring w r n ids k plain e)
 
-  asked_plain : (writer reader : List Node) (n q : Node) → branches_of n ≡ None → branches_of q ≡ None
-      → asked writer reader n q ≡ cond (is_match writer reader n q) (asked_inside n q) Asked.whole
-  asked_plain writer reader (Node.union ps) _ h k = absurd (grind arith)
-  asked_plain writer reader _ (Node.union ps) h k = absurd (grind arith)
-  asked_plain writer reader Node.null Node.null h k = refl
-  asked_plain writer reader _ _ h k = refl
-
-  asked_union : (writer reader : List Node) (n : Node) (ids : List ℕ) → branches_of n ≡ None
-      → asked writer reader n (Node.union ids) ≡ asked_branch ids (first_match writer reader n ids)
-  asked_union writer reader (Node.union ps) ids h = absurd (grind arith)
-  asked_union writer reader _ ids h = refl
-
   pub value_is : (writer reader : List Node) (w r : ℕ) (n q : Node)
       → asked_value limit table erring w r (asked writer reader n q) ≡ err_of writer reader limit table erring w r n q
   value_is writer reader w r (Node.union ids) q = refl
@@ -73,10 +72,10 @@ module _ (limit : ℕ) (table : LeastTable) (erring : ErringTable) where
     where
       by_reader : (n q : Node) → branches_of n ≡ None → asked_value limit table erring w r (asked writer reader n q) ≡ err_of writer reader limit table erring w r n q
       by_reader n (Node.union ids) plain =
-          ap (asked_value limit table erring w r) (asked_union writer reader n ids plain)
+          ap (asked_value limit table erring w r) (asked_of_union writer reader n ids plain)
           ∙ branch_value writer reader w r n ids plain (first_match writer reader n ids) refl
       by_reader n q plain =
-          ap (asked_value limit table erring w r) (asked_plain writer reader n q plain refl)
+          ap (asked_value limit table erring w r) (asked_of_plain writer reader n q plain refl)
           ∙ plain_value w r n q (is_match writer reader n q)
           ∙ sym (err_of_plain writer reader limit table erring w r n q plain refl)
 

@@ -1,28 +1,18 @@
 -- The pairs that a pair of nodes asks for are pairs of nodes.
-use Rattle.std.proofs.Common.{◌≡◌, ℕ, zero, suc, ◌+◌, Bool, true, false, cond, ◌&&◌, List, [], ◌∷◌, Option, Some, None, length, refl, sym, subst, arith}
-use Rattle.std.proofs.lemmas.Bool.{and_from, and_parts}
+use Rattle.std.proofs.Common.{◌≡◌, ℕ, zero, suc, Bool, true, false, cond, ◌&&◌, List, [], ◌∷◌, Option, Some, None, length, refl, sym, subst, arith}
+use Rattle.std.proofs.lemmas.Bool.{and_from}
 use Rattle.std.specs.Prelude.{slice_get, unwrap_or, is_some, map, flat_map, nat_lt}
 use Rattle.std.specs.List.{list_all}
 use Rattle.avro_schema.specs.Node.{Node, FieldNode, node_at, field_ids, edges_of}
-use Rattle.avro_schema.specs.WellFormed.{is_schema, is_edge, is_good_node, are_good_nodes}
+use Rattle.avro_schema.specs.WellFormed.{is_schema, is_edge}
 use Rattle.avro_compare.specs.Match.{is_match, first_match}
 use Rattle.avro_compare.specs.Source.{reader_field, missing_field, is_index, source_of}
 use Rattle.avro_compare.specs.Children.{Pair, lacks_symbol}
 use Rattle.avro_least.specs.Asked.{Asked, rows_from, asked_inside, asked_branch, asked, row_child, asked_children}
 use Rattle.avro_certificate.proofs.public.Tests.{and_left, and_right}
 use Rattle.avro_certificate.proofs.public.Shapes.{first_match_within}
-
-good-all : (nodes : List Node) → is_schema nodes ≡ true → are_good_nodes nodes 0 nodes ≡ true
-good-all nodes h = grind arith
-
-edges-from : (nodes : List Node) (from id : ℕ) (ns : List Node) (k : ℕ) → are_good_nodes nodes from ns ≡ true → id ≡ from + k
-    → list_all (is_edge nodes id) (edges_of (unwrap_or (slice_get ns k) Node.null)) ≡ true
-edges-from nodes from id [] k h e = refl
-edges-from nodes from id (n ∷ ns) zero h e =
-    let same : from ≡ id = omega arith in
-    subst (λ (i : ℕ). list_all (is_edge nodes i) (edges_of n) ≡ true) same (grind arith)
-edges-from nodes from id (n ∷ ns) (suc k) h e =
-    edges-from nodes (suc from) id ns k (and_parts (is_good_node nodes from n) (are_good_nodes nodes (suc from) ns) h).1 (omega arith)
+use Rattle.avro_compare.proofs.public.Rules.{edges-at}
+use Rattle.avro_least.proofs.public.Keys.{some_same}
 
 -- numbers that are nodes
 abbrev pub are_within : List Node → List ℕ → Bool
@@ -36,14 +26,11 @@ edges_within nodes from (p ∷ ps) h =
 
 -- the edges of a schema's node
 pub node_within : (nodes : List Node) (id : ℕ) → is_schema nodes ≡ true → are_within nodes (edges_of (node_at nodes id)) ≡ true
-node_within nodes id h = edges_within nodes id (edges_of (node_at nodes id)) (edges-from nodes 0 id nodes id (good-all nodes h) (omega arith))
+node_within nodes id h = edges_within nodes id (edges_of (node_at nodes id)) (edges-at nodes id h)
 
 within_at : (nodes : List Node) (ps : List ℕ) (k p : ℕ) → are_within nodes ps ≡ true → slice_get ps k ≡ Some p → nat_lt p (length nodes) ≡ true
 within_at nodes [] k p h e = absurd (grind arith)
 within_at nodes (q ∷ qs) zero p h e = subst (λ (x : ℕ). nat_lt x (length nodes) ≡ true) (some_same q p e) (and_left _ (are_within nodes qs) h)
-  where
-    some_same : (a b : ℕ) → Some a ≡ Some b → a ≡ b
-    some_same a b e = cc
 within_at nodes (q ∷ qs) (suc k) p h e = within_at nodes qs k p (and_right (nat_lt q (length nodes)) (are_within nodes qs) h) e
 
 module _ (writer reader : List Node) where
@@ -63,9 +50,6 @@ module _ (writer reader : List Node) where
       chosen : (t : Bool) → cond t (Some g) (reader_field ws gs index) ≡ Some f → (reader_field ws gs index ≡ Some f → nat_lt f.node (length reader) ≡ true)
           → nat_lt f.node (length reader) ≡ true
       chosen true e later = subst (λ (x : FieldNode). nat_lt x.node (length reader) ≡ true) (some_same g f e) (and_left _ (are_within reader (field_ids gs)) h)
-        where
-          some_same : (a b : FieldNode) → Some a ≡ Some b → a ≡ b
-          some_same a b e = cc
       chosen false e later = later e
 
   rows_within : (ws rs : List FieldNode) (index : ℕ) (ps : List ℕ) → are_within reader (field_ids rs) ≡ true → are_within writer ps ≡ true

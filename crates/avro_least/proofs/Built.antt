@@ -23,9 +23,7 @@ use Rattle.avro_least.proofs.Building.{around_is, together_is}
 use Rattle.avro_schema.proofs.public.Choices.{HasFewChoices, HasFewChoices-from_is_schema}
 use Rattle.std.proofs.lemmas.Option.{slice_get_within}
 use Rattle.avro_least.proofs.Choosing.{leaf_least, branch_least, step_is}
-
-some_least : (a b : Least) → Some a ≡ Some b → a ≡ b
-some_least a b e = cc
+use Rattle.avro_least.proofs.public.Keys.{some_same}
 
 -- a schema's union has few branches
 pub few_branches : (nodes : List Node) → is_schema nodes ≡ true → (p : ℕ) (ids : List ℕ) → node_at nodes p ≡ Node.union ids → length ids ≤ 2 ^ 31
@@ -79,7 +77,7 @@ module _ (nodes : List Node) (table : LeastTable) (left : ℕ) where
   fields_least : (limit : ℕ) → is_schema nodes ≡ true → IsLowForData nodes limit table → AreDataShown nodes limit table → (ps : List ℕ) (vs : List Value)
       → BuildsAll nodes table left ps vs → (e : Least) → all_of limit table ps ≡ Some e → e.nodes ≤ limit → e.nodes ≤ left → AreLeast ps vs e
   fields_least limit formed low shown [] [] h e is within few =
-      let same : no_parts ≡ e = some_least no_parts e is in
+      let same : no_parts ≡ e = some_same no_parts e is in
       record { fitting = refl; nodes_is = ap (λ (l : Least). l.nodes) same; depth_is = ap (λ (l : Least). l.depth) same }
   fields_least limit formed low shown [] (v ∷ vs) h e is within few = absurd h
   fields_least limit formed low shown (p ∷ ps) [] h e is within few = absurd h
@@ -89,7 +87,7 @@ module _ (nodes : List Node) (table : LeastTable) (left : ℕ) where
       (subst (λ (o : Option Least). IsWithin limit o) (sym both.first_is) (omega (arith, within, both.nodes)))
       (subst (λ (o : Option Least). count_of o ≤ left) (sym both.first_is) (omega (arith, few, both.nodes))) in
       let others = fields_least limit formed low shown ps vs h.1 both.second both.second_is (omega (arith, within, both.nodes)) (omega (arith, few, both.nodes)) in
-      let same : record { nodes = size v; depth = depth v } ≡ both.first = some_least (record { nodes = size v; depth = depth v }) both.first (sym own.numbers ∙ both.first_is) in
+      let same : record { nodes = size v; depth = depth v } ≡ both.first = some_same (record { nodes = size v; depth = depth v }) both.first (sym own.numbers ∙ both.first_is) in
       let count : size v ≡ both.first.nodes = ap (λ (l : Least). l.nodes) same in
       let level : depth v ≡ both.first.depth = ap (λ (l : Least). l.depth) same in
       record {

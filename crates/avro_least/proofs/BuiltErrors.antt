@@ -18,6 +18,7 @@ use Rattle.avro_certificate.proofs.public.Tests.{not_true}
 use Rattle.avro_least.proofs.LeastErrors.{through_is_matched}
 use Rattle.avro_least.proofs.ShownData.{empty_text}
 use Rattle.avro_least.proofs.ShownErrors.{IsFault, fault_inside, fault_map, fault_first, fault_matched, value_of_plain, plain_form, not_a_text, no_index, missing_errs}
+use Rattle.avro_least.proofs.AskedValue.{asked_of_plain, asked_of_union}
 
 module _ (writer reader : List Node) where
   -- a pair of which each datum errs
@@ -35,16 +36,6 @@ module _ (writer reader : List Node) where
       chosen false s = grind arith
   whole_plain _ _ v plain their_plain fit e = absurd (grind arith)
 
-  pub asked_of_plain : (n q : Node) → branches_of n ≡ None → branches_of q ≡ None → asked writer reader n q ≡ cond (is_match writer reader n q) (asked_inside n q) Asked.whole
-  asked_of_plain (Node.union ps) _ h k = absurd (grind arith)
-  asked_of_plain _ (Node.union ps) h k = absurd (grind arith)
-  asked_of_plain Node.null Node.null h k = refl
-  asked_of_plain _ _ h k = refl
-
-  pub asked_of_union : (n : Node) (ids : List ℕ) → branches_of n ≡ None → asked writer reader n (Node.union ids) ≡ asked_branch ids (first_match writer reader n ids)
-  asked_of_union (Node.union ps) ids h = absurd (grind arith)
-  asked_of_union _ ids h = refl
-
   none_match : (n q : Node) (v : Value) → branches_of n ≡ None → branches_of q ≡ None → fits writer n v ≡ true → is_match writer reader n q ≡ false → IsFault (resolve writer reader n q v)
   none_match n q v plain their_plain fit e =
       let form = plain_form writer reader n v (value_of_plain writer n v plain fit) in
@@ -52,7 +43,7 @@ module _ (writer reader : List Node) where
       (subst (λ (b : Bool). IsFault (cond b (form.0 q) (Err (fault_here no_match)))) (sym e) tt)
 
   plain_whole : (n q : Node) (v : Value) → branches_of n ≡ None → branches_of q ≡ None → fits writer n v ≡ true → Asked.whole ≡ asked writer reader n q → IsFault (resolve writer reader n q v)
-  plain_whole n q v plain their_plain fit e = chosen (is_match writer reader n q) refl (sym (e ∙ asked_of_plain n q plain their_plain))
+  plain_whole n q v plain their_plain fit e = chosen (is_match writer reader n q) refl (sym (e ∙ asked_of_plain writer reader n q plain their_plain))
     where
       chosen : (t : Bool) → is_match writer reader n q ≡ t → cond t (asked_inside n q) Asked.whole ≡ Asked.whole → IsFault (resolve writer reader n q v)
       chosen true m s = whole_plain n q v plain their_plain fit s
@@ -60,7 +51,7 @@ module _ (writer reader : List Node) where
 
   union_whole : (n : Node) (ids : List ℕ) (v : Value) → branches_of n ≡ None → fits writer n v ≡ true → Asked.whole ≡ asked writer reader n (Node.union ids)
       → IsFault (resolve writer reader n (Node.union ids) v)
-  union_whole n ids v plain fit e = chosen (first_match writer reader n ids) refl (sym (e ∙ asked_of_union n ids plain))
+  union_whole n ids v plain fit e = chosen (first_match writer reader n ids) refl (sym (e ∙ asked_of_union writer reader n ids plain))
     where
       chosen : (o : Option ℕ) → first_match writer reader n ids ≡ o → asked_branch ids o ≡ Asked.whole → IsFault (resolve writer reader n (Node.union ids) v)
       chosen None m s =
@@ -99,7 +90,7 @@ module _ (writer reader : List Node) where
   not_same n q h = by n q refl h
     where
       by : (n q : Node) → branches_of n ≡ None → branches_of q ≡ None → is_same (asked writer reader n q) ≡ false
-      by n q plain their_plain = ap is_same (asked_of_plain n q plain their_plain) ∙ chosen (is_match writer reader n q)
+      by n q plain their_plain = ap is_same (asked_of_plain writer reader n q plain their_plain) ∙ chosen (is_match writer reader n q)
         where
           chosen : (t : Bool) → is_same (cond t (asked_inside n q) Asked.whole) ≡ false
           chosen true = inside_not_same n q
@@ -108,7 +99,7 @@ module _ (writer reader : List Node) where
   -- what a pair asks for that matches, unless it asks for all
   pub asks_inside : (n q : Node) → branches_of n ≡ None → branches_of q ≡ None → (a : Asked) → a ≡ asked writer reader n q → (a ≡ Asked.whole → ⊥)
       → (is_match writer reader n q ≡ true) × (a ≡ asked_inside n q)
-  asks_inside n q plain their_plain a e other = chosen (is_match writer reader n q) refl (e ∙ asked_of_plain n q plain their_plain)
+  asks_inside n q plain their_plain a e other = chosen (is_match writer reader n q) refl (e ∙ asked_of_plain writer reader n q plain their_plain)
     where
       chosen : (t : Bool) → is_match writer reader n q ≡ t → a ≡ cond t (asked_inside n q) Asked.whole → (is_match writer reader n q ≡ true) × (a ≡ asked_inside n q)
       chosen true m s = (m, s)

@@ -1,12 +1,16 @@
 -- A least datum from those of its parts.
-use Rattle.std.proofs.Common.{◌≡◌, ℕ, suc, ◌≤◌, ◌<◌, true, List, Option, Some, None, refl, sym, ◌∙◌, ap, subst, arith}
-use Rattle.std.specs.Prelude.{slice_get, is_some}
+use Rattle.std.proofs.Common.{◌≡◌, ℕ, suc, ◌≤◌, ◌<◌, true, List, Option, Some, None, refl, sym, ◌∙◌, ap, subst, arith, length, get_or}
+use Rattle.std.specs.Prelude.{slice_get, is_some, option_map}
 use Rattle.avro_schema.specs.Value.{Value, size, depth}
 use Rattle.avro_schema.specs.Node.{Node, node_at}
 use Rattle.avro_schema.specs.Fits.{fits}
 use Rattle.avro_least.specs.Tables.{Least, LeastTable, IsLowForData, AreDataShown, ShowsData, IsLeastOf, IsWithin, count_of, best_of, least_datum, one}
 use Rattle.avro_least.proofs.Fixed.{exact_data}
 use Rattle.avro_least.proofs.Building.{around_is}
+use Rattle.avro_least.proofs.public.Keys.{some_same}
+use Rattle.std.proofs.lemmas.Option.{slice_get-map, slice_get-get_or}
+use Rattle.avro_schema.specs.Seen.{ids_of}
+use Rattle.avro_schema.specs.declared.schema.NodeId.{NodeId}
 
 module _ (writer : List Node) (limit : ℕ) (table : LeastTable) (low : IsLowForData writer limit table) (shown : AreDataShown writer limit table) where
   -- an entry within the limit is what a step gives
@@ -62,6 +66,7 @@ module _ (writer : List Node) (limit : ℕ) (table : LeastTable) (low : IsLowFor
       numbers v e b same n d =
           let is : record { nodes = size v; depth = depth v } ≡ b = some_same (record { nodes = size v; depth = depth v }) b same in
           λ i. record { nodes = (n ∙ ap (λ (l : Least). suc l.nodes) (sym is)) i; depth = (d ∙ ap (λ (l : Least). suc l.depth) (sym is)) i }
-        where
-          some_same : (a b : Least) → Some a ≡ Some b → a ≡ b
-          some_same a b s = cc
+
+-- the id at an index
+pub id_here : (ids : List NodeId) (i p : ℕ) (d : NodeId) → i < length ids → slice_get (ids_of ids) i ≡ Some p → (get_or ids i d).0 ≡ p
+id_here ids i p d within got = some_same (get_or ids i d).0 p (sym (slice_get-map (λ id. id.0) ids i ∙ ap (option_map (λ id. id.0)) (slice_get-get_or ids i d within)) ∙ got)

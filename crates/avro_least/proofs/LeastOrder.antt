@@ -5,6 +5,7 @@ use Rattle.std.proofs.lemmas.Bool.{true≢false, ltb-true, ltb-false, leb-false,
 use Rattle.avro_certificate.proofs.public.Tests.{and_left, and_right, or_left, or_right, or_cases}
 use Rattle.avro_schema.specs.Value.{Value, size, depth}
 use Rattle.avro_least.specs.Tables.{Least, IsUnder, AtMost, LeastTable, capped, around, together, lesser, precedes, best_of}
+use Rattle.avro_least.proofs.public.Keys.{some_same}
 
 -- above the limit less is known
 pub under_capped : (limit : ℕ) (e : Least) (s d : ℕ) → IsUnder e s d → IsUnder (capped limit e) s d
@@ -83,9 +84,6 @@ pub under_best : (table : LeastTable) (ids : List ℕ) (k p s d : ℕ) → slice
 under_best table [] k p s d here h = absurd (grind arith)
 under_best table (q ∷ qs) zero p s d here h =
     under_lesser_left (table q) (best_of table qs) s d (subst (λ (x : ℕ). AtMost (table x) s d) (some_same p q (sym here)) h)
-  where
-    some_same : (a b : ℕ) → Some a ≡ Some b → a ≡ b
-    some_same a b e = cc
 under_best table (q ∷ qs) (suc k) p s d here h = under_lesser_right (table q) (best_of table qs) s d (under_best table qs k p s d here h)
 
 -- a datum has a node

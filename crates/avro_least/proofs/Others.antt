@@ -25,6 +25,7 @@ use Rattle.avro_least.proofs.AskedBuilds.{records_asked}
 use Rattle.avro_least.proofs.AskedValue.{row_nodes}
 use Rattle.avro_least.proofs.RowTotals.{after_nothing, get_each, nothing_alone, together_around}
 use Rattle.avro_least.proofs.Rounds.{set_here, set_other}
+use Rattle.avro_least.proofs.public.Keys.{some_same}
 
 -- the branch at an index
 abbrev pub against : ℕ → ℕ → Option Pair
@@ -52,11 +53,8 @@ pub pair_given : (o : Option (NodeId × NodeId)) (a b : ℕ) → seen_pair o ≡
     → (x : NodeId) × ((y : NodeId) × ((o ≡ Some (x, y)) × (x.0 ≡ a) × (y.0 ≡ b)))
 pair_given None a b e = absurd cc
 pair_given (Some c) a b e =
-    let same : record { w = c.0.0; r = c.1.0 } ≡ record { w = a; r = b } = pair_same (record { w = c.0.0; r = c.1.0 }) (record { w = a; r = b }) e in
+    let same : record { w = c.0.0; r = c.1.0 } ≡ record { w = a; r = b } = some_same (record { w = c.0.0; r = c.1.0 }) (record { w = a; r = b }) e in
     (c.0, (c.1, (refl, ap (λ (q : Pair). q.w) same, ap (λ (q : Pair). q.r) same)))
-  where
-    pair_same : (p q : Pair) → Some p ≡ Some q → p ≡ q
-    pair_same p q e = cc
 
 -- past the last part there is none
 pub part_within : (w r : ℕ) (a : Asked) (k : ℕ) (c : Pair) → part_at w r a k ≡ Some c → k < length (parts_of w r a)

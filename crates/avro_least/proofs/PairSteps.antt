@@ -1,5 +1,5 @@
 -- A step over a table of pairs.
-use Rattle.std.proofs.Common.{◌≡◌, ℕ, zero, suc, ◌+◌, ◌*◌, ◌/◌, ◌%◌, ◌<◌, Bool, true, false, cond, ◌&&◌, ◌||◌, List, [], ◌∷◌, Option, Some, None, inl, inr, ◌⊎◌, length, get_or, refl, sym, ◌∙◌, ap, subst, arith}
+use Rattle.std.proofs.Common.{◌≡◌, ℕ, ◌+◌, ◌*◌, ◌/◌, ◌%◌, ◌<◌, Bool, true, false, cond, ◌&&◌, ◌||◌, List, [], ◌∷◌, Option, Some, None, inl, inr, ◌⊎◌, length, get_or, refl, sym, ◌∙◌, ap, subst, arith}
 use Rattle.std.proofs.Math.ListN.{set, replicate}
 use Rattle.std.proofs.lemmas.Bool.{false≢true, and_from, lt-ltb, ltb-true, eqb-true, cases_eq}
 use Rattle.std.proofs.lemmas.Nat.{div-mul-add, mod-mul-add}
@@ -16,15 +16,16 @@ use Rattle.avro_least.specs.Tables.{Least, LeastTable, ErringTable, AreDataShown
 use Rattle.avro_least.specs.SeenLeast.{seen, seen_all, given_entry}
 use Rattle.avro_least.specs.declared.kept.Least.{Least as KeptLeast}
 use Rattle.avro_least.specs.Reached.{is_key}
-use Rattle.avro_least.specs.Asked.{Asked, asked_at, asked_value, children_at, live_numbers, steps_at, is_known, AreAsked, ArePairsShown}
+use Rattle.avro_least.specs.Asked.{asked_at, asked_value, children_at, live_numbers, steps_at, is_known, AreAsked, ArePairsShown}
 use Rattle.avro_least.specs.SeenAsk.{ask_of, asks_of}
 use Rattle.avro_least.specs.declared.pairs.asking.Ask.{Ask}
 use Rattle.avro_certificate.proofs.public.Tests.{all_at, and_left, and_right, or_from_left, or_from_right}
-use Rattle.avro_least.proofs.Rounds.{set_here, set_other}
+use Rattle.avro_least.proofs.Rounds.{set_here, set_other, slice_get-replicate}
 use Rattle.avro_least.proofs.AskedValue.{value_is, value_same}
 use Rattle.avro_least.proofs.AskedWithin.{is_within}
 use Rattle.avro_least.proofs.public.Stepping.{children_at_within}
 use Rattle.avro_least.proofs.ShownErrors.{step_errs}
+use Rattle.avro_least.proofs.public.Keys.{some_same}
 
 -- all pass what all pass
 always : {A : Type 0} (xs : List A) → list_all (λ x. true) xs ≡ true
@@ -87,9 +88,6 @@ own_ask writer reader ks asks ask i k all here got =
     some_same (ask_of ask) (asked_at writer reader k)
     (sym (slice_get-map ask_of asks i ∙ ap (option_map ask_of) got)
     ∙ all i k here (lt-ltb i (length (asks_of asks)) (omega (arith, slice_get_within asks i ask got, length-map asks ask_of))))
-  where
-    some_same : (a b : Asked) → Some a ≡ Some b → a ≡ b
-    some_same a b e = cc
 
 -- a step at a key
 module _ (writer reader : List Node) (limit : ℕ) (table : LeastTable) (keys : List ℕ) (entries : List (Option Least))
@@ -145,9 +143,6 @@ module _ (count : ℕ) (table : LeastTable) (keys : List ℕ) (es : List (Option
   pub erring_set : (w r : ℕ) → (erring_of count table keys (seen_all (set es i found)) w r ≡ erring_of count table keys (seen_all es) w r) ⊎ IsSetAt w r
   erring_set w r = by_node (table w) refl
     where
-      some_same : (a b : ℕ) → Some a ≡ Some b → a ≡ b
-      some_same a b e = cc
-
       by_index : (x : Least) → table w ≡ Some x → nat_lt r count ≡ true → (o : Option ℕ) → position (λ q. pair_number count w r == q) keys ≡ o
           → (erring_of count table keys (seen_all (set es i found)) w r ≡ erring_of count table keys (seen_all es) w r) ⊎ IsSetAt w r
       by_index x e m None p = inl (erring_at count table keys (seen_all (set es i found)) w r x None e m p ∙ sym (erring_at count table keys (seen_all es) w r x None e m p))
@@ -193,11 +188,6 @@ pair_set_shown writer reader limit table keys es i k found within here shown own
 
 -- where no entry is known, no pair that was reached has one
 module _ (count n : ℕ) (table : LeastTable) (keys : List ℕ) (same : n ≡ length keys) (w r : ℕ) (known : is_known count table keys (record { w = w; r = r }) ≡ true) where
-  slice_get-replicate : (n p : ℕ) → p < n → slice_get (replicate {A = Option KeptLeast} n None) p ≡ Some None
-  slice_get-replicate zero p h = absurd (omega (arith, h))
-  slice_get-replicate (suc n) zero h = refl
-  slice_get-replicate (suc n) (suc p) h = slice_get-replicate n p (omega (arith, h))
-
   at : (x : Least) → table w ≡ Some x → nat_lt r count ≡ true → is_key keys (pair_number count w r) ≡ true
       → (o : Option ℕ) → position (λ q. pair_number count w r == q) keys ≡ o
       → erring_of count table keys (seen_all (replicate {A = Option KeptLeast} n None)) w r ≡ None

@@ -4,7 +4,7 @@ use Rattle.std.proofs.Math.ListN.{set, replicate}
 use Rattle.std.proofs.lemmas.Bool.{false≢true, true≢false, ltb-true, eqb-true, cases_lt}
 use Rattle.std.proofs.lemmas.Option.{slice_get_past, slice_get-get_or}
 use Rattle.std.proofs.lemmas.List.{get_or-set_same, length-set, length-replicate}
-use Rattle.std.specs.Prelude.{slice_get, unwrap_or, is_some, nat_lt, ◌==◌, ◌&&◌}
+use Rattle.std.specs.Prelude.{slice_get, unwrap_or, is_some, nat_lt, ◌==◌, ◌&&◌, is_none}
 use Rattle.avro_schema.specs.Value.{Value}
 use Rattle.avro_schema.specs.Node.{Node, node_at}
 use Rattle.avro_least.specs.Tables.{Least, AtMost, AreDataShown, ShowsData, one}
@@ -45,6 +45,17 @@ improves_low None b s d h m = absurd m
 improves_low (Some a) None s d h m = absurd (true≢false h)
 improves_low (Some a) (Some b) s d h m = follows_under b a s d h m
 
+-- a test that there is none
+pub none_is : (o : Option Least) → is_none o ≡ true → o ≡ None
+none_is None h = refl
+none_is (Some e) h = absurd (false≢true h)
+
+-- an entry at the start
+pub slice_get-replicate : (n p : ℕ) → p < n → slice_get (replicate {A = Option KeptLeast} n None) p ≡ Some None
+slice_get-replicate zero p h = absurd (omega (arith, h))
+slice_get-replicate (suc n) zero h = refl
+slice_get-replicate (suc n) (suc p) h = slice_get-replicate n p (omega (arith, h))
+
 -- at the start there is no entry but past the end
 pub start_shown : (writer : List Node) (limit n : ℕ) → n ≡ length writer → AreDataShown writer limit (table_of (replicate {A = Option KeptLeast} n None))
 start_shown writer limit n same p h = elim (cases_lt p n) [
@@ -53,8 +64,3 @@ start_shown writer limit n same p h = elim (cases_lt p n) [
       (subst (λ (o : Option Node). ShowsData writer limit (unwrap_or o Node.null) (Some one)) (sym (slice_get_past writer p (omega (arith, same, past))))
       (record { datum = Value.null; fitting = refl; exact = λ k. (refl, refl) }))
 ]
-  where
-    slice_get-replicate : (n p : ℕ) → p < n → slice_get (replicate {A = Option KeptLeast} n None) p ≡ Some None
-    slice_get-replicate zero p h = absurd (omega (arith, h))
-    slice_get-replicate (suc n) zero h = refl
-    slice_get-replicate (suc n) (suc p) h = slice_get-replicate n p (omega (arith, h))

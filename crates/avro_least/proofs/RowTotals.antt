@@ -1,5 +1,5 @@
 -- The total of a record's fields, from those before one of them, that one, and those behind it.
-use Rattle.std.proofs.Common.{◌≡◌, ℕ, zero, suc, ◌+◌, ◌≤◌, ◌<◌, Bool, true, false, cond, List, [], ◌∷◌, ◌++◌, Option, Some, None, length, drop, get_or, refl, sym, ◌∙◌, ap, subst, arith, inl, inr}
+use Rattle.std.proofs.Common.{◌≡◌, ℕ, suc, ◌+◌, ◌≤◌, ◌<◌, Bool, true, false, cond, List, [], ◌∷◌, ◌++◌, Option, Some, None, length, drop, get_or, refl, sym, ◌∙◌, ap, subst, arith, inl, inr}
 use Rattle.std.specs.Prelude.{max, map, nat_le, slice_get, ◌==◌}
 use Rattle.std.proofs.lemmas.Bool.{cases_Bool, cases_eq, leb-true, leb-false, le-leb, eq-eqb, ne_eqb}
 use Rattle.std.proofs.lemmas.List.{drop_more}
@@ -8,6 +8,7 @@ use Rattle.avro_least.specs.Asked.{Row, err_of_row}
 use Rattle.avro_least.specs.BuiltErrors.{part_of_row, total_from}
 use Rattle.avro_least.specs.SeenAsk.{row_of, rows_of}
 use Rattle.avro_least.specs.declared.pairs.asking.FieldAsk.{FieldAsk}
+use Rattle.avro_compare.proofs.public.Lists.{get_before, get_last}
 
 module _ (limit : ℕ) where
   is_few : (e : Least) → e.nodes ≤ limit → capped limit e ≡ e
@@ -72,7 +73,7 @@ module _ (limit : ℕ) where
     total_at_first k (row ∷ rows) = sym (after_nothing (part_of_row table erring (0 == k) row) (total_from limit table erring k 1 rows))
 
     -- past the chosen field
-    past : (k j : ℕ) (rows : List Row) → k < j → total_from limit table erring k j rows ≡ all_of limit table (map (λ r. r.node) rows)
+    pub past : (k j : ℕ) (rows : List Row) → k < j → total_from limit table erring k j rows ≡ all_of limit table (map (λ r. r.node) rows)
     past k j [] h = refl
     past k j (row ∷ rows) h = ap (λ b. together limit (part_of_row table erring b row) (total_from limit table erring k (suc j) rows)) (ne_eqb j k (λ e. omega (arith, e, h)))
         ∙ ap (together limit (table row.node)) (past k (suc j) rows (omega (arith, h)))
@@ -105,15 +106,6 @@ module _ (limit : ℕ) where
     before_more k i rows d a whole h later is = is ∙ ap (together limit a) (total_more k i rows d h later)
         ∙ together_around a (table (get_or rows i d).node.0) (total_from limit table erring k (i + 1) (rows_of (drop (i + 1) rows)))
 
-get_front : {A : Type 0} (xs : List A) (x : A) (i : ℕ) → i < length xs → slice_get (xs ++ x ∷ []) i ≡ slice_get xs i
-get_front [] x i h = absurd (omega (arith, h))
-get_front (y ∷ ys) x zero h = refl
-get_front (y ∷ ys) x (suc i) h = get_front ys x i (omega (arith, h))
-
-get_last : {A : Type 0} (xs : List A) (x : A) → slice_get (xs ++ x ∷ []) (length xs) ≡ Some x
-get_last [] x = refl
-get_last (y ∷ ys) x = get_last ys x
-
 -- what holds of each entry, and of one more
 pub get_each : {A : Type 0} (P : ℕ → Option A → Type 0) (old new : List A) (x : A) (i : ℕ) → new ≡ old ++ x ∷ [] → length old ≡ i
     → ((j : ℕ) → j < i → P j (slice_get old j)) → P i (Some x) → (j : ℕ) → j < i + 1 → P j (slice_get new j)
@@ -122,5 +114,5 @@ get_each {A} P old new x i is count front last j below = subst (λ (es : List A)
       let at : j ≡ length old = omega (arith, here, count) in
       subst (λ (n : ℕ). P n (slice_get (old ++ x ∷ []) n)) (sym at)
       (subst (λ (o : Option A). P (length old) o) (sym (get_last old x)) (subst (λ (n : ℕ). P n (Some x)) (sym count) last))
-  | inr apart ↦ subst (λ (o : Option A). P j o) (sym (get_front old x j (omega (arith, below, apart, count)))) (front j (omega (arith, below, apart)))
+  | inr apart ↦ subst (λ (o : Option A). P j o) (sym (get_before old x j (omega (arith, below, apart, count)))) (front j (omega (arith, below, apart)))
 ])

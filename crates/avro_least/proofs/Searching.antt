@@ -1,7 +1,7 @@
 -- Entries that fall, and marks that are set and cleared.
 use Rattle.std.proofs.Common.{◌≡◌, ◌<◌, ℕ, ◌⊎◌, ◌||◌, Bool, true, false, cond, List, ◌∷◌, Option, None, inl, inr, length, get_or, refl, sym, ◌∙◌, ap, subst, arith}
 use Rattle.std.proofs.Math.ListN.{set}
-use Rattle.std.proofs.lemmas.Bool.{false≢true, true≢false, eqb-true, cases_eq, cases_lt}
+use Rattle.std.proofs.lemmas.Bool.{false≢true, true≢false, cases_eq, cases_lt, ne_eqb}
 use Rattle.std.proofs.lemmas.List.{length-set}
 use Rattle.std.proofs.lemmas.List.Sorted.{list_any-IsPermutation}
 use Rattle.std.proofs.lemmas.List.Sums.{sum_by-set}
@@ -46,19 +46,11 @@ mark_cleared waiting i k m = elim (cases_eq k i) [
 pub mark_left : (waiting : List Bool) (i k : ℕ) → is_waiting waiting i ≡ true → is_waiting (set waiting i false) k ≡ true → (is_waiting waiting k ≡ true) × ((k == i) ≡ false)
 mark_left waiting i k before m = elim (cases_eq k i) [
   | inl same ↦ absurd (false≢true (sym (mark_here waiting i false (marked_within waiting i before)) ∙ ap (is_waiting (set waiting i false)) (sym same) ∙ m))
-  | inr apart ↦ (sym (mark_other waiting i k false apart) ∙ m, other (k == i) refl apart)
+  | inr apart ↦ (sym (mark_other waiting i k false apart) ∙ m, ne_eqb k i apart)
 ]
-  where
-    other : (t : Bool) → (k == i) ≡ t → (k ≡ i → ⊥) → t ≡ false
-    other true e h = absurd (h (eqb-true k i e))
-    other false e h = refl
 
 pub marked_apart : (waiting : List Bool) (i k : ℕ) → is_waiting waiting i ≡ false → is_waiting waiting k ≡ true → (k == i) ≡ false
-marked_apart waiting i k clear m = other (k == i) refl
-  where
-    other : (t : Bool) → (k == i) ≡ t → t ≡ false
-    other true e = absurd (false≢true (sym clear ∙ ap (is_waiting waiting) (sym (eqb-true k i e)) ∙ m))
-    other false e = refl
+marked_apart waiting i k clear m = ne_eqb k i (λ same. false≢true (sym clear ∙ ap (is_waiting waiting) (sym same) ∙ m))
 
 -- one more in a queue, and one less
 pub queued_more : {A : Type 0} (test : A → Bool) (x : A) (old new : List A) → IsPermutation (x ∷ old) new → (test x || list_any test old) ≡ true → list_any test new ≡ true

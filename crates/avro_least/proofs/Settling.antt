@@ -18,6 +18,7 @@ use Rattle.avro_certificate.proofs.public.Shapes.{meets_rules_at}
 use Rattle.avro_least.proofs.public.Keys.{key_at}
 use Rattle.avro_least.proofs.LeastOrder.{under_lesser_left, under_lesser_right}
 use Rattle.avro_least.proofs.ShownData.{exact_around, around_some, best_is, step_shown}
+use Rattle.avro_least.proofs.Rounds.{none_is}
 
 -- what is no more than an entry stays so inside one more node
 around_no_more : (limit : ℕ) (a b : Option Least) → IsNoMore a b → IsNoMore (around limit a) (around limit b)
@@ -168,10 +169,6 @@ open_settles limit table waits ids e h = elim (waits_or_none ids h) [
   | inr none ↦ inr (λ s d m. absurd (subst (λ (x : Option Least). AtMost (around limit x) s d) none m))
 ]
   where
-    none_is : (x : Option Least) → is_none x ≡ true → x ≡ None
-    none_is None m = refl
-    none_is (Some x) m = absurd (false≢true m)
-
     together_none : (x : Option Least) → together limit x None ≡ None
     together_none None = refl
     together_none (Some x) = refl

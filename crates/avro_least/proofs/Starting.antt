@@ -24,6 +24,7 @@ use Rattle.avro_certificate.proofs.public.Tests.{and_left, and_right, all_at}
 use Rattle.avro_least.proofs.PairSteps.{below_at, followed_known, pair_set_shown, unknown_none}
 use Rattle.avro_least.proofs.Searching.{length_lowered}
 use Rattle.avro_least.proofs.public.Stepping.{children_at_within}
+use Rattle.avro_least.proofs.public.Keys.{some_same}
 
 -- around no entry is none
 pub around_none : (limit : ℕ) (table : LeastTable) (a : Asked) (k : ℕ) → around_part limit table a k None ≡ None
@@ -44,34 +45,22 @@ by_part_is limit table erring w r x y k a b o e found first second third is entr
 
 -- what all children pass, a part passes
 pub part_passes : (test : Pair → Bool) (w r : ℕ) (a : Asked) (k : ℕ) (c : Pair) → list_all test (asked_children w r a) ≡ true → part_at w r a k ≡ Some c → test c ≡ true
-part_passes test w r (Asked.same q) zero c all is = subst (λ (x : Pair). test x ≡ true) (pair_same (record { w = w; r = q }) c is) (and_left (test (record { w = w; r = q })) true all)
-  where
-    pair_same : (a b : Pair) → Some a ≡ Some b → a ≡ b
-    pair_same a b e = cc
+part_passes test w r (Asked.same q) zero c all is = subst (λ (x : Pair). test x ≡ true) (some_same (record { w = w; r = q }) c is) (and_left (test (record { w = w; r = q })) true all)
 part_passes test w r (Asked.same q) (suc k) c all is = absurd cc
-part_passes test w r (Asked.part a b) zero c all is = subst (λ (x : Pair). test x ≡ true) (pair_same (record { w = a; r = b }) c is) (and_left (test (record { w = a; r = b })) true all)
-  where
-    pair_same : (a b : Pair) → Some a ≡ Some b → a ≡ b
-    pair_same a b e = cc
+part_passes test w r (Asked.part a b) zero c all is = subst (λ (x : Pair). test x ≡ true) (some_same (record { w = a; r = b }) c is) (and_left (test (record { w = a; r = b })) true all)
 part_passes test w r (Asked.part a b) (suc k) c all is = absurd cc
 part_passes test w r (Asked.branches ids) k c all is = by_id (slice_get ids k) refl
     (sym (ap (λ (o : Option (Option Pair)). unwrap_or o None) (slice_get-map (λ (p : ℕ). Some (record { w = p; r = r })) ids k)) ∙ is)
   where
-    pair_same : (a b : Pair) → Some a ≡ Some b → a ≡ b
-    pair_same a b e = cc
-
     by_id : (o : Option ℕ) → slice_get ids k ≡ o → unwrap_or (option_map (λ (p : ℕ). Some (record { w = p; r = r })) o) None ≡ Some c → test c ≡ true
     by_id None here e = absurd cc
-    by_id (Some p) here e = subst (λ (x : Pair). test x ≡ true) (pair_same (record { w = p; r = r }) c e)
+    by_id (Some p) here e = subst (λ (x : Pair). test x ≡ true) (some_same (record { w = p; r = r }) c e)
         (all_at (λ p. test (record { w = p; r = r })) ids k p (sym (list_all-map test (λ p. record { w = p; r = r }) ids) ∙ all) here)
 part_passes test w r (Asked.fields rows) k c all is = by_rows rows k all is
   where
-    pair_same : (a b : Pair) → Some a ≡ Some b → a ≡ b
-    pair_same a b e = cc
-
     by_row : (p : ℕ) (o : Option ℕ) → list_all test (row_child (record { node = p; theirs = o })) ≡ true → row_part (record { node = p; theirs = o }) ≡ Some c → test c ≡ true
     by_row p None h e = absurd cc
-    by_row p (Some q) h e = subst (λ (x : Pair). test x ≡ true) (pair_same (record { w = p; r = q }) c e) (and_left (test (record { w = p; r = q })) true h)
+    by_row p (Some q) h e = subst (λ (x : Pair). test x ≡ true) (some_same (record { w = p; r = q }) c e) (and_left (test (record { w = p; r = q })) true h)
 
     by_rows : (rows : List Row) (k : ℕ) → list_all test (flat_map row_child rows) ≡ true → unwrap_or (slice_get (map row_part rows) k) None ≡ Some c → test c ≡ true
     by_rows [] k h e = absurd cc

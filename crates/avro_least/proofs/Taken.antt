@@ -20,15 +20,12 @@ use Rattle.avro_least.specs.inside.Parts.{part_at, entry_of_part, around_part, v
 use Rattle.avro_least.specs.inside.Falling.{is_waiting, lowered}
 use Rattle.avro_least.specs.inside.Leading.{is_lead, leads_at, AreLeads, PartWaits, IsTaken, IsTakenAlone, AreTakenBut}
 use Rattle.avro_certificate.proofs.public.Tests.{and_left, and_right, or_cases}
-use Rattle.avro_least.proofs.Rounds.{set_here, set_other, improves_low}
+use Rattle.avro_least.proofs.Rounds.{set_here, set_other, improves_low, none_is}
 use Rattle.avro_least.proofs.LeastOrder.{precedes_under}
 use Rattle.avro_least.proofs.AskedValue.{value_is}
 use Rattle.avro_least.proofs.AtMostParts.{at_most_parts}
 use Rattle.avro_least.proofs.PairSteps.{no_position, given_is, erring_none, erring_set}
-use Rattle.avro_least.proofs.public.Keys.{key_at}
-
-some_same : (a b : ℕ) → Some a ≡ Some b → a ≡ b
-some_same a b e = cc
+use Rattle.avro_least.proofs.public.Keys.{key_at, some_same}
 
 -- what improves an entry is no more than it
 pub improves_under : (a b : Option Least) (s d : ℕ) → improves a b ≡ true → AtMost b s d → AtMost a s d
@@ -88,10 +85,6 @@ module _ (writer reader : List Node) (limit : ℕ) (table : LeastTable) (keys : 
         ⊎ (erring_of (length reader) table keys (seen_all (set es i found)) c.w c.r ≡ erring_of (length reader) table keys (seen_all es) c.w c.r)
     part_same own k c is p there = by_node (is_none (table c.w)) refl
       where
-        none_is : (o : Option Least) → is_none o ≡ true → o ≡ None
-        none_is None h = refl
-        none_is (Some e) h = absurd (false≢true h)
-
         by_node : (t : Bool) → is_none (table c.w) ≡ t → PartWaits writer reader table keys waiting p k
             ⊎ (erring_of (length reader) table keys (seen_all (set es i found)) c.w c.r ≡ erring_of (length reader) table keys (seen_all es) c.w c.r)
         by_node true dead =

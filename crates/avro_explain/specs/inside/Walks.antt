@@ -1,10 +1,8 @@
 -- How places are added, and what holds of them on the way.
-use Rattle.std.specs.Prelude.{◌≡◌, ◌≤◌, ℕ, suc, Bool, true, false, cond, List, [], ◌∷◌, ◌++◌, Some, None, map, length, slice_get}
+use Rattle.std.specs.Prelude.{◌≡◌, ◌≤◌, ℕ, suc, Bool, true, false, cond, List, [], ◌∷◌, ◌++◌, Option, Some, None, map, length, slice_get}
 use Rattle.avro_schema.specs.Distinct.{are_distinct}
 use Rattle.avro_schema.specs.Node.{Node}
-use Rattle.avro_compare.specs.Resolve.{Resolved, enum_as}
 use Rattle.avro_compare.specs.declared.error.FaultKind.{FaultKind}
-use Rattle.std.specs.Prelude.{Ok, Err}
 use Rattle.avro_certificate.specs.Closed.{same_pair, is_among, is_among_pairs}
 use Rattle.avro_certificate.specs.Evidence.{IsReached}
 use Rattle.avro_explain.specs.Places.{pair_of, pairs_of, ArePlaced, AreByBreadth, AreFollowed, IsFoundBy, round_of}
@@ -58,18 +56,14 @@ abbrev pub detail_for : FaultKind → Detail
 detail_for FaultKind.NoBranch = NoBranch
 detail_for _ = NoMatch
 
--- whether a reader's node has a symbol, or a default
-abbrev pub is_taken : Resolved → Bool
-is_taken (Ok v) = true
-is_taken (Err e) = false
+-- the symbols, from an index on, for which the reader has none
+abbrev pub untaken_one : ℕ → Option ℕ → List Detail
+untaken_one index None = NoSymbol index ∷ []
+untaken_one index (Some k) = []
 
--- the symbols, from an index on, that a reader's node does not take
-abbrev pub untaken_one : ℕ → List ℕ → Node → List Detail
-untaken_one index s q = cond (is_taken (enum_as s q)) [] (NoSymbol index ∷ [])
-
-abbrev pub untaken_from : ℕ → List (List ℕ) → Node → List Detail
-untaken_from index [] q = []
-untaken_from index (s ∷ ss) q = untaken_one index s q ++ untaken_from (suc index) ss q
+abbrev pub untaken_from : ℕ → List (Option ℕ) → List Detail
+untaken_from index [] = []
+untaken_from index (s ∷ ss) = untaken_one index s ++ untaken_from (suc index) ss
 
 -- the steps that a step is in the writer's schema, and in the reader's
 abbrev pub writer_steps : Step → List PathStep

@@ -12,6 +12,9 @@ use Rattle.indexmap.specs.IndexSet.{insert_key}
 use Rattle.avro_least.specs.Reached.{is_key, AreFollowed}
 use Rattle.avro_certificate.proofs.public.Tests.{and_left, and_right, or_cases, or_from_left, or_from_right}
 
+pub some_same : {A : Type 0} (a b : A) → Some a ≡ Some b → a ≡ b
+some_same a b e = cc
+
 -- a key among the first is among all
 pub key_kept : (ks rest : List ℕ) (q : ℕ) → is_key ks q ≡ true → is_key (ks ++ rest) q ≡ true
 key_kept ks rest q h = list_any-append (λ x. q == x) ks rest ∙ or_from_left (is_key ks q) (is_key rest q) h
@@ -45,10 +48,7 @@ added ks k = chosen (is_key ks k) refl
 -- what stands at an index is a key
 pub key_at : (ks : List ℕ) (i k : ℕ) → slice_get ks i ≡ Some k → is_key ks k ≡ true
 key_at [] i k h = absurd (grind arith)
-key_at (x ∷ xs) zero k h = or_from_left (k == x) (is_key xs k) (eq-eqb k x (some_same x k h))
-  where
-    some_same : (a b : ℕ) → Some a ≡ Some b → b ≡ a
-    some_same a b e = cc
+key_at (x ∷ xs) zero k h = or_from_left (k == x) (is_key xs k) (eq-eqb k x (sym (some_same x k h)))
 key_at (x ∷ xs) (suc i) k h = or_from_right (k == x) (is_key xs k) (key_at xs i k h)
 
 -- what all keys pass, a key passes
@@ -83,7 +83,7 @@ pub key_more : (ks : List ℕ) (k q : ℕ) → (is_key ks q || is_key (k ∷ [])
 key_more ks k q h = list_any-append (λ x. q == x) ks (k ∷ []) ∙ h
 
 -- what stands among the first stays there
-pub get_kept : (ks rest : List ℕ) (i : ℕ) → i < length ks → slice_get (ks ++ rest) i ≡ slice_get ks i
+pub get_kept : {A : Type 0} (ks rest : List A) (i : ℕ) → i < length ks → slice_get (ks ++ rest) i ≡ slice_get ks i
 get_kept [] rest i h = absurd (omega (arith, h))
 get_kept (k ∷ ks) rest zero h = refl
 get_kept (k ∷ ks) rest (suc i) h = get_kept ks rest i (omega (arith, h))
@@ -99,9 +99,6 @@ followed_more steps ks rest next key before here all i k found within = elim (ca
       let low : i < next = omega (arith, apart, ltb-true i (next + 1) within) in
       keys_kept ks rest (steps k) (before i k (sym (get_kept ks rest i (omega (arith, low, slice_get_within ks next key here))) ∙ found) (lt-ltb i next low))
 ]
-  where
-    some_same : (a b : ℕ) → Some a ≡ Some b → a ≡ b
-    some_same a b e = cc
 
 -- distinct keys below a bound are no more than it
 pub few_keys : (ks : List ℕ) (n : ℕ) → IsDistinct nat_eq ks → list_all (λ x. nat_lt x n) ks ≡ true → length ks ≤ n

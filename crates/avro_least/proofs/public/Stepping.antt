@@ -1,5 +1,5 @@
 -- The numbers of the pairs that a pair takes.
-use Rattle.std.proofs.Common.{◌≡◌, ℕ, zero, suc, ◌+◌, ◌*◌, ◌/◌, ◌%◌, ◌<◌, ◌≤◌, Bool, true, false, cond, List, [], ◌∷◌, ◌++◌, Some, inl, inr, length, refl, sym, ◌∙◌, ap, arith}
+use Rattle.std.proofs.Common.{◌≡◌, ℕ, suc, ◌+◌, ◌*◌, ◌/◌, ◌%◌, ◌<◌, ◌≤◌, Bool, true, false, cond, List, [], ◌∷◌, ◌++◌, Some, inl, inr, length, refl, sym, ◌∙◌, ap, arith}
 use Rattle.std.proofs.lemmas.Bool.{false≢true, and_from, ltb-true, lt-ltb, cases_eq}
 use Rattle.std.proofs.lemmas.List.{length-append}
 use Rattle.std.proofs.lemmas.Option.{slice_get_within}
@@ -12,8 +12,9 @@ use Rattle.avro_compare.specs.Children.{Pair}
 use Rattle.avro_least.specs.Tables.{LeastTable, pair_number}
 use Rattle.avro_least.specs.Asked.{Asked, asked_at, children_at, live_numbers, steps_at, AreAsked}
 use Rattle.avro_certificate.proofs.public.Tests.{and_left, and_right}
-use Rattle.avro_least.proofs.public.Keys.{get_kept}
+use Rattle.avro_least.proofs.public.Keys.{get_kept, some_same}
 use Rattle.avro_least.proofs.AskedWithin.{is_within, children_within, node_within}
+use Rattle.avro_compare.proofs.public.Lists.{get_last}
 
 pub some_nodes : (nodes : List Node) → is_schema nodes ≡ true → 1 ≤ length nodes
 some_nodes [] h = absurd (false≢true h)
@@ -67,28 +68,14 @@ module _ (writer reader : List Node) (table : LeastTable) where
   steps_below formed there k h = numbers_below (children_at writer reader k) (children_at_within formed there k h)
 
 -- one more pair is asked
-get_last : {A : Type 0} (xs : List A) (x : A) (i : ℕ) → i ≡ length xs → slice_get (xs ++ x ∷ []) i ≡ Some x
-get_last [] x zero e = refl
-get_last [] x (suc i) e = absurd (omega (arith, e))
-get_last (y ∷ ys) x zero e = absurd (omega (arith, e))
-get_last (y ∷ ys) x (suc i) e = get_last ys x i (omega (arith, e))
-
-get_first : {A : Type 0} (xs ys : List A) (i : ℕ) → i < length xs → slice_get (xs ++ ys) i ≡ slice_get xs i
-get_first [] ys i h = absurd (omega (arith, h))
-get_first (x ∷ xs) ys zero h = refl
-get_first (x ∷ xs) ys (suc i) h = get_first xs ys i (omega (arith, h))
-
 pub asked_more : (writer reader : List Node) (ks rest : List ℕ) (asks : List Asked) (key : ℕ) → AreAsked writer reader ks asks → slice_get ks (length asks) ≡ Some key
     → AreAsked writer reader (ks ++ rest) (asks ++ asked_at writer reader key ∷ [])
 asked_more writer reader ks rest asks key before here i k found within = elim (cases_eq i (length asks)) [
   | inl same ↦
       let it : Some k ≡ Some key = sym found ∙ get_kept ks rest i (omega (arith, same, slice_get_within ks (length asks) key here)) ∙ ap (slice_get ks) same ∙ here in
-      get_last asks (asked_at writer reader key) i same ∙ ap (λ x. Some (asked_at writer reader x)) (sym (some_same k key it))
+      ap (slice_get (asks ++ asked_at writer reader key ∷ [])) same ∙ get_last asks (asked_at writer reader key) ∙ ap (λ x. Some (asked_at writer reader x)) (sym (some_same k key it))
   | inr apart ↦
       let low : i < length asks = omega (arith, apart, ltb-true i (length (asks ++ asked_at writer reader key ∷ [])) within, length-append asks (asked_at writer reader key ∷ [])) in
-      get_first asks (asked_at writer reader key ∷ []) i low
+      get_kept asks (asked_at writer reader key ∷ []) i low
       ∙ before i k (sym (get_kept ks rest i (omega (arith, low, slice_get_within ks (length asks) key here))) ∙ found) (lt-ltb i (length asks) low)
 ]
-  where
-    some_same : (a b : ℕ) → Some a ≡ Some b → a ≡ b
-    some_same a b e = cc

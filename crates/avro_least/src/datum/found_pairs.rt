@@ -11,7 +11,7 @@ ghost use Rattle.avro_least.specs.SeenAsk.{ask_of};
 
 use crate::datum::made::{one_byte, symbol};
 use crate::datum::tables::Tables;
-use crate::pairs::asking::{Ask, ask_of_pair, node_or};
+use crate::pairs::asking::{Ask, ask_of_pair};
 use crate::pairs::reaching::{Reached, number};
 use avro_compare::{Comparison, Names, compare};
 use avro_schema::{Datum, Memory, Node, NodeId};
@@ -78,8 +78,7 @@ fn lone(alloc: Global, tables: &Tables, pair: &Comparison) -> Result<Datum, Memo
     requires { IsComparison (schema_nodes tables.now.writer.now) (schema_nodes tables.now.reader.now) pair.now }
     ensures { IfOk result (λ d. BuildsLone (schema_nodes tables.now.writer.now) (schema_nodes tables.now.reader.now) pair.now.w.0 pair.now.r.0 (value_of d)) }
 {
-    let null = Node::Null;
-    match node_or(tables.writer, pair.w, &null) {
+    match tables.writer.get(pair.w) {
         Node::Enum(_) => Ok(symbol(first_lacking(&pair.symbols))),
         _ => one_byte(alloc, 255),
     }

@@ -13,7 +13,6 @@ ghost use Rattle.avro_least.specs.inside.Built.{Builds, BuildsAt, BuildsRecord};
 
 use crate::kept::Least;
 use crate::nodes::least::{best_of, entry};
-use crate::pairs::asking::node_or;
 use avro_schema::{Datum, Field, Memory, Node, NodeId, Schema};
 use std::alloc::Global;
 
@@ -132,8 +131,7 @@ pub(crate) fn build(
     if left == 0 {
         return Ok(Datum::Null);
     }
-    let null = Node::Null;
-    match node_or(schema, id, &null) {
+    match schema.get(id) {
         Node::Union(ids) => {
             let value = build_branch(alloc, schema, table, ids, left - 1)?;
             Ok(value)

@@ -8,7 +8,6 @@ ghost use Rattle.avro_schema.specs.Value.{Value, entry, no_entries};
 ghost use Rattle.avro_least.specs.BuiltErrors.{part_value};
 
 use crate::datum::least::as_index;
-use crate::pairs::asking::node_or;
 use avro_schema::{Datum, Memory, Node, NodeId, Schema};
 use std::alloc::Global;
 
@@ -55,8 +54,7 @@ pub(crate) fn around_part(
 ) -> Result<Datum, Memory>
     ensures { IfOk result (λ d. value_of d ≡ part_value (node_at (schema_nodes writer.now) w.0) (value_of value)) }
 {
-    let null = Node::Null;
-    match node_or(writer, w, &null) {
+    match writer.get(w) {
         Node::Map(_) => one_entry(alloc, value),
         _ => one_item(alloc, value),
     }

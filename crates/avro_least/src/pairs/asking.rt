@@ -2,7 +2,7 @@
 
 ghost use Rattle.std.specs.Prelude.{◌≡◌, IfOk, is_none, is_some, cond, option_map};
 ghost use Rattle.std.specs.List.{list_any};
-ghost use Rattle.avro_schema.specs.Node.{Node as SeenNode, node_at, field_ids};
+ghost use Rattle.avro_schema.specs.Node.{node_at, field_ids};
 ghost use Rattle.avro_schema.specs.Seen.{node_of, seen_fields};
 ghost use Rattle.avro_schema.specs.SeenSchema.{schema_nodes};
 ghost use Rattle.avro_compare.specs.Planned.{AreInside, IsComparison};
@@ -39,18 +39,6 @@ pub enum Ask {
     Branches(Vec<NodeId>),
     /// One field that fails, beside the least data of the others.
     Fields(Vec<FieldAsk>),
-}
-
-/// The node of an id, or null if the schema has no such node.
-pub(crate) fn node_or<'a>(schema: &'a Schema, id: NodeId, null: &'a Node) -> &'a Node
-    requires { node_of null.now ≡ SeenNode.null }
-    ensures { node_of result.now ≡ node_at (schema_nodes schema.now) id.0 }
-{
-    if schema.has(id) {
-        schema.node(id)
-    } else {
-        null
-    }
 }
 
 /// The node of the reader's field that the part at an index is for, if there is one.
@@ -154,9 +142,8 @@ pub(crate) fn ask_of_pair(
     requires { IsComparison (schema_nodes writer.now) (schema_nodes reader.now) pair.now }
     ensures { IfOk result (λ a. ask_of a ≡ asked (schema_nodes writer.now) (schema_nodes reader.now) (node_at (schema_nodes writer.now) pair.now.w.0) (node_at (schema_nodes reader.now) pair.now.r.0)) }
 {
-    let null = Node::Null;
-    let from = node_or(writer, pair.w, &null);
-    let to = node_or(reader, pair.r, &null);
+    let from = writer.get(pair.w);
+    let to = reader.get(pair.r);
     ask_nodes(alloc, writer, reader, from, to, pair)
 }
 

@@ -3,8 +3,8 @@ use Rattle.avro_schema.specs.Seen.{node_of}
 use Rattle.avro_schema.specs.SeenSchema.{schema_nodes}
 use Rattle.avro_compare.specs.declared.guided.Aim.TheVariants.{To, Fault}
 use Rattle.avro_explain.specs.declared.found.Detail.{Detail}
-use Rattle.avro_explain.proofs.DetailsLed.{details_fault, details_choice, details_plain, aim_here}
-use Rattle.avro_compare.proofs.public.Aims.{plain_kept}
+use Rattle.avro_explain.proofs.DetailsLed.{details_fault, details_choice, details_plain}
+use Rattle.avro_compare.proofs.public.Aims.{aims_of, inside_of, plain_kept}
 use Rattle.avro_explain.proofs.failing.details_of_nodes.Goals as goal
 
 pub returns-in-Fault : goal.returns-in-Fault
@@ -13,9 +13,10 @@ returns-in-Fault c =
     let reader = schema_nodes c.args.names.now.1 in
     let n = node_of c.args.n.now in
     let q = node_of c.args.q.now in
-    let aims = aim_here writer reader c.args.w c.args.r n q c.aim.result c.requires.from c.requires.to c.aim.ensures.aims in
-    let own : c.aim.result ≡ Fault c.in-Fault.kind = search rules in
-    let is = sym (details_fault writer reader n c.args.r q c.in-Fault.kind (plain_kept c.args.n.now c.in_default.not-Union) (sym aims ∙ own)
+    let pair = c.args.pair.now in
+    let aims = aims_of writer reader pair n q c.requires.pair c.requires.from c.requires.to in
+    let own : pair.aim ≡ Fault c.in-Fault.kind = search rules in
+    let is = sym (details_fault writer reader n pair.r q c.in-Fault.kind (plain_kept c.args.n.now c.in_default.not-Union) (sym aims ∙ own)
     ∙ ap (λ (d : Detail). d ∷ []) (sym c.detail_of.ensures)) in
     subst (λ (ds : List Detail). IfOk c.one_detail.result (λ found. found.items ≡ ds)) is c.one_detail.ensures
 
@@ -26,10 +27,11 @@ returns-in-To-Some-default c =
     let n = node_of c.args.n.now in
     let q = node_of c.args.q.now in
     let here = c.in-To-Some-default in
-    let aims = aim_here writer reader c.args.w c.args.r n q c.aim.result c.requires.from c.requires.to c.aim.ensures.aims in
-    let own : c.aim.result ≡ To (Some here.field-0-0) here.field-1 = search rules in
+    let pair = c.args.pair.now in
+    let aims = aims_of writer reader pair n q c.requires.pair c.requires.from c.requires.to in
+    let own : pair.aim ≡ To (Some here.field-0-0) here.field-1 = search rules in
     c.new-in-To-Some-default.ensures.items
-    ∙ sym (details_choice writer reader n c.args.r q here.field-0-0 here.field-1 (plain_kept c.args.n.now c.in_default.not-Union) (sym aims ∙ own))
+    ∙ sym (details_choice writer reader n pair.r q here.field-0-0 here.field-1 (plain_kept c.args.n.now c.in_default.not-Union) (sym aims ∙ own))
 
 pub returns-in-To-None-default : goal.returns-in-To-None-default
 returns-in-To-None-default c =
@@ -38,7 +40,14 @@ returns-in-To-None-default c =
     let n = node_of c.args.n.now in
     let q = node_of c.args.q.now in
     let here = c.in-To-None-default in
-    let aims = aim_here writer reader c.args.w c.args.r n q c.aim.result c.requires.from c.requires.to c.aim.ensures.aims in
-    let own : c.aim.result ≡ To None here.field-1 = search rules in
-    let is = sym (details_plain writer reader n c.args.r q here.field-1 (plain_kept c.args.n.now c.in_default.not-Union) (sym aims ∙ own)) in
+    let pair = c.args.pair.now in
+    let aims = aims_of writer reader pair n q c.requires.pair c.requires.from c.requires.to in
+    let own : pair.aim ≡ To None here.field-1 = search rules in
+    let is = sym (details_plain writer reader n pair.r q here.field-1 (plain_kept c.args.n.now c.in_default.not-Union) (sym aims ∙ own)) in
     subst (λ (ds : List Detail). IfOk c.details_inside.result (λ found. found.items ≡ ds)) is c.details_inside.ensures
+
+pub details_inside-requires : goal.details_inside-requires
+details_inside-requires c =
+    let here = c.in-To-None-default in
+    let own : c.args.pair.now.aim ≡ To None here.field-1 = search rules in
+    inside_of (schema_nodes c.args.names.now.0) (schema_nodes c.args.names.now.1) c.args.pair.now (node_of c.args.n.now) (node_of c.args.q.now) c.requires.pair c.requires.from c.requires.to here.field-1 own

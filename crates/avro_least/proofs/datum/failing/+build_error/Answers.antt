@@ -1,5 +1,5 @@
 use Rattle.std.proofs.Common.{◌≡◌, ℕ, zero, suc, ◌+◌, ◌-◌, ◌<◌, ◌≤◌, false, List, [], ◌∷◌, ◌++◌, Some, take, length, get_or, refl, sym, ◌∙◌, ap, subst, arith}
-use Rattle.std.proofs.lemmas.List.{take_more, map-append, length-map}
+use Rattle.std.proofs.lemmas.List.{take_more, map-append, length-map, take_all}
 use Rattle.std.specs.Prelude.{map, ◌==◌}
 use Rattle.avro_schema.specs.Value.{Value}
 use Rattle.avro_schema.specs.Seen.{ids_of, value_of}
@@ -104,17 +104,11 @@ pub build_rows-loop-i-preserved : goal.build_rows-loop-i-preserved
 build_rows-loop-i-preserved t c = more_rows (schema_nodes c.args.tables.now.writer.now) (schema_nodes c.args.tables.now.reader.now) c.args.tables.now.limit (least_in c.args.tables.now) (erring_in c.args.tables.now) c.args.left c.in_ok-k.k c.loop-i.i c.args.rows.now _ c.loop-i.values.items _ c.in_ok-value.value
     c.loop-i-test.true c.loop-i.invariant c.in_ok-value.ensures c.in_ok-push.ensures.items
 
-all_taken : (i : ℕ) (rs : List FieldAsk) → length rs ≤ i → take i rs ≡ rs
-all_taken zero [] h = refl
-all_taken (suc i) [] h = refl
-all_taken zero (r ∷ rs) h = absurd (omega (arith, h))
-all_taken (suc i) (r ∷ rs) h = ap (λ xs. r ∷ xs) (all_taken i rs (omega (arith, h)))
-
 pub build_rows-returns : goal.build_rows-returns
 build_rows-returns t c w r more few =
     subst (λ (v : Value). BuildsAsked (schema_nodes c.args.tables.now.writer.now) (schema_nodes c.args.tables.now.reader.now) c.args.tables.now.limit (least_in c.args.tables.now) (erring_in c.args.tables.now) more w r (Asked.fields (rows_of c.args.rows.now)) v) (sym c.make_record.ensures)
     (fields_builds (schema_nodes c.args.tables.now.writer.now) (schema_nodes c.args.tables.now.reader.now) c.args.tables.now.limit (least_in c.args.tables.now) (erring_in c.args.tables.now) more c.args.left w r (rows_of c.args.rows.now) c.in_ok-k.k (map value_of c.loop-i.values.items) (omega (arith, few))
     (subst (λ (rs : List FieldAsk). BuildsRows (schema_nodes c.args.tables.now.writer.now) (schema_nodes c.args.tables.now.reader.now) c.args.tables.now.limit (least_in c.args.tables.now) (erring_in c.args.tables.now) c.args.left c.in_ok-k.k 0 (rows_of rs) (map value_of c.loop-i.values.items))
-    (all_taken c.loop-i.i c.args.rows.now (omega (arith, c.loop-i-test.false))) c.loop-i.invariant)
+    (take_all c.loop-i.i c.args.rows.now (omega (arith, c.loop-i-test.false))) c.loop-i.invariant)
     (λ j within same. let count = length-map c.args.rows.now row_of in
     let found = c.in_ok-k.ensures j (omega (arith, within, count)) same in (omega (arith, found.0, count), found.1)))

@@ -18,7 +18,7 @@ returns-in-Enum c =
     let pair = c.args.pair.now in
     let q = node_at reader pair.r.0 in
     let own = c.in-Enum.field-0 in
-    let here : node_of (KeptNode.Enum own) ≡ node_at writer pair.w.0 = ap node_of (sym c.in-Enum.is) ∙ c.node_or.ensures in
+    let here : node_of (KeptNode.Enum own) ≡ node_at writer pair.w.0 = ap node_of (sym c.in-Enum.is) ∙ c.get.ensures.node in
     let same : c.first_lacking.result ≡ first_from is_none 0 pair.symbols.items = c.first_lacking.ensures ∙ ap (first_from is_none 0) c.deref.ensures.value in
     subst (λ (n : Node). Asked.lone ≡ asked writer reader n q → IsLone n q (value_of c.symbol.result)) here
     (λ e. lone_symbol writer reader own q pair (aims_of writer reader pair (node_of (KeptNode.Enum own)) q c.requires here refl)

@@ -1,5 +1,5 @@
-use Rattle.std.proofs.Common.{◌≡◌, ℕ, zero, suc, ◌+◌, ◌-◌, ◌<◌, ◌≤◌, List, [], ◌∷◌, ◌++◌, take, length, get_or, refl, sym, ◌∙◌, ap, subst, arith}
-use Rattle.std.proofs.lemmas.List.{take_more, map-append}
+use Rattle.std.proofs.Common.{◌≡◌, ℕ, ◌+◌, ◌-◌, ◌<◌, List, [], ◌∷◌, ◌++◌, take, length, get_or, sym, ◌∙◌, ap, subst, arith}
+use Rattle.std.proofs.lemmas.List.{take_more, map-append, take_all}
 use Rattle.std.specs.Prelude.{map}
 use Rattle.avro_schema.specs.Value.{Value}
 use Rattle.avro_schema.specs.Seen.{node_of, ids_of, seen_fields, field_of, value_of}
@@ -17,23 +17,23 @@ use Rattle.avro_least.proofs.datum.least.+build.Goals as goal
 pub build-returns-then-left-eq0 : goal.build-returns-then-left-eq0
 build-returns-then-left-eq0 t c = none_builds (schema_nodes c.args.schema.now) (table_of c.args.table.now) c.args.left c.args.id.0 (value_of Datum.Null) c.if-left-eq0.true
 
-pub build-returns-in-Union : goal.build-returns-in-Union
-build-returns-in-Union t c = λ limit formed low shown within few.
+pub build-returns-in_ok-value-in-Union : goal.build-returns-in_ok-value-in-Union
+build-returns-in_ok-value-in-Union t c = λ limit formed low shown within few.
     c.in_ok-value-in-Union.ensures limit c.args.id.0 formed low shown within
-    (sym c.node_or.ensures ∙ ap node_of c.in-Union.is ∙ ap (λ (xs : List NodeId). SeenNode.union (ids_of xs)) (sym c.deref.ensures.value))
+    (sym c.get.ensures.node ∙ ap node_of c.in-Union.is ∙ ap (λ (xs : List NodeId). SeenNode.union (ids_of xs)) (sym c.deref.ensures.value))
     (omega (arith, few, c.if-left-eq0.false))
 
-pub build-returns-in-Record : goal.build-returns-in-Record
-build-returns-in-Record t c = λ limit formed low shown within few.
+pub build-returns-in_ok-value-in-Record : goal.build-returns-in_ok-value-in-Record
+build-returns-in_ok-value-in-Record t c = λ limit formed low shown within few.
     c.in_ok-value-in-Record.ensures c.in-Record.record.name c.in-Record.record.aliases.items limit c.args.id.0 formed low shown within
-    (sym c.node_or.ensures ∙ ap node_of c.in-Record.is ∙ ap (λ (xs : List Field). SeenNode.record_of c.in-Record.record.name c.in-Record.record.aliases.items (seen_fields xs)) (sym c.deref-in-Record.ensures.value))
+    (sym c.get.ensures.node ∙ ap node_of c.in-Record.is ∙ ap (λ (xs : List Field). SeenNode.record_of c.in-Record.record.name c.in-Record.record.aliases.items (seen_fields xs)) (sym c.deref-in-Record.ensures.value))
     (omega (arith, few, c.if-left-eq0.false))
 
-pub build-returns : goal.build-returns
-build-returns t c = λ limit formed low shown within few.
-    let plain = plain_kept c.node_or.result.now c.in_default.not-Union c.in_default.not-Record in
-    leaf_builds (schema_nodes c.args.schema.now) (table_of c.args.table.now) (c.args.left - 1) (node_of c.node_or.result.now) (value_of c.in_ok-value-in_default.value)
-    plain.0 plain.1 c.in_ok-value-in_default.ensures limit c.args.id.0 formed low shown within (sym c.node_or.ensures) (omega (arith, few, c.if-left-eq0.false))
+pub build-returns-in_ok-value-in_default : goal.build-returns-in_ok-value-in_default
+build-returns-in_ok-value-in_default t c = λ limit formed low shown within few.
+    let plain = plain_kept c.get.result.now c.in_default.not-Union c.in_default.not-Record in
+    leaf_builds (schema_nodes c.args.schema.now) (table_of c.args.table.now) (c.args.left - 1) (node_of c.get.result.now) (value_of c.in_ok-value-in_default.value)
+    plain.0 plain.1 c.in_ok-value-in_default.ensures limit c.args.id.0 formed low shown within (sym c.get.ensures.node) (omega (arith, few, c.if-left-eq0.false))
 
 pub build_branch-returns : goal.build_branch-returns
 build_branch-returns t c =
@@ -58,15 +58,9 @@ pub build_record-loop-i-preserved : goal.build_record-loop-i-preserved
 build_record-loop-i-preserved t c = more_built (schema_nodes c.args.schema.now) (table_of c.args.table.now) c.args.left c.loop-i.i c.args.fields.now _ c.loop-i.values.items _ c.in_ok-value.value
     c.loop-i-test.true c.loop-i.invariant c.in_ok-value.ensures c.in_ok-push.ensures.items
 
-all_taken : (i : ℕ) (fs : List Field) → length fs ≤ i → take i fs ≡ fs
-all_taken zero [] h = refl
-all_taken (suc i) [] h = refl
-all_taken zero (f ∷ fs) h = absurd (omega (arith, h))
-all_taken (suc i) (f ∷ fs) h = ap (λ gs. f ∷ gs) (all_taken i fs (omega (arith, h)))
-
 pub build_record-returns : goal.build_record-returns
 build_record-returns t c =
     subst (λ (v : Value). BuildsRecord (schema_nodes c.args.schema.now) (table_of c.args.table.now) c.args.left (seen_fields c.args.fields.now) v) (sym c.make_record.ensures)
     (record_builds (schema_nodes c.args.schema.now) (table_of c.args.table.now) c.args.left (seen_fields c.args.fields.now) (map value_of c.loop-i.values.items)
     (subst (λ (fs : List Field). BuildsAll (schema_nodes c.args.schema.now) (table_of c.args.table.now) c.args.left (field_ids (seen_fields fs)) (map value_of c.loop-i.values.items))
-    (all_taken c.loop-i.i c.args.fields.now (omega (arith, c.loop-i-test.false))) c.loop-i.invariant))
+    (take_all c.loop-i.i c.args.fields.now (omega (arith, c.loop-i-test.false))) c.loop-i.invariant))

@@ -1,19 +1,13 @@
-use Rattle.std.proofs.Common.{◌≡◌, ℕ, ◌<◌, List, Some, length, get_or, inl, inr, sym, ◌∙◌, ap, subst, arith}
+use Rattle.std.proofs.Common.{◌≡◌, ℕ, Some, inl, inr, sym, ◌∙◌, ap, subst, arith}
 use Rattle.std.proofs.lemmas.Bool.{true≢false, cases_eq}
 use Rattle.std.proofs.lemmas.List.{length-map}
-use Rattle.std.proofs.lemmas.Option.{slice_get-map, slice_get-get_or, slice_get_within}
-use Rattle.std.specs.Prelude.{slice_get, option_map}
+use Rattle.std.proofs.lemmas.Option.{slice_get_within}
+use Rattle.std.specs.Prelude.{slice_get}
 use Rattle.avro_schema.specs.Seen.{ids_of}
-use Rattle.avro_schema.specs.declared.schema.NodeId.{NodeId}
 use Rattle.avro_least.specs.SeenLeast.{table_of}
 use Rattle.avro_least.proofs.ShownData.{best_is}
 use Rattle.avro_least.proofs.datum.least.best_index.Goals as goal
-
-id_here : (ids : List NodeId) (i p : ℕ) (d : NodeId) → i < length ids → slice_get (ids_of ids) i ≡ Some p → (get_or ids i d).0 ≡ p
-id_here ids i p d within got = some_same (get_or ids i d).0 p (sym (slice_get-map (λ id. id.0) ids i ∙ ap (option_map (λ id. id.0)) (slice_get-get_or ids i d within)) ∙ got)
-  where
-    some_same : (a b : ℕ) → Some a ≡ Some b → a ≡ b
-    some_same a b e = cc
+use Rattle.avro_least.proofs.Choosing.{id_here}
 
 pub loop-i-preserved : goal.loop-i-preserved
 loop-i-preserved c j p below got same = elim (cases_eq j c.loop-i.i) [

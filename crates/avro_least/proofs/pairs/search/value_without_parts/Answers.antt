@@ -8,6 +8,7 @@ use Rattle.avro_least.specs.SeenLeast.{table_of}
 use Rattle.avro_least.specs.inside.Parts.{value_alone}
 use Rattle.avro_least.proofs.PairSteps.{below_at, own_ask}
 use Rattle.avro_least.proofs.pairs.search.value_without_parts.Goals as goal
+use Rattle.avro_least.proofs.public.Keys.{some_same}
 
 pub writers-w-requires : goal.writers-w-requires
 writers-w-requires c = below_at (length (schema_nodes c.args.graph.now.writer.now) * length (schema_nodes c.args.graph.now.reader.now)) (keys c.args.graph.now.reached.now.known) c.args.i c.in-Some.key.now
@@ -20,12 +21,9 @@ returns-in-Some c = record {
       let qs : List Node = schema_nodes c.args.graph.now.reader.now in
       let ks : List ℕ = keys c.args.graph.now.reached.now.known in
       let there : slice_get ks c.args.i ≡ Some c.in-Some.key.now = sym c.in-Some.ensures.key in
-      let it : c.in-Some.key.now ≡ key = number_same c.in-Some.key.now key (sym there ∙ here) in
+      let it : c.in-Some.key.now ≡ key = some_same c.in-Some.key.now key (sym there ∙ here) in
       c.value_alone.ensures
       ∙ ap₂ (value_alone (table_of c.args.graph.now.table.now)) c.writers-w.ensures.is
       (own_ask ns qs ks c.args.graph.now.reached.now.asks.items c.ask_at_index.result.now c.args.i c.in-Some.key.now c.requires.asked there c.ask_at_index.ensures)
       ∙ ap (λ (n : ℕ). value_alone (table_of c.args.graph.now.table.now) (n / length qs) (asked_at ns qs n)) it;
 }
-  where
-    number_same : (a b : ℕ) → Some a ≡ Some b → a ≡ b
-    number_same a b e = cc

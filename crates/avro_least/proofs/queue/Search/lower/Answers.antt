@@ -1,5 +1,5 @@
-use Rattle.std.proofs.Common.{◌≡◌, ◌||◌, ◌⊎◌, Bool, true, false, List, Option, inl, inr, Some, arith, refl, sym, ◌∙◌, ap}
-use Rattle.std.proofs.lemmas.Bool.{false≢true, eq-eqb}
+use Rattle.std.proofs.Common.{◌≡◌, true, List, Option, inl, inr, Some, arith, sym, ◌∙◌, ap}
+use Rattle.std.proofs.lemmas.Bool.{eq-eqb}
 use Rattle.std.proofs.lemmas.List.{length-set}
 use Rattle.std.specs.Prelude.{slice_get, ◌==◌}
 use Rattle.std.specs.BinaryHeap.{heap_items}
@@ -7,19 +7,15 @@ use Rattle.avro_least.specs.SeenLeast.{seen, given_entry, improves}
 use Rattle.avro_least.specs.declared.kept.Least.{Least as KeptLeast}
 use Rattle.avro_least.proofs.Searching.{mark_was, queued_more, set_weighs_less}
 use Rattle.avro_least.proofs.queue.Search.lower.Goals as goal
-
-or_either : (a b : Bool) → (a ≡ true) ⊎ (b ≡ true) → (a || b) ≡ true
-or_either true b h = refl
-or_either false b (inl h) = absurd (false≢true h)
-or_either false b (inr h) = h
+use Rattle.avro_certificate.proofs.public.Tests.{or_from_left, or_from_right}
 
 pub returns-in_ok-push-clause-search : goal.returns-in_ok-push-clause-search
 returns-in_ok-push-clause-search c = record {
   one_each = length-set c.args.self.now.waiting.items c.args.i true ∙ c.requires.search.one_each ∙ sym (length-set c.args.self.now.entries.items c.args.i (Some c.in-Some.entry));
   queued = λ k m. queued_more (λ q. k == q.0.index) _ (heap_items c.args.self.now.queue) (heap_items c.push.new.self) c.in_ok-push.ensures.permutation
       (elim (mark_was c.args.self.now.waiting.items c.args.i k m) [
-        | inl here ↦ or_either (k == c.args.i) _ (inl (eq-eqb k c.args.i here))
-        | inr before ↦ or_either (k == c.args.i) _ (inr (c.requires.search.queued k before))
+        | inl here ↦ or_from_left (k == c.args.i) _ (eq-eqb k c.args.i here)
+        | inr before ↦ or_from_right (k == c.args.i) _ (c.requires.search.queued k before)
       ]);
 }
 
