@@ -13,3 +13,4 @@ pub mod ArrayItems
 pub mod MapEntries
 pub mod RecordSlots
 pub mod OnePass
+pub mod Knowing

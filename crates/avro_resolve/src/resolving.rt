@@ -11,7 +11,7 @@ use crate::put::Put;
 use crate::resolving::failing::{fault_apart, step_apart};
 use crate::resolving::guided::{Filling, Made, Part, Run};
 use crate::resolving::making::{make_bytes, make_int, make_string, make_symbol};
-use crate::resolving::recording::{fill_next, make_record, start_filling};
+use crate::resolving::recording::{fill_next, make_record, next_field_part, start_filling};
 use crate::resolving::running::{
     make_array, make_map, next_part, put_entry, put_item, repeat_item, start_entries, start_items,
 };
@@ -45,7 +45,7 @@ impl<'p, 'a, 'b, P: Put> Make for Resolving<'p, 'a, 'b, P> {
     ghost use Rattle.avro_schema.specs.Node.{Node, FieldNode};
     ghost use Rattle.avro_schema.specs.SeenSchema.{schema_nodes};
     ghost use Rattle.avro_schema.specs.Value.{Value};
-    ghost use Rattle.avro_resolve.specs.inside.Guided.{AreKept, StandsAs, ItemsStandAs, EntriesStandAs, FillsAs, branch_part, part_below, next_at};
+    ghost use Rattle.avro_resolve.specs.inside.Guided.{AreKept, StandsAs, ItemsStandAs, EntriesStandAs, FillsAs, branch_part, field_part, part_below, next_at};
     ghost use Rattle.avro_resolve.specs.inside.Later.{items_later, entries_later, fills_later};
 
     type At = Part;
@@ -74,7 +74,7 @@ impl<'p, 'a, 'b, P: Put> Make for Resolving<'p, 'a, 'b, P> {
 
     ghost entry_at = { λ m entries. part_below (next_at entries.0) entries.1 };
 
-    ghost field_at = { λ m fields. fields.next };
+    ghost field_at = { λ m fields. field_part (schema_nodes m.plan.now.0) (schema_nodes m.plan.now.1) fields };
 
     ghost keeps_itself = { λ s. ((P.keeps_itself s.builder.now, refl), refl) };
 
@@ -96,7 +96,7 @@ impl<'p, 'a, 'b, P: Put> Make for Resolving<'p, 'a, 'b, P> {
 
     ghost entry_at_kept = { λ s t entries kept. refl };
 
-    ghost field_at_kept = { λ s t fields kept. refl };
+    ghost field_at_kept = { λ s t fields kept. ap (λ (g : List Node × List Node). field_part g.0 g.1 fields) kept.1 };
 
     #[inline(always)]
     fn null(&mut self, alloc: Global, at: Part) -> Result<Made<P::Out>, AllocError> {
@@ -308,7 +308,7 @@ impl<'p, 'a, 'b, P: Put> Make for Resolving<'p, 'a, 'b, P> {
     }
 
     fn field_at(&self, fields: &Filling<'a, P::Out, P::Fields>) -> Part {
-        fields.next
+        next_field_part(self.plan, fields.known, fields.parts, &fields.slots)
     }
 
     fn field(

@@ -1,5 +1,5 @@
 -- What reading with resolution makes of a writer's datum, part by part.
-use Rattle.std.specs.Prelude.{◌≡◌, ◌<◌, ◌^◌, ℕ, ◌++◌, List, [], Option, Some, None, length, Result, Ok, Err}
+use Rattle.std.specs.Prelude.{◌≡◌, ◌<◌, ◌^◌, ℕ, ◌++◌, List, [], Option, Some, None, length, slice_get, Result, Ok, Err}
 use Rattle.avro_schema.specs.Value.{Value, size, values_size, entries_size}
 use Rattle.avro_schema.specs.Node.{Node, FieldNode, node_at}
 use Rattle.avro_schema.specs.Seen.{values_from, entries_from}
@@ -162,10 +162,25 @@ KnowsFields writer reader (Slots.Good slots start branch a b) known = AreFor (fi
 KnowsFields writer reader (Slots.Faulty fault) known = Unit {0}
 KnowsFields writer reader Slots.Nothing known = Unit {0}
 
--- fields that were made so far, with what the next is for
+-- what is kept, and else what follows
+abbrev pub kept_or : {A : Type 0} → Option A → A → A
+kept_or (Some kept) other = kept
+kept_or None other = other
+
+-- what the next field is for, by what is known of the first fields
+abbrev pub part_next : {O F : Type 0} → List Node → List Node → List At → List ℕ → Slots O F → Part
+part_next writer reader known parts (Slots.Good slots start branch a b) =
+    part_below (kept_or (slice_get known (length slots.items)) (next_field writer reader (Slots.Good slots start branch a b))) (kept_or (slice_get parts (length slots.items)) 0)
+part_next writer reader known parts (Slots.Faulty fault) = part_below Ignored 0
+part_next writer reader known parts Slots.Nothing = part_below Ignored 0
+
+abbrev pub field_part : {O F : Type 0} → List Node → List Node → Filling O F → Part
+field_part writer reader fields = part_next writer reader fields.known.now fields.parts.now fields.slots
+
+-- fields that were made so far, with what is known of the next
 abbrev pub FillsAs : {O F : Type 0} → (O → Value → Type 0) → (Option ℕ → F → List Value → Type 0) → List Node → List Node → List Node → List FieldNode → At → Filling O F → List Value → Type 0
 FillsAs S T writer reader nodes fs at fields vs =
-    FieldsStandAs S T writer reader nodes fs at fields.slots vs × (fields.next.at ≡ next_field writer reader fields.slots) × KnowsFields writer reader fields.slots fields.known.now
+    FieldsStandAs S T writer reader nodes fs at fields.slots vs × KnowsFields writer reader fields.slots fields.known.now
 
 -- what was made is kept, and the two schemas are the same
 abbrev pub AreKept : Type 0 → List Node → List Node → List Node → List Node → Type 0

@@ -85,4 +85,4 @@ module _ {O F : Type 0} (S T : O → Value → Type 0) (law : Implies S T) (U V 
   fields_later (Pair w r) Slots.Nothing vs h = h
 
   pub fills_later : (at : At) (fields : Filling O F) (vs : List Value) → FillsAs S U writer reader nodes fs at fields vs → FillsAs T V writer reader nodes fs at fields vs
-  fills_later at fields vs h = (fields_later at fields.slots vs h.0, h.1, h.2)
+  fills_later at fields vs h = (fields_later at fields.slots vs h.0, h.1)

@@ -1,10 +1,11 @@
-ghost use Rattle.std.specs.Prelude.{◌≡◌, List, IfSome};
+ghost use Rattle.std.specs.Prelude.{◌≡◌, List, IfSome, slice_get};
 ghost use Rattle.avro_schema.specs.Node.{Node, node_at};
 ghost use Rattle.avro_schema.specs.SeenSchema.{schema_nodes};
 ghost use Rattle.avro_compare.specs.Pairs.{IsAim, IsSymbol, field_for};
 ghost use Rattle.avro_compare.specs.Planned.{AreInside, AreComparisons, AreFor, AreSources, IsComparison};
 ghost use Rattle.avro_compare.specs.Resolve.{enum_as, fields_at, symbol_at};
 ghost use Rattle.avro_compare.specs.Source.{missing_field};
+ghost use Rattle.avro_resolve.specs.inside.Guided.{kept_or};
 
 use avro_compare::{Aim, At, Comparison, aim, fields_of, missing, part_for, symbol_for};
 use avro_schema::{NodeId, Schema};
@@ -63,6 +64,7 @@ pub(crate) fn aim_kept(
 }
 
 /// The reader's first field without a source and a default, as it is kept at an index or else by name.
+#[inline(always)]
 pub(crate) fn missing_kept(
     pairs: &[Comparison],
     index: u32,
@@ -109,8 +111,7 @@ pub(crate) fn field_kept(
     q: NodeId,
     field: usize,
 ) -> At
-    ensures { AreFor (fields_at (node_at (schema_nodes writer.now) w.0)) (fields_at (node_at (schema_nodes reader.now) q.0)) known.now
-        → result ≡ field_for (fields_at (node_at (schema_nodes writer.now) w.0)) (fields_at (node_at (schema_nodes reader.now) q.0)) field }
+    ensures { result ≡ kept_or (slice_get known.now field) (field_for (fields_at (node_at (schema_nodes writer.now) w.0)) (fields_at (node_at (schema_nodes reader.now) q.0)) field) }
 {
     if field < known.len() {
         return known[field];
@@ -119,6 +120,7 @@ pub(crate) fn field_kept(
 }
 
 /// The sources of the reader's fields, as far as they are kept at an index.
+#[inline(always)]
 pub(crate) fn sources_kept<'p>(
     pairs: &'p [Comparison],
     index: u32,

@@ -1,3 +1,6 @@
+ghost use Rattle.std.specs.Prelude.{◌≡◌, slice_get};
+ghost use Rattle.avro_resolve.specs.inside.Guided.{kept_or};
+
 use crate::error::ReadResolveError;
 use crate::plan::keeping::{
     aim_kept, field_kept, fields_kept, missing_kept, sources_kept, symbol_kept,
@@ -39,10 +42,10 @@ impl<'a> Model for PlanRef<'a> {
 }
 
 impl<'a> PlanRef<'a> {
-    ghost use Rattle.std.specs.Prelude.{◌≡◌, IfOk};
+    ghost use Rattle.std.specs.Prelude.{◌≡◌, IfOk, slice_get};
     ghost use Rattle.avro_schema.specs.Node.{node_at};
     ghost use Rattle.avro_schema.specs.SeenSchema.{schema_nodes};
-    ghost use Rattle.avro_resolve.specs.inside.Guided.{branch_part};
+    ghost use Rattle.avro_resolve.specs.inside.Guided.{branch_part, kept_or};
     ghost use Rattle.avro_compare.specs.Pairs.{IsAim, IsSymbol, field_for, item_id, value_id, branch_id};
     ghost use Rattle.avro_compare.specs.Planned.{AreComparisons, AreFor, AreSources};
     ghost use Rattle.avro_resolve.specs.Reading.{BuildsResolved};
@@ -225,8 +228,7 @@ impl<'a> PlanRef<'a> {
     /// What the writer's field at an index is for, by what is known of the first fields.
     #[inline(always)]
     pub(crate) fn field(&self, known: &[At], w: NodeId, q: NodeId, field: usize) -> At
-        ensures { AreFor (fields_at (node_at (schema_nodes self.now.0) w.0)) (fields_at (node_at (schema_nodes self.now.1) q.0)) known.now
-            → result ≡ field_for (fields_at (node_at (schema_nodes self.now.0) w.0)) (fields_at (node_at (schema_nodes self.now.1) q.0)) field }
+        ensures { result ≡ kept_or (slice_get known.now field) (field_for (fields_at (node_at (schema_nodes self.now.0) w.0)) (fields_at (node_at (schema_nodes self.now.1) q.0)) field) }
     {
         field_kept(known, self.writer, w, self.reader, q, field)
     }
@@ -250,7 +252,9 @@ impl<'a> PlanRef<'a> {
 
 /// The index at which the pair of a part is kept, and 0 where it is not known.
 #[inline(always)]
-pub(crate) fn index_at(parts: &[u32], part: usize) -> u32 {
+pub(crate) fn index_at(parts: &[u32], part: usize) -> u32
+    ensures { result ≡ kept_or (slice_get parts.now part) 0 }
+{
     match parts.get(part) {
         Some(below) => *below,
         None => 0,

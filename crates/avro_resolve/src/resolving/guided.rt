@@ -47,7 +47,7 @@ pub enum Slots<O, F> {
     Nothing,
 }
 
-/// What was made of the fields of a record so far, and what the next is for.
+/// What was made of the fields of a record so far, and what is known of the others.
 #[derive(Drop)]
 pub struct Filling<'a, O, F> {
     /// What was made.
@@ -58,6 +58,4 @@ pub struct Filling<'a, O, F> {
     pub known: &'a [At],
     /// Where the plan may keep the pairs of these fields.
     pub parts: &'a [u32],
-    /// What the next field is for.
-    pub next: Part,
 }

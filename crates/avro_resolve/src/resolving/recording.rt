@@ -4,7 +4,7 @@ ghost use Rattle.avro_schema.specs.Node.{FieldNode, Node, field_ids, node_at};
 ghost use Rattle.avro_schema.specs.Seen.{values_from};
 ghost use Rattle.avro_schema.specs.SeenSchema.{schema_nodes};
 ghost use Rattle.avro_schema.specs.Value.{Value};
-ghost use Rattle.avro_resolve.specs.inside.Guided.{FieldsStandAs, FillsAs, KnowsFields, StandsAs, next_field};
+ghost use Rattle.avro_resolve.specs.inside.Guided.{FieldsStandAs, FillsAs, KnowsFields, StandsAs, field_part, next_field, part_below, part_next};
 
 use crate::plan::plan_ref::{PlanRef, index_at};
 use crate::put::Put;
@@ -14,7 +14,7 @@ use crate::resolving::guided::{Filling, Made, Part, Slots};
 use avro_compare::{Aim, At, FaultKind, fields_of};
 use std::alloc::{AllocError, Global};
 
-/// What was made of no fields, and what the first is for.
+/// What was made of no fields, and what is known of the first.
 pub(crate) fn start_filling<'a, P: Put>(
     alloc: Global,
     builder: &mut P,
@@ -29,13 +29,11 @@ pub(crate) fn start_filling<'a, P: Put>(
     let index = index_of_records(plan, start, &slots);
     let known = known_fields(plan, index, &slots);
     let parts = plan.parts(index);
-    let next = next_field_part(plan, known, parts, &slots);
     Ok(Filling {
         slots,
         index,
         known,
         parts,
-        next,
     })
 }
 
@@ -91,16 +89,15 @@ fn known_fields<'a, O, F>(plan: &PlanRef<'a>, index: u32, fields: &Slots<O, F>) 
     }
 }
 
-/// What the next field is for.
+/// What the next field is for, by what is known of the first fields.
 #[inline(always)]
-fn next_field_part<O, F>(
+pub(crate) fn next_field_part<O, F>(
     plan: &PlanRef<'_>,
     known: &[At],
     parts: &[u32],
     fields: &Slots<O, F>,
 ) -> Part
-    ensures { KnowsFields (schema_nodes plan.now.0) (schema_nodes plan.now.1) fields.now known.now
-        → result.at ≡ next_field (schema_nodes plan.now.0) (schema_nodes plan.now.1) fields.now }
+    ensures { result ≡ part_next (schema_nodes plan.now.0) (schema_nodes plan.now.1) known.now parts.now fields.now }
 {
     match fields {
         Slots::Good(slots, _, _, w, q) => {
@@ -118,7 +115,7 @@ fn next_field_part<O, F>(
 
 /// A part that is for nothing.
 fn ignored() -> Part
-    ensures { result.at ≡ At.Ignored }
+    ensures { result ≡ part_below At.Ignored 0 }
 {
     Part {
         at: At::Ignored,
@@ -127,21 +124,19 @@ fn ignored() -> Part
     }
 }
 
-/// Adds what was made of a field after those before, and finds what the next is for.
+/// Adds what was made of a field after those before.
 #[inline(always)]
 pub(crate) fn fill_next<P: Put>(
     builder: &P,
-    plan: &PlanRef<'_>,
+    _plan: &PlanRef<'_>,
     fields: &mut Filling<'_, P::Out, P::Fields>,
     made: Made<P::Out>,
 ) -> Result<(), AllocError>
-    ensures { (nodes : List Node) (fs : List FieldNode) (id : ℕ) (at : At) (vs : List Value) (v : Value) → FillsAs (P.stands_for builder.now) (P.fields_stand_for builder.now) (schema_nodes plan.now.0) (schema_nodes plan.now.1) nodes fs at fields.old vs
-        → slice_get (field_ids fs) (length vs) ≡ Some id → StandsAs (P.stands_for builder.now) (schema_nodes plan.now.0) (schema_nodes plan.now.1) nodes (node_at nodes id) fields.old.next.at made v
-        → OnOk result (FillsAs (P.stands_for builder.now) (P.fields_stand_for builder.now) (schema_nodes plan.now.0) (schema_nodes plan.now.1) nodes fs at fields.new (vs ++ v ∷ [])) }
+    ensures { (nodes : List Node) (fs : List FieldNode) (id : ℕ) (at : At) (vs : List Value) (v : Value) → FillsAs (P.stands_for builder.now) (P.fields_stand_for builder.now) (schema_nodes _plan.now.0) (schema_nodes _plan.now.1) nodes fs at fields.old vs
+        → slice_get (field_ids fs) (length vs) ≡ Some id → StandsAs (P.stands_for builder.now) (schema_nodes _plan.now.0) (schema_nodes _plan.now.1) nodes (node_at nodes id) (field_part (schema_nodes _plan.now.0) (schema_nodes _plan.now.1) fields.old).at made v
+        → OnOk result (FillsAs (P.stands_for builder.now) (P.fields_stand_for builder.now) (schema_nodes _plan.now.0) (schema_nodes _plan.now.1) nodes fs at fields.new (vs ++ v ∷ [])) }
 {
-    put_field(builder, &mut fields.slots, made)?;
-    fields.next = next_field_part(plan, fields.known, fields.parts, &fields.slots);
-    Ok(())
+    put_field(builder, &mut fields.slots, made)
 }
 
 /// Adds what was made of a field after those before.
