@@ -1,10 +1,15 @@
--- What is kept of a JSON value, the nodes that it is not a default of, says of the value and of
+-- What is known of a JSON value, the nodes that it is not a default of, says of the value and of
 -- what holds it.
 use Rattle.std.proofs.Common.{◌≡◌, ℕ, zero, suc, ◌+◌, ◌<◌, ◌≤◌, drop, ◌⊎◌, inl, inr, Bool, true, false, cond, List, [], ◌∷◌, ◌++◌, length, Option, Some, None, option_map, option_and_then, get_or, refl, sym, ap, subst, ◌∙◌, arith, Ordering}
-use Rattle.std.specs.Prelude.{slice_get, bytes_eq}
+use Rattle.std.specs.Prelude.{slice_get, bytes_eq, String, string_bytes}
+use Rattle.std.specs.declared.alloc.Global.{Global}
+use Rattle.std.specs.List.{AllByRecursion}
+use Rattle.std.specs.List.Sorted.{IsStrictlySortedBy}
+use Rattle.std.specs.Map.{keys_of}
+use Rattle.std.specs.String.{string_cmp}
 use Rattle.std.specs.Ordering.{nat_cmp, is_eq}
 use Rattle.std.specs.Cmp.Lexicographic.{slice_cmp}
-use Rattle.std.specs.BTreeMap.{BTreeMap, get_by}
+use Rattle.std.specs.BTreeMap.{BTreeMap}
 use Rattle.std.specs.BTreeSet.{BTreeSet}
 use Rattle.std.proofs.lemmas.Bool.{false≢true}
 use Rattle.std.proofs.lemmas.Map.Lookups.{exact_unsigned}
@@ -16,16 +21,21 @@ use Rattle.avro_schema.specs.declared.schema.NodeId.{NodeId}
 use Rattle.avro_schema.specs.Value.{Value, Values, value, entry}
 use Rattle.serde_json.specs.Data.{Data, Items, Members, no_members, member}
 use Rattle.serde_json.specs.Find.{get_item, get_member}
-use Rattle.serde_json.specs.View.{view, items_view}
+use Rattle.serde_json.specs.View.{view, items_view, members_view}
 use Rattle.serde_json.specs.declared.value.Value.{Value as Tree}
-use Rattle.serde_json.proofs.Views.{get_item_within}
+use Rattle.serde_json.proofs.Views.{Entry, get_item_within, member_here, member_later}
 use Rattle.avro_schema_json.specs.DeclaredDefaults.{default_of, default_under, each_default, entries_default, fields_default, first_fit, member_keys, names_only, only_if}
-use Rattle.avro_schema_json.specs.inside.Misfits.{has_id, AreMisfits, IsMemberMisfit, AreItemMisfits, AreMemberMisfits}
+use Rattle.avro_schema_json.specs.declared.defaults.gathered.Gathered.{Gathered}
+use Rattle.avro_schema_json.specs.inside.BranchKeys.{find_word}
+use Rattle.avro_schema_json.specs.inside.Misfits.{has_id, AreMisfits, IsKnown, nothing, known, Grows, IsMemberMisfit, AreItemsKnown, AreMembersKnown}
 use Rattle.avro_schema_json.specs.inside.OwnDefaults.{own_default, default_of_fields}
 use Rattle.avro_schema_json.proofs.DefaultsSeen.{branch_next}
 use Rattle.avro_schema_json.proofs.DefaultSteps.{field_at-found}
 use Rattle.avro_schema_json.proofs.RawSeen.{name_and_node}
 use Rattle.avro_schema_json.proofs.DeclarationLaws.{default_under-found}
+
+none-some : {A : Type 0} (x : A) → None ≡ Some x → ⊥
+none-some x h = cc
 
 -- ---- one set
 
@@ -151,11 +161,84 @@ pub branch-pass : (nodes : List Node) (d : Data) (ids : List NodeId) (i : ℕ) (
 branch-pass nodes d ids i id all below none whole =
     branch_next nodes d ids i (get_or ids i id) all below (same-again ids i id) whole none
 
--- ---- what is kept of parts
+-- ---- what is known at an index
 
--- no nodes
 pub no_misfits : (nodes : List Node) (d : Data) (ids : BTreeSet ℕ) → ids.keys ≡ [] → AreMisfits nodes d ids
 no_misfits nodes d ids none = λ m there. let w : false ≡ true = rw none at there in absurd (false≢true w)
+
+pub known-misfits : (nodes : List Node) (all : List Gathered) (d : Data) (i : ℕ) (g : Gathered) → slice_get all i ≡ Some g → 0 < i → IsKnown nodes all d i
+    → AreMisfits nodes d g.misfits
+known-misfits nodes all d i g at some (nothing none) = absurd (omega (arith, some, none))
+known-misfits nodes all d i g at some (known h there ids items members) =
+    let same : h ≡ g = one (sym there ∙ at) in subst (λ (k : Gathered). AreMisfits nodes d k.misfits) same ids
+  where
+    one : Some h ≡ Some g → h ≡ g
+    one e = cc
+
+pub known-items : (nodes : List Node) (all : List Gathered) (d : Data) (ds : Items) (i : ℕ) (g : Gathered) → slice_get all i ≡ Some g → 0 < i
+    → d ≡ Data.array ds → IsKnown nodes all d i → AreItemsKnown nodes all ds g.items.items
+known-items nodes all d ds i g at some is (nothing none) = absurd (omega (arith, some, none))
+known-items nodes all d ds i g at some is (known h there ids items members) = λ j e p here part.
+    let same : h ≡ g = one (sym there ∙ at) in
+    items j e p (rw is here) (subst (λ (k : Gathered). slice_get k.items.items j ≡ Some p) (sym same) part)
+  where
+    one : Some h ≡ Some g → h ≡ g
+    one e = cc
+
+pub known-members : (nodes : List Node) (all : List Gathered) (d : Data) (ms : Members) (i : ℕ) (g : Gathered) → slice_get all i ≡ Some g → 0 < i
+    → d ≡ Data.object ms → IsKnown nodes all d i → AreMembersKnown nodes all ms g.members
+known-members nodes all d ms i g at some is (nothing none) = absurd (omega (arith, some, none))
+known-members nodes all d ms i g at some is (known h there ids items members) = λ key e p here part.
+    let same : h ≡ g = one (sym there ∙ at) in
+    members key e p (rw is here) (subst (λ (k : Gathered). find_word k.members key ≡ Some p) (sym same) part)
+  where
+    one : Some h ≡ Some g → h ≡ g
+    one e = cc
+
+-- ---- all that is known grows
+
+pushed-before : (all : List Gathered) (g : Gathered) (i : ℕ) (h : Gathered) → slice_get all i ≡ Some h → slice_get (all ++ g ∷ []) i ≡ Some h
+pushed-before [] g i h at = absurd (none-some h at)
+pushed-before (f ∷ all) g zero h at = at
+pushed-before (f ∷ all) g (suc i) h at = pushed-before all g i h at
+
+pub grown-push : (all : List Gathered) (g : Gathered) → Grows all (all ++ g ∷ [])
+grown-push all g = λ i h at. pushed-before all g i h at
+
+pub grown-twice : (one two three : List Gathered) → Grows one two → Grows two three → Grows one three
+grown-twice one two three first second = λ i g at. second i g (first i g at)
+
+pub still-known : (nodes : List Node) (before after : List Gathered) (d : Data) (i : ℕ) → Grows before after → IsKnown nodes before d i → IsKnown nodes after d i
+still-known nodes before after d i grown (nothing none) = nothing none
+still-known nodes before after d i grown (known g at ids items members) =
+    known g (grown i g at) ids (λ j e p here part. still-known nodes before after e p grown (items j e p here part))
+    (λ key e p here part. still-known nodes before after e p grown (members key e p here part))
+
+pub items-still_known : (nodes : List Node) (before after : List Gathered) (ds : Items) (parts : List ℕ) → Grows before after → AreItemsKnown nodes before ds parts
+    → AreItemsKnown nodes after ds parts
+items-still_known nodes before after ds parts grown good = λ j e p here part. still-known nodes before after e p grown (good j e p here part)
+
+pub members-still_known : (nodes : List Node) (before after : List Gathered) (ms : Members) (parts : BTreeMap (Bor (List ℕ)) ℕ) → Grows before after
+    → AreMembersKnown nodes before ms parts → AreMembersKnown nodes after ms parts
+members-still_known nodes before after ms parts grown good = λ key e p here part. still-known nodes before after e p grown (good key e p here part)
+
+last-pushed : (all : List Gathered) (g : Gathered) → slice_get (all ++ g ∷ []) (length all) ≡ Some g
+last-pushed [] g = refl
+last-pushed (f ∷ all) g = last-pushed all g
+
+pub array-kept : (nodes : List Node) (before after : List Gathered) (ds : Items) (g : Gathered) (i : ℕ) → after ≡ before ++ g ∷ [] → i ≡ length before
+    → AreMisfits nodes (Data.array ds) g.misfits → AreItemsKnown nodes before ds g.items.items → IsKnown nodes after (Data.array ds) i
+array-kept nodes before after ds g i all index ids items =
+    rw (all, index) (known g (last-pushed before g) ids (items-still_known nodes before (before ++ g ∷ []) ds g.items.items (grown-push before g) items)
+    (λ key e p here part. absurd (none-some e here)))
+
+pub object-kept : (nodes : List Node) (before after : List Gathered) (ms : Members) (g : Gathered) (i : ℕ) → after ≡ before ++ g ∷ [] → i ≡ length before
+    → AreMisfits nodes (Data.object ms) g.misfits → AreMembersKnown nodes before ms g.members → IsKnown nodes after (Data.object ms) i
+object-kept nodes before after ms g i all index ids members =
+    rw (all, index) (known g (last-pushed before g) ids (λ j e p here part. absurd (none-some e here))
+    (members-still_known nodes before (before ++ g ∷ []) ms g.members (grown-push before g) members))
+
+-- ---- what is known of parts
 
 -- one more item
 pushed : {A : Type 0} (xs : List A) (p : A) (i : ℕ) (q : A) → slice_get (xs ++ p ∷ []) i ≡ Some q → (slice_get xs i ≡ Some q) ⊎ ((length xs ≡ i) × (p ≡ q))
@@ -167,45 +250,61 @@ pushed (x ∷ xs) p (suc i) q h = elim (pushed xs p i q h) [
   | inr last ↦ inr (ap suc last.0, last.1)
 ]
 
-pub items-push : (nodes : List Node) (ds : Items) (sets : List (BTreeSet ℕ)) (p : BTreeSet ℕ) (f : Data) → AreItemMisfits nodes ds sets
-    → get_item (length sets) ds ≡ Some f → AreMisfits nodes f p → AreItemMisfits nodes ds (sets ++ p ∷ [])
-items-push nodes ds sets p f good here last = λ i e q at there. by_place i e q at (pushed sets p i q there)
+pub items-push : (nodes : List Node) (before after : List Gathered) (ds : Items) (parts : List ℕ) (p : ℕ) (f : Data) → Grows before after
+    → AreItemsKnown nodes before ds parts → get_item (length parts) ds ≡ Some f → IsKnown nodes after f p → AreItemsKnown nodes after ds (parts ++ p ∷ [])
+items-push nodes before after ds parts p f grown good here last = λ i e q at there. by_place i e q at (pushed parts p i q there)
   where
-    by_place : (i : ℕ) (e : Data) (q : BTreeSet ℕ) → get_item i ds ≡ Some e → (slice_get sets i ≡ Some q) ⊎ ((length sets ≡ i) × (p ≡ q)) → AreMisfits nodes e q
-    by_place i e q at (inl before) = good i e q at before
+    by_place : (i : ℕ) (e : Data) (q : ℕ) → get_item i ds ≡ Some e → (slice_get parts i ≡ Some q) ⊎ ((length parts ≡ i) × (p ≡ q)) → IsKnown nodes after e q
+    by_place i e q at (inl there) = still-known nodes before after e q grown (good i e q at there)
     by_place i e q at (inr now) =
         let found : get_item i ds ≡ Some f = subst (λ (k : ℕ). get_item k ds ≡ Some f) now.0 here in
         let value : f ≡ e = cc in
-        subst (λ (x : Data). AreMisfits nodes x q) value (subst (λ (r : BTreeSet ℕ). AreMisfits nodes f r) now.1 last)
-
--- the set of an item, or none
-found-or : {A : Type 0} (xs : List A) (i : ℕ) (x : A) → (slice_get xs i ≡ Some (get_or xs i x)) ⊎ (x ≡ get_or xs i x)
-found-or [] i x = inr refl
-found-or (y ∷ ys) zero x = inl refl
-found-or (y ∷ ys) (suc i) x = found-or ys i x
-
-pub item-set : (nodes : List Node) (ds : Items) (sets : List (BTreeSet ℕ)) (i : ℕ) (nothing : BTreeSet ℕ) (d : Data) → nothing.keys ≡ [] → AreItemMisfits nodes ds sets
-    → get_item i ds ≡ Some d → AreMisfits nodes d (get_or sets i nothing)
-item-set nodes ds sets i nothing d none good at = by_found (found-or sets i nothing)
-  where
-    by_found : (slice_get sets i ≡ Some (get_or sets i nothing)) ⊎ (nothing ≡ get_or sets i nothing) → AreMisfits nodes d (get_or sets i nothing)
-    by_found (inl there) = good i d (get_or sets i nothing) at there
-    by_found (inr same) = subst (λ (s : BTreeSet ℕ). AreMisfits nodes d s) same (no_misfits nodes d nothing none)
+        subst (λ (x : Data). IsKnown nodes after x q) value (subst (λ (r : ℕ). IsKnown nodes after f r) now.1 last)
 
 -- one more member
-pub members-insert : (nodes : List Node) (ms : Members) (old new : BTreeMap (Bor (List ℕ)) (BTreeSet ℕ)) (key : List ℕ) (f : Data) (part : BTreeSet ℕ)
-    → AreMemberMisfits nodes ms old
-    → ((other : List ℕ) → get_by (λ k. slice_cmp nat_cmp other k.now) new ≡ cond (bytes_eq key other) (Some part) (get_by (λ k. slice_cmp nat_cmp other k.now) old))
-    → get_member key ms ≡ Some f → AreMisfits nodes f part → AreMemberMisfits nodes ms new
-members-insert nodes ms old new key f part good put here last = λ other e q at there. by_key other e q at there (bytes_eq key other) refl
+pub members-insert : (nodes : List Node) (before after : List Gathered) (ms : Members) (old new : BTreeMap (Bor (List ℕ)) ℕ) (key : List ℕ) (f : Data) (part : ℕ)
+    → Grows before after → AreMembersKnown nodes before ms old
+    → ((other : List ℕ) → find_word new other ≡ cond (bytes_eq key other) (Some part) (find_word old other))
+    → get_member key ms ≡ Some f → IsKnown nodes after f part → AreMembersKnown nodes after ms new
+members-insert nodes before after ms old new key f part grown good put here last = λ other e q at there. by_key other e q at there (bytes_eq key other) refl
   where
-    by_key : (other : List ℕ) (e : Data) (q : BTreeSet ℕ) → get_member other ms ≡ Some e → get_by (λ k. slice_cmp nat_cmp other k.now) new ≡ Some q
-        → (b : Bool) → bytes_eq key other ≡ b → AreMisfits nodes e q
-    by_key other e q at there false h = let w = rw h at (sym (put other) ∙ there) in good other e q at w
+    by_key : (other : List ℕ) (e : Data) (q : ℕ) → get_member other ms ≡ Some e → find_word new other ≡ Some q
+        → (b : Bool) → bytes_eq key other ≡ b → IsKnown nodes after e q
+    by_key other e q at there false h = let w = rw h at (sym (put other) ∙ there) in still-known nodes before after e q grown (good other e q at w)
     by_key other e q at there true h =
         let w : Some part ≡ Some q = rw h at (sym (put other) ∙ there) in
         let same : part ≡ q = cc in
         let name : key ≡ other = (bytes_eq-Decides key other).0 h in
         let found : get_member other ms ≡ Some f = subst (λ (k : List ℕ). get_member k ms ≡ Some f) name here in
         let value : f ≡ e = cc in
-        subst (λ (x : Data). AreMisfits nodes x q) value (subst (λ (r : BTreeSet ℕ). AreMisfits nodes f r) same last)
+        subst (λ (x : Data). IsKnown nodes after x q) value (subst (λ (r : ℕ). IsKnown nodes after f r) same last)
+
+-- ---- members in the order of their keys
+
+-- the members that are left are in order, and each is found among all
+abbrev pub AreLeft : List Entry → List Entry → Type 0
+AreLeft all left =
+    IsStrictlySortedBy string_cmp (keys_of left) × ((key : List ℕ) (d : Data) → get_member key (members_view left) ≡ Some d → get_member key (members_view all) ≡ Some d)
+
+no_earlier : (name : List ℕ) (k : String Global) (es : List Entry) → name ≡ string_bytes k → AllByRecursion (λ y. string_cmp k y ≡ Ordering.Less) (keys_of es)
+    → get_member name (members_view es) ≡ None
+no_earlier name k [] same above = refl
+no_earlier name k (e ∷ es) same above =
+    let less : slice_cmp nat_cmp name (string_bytes e.0) ≡ Ordering.Less = rw same above.0 in
+    rw less (no_earlier name k es same above.1)
+
+pub left-all : (all : List Entry) → IsStrictlySortedBy string_cmp (keys_of all) → AreLeft all all
+left-all all ordered = (ordered, λ key d found. found)
+
+pub left-first : (all left rest : List Entry) (key : String Global) (x : Tree) → left ≡ (key, x) ∷ rest → AreLeft all left
+    → get_member (string_bytes key) (members_view all) ≡ Some (view x)
+left-first all left rest key x step inv =
+    inv.1 (string_bytes key) (view x) (ap (λ (es : List Entry). get_member (string_bytes key) (members_view es)) step ∙ member_here (string_bytes key) (key, x) rest refl)
+
+left-tail : (all rest : List Entry) (e : Entry) → AreLeft all (e ∷ rest) → AreLeft all rest
+unfolding IsStrictlySortedBy
+left-tail all rest e inv =
+    (inv.0.1, λ key d found. inv.1 key d (member_later key e rest (λ same. none-some d (sym (no_earlier key e.0 rest same inv.0.0) ∙ found)) ∙ found))
+
+pub left-next : (all left rest : List Entry) (e : Entry) → left ≡ e ∷ rest → AreLeft all left → AreLeft all rest
+left-next all left rest e step inv = left-tail all rest e (subst (λ (es : List Entry). AreLeft all es) step inv)

@@ -6,23 +6,31 @@ ghost use Rattle.avro_schema.specs.Seen.{value_of, values_of, entries_of, ids_of
 ghost use Rattle.avro_schema.specs.Value.{Value as SeenValue};
 ghost use Rattle.avro_schema_json.specs.DeclaredDefaults.{default_of as default_by, each_default, entries_default as each_entry, default_under, fields_default as each_field, object_default as default_of_object, items_default as default_of_items, member_keys, first_fit};
 ghost use Rattle.avro_schema_json.specs.inside.BranchKeys.{IsTable, AreTables};
-ghost use Rattle.avro_schema_json.specs.inside.Misfits.{AreMisfits};
+ghost use Rattle.avro_schema_json.specs.inside.Misfits.{IsKnown};
 ghost use Rattle.avro_schema_json.specs.inside.OwnDefaults.{own_default as own_default_by, default_of_fields, without_defaults, all_without_defaults, fields_seen};
+ghost use Rattle.serde_json.specs.Data.{Data};
 ghost use Rattle.serde_json.specs.View.{view, items_view, members_view};
 
+mod array_misfit;
 mod asks;
 mod fields;
+pub(crate) mod gathered;
 mod known;
 mod misfit;
 mod misfits;
+mod object_misfit;
 mod plain_defaults;
 pub(crate) mod tables;
 mod unfit;
 pub(crate) mod union_table;
 
+use crate::defaults::asks::may_repeat;
 use crate::defaults::fields::names_fields;
-use crate::defaults::known::has;
-use crate::defaults::misfits::skipped_branches;
+use crate::defaults::gathered::Gathered;
+use crate::defaults::known::{
+    has, misfits_at, next_index, nothing_gathered, part_of_array, part_of_object,
+};
+use crate::defaults::misfits::gather;
 use crate::defaults::plain_defaults::{
     boolean_default, null_default, number_default, text_default,
 };
@@ -39,7 +47,6 @@ use std::collections::BTreeSet;
 
 /// The default that JSON gives for the node of an id, or nothing where there is none. A union
 /// takes it as one of the first branch that it fits.
-#[cycle(defaults)]
 pub(crate) fn default_of(
     alloc: Global,
     raws: &[RawNode],
@@ -50,15 +57,41 @@ pub(crate) fn default_of(
     requires tables { AreTables (all_without_defaults raws.now) tables.now }
     ensures { IfOk result (λ datum. option_map value_of datum ≡ default_by (all_without_defaults raws.now) (view tree.now) (node_at (all_without_defaults raws.now) id.0)) }
 {
+    let nothing: Vec<Gathered> = Vec::new(alloc);
+    known_default(alloc, raws, tables, tree, id, &nothing, 0)
+}
+
+/// The default that JSON gives for the node of an id, by what is known of the JSON. Where nothing
+/// is, and more than one branch of a union may look into it, it is gathered first.
+#[cycle(defaults)]
+fn known_default(
+    alloc: Global,
+    raws: &[RawNode],
+    tables: &[UnionTable],
+    tree: &Value,
+    id: NodeId,
+    all: &[Gathered],
+    known: usize,
+) -> Result<Option<Datum>, Memory>
+    requires tables { AreTables (all_without_defaults raws.now) tables.now }
+    requires known { IsKnown (all_without_defaults raws.now) all.now (view tree.now) known }
+    ensures { IfOk result (λ datum. option_map value_of datum ≡ default_by (all_without_defaults raws.now) (view tree.now) (node_at (all_without_defaults raws.now) id.0)) }
+{
     let null = RawNode::Null;
     let node = raw_at(&*raws, &null, id);
     match branches(node) {
-        None => own_default(alloc, raws, tables, tree, node),
+        None => own_default(alloc, raws, tables, tree, node, all, known),
         Some(ids) => {
-            let misfits = skipped_branches(alloc, raws, tables, tree, ids)?;
             let nothing = no_table(alloc);
             let table = table_at(raws, &*tables, &nothing, id, ids);
-            branch_default(alloc, raws, tables, table, &null, tree, ids, &misfits)
+            if known != 0 || !may_repeat(raws, tree, ids) {
+                return branch_default(alloc, raws, tables, table, &null, tree, ids, all, known);
+            }
+            let mut gathered = nothing_gathered(alloc)?;
+            let known = gather(alloc, raws, tables, tree, ids, &mut gathered)?;
+            branch_default(
+                alloc, raws, tables, table, &null, tree, ids, &gathered, known,
+            )
         }
     }
 }
@@ -75,17 +108,20 @@ fn branch_default(
     null: &RawNode,
     tree: &Value,
     ids: &[NodeId],
-    misfits: &BTreeSet<u32>,
+    all: &[Gathered],
+    known: usize,
 ) -> Result<Option<Datum>, Memory>
     requires tables { AreTables (all_without_defaults raws.now) tables.now }
     requires table { IsTable (all_without_defaults raws.now) (ids_of ids.now) table.now }
     requires null { without_defaults null.now ≡ SeenNode.null }
-    requires misfits { AreMisfits (all_without_defaults raws.now) (view tree.now) misfits.now }
+    requires known { IsKnown (all_without_defaults raws.now) all.now (view tree.now) known }
     ensures { IfOk result (λ datum. option_map value_of datum
         ≡ first_fit (all_without_defaults raws.now) (own_default_by (all_without_defaults raws.now) (view tree.now)) 0 (ids_of ids.now)) }
 {
     let characters = characters_of(tree);
     let start = first_branch(table, tree, characters)?;
+    let nothing: BTreeSet<u32> = BTreeSet::new(alloc);
+    let misfits = misfits_at(&*all, &nothing, known);
     for i in start..ids.len() {
         let id = ids[i];
         if is_unfit(raws, null, tree, characters, id) {
@@ -94,7 +130,7 @@ fn branch_default(
         if has(misfits, id) {
             continue;
         }
-        match default_at(alloc, raws, tables, tree, id)? {
+        match default_at(alloc, raws, tables, tree, id, all, known)? {
             Some(datum) => return in_branch(alloc, i, datum),
             None => {}
         }
@@ -110,13 +146,16 @@ fn default_at(
     tables: &[UnionTable],
     tree: &Value,
     id: NodeId,
+    all: &[Gathered],
+    known: usize,
 ) -> Result<Option<Datum>, Memory>
     requires tables { AreTables (all_without_defaults raws.now) tables.now }
+    requires known { IsKnown (all_without_defaults raws.now) all.now (view tree.now) known }
     ensures { IfOk result (λ datum. option_map value_of datum ≡ own_default_by (all_without_defaults raws.now) (view tree.now) (node_at (all_without_defaults raws.now) id.0)) }
 {
     let null = RawNode::Null;
     let node = raw_at(&*raws, &null, id);
-    own_default(alloc, raws, tables, tree, node)
+    own_default(alloc, raws, tables, tree, node, all, known)
 }
 
 /// A datum as one of a union, of this branch. A branch past the range of numbers would exceed any
@@ -138,8 +177,11 @@ fn own_default(
     tables: &[UnionTable],
     tree: &Value,
     node: &RawNode,
+    all: &[Gathered],
+    known: usize,
 ) -> Result<Option<Datum>, Memory>
     requires tables { AreTables (all_without_defaults raws.now) tables.now }
+    requires known { IsKnown (all_without_defaults raws.now) all.now (view tree.now) known }
     ensures { IfOk result (λ datum. option_map value_of datum ≡ own_default_by (all_without_defaults raws.now) (view tree.now) (without_defaults node.now)) }
 {
     match tree {
@@ -147,8 +189,8 @@ fn own_default(
         Value::Bool(value) => Ok(boolean_default(*value, node)),
         Value::Number(number) => Ok(number_default(*number, node)),
         Value::String(text) => text_default(alloc, text.as_str(), node),
-        Value::Array(items) => items_default(alloc, raws, tables, items, node),
-        Value::Object(members) => object_default(alloc, raws, tables, members, node),
+        Value::Array(items) => items_default(alloc, raws, tables, items, node, all, known),
+        Value::Object(members) => object_default(alloc, raws, tables, members, node, all, known),
     }
 }
 
@@ -160,13 +202,16 @@ fn items_default(
     tables: &[UnionTable],
     items: &Vec<Value>,
     node: &RawNode,
+    all: &[Gathered],
+    known: usize,
 ) -> Result<Option<Datum>, Memory>
     requires tables { AreTables (all_without_defaults raws.now) tables.now }
+    requires known { IsKnown (all_without_defaults raws.now) all.now (Data.array (items_view items.now.items)) known }
     ensures { IfOk result (λ datum. option_map value_of datum
         ≡ default_of_items (all_without_defaults raws.now) (λ m. each_default (all_without_defaults raws.now) (items_view items.now.items) m) (without_defaults node.now)) }
 {
     match node {
-        RawNode::Array(id) => match item_defaults(alloc, raws, tables, items, *id)? {
+        RawNode::Array(id) => match item_defaults(alloc, raws, tables, items, *id, all, known)? {
             Some(values) => Ok(Some(Datum::Array(values))),
             None => Ok(None),
         },
@@ -182,17 +227,23 @@ fn item_defaults(
     tables: &[UnionTable],
     items: &Vec<Value>,
     id: NodeId,
+    all: &[Gathered],
+    known: usize,
 ) -> Result<Option<Vec<Datum>>, Memory>
     requires tables { AreTables (all_without_defaults raws.now) tables.now }
+    requires known { IsKnown (all_without_defaults raws.now) all.now (Data.array (items_view items.now.items)) known }
     ensures { IfOk result (λ values. option_map (λ vs. values_of vs.items) values
         ≡ each_default (all_without_defaults raws.now) (items_view items.now.items) (node_at (all_without_defaults raws.now) id.0)) }
 {
     let mut values: Vec<Datum> = Vec::new(alloc);
+    let mut index = 0usize;
     for item in items {
-        let Some(value) = default_of(alloc, raws, tables, item, id)? else {
+        let part = part_of_array(raws, items, item, all, known, index);
+        let Some(value) = known_default(alloc, raws, tables, item, id, all, part)? else {
             return Ok(None);
         };
         values.push(value)?;
+        index = next_index(index)?;
     }
     Ok(Some(values))
 }
@@ -205,18 +256,29 @@ fn object_default(
     tables: &[UnionTable],
     members: &Map<String, Value>,
     node: &RawNode,
+    all: &[Gathered],
+    known: usize,
 ) -> Result<Option<Datum>, Memory>
     requires tables { AreTables (all_without_defaults raws.now) tables.now }
+    requires known { IsKnown (all_without_defaults raws.now) all.now (Data.object (members_view members.now.entries)) known }
     ensures { IfOk result (λ datum. option_map value_of datum
         ≡ default_of_object (all_without_defaults raws.now) (λ m. each_entry (all_without_defaults raws.now) (members_view members.now.entries) m)
         (λ key. default_under (all_without_defaults raws.now) key (members_view members.now.entries)) (member_keys (members_view members.now.entries)) (without_defaults node.now)) }
 {
     match node {
-        RawNode::Map(id) => match entry_defaults(alloc, raws, tables, members, *id)? {
+        RawNode::Map(id) => match entry_defaults(alloc, raws, tables, members, *id, all, known)? {
             Some(entries) => Ok(Some(Datum::Map(entries))),
             None => Ok(None),
         },
-        RawNode::Record(record) => record_default(alloc, raws, tables, members, &record.fields),
+        RawNode::Record(record) => record_default(
+            alloc,
+            raws,
+            tables,
+            members,
+            &record.fields,
+            all,
+            known,
+        ),
         _ => Ok(None),
     }
 }
@@ -229,17 +291,22 @@ fn entry_defaults(
     tables: &[UnionTable],
     members: &Map<String, Value>,
     id: NodeId,
+    all: &[Gathered],
+    known: usize,
 ) -> Result<Option<Vec<(String, Datum)>>, Memory>
     requires tables { AreTables (all_without_defaults raws.now) tables.now }
+    requires known { IsKnown (all_without_defaults raws.now) all.now (Data.object (members_view members.now.entries)) known }
     ensures { IfOk result (λ entries. option_map (λ es. entries_of es.items) entries
         ≡ each_entry (all_without_defaults raws.now) (members_view members.now.entries) (node_at (all_without_defaults raws.now) id.0)) }
 {
     let mut entries: Vec<(String, Datum)> = Vec::new(alloc);
     for (key, tree) in members.iter() {
-        let Some(value) = default_of(alloc, raws, tables, tree, id)? else {
+        let name = key.as_str();
+        let part = part_of_object(raws, members, tree, all, known, name);
+        let Some(value) = known_default(alloc, raws, tables, tree, id, all, part)? else {
             return Ok(None);
         };
-        entries.push((copy_of_text(alloc, key.as_str())?, value))?;
+        entries.push((copy_of_text(alloc, name)?, value))?;
     }
     Ok(Some(entries))
 }
@@ -252,12 +319,15 @@ fn record_default(
     tables: &[UnionTable],
     members: &Map<String, Value>,
     fields: &[RawField],
+    all: &[Gathered],
+    known: usize,
 ) -> Result<Option<Datum>, Memory>
     requires tables { AreTables (all_without_defaults raws.now) tables.now }
+    requires known { IsKnown (all_without_defaults raws.now) all.now (Data.object (members_view members.now.entries)) known }
     ensures { IfOk result (λ datum. option_map value_of datum
         ≡ default_of_fields (all_without_defaults raws.now) (members_view members.now.entries) (fields_seen fields.now)) }
 {
-    let Some(values) = field_defaults(alloc, raws, tables, members, fields)? else {
+    let Some(values) = field_defaults(alloc, raws, tables, members, fields, all, known)? else {
         return Ok(None);
     };
     if names_fields(alloc, members, fields)? {
@@ -275,17 +345,22 @@ fn field_defaults(
     tables: &[UnionTable],
     members: &Map<String, Value>,
     fields: &[RawField],
+    all: &[Gathered],
+    known: usize,
 ) -> Result<Option<Vec<Datum>>, Memory>
     requires tables { AreTables (all_without_defaults raws.now) tables.now }
+    requires known { IsKnown (all_without_defaults raws.now) all.now (Data.object (members_view members.now.entries)) known }
     ensures { IfOk result (λ values. option_map (λ vs. values_of vs.items) values
         ≡ each_field (all_without_defaults raws.now) (λ key. default_under (all_without_defaults raws.now) key (members_view members.now.entries)) (fields_seen fields.now)) }
 {
     let mut values: Vec<Datum> = Vec::new(alloc);
     for field in fields {
-        let Some(tree) = members.get(field.name.as_str()) else {
+        let name = field.name.as_str();
+        let Some(tree) = members.get(name) else {
             return Ok(None);
         };
-        let Some(value) = default_of(alloc, raws, tables, tree, field.node)? else {
+        let part = part_of_object(raws, members, tree, all, known, name);
+        let Some(value) = known_default(alloc, raws, tables, tree, field.node, all, part)? else {
             return Ok(None);
         };
         values.push(value)?;

@@ -1,7 +1,7 @@
 //! Which nodes the parts of a JSON value are asked about. What is asked decides what is looked at,
 //! not what is found: a node that is not asked about is tried when its turn comes.
 
-use crate::defaults::misfit::lacks_field;
+use crate::defaults::object_misfit::lacks_field;
 use crate::raw::{RawField, RawNode};
 use avro_schema::{Memory, NodeId};
 use serde_json::{Map, Value};
@@ -100,7 +100,7 @@ fn is_flat(tree: &Value) -> bool {
 }
 
 /// Whether none of some items is an array or an object.
-fn are_leaves(items: &[Value]) -> bool {
+pub(crate) fn are_leaves(items: &[Value]) -> bool {
     for item in items {
         if has_parts(item) {
             return false;

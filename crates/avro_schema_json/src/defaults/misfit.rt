@@ -4,25 +4,23 @@ ghost use Rattle.std.specs.Prelude.{◌≡◌, true, None, List, IfOk};
 ghost use Rattle.avro_schema.specs.Node.{Node as SeenNode, node_at};
 ghost use Rattle.avro_schema.specs.Seen.{ids_of};
 ghost use Rattle.avro_schema_json.specs.inside.BranchKeys.{IsTable, AreTables};
-ghost use Rattle.avro_schema_json.specs.inside.Misfits.{AreMisfits, AreItemMisfits, AreMemberMisfits, IsMemberMisfit};
+ghost use Rattle.avro_schema_json.specs.inside.Misfits.{AreMisfits};
 ghost use Rattle.avro_schema_json.specs.inside.Characters.{characters_in};
-ghost use Rattle.avro_schema_json.specs.inside.OwnDefaults.{own_default as own_default_by, default_of_fields, fields_seen, all_without_defaults, without_defaults};
-ghost use Rattle.avro_schema_json.specs.DeclaredDefaults.{default_of as default_by, each_default, entries_default, first_fit, text_default as default_of_text};
-ghost use Rattle.serde_json.specs.Data.{Data};
-ghost use Rattle.serde_json.specs.View.{view, items_view, members_view};
+ghost use Rattle.avro_schema_json.specs.inside.OwnDefaults.{own_default as own_default_by, all_without_defaults, without_defaults};
+ghost use Rattle.avro_schema_json.specs.DeclaredDefaults.{default_of as default_by, first_fit, text_default as default_of_text};
+ghost use Rattle.serde_json.specs.View.{view};
 
-use crate::defaults::fields::names_fields;
-use crate::defaults::known::{has, next_index, of_item, of_member};
+use crate::defaults::known::has;
 use crate::defaults::plain_defaults::{number_default, text_default};
 use crate::defaults::tables::{first_branch, no_table, table_at};
 use crate::defaults::unfit::{characters_of, is_unfit};
 use crate::defaults::union_table::UnionTable;
-use crate::raw::{RawField, RawNode};
+use crate::raw::RawNode;
 use crate::raw_nodes::{branches, raw_at};
 use avro_schema::{Memory, NodeId};
-use serde_json::{Map, Value};
+use serde_json::Value;
 use std::alloc::Global;
-use std::collections::{BTreeMap, BTreeSet};
+use std::collections::BTreeSet;
 
 /// Whether JSON is not a default of the node of an id, by what is known of it. Where this is
 /// false, the JSON may still not be one.
@@ -127,190 +125,4 @@ fn is_text_misfit(alloc: Global, text: &str, node: &RawNode) -> Result<bool, Mem
         RawNode::Str => Ok(false),
         _ => Ok(text_default(alloc, text, node)?.is_none()),
     }
-}
-
-/// Whether an array is not a default of the node of an id, by what is known of its items.
-pub(crate) fn is_array_misfit(
-    alloc: Global,
-    raws: &[RawNode],
-    tables: &[UnionTable],
-    items: &Vec<Value>,
-    parts: &[BTreeSet<u32>],
-    id: NodeId,
-) -> Result<bool, Memory>
-    requires tables { AreTables (all_without_defaults raws.now) tables.now }
-    requires parts { AreItemMisfits (all_without_defaults raws.now) (items_view items.now.items) parts.now }
-    ensures { IfOk result (λ answer. answer ≡ true
-        → own_default_by (all_without_defaults raws.now) (Data.array (items_view items.now.items)) (node_at (all_without_defaults raws.now) id.0) ≡ None) }
-{
-    let null = RawNode::Null;
-    match raw_at(&*raws, &null, id) {
-        RawNode::Array(of_items) => is_one_misfit(alloc, raws, tables, items, parts, *of_items),
-        _ => Ok(true),
-    }
-}
-
-/// Whether one of the items is not a default of the node of an id.
-fn is_one_misfit(
-    alloc: Global,
-    raws: &[RawNode],
-    tables: &[UnionTable],
-    items: &Vec<Value>,
-    parts: &[BTreeSet<u32>],
-    id: NodeId,
-) -> Result<bool, Memory>
-    requires tables { AreTables (all_without_defaults raws.now) tables.now }
-    requires parts { AreItemMisfits (all_without_defaults raws.now) (items_view items.now.items) parts.now }
-    ensures { IfOk result (λ answer. answer ≡ true
-        → each_default (all_without_defaults raws.now) (items_view items.now.items) (node_at (all_without_defaults raws.now) id.0) ≡ None) }
-{
-    let nothing: BTreeSet<u32> = BTreeSet::new(alloc);
-    let mut index = 0usize;
-    for item in items {
-        let known = of_item(parts, &nothing, index);
-        if is_misfit(alloc, raws, tables, item, known, id)? {
-            return Ok(true);
-        }
-        index = next_index(index)?;
-    }
-    Ok(false)
-}
-
-/// Whether an object is not a default of the node of an id, by what is known of its members.
-pub(crate) fn is_object_misfit(
-    alloc: Global,
-    raws: &[RawNode],
-    tables: &[UnionTable],
-    members: &Map<String, Value>,
-    parts: &BTreeMap<&str, BTreeSet<u32>>,
-    id: NodeId,
-) -> Result<bool, Memory>
-    requires tables { AreTables (all_without_defaults raws.now) tables.now }
-    requires parts { AreMemberMisfits (all_without_defaults raws.now) (members_view members.now.entries) parts.now }
-    ensures { IfOk result (λ answer. answer ≡ true
-        → own_default_by (all_without_defaults raws.now) (Data.object (members_view members.now.entries)) (node_at (all_without_defaults raws.now) id.0) ≡ None) }
-{
-    let null = RawNode::Null;
-    match raw_at(&*raws, &null, id) {
-        RawNode::Map(values) => is_map_misfit(alloc, raws, tables, members, parts, *values),
-        RawNode::Record(record) => {
-            is_record_misfit(alloc, raws, tables, members, parts, &record.fields)
-        }
-        _ => Ok(true),
-    }
-}
-
-/// Whether one of the members is not a default of the node of an id.
-fn is_map_misfit(
-    alloc: Global,
-    raws: &[RawNode],
-    tables: &[UnionTable],
-    members: &Map<String, Value>,
-    parts: &BTreeMap<&str, BTreeSet<u32>>,
-    id: NodeId,
-) -> Result<bool, Memory>
-    requires tables { AreTables (all_without_defaults raws.now) tables.now }
-    requires parts { AreMemberMisfits (all_without_defaults raws.now) (members_view members.now.entries) parts.now }
-    ensures { IfOk result (λ answer. answer ≡ true
-        → entries_default (all_without_defaults raws.now) (members_view members.now.entries) (node_at (all_without_defaults raws.now) id.0) ≡ None) }
-{
-    for (key, _) in members.iter() {
-        if is_member_misfit(alloc, raws, tables, members, parts, key.as_str(), id)? {
-            return Ok(true);
-        }
-    }
-    Ok(false)
-}
-
-/// Whether the member of a key is not a default of the node of an id.
-fn is_member_misfit(
-    alloc: Global,
-    raws: &[RawNode],
-    tables: &[UnionTable],
-    members: &Map<String, Value>,
-    parts: &BTreeMap<&str, BTreeSet<u32>>,
-    key: &str,
-    id: NodeId,
-) -> Result<bool, Memory>
-    requires tables { AreTables (all_without_defaults raws.now) tables.now }
-    requires parts { AreMemberMisfits (all_without_defaults raws.now) (members_view members.now.entries) parts.now }
-    ensures { IfOk result (λ answer. answer ≡ true → IsMemberMisfit (all_without_defaults raws.now) (members_view members.now.entries) key.now id.0) }
-{
-    let nothing: BTreeSet<u32> = BTreeSet::new(alloc);
-    match members.get(key) {
-        Some(tree) => is_misfit(
-            alloc,
-            raws,
-            tables,
-            tree,
-            of_member(parts, &nothing, key),
-            id,
-        ),
-        None => Ok(false),
-    }
-}
-
-/// Whether an object is not a record of fields.
-fn is_record_misfit(
-    alloc: Global,
-    raws: &[RawNode],
-    tables: &[UnionTable],
-    members: &Map<String, Value>,
-    parts: &BTreeMap<&str, BTreeSet<u32>>,
-    fields: &[RawField],
-) -> Result<bool, Memory>
-    requires tables { AreTables (all_without_defaults raws.now) tables.now }
-    requires parts { AreMemberMisfits (all_without_defaults raws.now) (members_view members.now.entries) parts.now }
-    ensures { IfOk result (λ answer. answer ≡ true
-        → default_of_fields (all_without_defaults raws.now) (members_view members.now.entries) (fields_seen fields.now) ≡ None) }
-{
-    if lacks_field(members, fields) {
-        return Ok(true);
-    }
-    if is_field_misfit(alloc, raws, tables, members, parts, fields)? {
-        return Ok(true);
-    }
-    Ok(!names_fields(alloc, members, fields)?)
-}
-
-/// Whether there is no member for one of the fields.
-pub(crate) fn lacks_field(members: &Map<String, Value>, fields: &[RawField]) -> bool
-    ensures { result ≡ true → (nodes : List SeenNode) → default_of_fields nodes (members_view members.now.entries) (fields_seen fields.now) ≡ None }
-{
-    for field in fields {
-        let Some(_) = members.get(field.name.as_str()) else {
-            return true;
-        };
-    }
-    false
-}
-
-/// Whether the member of one of the fields is not a default of it.
-fn is_field_misfit(
-    alloc: Global,
-    raws: &[RawNode],
-    tables: &[UnionTable],
-    members: &Map<String, Value>,
-    parts: &BTreeMap<&str, BTreeSet<u32>>,
-    fields: &[RawField],
-) -> Result<bool, Memory>
-    requires tables { AreTables (all_without_defaults raws.now) tables.now }
-    requires parts { AreMemberMisfits (all_without_defaults raws.now) (members_view members.now.entries) parts.now }
-    ensures { IfOk result (λ answer. answer ≡ true
-        → default_of_fields (all_without_defaults raws.now) (members_view members.now.entries) (fields_seen fields.now) ≡ None) }
-{
-    for field in fields {
-        if is_member_misfit(
-            alloc,
-            raws,
-            tables,
-            members,
-            parts,
-            field.name.as_str(),
-            field.node,
-        )? {
-            return Ok(true);
-        }
-    }
-    Ok(false)
 }

@@ -3,13 +3,16 @@
 
 ghost use Rattle.std.specs.Prelude.{◌≡◌, ◌⊎◌, ℕ, true, IfOk, OnOk};
 ghost use Rattle.avro_schema_json.specs.inside.BranchKeys.{AreTables};
-ghost use Rattle.avro_schema_json.specs.inside.Misfits.{has_id, AreMisfits, AreItemMisfits, AreMemberMisfits};
+ghost use Rattle.avro_schema_json.specs.inside.Misfits.{has_id, AreMisfits, IsKnown, Grows, AreItemsKnown, AreMembersKnown};
 ghost use Rattle.avro_schema_json.specs.inside.OwnDefaults.{all_without_defaults};
 ghost use Rattle.serde_json.specs.Data.{Data};
 ghost use Rattle.serde_json.specs.View.{view, items_view, members_view};
 
-use crate::defaults::asks::{asked_items, asked_members, has_parts, may_repeat, own_ids};
-use crate::defaults::misfit::{is_array_misfit, is_object_misfit};
+use crate::defaults::array_misfit::is_array_misfit;
+use crate::defaults::asks::{are_leaves, asked_items, asked_members, has_parts, own_ids};
+use crate::defaults::gathered::Gathered;
+use crate::defaults::known::{keep_array, keep_object};
+use crate::defaults::object_misfit::is_object_misfit;
 use crate::defaults::union_table::UnionTable;
 use crate::raw::RawNode;
 use avro_schema::{Memory, NodeId};
@@ -17,96 +20,118 @@ use serde_json::{Map, Value};
 use std::alloc::Global;
 use std::collections::{BTreeMap, BTreeSet};
 
-/// The branches that need not be tried: those that JSON is not a default of, where two or more
-/// would look into it. JSON without parts, and that which one branch alone looks into, is tried in
-/// place.
-pub(crate) fn skipped_branches(
-    alloc: Global,
-    raws: &[RawNode],
-    tables: &[UnionTable],
-    tree: &Value,
-    ids: &[NodeId],
-) -> Result<BTreeSet<u32>, Memory>
-    requires tables { AreTables (all_without_defaults raws.now) tables.now }
-    ensures { IfOk result (λ skipped. AreMisfits (all_without_defaults raws.now) (view tree.now) skipped) }
-{
-    if may_repeat(raws, tree, ids) {
-        return misfits_of(alloc, raws, tables, tree, ids);
-    }
-    Ok(BTreeSet::new(alloc))
-}
-
-/// The nodes that JSON is not a default of, among those it is asked about, unions by their
-/// branches. Nothing is kept for JSON without parts: it is tried in place.
+/// Gathers what is known of JSON and of its parts, by the nodes that it is asked about, unions by
+/// their branches. Nothing is kept for JSON without parts: it is tried in place.
 #[cycle(misfits)]
-fn misfits_of(
+pub(crate) fn gather<'a>(
     alloc: Global,
     raws: &[RawNode],
     tables: &[UnionTable],
-    tree: &Value,
+    tree: &'a Value,
     asked: &[NodeId],
-) -> Result<BTreeSet<u32>, Memory>
+    all: &mut Vec<Gathered<'a>>,
+) -> Result<usize, Memory>
     requires tables { AreTables (all_without_defaults raws.now) tables.now }
-    ensures { IfOk result (λ ids. AreMisfits (all_without_defaults raws.now) (view tree.now) ids) }
+    ensures grown { IfOk result (λ known. Grows all.old.items all.new.items) }
+    ensures known { IfOk result (λ known. IsKnown (all_without_defaults raws.now) all.new.items (view tree.now) known) }
 {
     if !has_parts(tree) {
-        return Ok(BTreeSet::new(alloc));
+        return Ok(0);
     }
     let own = own_ids(alloc, raws, tree, asked)?;
     match tree {
-        Value::Array(items) => {
-            let parts = item_misfits(alloc, raws, tables, items, &own)?;
-            array_misfits(alloc, raws, tables, items, &parts, &own)
-        }
-        Value::Object(members) => {
-            let parts = member_misfits(alloc, raws, tables, members, &own)?;
-            object_misfits(alloc, raws, tables, members, &parts, &own)
-        }
-        _ => Ok(BTreeSet::new(alloc)),
+        Value::Array(items) => gather_array(alloc, raws, tables, items, &own, all),
+        Value::Object(members) => gather_object(alloc, raws, tables, members, &own, all),
+        _ => Ok(0),
     }
 }
 
-/// For each item, the nodes that it is not a default of; none where it has no parts.
+/// Gathers what is known of an array and of its items.
 #[cycle(misfits)]
-fn item_misfits(
+fn gather_array<'a>(
     alloc: Global,
     raws: &[RawNode],
     tables: &[UnionTable],
-    items: &Vec<Value>,
+    items: &'a Vec<Value>,
     own: &[NodeId],
-) -> Result<Vec<BTreeSet<u32>>, Memory>
+    all: &mut Vec<Gathered<'a>>,
+) -> Result<usize, Memory>
     requires tables { AreTables (all_without_defaults raws.now) tables.now }
-    ensures { IfOk result (λ parts. AreItemMisfits (all_without_defaults raws.now) (items_view items.now.items) parts.items) }
+    ensures grown { IfOk result (λ known. Grows all.old.items all.new.items) }
+    ensures known { IfOk result (λ known. IsKnown (all_without_defaults raws.now) all.new.items (Data.array (items_view items.now.items)) known) }
 {
-    let asked = asked_items(alloc, raws, own)?;
-    let mut parts: Vec<BTreeSet<u32>> = Vec::new(alloc);
-    for item in items {
-        let part = misfits_of(alloc, raws, tables, item, &asked)?;
-        parts.push(part)?;
-    }
-    Ok(parts)
+    let parts = item_parts(alloc, raws, tables, items, own, all)?;
+    let misfits = array_misfits(alloc, raws, tables, items, all, &parts, own)?;
+    keep_array(alloc, all, misfits, parts)
 }
 
-/// For each member that has parts, the nodes that it is not a default of.
+/// Gathers what is known of an object and of its members.
 #[cycle(misfits)]
-fn member_misfits<'a>(
+fn gather_object<'a>(
     alloc: Global,
     raws: &[RawNode],
     tables: &[UnionTable],
     members: &'a Map<String, Value>,
     own: &[NodeId],
-) -> Result<BTreeMap<&'a str, BTreeSet<u32>>, Memory>
+    all: &mut Vec<Gathered<'a>>,
+) -> Result<usize, Memory>
     requires tables { AreTables (all_without_defaults raws.now) tables.now }
-    ensures { IfOk result (λ parts. AreMemberMisfits (all_without_defaults raws.now) (members_view members.now.entries) parts) }
+    ensures grown { IfOk result (λ known. Grows all.old.items all.new.items) }
+    ensures known { IfOk result (λ known. IsKnown (all_without_defaults raws.now) all.new.items (Data.object (members_view members.now.entries)) known) }
+{
+    let parts = member_parts(alloc, raws, tables, members, own, all)?;
+    let misfits = object_misfits(alloc, raws, tables, members, all, &parts, own)?;
+    keep_object(alloc, all, misfits, parts)
+}
+
+/// Where what is known of each item stands, or of none where no item has parts.
+#[cycle(misfits)]
+fn item_parts<'a>(
+    alloc: Global,
+    raws: &[RawNode],
+    tables: &[UnionTable],
+    items: &'a Vec<Value>,
+    own: &[NodeId],
+    all: &mut Vec<Gathered<'a>>,
+) -> Result<Vec<usize>, Memory>
+    requires tables { AreTables (all_without_defaults raws.now) tables.now }
+    ensures grown { IfOk result (λ parts. Grows all.old.items all.new.items) }
+    ensures known { IfOk result (λ parts. AreItemsKnown (all_without_defaults raws.now) all.new.items (items_view items.now.items) parts.items) }
+{
+    let mut parts: Vec<usize> = Vec::new(alloc);
+    if are_leaves(items) {
+        return Ok(parts);
+    }
+    let asked = asked_items(alloc, raws, own)?;
+    for item in items {
+        let part = gather(alloc, raws, tables, item, &asked, all)?;
+        parts.push(part)?;
+    }
+    Ok(parts)
+}
+
+/// Where what is known of each member that has parts stands.
+#[cycle(misfits)]
+fn member_parts<'a>(
+    alloc: Global,
+    raws: &[RawNode],
+    tables: &[UnionTable],
+    members: &'a Map<String, Value>,
+    own: &[NodeId],
+    all: &mut Vec<Gathered<'a>>,
+) -> Result<BTreeMap<&'a str, usize>, Memory>
+    requires tables { AreTables (all_without_defaults raws.now) tables.now }
+    ensures grown { IfOk result (λ parts. Grows all.old.items all.new.items) }
+    ensures known { IfOk result (λ parts. AreMembersKnown (all_without_defaults raws.now) all.new.items (members_view members.now.entries) parts) }
 {
     let asked = asked_members(alloc, raws, members, own)?;
-    let mut parts: BTreeMap<&'a str, BTreeSet<u32>> = BTreeMap::new(alloc);
+    let mut parts: BTreeMap<&'a str, usize> = BTreeMap::new(alloc);
     for (key, _) in members.iter() {
         let key = key.as_str();
         match asked.get(key) {
             Some(of_member) => match members.get(key) {
                 Some(tree) => {
-                    let part = misfits_of(alloc, raws, tables, tree, &of_member.ids)?;
+                    let part = gather(alloc, raws, tables, tree, &of_member.ids, all)?;
                     parts.insert(key, part)?;
                 }
                 None => {}
@@ -125,44 +150,46 @@ fn add(ids: &mut BTreeSet<u32>, id: NodeId) -> Result<(), Memory>
     Ok(())
 }
 
-/// The nodes that an array is not a default of, by the sets of its items.
+/// The nodes that an array is not a default of, by what is known of its items.
 fn array_misfits(
     alloc: Global,
     raws: &[RawNode],
     tables: &[UnionTable],
     items: &Vec<Value>,
-    parts: &[BTreeSet<u32>],
+    all: &[Gathered],
+    parts: &[usize],
     own: &[NodeId],
 ) -> Result<BTreeSet<u32>, Memory>
     requires tables { AreTables (all_without_defaults raws.now) tables.now }
-    requires parts { AreItemMisfits (all_without_defaults raws.now) (items_view items.now.items) parts.now }
+    requires parts { AreItemsKnown (all_without_defaults raws.now) all.now (items_view items.now.items) parts.now }
     ensures { IfOk result (λ ids. AreMisfits (all_without_defaults raws.now) (Data.array (items_view items.now.items)) ids) }
 {
     let mut ids: BTreeSet<u32> = BTreeSet::new(alloc);
     for id in own {
-        if is_array_misfit(alloc, raws, tables, items, parts, *id)? {
+        if is_array_misfit(alloc, raws, tables, items, all, parts, *id)? {
             add(&mut ids, *id)?;
         }
     }
     Ok(ids)
 }
 
-/// The nodes that an object is not a default of, by the sets of its members.
+/// The nodes that an object is not a default of, by what is known of its members.
 fn object_misfits(
     alloc: Global,
     raws: &[RawNode],
     tables: &[UnionTable],
     members: &Map<String, Value>,
-    parts: &BTreeMap<&str, BTreeSet<u32>>,
+    all: &[Gathered],
+    parts: &BTreeMap<&str, usize>,
     own: &[NodeId],
 ) -> Result<BTreeSet<u32>, Memory>
     requires tables { AreTables (all_without_defaults raws.now) tables.now }
-    requires parts { AreMemberMisfits (all_without_defaults raws.now) (members_view members.now.entries) parts.now }
+    requires parts { AreMembersKnown (all_without_defaults raws.now) all.now (members_view members.now.entries) parts.now }
     ensures { IfOk result (λ ids. AreMisfits (all_without_defaults raws.now) (Data.object (members_view members.now.entries)) ids) }
 {
     let mut ids: BTreeSet<u32> = BTreeSet::new(alloc);
     for id in own {
-        if is_object_misfit(alloc, raws, tables, members, parts, *id)? {
+        if is_object_misfit(alloc, raws, tables, members, all, parts, *id)? {
             add(&mut ids, *id)?;
         }
     }

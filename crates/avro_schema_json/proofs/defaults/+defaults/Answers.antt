@@ -1,29 +1,38 @@
-use Rattle.std.proofs.Common.{◌≡◌, Some, option_map, sym, ap, ◌∙◌}
+use Rattle.std.proofs.Common.{◌≡◌, ◌+◌, ℕ, List, Some, option_map, sym, ap, ◌∙◌}
 use Rattle.avro_schema.specs.Node.{node_at, branches_of}
 use Rattle.avro_schema.specs.Seen.{value_of, ids_of}
 use Rattle.avro_schema.specs.Value.{Value}
 use Rattle.avro_schema.proofs.public.DatumViews.{value_of-Map}
+use Rattle.serde_json.specs.Find.{get_member}
 use Rattle.serde_json.specs.View.{view, items_view, members_view}
 use Rattle.serde_json.proofs.Views.{view-lookup}
 use Rattle.avro_schema_json.specs.DeclaredDefaults.{each_default, entries_default}
 use Rattle.avro_schema_json.specs.inside.OwnDefaults.{all_without_defaults, fields_seen}
 use Rattle.avro_schema_json.proofs.DefaultsSeen.{default-union, entries_end}
 use Rattle.avro_schema_json.proofs.DefaultSteps.{item_next, items_end, entry_next, fields_left, field_next, field_stop, field_missing, fields_end}
-use Rattle.avro_schema_json.proofs.MisfitsSeen.{branch-skip, branch-pass}
+use Rattle.avro_schema_json.proofs.MisfitsSeen.{branch-skip, branch-pass, item-at, left-first, left-next}
 use Rattle.avro_schema_json.proofs.TablesSeen.{begins_late}
 use Rattle.avro_schema_json.proofs.RawSeen.{field_item, fields_past}
 use Rattle.avro_schema_json.proofs.defaults.+defaults.Goals as goal
 
-pub default_of-returns : goal.default_of-returns
-default_of-returns t c =
+pub known_default-returns : goal.known_default-returns
+known_default-returns t c =
+    let nodes = all_without_defaults c.args.raws.now in
+    let n = node_at nodes c.args.id.0 in
+    let ids = ids_of c.in-Some.ids.now in
+    let here : branches_of n ≡ Some ids = ap branches_of (sym c.raw_at-node.ensures) ∙ sym c.in-Some.ensures in
+    rw (default-union nodes (view c.args.tree.now) n ids here) c.branch_default-in-Some.ensures
+
+pub known_default-returns-then-known-ne0 : goal.known_default-returns-then-known-ne0
+known_default-returns-then-known-ne0 t c =
     let nodes = all_without_defaults c.args.raws.now in
     let n = node_at nodes c.args.id.0 in
     let ids = ids_of c.in-Some.ids.now in
     let here : branches_of n ≡ Some ids = ap branches_of (sym c.raw_at-node.ensures) ∙ sym c.in-Some.ensures in
     rw (default-union nodes (view c.args.tree.now) n ids here) c.branch_default.ensures
 
-pub default_of-table_at-table-requires-clause-union : goal.default_of-table_at-table-requires-clause-union
-default_of-table_at-table-requires-clause-union t c = ap branches_of (sym c.raw_at-node.ensures) ∙ sym c.in-Some.ensures
+pub known_default-table_at-table-requires-clause-union : goal.known_default-table_at-table-requires-clause-union
+known_default-table_at-table-requires-clause-union t c = ap branches_of (sym c.raw_at-node.ensures) ∙ sym c.in-Some.ensures
 
 pub branch_default-loop-i-init : goal.branch_default-loop-i-init
 branch_default-loop-i-init t c =
@@ -33,8 +42,8 @@ branch_default-loop-i-init t c =
 
 pub branch_default-loop-i-preserved-then-has : goal.branch_default-loop-i-preserved-then-has
 branch_default-loop-i-preserved-then-has t c =
-    branch-skip (all_without_defaults c.args.raws.now) (view c.args.tree.now) c.args.ids.now c.loop-i.i _ c.args.misfits.now c.has.result _ c.loop-i-test.true
-    c.has.ensures c.if-has.true c.requires.misfits c.loop-i.invariant
+    branch-skip (all_without_defaults c.args.raws.now) (view c.args.tree.now) c.args.ids.now c.loop-i.i _ c.misfits_at-misfits.result.now c.has.result _ c.loop-i-test.true
+    c.has.ensures c.if-has.true (c.misfits_at-misfits.ensures (all_without_defaults c.args.raws.now) (view c.args.tree.now) c.requires.known) c.loop-i.invariant
 
 pub branch_default-loop-i-preserved-then-is_unfit : goal.branch_default-loop-i-preserved-then-is_unfit
 branch_default-loop-i-preserved-then-is_unfit t c =
@@ -48,8 +57,17 @@ item_defaults-loop-item-preserved t c =
     let n = node_at nodes c.args.id.0 in
     let xs = c.deref-item-items.result.now in
     let read = ap (option_map value_of) (sym c.in-Some.is) ∙ c.in_ok-value.ensures in
-    rw c.in_ok-push.ensures.items (item_next nodes n xs l.item-index c.item-item.result (each_default nodes (items_view xs) n) l.values.items c.in-Some.value
-    c.loop-item-test.true c.item-item.is l.invariant read)
+    rw c.in_ok-push.ensures.items (
+      c.in_ok-index.ensures ∙ ap (λ i. i + 1) l.invariant.0,
+      item_next nodes n xs l.item-index c.item-item.result (each_default nodes (items_view xs) n) l.values.items c.in-Some.value
+          c.loop-item-test.true c.item-item.is l.invariant.1 read,
+    )
+
+pub item_defaults-part_of_array-part-requires-clause-item : goal.item_defaults-part_of_array-part-requires-clause-item
+item_defaults-part_of_array-part-requires-clause-item t c =
+    let l = c.loop-item in
+    item-at c.deref-item-items.result.now c.args.items.now.items l.item-index l.index c.item-item.result c.deref-item-items.ensures.value l.invariant.0
+    c.loop-item-test.true c.item-item.is
 
 pub item_defaults-returns : goal.item_defaults-returns
 item_defaults-returns t c =
@@ -57,7 +75,7 @@ item_defaults-returns t c =
     let nodes = all_without_defaults c.args.raws.now in
     let n = node_at nodes c.args.id.0 in
     let xs = c.deref-item-items.result.now in
-    items_end nodes n xs l.item-index (each_default nodes (items_view xs) n) l.values.items c.loop-item-test.false l.invariant
+    items_end nodes n xs l.item-index (each_default nodes (items_view xs) n) l.values.items c.loop-item-test.false l.invariant.1
     ∙ ap (λ ys. each_default nodes (items_view ys) n) c.deref-item-items.ensures.value
 
 pub entry_defaults-loop-key-preserved : goal.entry_defaults-loop-key-preserved
@@ -66,9 +84,18 @@ entry_defaults-loop-key-preserved t c =
     let nodes = all_without_defaults c.args.raws.now in
     let n = node_at nodes c.args.id.0 in
     let read = ap (option_map value_of) (sym c.in-Some-2.is) ∙ c.in_ok-value.ensures in
-    let same = c.in_ok-copy_of_text.ensures ∙ c.as_str.ensures.value in
-    rw c.in_ok-push.ensures.items (entry_next nodes n l.key-iterator c.next.new.self c.in-Some.key.now c.in_ok-copy_of_text.field-0 c.in-Some.tree.now
-    (entries_default nodes (members_view c.args.members.now.entries) n) l.entries.items c.in-Some-2.value c.in-Some.ensures.steps same l.invariant read)
+    let same = c.in_ok-copy_of_text.ensures ∙ c.as_str-name.ensures.value in
+    rw c.in_ok-push.ensures.items (
+      left-next c.args.members.now.entries l.key-iterator c.next.new.self (c.in-Some.key.now, c.in-Some.tree.now) c.in-Some.ensures.steps l.invariant.0,
+      entry_next nodes n l.key-iterator c.next.new.self c.in-Some.key.now c.in_ok-copy_of_text.field-0 c.in-Some.tree.now
+          (entries_default nodes (members_view c.args.members.now.entries) n) l.entries.items c.in-Some-2.value c.in-Some.ensures.steps same l.invariant.1 read,
+    )
+
+pub entry_defaults-part_of_object-part-requires-clause-member : goal.entry_defaults-part_of_object-part-requires-clause-member
+entry_defaults-part_of_object-part-requires-clause-member t c =
+    let l = c.loop-key in
+    ap (λ (key : List ℕ). get_member key (members_view c.args.members.now.entries)) c.as_str-name.ensures.value
+    ∙ left-first c.args.members.now.entries l.key-iterator c.next.new.self c.in-Some.key.now c.in-Some.tree.now c.in-Some.ensures.steps l.invariant.0
 
 pub entry_defaults-returns : goal.entry_defaults-returns
 entry_defaults-returns t c =
@@ -76,7 +103,7 @@ entry_defaults-returns t c =
     let nodes = all_without_defaults c.args.raws.now in
     let n = node_at nodes c.args.id.0 in
     entries_end (entries_default nodes (members_view c.args.members.now.entries) n) l.entries.items (entries_default nodes (members_view l.key-iterator) n)
-    l.invariant (ap (λ es. entries_default nodes (members_view es) n) c.in-None.ensures.steps.0)
+    l.invariant.1 (ap (λ es. entries_default nodes (members_view es) n) c.in-None.ensures.steps.0)
 
 pub field_defaults-returns-in_default : goal.field_defaults-returns-in_default
 field_defaults-returns-in_default t c =
@@ -84,9 +111,9 @@ field_defaults-returns-in_default t c =
     let nodes = all_without_defaults c.args.raws.now in
     let es = c.args.members.now.entries in
     let fs = c.args.fields.now in
-    let key = c.as_str.result.now in
+    let key = c.as_str-name.result.now in
     let f = c.field-item.result in
-    let got = field_item fs l.field-index f key c.loop-field-test.true c.field-item.is c.as_str.ensures.value in
+    let got = field_item fs l.field-index f key c.loop-field-test.true c.field-item.is c.as_str-name.ensures.value in
     let member = ap (option_map view) c.in_default.ensures.value ∙ view-lookup key es in
     field_missing nodes es (fields_seen fs) l.field-index key f.node.0 (fields_left nodes es (fields_seen fs)) l.values.items got member l.invariant
 
@@ -96,13 +123,17 @@ field_defaults-returns-in_default-2 t c =
     let nodes = all_without_defaults c.args.raws.now in
     let es = c.args.members.now.entries in
     let fs = c.args.fields.now in
-    let key = c.as_str.result.now in
+    let key = c.as_str-name.result.now in
     let f = c.field-item.result in
-    let got = field_item fs l.field-index f key c.loop-field-test.true c.field-item.is c.as_str.ensures.value in
+    let got = field_item fs l.field-index f key c.loop-field-test.true c.field-item.is c.as_str-name.ensures.value in
     let member = ap (option_map view) c.in-Some.ensures.value ∙ view-lookup key es in
     let none = ap (option_map value_of) (sym c.in_default-2.is) ∙ c.in_ok-value.ensures in
     field_stop nodes es (fields_seen fs) l.field-index key f.node.0 (view c.in-Some.tree.now) (fields_left nodes es (fields_seen fs)) l.values.items
     got member l.invariant none
+
+pub field_defaults-part_of_object-part-requires-clause-member : goal.field_defaults-part_of_object-part-requires-clause-member
+field_defaults-part_of_object-part-requires-clause-member t c =
+    sym (ap (option_map view) c.in-Some.ensures.value ∙ view-lookup c.as_str-name.result.now c.args.members.now.entries)
 
 pub field_defaults-loop-field-preserved : goal.field_defaults-loop-field-preserved
 field_defaults-loop-field-preserved t c =
@@ -110,9 +141,9 @@ field_defaults-loop-field-preserved t c =
     let nodes = all_without_defaults c.args.raws.now in
     let es = c.args.members.now.entries in
     let fs = c.args.fields.now in
-    let key = c.as_str.result.now in
+    let key = c.as_str-name.result.now in
     let f = c.field-item.result in
-    let got = field_item fs l.field-index f key c.loop-field-test.true c.field-item.is c.as_str.ensures.value in
+    let got = field_item fs l.field-index f key c.loop-field-test.true c.field-item.is c.as_str-name.ensures.value in
     let member = ap (option_map view) c.in-Some.ensures.value ∙ view-lookup key es in
     let read = ap (option_map value_of) (sym c.in-Some-2.is) ∙ c.in_ok-value.ensures in
     rw c.in_ok-push.ensures.items (field_next nodes es (fields_seen fs) l.field-index key f.node.0 (view c.in-Some.tree.now) (fields_left nodes es (fields_seen fs))

@@ -6,21 +6,22 @@ use Rattle.avro_schema_json.specs.DeclaredDefaults.{first_fit, each_default, ent
 use Rattle.avro_schema_json.specs.inside.OwnDefaults.{all_without_defaults, fields_seen, own_default}
 use Rattle.serde_json.specs.View.{view, items_view, members_view}
 use Rattle.avro_schema_json.proofs.DefaultsSeen.{after_values, after_entries}
+use Rattle.avro_schema_json.proofs.MisfitsSeen.{AreLeft}
 use Rattle.avro_schema_json.proofs.defaults.+defaults.Given as goal
 
 abbrev pub invariant-item_defaults-loop-item : goal.invariant-item_defaults-loop-item
 invariant-item_defaults-loop-item l =
     let nodes = all_without_defaults l.raws in
     let node = node_at nodes l.id.0 in
-    option_map (after_values l.values.items) (each_default nodes (items_view (drop l.item-index l.item-items)) node)
-    ≡ each_default nodes (items_view l.item-items) node
+    (l.index ≡ l.item-index) × (option_map (after_values l.values.items) (each_default nodes (items_view (drop l.item-index l.item-items)) node)
+    ≡ each_default nodes (items_view l.item-items) node)
 
 abbrev pub invariant-entry_defaults-loop-key : goal.invariant-entry_defaults-loop-key
 invariant-entry_defaults-loop-key l =
     let nodes = all_without_defaults l.raws in
     let node = node_at nodes l.id.0 in
-    option_map (after_entries l.entries.items) (entries_default nodes (members_view l.key-iterator) node)
-    ≡ entries_default nodes (members_view l.members.entries) node
+    AreLeft l.members.entries l.key-iterator × (option_map (after_entries l.entries.items) (entries_default nodes (members_view l.key-iterator) node)
+    ≡ entries_default nodes (members_view l.members.entries) node)
 
 abbrev pub invariant-field_defaults-loop-field : goal.invariant-field_defaults-loop-field
 invariant-field_defaults-loop-field l =

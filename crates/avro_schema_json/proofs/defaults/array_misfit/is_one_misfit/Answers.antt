@@ -4,7 +4,7 @@ use Rattle.serde_json.specs.View.{view, items_view}
 use Rattle.avro_schema_json.specs.DeclaredDefaults.{each_default}
 use Rattle.avro_schema_json.specs.inside.OwnDefaults.{all_without_defaults}
 use Rattle.avro_schema_json.proofs.MisfitsSeen.{item-at, item-misfit}
-use Rattle.avro_schema_json.proofs.defaults.misfit.is_one_misfit.Goals as goal
+use Rattle.avro_schema_json.proofs.defaults.array_misfit.is_one_misfit.Goals as goal
 
 pub is_misfit-requires : goal.is_misfit-requires
 is_misfit-requires c =
@@ -12,7 +12,12 @@ is_misfit-requires c =
     let x = c.item-item.result in
     let ys = c.args.items.now.items in
     let at = item-at c.deref-item-items.result.now ys l.item-index l.index x c.deref-item-items.ensures.value l.invariant c.loop-item-test.true c.item-item.is in
-    record { tables = c.requires.tables; known = c.of_item-known.ensures (all_without_defaults c.args.raws.now) (items_view ys) (view x) c.requires.parts at }
+    record {
+      tables = c.requires.tables;
+      known =
+          let nodes = all_without_defaults c.args.raws.now in
+          c.misfits_at-known.ensures nodes (view x) (c.item_part.ensures nodes c.args.all.now (items_view ys) (view x) c.requires.parts at);
+    }
 
 pub returns-then-branch : goal.returns-then-branch
 returns-then-branch c = λ holds.

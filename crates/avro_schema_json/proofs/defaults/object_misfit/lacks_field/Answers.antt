@@ -4,7 +4,7 @@ use Rattle.serde_json.proofs.Views.{view-lookup}
 use Rattle.avro_schema_json.specs.inside.OwnDefaults.{fields_seen}
 use Rattle.avro_schema_json.proofs.MisfitsSeen.{field-missing_at}
 use Rattle.avro_schema_json.proofs.RawSeen.{field_item}
-use Rattle.avro_schema_json.proofs.defaults.misfit.lacks_field.Goals as goal
+use Rattle.avro_schema_json.proofs.defaults.object_misfit.lacks_field.Goals as goal
 
 pub returns-in_default : goal.returns-in_default
 returns-in_default c = λ holds nodes.

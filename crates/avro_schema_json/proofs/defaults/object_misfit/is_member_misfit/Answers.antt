@@ -7,7 +7,7 @@ use Rattle.serde_json.proofs.Views.{view-lookup}
 use Rattle.avro_schema_json.specs.DeclaredDefaults.{default_of}
 use Rattle.avro_schema_json.specs.inside.Misfits.{IsMemberMisfit}
 use Rattle.avro_schema_json.specs.inside.OwnDefaults.{all_without_defaults}
-use Rattle.avro_schema_json.proofs.defaults.misfit.is_member_misfit.Goals as goal
+use Rattle.avro_schema_json.proofs.defaults.object_misfit.is_member_misfit.Goals as goal
 
 pub is_misfit-requires : goal.is_misfit-requires
 is_misfit-requires c =
@@ -15,7 +15,12 @@ is_misfit-requires c =
     let key = c.args.key.now in
     let d = view c.in-Some.tree.now in
     let there : get_member key (members_view es) ≡ Some d = sym (ap (option_map view) c.in-Some.ensures.value ∙ view-lookup key es) in
-    record { tables = c.requires.tables; known = c.of_member.ensures (all_without_defaults c.args.raws.now) (members_view es) d c.requires.parts there }
+    record {
+      tables = c.requires.tables;
+      known =
+          let nodes = all_without_defaults c.args.raws.now in
+          c.misfits_at-known.ensures nodes d (c.member_part.ensures nodes c.args.all.now (members_view es) d c.requires.parts there);
+    }
 
 pub returns-in-Some : goal.returns-in-Some
 returns-in-Some c =

@@ -2,7 +2,7 @@ use Rattle.serde_json.specs.View.{members_view}
 use Rattle.avro_schema_json.specs.inside.OwnDefaults.{all_without_defaults, fields_seen}
 use Rattle.avro_schema_json.proofs.MisfitsSeen.{field-misfit_at}
 use Rattle.avro_schema_json.proofs.RawSeen.{field_item}
-use Rattle.avro_schema_json.proofs.defaults.misfit.is_field_misfit.Goals as goal
+use Rattle.avro_schema_json.proofs.defaults.object_misfit.is_field_misfit.Goals as goal
 
 pub returns-then-branch : goal.returns-then-branch
 returns-then-branch c = λ holds.

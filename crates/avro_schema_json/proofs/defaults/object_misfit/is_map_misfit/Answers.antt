@@ -1,7 +1,7 @@
 use Rattle.serde_json.specs.View.{members_view}
 use Rattle.avro_schema_json.specs.inside.OwnDefaults.{all_without_defaults}
 use Rattle.avro_schema_json.proofs.MisfitsSeen.{member-misfit}
-use Rattle.avro_schema_json.proofs.defaults.misfit.is_map_misfit.Goals as goal
+use Rattle.avro_schema_json.proofs.defaults.object_misfit.is_map_misfit.Goals as goal
 
 pub returns-then-branch : goal.returns-then-branch
 returns-then-branch c = λ holds.
