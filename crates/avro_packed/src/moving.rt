@@ -1,8 +1,8 @@
 //! Moving what was written.
 
-ghost use Rattle.std.specs.Prelude.{◌≡◌, ◌++◌, [], List, ℕ, true, IfOk, OnOk};
+ghost use Rattle.std.specs.Prelude.{◌≡◌, ◌++◌, ◌≤◌, [], List, ℕ, true, length, IfOk, OnOk};
 ghost use Rattle.avro_binary.specs.Encoding.{plain_bytes};
-ghost use Rattle.avro_packed.specs.Appended.{Holds, StandsAt};
+ghost use Rattle.avro_packed.specs.Appended.{Grows, Holds, StandsAt};
 
 use crate::flatten::append_number;
 use crate::spares::{give, room};
@@ -145,6 +145,72 @@ pub(crate) fn join(
             Ok(())
         }
     }
+}
+
+/// How long an output may be for a part of it to be copied to its end: so no more than this is ever written twice.
+const SHORT: usize = 4096;
+
+/// How many bytes of a part are copied there at most.
+const FEW: usize = 16;
+
+/// What was written, at the end of the output where this ends with what was written before: a few bytes of a short output are copied
+/// there, so that the two need no room of their own.
+#[inline(always)]
+fn brought(out: &mut Vec<u8>, before: &Written, written: Written) -> Result<Written, AllocError>
+    ensures kept { OnOk result (Grows out.old.items out.new.items) }
+    ensures holds { (bytes : List ℕ) → Holds out.old.items written bytes → IfOk result (λ it. Holds out.new.items it bytes) }
+{
+    let len = out.len();
+    if !ends_at(before, len) {
+        return Ok(written);
+    }
+    match written {
+        Written::Range(start, end) => {
+            if start <= end && end < len && end - start <= FEW && len <= SHORT {
+                return copied(out, start, end);
+            }
+            Ok(Written::Range(start, end))
+        }
+        Written::Apart(room) => Ok(Written::Apart(room)),
+    }
+}
+
+/// Whether some bytes of an output stand where it ends.
+#[inline(always)]
+fn ends_at(written: &Written, len: usize) -> bool {
+    match written {
+        Written::Range(start, end) => *start < *end && *end == len,
+        Written::Apart(_) => false,
+    }
+}
+
+/// A copy, at the end of an output, of its bytes between two offsets.
+#[inline(always)]
+fn copied(out: &mut Vec<u8>, start: usize, end: usize) -> Result<Written, AllocError>
+    requires order { start ≤ end }
+    requires inside { end ≤ length out.old.items }
+    ensures kept { OnOk result (Grows out.old.items out.new.items) }
+    ensures holds { (bytes : List ℕ) → StandsAt out.old.items start end bytes → IfOk result (λ it. Holds out.new.items it bytes) }
+{
+    let len = out.len();
+    out.extend_from_within(start..end)?;
+    Ok(Written::Range(len, out.len()))
+}
+
+/// Puts what was written after what was written before, and a few bytes of it at the end of a short output, where they need no room.
+#[inline(always)]
+pub(crate) fn join_near(
+    alloc: Global,
+    out: &mut Vec<u8>,
+    spares: &mut Vec<Box<Apart>>,
+    first: &mut Written,
+    second: Written,
+) -> Result<(), AllocError>
+    ensures kept { OnOk result (Grows out.old.items out.new.items) }
+    ensures joined { (a b : List ℕ) → Holds out.old.items first.old a → Holds out.old.items second b → OnOk result (Holds out.new.items first.new (a ++ b)) }
+{
+    let near = brought(out, first, second)?;
+    join(alloc, out, spares, first, near)
 }
 
 /// Puts a key after what was written before.

@@ -2,7 +2,7 @@
 
 use crate::appending::Appending;
 use crate::gathered::Gathered;
-use crate::moving::join;
+use crate::moving::join_near;
 use crate::spares::{give_slots, slots};
 use crate::written::Written;
 use avro_binary::{Make, append_plain};
@@ -231,7 +231,7 @@ impl Put for Appending {
         fields: &mut Written,
         value: Written,
     ) -> Result<(), AllocError> {
-        join(alloc, &self.out, &mut self.spares, fields, value)
+        join_near(alloc, &mut self.out, &mut self.spares, fields, value)
     }
 
     #[inline(always)]

@@ -1,6 +1,6 @@
-use Rattle.std.specs.Prelude.{OnOk}
-use Rattle.std.proofs.Common.{◌≡◌, ◌++◌, List, ℕ, subst, sym, rules}
+use Rattle.std.proofs.Common.{◌≡◌, ◌++◌, List, ℕ, subst, rules}
 use Rattle.avro_schema.specs.Seen.{values_from}
+use Rattle.avro_schema.specs.Value.{Value}
 use Rattle.avro_binary.specs.Encoding.{plain, plain_values}
 use Rattle.avro_packed.specs.Appended.{Holds, branch_bytes}
 use Rattle.avro_packed.proofs.Gathering.{field_behind}
@@ -10,10 +10,6 @@ pub returns-clause-stands : goal.returns-clause-stands
 returns-clause-stands c = λ into vs v before is.
     let out = c.self.inside.out.items in
     let here : c.args.self.now ≡ out = search rules in
-    let before = subst (λ (o : List ℕ). Holds o c.args.fields.now (branch_bytes into ++ plain_values (values_from vs))) here before in
-    let is = subst (λ (o : List ℕ). Holds o c.args.value (plain v)) here is in
-    let same : out ≡ c.deref.result.now = search rules in
     let front = branch_bytes into ++ plain_values (values_from vs) in
-    let joined = c.join.ensures front (plain v) (subst (λ (o : List ℕ). Holds o c.args.fields.now front) same before) (subst (λ (o : List ℕ). Holds o c.args.value (plain v)) same is) in
-    field_behind c.join.result (branch_bytes into) vs v (λ (l : List ℕ). Holds out c.join.new.first l)
-    (subst (λ (o : List ℕ). OnOk c.join.result (Holds o c.join.new.first (front ++ plain v))) (sym same) joined)
+    let joined = c.join_near.ensures.joined front (plain v) (subst (λ (o : List ℕ). Holds o c.args.fields.now front) here before) (subst (λ (o : List ℕ). Holds o c.args.value (plain v)) here is) in
+    field_behind c.join_near.result (branch_bytes into) vs v (λ (l : List ℕ). Holds c.join_near.new.out.items c.join_near.new.first l) joined

@@ -1,0 +1,14 @@
+use Rattle.std.proofs.Common.{◌≡◌, ◌++◌, List, ℕ, subst, sym, rules}
+use Rattle.std.specs.Prelude.{OnOk}
+use Rattle.avro_packed.specs.Appended.{Holds}
+use Rattle.avro_packed.specs.inside.Outputs.{still_holds}
+use Rattle.avro_packed.proofs.moving.join_near.Goals as goal
+
+pub returns-clause-joined : goal.returns-clause-joined
+returns-clause-joined c = λ a b before behind.
+    let old = c.args.out.now.items in
+    let mid = c.brought.new.out.items in
+    let same : mid ≡ c.deref.result.now = search rules in
+    let front = still_holds old mid c.args.first.now a c.in_ok-near.ensures.kept before in
+    let joined = c.join.ensures a b (subst (λ (o : List ℕ). Holds o c.args.first.now a) same front) (subst (λ (o : List ℕ). Holds o c.in_ok-near.near b) same (c.in_ok-near.ensures.holds b behind)) in
+    subst (λ (o : List ℕ). OnOk c.join.result (Holds o c.join.new.first (a ++ b))) (sym same) joined
