@@ -1,5 +1,5 @@
 -- What is built of each thing that a pair may ask for.
-use Rattle.std.proofs.Common.{◌≡◌, ℕ, suc, ◌+◌, ◌≤◌, ◌<◌, Bool, true, false, List, [], ◌∷◌, ◌++◌, Option, Some, None, Result, inl, inr, length, drop, refl, sym, ◌∙◌, ap, subst, arith}
+use Rattle.std.proofs.Common.{◌≡◌, ℕ, suc, ◌+◌, ◌≤◌, ◌<◌, Bool, true, false, List, [], ◌∷◌, ◌++◌, Option, Some, None, inl, inr, length, drop, refl, sym, ◌∙◌, ap, subst, arith}
 use Rattle.std.proofs.lemmas.Bool.{and_from, false≢true, true≢false, eq-eqb, ne_eqb}
 use Rattle.std.proofs.lemmas.List.Folds.{list_all-map, list_all-append}
 use Rattle.std.proofs.lemmas.Option.{slice_get_within}
@@ -10,10 +10,9 @@ use Rattle.avro_schema.specs.Seen.{values_from}
 use Rattle.avro_schema.specs.Node.{Node, FieldNode, node_at, branches_of, field_ids}
 use Rattle.avro_schema.specs.Fits.{fits, fields_fit}
 use Rattle.avro_schema.proofs.public.Choices.{HasFewChoices-from_is_schema}
-use Rattle.avro_compare.specs.Fault.{ResolutionFault}
 use Rattle.avro_compare.specs.Match.{first_match}
-use Rattle.avro_compare.specs.Source.{reader_field, missing_field}
-use Rattle.avro_compare.specs.Resolve.{Resolved, Sourced, matched, into_branch, fields_at, branch_node, record_or_missing, resolve, resolve_sources}
+use Rattle.avro_compare.specs.Source.{reader_field}
+use Rattle.avro_compare.specs.Resolve.{Resolved, matched, into_branch, branch_node, resolve, resolve_sources}
 use Rattle.avro_compare.specs.Children.{Pair}
 use Rattle.avro_least.specs.Tables.{Least, LeastTable, ErringTable, IsWithin, count_of, around, together, best_of, all_of, no_parts, one}
 use Rattle.avro_least.specs.Asked.{Row, row_child, Asked, rows_from, asked, err_of_row, err_of_rows, asked_value, asked_children}
@@ -23,7 +22,7 @@ use Rattle.avro_certificate.proofs.public.Tests.{and_left, and_right, all_at}
 use Rattle.avro_certificate.proofs.public.Shapes.{plain_branch}
 use Rattle.avro_least.proofs.LeastErrors.{through_is_matched}
 use Rattle.avro_least.proofs.ShownData.{lesser_either}
-use Rattle.avro_least.proofs.ShownErrors.{IsFault, the_fault, is_fault, fault_inside, fault_map, fault_later, fault_matched, value_of_plain, plain_form, field_faults}
+use Rattle.avro_least.proofs.ShownErrors.{IsFault, the_fault, is_fault, fault_inside, fault_map, fault_later, value_of_plain, plain_form, field_faults, record_faults}
 use Rattle.avro_certificate.proofs.public.Resolving.{slice_get_of_drop, drop_more}
 use Rattle.avro_least.proofs.Building.{around_is, together_is}
 use Rattle.avro_least.proofs.Built.{few_branches}
@@ -268,15 +267,9 @@ module _ (writer reader : List Node) (limit : ℕ) (table : LeastTable) (erring 
     subst (λ (m : Node). fits writer m (Value.record_of (values_from vs)) ≡ true) (sym is.from_is) errs.fitting,
     subst (λ (m : Node). IsFault (resolve writer reader m q (Value.record_of (values_from vs)))) (sym is.from_is)
         (subst (λ (m : Node). IsFault (resolve writer reader (Node.record_of is.name is.aliases is.fields) m (Value.record_of (values_from vs)))) (sym is.to_is)
-        (fault_matched writer reader (Node.record_of is.name is.aliases is.fields) (Node.record_of is.other is.others is.theirs)
-        (λ q. record_or_missing is.fields (fields_at q) (missing_field is.fields (fields_at q)) (resolve_sources writer reader is.fields (fields_at q) 0 (values_from vs)))
-        (not_missing (missing_field is.fields is.theirs) (resolve_sources writer reader is.fields is.theirs 0 (values_from vs)) (errs.faulty (omega arith) count)))),
+        (record_faults writer reader is.name is.other is.aliases is.others is.fields is.theirs (values_from vs) (errs.faulty (omega arith) count))),
   )
     where
-      not_missing : (o : Option ℕ) (x : Result Sourced ResolutionFault) → IsFault x → IsFault (record_or_missing is.fields is.theirs o x)
-      not_missing None x f = fault_map _ x f
-      not_missing (Some index) x f = tt
-
       count : k < 0 + length (field_ids is.fields)
       count = omega (arith, within, ap length is.rows_is ∙ rows_count is.fields is.theirs 0 (field_ids is.fields))
 

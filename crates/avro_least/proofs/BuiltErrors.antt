@@ -1,19 +1,18 @@
 -- What is built of what a pair asks for is a least datum that errs.
-use Rattle.std.proofs.Common.{◌≡◌, ℕ, suc, ◌+◌, ◌<◌, Bool, true, false, ◌&&◌, ◌||◌, cond, List, [], ◌∷◌, Option, Some, None, Ok, length, refl, sym, ◌∙◌, ap, subst, arith}
+use Rattle.std.proofs.Common.{◌≡◌, ℕ, suc, ◌+◌, ◌<◌, Bool, true, false, ◌||◌, cond, List, [], ◌∷◌, Option, Some, None, length, refl, sym, ◌∙◌, ap, subst, arith}
 use Rattle.std.proofs.lemmas.Bool.{and_from, false≢true, lt-ltb}
 use Rattle.std.specs.Prelude.{slice_get, unwrap_or, position, bytes_eq}
 use Rattle.std.specs.List.{list_any}
-use Rattle.avro_schema.specs.Value.{Value, no_values, value, no_entries, entry, size, depth}
-use Rattle.avro_schema.specs.Node.{Node, node_at, items_node, values_node}
-use Rattle.avro_schema.specs.Fits.{fits, entries_fit, is_some_and, is_text}
+use Rattle.avro_schema.specs.Value.{Value, size, depth}
+use Rattle.avro_schema.specs.Node.{Node, node_at}
+use Rattle.avro_schema.specs.Fits.{fits}
 use Rattle.avro_schema.proofs.public.Choices.{HasFewChoices}
-use Rattle.avro_compare.specs.Resolve.{inside, result_map, bytes_as, enum_as, enum_or_default, part_at, symbol_at, resolve, resolve_items, resolve_entries}
+use Rattle.avro_compare.specs.Resolve.{bytes_as, enum_as, enum_or_default, symbol_at, resolve}
 use Rattle.avro_compare.specs.Children.{lacks_symbol}
 use Rattle.avro_least.specs.Asked.{Asked, asked}
 use Rattle.avro_least.specs.BuiltErrors.{first_from, is_lacking, IsLone, part_value}
 use Rattle.avro_certificate.proofs.public.Tests.{not_true}
-use Rattle.avro_least.proofs.ShownData.{empty_text}
-use Rattle.avro_least.proofs.ShownErrors.{IsFault, fault_inside, fault_map, fault_first, fault_matched, not_a_text, no_index}
+use Rattle.avro_least.proofs.ShownErrors.{IsFault, fault_matched, not_a_text, no_index, array_faults, map_faults, map_fits}
 use Rattle.avro_least.proofs.AskedKinds.{AreLone, HaveParts, asks}
 
 -- the first that passes
@@ -94,27 +93,15 @@ module _ (writer reader : List Node) where
       → IsFault (resolve writer reader (node_at writer a) (node_at reader b) v) → Errs n q (part_value n v) (suc (size v)) (suc (depth v))
   part_inside (Node.array x) (Node.array y) a b v same fit f = record {
     fitting = and_from (fits writer (node_at writer x) v) true (subst (λ (p : ℕ). fits writer (node_at writer p) v ≡ true) same.0 fit) refl;
-    faulty = fault_matched writer reader (Node.array x) (Node.array y)
-        (λ q. result_map Value.array (resolve_items writer reader (node_at writer x) (part_at reader (items_node q)) 0 (value v no_values)))
-        (fault_map Value.array (resolve_items writer reader (node_at writer x) (node_at reader y) 0 (value v no_values))
-        (fault_first value (inside 0 (resolve writer reader (node_at writer x) (node_at reader y) v)) (Ok no_values)
-        (fault_inside 0 (resolve writer reader (node_at writer x) (node_at reader y) v)
-        (subst (λ (p : ℕ). IsFault (resolve writer reader (node_at writer p) (node_at reader y) v)) same.0
-        (subst (λ (p : ℕ). IsFault (resolve writer reader (node_at writer a) (node_at reader p) v)) same.1 f)))));
+    faulty = array_faults writer reader x y v (subst (λ (p : ℕ). IsFault (resolve writer reader (node_at writer p) (node_at reader y) v)) same.0
+        (subst (λ (p : ℕ). IsFault (resolve writer reader (node_at writer a) (node_at reader p) v)) same.1 f));
     nodes_is = omega arith;
     depth_is = omega arith;
   }
   part_inside (Node.map_of x) (Node.map_of y) a b v same fit f = record {
-    fitting = and_from _ (is_some_and (λ id. entries_fit writer (node_at writer id) (entry [] v no_entries)) (Some x))
-        (and_from (is_text [] && true) true (and_from (is_text []) true empty_text refl) refl)
-        (and_from (fits writer (node_at writer x) v) true (subst (λ (p : ℕ). fits writer (node_at writer p) v ≡ true) same.0 fit) refl);
-    faulty = fault_matched writer reader (Node.map_of x) (Node.map_of y)
-        (λ q. result_map Value.map_of (resolve_entries writer reader (node_at writer x) (part_at reader (values_node q)) 0 (entry [] v no_entries)))
-        (fault_map Value.map_of (resolve_entries writer reader (node_at writer x) (node_at reader y) 0 (entry [] v no_entries))
-        (fault_first (entry []) (inside 0 (resolve writer reader (node_at writer x) (node_at reader y) v)) (Ok no_entries)
-        (fault_inside 0 (resolve writer reader (node_at writer x) (node_at reader y) v)
-        (subst (λ (p : ℕ). IsFault (resolve writer reader (node_at writer p) (node_at reader y) v)) same.0
-        (subst (λ (p : ℕ). IsFault (resolve writer reader (node_at writer a) (node_at reader p) v)) same.1 f)))));
+    fitting = map_fits writer reader x v (subst (λ (p : ℕ). fits writer (node_at writer p) v ≡ true) same.0 fit);
+    faulty = map_faults writer reader x y v (subst (λ (p : ℕ). IsFault (resolve writer reader (node_at writer p) (node_at reader y) v)) same.0
+        (subst (λ (p : ℕ). IsFault (resolve writer reader (node_at writer a) (node_at reader p) v)) same.1 f));
     nodes_is = omega arith;
     depth_is = omega arith;
   }
