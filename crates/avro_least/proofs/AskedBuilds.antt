@@ -1,37 +1,35 @@
 -- What is built of each thing that a pair may ask for.
-use Rattle.std.proofs.Common.{◌≡◌, ℕ, suc, ◌+◌, ◌≤◌, ◌<◌, Bool, true, false, cond, List, [], ◌∷◌, ◌++◌, Option, Some, None, Result, inl, inr, length, drop, refl, sym, ◌∙◌, ap, subst, arith}
+use Rattle.std.proofs.Common.{◌≡◌, ℕ, suc, ◌+◌, ◌≤◌, ◌<◌, Bool, true, false, List, [], ◌∷◌, ◌++◌, Option, Some, None, inl, inr, length, drop, refl, sym, ◌∙◌, ap, subst, arith}
 use Rattle.std.proofs.lemmas.Bool.{and_from, false≢true, true≢false, eq-eqb, ne_eqb}
 use Rattle.std.proofs.lemmas.List.Folds.{list_all-map, list_all-append}
 use Rattle.std.proofs.lemmas.Option.{slice_get_within}
 use Rattle.std.specs.Prelude.{slice_get, is_some, max, unwrap_or, option_map, map, flat_map, ◌==◌}
 use Rattle.std.specs.List.{list_all}
-use Rattle.avro_name.specs.Name.{Name}
 use Rattle.avro_schema.specs.Value.{Value, value, size, depth, values_size, values_depth}
 use Rattle.avro_schema.specs.Seen.{values_from}
 use Rattle.avro_schema.specs.Node.{Node, FieldNode, node_at, branches_of, field_ids}
 use Rattle.avro_schema.specs.Fits.{fits, fields_fit}
 use Rattle.avro_schema.proofs.public.Choices.{HasFewChoices-from_is_schema}
-use Rattle.avro_compare.specs.Fault.{ResolutionFault}
-use Rattle.avro_compare.specs.Match.{is_match, first_match}
-use Rattle.avro_compare.specs.Source.{reader_field, missing_field}
-use Rattle.avro_compare.specs.Resolve.{Resolved, Sourced, matched, into_branch, fields_at, branch_node, record_or_missing, resolve, resolve_sources}
-use Rattle.avro_compare.specs.Children.{Pair, lacks_symbol}
+use Rattle.avro_compare.specs.Match.{first_match}
+use Rattle.avro_compare.specs.Source.{reader_field}
+use Rattle.avro_compare.specs.Resolve.{Resolved, matched, into_branch, branch_node, resolve, resolve_sources}
+use Rattle.avro_compare.specs.Children.{Pair}
 use Rattle.avro_least.specs.Tables.{Least, LeastTable, ErringTable, IsWithin, count_of, around, together, best_of, all_of, no_parts, one}
-use Rattle.avro_least.specs.Asked.{Row, row_child, Asked, rows_from, asked_inside, asked_branch, asked, err_of_row, err_of_rows, asked_value, asked_children}
+use Rattle.avro_least.specs.Asked.{Row, row_child, Asked, rows_from, asked, err_of_row, err_of_rows, asked_value, asked_children}
 use Rattle.avro_least.specs.inside.Built.{Builds}
-use Rattle.avro_least.specs.BuiltErrors.{BuildsLone, part_value, IsErringOf, AreExact, BuildsError, is_same, BuildsAsked, BuildsRow, BuildsRows, part_of_row, total_from}
+use Rattle.avro_least.specs.BuiltErrors.{BuildsLone, part_value, IsErringOf, AreExact, BuildsError, BuildsAsked, BuildsRow, BuildsRows, part_of_row, total_from}
 use Rattle.avro_certificate.proofs.public.Tests.{and_left, and_right, all_at}
-use Rattle.avro_certificate.proofs.public.Shapes.{plain_branch, first_match_within}
+use Rattle.avro_certificate.proofs.public.Shapes.{plain_branch}
 use Rattle.avro_least.proofs.LeastErrors.{through_is_matched}
 use Rattle.avro_least.proofs.ShownData.{lesser_either}
-use Rattle.avro_least.proofs.ShownErrors.{IsFault, the_fault, is_fault, fault_inside, fault_map, fault_later, fault_matched, value_of_plain, plain_form, field_faults}
+use Rattle.avro_least.proofs.ShownErrors.{IsFault, the_fault, is_fault, fault_inside, fault_map, fault_later, value_of_plain, plain_form, field_faults, record_faults}
 use Rattle.avro_certificate.proofs.public.Resolving.{slice_get_of_drop, drop_more}
 use Rattle.avro_least.proofs.Building.{around_is, together_is}
 use Rattle.avro_least.proofs.Built.{few_branches}
-use Rattle.avro_least.proofs.BuiltErrors.{whole_errs, lone_errs, part_errs, not_same, asks_inside}
+use Rattle.avro_least.proofs.BuiltErrors.{lone_errs, part_errs}
 use Rattle.avro_least.proofs.RowTotals.{past}
 use Rattle.avro_least.proofs.public.Keys.{some_same}
-use Rattle.avro_least.proofs.AskedValue.{asked_of_plain, asked_of_union}
+use Rattle.avro_least.proofs.AskedKinds.{IsRecords, asks}
 
 -- an entry within the limit
 the_entry : (limit : ℕ) (o : Option Least) → IsWithin limit o → (e : Least) × (o ≡ Some e) × (e.nodes ≤ limit)
@@ -68,7 +66,7 @@ module _ (writer reader : List Node) (limit : ℕ) (table : LeastTable) (erring 
       (subst (λ (o : Option Least). count_of o ≤ left) (sym step) few) in
       record {
         fitting = least.fitting;
-        faulty = the_fault (resolve writer reader (node_at writer w) (node_at reader r) v) (whole_errs writer reader (node_at writer w) (node_at reader r) v least.fitting is);
+        faulty = the_fault (resolve writer reader (node_at writer w) (node_at reader r) v) (asks writer reader (node_at writer w) (node_at reader r) Asked.whole is v least.fitting);
         numbers = sym step ∙ least.numbers;
       }
 
@@ -102,39 +100,6 @@ module _ (writer reader : List Node) (limit : ℕ) (table : LeastTable) (erring 
       }
 
   -- a writer's union
-  pub union_asked : (n q : Node) (ids : List ℕ) → Asked.branches ids ≡ asked writer reader n q → n ≡ Node.union ids
-  union_asked (Node.union ps) q ids e = ap Node.union (sym (ap branches_in e))
-    where
-      branches_in : Asked → List ℕ
-      branches_in (Asked.branches ps) = ps
-      branches_in _ = []
-  union_asked n q ids e = absurd (by n q refl e)
-    where
-      inside_no : (n q : Node) → Asked.branches ids ≡ asked_inside n q → ⊥
-      inside_no (Node.record_of a xs fields) (Node.record_of b ys theirs) s = chosen (is_some (missing_field fields theirs)) s
-        where
-          chosen : (t : Bool) → Asked.branches ids ≡ cond t Asked.whole (Asked.fields (rows_from fields theirs 0 (field_ids fields))) → ⊥
-          chosen true s = grind arith
-          chosen false s = grind arith
-      inside_no (Node.enum a xs symbols x) (Node.enum b ys theirs y) s = chosen (lacks_symbol symbols theirs y) s
-        where
-          chosen : (t : Bool) → Asked.branches ids ≡ cond t Asked.lone Asked.quiet → ⊥
-          chosen true s = grind arith
-          chosen false s = grind arith
-      inside_no _ _ s = grind arith
-
-      by : (n q : Node) → branches_of n ≡ None → Asked.branches ids ≡ asked writer reader n q → ⊥
-      by n (Node.union ps) plain s = chosen (first_match writer reader n ps) (s ∙ asked_of_union writer reader n ps plain)
-        where
-          chosen : (o : Option ℕ) → Asked.branches ids ≡ asked_branch ps o → ⊥
-          chosen None s = grind arith
-          chosen (Some k) s = grind arith
-      by n q plain s = chosen (is_match writer reader n q) (s ∙ asked_of_plain writer reader n q plain refl)
-        where
-          chosen : (t : Bool) → Asked.branches ids ≡ cond t (asked_inside n q) Asked.whole → ⊥
-          chosen true s = inside_no n q s
-          chosen false s = grind arith
-
   branch_errs : (n q : Node) (ids : List ℕ) (k p : ℕ) (v : Value) → n ≡ Node.union ids → slice_get ids k ≡ Some p → fits writer (node_at writer p) v ≡ true
       → IsFault (resolve writer reader (node_at writer p) q v) → (fits writer n (Value.union k v) ≡ true) × IsFault (resolve writer reader n q (Value.union k v))
   branch_errs n q ids k p v is here fit f = subst (λ (m : Node). (fits writer m (Value.union k v) ≡ true) × IsFault (resolve writer reader m q (Value.union k v))) (sym is)
@@ -155,7 +120,7 @@ module _ (writer reader : List Node) (limit : ℕ) (table : LeastTable) (erring 
       (sym (list_all-map known (λ p. record { w = p; r = r }) ids) ∙ closed_of known ex w r (Asked.branches ids) is kn within) best.1 in
       let part = best.3 known ex child (subst (λ (o : Option Least). IsWithin limit o) (sym same) (omega (arith, entry.2, inner.nodes)))
       (subst (λ (o : Option Least). count_of o ≤ less) (sym same) (omega (arith, all, more, inner.nodes))) in
-      let node : node_at writer w ≡ Node.union ids = union_asked (node_at writer w) (node_at reader r) ids is in
+      let node : node_at writer w ≡ Node.union ids = asks writer reader (node_at writer w) (node_at reader r) (Asked.branches ids) is in
       let small = few_branches writer ex.formed w ids node in
       let whole_is : whole ≡ Value.union k v = made (omega (arith, slice_get_within ids k best.0 best.1, small)) in
       let errs = branch_errs (node_at writer w) (node_at reader r) ids k best.0 v node best.1 part.fitting
@@ -179,48 +144,11 @@ module _ (writer reader : List Node) (limit : ℕ) (table : LeastTable) (erring 
       (subst (λ (p : ℕ). IsFault (matched writer reader n (node_at reader p) form.0)) (sym own)
       (subst (λ (x : Resolved). IsFault x) (form.1 (node_at reader b) ∙ through_is_matched writer reader n (node_at reader b) form.0 their_plain) f)))))
 
-  pub record IsIntoUnion (n q : Node) (p : ℕ) : Type 0 where
-    pub plain : branches_of n ≡ None
-    pub ids : List ℕ
-    pub is : q ≡ Node.union ids
-    pub branch : ℕ
-    pub first : first_match writer reader n ids ≡ Some branch
-    pub here : slice_get ids branch ≡ Some p
-
-  same_id : (a b : ℕ) → Asked.same a ≡ Asked.same b → a ≡ b
-  same_id a b e = ap id_of e
-    where
-      id_of : Asked → ℕ
-      id_of (Asked.same q) = q
-      id_of _ = 0
-
-  same_asked : (n q : Node) (p : ℕ) → Asked.same p ≡ asked writer reader n q → IsIntoUnion n q p
-  same_asked (Node.union ps) q p e = absurd (grind arith)
-  same_asked n q p e = by n q refl e
-    where
-      by : (n q : Node) → branches_of n ≡ None → Asked.same p ≡ asked writer reader n q → IsIntoUnion n q p
-      by n (Node.union ps) plain s = chosen (first_match writer reader n ps) refl (s ∙ asked_of_union writer reader n ps plain)
-        where
-          chosen : (o : Option ℕ) → first_match writer reader n ps ≡ o → Asked.same p ≡ asked_branch ps o → IsIntoUnion n (Node.union ps) p
-          chosen None m s = absurd (grind arith)
-          chosen (Some k) m s =
-              let found = first_match_within writer reader n ps k m in
-              let own : p ≡ unwrap_or (slice_get ps k) 0 = same_id p (unwrap_or (slice_get ps k) 0) s in
-              record {
-                plain = plain;
-                ids = ps;
-                is = refl;
-                branch = k;
-                first = m;
-                here = found.1 ∙ ap Some (sym (own ∙ ap (λ (o : Option ℕ). unwrap_or o 0) found.1));
-              }
-      by n q plain s = absurd (true≢false (ap is_same s ∙ not_same writer reader n q refl))
-
   pub same_builds : (left w r q : ℕ) (v : Value) → Asked.same q ≡ asked writer reader (node_at writer w) (node_at reader r)
       → (branches_of (node_at reader q) ≡ None → BuildsError writer reader limit table erring left w q v) → BuildsError writer reader limit table erring left w r v
   same_builds left w r q v is h known ex kn within few =
       let step : erring w q ≡ erring w r = step_of known ex w r (Asked.same q) is kn within in
-      let into = same_asked (node_at writer w) (node_at reader r) q is in
+      let into = asks writer reader (node_at writer w) (node_at reader r) (Asked.same q) is in
       let plain : branches_of (node_at reader q) ≡ None = plain_branch reader r into.ids into.branch q ex.theirs into.is into.here in
       let child = and_left (known (record { w = w; r = q })) true (closed_of known ex w r (Asked.same q) is kn within) in
       let part = h plain known ex child (subst (λ (o : Option Least). IsWithin limit o) (sym step) within) (subst (λ (o : Option Least). count_of o ≤ left) (sym step) few) in
@@ -328,54 +256,6 @@ module _ (writer reader : List Node) (limit : ℕ) (table : LeastTable) (erring 
             fault_later (reader_field fields theirs index) index _ (resolve_sources writer reader fields theirs (suc index) (values_from vs))
             (later (omega (arith, from, apart)) (omega (arith, to)))
 
-  -- two records
-  pub record IsRecords (n q : Node) (rows : List Row) : Type 0 where
-    pub name : Name
-    pub other : Name
-    pub aliases : List Name
-    pub others : List Name
-    pub fields : List FieldNode
-    pub theirs : List FieldNode
-    pub from_is : n ≡ Node.record_of name aliases fields
-    pub to_is : q ≡ Node.record_of other others theirs
-    pub none : is_some (missing_field fields theirs) ≡ false
-    pub rows_is : rows ≡ rows_from fields theirs 0 (field_ids fields)
-
-  abbrev rows_in : Asked → List Row
-  rows_in (Asked.fields rows) = rows
-  rows_in _ = []
-
-  records_inside : (n q : Node) (rows : List Row) → Asked.fields rows ≡ asked_inside n q → IsRecords n q rows
-  records_inside (Node.record_of a xs fields) (Node.record_of b ys theirs) rows e = chosen (is_some (missing_field fields theirs)) refl e
-    where
-      chosen : (t : Bool) → is_some (missing_field fields theirs) ≡ t → Asked.fields rows ≡ cond t Asked.whole (Asked.fields (rows_from fields theirs 0 (field_ids fields)))
-          → IsRecords (Node.record_of a xs fields) (Node.record_of b ys theirs) rows
-      chosen true m s = absurd (grind arith)
-      chosen false m s = record { name = a; other = b; aliases = xs; others = ys; fields = fields; theirs = theirs; from_is = refl; to_is = refl; none = m; rows_is = ap rows_in s }
-  records_inside (Node.enum a xs symbols x) (Node.enum b ys theirs y) rows e = absurd (chosen (lacks_symbol symbols theirs y) e)
-    where
-      chosen : (t : Bool) → Asked.fields rows ≡ cond t Asked.lone Asked.quiet → ⊥
-      chosen true s = grind arith
-      chosen false s = grind arith
-  records_inside _ _ rows e = absurd (grind arith)
-
-  records_union : (n : Node) (ids : List ℕ) (rows : List Row) → branches_of n ≡ None → Asked.fields rows ≡ asked writer reader n (Node.union ids) → ⊥
-  records_union n ids rows plain e = chosen (first_match writer reader n ids) (e ∙ asked_of_union writer reader n ids plain)
-    where
-      chosen : (o : Option ℕ) → Asked.fields rows ≡ asked_branch ids o → ⊥
-      chosen None s = grind arith
-      chosen (Some k) s = grind arith
-
-  pub records_asked : (n q : Node) (rows : List Row) → Asked.fields rows ≡ asked writer reader n q → (is_match writer reader n q ≡ true) × IsRecords n q rows
-  records_asked (Node.union ids) q rows e = absurd (grind arith)
-  records_asked n q rows e = by n q refl e
-    where
-      by : (n q : Node) → branches_of n ≡ None → Asked.fields rows ≡ asked writer reader n q → (is_match writer reader n q ≡ true) × IsRecords n q rows
-      by n (Node.union ids) plain s = absurd (records_union n ids rows plain s)
-      by n q plain s =
-          let own = asks_inside writer reader n q plain refl (Asked.fields rows) s (λ t. grind arith) in
-          (own.0, records_inside n q rows own.1)
-
   rows_count : (fields theirs : List FieldNode) (index : ℕ) (ps : List ℕ) → length (rows_from fields theirs index ps) ≡ length ps
   rows_count fields theirs index [] = refl
   rows_count fields theirs index (p ∷ ps) = ap suc (rows_count fields theirs (suc index) ps)
@@ -387,15 +267,9 @@ module _ (writer reader : List Node) (limit : ℕ) (table : LeastTable) (erring 
     subst (λ (m : Node). fits writer m (Value.record_of (values_from vs)) ≡ true) (sym is.from_is) errs.fitting,
     subst (λ (m : Node). IsFault (resolve writer reader m q (Value.record_of (values_from vs)))) (sym is.from_is)
         (subst (λ (m : Node). IsFault (resolve writer reader (Node.record_of is.name is.aliases is.fields) m (Value.record_of (values_from vs)))) (sym is.to_is)
-        (fault_matched writer reader (Node.record_of is.name is.aliases is.fields) (Node.record_of is.other is.others is.theirs)
-        (λ q. record_or_missing is.fields (fields_at q) (missing_field is.fields (fields_at q)) (resolve_sources writer reader is.fields (fields_at q) 0 (values_from vs)))
-        (not_missing (missing_field is.fields is.theirs) (resolve_sources writer reader is.fields is.theirs 0 (values_from vs)) (errs.faulty (omega arith) count)))),
+        (record_faults writer reader is.name is.other is.aliases is.others is.fields is.theirs (values_from vs) (errs.faulty (omega arith) count))),
   )
     where
-      not_missing : (o : Option ℕ) (x : Result Sourced ResolutionFault) → IsFault x → IsFault (record_or_missing is.fields is.theirs o x)
-      not_missing None x f = fault_map _ x f
-      not_missing (Some index) x f = tt
-
       count : k < 0 + length (field_ids is.fields)
       count = omega (arith, within, ap length is.rows_is ∙ rows_count is.fields is.theirs 0 (field_ids is.fields))
 
@@ -411,8 +285,7 @@ module _ (writer reader : List Node) (limit : ℕ) (table : LeastTable) (erring 
       let exists = some_total 0 rows inner.inner inner.is (omega (arith, entry.2, inner.nodes)) in
       let index : 0 + exists.0 ≡ exists.0 = omega arith in
       let chosen = choice exists.0 exists.1 (subst (λ (j : ℕ). total_from limit table erring j 0 rows ≡ err_of_rows limit table erring rows) index (exists.2 ∙ sym inner.is)) in
-      let found = records_asked (node_at writer w) (node_at reader r) rows is in
-      let own = found.1 in
+      let own = asks writer reader (node_at writer w) (node_at reader r) (Asked.fields rows) is in
       let errs : RowsErr own.fields own.theirs 0 k (field_ids own.fields) vs inner.inner =
       rows_err known ex less own.fields own.theirs 0 k (field_ids own.fields) vs refl
       (subst (λ (rs : List Row). BuildsRows writer reader limit table erring less k 0 rs vs) own.rows_is built)

@@ -1,4 +1,5 @@
 pub mod AskedBuilds
+pub mod AskedKinds
 pub mod AskedLed
 pub mod AskedValue
 pub mod AskedWithin

@@ -1,9 +1,9 @@
 -- A datum of one node that errs, by what is found of a pair.
-use Rattle.std.proofs.Common.{◌≡◌, ℕ, suc, ◌+◌, ◌<◌, Bool, cond, List, [], ◌∷◌, Option, Some, None, length, refl, ◌∙◌, ap, arith}
+use Rattle.std.proofs.Common.{◌≡◌, ℕ, suc, ◌+◌, ◌<◌, Bool, cond, List, [], ◌∷◌, Option, Some, None, length, refl, ◌∙◌, ap, arith, true}
 use Rattle.std.specs.Prelude.{slice_get, unwrap_or, position, bytes_eq, is_none}
 use Rattle.avro_name.specs.Name.{Name}
 use Rattle.avro_schema.specs.Value.{Value}
-use Rattle.avro_schema.specs.Node.{Node, branches_of}
+use Rattle.avro_schema.specs.Node.{Node}
 use Rattle.avro_schema.specs.Seen.{node_of, texts_of}
 use Rattle.avro_schema.specs.declared.schema.EnumNode.{EnumNode}
 use Rattle.avro_schema.specs.declared.schema.NodeId.{NodeId}
@@ -16,9 +16,10 @@ use Rattle.avro_compare.specs.declared.error.FaultKind.TheVariants.{NoMatch}
 use Rattle.avro_compare.specs.declared.guided.Aim.TheVariants.{Fault, To}
 use Rattle.avro_compare.specs.declared.comparison.Comparison.{Comparison}
 use Rattle.avro_compare.proofs.public.Symbols.{lacks_here}
-use Rattle.avro_least.specs.Asked.{Asked, asked, asked_inside}
+use Rattle.avro_least.specs.Asked.{Asked, asked}
 use Rattle.avro_least.specs.BuiltErrors.{IsLone, first_from, is_lacking}
-use Rattle.avro_least.proofs.BuiltErrors.{asks_inside, lone_union}
+use Rattle.avro_least.proofs.AskedKinds.{AreLone, asks}
+use Rattle.std.proofs.lemmas.Bool.{false≢true}
 
 -- without a default, the first of the writer's symbols for which none was found is the first that the reader lacks
 first_same : (symbols theirs : List (List ℕ)) (found : List (Option ℕ)) (n : ℕ) → length found ≡ length symbols
@@ -32,11 +33,14 @@ first_same [] theirs (f ∷ fs) n all h = absurd (omega (arith, all))
 first_same (s ∷ ss) theirs [] n all h = absurd (omega (arith, all))
 
 module _ (writer reader : List Node) where
-  symbol_inside : (a : Name) (xs : List Name) (symbols : List (List ℕ)) (x : Option ℕ) (q : Node) (pair : Comparison) → AreInside (Node.enum a xs symbols x) q pair
-      → Asked.lone ≡ asked_inside (Node.enum a xs symbols x) q → (v : Value)
+  symbol_of_enum : (a : Name) (xs : List Name) (symbols : List (List ℕ)) (x : Option ℕ) (q : Node) (pair : Comparison)
+      → pair.aim ≡ aim_of writer reader (Node.enum a xs symbols x) pair.r q
+      → ((b : NodeId) → pair.aim ≡ To None b → AreInside (Node.enum a xs symbols x) q pair)
+      → (is_match writer reader (Node.enum a xs symbols x) q ≡ true) × AreLone (Node.enum a xs symbols x) q → (v : Value)
       → (first_from is_none 0 pair.symbols.items < 4294967296 → v ≡ Value.enum (first_from is_none 0 pair.symbols.items)) → IsLone (Node.enum a xs symbols x) q v
-  symbol_inside a xs symbols x (Node.enum b ys theirs None) pair inside e v h =
-      let same : first_from is_none 0 pair.symbols.items ≡ first_from (is_lacking theirs) 0 symbols = first_same symbols theirs pair.symbols.items 0 inside.all_symbols inside.symbols in
+  symbol_of_enum a xs symbols x (Node.enum b ys theirs None) pair aims inside own v h =
+      let kept = inside pair.r (aims ∙ ap (λ (t : Bool). cond t (To None pair.r) (Fault NoMatch)) own.0) in
+      let same : first_from is_none 0 pair.symbols.items ≡ first_from (is_lacking theirs) 0 symbols = first_same symbols theirs pair.symbols.items 0 kept.all_symbols kept.symbols in
       record { symbol = λ k is low. chosen (first_from (is_lacking theirs) 0 symbols) k same (enum_same (first_from (is_lacking theirs) 0 symbols) k is) low; bytes = λ is. absurd (grind arith) }
     where
       enum_same : (i k : ℕ) → Value.enum i ≡ Value.enum k → i ≡ k
@@ -44,29 +48,13 @@ module _ (writer reader : List Node) where
 
       chosen : (i k : ℕ) → first_from is_none 0 pair.symbols.items ≡ i → i ≡ k → k < 4294967296 → v ≡ Value.enum k
       chosen i k same is low = h (omega (arith, same, is, low)) ∙ ap Value.enum (same ∙ is)
-  symbol_inside a xs symbols x (Node.enum b ys theirs (Some d)) pair inside e v h = absurd (grind arith)
-  symbol_inside a xs symbols x _ pair inside e v h = absurd (grind arith)
-
-  symbol_plain : (a : Name) (xs : List Name) (symbols : List (List ℕ)) (x : Option ℕ) (q : Node) (pair : Comparison) → branches_of q ≡ None
-      → pair.aim ≡ cond (is_match writer reader (Node.enum a xs symbols x) q) (To None pair.r) (Fault NoMatch)
-      → ((b : NodeId) → pair.aim ≡ To None b → AreInside (Node.enum a xs symbols x) q pair)
-      → Asked.lone ≡ asked writer reader (Node.enum a xs symbols x) q → (v : Value)
-      → (first_from is_none 0 pair.symbols.items < 4294967296 → v ≡ Value.enum (first_from is_none 0 pair.symbols.items)) → IsLone (Node.enum a xs symbols x) q v
-  symbol_plain a xs symbols x q pair plain aims inside e v h =
-      let own = asks_inside writer reader (Node.enum a xs symbols x) q refl plain Asked.lone e (λ s. grind arith) in
-      symbol_inside a xs symbols x q pair (inside pair.r (aims ∙ ap (λ (b : Bool). cond b (To None pair.r) (Fault NoMatch)) own.0)) own.1 v h
-
-  symbol_of_enum : (a : Name) (xs : List Name) (symbols : List (List ℕ)) (x : Option ℕ) (q : Node) (pair : Comparison)
-      → pair.aim ≡ aim_of writer reader (Node.enum a xs symbols x) pair.r q
-      → ((b : NodeId) → pair.aim ≡ To None b → AreInside (Node.enum a xs symbols x) q pair)
-      → Asked.lone ≡ asked writer reader (Node.enum a xs symbols x) q → (v : Value)
-      → (first_from is_none 0 pair.symbols.items < 4294967296 → v ≡ Value.enum (first_from is_none 0 pair.symbols.items)) → IsLone (Node.enum a xs symbols x) q v
-  symbol_of_enum a xs symbols x (Node.union ids) pair aims inside e v h = absurd (lone_union writer reader (Node.enum a xs symbols x) ids refl e)
-  symbol_of_enum a xs symbols x q pair aims inside e v h = symbol_plain a xs symbols x q pair refl aims inside e v h
+  symbol_of_enum a xs symbols x (Node.enum b ys theirs (Some d)) pair aims inside own v h = absurd (false≢true own.1)
+  symbol_of_enum a xs symbols x _ pair aims inside own v h = absurd own.1
 
   -- the first symbol for which none was found
   pub lone_symbol : (n : EnumNode) (q : Node) (pair : Comparison) → pair.aim ≡ aim_of writer reader (node_of (KeptNode.Enum n)) pair.r q
       → ((b : NodeId) → pair.aim ≡ To None b → AreInside (node_of (KeptNode.Enum n)) q pair)
       → Asked.lone ≡ asked writer reader (node_of (KeptNode.Enum n)) q → (v : Value)
       → (first_from is_none 0 pair.symbols.items < 4294967296 → v ≡ Value.enum (first_from is_none 0 pair.symbols.items)) → IsLone (node_of (KeptNode.Enum n)) q v
-  lone_symbol n q pair aims inside e v h = symbol_of_enum n.name n.aliases.items (texts_of n.symbols.items) n.default q pair aims inside e v h
+  lone_symbol n q pair aims inside e v h = symbol_of_enum n.name n.aliases.items (texts_of n.symbols.items) n.default q pair aims inside
+      (asks writer reader (node_of (KeptNode.Enum n)) q Asked.lone e) v h

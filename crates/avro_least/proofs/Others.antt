@@ -21,7 +21,7 @@ use Rattle.avro_least.specs.declared.pairs.leads.Lead.{Lead}
 use Rattle.avro_least.specs.inside.Parts.{least_of_others, nodes_of, row_part, parts_of, part_at, seen_pair, row_items, AreOthersOf, AreOthers}
 use Rattle.avro_least.specs.inside.Leading.{is_lead, leads_at}
 use Rattle.avro_certificate.proofs.public.Tests.{or_from_left, or_from_right}
-use Rattle.avro_least.proofs.AskedBuilds.{records_asked}
+use Rattle.avro_least.proofs.AskedKinds.{asks}
 use Rattle.avro_least.proofs.AskedValue.{row_nodes}
 use Rattle.avro_least.proofs.RowTotals.{after_nothing, get_each, nothing_alone, together_around}
 use Rattle.avro_least.proofs.Rounds.{set_here, set_other}
@@ -69,7 +69,7 @@ part_within w r a k c is = by_parts (parts_of w r a) k is
 pub rows_nodes : (limit : ℕ) (table : LeastTable) (erring : ErringTable) (writer reader : List Node) (n q : Node) (rows : List Row) → Asked.fields rows ≡ asked writer reader n q
     → map (λ row. row.node) rows ≡ nodes_of n
 rows_nodes limit table erring writer reader n q rows e =
-    let own = (records_asked writer reader limit table erring n q rows e).1 in
+    let own = asks writer reader n q (Asked.fields rows) e in
     ap (map (λ row. row.node)) own.rows_is ∙ row_nodes limit table erring own.fields own.theirs 0 (field_ids own.fields) ∙ ap nodes_of (sym own.from_is)
 
 -- a row that grows

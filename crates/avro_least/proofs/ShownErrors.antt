@@ -152,6 +152,44 @@ module _ (writer reader : List Node) where
   missing_errs a b xs ys fields theirs (Value.fixed c) h m = absurd (false≢true (and_right (are_bytes c) false h))
   missing_errs a b xs ys fields theirs _ h m = absurd (false≢true h)
 
+  -- a record of which a field errs
+  pub record_faults : (a b : _) (xs ys : _) (fields theirs : List FieldNode) (vs : Values) → IsFault (resolve_sources writer reader fields theirs 0 vs)
+      → IsFault (resolve writer reader (Node.record_of a xs fields) (Node.record_of b ys theirs) (Value.record_of vs))
+  record_faults a b xs ys fields theirs vs f =
+      fault_matched writer reader (Node.record_of a xs fields) (Node.record_of b ys theirs)
+      (λ q. record_or_missing fields (fields_at q) (missing_field fields (fields_at q)) (resolve_sources writer reader fields (fields_at q) 0 vs))
+      (not_missing (missing_field fields theirs) (resolve_sources writer reader fields theirs 0 vs) f)
+    where
+      not_missing : (o : Option ℕ) (x : Result Sourced ResolutionFault) → IsFault x → IsFault (record_or_missing fields theirs o x)
+      not_missing None x f = fault_map _ x f
+      not_missing (Some index) x f = tt
+
+  -- an array of one item that errs
+  pub array_faults : (a b : ℕ) (v : Value) → IsFault (resolve writer reader (node_at writer a) (node_at reader b) v)
+      → IsFault (resolve writer reader (Node.array a) (Node.array b) (Value.array (value v no_values)))
+  array_faults a b v f =
+      fault_matched writer reader (Node.array a) (Node.array b)
+      (λ q. result_map Value.array (resolve_items writer reader (node_at writer a) (part_at reader (items_node q)) 0 (value v no_values)))
+      (fault_map Value.array (resolve_items writer reader (node_at writer a) (node_at reader b) 0 (value v no_values))
+      (fault_first value (inside 0 (resolve writer reader (node_at writer a) (node_at reader b) v)) (Ok no_values)
+      (fault_inside 0 (resolve writer reader (node_at writer a) (node_at reader b) v) f)))
+
+  -- a map of one entry that errs
+  pub map_faults : (a b : ℕ) (v : Value) → IsFault (resolve writer reader (node_at writer a) (node_at reader b) v)
+      → IsFault (resolve writer reader (Node.map_of a) (Node.map_of b) (Value.map_of (entry [] v no_entries)))
+  map_faults a b v f =
+      fault_matched writer reader (Node.map_of a) (Node.map_of b)
+      (λ q. result_map Value.map_of (resolve_entries writer reader (node_at writer a) (part_at reader (values_node q)) 0 (entry [] v no_entries)))
+      (fault_map Value.map_of (resolve_entries writer reader (node_at writer a) (node_at reader b) 0 (entry [] v no_entries))
+      (fault_first (entry []) (inside 0 (resolve writer reader (node_at writer a) (node_at reader b) v)) (Ok no_entries)
+      (fault_inside 0 (resolve writer reader (node_at writer a) (node_at reader b) v) f)))
+
+  -- a map of one entry fits
+  pub map_fits : (a : ℕ) (v : Value) → fits writer (node_at writer a) v ≡ true → fits writer (Node.map_of a) (Value.map_of (entry [] v no_entries)) ≡ true
+  map_fits a v fit = and_from _ (is_some_and (λ id. entries_fit writer (node_at writer id) (entry [] v no_entries)) (Some a))
+      (and_from (is_text [] && true) true (and_from (is_text []) true empty_text refl) refl)
+      (and_from (fits writer (node_at writer a) v) true fit refl)
+
 module _ (writer reader : List Node) (limit : ℕ) where
   -- a datum whose result is a fault
   shows : (n q : Node) (e : Option Least) (v : Value) → fits writer n v ≡ true → IsFault (resolve writer reader n q v) → Exactly limit e (size v) (depth v)
@@ -193,14 +231,8 @@ module _ (writer reader : List Node) (limit : ℕ) where
       → ShowsError writer reader limit (Node.record_of a xs fields) (Node.record_of b ys theirs) (around limit e)
   record_errs a b xs ys fields theirs e parts =
       shows (Node.record_of a xs fields) (Node.record_of b ys theirs) (around limit e) (Value.record_of parts.values) parts.fitting
-      (fault_matched writer reader (Node.record_of a xs fields) (Node.record_of b ys theirs)
-      (λ q. record_or_missing fields (fields_at q) (missing_field fields (fields_at q)) (resolve_sources writer reader fields (fields_at q) 0 parts.values))
-      (not_missing (missing_field fields theirs) (resolve_sources writer reader fields theirs 0 parts.values) parts.faulty))
+      (record_faults writer reader a b xs ys fields theirs parts.values parts.faulty)
       (exact_around limit e (values_size parts.values) (values_depth parts.values) parts.exact)
-    where
-      not_missing : (o : Option ℕ) (x : Result Sourced ResolutionFault) → IsFault x → IsFault (record_or_missing fields theirs o x)
-      not_missing None x f = fault_map _ x f
-      not_missing (Some index) x f = tt
 
   -- a branch that errs
   pub branch_errs : (ids : List ℕ) (q : Node) (k p : ℕ) (e : Option Least) → slice_get ids k ≡ Some p → ShowsError writer reader limit (node_at writer p) q e
@@ -278,25 +310,13 @@ module _ (writer reader : List Node) (limit : ℕ) (table : LeastTable) (erring 
       let part = errors a b (and_left (known (record { w = a; r = b })) true children) (around_some limit (erring a b) h) in
       shows writer reader limit (Node.array a) (Node.array b) (around limit (erring a b)) (Value.array (value part.datum no_values))
       (and_from (fits writer (node_at writer a) part.datum) true part.fitting refl)
-      (fault_matched writer reader (Node.array a) (Node.array b)
-      (λ q. result_map Value.array (resolve_items writer reader (node_at writer a) (part_at reader (items_node q)) 0 (value part.datum no_values)))
-      (fault_map Value.array (resolve_items writer reader (node_at writer a) (node_at reader b) 0 (value part.datum no_values))
-      (fault_first value (inside 0 (resolve writer reader (node_at writer a) (node_at reader b) part.datum)) (Ok no_values)
-      (fault_inside 0 (resolve writer reader (node_at writer a) (node_at reader b) part.datum)
-      (is_fault (resolve writer reader (node_at writer a) (node_at reader b) part.datum) part.fault part.faulty)))))
+      (array_faults writer reader a b part.datum (is_fault (resolve writer reader (node_at writer a) (node_at reader b) part.datum) part.fault part.faulty))
       (exact_around limit (erring a b) (size part.datum + 0) (max (depth part.datum) 0) (exact_single limit (erring a b) (size part.datum) (depth part.datum) part.exact))
   inside_step w r (Node.map_of a) (Node.map_of b) own children h =
       let part = errors a b (and_left (known (record { w = a; r = b })) true children) (around_some limit (erring a b) h) in
       shows writer reader limit (Node.map_of a) (Node.map_of b) (around limit (erring a b)) (Value.map_of (entry [] part.datum no_entries))
-      (and_from _ (is_some_and (λ id. entries_fit writer (node_at writer id) (entry [] part.datum no_entries)) (Some a))
-      (and_from (is_text [] && true) true (and_from (is_text []) true empty_text refl) refl)
-      (and_from (fits writer (node_at writer a) part.datum) true part.fitting refl))
-      (fault_matched writer reader (Node.map_of a) (Node.map_of b)
-      (λ q. result_map Value.map_of (resolve_entries writer reader (node_at writer a) (part_at reader (values_node q)) 0 (entry [] part.datum no_entries)))
-      (fault_map Value.map_of (resolve_entries writer reader (node_at writer a) (node_at reader b) 0 (entry [] part.datum no_entries))
-      (fault_first (entry []) (inside 0 (resolve writer reader (node_at writer a) (node_at reader b) part.datum)) (Ok no_entries)
-      (fault_inside 0 (resolve writer reader (node_at writer a) (node_at reader b) part.datum)
-      (is_fault (resolve writer reader (node_at writer a) (node_at reader b) part.datum) part.fault part.faulty)))))
+      (map_fits writer reader a part.datum part.fitting)
+      (map_faults writer reader a b part.datum (is_fault (resolve writer reader (node_at writer a) (node_at reader b) part.datum) part.fault part.faulty))
       (exact_around limit (erring a b) (size part.datum + 0) (max (depth part.datum) 0) (exact_single limit (erring a b) (size part.datum) (depth part.datum) part.exact))
   inside_step w r _ _ own children h = absurd (false≢true h)
 

@@ -15,7 +15,7 @@ use Rattle.avro_least.specs.Asked.{Row, Asked, rows_from, asked_value, row_child
 use Rattle.avro_least.specs.inside.Parts.{least_of_others, row_part, entry_of_part, value_alone, value_by_part}
 use Rattle.avro_certificate.proofs.public.Tests.{all_at, and_left, and_right}
 use Rattle.avro_certificate.proofs.public.Resolving.{slice_get_of_drop, drop_more}
-use Rattle.avro_least.proofs.AskedBuilds.{union_asked, records_asked}
+use Rattle.avro_least.proofs.AskedKinds.{asks}
 use Rattle.avro_least.proofs.AskedValue.{row_nodes}
 use Rattle.avro_least.proofs.AtMostParts.{together_across, by_row}
 use Rattle.avro_least.proofs.PairSteps.{followed_known, step_shows}
@@ -117,12 +117,12 @@ module _ (writer reader : List Node) (limit : ℕ) (table : LeastTable) (keys : 
   part_of (Asked.part a b) e zero some = whole_shows (Asked.part a b) e some
   part_of (Asked.part a b) e (suc n) some = absurd (false≢true some)
   part_of (Asked.branches ids) e n some =
-      let node = union_asked writer reader limit table erring (node_at writer (k / length reader)) (node_at reader (k % length reader)) ids (sym e) in
+      let node = asks writer reader (node_at writer (k / length reader)) (node_at reader (k % length reader)) (Asked.branches ids) (sym e) in
       subst (λ (m : Node). ShowsError writer reader limit m (node_at reader (k % length reader))
       (value_by_part limit table erring (k / length reader) (k % length reader) (Asked.branches ids) n)) (sym node)
       (branch_shows writer reader limit table erring known data_shown shown (k / length reader) (k % length reader) ids n (children (Asked.branches ids) e) some)
   part_of (Asked.fields rows) e n some =
-      let own = (records_asked writer reader limit table erring (node_at writer (k / length reader)) (node_at reader (k % length reader)) rows (sym e)).1 in
+      let own = asks writer reader (node_at writer (k / length reader)) (node_at reader (k % length reader)) (Asked.fields rows) (sym e) in
       let parts = field_shows writer reader limit table erring known data_shown shown own.fields own.theirs 0 (field_ids own.fields) refl
       (subst (λ (xs : List Row). list_all known (flat_map row_child xs) ≡ true) own.rows_is (children (Asked.fields rows) e)) n
       (subst (λ (xs : List Row). is_some (by_row limit table erring xs n) ≡ true) own.rows_is (around_some limit (by_row limit table erring rows n) some)) in

@@ -120,17 +120,6 @@ fn ask_inside(alloc: Global, w: &Node, r: &Node, pair: &Comparison) -> Result<As
     }
 }
 
-/// A copy of some ids.
-fn copy(alloc: Global, ids: &[NodeId]) -> Result<Vec<NodeId>, Memory>
-    ensures { IfOk result (λ copy. copy.items ≡ ids.now) }
-{
-    let mut copy = Vec::new(alloc);
-    for i in 0..ids.len() {
-        copy.push(ids[i])?;
-    }
-    Ok(copy)
-}
-
 /// What a pair of nodes asks for, from its comparison; no name is compared here. An id that a schema does not
 /// have counts as a null.
 pub(crate) fn ask_of_pair(
@@ -162,7 +151,7 @@ fn ask_nodes(
     ensures { IfOk result (λ a. ask_of a ≡ asked (schema_nodes writer.now) (schema_nodes reader.now) (node_of from.now) (node_of to.now)) }
 {
     match from {
-        Node::Union(ids) => Ok(Ask::Branches(copy(alloc, ids)?)),
+        Node::Union(ids) => Ok(Ask::Branches(ids.to_vec(alloc)?)),
         _ => match pair.aim {
             Aim::Fault(_) => Ok(Ask::Whole),
             Aim::To(Some(_), q) => Ok(Ask::Same(q)),

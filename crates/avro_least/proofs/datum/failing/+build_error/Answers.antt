@@ -13,7 +13,7 @@ use Rattle.avro_least.specs.Asked.{Asked, Row}
 use Rattle.avro_least.specs.Tables.{LeastTable, ErringTable}
 use Rattle.avro_least.specs.SeenAsk.{ask_of, row_of, rows_of}
 use Rattle.avro_least.specs.BuiltErrors.{BuildsError, is_same, BuildsAsked, BuildsRow, BuildsRows}
-use Rattle.avro_least.proofs.BuiltErrors.{not_same}
+use Rattle.avro_least.proofs.AskedKinds.{not_same}
 use Rattle.avro_least.proofs.AskedBuilds.{whole_builds, lone_builds, part_builds, branches_builds, fields_builds, same_builds, rows_more}
 use Rattle.avro_least.specs.SeenTables.{erring_in, least_in}
 use Rattle.avro_least.proofs.datum.failing.+build_error.Goals as goal
