@@ -4,7 +4,6 @@ use Rattle.avro_schema.specs.Node.{Node, branches_of}
 use Rattle.avro_schema.specs.declared.schema.NodeId.{NodeId}
 use Rattle.avro_compare.specs.Match.{is_match, first_match}
 use Rattle.avro_compare.specs.Pairs.{aim_of, branch_aim}
-use Rattle.avro_compare.specs.declared.error.FaultKind.{FaultKind}
 use Rattle.avro_compare.specs.declared.error.FaultKind.TheVariants.{NoMatch}
 use Rattle.avro_compare.specs.declared.guided.Aim.{Aim}
 use Rattle.avro_compare.specs.declared.guided.Aim.TheVariants.{To, Fault}
@@ -20,7 +19,7 @@ module _ (writer reader : List Node) (n : Node) (r : NodeId) where
   aim_of_others _ h = refl
 
   -- what each kind of aim says of the details
-  abbrev Tells : Aim → List Detail → List Detail → Type 0
+  abbrev pub Tells : Aim → List Detail → List Detail → Type 0
   Tells (Aim.Fault kind) inside ds = ds ≡ detail_for kind ∷ []
   Tells (Aim.To None b) inside ds = ds ≡ inside
   Tells (Aim.To (Some k) b) inside ds = ds ≡ []
@@ -43,14 +42,5 @@ module _ (writer reader : List Node) (n : Node) (r : NodeId) where
           subst (λ (m : Node). Tells (aim_of writer reader n r m) (details_of_kind n m) (details_of writer reader n m)) (sym (union_of_branches q ids e))
           (of_choice ids (first_match writer reader n ids) (details_of_kind n (Node.union ids)) (details_of writer reader n (Node.union ids)) (details_of_union writer reader n ids plain))
 
-  told : (q : Node) (aim : Aim) → branches_of n ≡ None → aim_of writer reader n r q ≡ aim → Tells aim (details_of_kind n q) (details_of writer reader n q)
+  pub told : (q : Node) (aim : Aim) → branches_of n ≡ None → aim_of writer reader n r q ≡ aim → Tells aim (details_of_kind n q) (details_of writer reader n q)
   told q aim plain e = subst (λ (a : Aim). Tells a (details_of_kind n q) (details_of writer reader n q)) e (tells q plain)
-
-  pub details_fault : (q : Node) (kind : FaultKind) → branches_of n ≡ None → aim_of writer reader n r q ≡ Fault kind → details_of writer reader n q ≡ detail_for kind ∷ []
-  details_fault q kind plain e = told q (Fault kind) plain e
-
-  pub details_choice : (q : Node) (k : ℕ) (b : NodeId) → branches_of n ≡ None → aim_of writer reader n r q ≡ To (Some k) b → details_of writer reader n q ≡ []
-  details_choice q k b plain e = told q (To (Some k) b) plain e
-
-  pub details_plain : (q : Node) (b : NodeId) → branches_of n ≡ None → aim_of writer reader n r q ≡ To None b → details_of writer reader n q ≡ details_of_kind n q
-  details_plain q b plain e = told q (To None b) plain e

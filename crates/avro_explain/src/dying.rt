@@ -1,9 +1,9 @@
 //! The nodes of a writer's schema that no datum has.
 
-ghost use Rattle.std.specs.Prelude.{◌≡◌, ◌<◌, true, not, length, IfOk};
+ghost use Rattle.std.specs.Prelude.{◌≡◌, ◌<◌, true, length, IfOk};
 ghost use Rattle.std.specs.List.{list_all, list_any};
 ghost use Rattle.avro_schema.specs.Node.{node_at, field_ids};
-ghost use Rattle.avro_schema.specs.Seen.{node_of, ids_of, seen_fields};
+ghost use Rattle.avro_schema.specs.Seen.{ids_of, seen_fields};
 ghost use Rattle.avro_schema.specs.SeenSchema.{schema_nodes};
 ghost use Rattle.avro_certificate.specs.Closed.{is_among, is_dead_node};
 ghost use Rattle.avro_certificate.specs.Evidence.{IsGreatestDead};

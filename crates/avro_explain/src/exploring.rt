@@ -11,7 +11,7 @@ ghost use Rattle.avro_certificate.specs.Evidence.{IsGreatestDead};
 ghost use Rattle.avro_compare.specs.Leads.{leads_at};
 ghost use Rattle.avro_explain.specs.Places.{marked, pairs_of, ArePlaced, AreByBreadth, AreFollowed, AreReached, AreTooMany, AreFaults, findings, findings_at};
 ghost use Rattle.avro_explain.specs.inside.Walks.{IsWalk, keys_of, roots_place, with_place, with_lead, with_leads};
-ghost use Rattle.avro_explain.specs.declared.error.ExplainError.TheVariants.{TooManyPairs, OutOfMemory};
+ghost use Rattle.avro_explain.specs.declared.error.ExplainError.TheVariants.{TooManyPairs};
 ghost use Rattle.avro_explain.specs.declared.found.Place.{Place};
 
 use crate::dying::{dead_nodes, is_marked};

@@ -7,7 +7,6 @@ use Rattle.avro_compare.specs.Match.{is_match, first_match}
 use Rattle.avro_compare.specs.Pairs.{aim_of, branch_aim, part_to}
 use Rattle.avro_compare.specs.Planned.{AreFor}
 use Rattle.avro_compare.specs.Source.{reader_field}
-use Rattle.avro_compare.specs.declared.error.FaultKind.{FaultKind}
 use Rattle.avro_compare.specs.declared.error.FaultKind.TheVariants.{NoMatch}
 use Rattle.avro_compare.specs.declared.guided.Aim.{Aim}
 use Rattle.avro_compare.specs.declared.guided.Aim.TheVariants.{Fault, To}
@@ -20,7 +19,7 @@ use Rattle.std.proofs.lemmas.Option.{slice_get-get_or}
 -- ---- Where a pair leads
 
 module _ (writer reader : List Node) where
-  abbrev asked_of_aim : Asked → Aim → Asked
+  abbrev pub asked_of_aim : Asked → Aim → Asked
   asked_of_aim own (Fault kind) = Asked.whole
   asked_of_aim own (To (Some k) q) = Asked.same q.0
   asked_of_aim own (To None q) = own
@@ -38,14 +37,10 @@ module _ (writer reader : List Node) where
   by_aim n (Node.union ids) r plain = by_branch ids (first_match writer reader n ids) (asked_inside n (Node.union ids))
   by_aim n q r plain = by_match (is_match writer reader n q) r (asked_inside n q)
 
-  pub asked_fault : (n q : Node) (r : NodeId) (aim : Aim) (kind : FaultKind) → branches_of n ≡ None → aim ≡ aim_of writer reader n r q → aim ≡ Fault kind → Asked.whole ≡ asked writer reader n q
-  asked_fault n q r aim kind plain e is = ap (asked_of_aim (asked_inside n q)) (sym is ∙ e) ∙ by_aim n q r plain
-
-  pub asked_same : (n q : Node) (r b : NodeId) (aim : Aim) (k : ℕ) → branches_of n ≡ None → aim ≡ aim_of writer reader n r q → aim ≡ To (Some k) b → Asked.same b.0 ≡ asked writer reader n q
-  asked_same n q r b aim k plain e is = ap (asked_of_aim (asked_inside n q)) (sym is ∙ e) ∙ by_aim n q r plain
-
-  pub asked_own : (n q : Node) (r b : NodeId) (aim : Aim) → branches_of n ≡ None → aim ≡ aim_of writer reader n r q → aim ≡ To None b → asked_inside n q ≡ asked writer reader n q
-  asked_own n q r b aim plain e is = ap (asked_of_aim (asked_inside n q)) (sym is ∙ e) ∙ by_aim n q r plain
+  -- what a pair asks for, where it leads
+  pub asked_led : (n q : Node) (r : NodeId) (aim led : Aim) → branches_of n ≡ None → aim ≡ aim_of writer reader n r q → aim ≡ led
+      → asked_of_aim (asked_inside n q) led ≡ asked writer reader n q
+  asked_led n q r aim led plain e is = ap (asked_of_aim (asked_inside n q)) (sym is ∙ e) ∙ by_aim n q r plain
 
 -- ---- Fields
 

@@ -1,59 +1,15 @@
 -- What is built of what a pair asks for is a least datum that errs.
-use Rattle.std.proofs.Common.{◌≡◌, ℕ, suc, ◌+◌, ◌<◌, Bool, true, false, ◌||◌, cond, List, [], ◌∷◌, Option, Some, None, length, refl, sym, ◌∙◌, ap, subst, arith}
-use Rattle.std.proofs.lemmas.Bool.{and_from, false≢true, lt-ltb}
-use Rattle.std.specs.Prelude.{slice_get, unwrap_or, position, bytes_eq}
-use Rattle.std.specs.List.{list_any}
+use Rattle.std.proofs.Common.{◌≡◌, ℕ, suc, true, List, [], ◌∷◌, length, refl, sym, subst, arith}
+use Rattle.std.proofs.lemmas.Bool.{and_from, lt-ltb}
 use Rattle.avro_schema.specs.Value.{Value, size, depth}
 use Rattle.avro_schema.specs.Node.{Node, node_at}
 use Rattle.avro_schema.specs.Fits.{fits}
 use Rattle.avro_schema.proofs.public.Choices.{HasFewChoices}
-use Rattle.avro_compare.specs.Resolve.{bytes_as, enum_as, enum_or_default, symbol_at, resolve}
-use Rattle.avro_compare.specs.Children.{lacks_symbol}
+use Rattle.avro_compare.specs.Resolve.{bytes_as, enum_as, symbol_at, resolve}
 use Rattle.avro_least.specs.Asked.{Asked, asked}
 use Rattle.avro_least.specs.BuiltErrors.{first_from, is_lacking, IsLone, part_value}
-use Rattle.avro_certificate.proofs.public.Tests.{not_true}
-use Rattle.avro_least.proofs.ShownErrors.{IsFault, fault_matched, not_a_text, no_index, array_faults, map_faults, map_fits}
+use Rattle.avro_least.proofs.ShownErrors.{IsFault, fault_matched, not_a_text, array_faults, map_faults, map_fits, lacking_index}
 use Rattle.avro_least.proofs.AskedKinds.{AreLone, HaveParts, asks}
-
--- the first that passes
-record IsFirst {A : Type 0} (test : A → Bool) (n : ℕ) (xs : List A) : Type 0 where
-  index : ℕ
-  is : first_from test n xs ≡ n + index
-  within : index < length xs
-  one : A
-  here : slice_get xs index ≡ Some one
-  passes : test one ≡ true
-
-first_passes : {A : Type 0} (test : A → Bool) (n : ℕ) (xs : List A) → list_any test xs ≡ true → IsFirst test n xs
-first_passes test n [] h = absurd (false≢true h)
-first_passes test n (x ∷ xs) h = chosen (test x) refl h (first_passes test (n + 1) xs)
-  where
-    chosen : (t : Bool) → test x ≡ t → (t || list_any test xs) ≡ true → (list_any test xs ≡ true → IsFirst test (n + 1) xs) → IsFirst test n (x ∷ xs)
-    chosen true e s later = record { index = 0; is = ap (λ t. cond t n (first_from test (n + 1) xs)) e ∙ omega arith; within = omega arith; one = x; here = refl; passes = e }
-    chosen false e s later =
-        let found = later s in
-        record {
-          index = suc found.index;
-          is = ap (λ t. cond t n (first_from test (n + 1) xs)) e ∙ found.is ∙ omega arith;
-          within = omega (arith, found.within);
-          one = found.one;
-          here = found.here;
-          passes = found.passes;
-        }
-
--- the first symbol that the reader lacks
-lacking_index : (symbols theirs : List (List ℕ)) (y : Option ℕ) → lacks_symbol symbols theirs y ≡ true
-    → (first_from (is_lacking theirs) 0 symbols < length symbols)
-    × IsFault (enum_or_default (position (λ t. bytes_eq t (unwrap_or (slice_get symbols (first_from (is_lacking theirs) 0 symbols)) [])) theirs) y)
-lacking_index symbols theirs (Some index) h = absurd (false≢true h)
-lacking_index symbols theirs None h =
-    let found = first_passes (is_lacking theirs) 0 symbols h in
-    let at : first_from (is_lacking theirs) 0 symbols ≡ found.index = omega (arith, found.is) in (
-      omega (arith, at, found.within),
-      subst (λ (k : ℕ). IsFault (enum_or_default (position (λ t. bytes_eq t (unwrap_or (slice_get symbols k) [])) theirs) None)) (sym at)
-          (subst (λ (o : Option (List ℕ)). IsFault (enum_or_default (position (λ t. bytes_eq t (unwrap_or o [])) theirs) None)) (sym found.here)
-          (subst (λ (o : Option ℕ). IsFault (enum_or_default o None)) (sym (no_index found.one theirs (not_true _ found.passes))) tt)),
-    )
 
 module _ (writer reader : List Node) where
   pub record Errs (n q : Node) (v : Value) (nodes levels : ℕ) : Type 0 where

@@ -1,7 +1,7 @@
 -- A step over entries that have data that err has a datum that errs.
-use Rattle.std.proofs.Common.{◌≡◌, ℕ, suc, ◌+◌, ◌<◌, Bool, true, false, not, ◌&&◌, cond, List, [], ◌∷◌, drop, Option, Some, None, Result, Ok, Err, inl, inr, length, get_or, ap, refl, sym, ◌∙◌, subst, arith}
+use Rattle.std.proofs.Common.{◌≡◌, ℕ, suc, ◌+◌, ◌<◌, Bool, true, false, ◌&&◌, cond, List, [], ◌∷◌, drop, Option, Some, None, Result, Ok, Err, inl, inr, length, get_or, ap, refl, sym, ◌∙◌, subst, arith, ◌||◌}
 use Rattle.std.proofs.lemmas.Bool.{false≢true, true≢false, lt-ltb, and_from}
-use Rattle.std.specs.Prelude.{max, slice_get, unwrap_or, is_some, nat_lt, bytes_eq, position, option_and_then}
+use Rattle.std.specs.Prelude.{max, slice_get, unwrap_or, is_some, bytes_eq, position, option_and_then}
 use Rattle.std.specs.List.{list_all, list_any}
 use Rattle.std.proofs.lemmas.List.Folds.{list_all-map}
 use Rattle.std.specs.Str.{is_utf8, chars}
@@ -25,6 +25,7 @@ use Rattle.avro_certificate.proofs.public.SoundPairs.{source_child}
 use Rattle.avro_certificate.proofs.public.Resolving.{slice_get_of_drop, drop_more}
 use Rattle.avro_least.proofs.LeastErrors.{err_of_plain, err_of_none, err_of_some, through_is_matched}
 use Rattle.avro_least.proofs.ShownData.{ShowsFields, exact_around, exact_together, around_some, together_some, lesser_either, best_is, shown_fields, empty_text}
+use Rattle.avro_least.specs.BuiltErrors.{first_from, is_lacking}
 
 -- a result that is a fault
 abbrev pub IsFault : {A : Type 0} → Result A ResolutionFault → Type 0
@@ -115,16 +116,44 @@ no_index s theirs h = chosen (position (λ t. bytes_eq t s) theirs) refl
         absurd (true≢false (sym found.1 ∙ bytes_eq-sym (get_or theirs i []) s
         ∙ sym (ap (bytes_eq s) (unwrap_or-slice_get theirs i [])) ∙ none_at (bytes_eq s) theirs i [] h found.0))
 
--- the symbol that lacks
-lacking : (symbols theirs : List (List ℕ)) (y : Option ℕ) → lacks_symbol symbols theirs y ≡ true
-    → (k : ℕ) × (nat_lt k (length symbols) ≡ true) × IsFault (enum_or_default (position (λ t. bytes_eq t (unwrap_or (slice_get symbols k) [])) theirs) y)
-lacking symbols theirs (Some index) h = absurd (false≢true h)
-lacking symbols theirs None h =
-    let found = any_at (λ s. not (list_any (bytes_eq s) theirs)) symbols h in (
-      found.0,
-      lt-ltb found.0 (length symbols) found.1.3,
-      subst (λ (o : Option (List ℕ)). IsFault (enum_or_default (position (λ t. bytes_eq t (unwrap_or o [])) theirs) None)) (sym found.1.1)
-          (subst (λ (o : Option ℕ). IsFault (enum_or_default o None)) (sym (no_index found.1.0 theirs (not_true _ found.1.2))) tt),
+-- the first that passes
+record IsFirst {A : Type 0} (test : A → Bool) (n : ℕ) (xs : List A) : Type 0 where
+  index : ℕ
+  is : first_from test n xs ≡ n + index
+  within : index < length xs
+  one : A
+  here : slice_get xs index ≡ Some one
+  passes : test one ≡ true
+
+first_passes : {A : Type 0} (test : A → Bool) (n : ℕ) (xs : List A) → list_any test xs ≡ true → IsFirst test n xs
+first_passes test n [] h = absurd (false≢true h)
+first_passes test n (x ∷ xs) h = chosen (test x) refl h (first_passes test (n + 1) xs)
+  where
+    chosen : (t : Bool) → test x ≡ t → (t || list_any test xs) ≡ true → (list_any test xs ≡ true → IsFirst test (n + 1) xs) → IsFirst test n (x ∷ xs)
+    chosen true e s later = record { index = 0; is = ap (λ t. cond t n (first_from test (n + 1) xs)) e ∙ omega arith; within = omega arith; one = x; here = refl; passes = e }
+    chosen false e s later =
+        let found = later s in
+        record {
+          index = suc found.index;
+          is = ap (λ t. cond t n (first_from test (n + 1) xs)) e ∙ found.is ∙ omega arith;
+          within = omega (arith, found.within);
+          one = found.one;
+          here = found.here;
+          passes = found.passes;
+        }
+
+-- the first symbol that the reader lacks
+pub lacking_index : (symbols theirs : List (List ℕ)) (y : Option ℕ) → lacks_symbol symbols theirs y ≡ true
+    → (first_from (is_lacking theirs) 0 symbols < length symbols)
+    × IsFault (enum_or_default (position (λ t. bytes_eq t (unwrap_or (slice_get symbols (first_from (is_lacking theirs) 0 symbols)) [])) theirs) y)
+lacking_index symbols theirs (Some index) h = absurd (false≢true h)
+lacking_index symbols theirs None h =
+    let found = first_passes (is_lacking theirs) 0 symbols h in
+    let at : first_from (is_lacking theirs) 0 symbols ≡ found.index = omega (arith, found.is) in (
+      omega (arith, at, found.within),
+      subst (λ (k : ℕ). IsFault (enum_or_default (position (λ t. bytes_eq t (unwrap_or (slice_get symbols k) [])) theirs) None)) (sym at)
+          (subst (λ (o : Option (List ℕ)). IsFault (enum_or_default (position (λ t. bytes_eq t (unwrap_or o [])) theirs) None)) (sym found.here)
+          (subst (λ (o : Option ℕ). IsFault (enum_or_default o None)) (sym (no_index found.one theirs (not_true _ found.passes))) tt)),
     )
 
 module _ (writer reader : List Node) where
@@ -292,9 +321,11 @@ module _ (writer reader : List Node) (limit : ℕ) (table : LeastTable) (erring 
       chosen : (t : Bool) → lacks_symbol symbols theirs y ≡ t → is_some (cond t (Some one) None) ≡ true
           → ShowsError writer reader limit (Node.enum a xs symbols x) (Node.enum b ys theirs y) (cond t (Some one) None)
       chosen true e s =
-          let found = lacking symbols theirs y e in
-          shows writer reader limit (Node.enum a xs symbols x) (Node.enum b ys theirs y) (Some one) (Value.enum found.0) found.1
-          (fault_matched writer reader (Node.enum a xs symbols x) (Node.enum b ys theirs y) (enum_as (symbol_at (Node.enum a xs symbols x) found.0)) found.2) (λ k. (refl, refl))
+          let found = lacking_index symbols theirs y e in
+          shows writer reader limit (Node.enum a xs symbols x) (Node.enum b ys theirs y) (Some one) (Value.enum (first_from (is_lacking theirs) 0 symbols))
+          (lt-ltb (first_from (is_lacking theirs) 0 symbols) (length symbols) found.0)
+          (fault_matched writer reader (Node.enum a xs symbols x) (Node.enum b ys theirs y)
+          (enum_as (symbol_at (Node.enum a xs symbols x) (first_from (is_lacking theirs) 0 symbols))) found.1) (λ k. (refl, refl))
       chosen false e s = absurd (false≢true s)
   inside_step w r (Node.record_of a xs fields) (Node.record_of b ys theirs) own children h = chosen (is_some (missing_field fields theirs)) refl h
     where

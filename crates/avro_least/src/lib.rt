@@ -6,6 +6,7 @@
 #![tactic(auto)]
 
 mod datum;
+mod filled;
 mod kept;
 pub mod laws;
 mod nodes;

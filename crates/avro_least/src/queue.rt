@@ -4,8 +4,9 @@ ghost use Rattle.std.specs.Prelude.{◌≡◌, ◌<◌, ◌≤◌, ◌⊎◌, �
 ghost use Rattle.std.proofs.Math.ListN.{replicate};
 ghost use Rattle.avro_least.specs.SeenLeast.{seen, given_entry, improves};
 
+use crate::filled::filled;
 use crate::kept::Least;
-use crate::nodes::least::{improves, unknown};
+use crate::nodes::least::improves;
 use avro_schema::Memory;
 use std::alloc::Global;
 use std::cmp::Reverse;
@@ -45,14 +46,9 @@ impl Search {
         ensures search { IfOk result IsSearch }
         ensures entries { IfOk result (λ s. s.entries.items ≡ replicate count None) }
     {
-        let entries = unknown(alloc, count)?;
-        let mut waiting = Vec::new(alloc);
-        for done in 0..count {
-            waiting.push(false)?;
-        }
         Ok(Search {
-            entries,
-            waiting,
+            entries: filled(alloc, count, None)?,
+            waiting: filled(alloc, count, false)?,
             queue: BinaryHeap::new(alloc),
         })
     }

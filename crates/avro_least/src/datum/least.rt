@@ -1,6 +1,6 @@
 //! Builds a least datum from the table of least data.
 
-ghost use Rattle.std.specs.Prelude.{◌≡◌, ◌<◌, ℕ, true, IfOk, [], Some, slice_get, is_some, map};
+ghost use Rattle.std.specs.Prelude.{◌≡◌, ◌<◌, ℕ, true, IfOk, Some, slice_get, is_some, map};
 ghost use Rattle.std.proofs.Math.ListN.{replicate};
 ghost use Rattle.avro_schema.specs.Seen.{value_of, values_from, node_of, ids_of, seen_fields};
 ghost use Rattle.avro_least.specs.Tables.{best_of};
@@ -11,6 +11,7 @@ ghost use Rattle.avro_schema.specs.Node.{Node as SeenNode};
 ghost use Rattle.avro_schema.specs.SeenSchema.{schema_nodes};
 ghost use Rattle.avro_least.specs.inside.Built.{Builds, BuildsAt, BuildsRecord};
 
+use crate::filled::filled;
 use crate::kept::Least;
 use crate::nodes::least::{best_of, entry};
 use avro_schema::{Datum, Field, Memory, Node, NodeId, Schema};
@@ -44,22 +45,11 @@ fn best_index(table: &[Option<Least>], ids: &[NodeId]) -> usize
     0
 }
 
-/// A list of `count` zeros.
-fn zeros(alloc: Global, count: u32) -> Result<Vec<u8>, Memory>
-    ensures { IfOk result (λ z. z.items ≡ replicate count 0) }
-{
-    let mut zeros: Vec<u8> = Vec::new(alloc);
-    for done in 0..count {
-        zeros.push(0)?;
-    }
-    Ok(zeros)
-}
-
 /// A fixed of `count` zeros.
 fn fixed(alloc: Global, count: u32) -> Result<Datum, Memory>
     ensures { IfOk result (λ d. value_of d ≡ Value.fixed (replicate count 0)) }
 {
-    Ok(Datum::Fixed(zeros(alloc, count)?))
+    Ok(Datum::Fixed(filled(alloc, count as usize, 0)?))
 }
 
 /// The least datum of a node without parts.

@@ -1,6 +1,6 @@
 //! The parts of a datum that fails.
 
-ghost use Rattle.std.specs.Prelude.{◌≡◌, ◌<◌, ℕ, [], ◌∷◌, IfOk};
+ghost use Rattle.std.specs.Prelude.{◌≡◌, ◌<◌, [], ◌∷◌, IfOk};
 ghost use Rattle.avro_schema.specs.Node.{node_at};
 ghost use Rattle.avro_schema.specs.Seen.{value_of, values_from};
 ghost use Rattle.avro_schema.specs.SeenSchema.{schema_nodes};

@@ -1,17 +1,15 @@
 //! The least data of a schema's nodes.
 
-ghost use Rattle.std.specs.Prelude.{◌≡◌, ◌≤◌, true, length, IfOk, Some, None};
-ghost use Rattle.std.proofs.Math.ListN.{replicate};
+ghost use Rattle.std.specs.Prelude.{◌≡◌, ◌≤◌, true, length, Some, None};
 ghost use Rattle.avro_schema.specs.Seen.{node_of, ids_of, seen_fields};
 ghost use Rattle.avro_schema.specs.Node.{field_ids};
 ghost use Rattle.avro_schema.specs.SeenSchema.{schema_nodes};
 ghost use Rattle.avro_schema.specs.WellFormed.{is_schema};
-ghost use Rattle.avro_least.specs.Tables.{capped, around, together, lesser, best_of, all_of, least_datum, Least as SeenLeast};
+ghost use Rattle.avro_least.specs.Tables.{capped, around, together, lesser, best_of, all_of, least_datum};
 ghost use Rattle.avro_least.specs.SeenLeast.{seen, table_of, improves};
 
 use crate::kept::Least;
-use avro_schema::{Field, Memory, Node, NodeId, Schema};
-use std::alloc::Global;
+use avro_schema::{Field, Node, NodeId, Schema};
 
 /// The entry of these numbers, where all numbers of nodes above the limit count as the same.
 fn capped(limit: u32, nodes: u32, depth: u32) -> Least
@@ -141,15 +139,4 @@ pub fn count(schema: &Schema) -> u32
     ensures formed { is_schema (schema_nodes schema.now) ≡ true }
 {
     schema.len() as u32
-}
-
-/// A table of `count` entries, none of which is known yet.
-pub(crate) fn unknown(alloc: Global, count: usize) -> Result<Vec<Option<Least>>, Memory>
-    ensures { IfOk result (λ t. t.items ≡ replicate count None) }
-{
-    let mut table = Vec::new(alloc);
-    for done in 0..count {
-        table.push(None)?;
-    }
-    Ok(table)
 }

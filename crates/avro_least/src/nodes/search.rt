@@ -12,6 +12,7 @@ ghost use Rattle.avro_least.specs.inside.Falling.{effort};
 ghost use Rattle.avro_least.specs.inside.Settled.{IsOver, IsSettled, AreSettled, AreSettledBut, HaveFallen, is_open, table_in, waits_in, waits_or};
 ghost use Rattle.avro_least.specs.inside.Uses.{inner_ids};
 
+use crate::filled::filled;
 use crate::kept::Least;
 use crate::nodes::least::{all_of, around, count, entry, least_of};
 use crate::nodes::uses::{all_uses, users_at};
@@ -119,17 +120,6 @@ fn start(alloc: Global, writer: &Schema, limit: u32) -> Result<Search, Memory>
     Ok(search)
 }
 
-/// This many hints, each the first field.
-fn first_fields(alloc: Global, count: usize) -> Result<Vec<usize>, Memory>
-    ensures { IfOk result (λ hints. length hints.items ≡ count) }
-{
-    let mut hints = Vec::new(alloc);
-    for done in 0..count {
-        hints.push(0)?;
-    }
-    Ok(hints)
-}
-
 /// The table of the least data of each node, where all data of more nodes than the limit count as the same.
 ///
 /// # Errors
@@ -142,7 +132,7 @@ pub fn least_data(alloc: Global, writer: &Schema, limit: u32) -> Result<Vec<Opti
     ensures low { IfOk result (λ t. IsLowForData (schema_nodes writer.now) limit (table_of t.items)) }
 {
     let uses = all_uses(alloc, writer)?;
-    let mut hints = first_fields(alloc, writer.len())?;
+    let mut hints = filled(alloc, writer.len(), 0)?;
     let mut search = start(alloc, writer, limit)?;
     while let Some(i) = search.next() {
         lower_users(

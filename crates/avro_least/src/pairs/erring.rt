@@ -1,6 +1,6 @@
 //! The entries of the least data that fail at pairs of nodes.
 
-ghost use Rattle.std.specs.Prelude.{◌≡◌, ◌≤◌, ◌==◌, cond, List, Option, nat_lt, slice_get, Some, position};
+ghost use Rattle.std.specs.Prelude.{◌≡◌, ◌≤◌, ◌==◌, cond, Option, nat_lt, Some, position};
 ghost use Rattle.indexmap.specs.IndexSet.{keys};
 ghost use Rattle.avro_schema.specs.Seen.{ids_of};
 ghost use Rattle.avro_least.specs.Tables.{erring_of, reached_entry, pair_number, no_parts, best_of};

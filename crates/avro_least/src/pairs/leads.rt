@@ -1,13 +1,13 @@
 //! Which pairs lead to a pair.
 
-ghost use Rattle.std.specs.Prelude.{◌≡◌, ◌<◌, ◌*◌, ◌==◌, ℕ, Some, true, false, List, length, nat_lt, position, slice_get, is_none, IfOk, OnOk};
+ghost use Rattle.std.specs.Prelude.{◌≡◌, ◌<◌, ◌*◌, ◌==◌, ℕ, Some, true, false, length, nat_lt, position, slice_get, is_none, IfOk, OnOk};
 ghost use Rattle.std.specs.List.{list_all};
 ghost use Rattle.indexmap.specs.IndexSet.{keys};
 ghost use Rattle.avro_schema.specs.SeenSchema.{schema_nodes};
 ghost use Rattle.avro_least.specs.SeenAsk.{ask_of, asks_of};
 ghost use Rattle.avro_least.specs.SeenLeast.{table_of};
 ghost use Rattle.avro_least.specs.Tables.{pair_number};
-ghost use Rattle.avro_least.specs.Asked.{asked_at, AreAsked};
+ghost use Rattle.avro_least.specs.Asked.{AreAsked};
 ghost use Rattle.avro_least.specs.inside.Parts.{part_at};
 ghost use Rattle.avro_least.specs.inside.Leading.{is_lead, leads_at, AreLeads};
 ghost use Rattle.avro_least.specs.declared.pairs.asking.Ask.{Ask};

@@ -11,8 +11,9 @@ ghost use Rattle.avro_least.specs.SeenLeast.{seen, given_entry, table_of};
 ghost use Rattle.avro_least.specs.Tables.{all_of};
 ghost use Rattle.avro_least.specs.inside.Parts.{around_part, least_of_others, nodes_of, others_at, part_at, parts_of, row_part, seen_pair, value_alone, AreOthers, AreOthersOf};
 
+use crate::filled::filled;
 use crate::kept::Least;
-use crate::nodes::least::{around, count, entry, together, unknown};
+use crate::nodes::least::{around, count, entry, together};
 use crate::pairs::asking::{Ask, FieldAsk};
 use crate::queue::entry_at;
 use avro_schema::{Field, Memory, Node, NodeId, Schema};
@@ -132,7 +133,7 @@ fn behind(
     ensures one_each { IfOk result (λ b. length b.items ≡ length fields.now) }
     ensures each { IfOk result (λ b. (k : ℕ) → k < length fields.now → given_entry (slice_get b.items k) ≡ all_of limit (table_of table.now) (drop (k + 1) (field_ids (seen_fields fields.now)))) }
 {
-    let mut behind = unknown(alloc, fields.len())?;
+    let mut behind = filled(alloc, fields.len(), None)?;
     let mut all = Some(Least { nodes: 0, depth: 0 });
     let mut i = fields.len();
     while i > 0 {

@@ -1,7 +1,6 @@
 //! Finds the least data that fail at the pairs that were reached, the least of all first.
 
 ghost use Rattle.std.specs.Prelude.{◌≡◌, ◌<◌, ◌≤◌, ◌*◌, ◌/◌, ◌%◌, ℕ, List, [], ◌∷◌, Some, true, length, nat_lt, slice_get, IfOk, OnOk};
-ghost use Rattle.std.proofs.Math.ListN.{drop};
 ghost use Rattle.std.specs.List.{list_all};
 ghost use Rattle.indexmap.specs.IndexSet.{keys};
 ghost use Rattle.avro_schema.specs.SeenSchema.{schema_nodes};
@@ -11,7 +10,7 @@ ghost use Rattle.avro_least.specs.SeenAsk.{asks_of};
 ghost use Rattle.avro_least.specs.SeenLeast.{seen, seen_all, table_of};
 ghost use Rattle.avro_least.specs.Tables.{erring_of, AreDataShown, AreLow, IsLowForData};
 ghost use Rattle.avro_least.specs.inside.Parts.{value_alone, value_by_part};
-ghost use Rattle.avro_least.specs.inside.Falling.{effort, IsSearch};
+ghost use Rattle.avro_least.specs.inside.Falling.{effort};
 ghost use Rattle.avro_least.specs.inside.Leading.{leads_at, HasTakenAlone, HaveTakenBut, IsGraph, IsSearchOf};
 ghost use Rattle.avro_least.specs.declared.pairs.leads.Lead.{Lead};
 
@@ -23,7 +22,7 @@ use crate::pairs::leads::{Lead, leads, leads_at};
 use crate::pairs::parts::{around_part, others, others_at, part_at, value_alone};
 use crate::pairs::reaching::{Reached, ask_at_index, readers, writers};
 use crate::queue::Search;
-use avro_schema::{Memory, NodeId, Schema};
+use avro_schema::{Memory, Schema};
 use std::alloc::Global;
 
 /// What the entry of a pair comes to by its part at an index. The pair is given by its number and the index of that.

@@ -3,7 +3,7 @@ use Rattle.avro_schema.specs.Seen.{node_of}
 use Rattle.avro_schema.specs.SeenSchema.{schema_nodes}
 use Rattle.avro_compare.specs.declared.guided.Aim.TheVariants.{To, Fault}
 use Rattle.avro_explain.specs.declared.found.Detail.{Detail}
-use Rattle.avro_explain.proofs.DetailsLed.{details_fault, details_choice, details_plain}
+use Rattle.avro_explain.proofs.DetailsLed.{told}
 use Rattle.avro_compare.proofs.public.Aims.{aims_of, inside_of, plain_kept}
 use Rattle.avro_explain.proofs.failing.details_of_nodes.Goals as goal
 
@@ -16,7 +16,7 @@ returns-in-Fault c =
     let pair = c.args.pair.now in
     let aims = aims_of writer reader pair n q c.requires.pair c.requires.from c.requires.to in
     let own : pair.aim ≡ Fault c.in-Fault.kind = search rules in
-    let is = sym (details_fault writer reader n pair.r q c.in-Fault.kind (plain_kept c.args.n.now c.in_default.not-Union) (sym aims ∙ own)
+    let is = sym (told writer reader n pair.r q (Fault c.in-Fault.kind) (plain_kept c.args.n.now c.in_default.not-Union) (sym aims ∙ own)
     ∙ ap (λ (d : Detail). d ∷ []) (sym c.detail_of.ensures)) in
     subst (λ (ds : List Detail). IfOk c.one_detail.result (λ found. found.items ≡ ds)) is c.one_detail.ensures
 
@@ -31,7 +31,7 @@ returns-in-To-Some-default c =
     let aims = aims_of writer reader pair n q c.requires.pair c.requires.from c.requires.to in
     let own : pair.aim ≡ To (Some here.field-0-0) here.field-1 = search rules in
     c.new-in-To-Some-default.ensures.items
-    ∙ sym (details_choice writer reader n pair.r q here.field-0-0 here.field-1 (plain_kept c.args.n.now c.in_default.not-Union) (sym aims ∙ own))
+    ∙ sym (told writer reader n pair.r q (To (Some here.field-0-0) here.field-1) (plain_kept c.args.n.now c.in_default.not-Union) (sym aims ∙ own))
 
 pub returns-in-To-None-default : goal.returns-in-To-None-default
 returns-in-To-None-default c =
@@ -43,7 +43,7 @@ returns-in-To-None-default c =
     let pair = c.args.pair.now in
     let aims = aims_of writer reader pair n q c.requires.pair c.requires.from c.requires.to in
     let own : pair.aim ≡ To None here.field-1 = search rules in
-    let is = sym (details_plain writer reader n pair.r q here.field-1 (plain_kept c.args.n.now c.in_default.not-Union) (sym aims ∙ own)) in
+    let is = sym (told writer reader n pair.r q (To None here.field-1) (plain_kept c.args.n.now c.in_default.not-Union) (sym aims ∙ own)) in
     subst (λ (ds : List Detail). IfOk c.details_inside.result (λ found. found.items ≡ ds)) is c.details_inside.ensures
 
 pub details_inside-requires : goal.details_inside-requires

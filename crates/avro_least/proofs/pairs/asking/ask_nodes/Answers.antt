@@ -2,10 +2,10 @@ use Rattle.std.proofs.Common.{◌≡◌, subst, None, Some, rules}
 use Rattle.std.specs.Prelude.{IfOk}
 use Rattle.avro_schema.specs.Seen.{node_of}
 use Rattle.avro_schema.specs.SeenSchema.{schema_nodes}
-use Rattle.avro_compare.specs.declared.guided.Aim.TheVariants.{To}
+use Rattle.avro_compare.specs.declared.guided.Aim.TheVariants.{To, Fault}
 use Rattle.avro_compare.proofs.public.Aims.{aims_of, inside_of, plain_kept}
 use Rattle.avro_least.specs.SeenAsk.{ask_of}
-use Rattle.avro_least.proofs.AskedLed.{asked_fault, asked_same, asked_own}
+use Rattle.avro_least.proofs.AskedLed.{asked_led}
 use Rattle.avro_least.proofs.pairs.asking.ask_nodes.Goals as goal
 
 pub returns-in-Fault : goal.returns-in-Fault
@@ -14,7 +14,7 @@ returns-in-Fault c =
     let reader = schema_nodes c.args.reader.now in
     let pair = c.args.pair.now in
     let aims = aims_of writer reader pair (node_of c.args.from.now) (node_of c.args.to.now) c.requires.pair c.requires.from c.requires.to in
-    asked_fault writer reader (node_of c.args.from.now) (node_of c.args.to.now) pair.r pair.aim c.in-Fault.field-0 (plain_kept c.args.from.now c.in_default.not-Union) aims c.in-Fault.is
+    asked_led writer reader (node_of c.args.from.now) (node_of c.args.to.now) pair.r pair.aim (Fault c.in-Fault.field-0) (plain_kept c.args.from.now c.in_default.not-Union) aims c.in-Fault.is
 
 pub returns-in-To-Some-default : goal.returns-in-To-Some-default
 returns-in-To-Some-default c =
@@ -24,7 +24,7 @@ returns-in-To-Some-default c =
     let here = c.in-To-Some-default in
     let aims = aims_of writer reader pair (node_of c.args.from.now) (node_of c.args.to.now) c.requires.pair c.requires.from c.requires.to in
     let own : pair.aim ≡ To (Some here.field-0-0) here.q = search rules in
-    asked_same writer reader (node_of c.args.from.now) (node_of c.args.to.now) pair.r here.q pair.aim here.field-0-0 (plain_kept c.args.from.now c.in_default.not-Union) aims own
+    asked_led writer reader (node_of c.args.from.now) (node_of c.args.to.now) pair.r pair.aim (To (Some here.field-0-0) here.q) (plain_kept c.args.from.now c.in_default.not-Union) aims own
 
 pub ask_inside-requires : goal.ask_inside-requires
 ask_inside-requires c =
@@ -41,5 +41,5 @@ returns-in-To-None-default c =
     let here = c.in-To-None-default in
     let aims = aims_of writer reader pair (node_of c.args.from.now) (node_of c.args.to.now) c.requires.pair c.requires.from c.requires.to in
     let own : pair.aim ≡ To None here.field-1 = search rules in
-    subst (λ a. IfOk c.ask_inside.result (λ b. ask_of b ≡ a)) (asked_own writer reader (node_of c.args.from.now) (node_of c.args.to.now) pair.r here.field-1 pair.aim (plain_kept c.args.from.now c.in_default.not-Union) aims own)
+    subst (λ a. IfOk c.ask_inside.result (λ b. ask_of b ≡ a)) (asked_led writer reader (node_of c.args.from.now) (node_of c.args.to.now) pair.r pair.aim (To None here.field-1) (plain_kept c.args.from.now c.in_default.not-Union) aims own)
     c.ask_inside.ensures

@@ -1,6 +1,6 @@
 use Rattle.std.proofs.Common.{◌≡◌}
 use Rattle.std.proofs.Math.ListN.{replicate}
-use Rattle.avro_least.proofs.datum.least.zeros.Given as goal
+use Rattle.avro_least.proofs.filled.filled.Given as goal
 
 abbrev pub invariant-loop-done : goal.invariant-loop-done
-invariant-loop-done l = l.zeros.items ≡ replicate l.done 0
+invariant-loop-done t l = l.values.items ≡ replicate l.done l.value
