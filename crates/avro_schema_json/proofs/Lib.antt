@@ -20,3 +20,4 @@ pub mod MisfitsSeen
 pub mod DefaultsFit
 pub mod RepeatsSeen
 pub mod TablesSeen
+pub mod RecordsSeen

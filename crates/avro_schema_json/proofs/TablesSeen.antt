@@ -193,7 +193,7 @@ begins_late nodes d ids start none =
 
 -- ---- how a table is made
 
-past_end : (ids : List NodeId) (j id : ℕ) → length ids ≤ j → slice_get (ids_of ids) j ≡ Some id → ⊥
+pub past_end : (ids : List NodeId) (j id : ℕ) → length ids ≤ j → slice_get (ids_of ids) j ≡ Some id → ⊥
 past_end [] j id past at = absurd cc
 past_end (x ∷ ids) zero id past at = absurd (omega (arith, past))
 past_end (x ∷ ids) (suc j) id past at = past_end ids j id (omega (arith, past)) at
@@ -205,7 +205,7 @@ TableFrom nodes ids first left = (key : ℕ) → Skips nodes (ids_of ids) key le
 pub table_start : (nodes : List Node) (ids : List NodeId) (first : BTreeMap ℕ ℕ) → TableFrom nodes ids first (length ids)
 table_start nodes ids first = λ key j id from below at same. past_end ids j id from at
 
-either : (m n : ℕ) → (m ≡ n) ⊎ (m ≡ n → ⊥)
+pub either : (m n : ℕ) → (m ≡ n) ⊎ (m ≡ n → ⊥)
 either zero zero = inl refl
 either zero (suc n) = inr (λ h. absurd (omega (arith, h)))
 either (suc m) zero = inr (λ h. absurd (omega (arith, h)))
@@ -215,7 +215,7 @@ either (suc m) (suc n) =
       | inr h ↦ inr (λ e. h (omega (arith, e)))
     ]
 
-some_same : (found : Option ℕ) (x y : ℕ) → found ≡ Some x → found ≡ Some y → x ≡ y
+pub some_same : (found : Option ℕ) (x y : ℕ) → found ≡ Some x → found ≡ Some y → x ≡ y
 some_same found x y e f = cc
 
 pub table_next : (nodes : List Node) (ids : List NodeId) (old new : BTreeMap ℕ ℕ) (left key : ℕ) (id : NodeId) → left < length ids

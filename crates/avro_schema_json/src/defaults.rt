@@ -13,19 +13,23 @@ ghost use Rattle.serde_json.specs.View.{view, items_view, members_view};
 
 mod array_misfit;
 mod asks;
+mod branch_keys;
 mod fields;
+mod first_branches;
 pub(crate) mod gathered;
 mod known;
 mod misfit;
 mod misfits;
 mod object_misfit;
 mod plain_defaults;
+mod record_tables;
 pub(crate) mod tables;
 mod unfit;
 pub(crate) mod union_table;
 
 use crate::defaults::asks::may_repeat;
 use crate::defaults::fields::names_fields;
+use crate::defaults::first_branches::first_branch;
 use crate::defaults::gathered::Gathered;
 use crate::defaults::known::{
     has, misfits_at, next_index, nothing_gathered, part_of_array, part_of_object,
@@ -34,7 +38,7 @@ use crate::defaults::misfits::gather;
 use crate::defaults::plain_defaults::{
     boolean_default, null_default, number_default, text_default,
 };
-use crate::defaults::tables::{first_branch, no_table, table_at};
+use crate::defaults::tables::{no_table, table_at};
 use crate::defaults::unfit::{characters_of, is_unfit};
 use crate::defaults::union_table::UnionTable;
 use crate::raw::{RawField, RawNode};

@@ -1,5 +1,5 @@
 -- The keys of branches: JSON fits a branch of one of two keys, or an enum of which it is a symbol.
-use Rattle.std.specs.Prelude.{◌≡◌, ◌+◌, ◌≤◌, ◌<◌, ℕ, List, [], ◌∷◌, length, slice_get, Option, Some, None}
+use Rattle.std.specs.Prelude.{◌≡◌, ◌==◌, ◌&&◌, ◌+◌, ◌≤◌, ◌<◌, ℕ, Bool, false, bytes_eq, List, [], ◌∷◌, length, slice_get, Option, Some, None}
 use Rattle.std.specs.Option.{unwrap_or}
 use Rattle.std.specs.Ordering.{nat_cmp}
 use Rattle.std.specs.Str.{chars}
@@ -8,6 +8,7 @@ use Rattle.std.specs.BTreeMap.{BTreeMap, get, get_by}
 use denote.Ref.{Bor}
 use Rattle.avro_schema.specs.Node.{Node, FieldNode, node_at, branches_of}
 use Rattle.serde_json.specs.Data.{Data, Members, no_members, member}
+use Rattle.serde_json.specs.Find.{get_member}
 use Rattle.avro_schema_json.specs.DeclaredAttributes.{symbol_index}
 use Rattle.avro_schema_json.specs.inside.OwnDefaults.{own_default}
 use Rattle.avro_schema_json.specs.declared.defaults.union_table.UnionTable.{UnionTable}
@@ -70,11 +71,50 @@ SkipsSymbol nodes ids word from to = (j id : ℕ) → from ≤ j → j < to → 
 abbrev pub find_word : BTreeMap (Bor (List ℕ)) ℕ → List ℕ → Option ℕ
 find_word kept word = get_by (λ k. slice_cmp nat_cmp word k.now) kept
 
--- no branch of a key is before the index that a table has for it, and no enum of a symbol
+-- the kind of a field by its node: that of the JSON that may fit, or 6 for a union
+abbrev pub field_key : Node → ℕ
+field_key Node.null = 0
+field_key Node.boolean = 1
+field_key Node.int = 2
+field_key Node.long = 2
+field_key Node.bytes = 3
+field_key Node.string = 3
+field_key (Node.enum name aliases symbols default) = 3
+field_key (Node.fixed name aliases count) = 3
+field_key (Node.array id) = 4
+field_key (Node.map_of id) = 5
+field_key (Node.record_of name aliases fields) = 5
+field_key (Node.union ids) = 6
+
+-- whether the first field has a name and a node of a kind
+abbrev pub first_in : List Node → ℕ → List ℕ → List FieldNode → Bool
+first_in nodes kind word [] = false
+first_in nodes kind word (f ∷ fields) = bytes_eq f.name word && (field_key (node_at nodes f.node) == kind)
+
+abbrev pub first_is : List Node → ℕ → List ℕ → Node → Bool
+first_is nodes kind word (Node.record_of name aliases fields) = first_in nodes kind word fields
+first_is nodes kind word _ = false
+
+-- whether a name is a word
+abbrev pub is_name : List ℕ → Option (List ℕ) → Bool
+is_name word None = false
+is_name word (Some name) = bytes_eq name word
+
+-- no branch from one index up to another is such a record
+abbrev pub SkipsFirst : List Node → List ℕ → ℕ → List ℕ → ℕ → ℕ → Type 0
+SkipsFirst nodes ids kind word from to = (j id : ℕ) → from ≤ j → j < to → slice_get ids j ≡ Some id → first_is nodes kind word (node_at nodes id) ≡ false
+
+-- one map for each kind
+abbrev pub AreRecordsSkipped : List Node → List ℕ → List (BTreeMap (Bor (List ℕ)) ℕ) → ℕ → Type 0
+AreRecordsSkipped nodes ids records other =
+    (kind : ℕ) (names : BTreeMap (Bor (List ℕ)) ℕ) (word : List ℕ) → slice_get records kind ≡ Some names → SkipsFirst nodes ids kind word 0 (unwrap_or (find_word names word) other)
+
+-- no branch of a key is before the index that a table has for it, no enum of a symbol, and no record by its first field
 abbrev pub IsTable : List Node → List ℕ → UnionTable → Type 0
 IsTable nodes ids table =
     ((key : ℕ) → Skips nodes ids key 0 (unwrap_or (get nat_cmp table.first key) table.other))
     × ((word : List ℕ) → SkipsSymbol nodes ids word 0 (unwrap_or (find_word table.symbols word) table.no_symbol))
+    × AreRecordsSkipped nodes ids table.records.items table.no_record
 
 -- one table for each union
 abbrev pub AreTables : List Node → List UnionTable → Type 0
@@ -88,3 +128,8 @@ HasNoKeyBefore nodes d ids to =
 -- the JSON is not a default of a branch before an index
 abbrev pub FitsNoneBefore : List Node → Data → List ℕ → ℕ → Type 0
 FitsNoneBefore nodes d ids to = (j id : ℕ) → j < to → slice_get ids j ≡ Some id → own_default nodes d (node_at nodes id) ≡ None
+
+-- no branch before an index is a record whose first field one of the members may fit
+abbrev pub HasNoRecordBefore : List Node → Members → List ℕ → ℕ → Type 0
+HasNoRecordBefore nodes ms ids to = (j id : ℕ) (key : List ℕ) (d : Data) → j < to → slice_get ids j ≡ Some id → get_member key ms ≡ Some d
+    → (first_is nodes (kind_key d) key (node_at nodes id) ≡ false) × (first_is nodes 6 key (node_at nodes id) ≡ false)

@@ -10,9 +10,10 @@ ghost use Rattle.avro_schema_json.specs.inside.OwnDefaults.{own_default as own_d
 ghost use Rattle.avro_schema_json.specs.DeclaredDefaults.{default_of as default_by, first_fit, text_default as default_of_text};
 ghost use Rattle.serde_json.specs.View.{view};
 
+use crate::defaults::first_branches::first_branch;
 use crate::defaults::known::has;
 use crate::defaults::plain_defaults::{number_default, text_default};
-use crate::defaults::tables::{first_branch, no_table, table_at};
+use crate::defaults::tables::{no_table, table_at};
 use crate::defaults::unfit::{characters_of, is_unfit};
 use crate::defaults::union_table::UnionTable;
 use crate::raw::RawNode;

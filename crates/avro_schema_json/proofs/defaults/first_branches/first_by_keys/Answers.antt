@@ -1,7 +1,7 @@
 use Rattle.std.proofs.Common.{arith}
 use Rattle.serde_json.specs.View.{view}
 use Rattle.avro_schema_json.proofs.TablesSeen.{none_before}
-use Rattle.avro_schema_json.proofs.defaults.tables.first_by_keys.Goals as goal
+use Rattle.avro_schema_json.proofs.defaults.first_branches.first_by_keys.Goals as goal
 
 pub returns-then-of_kind-of_size : goal.returns-then-of_kind-of_size
 returns-then-of_kind-of_size c = λ nodes ids good.
