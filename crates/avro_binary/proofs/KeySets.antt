@@ -1,5 +1,5 @@
 -- The set of the keys that were read so far.
-use Rattle.std.proofs.Common.{◌≡◌, ℕ, Bool, true, false, ◌||◌, cond, List, [], ◌∷◌, ◌++◌, map, refl, sym, ap, ◌∙◌, Bor, bytes_eq}
+use Rattle.std.proofs.Common.{◌≡◌, ℕ, Bool, true, false, ◌||◌, cond, List, [], ◌∷◌, ◌++◌, map, refl, sym, ap, ◌∙◌, Bor, bytes_eq, Option, Some, None}
 use Rattle.std.specs.List.{list_any}
 use Rattle.std.specs.declared.cmp.Ordering.{Ordering}
 use Rattle.std.specs.Ordering.{nat_cmp, is_eq, eq_by_cmp}
@@ -8,7 +8,7 @@ use Rattle.std.specs.FinSet as set
 use Rattle.std.specs.BTreeSet.{BTreeSet, contains, Updates}
 use Rattle.std.proofs.lemmas.Map.Text.{is_eq-slice_cmp}
 use Rattle.std.proofs.lemmas.Slice.Eq.{bytes_eq-Decides}
-use Rattle.avro_binary.specs.KeySet.{KeySet, key_set}
+use Rattle.avro_binary.specs.KeySet.{KeySet, key_set, with_key}
 
 -- keys as slices, seen as their bytes
 abbrev pub seen_keys : List (Bor (List ℕ)) → List (List ℕ)
@@ -71,3 +71,35 @@ key_set-again s k old =
 
     tied : (q : List ℕ) → eq_by_cmp (slice_cmp nat_cmp) q k ≡ true → set.contains s q ≡ true
     tied q same = ap (set.contains s) ((bytes_eq-Decides q k).0 (sym (is_eq-slice_cmp q k) ∙ same)) ∙ old
+
+or_same : (a b c : Bool) → (a || (b || c)) ≡ (b || (a || c))
+or_same true true c = refl
+or_same true false c = refl
+or_same false b c = refl
+
+-- in whichever order two keys are added
+swapped : (s : KeySet) (j k : List ℕ) → set.insert (set.insert s j) k ≡ set.insert (set.insert s k) j
+swapped s j k =
+    set.same_set nat_list_cmp_total (set.slice_cmp-IsAntisymmetric set.nat_cmp-IsAntisymmetric) _ _ (λ q.
+    let is_j = eq_by_cmp (slice_cmp nat_cmp) q j in
+    let is_k = eq_by_cmp (slice_cmp nat_cmp) q k in
+    set.contains-insert nat_list_cmp_total (set.insert s j) k q ∙ ap (λ b. is_k || b) (set.contains-insert nat_list_cmp_total s j q)
+    ∙ or_same is_k is_j (set.contains s q)
+    ∙ sym (set.contains-insert nat_list_cmp_total (set.insert s k) j q ∙ ap (λ b. is_j || b) (set.contains-insert nat_list_cmp_total s k q)))
+
+pub with_key-insert : (kept : Option (Bor (List ℕ))) (s : KeySet) (k : List ℕ) → with_key kept (set.insert s k) ≡ set.insert (with_key kept s) k
+with_key-insert (Some kept) s k = swapped s k kept.now
+with_key-insert None s k = refl
+
+-- the same of three keys
+pub with_three-insert : (f g h : Option (Bor (List ℕ))) (s : KeySet) (k : List ℕ)
+    → with_key f (with_key g (with_key h (set.insert s k))) ≡ set.insert (with_key f (with_key g (with_key h s))) k
+with_three-insert f g h s k =
+    ap (λ t. with_key f (with_key g t)) (with_key-insert h s k) ∙ ap (with_key f) (with_key-insert g (with_key h s) k) ∙ with_key-insert f (with_key g (with_key h s)) k
+
+-- whether a set has a key once another was added
+pub contains-one : (s : KeySet) (kept k : List ℕ) → set.contains (set.insert s kept) k ≡ (bytes_eq k kept || set.contains s k)
+contains-one s kept k = set.contains-insert nat_list_cmp_total s kept k ∙ ap (λ b. b || set.contains s k) (is_eq-slice_cmp k kept)
+
+pub contains-none : (k : List ℕ) → set.contains (key_set []) k ≡ false
+contains-none k = set.contains-empty (slice_cmp nat_cmp) k

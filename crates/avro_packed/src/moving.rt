@@ -147,14 +147,11 @@ pub(crate) fn join(
     }
 }
 
-/// How long an output may be for a part of it to be copied to its end: so no more than this is ever written twice.
-const SHORT: usize = 4096;
+/// How many bytes of a part are copied to the end of an output at most: no field makes an output longer by more than these.
+const FEW: usize = 8;
 
-/// How many bytes of a part are copied there at most.
-const FEW: usize = 16;
-
-/// What was written, at the end of the output where this ends with what was written before: a few bytes of a short output are copied
-/// there, so that the two need no room of their own.
+/// What was written, at the end of the output where this ends with what was written before: a few bytes are copied there, so that the
+/// two need no room of their own.
 #[inline(always)]
 fn brought(out: &mut Vec<u8>, before: &Written, written: Written) -> Result<Written, AllocError>
     ensures kept { OnOk result (Grows out.old.items out.new.items) }
@@ -166,7 +163,7 @@ fn brought(out: &mut Vec<u8>, before: &Written, written: Written) -> Result<Writ
     }
     match written {
         Written::Range(start, end) => {
-            if start <= end && end < len && end - start <= FEW && len <= SHORT {
+            if start <= end && end < len && end - start <= FEW {
                 return copied(out, start, end);
             }
             Ok(Written::Range(start, end))
@@ -197,7 +194,7 @@ fn copied(out: &mut Vec<u8>, start: usize, end: usize) -> Result<Written, AllocE
     Ok(Written::Range(len, out.len()))
 }
 
-/// Puts what was written after what was written before, and a few bytes of it at the end of a short output, where they need no room.
+/// Puts what was written after what was written before, and a few bytes of it at the end of the output, where they need no room.
 #[inline(always)]
 pub(crate) fn join_near(
     alloc: Global,
