@@ -1,4 +1,4 @@
-ghost use Rattle.std.specs.Prelude.{◌≡◌, ◌+◌, ◌-◌, ◌^◌, ◌≤◌, ◌<◌, ℕ, length, take, drop, pos, negsuc, neg_ℤ, IfOk, true};
+ghost use Rattle.std.specs.Prelude.{◌≡◌, ◌∷◌, [], ◌+◌, ◌-◌, ◌^◌, ◌≤◌, ◌<◌, ℕ, length, take, drop, pos, negsuc, neg_ℤ, IfOk, true};
 ghost use Rattle.std.specs.Result.{IfErr};
 ghost use Rattle.avro_zigzag.specs.Number.{SpellsLong};
 ghost use Rattle.avro_binary.specs.BlockHeads.{IsBlock, ReadsHead, EndsBlock, signed_count};
@@ -66,7 +66,29 @@ impl<'a> Cursor<'a> {
     /// Of the count: `EndOfInput`, `InvalidNumber`, then `InvalidLength` where it is the smallest
     /// long, then `LimitExceeded` where it is more than the nodes left; then of the size:
     /// `EndOfInput`, `InvalidNumber`, `InvalidLength` where it is negative.
+    #[inline(always)]
     pub fn block(&mut self) -> Result<Option<Block>, ReadError>
+        ensures { ReadsHead self.old self.new result }
+    {
+        if self.is_at_end() {
+            self.pass(1);
+            return Ok(None);
+        }
+        self.head()
+    }
+
+    /// Whether the next byte is the 0 that ends the blocks.
+    #[inline(always)]
+    fn is_at_end(&self) -> bool
+        ensures inside { result ≡ true → 1 ≤ length self.now.bytes }
+        ensures zero { result ≡ true → take 1 self.now.bytes ≡ 0 ∷ [] }
+    {
+        let rest = self.rest();
+        !rest.is_empty() && rest[0] == 0
+    }
+
+    /// Reads the head of a block, or the end of the blocks in any spelling of 0.
+    fn head(&mut self) -> Result<Option<Block>, ReadError>
         ensures { ReadsHead self.old self.new result }
     {
         let (is_sized, count, len) = self.block_count()?;
