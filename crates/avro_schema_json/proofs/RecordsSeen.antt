@@ -24,7 +24,6 @@ use Rattle.avro_schema_json.specs.inside.OwnDefaults.{own_default, default_of_fi
 use Rattle.avro_schema_json.specs.declared.defaults.union_table.UnionTable.{UnionTable}
 use Rattle.avro_schema_json.specs.declared.raw.RawField.{RawField}
 use Rattle.avro_schema_json.proofs.DefaultsSeen.{drop_past}
-use Rattle.avro_schema_json.proofs.NamesSeen.{bytes_eq-comm}
 use Rattle.avro_schema_json.proofs.RepeatsSeen.{id_at, node_here}
 use Rattle.avro_schema_json.proofs.RawSeen.{name_and_node}
 use Rattle.avro_schema_json.proofs.MisfitsSeen.{field-misfit, field-missing}
