@@ -3,7 +3,6 @@ use Rattle.std.proofs.Common.{◌≡◌, ℕ, suc, ◌+◌, ◌≤◌, Bool, tru
 use Rattle.std.specs.Prelude.{String, string_bytes, slice_get, bytes_eq, is_some}
 use Rattle.std.specs.declared.alloc.Global.{Global}
 use Rattle.std.specs.List.{list_any}
-use Rattle.std.proofs.lemmas.Slice.Eq.{bytes_eq-Decides}
 use Rattle.avro_name.proofs.public.Names.{bytes_eq-sym}
 use Rattle.avro_schema.specs.Node.{FieldNode}
 use Rattle.serde_json.specs.View.{members_view}

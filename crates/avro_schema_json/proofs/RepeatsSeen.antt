@@ -1,12 +1,11 @@
 -- A union in which a branch occurs twice is a fault of the nodes with their defaults.
 use Rattle.std.proofs.Common.{◌≡◌, ℕ, zero, suc, ◌+◌, ◌<◌, true, false, not, ◌&&◌, List, [], ◌∷◌, length, map, filter_map, Option, Some, None, get_or, ◌⊎◌, inl, inr, refl, sym, ap, subst, ◌∙◌, arith, nat_lt}
-use Rattle.std.specs.Prelude.{slice_get, bytes_eq, is_some}
+use Rattle.std.specs.Prelude.{slice_get, is_some}
 use Rattle.std.specs.List.{list_all, list_any, cons_option}
 use Rattle.std.specs.Ordering.{nat_cmp}
 use Rattle.std.specs.BTreeSet.{BTreeSet, contains}
 use Rattle.std.proofs.lemmas.Bool.{and_parts, or_parts, false≢true, not-true, false_from_ne_true}
 use Rattle.std.proofs.lemmas.Bool.Decides.{Decides-eqb}
-use Rattle.std.proofs.lemmas.Slice.Eq.{bytes_eq-Decides}
 use Rattle.std.proofs.lemmas.List.{length-map}
 use Rattle.avro_name.proofs.public.Names.{same_name-self}
 use Rattle.avro_schema.specs.Distinct.{are_distinct}
