@@ -4,55 +4,26 @@ use Rattle.std.specs.Prelude.{bytes_eq, String, string_bytes, Result, Ok, Err, I
 use Rattle.std.specs.declared.alloc.Global.{Global}
 use Rattle.std.specs.BTreeMap.{BTreeMap, get, is_at, btree_map_len, Updates}
 use Rattle.std.specs.Map.{lookup}
-use Rattle.std.specs.Cmp.{unsigned_tied}
-use Rattle.std.specs.Ordering.{is_eq, nat_cmp, ordering_then}
+use Rattle.std.specs.Cmp.{unsigned_tied, both_ways}
+use Rattle.std.specs.Ordering.{is_eq, nat_cmp}
 use Rattle.std.specs.String.{string_cmp}
 use Rattle.std.specs.Cmp.Lexicographic.{slice_cmp}
-use Rattle.std.specs.declared.cmp.Ordering.{Ordering}
-use Rattle.std.specs.declared.cmp.Ordering.TheVariants.{Less, Equal, Greater}
-use Rattle.std.proofs.lemmas.Bool.{and_parts, cond-true, cond-false, false≢true, false_from_ne_true}
+use Rattle.std.proofs.lemmas.Bool.{cond-true, cond-false, false_from_ne_true}
 use Rattle.std.proofs.lemmas.Bool.Decides.{Decides-eqb}
 use Rattle.std.proofs.lemmas.Map.Text.{is_eq-slice_cmp}
 use Rattle.std.proofs.lemmas.Slice.Eq.{bytes_eq-Decides}
 use Rattle.avro_name.specs.Name.{Name, same_name, name_of, split_name, has_dot, is_dotted_name, is_primitive_word}
+use Rattle.avro_name.proofs.public.Names.{is_eq-then, same_name-is, same_name-sym, bytes_eq-self}
 use Rattle.avro_schema_json.specs.Declares.{Known, id_of, defining}
 use Rattle.avro_schema_json.specs.inside.KnownNames.{Key, key_cmp, number_of, IsIndexOf}
 use Rattle.avro_schema_json.specs.inside.KnownSeen.{known_of, IsNumbered}
 use Rattle.avro_schema_json.specs.declared.declarations.name_table.NameTable.{NameTable}
 use Rattle.avro_schema_json.specs.declared.declarations.name_table.Space.{Space}
 
-is_eq-then : (a b : Ordering) → is_eq (ordering_then a b) ≡ (is_eq a && is_eq b)
-is_eq-then Less b = refl
-is_eq-then Equal b = refl
-is_eq-then Greater b = refl
-
-one_name : (a b : Name) → same_name a b ≡ true → a ≡ b
-one_name a b h =
-    let parts = and_parts (bytes_eq a.simple b.simple) (bytes_eq a.namespace b.namespace) h in
-    let simple : a.simple ≡ b.simple = (bytes_eq-Decides a.simple b.simple).0 parts.0 in
-    let space : a.namespace ≡ b.namespace = (bytes_eq-Decides a.namespace b.namespace).0 parts.1 in
-    ap (λ (s : List ℕ). record { namespace = a.namespace; simple = s }) simple
-    ∙ ap (λ (s : List ℕ). record { namespace = s; simple = b.simple }) space
-
-same_name-self : (a : Name) → same_name a a ≡ true
-same_name-self a =
-    let simple : bytes_eq a.simple a.simple ≡ true = (bytes_eq-Decides a.simple a.simple).1 refl in
-    let space : bytes_eq a.namespace a.namespace ≡ true = (bytes_eq-Decides a.namespace a.namespace).1 refl in
-    rw (simple, space) refl
-
-same_name-comm : (a b : Name) → same_name a b ≡ same_name b a
-same_name-comm a b = by_cases (same_name a b) (same_name b a) refl refl
-  where
-    by_cases : (p q : Bool) → same_name a b ≡ p → same_name b a ≡ q → p ≡ q
-    by_cases true true h k = refl
-    by_cases false false h k = refl
-    by_cases true false h k = absurd (false≢true (sym k ∙ ap (λ n. same_name b n) (one_name a b h) ∙ same_name-self b))
-    by_cases false true h k = absurd (false≢true (sym h ∙ ap (λ n. same_name a n) (one_name b a k) ∙ same_name-self a))
-
 taken : (q name : Name) (known : Known) (first : Name × ℕ) → same_name q first.0 ≡ true → id_of name (first ∷ known) ≡ None → same_name q name ≡ false
 taken q name known first here absent =
     false_from_ne_true (same_name q name) (λ h.
-    let same : same_name name first.0 ≡ true = ap (λ n. same_name n first.0) (sym (one_name q name h)) ∙ here in
+    let same : same_name name first.0 ≡ true = ap (λ n. same_name n first.0) (sym (same_name-is q name h)) ∙ here in
     some_none (rw same at absent))
   where
     some_none : Some first.1 ≡ None → ⊥
@@ -115,15 +86,6 @@ or_none (Some x) = inr (x, refl)
 one_bytes : (xs ys : List ℕ) → bytes_eq xs ys ≡ true → xs ≡ ys
 one_bytes xs ys h = (bytes_eq-Decides xs ys).0 h
 
-same_bytes : (xs : List ℕ) → bytes_eq xs xs ≡ true
-same_bytes xs = (bytes_eq-Decides xs xs).1 refl
-
--- tests that hold at the same time are equal
-both_ways : (a b : Bool) → (a ≡ true → b ≡ true) → (b ≡ true → a ≡ true) → a ≡ b
-both_ways true b there back = sym (there refl)
-both_ways false true there back = back refl
-both_ways false false there back = refl
-
 and-comm : (a b : Bool) → (a && b) ≡ (b && a)
 and-comm true true = refl
 and-comm true false = refl
@@ -155,7 +117,7 @@ module _ (known : Known) (numbers : BTreeMap (List ℕ) ℕ) (ids : BTreeMap Key
         is_eq-keys (number, simple) (n, s) ∙ and-comm (number == n) (bytes_eq (string_bytes simple) (string_bytes s))
         ∙ ap (λ b. bytes_eq (string_bytes simple) (string_bytes s) && b) (one_number name.namespace namespace number n numbered h)
         ∙ ap (λ t. bytes_eq t (string_bytes s) && bytes_eq name.namespace namespace) spelled
-        ∙ same_name-comm name (record { namespace = namespace; simple = string_bytes s })
+        ∙ same_name-sym name (record { namespace = namespace; simple = string_bytes s })
 
     past : (n : ℕ) (s : String Global) → btree_map_len numbers ≤ n → is_eq (key_cmp (number, simple) (n, s)) ≡ false
     past n s h =
@@ -174,7 +136,7 @@ module _ (known : Known) (numbers : BTreeMap (List ℕ) ℕ) (ids : BTreeMap Key
       unnumbered = λ namespace t h.
           let q : Name = record { namespace = namespace; simple = t } in
           let other : same_name q name ≡ false = false_from_ne_true (same_name q name) (λ e.
-          let same : namespace ≡ name.namespace = ap (λ (n : Name). n.namespace) (one_name q name e) in
+          let same : namespace ≡ name.namespace = ap (λ (n : Name). n.namespace) (same_name-is q name e) in
           let found : None ≡ Some number = sym h ∙ ap (number_of numbers) same ∙ numbered in absurd (cc)) in
           found_after q name id known new ∙ ap (λ b. cond b (Some id) (id_of q known)) other ∙ index.unnumbered namespace t h;
       unused = λ n s h.
@@ -208,7 +170,7 @@ module _ (known : Known) (numbers : BTreeMap (List ℕ) ℕ) (ids : BTreeMap Key
         put_text q ∙ ap (λ b. cond b (Some number) (number_of numbers q)) other ∙ h
 
     pub number_put : number_of later namespace ≡ Some number
-    number_put = put_text namespace ∙ ap (λ b. cond b (Some number) (number_of numbers namespace)) (same_bytes namespace)
+    number_put = put_text namespace ∙ ap (λ b. cond b (Some number) (number_of numbers namespace)) (bytes_eq-self namespace)
 
     pub numbered_after : IsIndexOf known later ids
     numbered_after = record {

@@ -3,7 +3,7 @@ use Rattle.std.proofs.Common.{◌≡◌, ℕ, suc, ◌+◌, ◌≤◌, Bool, tru
 use Rattle.std.specs.Prelude.{String, string_bytes, slice_get, bytes_eq, is_some}
 use Rattle.std.specs.declared.alloc.Global.{Global}
 use Rattle.std.specs.List.{list_any}
-use Rattle.std.proofs.lemmas.Slice.Eq.{bytes_eq-Decides}
+use Rattle.avro_name.proofs.public.Names.{bytes_eq-sym}
 use Rattle.avro_schema.specs.Node.{FieldNode}
 use Rattle.serde_json.specs.View.{members_view}
 use Rattle.serde_json.specs.declared.value.Value.{Value as Tree}
@@ -12,15 +12,6 @@ use Rattle.avro_schema_json.specs.DeclaredDefaults.{member_keys, names_only}
 use Rattle.avro_schema_json.proofs.RawSeen.{name_and_node}
 use Rattle.avro_schema_json.proofs.DefaultSteps.{drop_at, field_at-found}
 use Rattle.avro_schema_json.proofs.DefaultsSeen.{drop_past}
-
-pub bytes_eq-comm : (xs ys : List ℕ) → bytes_eq xs ys ≡ bytes_eq ys xs
-bytes_eq-comm xs ys = by_cases (bytes_eq xs ys) (bytes_eq ys xs) refl refl
-  where
-    by_cases : (a b : Bool) → bytes_eq xs ys ≡ a → bytes_eq ys xs ≡ b → a ≡ b
-    by_cases true true h k = refl
-    by_cases false false h k = refl
-    by_cases true false h k = sym ((bytes_eq-Decides ys xs).1 (sym ((bytes_eq-Decides xs ys).0 h))) ∙ k
-    by_cases false true h k = sym h ∙ (bytes_eq-Decides xs ys).1 (sym ((bytes_eq-Decides ys xs).0 k))
 
 or-false : (a b : Bool) → (a || false) ≡ b → a ≡ b
 or-false true b h = h
@@ -42,7 +33,7 @@ name_next fields i key id before after name all got put whole =
     let found = field_at-found fields i key id (slice_get fields i) refl got in
     let f = found.0 in
     let here : drop i fields ≡ f ∷ drop (suc i) fields = drop_at fields i f found.1.at in
-    let same : bytes_eq key name ≡ bytes_eq name f.name = bytes_eq-comm key name ∙ ap (bytes_eq name) (sym found.1.named) in
+    let same : bytes_eq key name ≡ bytes_eq name f.name = bytes_eq-sym key name ∙ ap (bytes_eq name) (sym found.1.named) in
     let w = rw here at whole in
     rw (put, same, add-one) (gathered (bytes_eq name f.name) before (list_any (is_named name) (drop (suc i) fields)) ∙ w)
 

@@ -1,31 +1,25 @@
 -- Where an object may fit a branch of a union, by the names and the kinds of the first fields of its records.
-use Rattle.std.proofs.Common.{◌≡◌, ℕ, zero, suc, ◌+◌, ◌<◌, ◌≤◌, ◌==◌, drop, ◌⊎◌, inl, inr, Bool, true, false, ◌&&◌, cond, List, [], ◌∷◌, ◌++◌, length, Option, Some, None, option_map, option_and_then, add-one, Bor, Result, Ok, Err, get_or, refl, sym, ap, subst, ◌∙◌, arith, Ordering, Less, Equal, Greater}
-use Rattle.std.specs.Prelude.{slice_get, chars, nat_lt, is_some, String, string_bytes, bytes_eq, IfOk}
+use Rattle.std.proofs.Common.{◌≡◌, ℕ, zero, suc, ◌<◌, ◌≤◌, ◌==◌, ◌⊎◌, inl, inr, Bool, true, false, ◌&&◌, cond, List, [], ◌∷◌, ◌++◌, length, Option, Some, None, option_map, Bor, get_or, refl, sym, ap, subst, ◌∙◌, arith, Ordering, Less, Equal, Greater}
+use Rattle.std.specs.Prelude.{slice_get, String, string_bytes, bytes_eq}
 use Rattle.std.specs.declared.alloc.Global.{Global}
-use Rattle.std.specs.List.{list_all}
 use Rattle.std.specs.Option.{unwrap_or}
 use Rattle.std.specs.Ordering.{nat_cmp, is_eq}
-use Rattle.std.specs.BTreeMap.{BTreeMap, get, is_at}
+use Rattle.std.specs.BTreeMap.{BTreeMap, get}
 use Rattle.std.proofs.lemmas.Bool.{false≢true, false_from_ne_true}
 use Rattle.std.proofs.lemmas.Bool.Decides.{Decides-eqb}
-use Rattle.std.proofs.lemmas.Cmp.{nat_cmp_total, tied_itself}
 use Rattle.avro_schema.specs.Node.{Node, FieldNode, node_at}
-use Rattle.avro_schema.specs.Seen.{ids_of, texts_of}
-use Rattle.avro_schema.specs.Value.{Value}
+use Rattle.avro_schema.specs.Seen.{ids_of}
 use Rattle.avro_schema.specs.declared.schema.NodeId.{NodeId}
 use Rattle.serde_json.specs.Data.{Data, Members, no_members, member}
 use Rattle.serde_json.specs.Find.{get_member}
 use Rattle.serde_json.specs.View.{view, members_view}
 use Rattle.serde_json.proofs.Views.{Entry}
-use Rattle.avro_schema_json.specs.DeclaredAttributes.{symbol_index}
 use Rattle.avro_schema_json.specs.DeclaredDefaults.{default_of}
 use Rattle.avro_schema_json.specs.inside.BranchKeys.{branch_key, members_key, kind_key, find_word, field_key, first_in, first_is, IsTable, SkipsFirst, AreRecordsSkipped, FitsNoneBefore, HasNoRecordBefore}
 use Rattle.avro_schema_json.specs.inside.OwnDefaults.{own_default, default_of_fields, fields_seen}
 use Rattle.avro_schema_json.specs.declared.defaults.union_table.UnionTable.{UnionTable}
 use Rattle.avro_schema_json.specs.declared.raw.RawField.{RawField}
-use Rattle.avro_schema_json.proofs.DefaultsSeen.{drop_past}
-use Rattle.avro_schema_json.proofs.NamesSeen.{bytes_eq-comm}
-use Rattle.avro_schema_json.proofs.RepeatsSeen.{id_at, node_here}
+use Rattle.avro_schema_json.proofs.RepeatsSeen.{id_at}
 use Rattle.avro_schema_json.proofs.RawSeen.{name_and_node}
 use Rattle.avro_schema_json.proofs.MisfitsSeen.{field-misfit, field-missing}
 use Rattle.avro_schema_json.proofs.TablesSeen.{past_end, either, some_same}

@@ -1,13 +1,13 @@
 -- A union in which a branch occurs twice is a fault of the nodes with their defaults.
 use Rattle.std.proofs.Common.{◌≡◌, ℕ, zero, suc, ◌+◌, ◌<◌, true, false, not, ◌&&◌, List, [], ◌∷◌, length, map, filter_map, Option, Some, None, get_or, ◌⊎◌, inl, inr, refl, sym, ap, subst, ◌∙◌, arith, nat_lt}
-use Rattle.std.specs.Prelude.{slice_get, bytes_eq, is_some}
+use Rattle.std.specs.Prelude.{slice_get, is_some}
 use Rattle.std.specs.List.{list_all, list_any, cons_option}
 use Rattle.std.specs.Ordering.{nat_cmp}
 use Rattle.std.specs.BTreeSet.{BTreeSet, contains}
 use Rattle.std.proofs.lemmas.Bool.{and_parts, or_parts, false≢true, not-true, false_from_ne_true}
 use Rattle.std.proofs.lemmas.Bool.Decides.{Decides-eqb}
-use Rattle.std.proofs.lemmas.Slice.Eq.{bytes_eq-Decides}
 use Rattle.std.proofs.lemmas.List.{length-map}
+use Rattle.avro_name.proofs.public.Names.{same_name-self}
 use Rattle.avro_schema.specs.Distinct.{are_distinct}
 use Rattle.avro_schema.specs.Faulty.{invalid_union, breaks, IsThere}
 use Rattle.avro_schema.specs.Node.{Node, node_at, node_name, branches_of}
@@ -26,10 +26,7 @@ use Rattle.avro_schema_json.specs.inside.Repeats.{kind_code, code_by, Repeats, S
 
 same_kind-self : (k : BranchKind) → same_kind k k ≡ true
 same_kind-self (unnamed a) = (Decides-eqb a a).1 refl
-same_kind-self (named name) =
-    let first : bytes_eq name.simple name.simple ≡ true = (bytes_eq-Decides name.simple name.simple).1 refl in
-    let second : bytes_eq name.namespace name.namespace ≡ true = (bytes_eq-Decides name.namespace name.namespace).1 refl in
-    rw (first, second) refl
+same_kind-self (named name) = same_name-self name
 
 same_code : (x y : ℕ) (k j : BranchKind) → (x ≡ y → k ≡ j) → kind_code x (Some k) ≡ kind_code y (Some j) → k ≡ j
 same_code x y (unnamed a) (unnamed b) alike h = let same : a ≡ b = omega (arith, h) in ap unnamed same

@@ -4,7 +4,7 @@ use Rattle.std.specs.Prelude.{String, string_bytes, bytes_eq}
 use Rattle.std.specs.declared.alloc.Global.{Global}
 use Rattle.avro_schema.specs.Seen.{texts_of}
 use Rattle.avro_schema_json.specs.DeclaredAttributes.{symbol_index}
-use Rattle.avro_schema_json.proofs.NamesSeen.{bytes_eq-comm}
+use Rattle.avro_name.proofs.public.Names.{bytes_eq-sym}
 
 -- the first index of a word among the symbols from an index on
 abbrev pub index_from : List ℕ → List (String Global) → ℕ → Option ℕ
@@ -33,7 +33,7 @@ pub index_next : (symbols : List (String Global)) (n : ℕ) (symbol key : String
     → n < length symbols → symbol ≡ get_or symbols n symbol → string_bytes key ≡ string_bytes symbol → index ≡ n → before ≡ index_from word symbols (suc n)
     → after ≡ cond (bytes_eq (string_bytes key) word) (Some index) before → after ≡ index_from word symbols n
 index_next symbols n symbol key index word before after within at copied indexed known put =
-    put ∙ ap (λ p. cond (bytes_eq (string_bytes key) word) (Some p) before) indexed ∙ ap (λ b. cond b (Some n) before) (ap (λ t. bytes_eq t word) copied ∙ bytes_eq-comm (string_bytes symbol) word) ∙ by (bytes_eq word (string_bytes symbol)) refl
+    put ∙ ap (λ p. cond (bytes_eq (string_bytes key) word) (Some p) before) indexed ∙ ap (λ b. cond b (Some n) before) (ap (λ t. bytes_eq t word) copied ∙ bytes_eq-sym (string_bytes symbol) word) ∙ by (bytes_eq word (string_bytes symbol)) refl
   where
     by : (same : Bool) → bytes_eq word (string_bytes symbol) ≡ same → cond (bytes_eq word (string_bytes symbol)) (Some n) before ≡ index_from word symbols n
     by true h = rw (next_here symbols n symbol within at, h) (ap Some (omega arith))

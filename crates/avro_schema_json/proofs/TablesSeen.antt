@@ -1,14 +1,16 @@
 -- JSON fits a branch of one of its two keys alone, and where the tables say that these begin.
 use Rattle.std.proofs.Common.{◌≡◌, ℕ, zero, suc, ◌+◌, ◌<◌, ◌≤◌, ◌==◌, drop, ◌⊎◌, inl, inr, Bool, true, false, cond, List, [], ◌∷◌, ◌++◌, length, Option, Some, None, option_map, option_and_then, add-one, Bor, Result, Ok, Err, get_or, refl, sym, ap, subst, ◌∙◌, arith}
-use Rattle.std.specs.Prelude.{slice_get, chars, nat_lt, is_some, String, string_bytes, bytes_eq, IfOk}
+use Rattle.std.specs.Prelude.{min, slice_get, chars, nat_lt, is_some, String, string_bytes, bytes_eq, IfOk}
 use Rattle.std.specs.declared.alloc.Global.{Global}
 use Rattle.std.specs.List.{list_all}
 use Rattle.std.specs.Option.{unwrap_or}
 use Rattle.std.specs.Ordering.{nat_cmp, is_eq}
 use Rattle.std.specs.BTreeMap.{BTreeMap, get, is_at}
+use Rattle.std.proofs.Math.Nat.{min-le_left, min-le_right}
 use Rattle.std.proofs.lemmas.Bool.{false≢true, false_from_ne_true}
 use Rattle.std.proofs.lemmas.Bool.Decides.{Decides-eqb}
 use Rattle.std.proofs.lemmas.Cmp.{nat_cmp_total, tied_itself}
+use Rattle.avro_name.proofs.public.Names.{bytes_eq-sym}
 use Rattle.avro_schema.specs.Node.{Node, node_at, branches_of}
 use Rattle.avro_schema.specs.Seen.{ids_of, texts_of}
 use Rattle.avro_schema.specs.Value.{Value}
@@ -24,7 +26,6 @@ use Rattle.avro_schema_json.specs.inside.OwnDefaults.{own_default, without_defau
 use Rattle.avro_schema_json.specs.declared.defaults.union_table.UnionTable.{UnionTable}
 use Rattle.avro_schema_json.specs.declared.raw.RawNode.{RawNode}
 use Rattle.avro_schema_json.proofs.DefaultsSeen.{drop_past}
-use Rattle.avro_schema_json.proofs.NamesSeen.{bytes_eq-comm}
 use Rattle.avro_schema_json.proofs.RepeatsSeen.{id_at, node_here}
 use Rattle.avro_schema_json.proofs.SymbolsFound.{next_here}
 
@@ -137,6 +138,13 @@ with_members [] some = absurd (omega (arith, some))
 with_members (e ∷ es) some = refl
 
 -- ---- what a table tells
+
+-- the lesser of two
+pub least_left : (m a b : ℕ) → m ≡ min a b → m ≤ a
+least_left m a b is = rw is (min-le_left a b)
+
+pub least_right : (m a b : ℕ) → m ≡ min a b → m ≤ b
+least_right m a b is = rw is (min-le_right a b)
 
 pub none_before : (nodes : List Node) (d : Data) (ids : List ℕ) (table : UnionTable) (one other of_kind of_size start : ℕ) → one ≡ kind_key d → other ≡ size_key d
     → of_kind ≡ unwrap_or (get nat_cmp table.first one) table.other → of_size ≡ unwrap_or (get nat_cmp table.first other) table.other
@@ -303,7 +311,7 @@ pub symbol_put : (symbols : List (String Global)) (n : ℕ) (symbol : String Glo
 symbol_put symbols n symbol key index word before after whole within at named put known = rw add-one (by (bytes_eq word (string_bytes symbol)) refl)
   where
     agree : (same : Bool) → bytes_eq word (string_bytes symbol) ≡ same → bytes_eq key word ≡ same
-    agree same h = ap (λ t. bytes_eq t word) named ∙ bytes_eq-comm (string_bytes symbol) word ∙ h
+    agree same h = ap (λ t. bytes_eq t word) named ∙ bytes_eq-sym (string_bytes symbol) word ∙ h
 
     by : (same : Bool) → bytes_eq word (string_bytes symbol) ≡ same
         → cond (is_some (symbol_index word (texts_of (drop (suc n) symbols)))) (Some index) after ≡ whole

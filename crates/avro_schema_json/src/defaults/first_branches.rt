@@ -1,6 +1,6 @@
 //! Where in a union the branches that JSON may fit begin, by its table.
 
-ghost use Rattle.std.specs.Prelude.{◌≡◌, ◌≤◌, ◌<◌, ℕ, false, List, slice_get, Some, IfOk};
+ghost use Rattle.std.specs.Prelude.{◌≡◌, ◌<◌, ℕ, false, List, slice_get, Some, IfOk};
 ghost use Rattle.std.specs.Option.{unwrap_or};
 ghost use Rattle.std.specs.Ordering.{nat_cmp};
 ghost use Rattle.std.specs.BTreeMap.{get};
@@ -50,14 +50,6 @@ fn first_of_word(kept: &BTreeMap<&str, usize>, other: usize, word: &str) -> usiz
     }
 }
 
-/// The lesser of two indices.
-fn lesser(one: usize, other: usize) -> usize
-    ensures one { result ≤ one }
-    ensures other { result ≤ other }
-{
-    if one < other { one } else { other }
-}
-
 /// An index before which no branch is a record whose first field has this name and a node of this kind.
 fn first_of_field(table: &UnionTable, kind: usize, name: &str) -> usize
     ensures { (nodes : List SeenNode) (ids : List ℕ) (j id : ℕ) → AreRecordsSkipped nodes ids table.now.records.items table.now.no_record → j < result → slice_get ids j ≡ Some id
@@ -78,7 +70,7 @@ fn first_record(table: &UnionTable, members: &Map<String, Value>) -> usize
         let name = key.as_str();
         let of_kind = first_of_field(table, key_of_kind(tree), name);
         let of_any = first_of_field(table, 6, name);
-        least = lesser(least, lesser(of_kind, of_any));
+        least = least.min(of_kind.min(of_any));
     }
     least
 }
@@ -89,9 +81,9 @@ fn first_of_object(table: &UnionTable, members: &Map<String, Value>) -> usize
 {
     let of_map = first_of(table, 5);
     if members.len() == 0 {
-        lesser(of_map, first_of(table, 7))
+        of_map.min(first_of(table, 7))
     } else {
-        lesser(of_map, first_record(table, members))
+        of_map.min(first_record(table, members))
     }
 }
 
@@ -102,10 +94,7 @@ fn first_of_other(table: &UnionTable, tree: &Value, characters: usize) -> Result
 {
     let by_keys = first_by_keys(table, tree, characters)?;
     match tree.as_str() {
-        Some(word) => Ok(lesser(
-            by_keys,
-            first_of_word(&table.symbols, table.no_symbol, word),
-        )),
+        Some(word) => Ok(by_keys.min(first_of_word(&table.symbols, table.no_symbol, word))),
         None => Ok(by_keys),
     }
 }
