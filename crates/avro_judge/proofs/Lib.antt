@@ -1,5 +1,3 @@
-pub mod AskedCovers
-pub mod AskedTaken
 pub mod CertifiedTables
 pub mod DeadIds
 pub mod Evidence

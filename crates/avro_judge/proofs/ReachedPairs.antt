@@ -4,23 +4,21 @@ use Rattle.std.proofs.lemmas.Bool.{false≢true, true≢false, eqb-true, ltb-tru
 use Rattle.std.specs.Prelude.{nat_lt, ◌==◌, is_none, is_some}
 use Rattle.avro_schema.specs.Node.{Node, node_at}
 use Rattle.avro_schema.specs.WellFormed.{is_schema}
-use Rattle.avro_compare.specs.Children.{Pair, children_of}
+use Rattle.avro_compare.specs.Children.{Pair, children_of, has_local_fault}
 use Rattle.avro_certificate.specs.Closed.{same_pair, is_among, is_among_pairs}
 use Rattle.avro_certificate.specs.Evidence.{IsReached, roots, child}
-use Rattle.avro_least.specs.Asked.{asked, asked_children, children_at, is_known, live_numbers, steps_at}
+use Rattle.avro_least.specs.Asked.{children_at, is_known, live_numbers, open_children, steps_at}
 use Rattle.avro_judge.specs.inside.Evidence.{pair_at}
 use Rattle.avro_least.specs.FoundTables.{AreTables}
 use Rattle.avro_least.specs.Tables.{Least, LeastTable, erring_of, pair_number}
 use Rattle.avro_least.specs.Reached.{is_key, IsSteppedTo, from_first, one_step}
-use Rattle.avro_judge.proofs.AskedCovers.{covers}
 use Rattle.avro_judge.proofs.DeadIds.{none_of}
-use Rattle.avro_judge.proofs.AskedTaken.{taken, all_among_themselves}
 use Rattle.avro_least.proofs.public.Exact.{known_children}
 use Rattle.avro_judge.proofs.PairNumbers.{number_back, same_itself}
 use Rattle.avro_least.proofs.public.Quiet.{quiet, IsQuiet, is_quiet}
-use Rattle.avro_certificate.proofs.public.Shapes.{meets_rules_at}
 use Rattle.avro_least.proofs.public.Stepping.{some_nodes}
 use Rattle.avro_certificate.proofs.public.Tests.{and_left, and_right, or_cases, or_not, or_from_left, or_from_right, all_among_pairs}
+use Rattle.std.specs.List.{list_all}
 
 some_of : (e : Option Least) → is_none e ≡ false → is_some e ≡ true
 some_of None h = absurd (true≢false h)
@@ -59,6 +57,10 @@ number_taken count table (c ∷ cs) k h = chosen (is_none (table c.w)) refl h (n
       | inr later ↦ taken_later count table c cs k (rest later)
     ]
 
+open_among : (fault : Bool) (cs : List Pair) (c : Pair) → is_among_pairs (cond fault [] cs) c ≡ true → is_among_pairs cs c ≡ true
+open_among true cs c h = absurd (false≢true h)
+open_among false cs c h = h
+
 -- the number of the roots
 zero_is : (count : ℕ) → 0 ≡ pair_number count 0 0
 zero_is count = omega arith
@@ -86,8 +88,8 @@ module _ (writer reader : List Node) (limit : ℕ) (table : LeastTable) (keys : 
       or_not (is_none (table c.w)) (is_none (erring_of (length reader) table keys entries c.w c.r))
       (all_among_pairs (is_quiet writer reader limit table (erring_of (length reader) table keys entries) tables.low theirs)
       (children_of writer reader p.w p.r (node_at writer p.w) (node_at reader p.r)) c q.children among) (λ m. true≢false (sym m ∙ live)) in
-      let covered = covers writer reader (is_known (length reader) table keys) p.w p.r (node_at writer p.w) (node_at reader p.r)
-      (meets_rules_at reader p.r theirs) q.faultless
+      let covered : list_all (is_known (length reader) table keys) (children_of writer reader p.w p.r (node_at writer p.w) (node_at reader p.r)) ≡ true =
+      subst (λ (b : Bool). list_all (is_known (length reader) table keys) (cond b [] (children_of writer reader p.w p.r (node_at writer p.w) (node_at reader p.r))) ≡ true) q.faultless
       (known_children writer reader limit table keys entries formed theirs tables p.w p.r own.within own.there) in
       let known : (nat_lt c.r (length reader) && is_key keys (pair_number (length reader) c.w c.r)) ≡ true =
       or_not (is_none (table c.w)) (nat_lt c.r (length reader) && is_key keys (pair_number (length reader) c.w c.r))
@@ -123,13 +125,10 @@ module _ (writer reader : List Node) (limit : ℕ) (table : LeastTable) (keys : 
     pub stands : IsStanding p
     pub reached : IsReached writer reader dead p
 
-  child_met : (p : Pair) (k : ℕ) → IsMet p → IsTaken (length reader) table (asked_children p.w p.r (asked writer reader (node_at writer p.w) (node_at reader p.r))) k
+  child_met : (p : Pair) (k : ℕ) → IsMet p → IsTaken (length reader) table (open_children writer reader p.w p.r (node_at writer p.w) (node_at reader p.r)) k
       → IsMet (pair_at (length reader) k)
   child_met p k own it =
-      let cs = children_of writer reader p.w p.r (node_at writer p.w) (node_at reader p.r) in
-      let among : is_among_pairs cs it.c ≡ true =
-      all_among_pairs (is_among_pairs cs) (asked_children p.w p.r (asked writer reader (node_at writer p.w) (node_at reader p.r))) it.c
-      (taken writer reader (is_among_pairs cs) p.w p.r (node_at writer p.w) (node_at reader p.r) (all_among_themselves cs)) it.among in
+      let among = open_among (has_local_fault writer reader (node_at writer p.w) (node_at reader p.r)) (children_of writer reader p.w p.r (node_at writer p.w) (node_at reader p.r)) it.c it.among in
       let stands : IsStanding it.c = child_standing p it.c own.stands among it.live in
       let met : IsMet it.c = record { stands = stands; reached = child p it.c own.reached among (dead_is it.c.w ∙ it.live) } in
       let same : it.c ≡ pair_at (length reader) k = sym (number_back (length reader) it.c stands.within) ∙ ap (pair_at (length reader)) (sym it.is) in

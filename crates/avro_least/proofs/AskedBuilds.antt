@@ -1,10 +1,8 @@
 -- What is built of each thing that a pair may ask for.
 use Rattle.std.proofs.Common.{◌≡◌, ℕ, suc, ◌+◌, ◌≤◌, ◌<◌, Bool, true, false, List, [], ◌∷◌, ◌++◌, Option, Some, None, inl, inr, length, drop, refl, sym, ◌∙◌, ap, subst, arith}
 use Rattle.std.proofs.lemmas.Bool.{and_from, false≢true, true≢false, eq-eqb, ne_eqb}
-use Rattle.std.proofs.lemmas.List.Folds.{list_all-map, list_all-append}
 use Rattle.std.proofs.lemmas.Option.{slice_get_within}
-use Rattle.std.specs.Prelude.{slice_get, is_some, max, unwrap_or, option_map, map, flat_map, ◌==◌}
-use Rattle.std.specs.List.{list_all}
+use Rattle.std.specs.Prelude.{slice_get, is_some, max, unwrap_or, option_map, map, ◌==◌}
 use Rattle.avro_schema.specs.Value.{Value, value, size, depth, values_size, values_depth}
 use Rattle.avro_schema.specs.Seen.{values_from}
 use Rattle.avro_schema.specs.Node.{Node, FieldNode, node_at, branches_of, field_ids}
@@ -15,10 +13,9 @@ use Rattle.avro_compare.specs.Source.{reader_field}
 use Rattle.avro_compare.specs.Resolve.{Resolved, matched, into_branch, branch_node, resolve, resolve_sources}
 use Rattle.avro_compare.specs.Children.{Pair}
 use Rattle.avro_least.specs.Tables.{Least, LeastTable, ErringTable, IsWithin, count_of, around, together, best_of, all_of, no_parts, one}
-use Rattle.avro_least.specs.Asked.{Row, row_child, Asked, rows_from, asked, err_of_row, err_of_rows, asked_value, asked_children}
+use Rattle.avro_least.specs.Asked.{Row, Asked, rows_from, asked, err_of_row, err_of_rows, asked_value}
 use Rattle.avro_least.specs.inside.Built.{Builds}
 use Rattle.avro_least.specs.BuiltErrors.{BuildsLone, part_value, IsErringOf, AreExact, BuildsError, BuildsAsked, BuildsRow, BuildsRows, part_of_row, total_from}
-use Rattle.avro_certificate.proofs.public.Tests.{and_left, and_right, all_at}
 use Rattle.avro_certificate.proofs.public.Shapes.{plain_branch}
 use Rattle.avro_least.proofs.LeastErrors.{through_is_matched}
 use Rattle.avro_least.proofs.ShownData.{lesser_either}
@@ -30,6 +27,8 @@ use Rattle.avro_least.proofs.BuiltErrors.{lone_errs, part_errs}
 use Rattle.avro_least.proofs.RowTotals.{past}
 use Rattle.avro_least.proofs.public.Keys.{some_same}
 use Rattle.avro_least.proofs.AskedKinds.{IsRecords, asks}
+use Rattle.avro_least.specs.inside.Parts.{PartsPass, RowsPass, row_part}
+use Rattle.avro_least.proofs.AtMostParts.{branch_part}
 
 -- an entry within the limit
 the_entry : (limit : ℕ) (o : Option Least) → IsWithin limit o → (e : Least) × (o ≡ Some e) × (e.nodes ≤ limit)
@@ -53,8 +52,8 @@ module _ (writer reader : List Node) (limit : ℕ) (table : LeastTable) (erring 
   step_of known ex w r a is kn within = subst (λ (x : Asked). asked_value limit table erring w r x ≡ erring w r) (sym is) (ex.exact w r kn within)
 
   closed_of : (known : Pair → Bool) → AreExact writer reader limit table erring known → (w r : ℕ) (a : Asked) → a ≡ asked writer reader (node_at writer w) (node_at reader r)
-      → known (record { w = w; r = r }) ≡ true → IsWithin limit (erring w r) → list_all known (asked_children w r a) ≡ true
-  closed_of known ex w r a is kn within = subst (λ (x : Asked). list_all known (asked_children w r x) ≡ true) (sym is) (ex.closed w r kn within)
+      → known (record { w = w; r = r }) ≡ true → IsWithin limit (erring w r) → PartsPass known w r a
+  closed_of known ex w r a is kn within = subst (λ (x : Asked). PartsPass known w r x) (sym is) (ex.closed w r kn within)
 
   pub none_left : (left w r : ℕ) (a : Asked) (v : Value) → left ≡ 0 → BuildsAsked writer reader limit table erring left w r a v
   none_left left w r a v none ns is known ex kn within few = absurd (omega (arith, none, few, ex.some w r kn within))
@@ -86,7 +85,7 @@ module _ (writer reader : List Node) (limit : ℕ) (table : LeastTable) (erring 
       let step : around limit (erring a b) ≡ erring w r = step_of known ex w r (Asked.part a b) is kn within in
       let found = the_entry limit (erring w r) within in
       let inner = around_is limit (erring a b) found.0 (step ∙ found.1) found.2 in
-      let child = and_left (known (record { w = a; r = b })) true (closed_of known ex w r (Asked.part a b) is kn within) in
+      let child = closed_of known ex w r (Asked.part a b) is kn within 0 (record { w = a; r = b }) refl in
       let all : found.0.nodes ≤ left = subst (λ (o : Option Least). count_of o ≤ left) found.1 few in
       let part = h known ex child (subst (λ (o : Option Least). IsWithin limit o) (sym inner.is) (omega (arith, found.2, inner.nodes)))
       (subst (λ (o : Option Least). count_of o ≤ less) (sym inner.is) (omega (arith, all, more, inner.nodes))) in
@@ -116,8 +115,7 @@ module _ (writer reader : List Node) (limit : ℕ) (table : LeastTable) (erring 
       let best = found (subst (λ (o : Option Least). is_some o ≡ true) (sym inner.is) refl) in
       let same : erring best.0 r ≡ Some inner.inner = best.2 ∙ inner.is in
       let all : entry.0.nodes ≤ left = subst (λ (o : Option Least). count_of o ≤ left) entry.1 few in
-      let child = all_at (λ p. known (record { w = p; r = r })) ids k best.0
-      (sym (list_all-map known (λ p. record { w = p; r = r }) ids) ∙ closed_of known ex w r (Asked.branches ids) is kn within) best.1 in
+      let child = closed_of known ex w r (Asked.branches ids) is kn within k (record { w = best.0; r = r }) (branch_part w r ids k best.0 best.1) in
       let part = best.3 known ex child (subst (λ (o : Option Least). IsWithin limit o) (sym same) (omega (arith, entry.2, inner.nodes)))
       (subst (λ (o : Option Least). count_of o ≤ less) (sym same) (omega (arith, all, more, inner.nodes))) in
       let node : node_at writer w ≡ Node.union ids = asks writer reader (node_at writer w) (node_at reader r) (Asked.branches ids) is in
@@ -150,7 +148,7 @@ module _ (writer reader : List Node) (limit : ℕ) (table : LeastTable) (erring 
       let step : erring w q ≡ erring w r = step_of known ex w r (Asked.same q) is kn within in
       let into = asks writer reader (node_at writer w) (node_at reader r) (Asked.same q) is in
       let plain : branches_of (node_at reader q) ≡ None = plain_branch reader r into.ids into.branch q ex.theirs into.is into.here in
-      let child = and_left (known (record { w = w; r = q })) true (closed_of known ex w r (Asked.same q) is kn within) in
+      let child = closed_of known ex w r (Asked.same q) is kn within 0 (record { w = w; r = q }) refl in
       let part = h plain known ex child (subst (λ (o : Option Least). IsWithin limit o) (sym step) within) (subst (λ (o : Option Least). count_of o ≤ left) (sym step) few) in
       record {
         fitting = part.fitting;
@@ -195,12 +193,12 @@ module _ (writer reader : List Node) (limit : ℕ) (table : LeastTable) (erring 
   module _ (known : Pair → Bool) (ex : AreExact writer reader limit table erring known) (less : ℕ) where
     row_is : (fields theirs : List FieldNode) (index : ℕ) (chosen : Bool) (p : ℕ) (v : Value) (e : Least) → (o : Option FieldNode) → reader_field fields theirs index ≡ o
         → BuildsRow writer reader limit table erring less chosen (record { node = p; theirs = option_map (λ f. f.node) o }) v
-        → list_all known (row_child (record { node = p; theirs = option_map (λ f. f.node) o })) ≡ true
+        → ((c : Pair) → row_part (record { node = p; theirs = option_map (λ f. f.node) o }) ≡ Some c → known c ≡ true)
         → part_of_row table erring chosen (record { node = p; theirs = option_map (λ f. f.node) o }) ≡ Some e → e.nodes ≤ limit → e.nodes ≤ less
         → RowIs fields theirs index chosen p v e
     row_is fields theirs index true p v e None found b kn is few small = absurd (grind arith)
     row_is fields theirs index true p v e (Some f) found b kn is few small =
-        let own = b.errs refl f.node refl known ex (and_left (known (record { w = p; r = f.node })) true kn)
+        let own = b.errs refl f.node refl known ex (kn (record { w = p; r = f.node }) refl)
         (subst (λ (o : Option Least). IsWithin limit o) (sym is) few) (subst (λ (o : Option Least). count_of o ≤ less) (sym is) small) in
         record {
           fitting = own.fitting;
@@ -217,7 +215,7 @@ module _ (writer reader : List Node) (limit : ℕ) (table : LeastTable) (erring 
 
     rows_err : (fields theirs : List FieldNode) (index k : ℕ) (ps : List ℕ) (vs : List Value) → drop index (field_ids fields) ≡ ps
         → BuildsRows writer reader limit table erring less k index (rows_from fields theirs index ps) vs
-        → list_all known (flat_map row_child (rows_from fields theirs index ps)) ≡ true
+        → RowsPass known (rows_from fields theirs index ps)
         → (e : Least) → total_from limit table erring k index (rows_from fields theirs index ps) ≡ Some e → e.nodes ≤ limit → e.nodes ≤ less
         → RowsErr fields theirs index k ps vs e
     rows_err fields theirs index k [] [] at b kn e is few small =
@@ -228,13 +226,10 @@ module _ (writer reader : List Node) (limit : ℕ) (table : LeastTable) (erring 
     rows_err fields theirs index k (p ∷ ps) (v ∷ vs) at b kn e is few small =
         let both = together_is limit (part_of_row table erring (index == k) (record { node = p; theirs = option_map (λ f. f.node) (reader_field fields theirs index) }))
         (total_from limit table erring k (suc index) (rows_from fields theirs (suc index) ps)) e is few in
-        let parts = sym (list_all-append known (row_child (record { node = p; theirs = option_map (λ g. g.node) (reader_field fields theirs index) })) (flat_map row_child (rows_from fields theirs (suc index) ps))) ∙ kn in
         let own = row_is fields theirs index (index == k) p v both.first (reader_field fields theirs index) refl b.0
-        (and_left (list_all known (row_child (record { node = p; theirs = option_map (λ g. g.node) (reader_field fields theirs index) }))) (list_all known (flat_map row_child (rows_from fields theirs (suc index) ps))) parts)
-        both.first_is (omega (arith, few, both.nodes)) (omega (arith, small, both.nodes)) in
+        (λ c made. kn 0 c made) both.first_is (omega (arith, few, both.nodes)) (omega (arith, small, both.nodes)) in
         let rest = rows_err fields theirs (suc index) k ps vs (drop_more (field_ids fields) ps index p at) b.1
-        (and_right (list_all known (row_child (record { node = p; theirs = option_map (λ g. g.node) (reader_field fields theirs index) }))) (list_all known (flat_map row_child (rows_from fields theirs (suc index) ps))) parts)
-        both.second both.second_is (omega (arith, few, both.nodes)) (omega (arith, small, both.nodes)) in
+        (λ j c made. kn (suc j) c made) both.second both.second_is (omega (arith, few, both.nodes)) (omega (arith, small, both.nodes)) in
         let count : size v ≡ both.first.nodes = ap (λ (l : Least). l.nodes) own.numbers in
         let level : depth v ≡ both.first.depth = ap (λ (l : Least). l.depth) own.numbers in
         record {
@@ -289,7 +284,7 @@ module _ (writer reader : List Node) (limit : ℕ) (table : LeastTable) (erring 
       let errs : RowsErr own.fields own.theirs 0 k (field_ids own.fields) vs inner.inner =
       rows_err known ex less own.fields own.theirs 0 k (field_ids own.fields) vs refl
       (subst (λ (rs : List Row). BuildsRows writer reader limit table erring less k 0 rs vs) own.rows_is built)
-      (subst (λ (rs : List Row). list_all known (flat_map row_child rs) ≡ true) own.rows_is (closed_of known ex w r (Asked.fields rows) is kn within))
+      (subst (λ (rs : List Row). RowsPass known rs) own.rows_is (closed_of known ex w r (Asked.fields rows) is kn within))
       inner.inner (subst (λ (rs : List Row). total_from limit table erring k 0 rs ≡ Some inner.inner) own.rows_is (chosen.1 ∙ inner.is))
       (omega (arith, entry.2, inner.nodes)) (omega (arith, all, more, inner.nodes)) in
       let whole = record_errs (node_at writer w) (node_at reader r) rows k vs inner.inner own chosen.0 errs in

@@ -1,15 +1,12 @@
 -- What a pair asks for comes to what the pair's entry is by the others.
 use Rattle.std.proofs.Common.{◌≡◌, ℕ, suc, Bool, true, false, cond, List, [], ◌∷◌, Option, Some, None, refl, sym, ◌∙◌, ap, arith}
-use Rattle.std.proofs.lemmas.List.Folds.{list_all-append}
-use Rattle.std.specs.Prelude.{is_some, option_map, map, flat_map}
-use Rattle.std.specs.List.{list_all}
+use Rattle.std.specs.Prelude.{is_some, option_map, map}
 use Rattle.avro_schema.specs.Node.{Node, FieldNode, branches_of, field_ids}
 use Rattle.avro_compare.specs.Match.{is_match, first_match}
 use Rattle.avro_compare.specs.Source.{reader_field, missing_field}
-use Rattle.avro_compare.specs.Children.{Pair, lacks_symbol}
-use Rattle.avro_least.specs.Tables.{LeastTable, ErringTable, around, best_of, err_of, err_inside, err_of_field, err_of_fields, one}
-use Rattle.avro_least.specs.Asked.{Row, Asked, rows_from, asked_inside, asked_branch, asked, err_of_row, err_of_rows, asked_value, row_child, asked_children}
-use Rattle.avro_certificate.proofs.public.Tests.{and_left, and_right}
+use Rattle.avro_compare.specs.Children.{lacks_symbol}
+use Rattle.avro_least.specs.Tables.{LeastTable, ErringTable, around, err_of, err_inside, err_of_field, err_of_fields, one}
+use Rattle.avro_least.specs.Asked.{Asked, rows_from, asked_inside, asked_branch, asked, err_of_row, err_of_rows, asked_value}
 use Rattle.avro_least.proofs.LeastErrors.{err_of_plain, err_of_none, err_of_some}
 
 module _ (writer reader : List Node) where
@@ -78,38 +75,3 @@ module _ (limit : ℕ) (table : LeastTable) (erring : ErringTable) where
           ap (asked_value limit table erring w r) (asked_of_plain writer reader n q plain refl)
           ∙ plain_value w r n q (is_match writer reader n q)
           ∙ sym (err_of_plain writer reader limit table erring w r n q plain refl)
-
--- what is asked for depends on the pairs that are taken only
-module _ (limit : ℕ) (table : LeastTable) (erring other : ErringTable) (test : Pair → Bool)
-    (agree : (c : Pair) → test c ≡ true → erring c.w c.r ≡ other c.w c.r) where
-  best_same : (r : ℕ) (ps : List ℕ) → list_all test (map (λ p. record { w = p; r = r }) ps) ≡ true → best_of (λ p. erring p r) ps ≡ best_of (λ p. other p r) ps
-  best_same r [] h = refl
-  best_same r (p ∷ ps) h = rw (agree (record { w = p; r = r }) (and_left _ (list_all test (map (λ p. record { w = p; r = r }) ps)) h), best_same r ps (and_right (test (record { w = p; r = r })) _ h)) refl
-
-  row_same : (row : Row) → list_all test (row_child row) ≡ true → err_of_row erring row ≡ err_of_row other row
-  row_same row h = by_reader row.theirs refl
-    where
-      by_reader : (o : Option ℕ) → row.theirs ≡ o → err_of_row erring row ≡ err_of_row other row
-      by_reader None e = rw e refl
-      by_reader (Some q) e = rw e (agree (record { w = row.node; r = q }) (and_left (test (record { w = row.node; r = q })) true (taken e)))
-        where
-          taken : row.theirs ≡ Some q → list_all test (record { w = row.node; r = q } ∷ []) ≡ true
-          taken e = sym (ap (list_all test) (child e)) ∙ h
-            where
-              child : row.theirs ≡ Some q → row_child row ≡ record { w = row.node; r = q } ∷ []
-              child e = rw e refl
-
-  rows_same : (rows : List Row) → list_all test (flat_map row_child rows) ≡ true → err_of_rows limit table erring rows ≡ err_of_rows limit table other rows
-  rows_same [] h = refl
-  rows_same (row ∷ rows) h =
-      let parts = sym (list_all-append test (row_child row) (flat_map row_child rows)) ∙ h in
-      rw (row_same row (and_left _ _ parts), rows_same rows (and_right (list_all test (row_child row)) _ parts)) refl
-
-  pub value_same : (w r : ℕ) (a : Asked) → list_all test (asked_children w r a) ≡ true → asked_value limit table erring w r a ≡ asked_value limit table other w r a
-  value_same w r Asked.quiet h = refl
-  value_same w r Asked.whole h = refl
-  value_same w r Asked.lone h = refl
-  value_same w r (Asked.same q) h = agree (record { w = w; r = q }) (and_left (test (record { w = w; r = q })) true h)
-  value_same w r (Asked.part a b) h = ap (around limit) (agree (record { w = a; r = b }) (and_left (test (record { w = a; r = b })) true h))
-  value_same w r (Asked.branches ps) h = ap (around limit) (best_same r ps h)
-  value_same w r (Asked.fields rows) h = ap (around limit) (rows_same rows h)

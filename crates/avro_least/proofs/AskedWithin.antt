@@ -1,18 +1,17 @@
--- The pairs that a pair of nodes asks for are pairs of nodes.
-use Rattle.std.proofs.Common.{◌≡◌, ℕ, zero, suc, Bool, true, false, cond, ◌&&◌, List, [], ◌∷◌, Option, Some, None, length, refl, sym, subst, arith}
-use Rattle.std.proofs.lemmas.Bool.{and_from}
-use Rattle.std.specs.Prelude.{slice_get, unwrap_or, is_some, map, flat_map, nat_lt}
+-- The pairs that a pair of nodes leads to are pairs of nodes.
+use Rattle.std.proofs.Common.{◌≡◌, ℕ, zero, suc, Bool, true, false, cond, ◌&&◌, List, [], ◌∷◌, Option, Some, None, length, map, refl, sym, subst, arith}
+use Rattle.std.proofs.lemmas.Bool.{and_from, lt-ltb, ltb-true}
+use Rattle.std.specs.Prelude.{slice_get, unwrap_or, nat_lt}
 use Rattle.std.specs.List.{list_all}
-use Rattle.avro_schema.specs.Node.{Node, FieldNode, node_at, field_ids, edges_of}
+use Rattle.avro_schema.specs.Node.{Node, FieldNode, node_at, field_ids, edges_of, branches_of}
 use Rattle.avro_schema.specs.WellFormed.{is_schema, is_edge}
-use Rattle.avro_compare.specs.Match.{is_match, first_match}
-use Rattle.avro_compare.specs.Source.{reader_field, missing_field, is_index, source_of}
-use Rattle.avro_compare.specs.Children.{Pair, lacks_symbol}
-use Rattle.avro_least.specs.Asked.{Asked, rows_from, asked_inside, asked_branch, asked, row_child, asked_children}
-use Rattle.avro_certificate.proofs.public.Tests.{and_left, and_right}
-use Rattle.avro_certificate.proofs.public.Shapes.{first_match_within}
+use Rattle.avro_compare.specs.Match.{first_match}
+use Rattle.avro_compare.specs.Source.{source_of}
+use Rattle.avro_compare.specs.Children.{Pair, children_of, field_children, has_local_fault}
+use Rattle.avro_compare.proofs.public.NodeKinds.{union_of_branches, children_of_union}
 use Rattle.avro_compare.proofs.public.Rules.{edges-at}
-use Rattle.avro_least.proofs.public.Keys.{some_same}
+use Rattle.avro_certificate.proofs.public.Tests.{and_left, and_right}
+use Rattle.avro_least.specs.Asked.{open_children}
 
 -- numbers that are nodes
 abbrev pub are_within : List Node → List ℕ → Bool
@@ -28,88 +27,87 @@ edges_within nodes from (p ∷ ps) h =
 pub node_within : (nodes : List Node) (id : ℕ) → is_schema nodes ≡ true → are_within nodes (edges_of (node_at nodes id)) ≡ true
 node_within nodes id h = edges_within nodes id (edges_of (node_at nodes id)) (edges-at nodes id h)
 
-within_at : (nodes : List Node) (ps : List ℕ) (k p : ℕ) → are_within nodes ps ≡ true → slice_get ps k ≡ Some p → nat_lt p (length nodes) ≡ true
-within_at nodes [] k p h e = absurd (grind arith)
-within_at nodes (q ∷ qs) zero p h e = subst (λ (x : ℕ). nat_lt x (length nodes) ≡ true) (some_same q p e) (and_left _ (are_within nodes qs) h)
-within_at nodes (q ∷ qs) (suc k) p h e = within_at nodes qs k p (and_right (nat_lt q (length nodes)) (are_within nodes qs) h) e
+or_root : (nodes : List Node) (ps : List ℕ) (k : ℕ) → nat_lt 0 (length nodes) ≡ true → are_within nodes ps ≡ true → nat_lt (unwrap_or (slice_get ps k) 0) (length nodes) ≡ true
+or_root nodes [] k root h = grind arith
+or_root nodes (p ∷ ps) zero root h = and_left (nat_lt p (length nodes)) (are_within nodes ps) h
+or_root nodes (p ∷ ps) (suc k) root h = or_root nodes ps k root (and_right (nat_lt p (length nodes)) (are_within nodes ps) h)
 
 module _ (writer reader : List Node) where
   abbrev pub is_within : Pair → Bool
   is_within c = nat_lt c.w (length writer) && nat_lt c.r (length reader)
 
+  pair_within : (w r : ℕ) → nat_lt w (length writer) ≡ true → nat_lt r (length reader) ≡ true → is_within (record { w = w; r = r }) ≡ true
+  pair_within w r h k = and_from (nat_lt w (length writer)) (nat_lt r (length reader)) h k
+
   one_within : (w r : ℕ) → nat_lt w (length writer) ≡ true → nat_lt r (length reader) ≡ true → list_all is_within (record { w = w; r = r } ∷ []) ≡ true
-  one_within w r h k = and_from (is_within (record { w = w; r = r })) true (and_from (nat_lt w (length writer)) (nat_lt r (length reader)) h k) refl
+  one_within w r h k = and_from (is_within (record { w = w; r = r })) true (pair_within w r h k) refl
 
-  -- the node of some reader's field
-  field_within : (ws rs : List FieldNode) (index : ℕ) (f : FieldNode) → are_within reader (field_ids rs) ≡ true → reader_field ws rs index ≡ Some f
-      → nat_lt f.node (length reader) ≡ true
-  field_within ws [] index f h e = absurd (grind arith)
-  field_within ws (g ∷ gs) index f h e =
-      chosen (is_index (source_of ws g) index) e (field_within ws gs index f (and_right (nat_lt g.node (length reader)) (are_within reader (field_ids gs)) h))
-    where
-      chosen : (t : Bool) → cond t (Some g) (reader_field ws gs index) ≡ Some f → (reader_field ws gs index ≡ Some f → nat_lt f.node (length reader) ≡ true)
-          → nat_lt f.node (length reader) ≡ true
-      chosen true e later = subst (λ (x : FieldNode). nat_lt x.node (length reader) ≡ true) (some_same g f e) (and_left _ (are_within reader (field_ids gs)) h)
-      chosen false e later = later e
-
-  rows_within : (ws rs : List FieldNode) (index : ℕ) (ps : List ℕ) → are_within reader (field_ids rs) ≡ true → are_within writer ps ≡ true
-      → list_all is_within (flat_map row_child (rows_from ws rs index ps)) ≡ true
-  rows_within ws rs index [] h k = refl
-  rows_within ws rs index (p ∷ ps) h k =
-      by_field (reader_field ws rs index) refl (rows_within ws rs (suc index) ps h (and_right (nat_lt p (length writer)) (are_within writer ps) k))
-    where
-      by_field : (o : Option FieldNode) → reader_field ws rs index ≡ o
-          → list_all is_within (flat_map row_child (rows_from ws rs (suc index) ps)) ≡ true
-          → list_all is_within (flat_map row_child (rows_from ws rs index (p ∷ ps))) ≡ true
-      by_field None e rest = rw e rest
-      by_field (Some f) e rest = rw e (and_from (is_within (record { w = p; r = f.node })) (list_all is_within (flat_map row_child (rows_from ws rs (suc index) ps)))
-          (and_from (nat_lt p (length writer)) (nat_lt f.node (length reader)) (and_left (nat_lt p (length writer)) (are_within writer ps) k) (field_within ws rs index f h e)) rest)
-
-  inside_within : (w r : ℕ) (n q : Node) → are_within writer (edges_of n) ≡ true → are_within reader (edges_of q) ≡ true
-      → list_all is_within (asked_children w r (asked_inside n q)) ≡ true
-  inside_within w r Node.bytes Node.string h k = refl
-  inside_within w r (Node.enum a xs symbols x) (Node.enum b ys theirs y) h k = chosen (lacks_symbol symbols theirs y)
-    where
-      chosen : (t : Bool) → list_all is_within (asked_children w r (cond t Asked.lone Asked.quiet)) ≡ true
-      chosen true = refl
-      chosen false = refl
-  inside_within w r (Node.record_of a xs fs) (Node.record_of b ys theirs) h k = chosen (is_some (missing_field fs theirs))
-    where
-      chosen : (t : Bool) → list_all is_within (asked_children w r (cond t Asked.whole (Asked.fields (rows_from fs theirs 0 (field_ids fs))))) ≡ true
-      chosen true = refl
-      chosen false = rows_within fs theirs 0 (field_ids fs) k h
-  inside_within w r (Node.array a) (Node.array b) h k = one_within a b (and_left (nat_lt a (length writer)) true h) (and_left (nat_lt b (length reader)) true k)
-  inside_within w r (Node.map_of a) (Node.map_of b) h k = one_within a b (and_left (nat_lt a (length writer)) true h) (and_left (nat_lt b (length reader)) true k)
-  inside_within w r _ _ h k = refl
-
-  plain_within : (w r : ℕ) (n q : Node) (t : Bool) → are_within writer (edges_of n) ≡ true → are_within reader (edges_of q) ≡ true
-      → list_all is_within (asked_children w r (cond t (asked_inside n q) Asked.whole)) ≡ true
-  plain_within w r n q true h k = inside_within w r n q h k
-  plain_within w r n q false h k = refl
-
-  branch_within : (w r : ℕ) (n : Node) (ids : List ℕ) → nat_lt w (length writer) ≡ true → are_within reader ids ≡ true
-      → (o : Option ℕ) → first_match writer reader n ids ≡ o → list_all is_within (asked_children w r (asked_branch ids o)) ≡ true
-  branch_within w r n ids h k None e = refl
-  branch_within w r n ids h k (Some i) e =
-      let found = first_match_within writer reader n ids i e in
-      one_within w (unwrap_or (slice_get ids i) 0) h
-      (subst (λ (o : Option ℕ). nat_lt (unwrap_or o 0) (length reader) ≡ true) (sym found.1) (within_at reader ids i found.0 k found.1))
-
-  branches_within : (r : ℕ) (ps : List ℕ) → nat_lt r (length reader) ≡ true → are_within writer ps ≡ true → list_all is_within (map (λ p. record { w = p; r = r }) ps) ≡ true
+  branches_within : (r : ℕ) (ids : List ℕ) → nat_lt r (length reader) ≡ true → are_within writer ids ≡ true → list_all is_within (map (λ id. record { w = id; r = r }) ids) ≡ true
   branches_within r [] h k = refl
-  branches_within r (p ∷ ps) h k =
-      and_from (is_within (record { w = p; r = r })) (list_all is_within (map (λ q. record { w = q; r = r }) ps))
-      (and_from (nat_lt p (length writer)) (nat_lt r (length reader)) (and_left (nat_lt p (length writer)) (are_within writer ps) k) h)
-      (branches_within r ps h (and_right (nat_lt p (length writer)) (are_within writer ps) k))
+  branches_within r (id ∷ ids) h k =
+      and_from (is_within (record { w = id; r = r })) _ (pair_within id r (and_left (nat_lt id (length writer)) (are_within writer ids) k) h)
+      (branches_within r ids h (and_right (nat_lt id (length writer)) (are_within writer ids) k))
 
+  module _ (root : nat_lt 0 (length writer) ≡ true) (their_root : nat_lt 0 (length reader) ≡ true) where
+    fields_within : (fields theirs : List FieldNode) → are_within writer (field_ids fields) ≡ true → are_within reader (field_ids theirs) ≡ true
+        → list_all is_within (field_children fields theirs) ≡ true
+    fields_within fields [] h k = refl
+    fields_within fields (f ∷ theirs) h k =
+        chosen (source_of fields f) refl (fields_within fields theirs h (and_right (nat_lt f.node (length reader)) (are_within reader (field_ids theirs)) k))
+      where
+        chosen : (o : Option ℕ) → source_of fields f ≡ o → list_all is_within (field_children fields theirs) ≡ true → list_all is_within (field_children fields (f ∷ theirs)) ≡ true
+        chosen None e later = rw e later
+        chosen (Some source) e later = rw e (and_from (is_within (record { w = unwrap_or (slice_get (field_ids fields) source) 0; r = f.node })) _
+            (pair_within (unwrap_or (slice_get (field_ids fields) source) 0) f.node (or_root writer (field_ids fields) source root h)
+            (and_left (nat_lt f.node (length reader)) (are_within reader (field_ids theirs)) k)) later)
+
+    plain_within : (w r : ℕ) (n q : Node) → branches_of n ≡ None → branches_of q ≡ None → are_within writer (edges_of n) ≡ true → are_within reader (edges_of q) ≡ true
+        → list_all is_within (children_of writer reader w r n q) ≡ true
+    plain_within w r (Node.union ids) _ h k inside theirs = absurd (grind arith)
+    plain_within w r _ (Node.union ids) h k inside theirs = absurd (grind arith)
+    plain_within w r (Node.record_of a xs fields) (Node.record_of b ys rs) h k inside theirs = fields_within fields rs inside theirs
+    plain_within w r (Node.array a) (Node.array b) h k inside theirs =
+        one_within a b (and_left (nat_lt a (length writer)) true inside) (and_left (nat_lt b (length reader)) true theirs)
+    plain_within w r (Node.map_of a) (Node.map_of b) h k inside theirs =
+        one_within a b (and_left (nat_lt a (length writer)) true inside) (and_left (nat_lt b (length reader)) true theirs)
+    plain_within w r _ _ h k inside theirs = refl
+
+    choice_within : (w r : ℕ) (n : Node) (ids : List ℕ) → branches_of n ≡ None → nat_lt w (length writer) ≡ true → are_within reader ids ≡ true
+        → (o : Option ℕ) → first_match writer reader n ids ≡ o → list_all is_within (children_of writer reader w r n (Node.union ids)) ≡ true
+    choice_within w r n ids plain h k (Some b) e = subst (λ (ps : List Pair). list_all is_within ps ≡ true) (sym (children_of_union writer reader w r n ids b plain e))
+        (one_within w (unwrap_or (slice_get ids b) 0) h (or_root reader ids b their_root k))
+    choice_within w r n ids plain h k None e = subst (λ (ps : List Pair). list_all is_within ps ≡ true) (sym (no_choice n plain e)) refl
+      where
+        no_choice : (m : Node) → branches_of m ≡ None → first_match writer reader m ids ≡ None → children_of writer reader w r m (Node.union ids) ≡ []
+        no_choice (Node.union ps) p f = absurd (grind arith)
+        no_choice _ p f = rw f refl
+
+    all_within : (w r : ℕ) (n q : Node) → nat_lt w (length writer) ≡ true → nat_lt r (length reader) ≡ true
+        → are_within writer (edges_of n) ≡ true → are_within reader (edges_of q) ≡ true → list_all is_within (children_of writer reader w r n q) ≡ true
+    all_within w r n q h k inside theirs = by_writer (branches_of n) refl
+      where
+        by_reader : branches_of n ≡ None → (o : Option (List ℕ)) → branches_of q ≡ o → list_all is_within (children_of writer reader w r n q) ≡ true
+        by_reader plain None e = plain_within w r n q plain e inside theirs
+        by_reader plain (Some ids) e =
+            let is : q ≡ Node.union ids = union_of_branches q ids e in
+            subst (λ (m : Node). list_all is_within (children_of writer reader w r n m) ≡ true) (sym is)
+            (choice_within w r n ids plain h (subst (λ (m : Node). are_within reader (edges_of m) ≡ true) is theirs) (first_match writer reader n ids) refl)
+
+        by_writer : (o : Option (List ℕ)) → branches_of n ≡ o → list_all is_within (children_of writer reader w r n q) ≡ true
+        by_writer None e = by_reader e (branches_of q) refl
+        by_writer (Some ids) e =
+            let is : n ≡ Node.union ids = union_of_branches n ids e in
+            subst (λ (m : Node). list_all is_within (children_of writer reader w r m q) ≡ true) (sym is)
+            (branches_within r ids k (subst (λ (m : Node). are_within writer (edges_of m) ≡ true) is inside))
+
+  -- the pairs that a pair of nodes leads to are pairs of nodes
   pub children_within : (w r : ℕ) (n q : Node) → nat_lt w (length writer) ≡ true → nat_lt r (length reader) ≡ true
-      → are_within writer (edges_of n) ≡ true → are_within reader (edges_of q) ≡ true
-      → list_all is_within (asked_children w r (asked writer reader n q)) ≡ true
-  children_within w r (Node.union ids) q here there h k = branches_within r ids there h
-  children_within w r n q here there h k = by_reader n q h k
+      → are_within writer (edges_of n) ≡ true → are_within reader (edges_of q) ≡ true → list_all is_within (open_children writer reader w r n q) ≡ true
+  children_within w r n q here there h k = chosen (has_local_fault writer reader n q)
     where
-      by_reader : (n q : Node) → are_within writer (edges_of n) ≡ true → are_within reader (edges_of q) ≡ true
-          → list_all is_within (asked_children w r (asked writer reader n q)) ≡ true
-      by_reader (Node.union ids) q h k = branches_within r ids there h
-      by_reader n (Node.union ids) h k = branch_within w r n ids here k (first_match writer reader n ids) refl
-      by_reader n q h k = plain_within w r n q (is_match writer reader n q) h k
+      root : (p n : ℕ) → nat_lt p n ≡ true → nat_lt 0 n ≡ true
+      root p n below = lt-ltb 0 n (omega (arith, ltb-true p n below))
+
+      chosen : (t : Bool) → list_all is_within (cond t [] (children_of writer reader w r n q)) ≡ true
+      chosen true = refl
+      chosen false = all_within (root w (length writer) here) (root r (length reader) there) w r n q here there h k

@@ -29,12 +29,12 @@ together_swap limit (Some a) (Some b) =
 pub together_across : (limit : ℕ) (a b c : Option Least) → together limit a (together limit b c) ≡ together limit b (together limit a c)
 together_across limit a b c = together_around limit a b c ∙ ap (λ e. together limit e c) (together_swap limit a b) ∙ sym (together_around limit b a c)
 
-module _ (limit : ℕ) (table : LeastTable) (erring : ErringTable) where
-  -- a branch's pair
-  branch_entry : (w r : ℕ) (ids : List ℕ) (k p : ℕ) → slice_get ids k ≡ Some p → entry_of_part erring (part_at w r (Asked.branches ids) k) ≡ erring p r
-  branch_entry w r ids k p here = ap (λ (o : Option (Option Pair)). entry_of_part erring (unwrap_or o None))
-      (slice_get-map (λ (x : ℕ). Some (record { w = x; r = r })) ids k ∙ ap (option_map (λ (x : ℕ). Some (record { w = x; r = r }))) here)
+-- a branch's pair
+pub branch_part : (w r : ℕ) (ids : List ℕ) (k p : ℕ) → slice_get ids k ≡ Some p → part_at w r (Asked.branches ids) k ≡ Some (record { w = p; r = r })
+branch_part w r ids k p here = ap (λ (o : Option (Option Pair)). unwrap_or o None)
+    (slice_get-map (λ (x : ℕ). Some (record { w = x; r = r })) ids k ∙ ap (option_map (λ (x : ℕ). Some (record { w = x; r = r }))) here)
 
+module _ (limit : ℕ) (table : LeastTable) (erring : ErringTable) where
   -- a field's pair
   row_entry : (p : ℕ) (o : Option ℕ) → err_of_row erring (record { node = p; theirs = o }) ≡ entry_of_part erring (row_part (record { node = p; theirs = o }))
   row_entry p None = refl
@@ -68,7 +68,7 @@ module _ (limit : ℕ) (table : LeastTable) (erring : ErringTable) where
   at_most_parts w r (Asked.part a b) s d h = inr (0, h)
   at_most_parts w r (Asked.branches ids) s d h =
       let best = best_is (λ p. erring p r) ids (some_inside limit (best_of (λ p. erring p r) ids) s d h) in
-      inr (best.branch, subst (λ (e : Option Least). AtMost (around limit e) s d) (best.is ∙ sym (branch_entry w r ids best.branch best.id best.here)) h)
+      inr (best.branch, subst (λ (e : Option Least). AtMost (around limit e) s d) (best.is ∙ sym (ap (entry_of_part erring) (branch_part w r ids best.branch best.id best.here))) h)
   at_most_parts w r (Asked.fields rows) s d h =
       let found = row_chosen rows (some_inside limit (err_of_rows limit table erring rows) s d h) in
       inr (found.0, subst (λ (e : Option Least). AtMost (around limit e) s d) found.1 h)

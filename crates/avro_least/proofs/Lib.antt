@@ -1,6 +1,7 @@
 pub mod AskedBuilds
 pub mod AskedKinds
 pub mod AskedLed
+pub mod AskedParts
 pub mod AskedValue
 pub mod AskedWithin
 pub mod AtMostParts

@@ -11,8 +11,8 @@ use Rattle.std.specs.Prelude.{slice_get, unwrap_or, option_map, position, nat_lt
 use Rattle.std.specs.List.{list_all, list_any, position_from}
 use Rattle.avro_schema.specs.Node.{Node, node_at}
 use Rattle.avro_schema.specs.WellFormed.{is_schema}
-use Rattle.avro_compare.specs.Children.{Pair, children_of}
-use Rattle.avro_least.specs.Tables.{Least, LeastTable, ErringTable, AreDataShown, AreErrorsShown, ShowsError, no_parts, pair_number, reached_entry, erring_of, err_of}
+use Rattle.avro_compare.specs.Children.{Pair}
+use Rattle.avro_least.specs.Tables.{Least, LeastTable, AreDataShown, ShowsError, no_parts, pair_number, reached_entry, erring_of, err_of}
 use Rattle.avro_least.specs.SeenLeast.{seen, seen_all, given_entry}
 use Rattle.avro_least.specs.declared.kept.Least.{Least as KeptLeast}
 use Rattle.avro_least.specs.Reached.{is_key}
@@ -21,16 +21,11 @@ use Rattle.avro_least.specs.SeenAsk.{ask_of, asks_of}
 use Rattle.avro_least.specs.declared.pairs.asking.Ask.{Ask}
 use Rattle.avro_certificate.proofs.public.Tests.{all_at, and_left, and_right, or_from_left, or_from_right}
 use Rattle.avro_least.proofs.Rounds.{set_here, set_other, slice_get-replicate}
-use Rattle.avro_least.proofs.AskedValue.{value_is, value_same}
+use Rattle.avro_least.proofs.AskedValue.{value_is}
 use Rattle.avro_least.proofs.AskedWithin.{is_within}
 use Rattle.avro_least.proofs.public.Stepping.{children_at_within}
 use Rattle.avro_least.proofs.ShownErrors.{step_errs}
 use Rattle.avro_least.proofs.public.Keys.{some_same}
-
--- all pass what all pass
-always : {A : Type 0} (xs : List A) → list_all (λ x. true) xs ≡ true
-always [] = refl
-always (x ∷ xs) = always xs
 
 -- what has no position is not there
 pub no_position : (test : ℕ → Bool) (n : ℕ) (ks : List ℕ) → position_from test n ks ≡ None → list_any test ks ≡ false
@@ -61,22 +56,6 @@ module _ (writer reader : List Node) (table : LeastTable) (keys : List ℕ) wher
           (and_left (is_key keys (pair_number (length reader) c.w c.r)) (list_all (is_key keys) (live_numbers (length reader) table cs)) m)))
           (later (and_right (is_key keys (pair_number (length reader) c.w c.r)) (list_all (is_key keys) (live_numbers (length reader) table cs)) m))
 
--- a table without what is not known
-abbrev pub masked : (Pair → Bool) → ErringTable → ErringTable
-masked known erring w r = cond (known (record { w = w; r = r })) (erring w r) None
-
-masked_shown : (writer reader : List Node) (limit : ℕ) (known : Pair → Bool) (erring : ErringTable) → AreErrorsShown writer reader limit known erring
-    → AreErrorsShown writer reader limit (λ c. true) (masked known erring)
-masked_shown writer reader limit known erring shown w r there some = chosen (known (record { w = w; r = r })) refl some
-  where
-    chosen : (t : Bool) → known (record { w = w; r = r }) ≡ t → is_some (cond t (erring w r) None) ≡ true
-        → ShowsError writer reader limit (node_at writer w) (node_at reader r) (cond t (erring w r) None)
-    chosen true e s = shown w r e s
-    chosen false e s = absurd (false≢true s)
-
-masked_same : (known : Pair → Bool) (erring : ErringTable) (c : Pair) → known c ≡ true → erring c.w c.r ≡ masked known erring c.w c.r
-masked_same known erring c h = rw h refl
-
 -- the key at an index is below the bound of all keys
 pub below_at : (n : ℕ) (ks : List ℕ) (i k : ℕ) → list_all (λ x. nat_lt x n) ks ≡ true → slice_get ks i ≡ Some k → k < n
 below_at n ks i k all here = ltb-true k n (all_at (λ x. nat_lt x n) ks i k all here)
@@ -97,21 +76,12 @@ module _ (writer reader : List Node) (limit : ℕ) (table : LeastTable) (keys : 
       → e ≡ asked_value limit table (erring_of (length reader) table keys entries) (k / length reader) (k % length reader) (asked_at writer reader k)
       → is_some e ≡ true → ShowsError writer reader limit (node_at writer (k / length reader)) (node_at reader (k % length reader)) e
   step_shows k below followed shown e is some =
-      let known : Pair → Bool = is_known (length reader) table keys in
-      let w : ℕ = k / length reader in
-      let r : ℕ = k % length reader in
-      let hidden : ErringTable = masked (is_known (length reader) table keys) (erring_of (length reader) table keys entries) in
-      let whole : e ≡ err_of writer reader limit table (masked (is_known (length reader) table keys) (erring_of (length reader) table keys entries)) (k / length reader) (k % length reader) (node_at writer (k / length reader)) (node_at reader (k % length reader)) =
-      is ∙ value_same limit table (erring_of (length reader) table keys entries) (masked (is_known (length reader) table keys) (erring_of (length reader) table keys entries))
-      (is_known (length reader) table keys) (masked_same (is_known (length reader) table keys) (erring_of (length reader) table keys entries))
-      (k / length reader) (k % length reader) (asked_at writer reader k)
-      (followed_known writer reader table keys (children_at writer reader k) (children_at_within writer reader table formed theirs k below) followed)
-      ∙ value_is limit table (masked (is_known (length reader) table keys) (erring_of (length reader) table keys entries)) writer reader (k / length reader) (k % length reader) (node_at writer (k / length reader)) (node_at reader (k % length reader)) in
+      let whole : e ≡ err_of writer reader limit table (erring_of (length reader) table keys entries) (k / length reader) (k % length reader) (node_at writer (k / length reader)) (node_at reader (k % length reader)) =
+      is ∙ value_is limit table (erring_of (length reader) table keys entries) writer reader (k / length reader) (k % length reader) (node_at writer (k / length reader)) (node_at reader (k % length reader)) in
       subst (λ (o : Option Least). ShowsError writer reader limit (node_at writer (k / length reader)) (node_at reader (k % length reader)) o) (sym whole)
-      (step_errs writer reader limit table (masked (is_known (length reader) table keys) (erring_of (length reader) table keys entries)) (λ c. true) theirs data_shown
-      (masked_shown writer reader limit (is_known (length reader) table keys) (erring_of (length reader) table keys entries) shown)
+      (step_errs writer reader limit table (erring_of (length reader) table keys entries) (is_known (length reader) table keys) theirs data_shown shown
       (k / length reader) (k % length reader)
-      (always (children_of writer reader (k / length reader) (k % length reader) (node_at writer (k / length reader)) (node_at reader (k % length reader))))
+      (followed_known writer reader table keys (children_at writer reader k) (children_at_within writer reader table formed theirs k below) followed)
       (subst (λ (o : Option Least). is_some o ≡ true) whole some))
 
 -- an entry by its index

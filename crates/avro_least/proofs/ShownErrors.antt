@@ -1,7 +1,7 @@
 -- A step over entries that have data that err has a datum that errs.
-use Rattle.std.proofs.Common.{◌≡◌, ℕ, suc, ◌+◌, ◌<◌, Bool, true, false, ◌&&◌, cond, List, [], ◌∷◌, drop, Option, Some, None, Result, Ok, Err, inl, inr, length, get_or, ap, refl, sym, ◌∙◌, subst, arith, ◌||◌}
+use Rattle.std.proofs.Common.{◌≡◌, ℕ, suc, ◌+◌, ◌<◌, Bool, true, false, not, ◌&&◌, ◌||◌, cond, List, [], ◌∷◌, drop, Option, Some, None, Result, Ok, Err, inl, inr, length, get_or, ap, refl, sym, ◌∙◌, subst, arith}
 use Rattle.std.proofs.lemmas.Bool.{false≢true, true≢false, lt-ltb, and_from}
-use Rattle.std.specs.Prelude.{max, slice_get, unwrap_or, is_some, bytes_eq, position, option_and_then}
+use Rattle.std.specs.Prelude.{max, slice_get, unwrap_or, is_some, bytes_eq, position, option_and_then, is_none}
 use Rattle.std.specs.List.{list_all, list_any}
 use Rattle.std.proofs.lemmas.List.Folds.{list_all-map}
 use Rattle.std.specs.Str.{is_utf8, chars}
@@ -16,16 +16,17 @@ use Rattle.avro_compare.specs.Fault.{ResolutionFault, fault_here, no_match}
 use Rattle.avro_compare.specs.Match.{is_match, first_match}
 use Rattle.avro_compare.specs.Source.{reader_field, missing_field}
 use Rattle.avro_compare.specs.Resolve.{Resolved, Sourced, inside, result_map, both, matched, into_branch, through, bytes_as, enum_as, enum_or_default, part_at, symbol_at, fields_at, branch_node, record_or_missing, with_sourced, resolve, resolve_items, resolve_entries, resolve_sources}
-use Rattle.avro_compare.specs.Children.{Pair, children_of, field_children, lacks_symbol}
+use Rattle.avro_compare.specs.Children.{Pair, children_of, field_children, lacks_symbol, has_fault_of_kind, has_local_fault}
 use Rattle.avro_least.specs.Tables.{Least, LeastTable, ErringTable, Exactly, ShowsData, AreDataShown, ShowsError, AreErrorsShown, around, together, best_of, all_of, err_of, err_inside, err_of_field, err_of_fields, one}
 use Rattle.avro_certificate.proofs.public.Tests.{and_left, and_right, all_at, none_at, not_true, or_cases}
-use Rattle.avro_compare.proofs.public.NodeKinds.{is_plain_value, children_of_union}
+use Rattle.avro_compare.proofs.public.NodeKinds.{is_plain_value, children_of_union, fault_of_union, fault_of_others}
 use Rattle.avro_certificate.proofs.public.Shapes.{plain_branch, first_match_within}
 use Rattle.avro_certificate.proofs.public.SoundPairs.{source_child}
 use Rattle.avro_certificate.proofs.public.Resolving.{slice_get_of_drop, drop_more}
 use Rattle.avro_least.proofs.LeastErrors.{err_of_plain, err_of_none, err_of_some, through_is_matched}
 use Rattle.avro_least.proofs.ShownData.{ShowsFields, exact_around, exact_together, around_some, together_some, lesser_either, best_is, shown_fields, empty_text}
 use Rattle.avro_least.specs.BuiltErrors.{first_from, is_lacking}
+use Rattle.avro_least.specs.Asked.{open_children}
 
 -- a result that is a fault
 abbrev pub IsFault : {A : Type 0} → Result A ResolutionFault → Type 0
@@ -312,7 +313,7 @@ module _ (writer reader : List Node) (limit : ℕ) (table : LeastTable) (erring 
 
   -- two nodes that match and are no unions
   inside_step : (w r : ℕ) (n q : Node) → (is_some (table w) ≡ true → ShowsData writer limit n (table w))
-      → list_all known (children_of writer reader w r n q) ≡ true → is_some (err_inside limit table erring w n q) ≡ true
+      → list_all known (cond (has_fault_of_kind n q) [] (children_of writer reader w r n q)) ≡ true → is_some (err_inside limit table erring w n q) ≡ true
       → ShowsError writer reader limit n q (err_inside limit table erring w n q)
   inside_step w r Node.bytes Node.string own children h = shows writer reader limit Node.bytes Node.string (Some one) (Value.bytes (255 ∷ [])) refl
       (fault_matched writer reader Node.bytes Node.string (bytes_as (255 ∷ [])) (rw not_a_text tt)) (λ k. (refl, refl))
@@ -336,7 +337,8 @@ module _ (writer reader : List Node) (limit : ℕ) (table : LeastTable) (erring 
       chosen true e s = let d = own s in
           shows writer reader limit (Node.record_of a xs fields) (Node.record_of b ys theirs) (table w) d.datum d.fitting (missing_errs writer reader a b xs ys fields theirs d.datum d.fitting e) d.exact
       chosen false e s = record_errs writer reader limit a b xs ys fields theirs (err_of_fields limit table erring fields theirs 0 (field_ids fields))
-          (erring_fields fields theirs 0 (field_ids fields) refl children (around_some limit (err_of_fields limit table erring fields theirs 0 (field_ids fields)) s))
+          (erring_fields fields theirs 0 (field_ids fields) refl
+          (subst (λ (b : Bool). list_all known (cond b [] (field_children fields theirs)) ≡ true) e children) (around_some limit (err_of_fields limit table erring fields theirs 0 (field_ids fields)) s))
   inside_step w r (Node.array a) (Node.array b) own children h =
       let part = errors a b (and_left (known (record { w = a; r = b })) true children) (around_some limit (erring a b) h) in
       shows writer reader limit (Node.array a) (Node.array b) (around limit (erring a b)) (Value.array (value part.datum no_values))
@@ -353,14 +355,15 @@ module _ (writer reader : List Node) (limit : ℕ) (table : LeastTable) (erring 
 
   -- two plain nodes
   plain_step : (w r : ℕ) (n q : Node) → branches_of n ≡ None → branches_of q ≡ None → (is_some (table w) ≡ true → ShowsData writer limit n (table w))
-      → list_all known (children_of writer reader w r n q) ≡ true
+      → list_all known (cond (not (is_match writer reader n q) || has_fault_of_kind n q) [] (children_of writer reader w r n q)) ≡ true
       → is_some (cond (is_match writer reader n q) (err_inside limit table erring w n q) (table w)) ≡ true
       → ShowsError writer reader limit n q (cond (is_match writer reader n q) (err_inside limit table erring w n q) (table w))
   plain_step w r n q plain their_plain own children h = chosen (is_match writer reader n q) refl h
     where
       chosen : (t : Bool) → is_match writer reader n q ≡ t → is_some (cond t (err_inside limit table erring w n q) (table w)) ≡ true
           → ShowsError writer reader limit n q (cond t (err_inside limit table erring w n q) (table w))
-      chosen true e s = inside_step w r n q own children s
+      chosen true e s = inside_step w r n q own
+          (subst (λ (b : Bool). list_all known (cond (not b || has_fault_of_kind n q) [] (children_of writer reader w r n q)) ≡ true) e children) s
       chosen false e s = any_errs n q (table w) plain
           (λ f. subst (λ (x : Resolved). IsFault x) (sym (through_is_matched writer reader n q f their_plain))
           (subst (λ (b : Bool). IsFault (cond b (f q) (Err (fault_here no_match)))) (sym e) tt)) (own s)
@@ -369,7 +372,7 @@ module _ (writer reader : List Node) (limit : ℕ) (table : LeastTable) (erring 
   into_step : (w r : ℕ) (n : Node) (ids : List ℕ) → branches_of n ≡ None → node_at reader r ≡ Node.union ids
       → (is_some (table w) ≡ true → ShowsData writer limit n (table w))
       → ((b : ℕ) → known (record { w = w; r = b }) ≡ true → is_some (erring w b) ≡ true → ShowsError writer reader limit n (node_at reader b) (erring w b))
-      → list_all known (children_of writer reader w r n (Node.union ids)) ≡ true
+      → list_all known (open_children writer reader w r n (Node.union ids)) ≡ true
       → is_some (err_of writer reader limit table erring w r n (Node.union ids)) ≡ true
       → ShowsError writer reader limit n (Node.union ids) (err_of writer reader limit table erring w r n (Node.union ids))
   into_step w r n ids plain there own each children h = chosen (first_match writer reader n ids) refl
@@ -388,7 +391,9 @@ module _ (writer reader : List Node) (limit : ℕ) (table : LeastTable) (erring 
           let their_plain = subst (λ (o : Option ℕ). branches_of (node_at reader (unwrap_or o 0)) ≡ None) (sym found.1)
           (plain_branch reader r ids k found.0 formed there found.1) in
           let child = and_left (known (record { w = w; r = unwrap_or (slice_get ids k) 0 })) true
-          (subst (λ (ps : List Pair). list_all known ps ≡ true) (children_of_union writer reader w r n ids k plain e) children) in
+          (subst (λ (ps : List Pair). list_all known ps ≡ true) (children_of_union writer reader w r n ids k plain e)
+          (subst (λ (b : Bool). list_all known (cond b [] (children_of writer reader w r n (Node.union ids))) ≡ true)
+          (fault_of_union writer reader n ids plain ∙ ap is_none e) children)) in
           let part = each (unwrap_or (slice_get ids k) 0) child (subst (λ (x : Option Least). is_some x ≡ true) is h) in
           let form = plain_form writer reader n part.datum (value_of_plain writer n part.datum plain part.fitting) in
           subst (λ (x : Option Least). ShowsError writer reader limit n (Node.union ids) x) (sym is)
@@ -413,7 +418,7 @@ module _ (writer reader : List Node) (limit : ℕ) (table : LeastTable) (erring 
       (subst (λ (m : Node). ShowsError writer reader limit (node_at writer best.id) m (erring best.id r)) there part))
 
   -- a step of the table
-  pub step_errs : (w r : ℕ) → list_all known (children_of writer reader w r (node_at writer w) (node_at reader r)) ≡ true
+  pub step_errs : (w r : ℕ) → list_all known (open_children writer reader w r (node_at writer w) (node_at reader r)) ≡ true
       → is_some (err_of writer reader limit table erring w r (node_at writer w) (node_at reader r)) ≡ true
       → ShowsError writer reader limit (node_at writer w) (node_at reader r)
       (err_of writer reader limit table erring w r (node_at writer w) (node_at reader r))
@@ -421,19 +426,31 @@ module _ (writer reader : List Node) (limit : ℕ) (table : LeastTable) (erring 
     where
       by_reader : (n q : Node) → branches_of n ≡ None → node_at reader r ≡ q → (is_some (table w) ≡ true → ShowsData writer limit n (table w))
           → ((b : ℕ) → known (record { w = w; r = b }) ≡ true → is_some (erring w b) ≡ true → ShowsError writer reader limit n (node_at reader b) (erring w b))
-          → list_all known (children_of writer reader w r n q) ≡ true → is_some (err_of writer reader limit table erring w r n q) ≡ true
+          → list_all known (open_children writer reader w r n q) ≡ true → is_some (err_of writer reader limit table erring w r n q) ≡ true
           → ShowsError writer reader limit n q (err_of writer reader limit table erring w r n q)
       by_reader n (Node.union ids) plain there own each children h = into_step w r n ids plain there own each children h
       by_reader n q plain there own each children h =
           let is = err_of_plain writer reader limit table erring w r n q plain refl in
           subst (λ (x : Option Least). ShowsError writer reader limit n q x) (sym is)
-          (plain_step w r n q plain refl own children (subst (λ (x : Option Least). is_some x ≡ true) is h))
+          (plain_step w r n q plain refl own
+          (subst (λ (b : Bool). list_all known (cond b [] (children_of writer reader w r n q)) ≡ true) (fault_of_others writer reader n q plain refl) children) (subst (λ (x : Option Least). is_some x ≡ true) is h))
 
       by_writer : (n : Node) → (is_some (table w) ≡ true → ShowsData writer limit n (table w))
           → ((b : ℕ) → known (record { w = w; r = b }) ≡ true → is_some (erring w b) ≡ true → ShowsError writer reader limit n (node_at reader b) (erring w b))
-          → list_all known (children_of writer reader w r n (node_at reader r)) ≡ true
+          → list_all known (open_children writer reader w r n (node_at reader r)) ≡ true
           → is_some (err_of writer reader limit table erring w r n (node_at reader r)) ≡ true
           → ShowsError writer reader limit n (node_at reader r) (err_of writer reader limit table erring w r n (node_at reader r))
       by_writer (Node.union ids) own each children h =
           from_step w r ids (node_at reader r) refl children (around_some limit (best_of (λ p. erring p r) ids) h)
       by_writer n own each children h = by_reader n (node_at reader r) refl refl own each children h
+
+  -- the same where all children are known
+  pub step_errs_known : (w r : ℕ) → list_all known (children_of writer reader w r (node_at writer w) (node_at reader r)) ≡ true
+      → is_some (err_of writer reader limit table erring w r (node_at writer w) (node_at reader r)) ≡ true
+      → ShowsError writer reader limit (node_at writer w) (node_at reader r)
+      (err_of writer reader limit table erring w r (node_at writer w) (node_at reader r))
+  step_errs_known w r children = step_errs w r (chosen (has_local_fault writer reader (node_at writer w) (node_at reader r)))
+    where
+      chosen : (t : Bool) → list_all known (cond t [] (children_of writer reader w r (node_at writer w) (node_at reader r))) ≡ true
+      chosen true = refl
+      chosen false = children

@@ -1,9 +1,8 @@
 -- An entry by one part of a pair, or by none, has a datum that errs.
-use Rattle.std.proofs.Common.{◌≡◌, ℕ, zero, suc, ◌*◌, ◌/◌, ◌%◌, ◌<◌, Bool, true, List, [], ◌∷◌, ◌++◌, drop, Option, Some, None, length, refl, sym, ◌∙◌, ap, subst}
+use Rattle.std.proofs.Common.{◌≡◌, ℕ, zero, suc, ◌*◌, ◌/◌, ◌%◌, ◌<◌, Bool, true, List, [], ◌∷◌, drop, Option, Some, None, length, refl, sym, ap, subst}
 use Rattle.std.proofs.lemmas.Bool.{false≢true}
-use Rattle.std.proofs.lemmas.List.Folds.{list_all-append, list_all-map}
 use Rattle.std.proofs.lemmas.Option.{slice_get-map}
-use Rattle.std.specs.Prelude.{slice_get, unwrap_or, option_map, map, flat_map, is_some}
+use Rattle.std.specs.Prelude.{slice_get, unwrap_or, option_map, map, is_some}
 use Rattle.std.specs.List.{list_all}
 use Rattle.avro_schema.specs.Node.{Node, FieldNode, node_at, field_ids}
 use Rattle.avro_schema.specs.WellFormed.{is_schema}
@@ -11,17 +10,17 @@ use Rattle.avro_compare.specs.Source.{reader_field}
 use Rattle.avro_compare.specs.Children.{Pair}
 use Rattle.avro_least.specs.Tables.{Least, LeastTable, ErringTable, AreDataShown, AreErrorsShown, ShowsError, around, together, all_of, erring_of}
 use Rattle.avro_least.specs.Reached.{is_key}
-use Rattle.avro_least.specs.Asked.{Row, Asked, rows_from, asked_value, row_child, asked_children, asked_at, children_at, steps_at, is_known, ArePairsShown}
-use Rattle.avro_least.specs.inside.Parts.{least_of_others, row_part, entry_of_part, value_alone, value_by_part}
-use Rattle.avro_certificate.proofs.public.Tests.{all_at, and_left, and_right}
+use Rattle.avro_least.specs.Asked.{Row, Asked, rows_from, asked_value, asked_at, children_at, steps_at, is_known, ArePairsShown}
+use Rattle.avro_least.specs.inside.Parts.{least_of_others, row_part, entry_of_part, value_alone, value_by_part, PartsPass, RowsPass}
 use Rattle.avro_certificate.proofs.public.Resolving.{slice_get_of_drop, drop_more}
 use Rattle.avro_least.proofs.AskedKinds.{asks}
 use Rattle.avro_least.proofs.AskedValue.{row_nodes}
-use Rattle.avro_least.proofs.AtMostParts.{together_across, by_row}
+use Rattle.avro_least.proofs.AtMostParts.{together_across, by_row, branch_part}
 use Rattle.avro_least.proofs.PairSteps.{followed_known, step_shows}
 use Rattle.avro_least.proofs.ShownData.{ShowsFields, around_some, together_some, shown_fields}
 use Rattle.avro_least.proofs.ShownErrors.{ErringFields, first_errs, later_errs, record_errs, branch_errs}
 use Rattle.avro_least.proofs.public.Stepping.{children_at_within}
+use Rattle.avro_least.proofs.AskedParts.{parts_pass}
 
 module _ (writer reader : List Node) (limit : ℕ) (table : LeastTable) (erring : ErringTable) (known : Pair → Bool)
     (live : AreDataShown writer limit table) (errors : AreErrorsShown writer reader limit known erring) where
@@ -30,7 +29,7 @@ module _ (writer reader : List Node) (limit : ℕ) (table : LeastTable) (erring 
   around_pair o = around limit (entry_of_part erring (unwrap_or o None))
 
   -- one of the branches
-  branch_shows : (w r : ℕ) (ids : List ℕ) (k : ℕ) → list_all known (map (λ p. record { w = p; r = r }) ids) ≡ true
+  branch_shows : (w r : ℕ) (ids : List ℕ) (k : ℕ) → PartsPass known w r (Asked.branches ids)
       → is_some (value_by_part limit table erring w r (Asked.branches ids) k) ≡ true
       → ShowsError writer reader limit (Node.union ids) (node_at reader r) (value_by_part limit table erring w r (Asked.branches ids) k)
   branch_shows w r ids k children some =
@@ -42,8 +41,7 @@ module _ (writer reader : List Node) (limit : ℕ) (table : LeastTable) (erring 
           → ShowsError writer reader limit (Node.union ids) (node_at reader r) (around_pair (option_map (λ p. Some (record { w = p; r = r })) o))
       chosen None here s = absurd (false≢true s)
       chosen (Some p) here s =
-          let child = all_at (λ p. known (record { w = p; r = r })) ids k p (sym (list_all-map known (λ p. record { w = p; r = r }) ids) ∙ children) here in
-          branch_errs writer reader limit ids (node_at reader r) k p (erring p r) here (errors p r child (around_some limit (erring p r) s))
+          branch_errs writer reader limit ids (node_at reader r) k p (erring p r) here (errors p r (children k (record { w = p; r = r }) (branch_part w r ids k p here)) (around_some limit (erring p r) s))
 
   -- the least data of some fields
   abbrev behind : List FieldNode → List FieldNode → ℕ → List ℕ → Option Least
@@ -51,14 +49,14 @@ module _ (writer reader : List Node) (limit : ℕ) (table : LeastTable) (erring 
 
   -- one of the fields
   field_shows : (fields theirs : List FieldNode) (index : ℕ) (ps : List ℕ) → drop index (field_ids fields) ≡ ps
-      → list_all known (flat_map row_child (rows_from fields theirs index ps)) ≡ true → (k : ℕ)
+      → RowsPass known (rows_from fields theirs index ps) → (k : ℕ)
       → is_some (by_row limit table erring (rows_from fields theirs index ps) k) ≡ true
       → ErringFields writer reader limit fields theirs index ps (by_row limit table erring (rows_from fields theirs index ps) k)
   field_shows fields theirs index [] e children k some = absurd (false≢true some)
-  field_shows fields theirs index (p ∷ ps) e children zero some = here (reader_field fields theirs index) refl children some
+  field_shows fields theirs index (p ∷ ps) e children zero some = here (reader_field fields theirs index) refl (λ c made. children 0 c made) some
     where
       here : (o : Option FieldNode) → reader_field fields theirs index ≡ o
-          → list_all known (row_child (record { node = p; theirs = option_map (λ f. f.node) o }) ++ flat_map row_child (rows_from fields theirs (suc index) ps)) ≡ true
+          → ((c : Pair) → row_part (record { node = p; theirs = option_map (λ f. f.node) o }) ≡ Some c → known c ≡ true)
           → is_some (together limit (entry_of_part erring (row_part (record { node = p; theirs = option_map (λ f. f.node) o }))) (behind fields theirs (suc index) ps)) ≡ true
           → ErringFields writer reader limit fields theirs index (p ∷ ps)
           (together limit (entry_of_part erring (row_part (record { node = p; theirs = option_map (λ f. f.node) o }))) (behind fields theirs (suc index) ps))
@@ -66,20 +64,17 @@ module _ (writer reader : List Node) (limit : ℕ) (table : LeastTable) (erring 
       here (Some f) found all s =
           let both = together_some limit (erring p f.node) (behind fields theirs (suc index) ps) s in
           first_errs writer reader limit fields theirs index p ps f (erring p f.node) (behind fields theirs (suc index) ps) found (slice_get_of_drop (field_ids fields) ps index p e)
-          (errors p f.node (and_left (known (record { w = p; r = f.node })) (list_all known (flat_map row_child (rows_from fields theirs (suc index) ps))) all) both.0)
+          (errors p f.node (all (record { w = p; r = f.node }) refl) both.0)
           (subst (λ (qs : List ℕ). ShowsFields writer limit qs (behind fields theirs (suc index) ps)) (row_nodes limit table erring fields theirs (suc index) ps)
           (shown_fields writer limit table live (map (λ row. row.node) (rows_from fields theirs (suc index) ps)) both.1))
   field_shows fields theirs index (p ∷ ps) e children (suc k) some =
-      let row : Row = record { node = p; theirs = option_map (λ f. f.node) (reader_field fields theirs index) } in
       let rows : List Row = rows_from fields theirs (suc index) ps in
       let is = together_across limit (entry_of_part erring (unwrap_or (slice_get (map row_part rows) k) None)) (table p)
       (least_of_others limit table (map (λ row. row.node) rows) k) in
       let both = together_some limit (table p) (by_row limit table erring rows k) (subst (λ (x : Option Least). is_some x ≡ true) is some) in
-      let later = and_right (list_all known (row_child row)) (list_all known (flat_map row_child rows))
-      (sym (list_all-append known (row_child row) (flat_map row_child rows)) ∙ children) in
       subst (λ (x : Option Least). ErringFields writer reader limit fields theirs index (p ∷ ps) x) (sym is)
       (later_errs writer reader limit fields theirs index p ps (table p) (by_row limit table erring rows k) (live p both.0)
-      (field_shows fields theirs (suc index) ps (drop_more (field_ids fields) ps index p e) later k both.1))
+      (field_shows fields theirs (suc index) ps (drop_more (field_ids fields) ps index p e) (λ j c made. children (suc j) c made) k both.1))
 
 -- at a key
 module _ (writer reader : List Node) (limit : ℕ) (table : LeastTable) (keys : List ℕ) (entries : List (Option Least))
@@ -102,9 +97,10 @@ module _ (writer reader : List Node) (limit : ℕ) (table : LeastTable) (keys : 
       (asked_value limit table erring (k / length reader) (k % length reader) a) (ap (asked_value limit table erring (k / length reader) (k % length reader)) (sym e)) some
 
   -- the pairs that it takes are known
-  children : (a : Asked) → asked_at writer reader k ≡ a → list_all known (asked_children (k / length reader) (k % length reader) a) ≡ true
-  children a e = subst (λ (x : Asked). list_all known (asked_children (k / length reader) (k % length reader) x) ≡ true) e
-      (followed_known writer reader table keys (children_at writer reader k) (children_at_within writer reader table formed theirs k below) followed)
+  children : (a : Asked) → asked_at writer reader k ≡ a → PartsPass known (k / length reader) (k % length reader) a
+  children a e = subst (λ (x : Asked). PartsPass known (k / length reader) (k % length reader) x) e
+      (parts_pass writer reader known (k / length reader) (k % length reader) (node_at writer (k / length reader)) (node_at reader (k % length reader))
+      (followed_known writer reader table keys (children_at writer reader k) (children_at_within writer reader table formed theirs k below) followed))
 
   -- by what is asked for
   part_of : (a : Asked) → asked_at writer reader k ≡ a → (n : ℕ) → is_some (value_by_part limit table erring (k / length reader) (k % length reader) a n) ≡ true
@@ -124,7 +120,7 @@ module _ (writer reader : List Node) (limit : ℕ) (table : LeastTable) (keys : 
   part_of (Asked.fields rows) e n some =
       let own = asks writer reader (node_at writer (k / length reader)) (node_at reader (k % length reader)) (Asked.fields rows) (sym e) in
       let parts = field_shows writer reader limit table erring known data_shown shown own.fields own.theirs 0 (field_ids own.fields) refl
-      (subst (λ (xs : List Row). list_all known (flat_map row_child xs) ≡ true) own.rows_is (children (Asked.fields rows) e)) n
+      (subst (λ (xs : List Row). RowsPass known xs) own.rows_is (children (Asked.fields rows) e)) n
       (subst (λ (xs : List Row). is_some (by_row limit table erring xs n) ≡ true) own.rows_is (around_some limit (by_row limit table erring rows n) some)) in
       subst (λ (m : Node). ShowsError writer reader limit m (node_at reader (k % length reader)) (around limit (by_row limit table erring rows n))) (sym own.from_is)
       (subst (λ (m : Node). ShowsError writer reader limit (Node.record_of own.name own.aliases own.fields) m (around limit (by_row limit table erring rows n))) (sym own.to_is)

@@ -1,9 +1,8 @@
 -- The entries of a graph of pairs, from a table without entries on.
-use Rattle.std.proofs.Common.{◌≡◌, inr, ℕ, zero, suc, ◌*◌, ◌/◌, ◌%◌, ◌<◌, Bool, true, false, cond, List, [], ◌∷◌, Option, Some, None, length, refl, sym, ◌∙◌, ap, subst, arith}
+use Rattle.std.proofs.Common.{◌≡◌, inr, ℕ, ◌*◌, ◌/◌, ◌%◌, ◌<◌, Bool, true, false, cond, List, [], Option, Some, None, length, refl, sym, ◌∙◌, ap, subst, arith}
 use Rattle.std.proofs.Math.ListN.{set, replicate}
-use Rattle.std.proofs.lemmas.List.Folds.{list_all-append, list_all-map}
-use Rattle.std.proofs.lemmas.Option.{slice_get-map, slice_get_within}
-use Rattle.std.specs.Prelude.{slice_get, unwrap_or, option_map, map, flat_map, is_some, nat_lt}
+use Rattle.std.proofs.lemmas.Option.{slice_get_within}
+use Rattle.std.specs.Prelude.{slice_get, unwrap_or, is_some, nat_lt}
 use Rattle.std.specs.List.{list_all}
 use Rattle.indexmap.specs.IndexSet.{keys}
 use Rattle.avro_schema.specs.Node.{Node, node_at}
@@ -16,15 +15,14 @@ use Rattle.avro_least.specs.declared.kept.Least.{Least as KeptLeast}
 use Rattle.avro_least.specs.declared.pairs.graph.Graph.{Graph}
 use Rattle.avro_least.specs.declared.queue.Search.{Search}
 use Rattle.avro_least.specs.Reached.{is_key}
-use Rattle.avro_least.specs.Asked.{Row, Asked, asked_at, asked_children, row_child, children_at, steps_at, is_known, ArePairsShown}
-use Rattle.avro_least.specs.inside.Parts.{part_at, row_part, entry_of_part, around_part, value_by_part}
+use Rattle.avro_least.specs.Asked.{Asked, asked_at, children_at, steps_at, is_known, ArePairsShown}
+use Rattle.avro_least.specs.inside.Parts.{part_at, entry_of_part, around_part, value_by_part}
 use Rattle.avro_least.specs.inside.Falling.{lowered, IsSearch}
 use Rattle.avro_least.specs.inside.Leading.{AreTakenBut, IsSearchOf}
-use Rattle.avro_certificate.proofs.public.Tests.{and_left, and_right, all_at}
 use Rattle.avro_least.proofs.PairSteps.{below_at, followed_known, pair_set_shown, unknown_none}
 use Rattle.avro_least.proofs.Searching.{length_lowered}
 use Rattle.avro_least.proofs.public.Stepping.{children_at_within}
-use Rattle.avro_least.proofs.public.Keys.{some_same}
+use Rattle.avro_least.proofs.AskedParts.{parts_pass}
 
 -- around no entry is none
 pub around_none : (limit : ℕ) (table : LeastTable) (a : Asked) (k : ℕ) → around_part limit table a k None ≡ None
@@ -43,33 +41,6 @@ by_part_is limit table erring w r x y k a b o e found first second third is entr
     ∙ ap (λ (n : ℕ). value_by_part limit table erring x n a k) second
     ∙ ap (λ (c : Asked). value_by_part limit table erring x y c k) third
 
--- what all children pass, a part passes
-pub part_passes : (test : Pair → Bool) (w r : ℕ) (a : Asked) (k : ℕ) (c : Pair) → list_all test (asked_children w r a) ≡ true → part_at w r a k ≡ Some c → test c ≡ true
-part_passes test w r (Asked.same q) zero c all is = subst (λ (x : Pair). test x ≡ true) (some_same (record { w = w; r = q }) c is) (and_left (test (record { w = w; r = q })) true all)
-part_passes test w r (Asked.same q) (suc k) c all is = absurd cc
-part_passes test w r (Asked.part a b) zero c all is = subst (λ (x : Pair). test x ≡ true) (some_same (record { w = a; r = b }) c is) (and_left (test (record { w = a; r = b })) true all)
-part_passes test w r (Asked.part a b) (suc k) c all is = absurd cc
-part_passes test w r (Asked.branches ids) k c all is = by_id (slice_get ids k) refl
-    (sym (ap (λ (o : Option (Option Pair)). unwrap_or o None) (slice_get-map (λ (p : ℕ). Some (record { w = p; r = r })) ids k)) ∙ is)
-  where
-    by_id : (o : Option ℕ) → slice_get ids k ≡ o → unwrap_or (option_map (λ (p : ℕ). Some (record { w = p; r = r })) o) None ≡ Some c → test c ≡ true
-    by_id None here e = absurd cc
-    by_id (Some p) here e = subst (λ (x : Pair). test x ≡ true) (some_same (record { w = p; r = r }) c e)
-        (all_at (λ p. test (record { w = p; r = r })) ids k p (sym (list_all-map test (λ p. record { w = p; r = r }) ids) ∙ all) here)
-part_passes test w r (Asked.fields rows) k c all is = by_rows rows k all is
-  where
-    by_row : (p : ℕ) (o : Option ℕ) → list_all test (row_child (record { node = p; theirs = o })) ≡ true → row_part (record { node = p; theirs = o }) ≡ Some c → test c ≡ true
-    by_row p None h e = absurd cc
-    by_row p (Some q) h e = subst (λ (x : Pair). test x ≡ true) (some_same (record { w = p; r = q }) c e) (and_left (test (record { w = p; r = q })) true h)
-
-    by_rows : (rows : List Row) (k : ℕ) → list_all test (flat_map row_child rows) ≡ true → unwrap_or (slice_get (map row_part rows) k) None ≡ Some c → test c ≡ true
-    by_rows [] k h e = absurd cc
-    by_rows (row ∷ rows) zero h e =
-        by_row row.node row.theirs (and_left (list_all test (row_child row)) (list_all test (flat_map row_child rows)) (sym (list_all-append test (row_child row) (flat_map row_child rows)) ∙ h)) e
-    by_rows (row ∷ rows) (suc k) h e =
-        by_rows rows k (and_right (list_all test (row_child row)) (list_all test (flat_map row_child rows)) (sym (list_all-append test (row_child row) (flat_map row_child rows)) ∙ h)) e
-part_passes test w r a k c all is = absurd cc
-
 -- at the start each pair has taken each of its parts
 pub unknown_taken : (writer reader : List Node) (limit n : ℕ) (table : LeastTable) (keys : List ℕ) (waiting : List Bool) → is_schema writer ≡ true → is_schema reader ≡ true
     → n ≡ length keys → list_all (λ k. nat_lt k (length writer * length reader)) keys ≡ true
@@ -83,9 +54,9 @@ unknown_taken writer reader limit n table keys waiting formed theirs same below 
         → entry_of_part (erring_of (length reader) table keys (seen_all (replicate {A = Option KeptLeast} n None))) o ≡ None
     by_part own here None e = refl
     by_part own here (Some c) e = unknown_none (length reader) n table keys same c.w c.r
-        (part_passes (is_known (length reader) table keys) (own / length reader) (own % length reader) (asked_at writer reader own) k c
+        (parts_pass writer reader (is_known (length reader) table keys) (own / length reader) (own % length reader) (node_at writer (own / length reader)) (node_at reader (own % length reader))
         (followed_known writer reader table keys (children_at writer reader own)
-        (children_at_within writer reader table formed theirs own (below_at (length writer * length reader) keys i own below here)) (followed i own here)) e)
+        (children_at_within writer reader table formed theirs own (below_at (length writer * length reader) keys i own below here)) (followed i own here)) k c e)
 
     none : (own : ℕ) → slice_get keys i ≡ Some own
         → value_by_part limit table (erring_of (length reader) table keys (seen_all (replicate {A = Option KeptLeast} n None))) (own / length reader) (own % length reader) (asked_at writer reader own) k ≡ None

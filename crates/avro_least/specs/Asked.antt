@@ -1,9 +1,9 @@
 -- What a pair of nodes asks for, once all names are compared.
-use Rattle.std.specs.Prelude.{◌≡◌, true, ℕ, suc, cond, List, [], ◌∷◌, Option, Some, None, slice_get, unwrap_or, option_map, map, is_some, is_none, Bool, ◌||◌, ◌&&◌, nat_lt, length, ◌/◌, ◌%◌, flat_map}
+use Rattle.std.specs.Prelude.{◌≡◌, true, ℕ, suc, cond, List, [], ◌∷◌, Option, Some, None, slice_get, unwrap_or, option_map, map, is_some, is_none, Bool, ◌||◌, ◌&&◌, nat_lt, length, ◌/◌, ◌%◌}
 use Rattle.avro_schema.specs.Node.{Node, FieldNode, node_at, field_ids}
 use Rattle.avro_compare.specs.Match.{is_match, first_match}
 use Rattle.avro_compare.specs.Source.{reader_field, missing_field}
-use Rattle.avro_compare.specs.Children.{Pair, lacks_symbol}
+use Rattle.avro_compare.specs.Children.{Pair, children_of, has_local_fault, lacks_symbol}
 use Rattle.avro_least.specs.Tables.{Least, LeastTable, ErringTable, one, around, together, lesser, best_of, all_of, pair_number, AreErrorsShown, erring_of, IsLowPair, no_parts}
 use Rattle.avro_least.specs.Reached.{is_key}
 
@@ -74,27 +74,17 @@ asked_value limit table erring w r (part a b) = around limit (erring a b)
 asked_value limit table erring w r (branches ids) = around limit (best_of (λ p. erring p r) ids)
 asked_value limit table erring w r (fields rows) = around limit (err_of_rows limit table erring rows)
 
--- the pairs that it takes
-abbrev pub row_child : Row → List Pair
-row_child row = of_reader row.theirs
-  where
-    of_reader : Option ℕ → List Pair
-    of_reader None = []
-    of_reader (Some q) = record { w = row.node; r = q } ∷ []
-
-abbrev pub asked_children : ℕ → ℕ → Asked → List Pair
-asked_children w r (same q) = record { w = w; r = q } ∷ []
-asked_children w r (part a b) = record { w = a; r = b } ∷ []
-asked_children w r (branches ids) = map (λ p. record { w = p; r = r }) ids
-asked_children w r (fields rows) = flat_map row_child rows
-asked_children w r _ = []
-
 -- by its number
 abbrev pub asked_at : List Node → List Node → ℕ → Asked
 asked_at writer reader k = asked writer reader (node_at writer (k / length reader)) (node_at reader (k % length reader))
 
+-- The pairs that a pair leads to: its children, and none where it has a fault of its own, which is enough.
+abbrev pub open_children : List Node → List Node → ℕ → ℕ → Node → Node → List Pair
+open_children writer reader w r n q = cond (has_local_fault writer reader n q) [] (children_of writer reader w r n q)
+
 abbrev pub children_at : List Node → List Node → ℕ → List Pair
-children_at writer reader k = asked_children (k / length reader) (k % length reader) (asked_at writer reader k)
+children_at writer reader k =
+    open_children writer reader (k / length reader) (k % length reader) (node_at writer (k / length reader)) (node_at reader (k % length reader))
 
 -- a pair of nodes of the schemas whose number is there, unless the writer's is dead
 abbrev pub is_known : ℕ → LeastTable → List ℕ → Pair → Bool

@@ -1,6 +1,6 @@
 -- What the builder of least data that err builds, of entries of no more nodes than it may use.
 use Rattle.std.specs.Prelude.{◌≡◌, ℕ, suc, ◌+◌, ◌≤◌, ◌<◌, Bool, true, false, cond, not, List, [], ◌∷◌, Option, Some, Err, ◌==◌, bytes_eq}
-use Rattle.std.specs.List.{list_all, list_any}
+use Rattle.std.specs.List.{list_any}
 use Rattle.avro_schema.specs.Value.{Value, no_values, value, no_entries, entry, size, depth}
 use Rattle.avro_schema.specs.Node.{Node, node_at}
 use Rattle.avro_schema.specs.Fits.{fits}
@@ -8,9 +8,10 @@ use Rattle.avro_schema.specs.WellFormed.{is_schema}
 use Rattle.avro_compare.specs.Fault.{ResolutionFault}
 use Rattle.avro_compare.specs.Resolve.{resolve}
 use Rattle.avro_compare.specs.Children.{Pair}
-use Rattle.avro_least.specs.Asked.{Row, Asked, asked, asked_value, asked_children, err_of_row}
+use Rattle.avro_least.specs.Asked.{Row, Asked, asked, asked_value, err_of_row}
 use Rattle.avro_least.specs.inside.Built.{Builds}
 use Rattle.avro_least.specs.Tables.{Least, LeastTable, ErringTable, IsLowForData, AreDataShown, IsWithin, count_of, together, no_parts}
+use Rattle.avro_least.specs.inside.Parts.{PartsPass}
 
 -- the index of the first that passes, from one on
 abbrev pub first_from : {A : Type 0} → (A → Bool) → ℕ → List A → ℕ
@@ -60,7 +61,7 @@ pub record AreExact (writer reader : List Node) (limit : ℕ) (table : LeastTabl
       → asked_value limit table erring w r (asked writer reader (node_at writer w) (node_at reader r)) ≡ erring w r
   pub some : (w r : ℕ) → known (record { w = w; r = r }) ≡ true → IsWithin limit (erring w r) → 1 ≤ count_of (erring w r)
   pub closed : (w r : ℕ) → known (record { w = w; r = r }) ≡ true → IsWithin limit (erring w r)
-      → list_all known (asked_children w r (asked writer reader (node_at writer w) (node_at reader r))) ≡ true
+      → PartsPass known w r (asked writer reader (node_at writer w) (node_at reader r))
 
 -- a least datum that errs at a pair
 abbrev pub BuildsError : List Node → List Node → ℕ → LeastTable → ErringTable → ℕ → ℕ → ℕ → Value → Type 0

@@ -8,7 +8,7 @@ use Rattle.avro_schema.specs.Value.{size, depth}
 use Rattle.avro_schema.specs.Node.{Node, node_at}
 use Rattle.avro_schema.specs.WellFormed.{is_schema}
 use Rattle.avro_compare.specs.Children.{Pair}
-use Rattle.avro_least.specs.Asked.{asked, asked_value, asked_children, is_known, steps_at}
+use Rattle.avro_least.specs.Asked.{asked, asked_value, is_known, steps_at, open_children}
 use Rattle.avro_least.specs.BuiltErrors.{AreExact}
 use Rattle.avro_least.specs.FoundTables.{AreTables}
 use Rattle.avro_least.specs.Tables.{Least, LeastTable, ErringTable, IsUnder, AtMost, IsWithin, count_of, ShowsError, err_of, erring_of, pair_number}
@@ -21,6 +21,7 @@ use Rattle.avro_least.proofs.Fixed.{same_least, exact_errors}
 use Rattle.avro_least.proofs.LeastData.{at_most_data}
 use Rattle.avro_least.proofs.ShownErrors.{any_at}
 use Rattle.avro_least.proofs.Built.{one_node}
+use Rattle.avro_least.proofs.AskedParts.{parts_pass}
 
 module _ (writer reader : List Node) (limit : ℕ) (table : LeastTable) (keys : List ℕ) (entries : List (Option Least))
     (formed : is_schema writer ≡ true) (theirs : is_schema reader ≡ true) (tables : AreTables writer reader limit table keys entries) where
@@ -74,13 +75,13 @@ module _ (writer reader : List Node) (limit : ℕ) (table : LeastTable) (keys : 
       (λ some. step_shows writer reader limit table keys entries formed theirs tables.has_data (w * length reader + r) at.below at.followed tables.shown
       (step ((w * length reader + r) / length reader) ((w * length reader + r) % length reader)) refl some)
 
-  children_known : (w r : ℕ) → IsReached w r → list_all (is_known (length reader) table keys) (asked_children w r (asked writer reader (node_at writer w) (node_at reader r))) ≡ true
-  children_known w r at = at_nodes (λ x y. list_all (is_known (length reader) table keys) (asked_children x y (asked writer reader (node_at writer x) (node_at reader y))) ≡ true) w r at.within
+  children_known : (w r : ℕ) → IsReached w r → list_all (is_known (length reader) table keys) (open_children writer reader w r (node_at writer w) (node_at reader r)) ≡ true
+  children_known w r at = at_nodes (λ x y. list_all (is_known (length reader) table keys) (open_children writer reader x y (node_at writer x) (node_at reader y)) ≡ true) w r at.within
       (followed_known writer reader table keys _ (children_at_within writer reader table formed theirs (w * length reader + r) at.below) at.followed)
 
-  -- what a key's pair asks for is known
+  -- what a key's pair leads to is known
   pub known_children : (w r : ℕ) → r < length reader → is_key keys (w * length reader + r) ≡ true
-      → list_all (is_known (length reader) table keys) (asked_children w r (asked writer reader (node_at writer w) (node_at reader r))) ≡ true
+      → list_all (is_known (length reader) table keys) (open_children writer reader w r (node_at writer w) (node_at reader r)) ≡ true
   known_children w r within there = children_known w r (by_key w r (w * length reader + r) refl within there)
 
   -- an entry within the limit
@@ -141,5 +142,5 @@ module _ (writer reader : List Node) (limit : ℕ) (table : LeastTable) (keys : 
     shown = tables.has_data;
     exact = λ w r kn within. let own = entry w r kn within in same_step w r (reached w r kn within) own ∙ sym own.is;
     some = λ w r kn within. some_nodes w r (entry w r kn within);
-    closed = λ w r kn within. children_known w r (reached w r kn within);
+    closed = λ w r kn within. parts_pass writer reader (is_known (length reader) table keys) w r (node_at writer w) (node_at reader r) (children_known w r (reached w r kn within));
   }

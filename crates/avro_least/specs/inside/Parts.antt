@@ -1,5 +1,5 @@
 -- The parts of a pair of nodes: the pairs that it leads to, by index, and what its entry comes to by one of them.
-use Rattle.std.specs.Prelude.{◌≡◌, ◌<◌, ℕ, zero, suc, List, [], ◌∷◌, Option, Some, None, slice_get, unwrap_or, option_map, map, length}
+use Rattle.std.specs.Prelude.{◌≡◌, ◌<◌, ℕ, zero, suc, List, [], ◌∷◌, Option, Some, None, slice_get, unwrap_or, option_map, map, length, Bool, true}
 use Rattle.std.specs.Global.{Vec}
 use Rattle.avro_schema.specs.Node.{Node, node_at, fields_of, field_ids}
 use Rattle.avro_schema.specs.declared.schema.NodeId.{NodeId}
@@ -29,6 +29,14 @@ parts_of w r a = []
 
 abbrev pub part_at : ℕ → ℕ → Asked → ℕ → Option Pair
 part_at w r a k = unwrap_or (slice_get (parts_of w r a) k) None
+
+-- the pair of each part passes
+abbrev pub PartsPass : (Pair → Bool) → ℕ → ℕ → Asked → Type 0
+PartsPass test w r a = (k : ℕ) (c : Pair) → part_at w r a k ≡ Some c → test c ≡ true
+
+-- that of each field
+abbrev pub RowsPass : (Pair → Bool) → List Row → Type 0
+RowsPass test rows = (k : ℕ) (c : Pair) → unwrap_or (slice_get (map row_part rows) k) None ≡ Some c → test c ≡ true
 
 -- the entry around that of a part
 abbrev pub around_part : ℕ → LeastTable → Asked → ℕ → Option Least → Option Least

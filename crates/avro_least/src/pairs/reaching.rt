@@ -1,20 +1,22 @@
 //! The pairs of nodes that are reached from the roots.
 
-ghost use Rattle.std.specs.Prelude.{◌≡◌, ◌||◌, ◌<◌, ◌*◌, ◌/◌, ◌%◌, ℕ, Bool, true, List, [], ◌∷◌, ◌++◌, length, nat_lt, slice_get, Some, IfOk, OnOk};
+ghost use Rattle.std.specs.Prelude.{◌≡◌, ◌||◌, map, ◌<◌, ◌*◌, ◌/◌, ◌%◌, ℕ, Bool, true, List, [], ◌∷◌, ◌++◌, length, nat_lt, slice_get, Some, IfOk, OnOk};
 ghost use Rattle.std.specs.List.{list_all};
 ghost use Rattle.indexmap.specs.IndexSet.{keys};
 ghost use Rattle.avro_schema.specs.SeenSchema.{schema_nodes};
-ghost use Rattle.avro_compare.specs.Planned.{AreComparisons};
+ghost use Rattle.avro_schema.specs.Node.{node_at};
+ghost use Rattle.avro_compare.specs.Leads.{lead_pair};
+ghost use Rattle.avro_compare.specs.Planned.{AreComparisons, IsComparison};
 ghost use Rattle.avro_least.specs.Tables.{pair_number};
 ghost use Rattle.avro_least.specs.SeenLeast.{table_of};
 ghost use Rattle.avro_least.specs.Reached.{is_key, AreFollowed, IsSteppedTo};
-ghost use Rattle.avro_least.specs.Asked.{asked_at, asked_children, live_numbers, steps_at, AreAsked};
+ghost use Rattle.avro_least.specs.Asked.{asked_at, live_numbers, open_children, steps_at, AreAsked};
 ghost use Rattle.avro_least.specs.SeenAsk.{ask_of, asks_of};
 
 use crate::kept::Least;
 use crate::nodes::least::{count, entry};
 use crate::pairs::asking::{Ask, ask_of_pair};
-use avro_compare::{Comparison, Names, compare};
+use avro_compare::{Comparison, Lead, Names, compare, has_fault, leads};
 use avro_schema::{Memory, NodeId, Schema};
 use indexmap::IndexSet;
 use std::alloc::Global;
@@ -67,39 +69,39 @@ fn add_number(
     Ok(())
 }
 
-/// The numbers of the pairs that a pair leads to, without those whose writer's node has no data.
-fn children(
+/// The numbers of the pairs of some leads, without those whose writer's node has no data.
+fn numbers_of(
     alloc: Global,
     table: &[Option<Least>],
     count: u32,
-    w: NodeId,
-    r: NodeId,
-    ask: &Ask,
+    leads: &[Lead],
 ) -> Result<Vec<u64>, Memory>
-    ensures { IfOk result (λ n. n.items ≡ live_numbers count (table_of table.now) (asked_children w.0 r.0 (ask_of ask.now))) }
+    ensures { IfOk result (λ n. n.items ≡ live_numbers count (table_of table.now) (map lead_pair leads.now)) }
 {
     let mut numbers = Vec::new(alloc);
-    match ask {
-        Ask::Quiet => {}
-        Ask::Whole => {}
-        Ask::Lone => {}
-        Ask::Same(q) => add_number(&mut numbers, table, count, w, *q)?,
-        Ask::Part(a, b) => add_number(&mut numbers, table, count, *a, *b)?,
-        Ask::Branches(ids) => {
-            for i in 0..ids.len() {
-                add_number(&mut numbers, table, count, ids[i], r)?;
-            }
-        }
-        Ask::Fields(rows) => {
-            for i in 0..rows.len() {
-                match rows[i].theirs {
-                    None => {}
-                    Some(theirs) => add_number(&mut numbers, table, count, rows[i].node, theirs)?,
-                }
-            }
-        }
+    for lead in leads {
+        add_number(&mut numbers, table, count, lead.w, lead.r)?;
     }
     Ok(numbers)
+}
+
+/// The numbers of the pairs that a pair leads to: none where the pair fails by itself.
+fn steps(
+    alloc: Global,
+    names: &Names,
+    table: &[Option<Least>],
+    count: u32,
+    pair: &Comparison,
+) -> Result<Vec<u64>, Memory>
+    requires { IsComparison (schema_nodes names.now.0) (schema_nodes names.now.1) pair.now }
+    ensures { IfOk result (λ n. n.items ≡ live_numbers count (table_of table.now) (open_children (schema_nodes names.now.0) (schema_nodes names.now.1) pair.now.w.0 pair.now.r.0
+        (node_at (schema_nodes names.now.0) pair.now.w.0) (node_at (schema_nodes names.now.1) pair.now.r.0))) }
+{
+    if has_fault(names, pair) {
+        return Ok(Vec::new(alloc));
+    }
+    let leads = leads(alloc, names, pair)?;
+    numbers_of(alloc, table, count, &leads)
 }
 
 /// The writer's node of a pair, by the pair's number.
@@ -121,18 +123,21 @@ pub fn readers(reader: &Schema, key: u64) -> NodeId
     NodeId((key % u64::from(count(reader))) as u32)
 }
 
-/// Compares a pair and returns what it asks for. The comparison is added to those of the others.
-fn ask_at(
+/// Compares a pair and returns what it asks for, with the numbers of the pairs that it leads to. The comparison is
+/// added to those of the others.
+fn visit(
     alloc: Global,
     names: &Names,
     writer: &Schema,
     reader: &Schema,
+    table: &[Option<Least>],
     key: u64,
     found: &mut Vec<Comparison>,
-) -> Result<Ask, Memory>
+) -> Result<(Ask, Vec<u64>), Memory>
     requires of_these { names.now ≡ (writer.now, reader.now) }
     requires within { key < length (schema_nodes writer.now) * length (schema_nodes reader.now) }
-    ensures asked { IfOk result (λ a. ask_of a ≡ asked_at (schema_nodes writer.now) (schema_nodes reader.now) key) }
+    ensures asked { IfOk result (λ a. ask_of a.0 ≡ asked_at (schema_nodes writer.now) (schema_nodes reader.now) key) }
+    ensures steps { IfOk result (λ a. a.1.items ≡ steps_at (schema_nodes writer.now) (schema_nodes reader.now) (table_of table.now) key) }
     ensures found { OnOk result (AreComparisons (schema_nodes writer.now) (schema_nodes reader.now) found.old.items
         → AreComparisons (schema_nodes writer.now) (schema_nodes reader.now) found.new.items) }
 {
@@ -140,29 +145,9 @@ fn ask_at(
     let r = readers(reader, key);
     let pair = compare(alloc, names, w, r)?;
     let ask = ask_of_pair(alloc, writer, reader, &pair)?;
+    let more = steps(alloc, names, table, count(reader), &pair)?;
     found.push(pair)?;
-    Ok(ask)
-}
-
-/// The numbers of the pairs that a pair leads to, given its number.
-pub(crate) fn steps(
-    alloc: Global,
-    writer: &Schema,
-    reader: &Schema,
-    table: &[Option<Least>],
-    key: u64,
-    ask: &Ask,
-) -> Result<Vec<u64>, Memory>
-    requires within { key < length (schema_nodes writer.now) * length (schema_nodes reader.now) }
-    requires asked { ask_of ask.now ≡ asked_at (schema_nodes writer.now) (schema_nodes reader.now) key }
-    ensures { IfOk result (λ n. n.items ≡ steps_at (schema_nodes writer.now) (schema_nodes reader.now) (table_of table.now) key) }
-{
-    // The contract of this call bounds the number of nodes, which the proof needs.
-    let _ = count(writer);
-    let count = count(reader);
-    let w = writers(writer, reader, key);
-    let r = readers(reader, key);
-    children(alloc, table, count, w, r, ask)
+    Ok((ask, more))
 }
 
 /// What the pair at an index asks for.
@@ -210,8 +195,7 @@ pub fn reach(
             None => unreachable!(),
             Some(key) => {
                 let key = *key;
-                let ask = ask_at(alloc, &names, writer, reader, key, &mut found)?;
-                let more = steps(alloc, writer, reader, table, key, &ask)?;
+                let (ask, more) = visit(alloc, &names, writer, reader, table, key, &mut found)?;
                 add_all(&mut known, &more)?;
                 asks.push(ask)?;
             }

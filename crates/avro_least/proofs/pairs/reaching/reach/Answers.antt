@@ -56,12 +56,8 @@ loop-next-init c =
       none_found (schema_nodes c.args.writer.now) (schema_nodes c.args.reader.now) c.new-found.result.items c.new-found.ensures.items,
     )
 
-pub ask_at-requires-clause-within : goal.ask_at-requires-clause-within
-ask_at-requires-clause-within c = below_at (length (schema_nodes c.args.writer.now) * length (schema_nodes c.args.reader.now)) (keys c.loop-next.known) c.loop-next.next c.in-Some.key.now
-    c.loop-next.invariant.1 (sym c.in-Some.ensures.key)
-
-pub steps-requires-clause-within : goal.steps-requires-clause-within
-steps-requires-clause-within c = below_at (length (schema_nodes c.args.writer.now) * length (schema_nodes c.args.reader.now)) (keys c.loop-next.known) c.loop-next.next c.in-Some.key.now
+pub visit-requires-clause-within : goal.visit-requires-clause-within
+visit-requires-clause-within c = below_at (length (schema_nodes c.args.writer.now) * length (schema_nodes c.args.reader.now)) (keys c.loop-next.known) c.loop-next.next c.in-Some.key.now
     c.loop-next.invariant.1 (sym c.in-Some.ensures.key)
 
 pub loop-next-smaller : goal.loop-next-smaller
@@ -99,7 +95,7 @@ loop-next-preserved c =
     let key : ℕ = c.in-Some.key.now in
     let here : slice_get (keys c.loop-next.known) c.loop-next.next ≡ Some key = sym c.in-Some.ensures.key in
     let row : c.deref.result.now ≡ steps_at (schema_nodes c.args.writer.now) (schema_nodes c.args.reader.now) (table_of c.args.table.now) key =
-    c.deref.ensures.value ∙ c.in_ok-more-in-Some.ensures in
+    c.deref.ensures.value ∙ c.in_ok-ask-in-Some.ensures.steps in
     let all : list_all (is_key (keys c.add_all-in-Some.new.known)) (steps_at (schema_nodes c.args.writer.now) (schema_nodes c.args.reader.now) (table_of c.args.table.now) key) ≡ true =
     subst (λ (ks : List ℕ). list_all (is_key (keys c.add_all-in-Some.new.known)) ks ≡ true) row more.added in (
       subst (λ (ks : List ℕ). is_key ks 0 ≡ true) (sym is) (key_kept (keys c.loop-next.known) rest 0 inv.0),

@@ -2,7 +2,7 @@ use Rattle.std.proofs.Common.{sym, subst}
 use Rattle.avro_schema.specs.SeenSchema.{schema_nodes}
 use Rattle.avro_compare.specs.Planned.{AreComparisons, IsComparison}
 use Rattle.avro_certificate.proofs.public.Tests.{each_more}
-use Rattle.avro_least.proofs.pairs.reaching.ask_at.Goals as goal
+use Rattle.avro_least.proofs.pairs.reaching.visit.Goals as goal
 
 pub returns-clause-found : goal.returns-clause-found
 returns-clause-found c = λ before.
