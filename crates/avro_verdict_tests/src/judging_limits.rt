@@ -2,7 +2,7 @@
 
 use crate::judging::verdict;
 use avro_judge::{JudgeLimits, Verdict, judge};
-use avro_schema::{Draft, Limits, Node};
+use avro_schema::{Draft, Limits, Node, Schema};
 use avro_schema_json::read_schema;
 use std::alloc::Global;
 use std::test::Fail;
@@ -71,12 +71,18 @@ fn limits_are_exact(rt: HostRuntime) -> Result<(), Fail> {
     Ok(())
 }
 
-/// The verdict of an int, in a schema with a second node, for an int at a limit of pairs.
-fn verdict_of_two_nodes(alloc: Global, pairs: u32) -> Result<String, Fail> {
+/// A schema of an int with a second node, to which the root does not lead.
+fn two_nodes(alloc: Global) -> Result<Schema, Fail> {
     let mut draft = Draft::new(alloc);
-    draft.add(Node::Int)?;
-    draft.add(Node::Long)?;
-    let writer = draft.finish()?;
+    for node in [Node::Int, Node::Long] {
+        draft.add(node)?;
+    }
+    Ok(draft.finish()?)
+}
+
+/// The verdict of that schema for an int at a limit of pairs.
+fn verdict_of_two_nodes(alloc: Global, pairs: u32) -> Result<String, Fail> {
+    let writer = two_nodes(alloc)?;
     let reader = read_schema(alloc, "\"int\"".as_bytes())?;
     let limits = JudgeLimits::new(pairs, 1, Limits::default()).ok_or("limits")?;
     match judge(alloc, &writer, &reader, &limits)? {
