@@ -105,6 +105,12 @@ def null_arrays(share):
     return {"file": container({"type": "array", "items": "null"}, block(20_000 // share, array * (20_000 // share)))}
 
 
+def tower_arrays(share):
+    """A block of 800 arrays of one tower each, or of 100."""
+    count = 800 // share
+    return {"file": container({"type": "array", "items": tower(31, 4)}, block(count, (number(1) + number(0)) * count))}
+
+
 def shown_arrays(share):
     """A block of 100 arrays of 1,000,000 nulls, or of 12."""
     count = 100 // share
@@ -149,6 +155,17 @@ def look_alikes(count, depth):
     ]
     around = [record("Outer", [("a", ["Outer", record("Other", [("a", ["Outer", "Other", *alikes])]), "Left", "Right"])])]
     return lambda share: repeated(around if depth else alikes, '{"a":' * depth + '{"x":[', "7", "]}" + "}" * depth, share)
+
+
+def alike_records(count):
+    """Records whose first fields are all ints, and whose second ones are a fixed each, an int at last."""
+    return [*(record(f"R{n}", [("a", "int"), ("b", fixed(f"F{n}"))]) for n in range(count)), record("Last", [("a", "int"), ("b", "int")])]
+
+
+def alike_arrays(count):
+    """Records of one field, an array of a fixed each, of an int at last."""
+    arrays = [*(fixed(f"F{n}") for n in range(count)), "int"]
+    return [record(f"R{n}", [("a", {"type": "array", "items": items})]) for n, items in enumerate(arrays)]
 
 
 def enums(count):
@@ -233,6 +250,7 @@ ROWS = [
     Row("towers in 50,000 blocks", tower_blocks, CHECK, COPY, SAME),
     Row("nulls in 50,000 blocks", null_blocks, CHECK, COPY, SAME),
     Row("arrays of nulls", null_arrays, CHECK, COPY),
+    Row("arrays of one tower", tower_arrays, CHECK, COPY),
     Row("arrays shown", shown_arrays, SHOW),
     Row("towers shown", shown_towers, SHOW),
     *(Row(f"look-alikes, {count} fixeds, {depth} around", look_alikes(count, depth), TEXT) for count in (100, 1_000) for depth in (0, 1, 10, 100)),
@@ -243,6 +261,8 @@ ROWS = [
     Row("enums and the last symbol", array_of(enums, '"last"'), TEXT),
     Row("records and empty objects", array_of(lambda count: records(count, []), "{}"), TEXT),
     Row("records and objects of one member", array_of(lambda count: records(count, ONE_FIELD), '{"b":""}'), TEXT),
+    Row("records whose first fields are alike", array_of(lambda count: alike_records(count // 4), '{"a":1,"b":2}'), TEXT),
+    Row("records of arrays alike", array_of(lambda count: alike_arrays(count // 4), '{"a":[7]}'), TEXT),
     Row("fixeds and one long text", long_text, TEXT),
     Row("a long name", long_name, FINGERPRINT, ["schema", "text", "--canonical"]),
     Row("twin aliases", twin_aliases, JUDGE),
