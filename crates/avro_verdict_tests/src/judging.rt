@@ -27,7 +27,7 @@ pub(crate) fn verdict(
 }
 
 /// A text of these bytes.
-fn text_of(alloc: Global, bytes: &[u8]) -> Result<String, Fail> {
+pub(crate) fn text_of(alloc: Global, bytes: &[u8]) -> Result<String, Fail> {
     match str::from_utf8(bytes) {
         Ok(text) => Ok(String::from_str(alloc, text)?),
         Err(_) => Err(Fail::new("an answer is no text")),

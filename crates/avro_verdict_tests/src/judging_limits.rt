@@ -1,7 +1,8 @@
 //! Verdicts at the limits of judging, and beyond them.
 
-use crate::judging::verdict;
-use avro_judge::{JudgeLimits, Verdict, judge};
+use crate::judging::{text_of, verdict};
+use avro_answer::{Form, judge_schemas};
+use avro_judge::JudgeLimits;
 use avro_schema::{Draft, Limits, Node, Schema};
 use avro_schema_json::read_schema;
 use std::alloc::Global;
@@ -80,16 +81,17 @@ fn two_nodes(alloc: Global) -> Result<Schema, Fail> {
     Ok(draft.finish()?)
 }
 
-/// The verdict of that schema for an int at a limit of pairs.
-fn verdict_of_two_nodes(alloc: Global, pairs: u32) -> Result<String, Fail> {
-    let writer = two_nodes(alloc)?;
-    let reader = read_schema(alloc, "\"int\"".as_bytes())?;
-    let limits = JudgeLimits::new(pairs, 1, Limits::default()).ok_or("limits")?;
-    match judge(alloc, &writer, &reader, &limits)? {
-        Verdict::Approved(_) => Ok(String::from_str(alloc, "yes")?),
-        Verdict::Undecided(cause) => Ok(format!(in alloc; "undecided {cause:?}")?),
-        Verdict::Refuted(_) => Ok(String::from_str(alloc, "no")?),
-    }
+/// Limits of judging data of one node, at a limit of pairs.
+fn limits_of(pairs: u32) -> Result<JudgeLimits, Fail> {
+    Ok(JudgeLimits::new(pairs, 1, Limits::default()).ok_or("limits of judging")?)
+}
+
+/// The verdict of a writer's schema for an int at a limit of pairs.
+fn verdict_for_int(alloc: Global, writer: &Schema, pairs: u32) -> Result<String, Fail> {
+    let reader = read_schema(alloc, INT.as_bytes())?;
+    let limits = limits_of(pairs)?;
+    let judged = judge_schemas(alloc, writer, &reader, &limits, Form::Text)?;
+    text_of(alloc, &judged.answer.text)
 }
 
 /// Numbers of pairs and sizes, and whether they are limits of judging data of at most 3 nodes.
@@ -109,8 +111,9 @@ fn limits_of_judging_have_ranges(rt: HostRuntime) -> Result<(), Fail> {
     let limits = JudgeLimits::default();
     let found = (limits.pairs(), limits.size(), limits.limits().depth());
     assert_eq!(rt; found, (4_194_304, 4096, 128));
-    for (pairs, text) in [(1, "undecided Pairs"), (2, "yes")] {
-        assert_eq!(rt; verdict_of_two_nodes(rt.alloc(), pairs)?.as_str(), text);
+    let writer = two_nodes(rt.alloc())?;
+    for (pairs, text) in [(1, "undecided Pairs\n"), (2, "yes\n")] {
+        assert_eq!(rt; verdict_for_int(rt.alloc(), &writer, pairs)?.as_str(), text);
     }
     Ok(())
 }
