@@ -19,10 +19,10 @@ fn from_zigzag(number: u64) -> i64
 
 /// What the groups at the front of `bytes` stand for, and how many there are: at most `most`, and if as many, a last one of at most `top`.
 ///
-/// Most numbers are one byte: that case is here, where a caller has it without a call.
+/// Most numbers are one byte or two: those cases are here, where a caller has them without a call.
 #[inline(always)]
 fn read_groups(bytes: &[u8], most: usize, top: u8) -> Result<(u64, usize), VarError>
-    requires several { 2 ≤ most }
+    requires several { 3 ≤ most }
     requires low { top < 128 }
     requires fits { (top + 1) * 128 ^ (most - 1) ≤ 2 ^ 64 }
     ensures found { IfOk result (λ r. (1 ≤ r.1) × (r.1 ≤ length bytes.now) × AreGroups most r.0 (take r.1 bytes.now)) }
@@ -31,6 +31,9 @@ fn read_groups(bytes: &[u8], most: usize, top: u8) -> Result<(u64, usize), VarEr
 {
     if !bytes.is_empty() && bytes[0] < 128 {
         return Ok((u64::from(bytes[0]), 1));
+    }
+    if bytes.len() >= 2 && bytes[0] >= 128 && bytes[1] < 128 {
+        return Ok((u64::from(bytes[0] - 128) + (u64::from(bytes[1]) << 7), 2));
     }
     read_each_group(bytes, most, top)
 }
