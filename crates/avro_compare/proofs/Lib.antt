@@ -3,9 +3,11 @@ pub mod EnoughSteps
 pub mod Pairing
 pub mod FaultsLed
 pub mod FieldsNoted
+pub mod FirstLacking
 pub mod Named
 pub mod NamedKeys
 pub mod NamedStarts
+pub mod NoFields
 pub mod NodeTables
 mod RowsMatch
 mod RowsSource

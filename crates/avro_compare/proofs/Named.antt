@@ -50,7 +50,7 @@ index_within symbols word (Some k) e = subst (λ (n : ℕ). k < n) (texts_count 
 
 -- ---- Symbols of a reader's enum
 
-symbol_text : (w : Node) (k : ℕ) (writes : List (List ℕ)) → writes ≡ unwrap_or (symbols_of w) [] → symbol_at w k ≡ unwrap_or (slice_get writes k) []
+pub symbol_text : (w : Node) (k : ℕ) (writes : List (List ℕ)) → writes ≡ unwrap_or (symbols_of w) [] → symbol_at w k ≡ unwrap_or (slice_get writes k) []
 symbol_text w k writes e = by (symbols_of w) ∙ ap (λ (ts : List (List ℕ)). unwrap_or (slice_get ts k) []) (sym e)
   where
     by : (o : Option (List (List ℕ))) → unwrap_or (option_and_then (λ symbols. slice_get symbols k) o) [] ≡ unwrap_or (slice_get (unwrap_or o []) k) []

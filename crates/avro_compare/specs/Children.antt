@@ -1,7 +1,7 @@
 -- The pairs of nodes that a pair leads to, and what fails at a pair itself.
-use Rattle.std.specs.Prelude.{ℕ, Bool, true, false, not, ◌&&◌, ◌||◌, List, [], ◌∷◌, Option, Some, None, slice_get, map, is_some, is_none, flat_map, bytes_eq, unwrap_or}
+use Rattle.std.specs.Prelude.{ℕ, Bool, true, false, not, ◌&&◌, ◌||◌, List, [], ◌∷◌, Option, Some, None, slice_get, map, is_some, is_none, flat_map, bytes_eq, unwrap_or, position}
 use Rattle.std.specs.List.{list_any}
-use Rattle.avro_schema.specs.Node.{Node, FieldNode, field_ids}
+use Rattle.avro_schema.specs.Node.{Node, FieldNode, field_ids, symbols_of}
 use Rattle.avro_compare.specs.Match.{is_match, first_match}
 use Rattle.avro_compare.specs.Source.{source_of, missing_field}
 
@@ -14,6 +14,15 @@ pub record Pair : Type 0 where
 abbrev pub lacks_symbol : List (List ℕ) → List (List ℕ) → Option ℕ → Bool
 lacks_symbol symbols theirs default =
     is_none default && list_any (λ s. not (list_any (bytes_eq s) theirs)) symbols
+
+-- a reader's node has neither a symbol nor a default for it
+abbrev pub lacks : Node → List ℕ → Bool
+lacks (Node.enum b ys theirs y) symbol = is_none y && not (list_any (bytes_eq symbol) theirs)
+lacks q symbol = true
+
+-- the first of the writer's symbols that the reader lacks, where it has no default
+abbrev pub first_lacking : Node → Node → Option ℕ
+first_lacking w q = position (lacks q) (unwrap_or (symbols_of w) [])
 
 -- What fails at two nodes that match and are no unions, whatever becomes of their parts.
 abbrev pub has_fault_of_kind : Node → Node → Bool

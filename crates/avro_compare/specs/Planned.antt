@@ -1,11 +1,12 @@
 -- What a plan keeps of pairs of nodes.
-use Rattle.std.specs.Prelude.{◌≡◌, ℕ, suc, List, [], Option, Some, None, slice_get, unwrap_or, position, bytes_eq, length}
+use Rattle.std.specs.Prelude.{◌≡◌, ◌⊎◌, ℕ, suc, List, [], Option, Some, None, slice_get, unwrap_or, position, bytes_eq, length}
 use Rattle.std.specs.Ordering.{nat_cmp}
 use Rattle.std.specs.Cmp.Lexicographic.{slice_cmp}
 use Rattle.std.specs.BTreeMap.{BTreeMap, get_by}
 use denote.Ref.{Bor}
 use Rattle.avro_schema.specs.Node.{Node, FieldNode, node_at, symbols_of}
 use Rattle.avro_schema.specs.declared.schema.NodeId.{NodeId}
+use Rattle.avro_compare.specs.Children.{first_lacking}
 use Rattle.avro_compare.specs.Pairs.{IsSymbol, aim_at, field_for}
 use Rattle.avro_compare.specs.Resolve.{enum_as, symbol_at, fields_at}
 use Rattle.avro_compare.specs.Source.{field_index, source_of, missing_field}
@@ -25,15 +26,17 @@ AreFor ws rs parts = (k : ℕ) (at : At) → slice_get parts k ≡ Some at → a
 abbrev pub AreSymbols : Node → Node → List (Option ℕ) → Type 0
 AreSymbols w q symbols = (k : ℕ) (s : Option ℕ) → slice_get symbols k ≡ Some s → IsSymbol (enum_as (symbol_at w k) q) s
 
--- what is kept inside two nodes is what their fields and their symbols are to each other: of each, and of the index after the writer's last field
+-- What is kept inside two nodes is what their fields and their symbols are to each other: of each field, and of the index after the
+-- writer's last, unless the other record has none; of each symbol, or of none.
 pub record AreInside (w q : Node) (p : Comparison) : Type 0 where
   pub complete : p.missing ≡ missing_field (fields_at w) (fields_at q)
+  pub lacking : p.lacking ≡ first_lacking w q
   pub fields : AreFor (fields_at w) (fields_at q) p.fields.items
-  pub all_fields : length p.fields.items ≡ suc (length (fields_at w))
+  pub all_fields : (length p.fields.items ≡ suc (length (fields_at w))) ⊎ (fields_at q ≡ [])
   pub sources : AreSources (fields_at w) (fields_at q) p.sources.items
-  pub all_sources : length p.sources.items ≡ length (fields_at q)
+  pub all_sources : (length p.sources.items ≡ length (fields_at q)) ⊎ (fields_at w ≡ [])
   pub symbols : AreSymbols w q p.symbols.items
-  pub all_symbols : length p.symbols.items ≡ length (unwrap_or (symbols_of w) [])
+  pub all_symbols : (p.symbols.items ≡ []) ⊎ (length p.symbols.items ≡ length (unwrap_or (symbols_of w) []))
 
 -- what is kept of a pair of nodes is where it leads; and where this is to the reader's node itself, what is inside
 pub record IsComparison (writer reader : List Node) (p : Comparison) : Type 0 where

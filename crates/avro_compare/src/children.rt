@@ -181,6 +181,9 @@ fn field_leads(
     ensures { IfOk result (λ found. found.items ≡ field_leads 0 (seen_fields fields.now) (seen_fields theirs.now)) }
 {
     let mut found = Vec::new(alloc);
+    if fields.len() == 0 {
+        return Ok(found);
+    }
     for index in 0..theirs.len() {
         let field = &theirs[index];
         let source = source_by(names, pair, fields, index, field);

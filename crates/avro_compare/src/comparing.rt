@@ -1,4 +1,4 @@
-ghost use Rattle.std.specs.Prelude.{◌≡◌, IfOk, length, suc};
+ghost use Rattle.std.specs.Prelude.{◌≡◌, ◌⊎◌, [], IfOk, length, suc};
 ghost use Rattle.avro_schema.specs.Node.{node_at};
 ghost use Rattle.avro_schema.specs.Seen.{seen_fields};
 ghost use Rattle.avro_compare.specs.Resolve.{fields_at};
@@ -9,11 +9,15 @@ ghost use Rattle.avro_compare.specs.Planned.{AreFor, AreInside, AreComparisons, 
 
 use crate::comparison::Comparison;
 use crate::guided::{Aim, At};
+use crate::lacking::find_lacking;
 use crate::names::Names;
 use crate::sourcing::{fields_of, missing_among, node_of_field, source_kept};
 use crate::symbols::symbols_of;
 use avro_schema::{Field, Memory, NodeId, Schema};
 use std::alloc::Global;
+
+/// How many times as many symbols as the reader the writer may have, for the reader's to be kept.
+const MOST_TIMES: usize = 16;
 
 /// Compares each pair of nodes, for a plan to keep.
 pub fn compare_all(
@@ -59,6 +63,7 @@ fn outside(alloc: Global, w: NodeId, r: NodeId, aim: Aim) -> Comparison
         r,
         aim,
         missing: None,
+        lacking: None,
         fields: Vec::new(alloc),
         sources: Vec::new(alloc),
         symbols: Vec::new(alloc),
@@ -78,18 +83,37 @@ pub fn compare_inside(
 {
     let writes = fields_of(names.writer(), w);
     let reads = fields_of(names.reader(), r);
-    let sources = find_sources(alloc, names, w, reads)?;
-    let fields = find_fields(alloc, writes, reads, &sources)?;
-    let symbols = find_symbols(alloc, names, w, r)?;
+    let sources = keep_sources(alloc, names, w, writes, reads)?;
+    let fields = keep_fields(alloc, writes, reads, &sources)?;
+    let symbols = keep_symbols(alloc, names, w, r)?;
     Ok(Comparison {
         w,
         r,
         aim,
         missing: missing_among(writes, reads, &sources),
+        lacking: find_lacking(names, w, r, &symbols),
         fields,
         sources,
         symbols,
     })
+}
+
+/// The sources of a reader's fields, or nothing where the writer has no field.
+fn keep_sources(
+    alloc: Global,
+    names: &Names,
+    w: NodeId,
+    writes: &[Field],
+    reads: &[Field],
+) -> Result<Vec<Option<usize>>, Memory>
+    ensures each { IfOk result (λ found. AreSources (fields_at (node_at (schema_nodes names.now.0) w.0)) (seen_fields reads.now) found.items) }
+    ensures all { IfOk result (λ found. (length found.items ≡ length (seen_fields reads.now)) ⊎ (seen_fields writes.now ≡ [])) }
+{
+    if writes.len() > 0 {
+        find_sources(alloc, names, w, reads)
+    } else {
+        Ok(Vec::new(alloc))
+    }
 }
 
 /// The sources of a reader's fields.
@@ -109,6 +133,24 @@ fn find_sources(
     Ok(found)
 }
 
+/// What each of the writer's fields is for, or nothing where the reader has no field.
+fn keep_fields(
+    alloc: Global,
+    writes: &[Field],
+    reads: &[Field],
+    sources: &[Option<usize>],
+) -> Result<Vec<At>, Memory>
+    requires { AreSources (seen_fields writes.now) (seen_fields reads.now) sources.now }
+    ensures each { IfOk result (λ found. AreFor (seen_fields writes.now) (seen_fields reads.now) found.items) }
+    ensures all { IfOk result (λ found. (length found.items ≡ suc (length (seen_fields writes.now))) ⊎ (seen_fields reads.now ≡ [])) }
+{
+    if reads.len() > 0 {
+        find_fields(alloc, writes, reads, sources)
+    } else {
+        Ok(Vec::new(alloc))
+    }
+}
+
 /// What each of the writer's fields is for, from the sources of the reader's fields. One ignored
 /// part is after the last, since reading asks about that index too. The loop goes from the
 /// reader's last field to its first, so that the first of two with the same source is kept.
@@ -123,6 +165,9 @@ fn find_fields(
     ensures all { IfOk result (λ found. length found.items ≡ suc (length (seen_fields writes.now))) }
 {
     let mut found = all_ignored(alloc, writes.len() + 1)?;
+    if writes.len() == 0 {
+        return Ok(found);
+    }
     let mut left = reads.len();
     while left > 0 {
         left -= 1;
@@ -157,6 +202,25 @@ fn note(found: &mut Vec<At>, index: usize, at: At)
 {
     if index < found.len() {
         found[index] = at;
+    }
+}
+
+/// The reader's symbol for each symbol of a writer's enum, or nothing where the writer has many more symbols.
+fn keep_symbols(
+    alloc: Global,
+    names: &Names,
+    w: NodeId,
+    r: NodeId,
+) -> Result<Vec<Option<u32>>, Memory>
+    ensures each { IfOk result (λ found. AreSymbols (node_at (schema_nodes names.now.0) w.0) (node_at (schema_nodes names.now.1) r.0) found.items) }
+    ensures all { IfOk result (λ found. (found.items ≡ []) ⊎ (length found.items ≡ length (symbols_at (node_at (schema_nodes names.now.0) w.0)))) }
+{
+    let writes = symbols_of(names.writer(), w).len();
+    let reads = symbols_of(names.reader(), r).len();
+    if writes / MOST_TIMES > reads {
+        Ok(Vec::new(alloc))
+    } else {
+        find_symbols(alloc, names, w, r)
     }
 }
 

@@ -1,7 +1,7 @@
 use crate::guided::{Aim, At};
 use avro_schema::NodeId;
 
-/// What a plan keeps of a pair of nodes: all that resolution finds by names.
+/// What a plan keeps of a pair of nodes: what resolution finds by names, but no list that is long for the other node.
 #[derive(Debug, Drop)]
 pub struct Comparison {
     /// The writer's node.
@@ -12,27 +12,23 @@ pub struct Comparison {
     pub aim: Aim,
     /// The reader's first field without a source and a default.
     pub missing: Option<usize>,
-    /// What each of the writer's fields is for, and one ignored part after the last.
+    /// The first of the writer's symbols that the reader lacks and has no default for.
+    pub lacking: Option<usize>,
+    /// What each of the writer's fields is for, and one ignored part after the last; none where the reader has no field.
     pub fields: Vec<At>,
-    /// The source of each of the reader's fields.
+    /// The source of each of the reader's fields; none where the writer has no field.
     pub sources: Vec<Option<usize>>,
-    /// The reader's symbol for each of the writer's.
+    /// The reader's symbol for each of the writer's; none where the writer has many more symbols than the reader.
     pub symbols: Vec<Option<u32>>,
 }
 
 impl Comparison {
-    ghost use Rattle.std.specs.Prelude.{◌≡◌, is_none};
-    ghost use Rattle.std.specs.List.{list_any};
+    ghost use Rattle.std.specs.Prelude.{◌≡◌, is_some};
 
     /// Whether the reader's enum lacks a symbol of the writer's and has no default.
     pub fn lacks_symbol(&self) -> bool
-        ensures { result ≡ list_any is_none self.now.symbols.items }
+        ensures { result ≡ is_some self.now.lacking }
     {
-        for symbol in &self.symbols {
-            if symbol.is_none() {
-                return true;
-            }
-        }
-        false
+        self.lacking.is_some()
     }
 }

@@ -124,7 +124,7 @@ impl<'a> Names<'a> {
     pub fn symbol_for(&self, w: NodeId, symbol: u32, q: NodeId) -> Option<u32>
         ensures { IsSymbol (enum_as (symbol_at (node_at (schema_nodes self.now.0) w.0) symbol) (node_at (schema_nodes self.now.1) q.0)) result }
     {
-        self.symbol(text_of(self.writer, w, symbol), q)
+        self.symbol(text_of(self.writer, w, symbol as usize), q)
     }
 
     /// Where a pair of nodes leads.

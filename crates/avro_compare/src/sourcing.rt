@@ -68,7 +68,7 @@ pub(crate) fn missing_among(
 {
     for index in 0..reader.len() {
         let field = &reader[index];
-        if source_at(writer, reader, sources, index, field).is_none() && field.default.is_none() {
+        if field.default.is_none() && source_at(writer, reader, sources, index, field).is_none() {
             return Some(index);
         }
     }

@@ -55,11 +55,11 @@ pub(crate) fn symbol_of_id(reader: &Schema, q: NodeId, symbol: &str) -> Option<u
 }
 
 /// The text of a writer's symbol, and none where there is none.
-fn text_at(node: &Node, symbol: u32) -> &str
+fn text_at(node: &Node, symbol: usize) -> &str
     ensures { result.now ≡ symbol_at (node_of node.now) symbol }
 {
     match node {
-        Node::Enum(enumeration) => match enumeration.symbols.get(symbol as usize) {
+        Node::Enum(enumeration) => match enumeration.symbols.get(symbol) {
             Some(text) => text.as_str(),
             None => "",
         },
@@ -77,11 +77,11 @@ pub fn symbol_for(
 ) -> Option<u32>
     ensures { IsSymbol (enum_as (symbol_at (node_at (schema_nodes writer.now) w.0) symbol) (node_at (schema_nodes reader.now) q.0)) result }
 {
-    symbol_of_id(reader, q, text_of(writer, w, symbol))
+    symbol_of_id(reader, q, text_of(writer, w, symbol as usize))
 }
 
 /// The text of a symbol of a node, and none where there is none.
-pub(crate) fn text_of(schema: &Schema, id: NodeId, symbol: u32) -> &str
+pub(crate) fn text_of(schema: &Schema, id: NodeId, symbol: usize) -> &str
     ensures { result.now ≡ symbol_at (node_at (schema_nodes schema.now) id.0) symbol }
 {
     text_at(schema.get(id), symbol)

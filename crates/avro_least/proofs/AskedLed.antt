@@ -1,5 +1,5 @@
 -- What a pair asks for, by what is found of it.
-use Rattle.std.proofs.Common.{◌≡◌, ℕ, suc, ◌+◌, ◌≤◌, ◌<◌, Bool, true, false, cond, List, [], ◌∷◌, Option, Some, None, length, refl, sym, ap, ◌∙◌, arith, get_or}
+use Rattle.std.proofs.Common.{◌≡◌, ◌⊎◌, inl, inr, ℕ, suc, ◌+◌, ◌≤◌, ◌<◌, Bool, true, false, cond, List, [], ◌∷◌, Option, Some, None, length, refl, sym, ap, ◌∙◌, subst, arith, get_or}
 use Rattle.std.specs.Prelude.{option_map, slice_get, unwrap_or}
 use Rattle.avro_schema.specs.Node.{Node, FieldNode, branches_of, field_ids}
 use Rattle.avro_schema.specs.declared.schema.NodeId.{NodeId}
@@ -59,10 +59,28 @@ rows_found ws rs parts k (p ∷ ps) h all =
     ap (λ (o : Option ℕ). record { node = p; theirs = o } ∷ rows_by parts (suc k) ps) (theirs_found ws rs parts k h (omega (arith, all)))
     ∙ ap (λ (rows : List Row). record { node = p; theirs = option_map (λ f. f.node) (reader_field ws rs k) } ∷ rows) (rows_found ws rs parts (suc k) ps h (omega (arith, all)))
 
+theirs_none : (ws : List FieldNode) (parts : List At) (k : ℕ) → AreFor ws [] parts → theirs_at parts k ≡ None
+theirs_none ws parts k h = by (slice_get parts k) refl
+  where
+    by : (o : Option At) → slice_get parts k ≡ o → theirs_in o ≡ None
+    by None e = refl
+    by (Some at) e = ap (λ (part : At). theirs_in (Some part)) (h k at e)
+
+-- the same where the reader has no field, of as many parts as there are
+rows_none : (ws : List FieldNode) (parts : List At) (k : ℕ) (ps : List ℕ) → AreFor ws [] parts → rows_by parts k ps ≡ rows_from ws [] k ps
+rows_none ws parts k [] h = refl
+rows_none ws parts k (p ∷ ps) h =
+    ap (λ (o : Option ℕ). record { node = p; theirs = o } ∷ rows_by parts (suc k) ps) (theirs_none ws parts k h)
+    ∙ ap (λ (rows : List Row). record { node = p; theirs = None } ∷ rows) (rows_none ws parts (suc k) ps h)
+
 as_many : (fs : List FieldNode) → length (field_ids fs) ≡ length fs
 as_many [] = refl
 as_many (f ∷ fs) = ap suc (as_many fs)
 
 -- the rows of the parts are those of the fields
-pub rows_same : (ws rs : List FieldNode) (parts : List At) → AreFor ws rs parts → length parts ≡ suc (length ws) → rows_by parts 0 (field_ids ws) ≡ rows_from ws rs 0 (field_ids ws)
-rows_same ws rs parts h all = rows_found ws rs parts 0 (field_ids ws) h (omega (arith, all, as_many ws))
+pub rows_same : (ws rs : List FieldNode) (parts : List At) → AreFor ws rs parts → (length parts ≡ suc (length ws)) ⊎ (rs ≡ [])
+    → rows_by parts 0 (field_ids ws) ≡ rows_from ws rs 0 (field_ids ws)
+rows_same ws rs parts h (inl all) = rows_found ws rs parts 0 (field_ids ws) h (omega (arith, all, as_many ws))
+rows_same ws rs parts h (inr none) =
+    rows_none ws parts 0 (field_ids ws) (subst (λ (fs : List FieldNode). AreFor ws fs parts) none h)
+    ∙ ap (λ (fs : List FieldNode). rows_from ws fs 0 (field_ids ws)) (sym none)

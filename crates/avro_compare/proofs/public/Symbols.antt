@@ -1,12 +1,17 @@
 -- The symbols that a reader's enum lacks.
-use Rattle.std.proofs.Common.{◌≡◌, ◌∙◌, ◌||◌, ◌&&◌, ◌+◌, ℕ, suc, Bool, true, false, not, List, [], ◌∷◌, Option, Some, None, length, is_some, cond, refl, sym, ap, arith}
-use Rattle.std.specs.Prelude.{bytes_eq, position, is_none, slice_get, unwrap_or}
+use Rattle.std.proofs.Common.{◌≡◌, ◌∙◌, ◌||◌, ◌&&◌, ◌+◌, ◌<◌, ℕ, Bool, true, false, not, List, [], ◌∷◌, Option, Some, None, Err, drop, length, is_some, cond, refl, sym, ap}
+use Rattle.std.specs.Prelude.{bytes_eq, position, is_none, unwrap_or}
 use Rattle.std.specs.List.{list_any, position_from}
 use Rattle.std.proofs.lemmas.Slice.Eq.{bytes_eq-Decides}
 use Rattle.std.proofs.lemmas.Iterator.Adapters.{position_from-zero}
+use Rattle.std.proofs.lemmas.Option.{slice_get-get_or}
+use Rattle.avro_schema.specs.Node.{Node, symbols_of}
+use Rattle.avro_compare.specs.Children.{lacks, lacks_symbol}
+use Rattle.avro_compare.specs.Fault.{fault_here, no_symbol}
 use Rattle.avro_compare.specs.Pairs.{IsSymbol}
-use Rattle.avro_compare.specs.Resolve.{enum_or_default}
-use Rattle.avro_compare.specs.Children.{lacks_symbol}
+use Rattle.avro_compare.specs.Resolve.{enum_as, enum_or_default, symbol_at}
+use Rattle.avro_compare.proofs.Named.{symbol_text}
+use Rattle.avro_compare.proofs.public.Lists.{next_in}
 
 -- equality of texts is symmetric
 pub bytes_eq-sym : (a b : List ℕ) → bytes_eq a b ≡ bytes_eq b a
@@ -45,22 +50,42 @@ lacks_here y f s theirs h = chosen (position (λ t. bytes_eq t s) theirs) y f (s
     chosen None (Some d) (Some j) e h = refl
     chosen None (Some d) None e h = absurd cc
 
--- some of them has none exactly where the reader lacks a symbol
-pub lacks_same : (symbols theirs : List (List ℕ)) (y : Option ℕ) (found : List (Option ℕ)) → length found ≡ length symbols
-    → ((k : ℕ) (f : Option ℕ) → slice_get found k ≡ Some f → IsSymbol (enum_or_default (position (λ t. bytes_eq t (unwrap_or (slice_get symbols k) [])) theirs) y) f)
-    → list_any is_none found ≡ lacks_symbol symbols theirs y
-lacks_same [] theirs y [] all h = none y
+-- there is no symbol where the reader's node has neither it nor a default
+pub lacks_is : (q : Node) (symbol : List ℕ) (found : Option ℕ) → IsSymbol (enum_as symbol q) found → is_none found ≡ lacks q symbol
+lacks_is (Node.enum b ys theirs y) symbol found h = lacks_here y found symbol theirs h
+lacks_is _ symbol found h = others found h
   where
-    none : (y : Option ℕ) → false ≡ (is_none y && false)
-    none None = refl
-    none (Some d) = refl
-lacks_same (s ∷ ss) theirs y (f ∷ fs) all h =
-    ap (λ (b : Bool). b || list_any is_none fs) (lacks_here y f s theirs (h 0 f refl))
-    ∙ ap (λ (b : Bool). (is_none y && not (list_any (bytes_eq s) theirs)) || b) (lacks_same ss theirs y fs (omega (arith, all)) (λ k g got. h (suc k) g got))
-    ∙ joined (is_none y) (not (list_any (bytes_eq s) theirs)) (list_any (λ t. not (list_any (bytes_eq t) theirs)) ss)
+    others : (found : Option ℕ) → IsSymbol (Err (fault_here no_symbol)) found → is_none found ≡ true
+    others None h = refl
+    others (Some k) h = absurd cc
+
+-- the symbols from an index on
+pub symbols_there : (w : Node) (i : ℕ) → i < length (unwrap_or (symbols_of w) []) → drop i (unwrap_or (symbols_of w) []) ≡ symbol_at w i ∷ drop (i + 1) (unwrap_or (symbols_of w) [])
+symbols_there w i low =
+    next_in (unwrap_or (symbols_of w) []) i [] low
+    ∙ ap (λ (s : List ℕ). s ∷ drop (i + 1) (unwrap_or (symbols_of w) []))
+    (sym (ap (λ (o : Option (List ℕ)). unwrap_or o []) (slice_get-get_or (unwrap_or (symbols_of w) []) i [] low)) ∙ sym (symbol_text w i (unwrap_or (symbols_of w) []) refl))
+
+-- there is a first one exactly where some pass
+some_first : (test : List ℕ → Bool) (n : ℕ) (xs : List (List ℕ)) → is_some (position_from test n xs) ≡ list_any test xs
+some_first test n [] = refl
+some_first test n (x ∷ xs) = here (test x) (position_from test (n + 1) xs) ∙ ap (λ (b : Bool). test x || b) (some_first test (n + 1) xs)
   where
-    joined : (a b c : Bool) → ((a && b) || (a && c)) ≡ (a && (b || c))
-    joined true b c = refl
-    joined false b c = refl
-lacks_same [] theirs y (f ∷ fs) all h = absurd (omega (arith, all))
-lacks_same (s ∷ ss) theirs y [] all h = absurd (omega (arith, all))
+    here : (b : Bool) (o : Option ℕ) → is_some (cond b (Some n) o) ≡ (b || is_some o)
+    here true o = refl
+    here false o = refl
+
+none_of_default : (d : ℕ) (symbols theirs : List (List ℕ)) → list_any (λ s. is_none (Some d) && not (list_any (bytes_eq s) theirs)) symbols ≡ false
+none_of_default d [] theirs = refl
+none_of_default d (s ∷ ss) theirs = none_of_default d ss theirs
+
+-- there is a first one that the reader lacks exactly where it lacks a symbol
+pub lacking_some : (symbols theirs : List (List ℕ)) (y lacking : Option ℕ) → lacking ≡ position (λ s. is_none y && not (list_any (bytes_eq s) theirs)) symbols
+    → is_some lacking ≡ lacks_symbol symbols theirs y
+lacking_some symbols theirs y lacking e =
+    ap (λ (o : Option ℕ). is_some o) (e ∙ position_from-zero (λ s. is_none y && not (list_any (bytes_eq s) theirs)) symbols)
+    ∙ some_first (λ s. is_none y && not (list_any (bytes_eq s) theirs)) 0 symbols ∙ by_default y
+  where
+    by_default : (y : Option ℕ) → list_any (λ s. is_none y && not (list_any (bytes_eq s) theirs)) symbols ≡ lacks_symbol symbols theirs y
+    by_default None = refl
+    by_default (Some d) = none_of_default d symbols theirs

@@ -1,12 +1,12 @@
 //! Uses the comparisons of the pairs that were reached to build a datum.
 
-ghost use Rattle.std.specs.Prelude.{◌≡◌, List, IfOk, IfSome, is_none};
+ghost use Rattle.std.specs.Prelude.{◌≡◌, List, IfOk, IfSome};
 ghost use Rattle.avro_schema.specs.Node.{Node as SeenNode, node_at};
 ghost use Rattle.avro_schema.specs.Seen.{value_of};
 ghost use Rattle.avro_schema.specs.SeenSchema.{schema_nodes};
 ghost use Rattle.avro_compare.specs.Planned.{AreComparisons, IsComparison};
 ghost use Rattle.avro_least.specs.Asked.{asked};
-ghost use Rattle.avro_least.specs.BuiltErrors.{BuildsLone, first_from};
+ghost use Rattle.avro_least.specs.BuiltErrors.{BuildsLone};
 ghost use Rattle.avro_least.specs.SeenAsk.{ask_of};
 
 use crate::datum::made::{one_byte, symbol};
@@ -79,19 +79,7 @@ fn lone(alloc: Global, tables: &Tables, pair: &Comparison) -> Result<Datum, Memo
     ensures { IfOk result (λ d. BuildsLone (schema_nodes tables.now.writer.now) (schema_nodes tables.now.reader.now) pair.now.w.0 pair.now.r.0 (value_of d)) }
 {
     match tables.writer.get(pair.w) {
-        Node::Enum(_) => Ok(symbol(first_lacking(&pair.symbols))),
+        Node::Enum(_) => Ok(symbol(pair.lacking.unwrap_or(0))),
         _ => one_byte(alloc, 255),
     }
-}
-
-/// The index of the first of the writer's symbols that the reader lacks.
-fn first_lacking(symbols: &[Option<u32>]) -> usize
-    ensures { result ≡ first_from is_none 0 symbols.now }
-{
-    for i in 0..symbols.len() {
-        if symbols[i].is_none() {
-            return i;
-        }
-    }
-    symbols.len()
 }

@@ -1,7 +1,6 @@
 //! What a datum needs to fail at a pair of nodes, from the comparison of the pair.
 
-ghost use Rattle.std.specs.Prelude.{◌≡◌, IfOk, is_none, is_some, cond, option_map};
-ghost use Rattle.std.specs.List.{list_any};
+ghost use Rattle.std.specs.Prelude.{◌≡◌, IfOk, is_some, cond, option_map};
 ghost use Rattle.avro_schema.specs.Node.{node_at, field_ids};
 ghost use Rattle.avro_schema.specs.Seen.{node_of, seen_fields};
 ghost use Rattle.avro_schema.specs.SeenSchema.{schema_nodes};
@@ -80,7 +79,7 @@ fn ask_fields(alloc: Global, writer: &[Field], pair: &Comparison) -> Result<Ask,
 
 /// What two enums ask for.
 fn ask_symbols(pair: &Comparison) -> Ask
-    ensures { ask_of result ≡ cond (list_any is_none pair.now.symbols.items) Asked.lone Asked.quiet }
+    ensures { ask_of result ≡ cond (is_some pair.now.lacking) Asked.lone Asked.quiet }
 {
     if pair.lacks_symbol() {
         Ask::Lone

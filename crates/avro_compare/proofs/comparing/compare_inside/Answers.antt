@@ -1,9 +1,8 @@
-use Rattle.std.proofs.Common.{◌∙◌, ap, refl, sym}
+use Rattle.std.proofs.Common.{◌∙◌, ap, refl}
 use Rattle.avro_schema.specs.Node.{node_at}
 use Rattle.avro_schema.specs.Seen.{seen_fields}
 use Rattle.avro_schema.specs.SeenSchema.{schema_nodes}
 use Rattle.avro_compare.specs.Resolve.{fields_at}
-use Rattle.avro_compare.proofs.FieldsNoted.{counted}
 use Rattle.avro_compare.proofs.public.Leading.{inside_found}
 use Rattle.avro_compare.proofs.comparing.compare_inside.Goals as goal
 
@@ -16,8 +15,8 @@ returns c =
       inside_found w q (seen_fields writes) (seen_fields reads) _
           (c.fields_of-writes.ensures.seen ∙ ap (λ s. fields_at (node_at (schema_nodes s) c.args.w.0)) c.writer.ensures)
           (c.fields_of-reads.ensures.seen ∙ ap (λ s. fields_at (node_at (schema_nodes s) c.args.r.0)) c.reader.ensures)
-          c.missing_among.ensures c.in_ok-fields.ensures.each c.in_ok-fields.ensures.all
-          c.in_ok-sources.ensures.each (c.in_ok-sources.ensures.all ∙ sym (counted reads))
+          c.missing_among.ensures c.find_lacking.ensures c.in_ok-fields.ensures.each c.in_ok-fields.ensures.all
+          c.in_ok-sources.ensures.each c.in_ok-sources.ensures.all
           c.in_ok-symbols.ensures.each c.in_ok-symbols.ensures.all,
       refl,
       refl,

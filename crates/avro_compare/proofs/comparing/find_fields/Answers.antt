@@ -2,6 +2,7 @@ use Rattle.std.proofs.Common.{◌≡◌, ◌<◌, ◌+◌, ◌-◌, ◌∙◌, a
 use Rattle.avro_schema.specs.Seen.{seen_fields}
 use Rattle.avro_compare.specs.declared.guided.At.TheVariants.{Pair}
 use Rattle.avro_compare.proofs.FieldsNoted.{AreForFrom, counted, for_none, for_past, for_noted, noted_count}
+use Rattle.avro_compare.proofs.NoFields.{for_nothing, none_seen}
 use Rattle.avro_compare.proofs.public.Lists.{seen_at}
 use Rattle.avro_compare.proofs.comparing.find_fields.Goals as goal
 
@@ -49,3 +50,8 @@ returns c =
     let ws = seen_fields c.args.writes.now in
     let end : l.left ≡ 0 = omega (arith, c.loop-left-test.false) in
     record { each = subst (λ (n : ℕ). AreForFrom ws c.args.reads.now n l.found.items) end l.invariant.1; all = l.invariant.2 }
+
+pub returns-then-writes-eq0-clause-each : goal.returns-then-writes-eq0-clause-each
+returns-then-writes-eq0-clause-each c =
+    for_nothing (seen_fields c.args.writes.now) (seen_fields c.args.reads.now) c.in_ok-found.found.items
+    (none_seen c.args.writes.now (omega (arith, c.if-writes-eq0.true))) c.in_ok-found.ensures.ignored

@@ -1,5 +1,5 @@
 use Rattle.std.proofs.Common.{◌≡◌, ◌∙◌, ◌<◌, ℕ, ap, refl, sym, subst}
-use Rattle.std.specs.Prelude.{is_none}
+use Rattle.std.specs.Prelude.{unwrap_or}
 use Rattle.avro_schema.specs.Node.{Node, node_at}
 use Rattle.avro_schema.specs.Seen.{node_of, value_of}
 use Rattle.avro_schema.specs.SeenSchema.{schema_nodes}
@@ -7,7 +7,7 @@ use Rattle.avro_schema.specs.Value.{Value}
 use Rattle.avro_schema.specs.declared.schema.Node.{Node as KeptNode}
 use Rattle.avro_compare.proofs.public.Aims.{aims_of, inside_of}
 use Rattle.avro_least.specs.Asked.{Asked, asked}
-use Rattle.avro_least.specs.BuiltErrors.{IsLone, first_from}
+use Rattle.avro_least.specs.BuiltErrors.{IsLone}
 use Rattle.avro_least.proofs.LoneValue.{lone_symbol}
 use Rattle.avro_least.proofs.datum.found_pairs.lone.Goals as goal
 
@@ -19,7 +19,7 @@ returns-in-Enum c =
     let q = node_at reader pair.r.0 in
     let own = c.in-Enum.field-0 in
     let here : node_of (KeptNode.Enum own) ≡ node_at writer pair.w.0 = ap node_of (sym c.in-Enum.is) ∙ c.get.ensures.node in
-    let same : c.first_lacking.result ≡ first_from is_none 0 pair.symbols.items = c.first_lacking.ensures ∙ ap (first_from is_none 0) c.deref.ensures.value in
+    let same : c.unwrap_or.result ≡ unwrap_or pair.lacking 0 = c.unwrap_or.ensures in
     subst (λ (n : Node). Asked.lone ≡ asked writer reader n q → IsLone n q (value_of c.symbol.result)) here
     (λ e. lone_symbol writer reader own q pair (aims_of writer reader pair (node_of (KeptNode.Enum own)) q c.requires here refl)
     (inside_of writer reader pair (node_of (KeptNode.Enum own)) q c.requires here refl) e (value_of c.symbol.result)

@@ -4,7 +4,7 @@ use Rattle.avro_schema.specs.Node.{field_ids}
 use Rattle.avro_schema.specs.Seen.{node_of, seen_fields, texts_of}
 use Rattle.avro_schema.specs.declared.schema.Node.{Node as KeptNode}
 use Rattle.avro_compare.specs.Planned.{AreInside}
-use Rattle.avro_compare.proofs.public.Symbols.{lacks_same}
+use Rattle.avro_compare.proofs.public.Symbols.{lacking_some}
 use Rattle.avro_least.specs.Asked.{Asked, asked_inside, rows_from}
 use Rattle.avro_least.specs.SeenAsk.{ask_of, rows_by}
 use Rattle.avro_least.proofs.AskedLed.{rows_same}
@@ -19,7 +19,7 @@ returns-in-Enum-r c =
     subst (λ (n : KeptNode). AreInside (node_of w) (node_of n) pair) c.in-Enum-r.is (subst (λ (n : KeptNode). AreInside (node_of n) (node_of c.args.r.now) pair) c.in-Enum.is c.requires) in
     c.ask_symbols.ensures
     ∙ ap (λ b. cond b Asked.lone Asked.quiet)
-    (lacks_same (texts_of c.in-Enum.field-0.symbols.items) (texts_of c.in-Enum-r.field-0.symbols.items) c.in-Enum-r.field-0.default pair.symbols.items inside.all_symbols inside.symbols)
+    (lacking_some (texts_of c.in-Enum.field-0.symbols.items) (texts_of c.in-Enum-r.field-0.symbols.items) c.in-Enum-r.field-0.default pair.lacking inside.lacking)
     ∙ ap (λ (n : KeptNode). asked_inside (node_of w) (node_of n)) (sym c.in-Enum-r.is)
     ∙ ap (λ (n : KeptNode). asked_inside (node_of n) (node_of c.args.r.now)) (sym c.in-Enum.is)
 
