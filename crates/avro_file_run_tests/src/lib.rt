@@ -3,6 +3,8 @@
 #![tactic(auto)]
 
 #[cfg(test)]
+mod inputs;
+#[cfg(test)]
 mod many_checks;
 #[cfg(test)]
 mod one_file;
@@ -14,6 +16,8 @@ mod program;
 mod program_copies;
 #[cfg(test)]
 mod refutations;
+#[cfg(test)]
+mod sheets;
 #[cfg(test)]
 mod shown_headers;
 #[cfg(test)]

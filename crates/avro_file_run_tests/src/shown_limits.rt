@@ -1,104 +1,80 @@
 //! Data that are shown up to a number of lines.
 
-use avro_runs::check_run;
-use avro_samples::{LONG_OR_INT, file_of};
-use std::fs;
-use std::test::Fail;
-
-/// Two blocks of two ints each.
-const BLOCKS: [&[u8]; 2] = [b"\x04\x04\x02\x04", b"\x04\x04\x06\x08"];
-
-/// The words after `show`, and their status and output. `ints` has both blocks, `spoiled` has a
-/// datum that is cut in the second one, and `begun` in the first one.
-const RUNS: [(&str, u8, &str, &str); 22] = [
-    ("ints", 0, "1\n2\n3\n4\n", ""),
-    ("ints --limit 0", 0, "", ""),
-    ("ints --limit 1", 0, "1\n", ""),
-    ("--limit 2 ints", 0, "1\n2\n", ""),
-    ("ints --limit=3", 0, "1\n2\n3\n", ""),
-    ("ints --limit 4", 0, "1\n2\n3\n4\n", ""),
-    ("ints --limit 5", 0, "1\n2\n3\n4\n", ""),
-    ("ints --limit 18446744073709551615", 0, "1\n2\n3\n4\n", ""),
-    (
-        "ints --limit 18446744073709551616",
-        64,
-        "",
-        "avro: --limit takes 0 to 18446744073709551615\n",
-    ),
-    (
-        "ints --limit=-1",
-        64,
-        "",
-        "avro: --limit takes 0 to 18446744073709551615\n",
-    ),
-    (
-        "absent --limit few",
-        64,
-        "",
-        "avro: --limit takes 0 to 18446744073709551615\n",
-    ),
-    (
-        "ints --limit=",
-        64,
-        "",
-        "avro: --limit takes 0 to 18446744073709551615\n",
-    ),
-    (
-        "ints --limit 3 --reader r.avsc",
-        0,
-        "{\"long\":1}\n{\"long\":2}\n{\"long\":3}\n",
-        "",
-    ),
-    ("ints --limit 0 --reader r.avsc", 0, "", ""),
-    // What comes after the last line is not read, and a block is read as a whole.
-    (
-        "spoiled",
-        3,
-        "1\n2\n",
-        "avro: spoiled: C10 block 1 datum 1: B1 at 1\n",
-    ),
-    ("spoiled --limit 2", 0, "1\n2\n", ""),
-    (
-        "spoiled --limit 3",
-        3,
-        "1\n2\n",
-        "avro: spoiled: C10 block 1 datum 1: B1 at 1\n",
-    ),
-    (
-        "begun --limit 1",
-        3,
-        "",
-        "avro: begun: C10 block 0 datum 1: B1 at 1\n",
-    ),
-    ("begun --limit 0", 0, "", ""),
-    // The header is read all the same.
-    ("short --limit 0", 3, "", "avro: short: C16\n"),
-    (
-        "ints --limit 0 --reader refused.avsc",
-        3,
-        "",
-        "avro: refused.avsc: S2\n",
-    ),
-    ("absent --limit 0", 4, "", "avro: absent: cannot read\n"),
-];
-
-#[test]
-fn no_more_lines_are_shown_than_the_limit(rt: HostRuntime) -> Result<(), Fail> {
-    let alloc = rt.alloc();
-    let spoiled: &[u8] = b"\x04\x02\x06";
-    for (file, blocks) in [
-        ("ints", BLOCKS),
-        ("spoiled", [BLOCKS[0], spoiled]),
-        ("begun", [spoiled, BLOCKS[1]]),
-    ] {
-        fs::write(&rt, file, &file_of(alloc, r#""int""#, &blocks)?)?;
-    }
-    fs::write(&rt, "short", b"Obj\x01\x00")?;
-    fs::write(&rt, "r.avsc", LONG_OR_INT)?;
-    fs::write(&rt, "refused.avsc", r#""Foo""#)?;
-    for (words, status, out, err) in RUNS {
-        let line = format!(in alloc; "show {words}")?;
-        check_run(&rt, &line, status, out.as_bytes(), err.as_bytes())?;
-    }
-    Ok(())
-}
+/// The sheet, and how many runs it has.
+pub(crate) const SHEET: (&str, usize) = (
+    r##"
+# `ints` has two blocks of two ints each, `spoiled` has a datum that is cut in the second one, and `begun` in the first one.
+file ints Obj\x01\x02\x16avro.schema\n"int"\x00\m\x04\x04\x02\x04\m\x04\x04\x06\x08\m
+file spoiled Obj\x01\x02\x16avro.schema\n"int"\x00\m\x04\x04\x02\x04\m\x04\x02\x06\m
+file begun Obj\x01\x02\x16avro.schema\n"int"\x00\m\x04\x02\x06\m\x04\x04\x06\x08\m
+file short Obj\x01\x00
+file r.avsc ["long","int"]
+file refused.avsc "Foo"
+run 0 show ints
+out 1
+out 2
+out 3
+out 4
+run 0 show ints --limit 0
+run 0 show ints --limit 1
+out 1
+run 0 show --limit 2 ints
+out 1
+out 2
+run 0 show ints --limit=3
+out 1
+out 2
+out 3
+run 0 show ints --limit 4
+out 1
+out 2
+out 3
+out 4
+run 0 show ints --limit 5
+out 1
+out 2
+out 3
+out 4
+run 0 show ints --limit 18446744073709551615
+out 1
+out 2
+out 3
+out 4
+run 64 show ints --limit 18446744073709551616
+err avro: --limit takes 0 to 18446744073709551615
+run 64 show ints --limit=-1
+err avro: --limit takes 0 to 18446744073709551615
+run 64 show absent --limit few
+err avro: --limit takes 0 to 18446744073709551615
+run 64 show ints --limit=
+err avro: --limit takes 0 to 18446744073709551615
+run 0 show ints --limit 3 --reader r.avsc
+out {"long":1}
+out {"long":2}
+out {"long":3}
+run 0 show ints --limit 0 --reader r.avsc
+# What comes after the last line is not read, and a block is read as a whole.
+run 3 show spoiled
+out 1
+out 2
+err avro: spoiled: C10 block 1 datum 1: B1 at 1
+run 0 show spoiled --limit 2
+out 1
+out 2
+run 3 show spoiled --limit 3
+out 1
+out 2
+err avro: spoiled: C10 block 1 datum 1: B1 at 1
+run 3 show begun --limit 1
+err avro: begun: C10 block 0 datum 1: B1 at 1
+run 0 show begun --limit 0
+# The header is read all the same.
+run 3 show short --limit 0
+err avro: short: C16
+run 3 show ints --limit 0 --reader refused.avsc
+err avro: refused.avsc: S2
+run 4 show absent --limit 0
+err avro: absent: cannot read
+"##,
+    22,
+);

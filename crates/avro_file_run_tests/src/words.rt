@@ -1,72 +1,69 @@
 //! Words that have not the form of the program's, outputs that take few bytes, and the version.
 
-use avro_runs::{Row, check_full, check_rows, check_usage};
-use avro_samples::NULLS;
-use std::fs;
-use std::test::Fail;
-
-/// Words that are usage.
-const USAGE: [&str; 25] = [
-    "copy x",
-    "copy x x x",
-    "copy x x --sync",
-    "copy x x --certificate y",
-    "check",
-    "check x --reader y",
-    "show x y",
-    "show x --sync 00",
-    "check --json",
-    "check five --limit 1",
-    "header",
-    "header x y",
-    "header --metadata",
-    "header x --reader y",
-    "header x --counts",
-    "header x --version",
-    "pipe x",
-    "pipe -",
-    "pipe x y",
-    "pipe --sync",
-    "pipe --reader",
-    "pipe --counts x",
-    "pipe --certificate y",
-    "pipe --help",
-    "pipe --version",
-];
-
-/// The words of runs, and how many bytes their output takes.
-const FULL: [(&str, usize); 14] = [
-    ("header full.avro", 0),
-    ("header full.avro", 6),
-    ("header full.avro --metadata", 9),
-    ("pipe --counts", 0),
-    ("pipe --counts", 1),
-    ("pipe --counts", 40),
-    ("pipe --counts", 41),
-    ("pipe", 58),
-    ("--version", 3),
-    ("check full.avro", 0),
-    ("check full.avro", 15),
-    ("show full.avro", 0),
-    ("show full.avro", 14),
-    ("copy full.avro copied.avro", 3),
-];
-
-const VERSION: [Row; 2] = [
-    ("--version", 0, "avro 1.0.0\n", ""),
-    ("-V", 0, "avro 1.0.0\n", ""),
-];
-
-#[test]
-fn other_words_are_usage(rt: HostRuntime) -> Result<(), Fail> {
-    check_usage(&rt, &USAGE)?;
-    check_rows(&rt, &VERSION)
-}
-
-#[test]
-fn a_full_output_is_told(rt: HostRuntime) -> Result<(), Fail> {
-    fs::write(&rt, "full.avro", NULLS)?;
-    check_full(&rt, NULLS, &FULL)?;
-    assert_eq!(rt; fs::read(&rt, "copied.avro")?.as_slice(), NULLS);
-    Ok(())
-}
+/// The sheet, and how many runs it has.
+pub(crate) const SHEET: (&str, usize) = (
+    r##"
+usage copy x
+usage copy x x x
+usage copy x x --sync
+usage copy x x --certificate y
+usage check
+usage check x --reader y
+usage show x y
+usage show x --sync 00
+usage check --json
+usage check five --limit 1
+usage header
+usage header x y
+usage header --metadata
+usage header x --reader y
+usage header x --counts
+usage header x --version
+usage pipe x
+usage pipe -
+usage pipe x y
+usage pipe --sync
+usage pipe --reader
+usage pipe --counts x
+usage pipe --certificate y
+usage pipe --help
+usage pipe --version
+run 0 --version
+out avro 1.0.0
+run 0 -V
+out avro 1.0.0
+# Outputs that are full.
+file full.avro Obj\x01\x02\x16avro.schema\x0c"null"\x00\m\x06\x00\m
+input Obj\x01\x02\x16avro.schema\x0c"null"\x00\m\x06\x00\m
+room 0 4 header full.avro
+err avro: output: cannot write
+room 6 4 header full.avro
+err avro: output: cannot write
+room 9 4 header full.avro --metadata
+err avro: output: cannot write
+room 0 4 pipe --counts
+err avro: output: cannot write
+room 1 4 pipe --counts
+err avro: output: cannot write
+room 40 4 pipe --counts
+err avro: output: cannot write
+room 41 4 pipe --counts
+err avro: output: cannot write
+room 58 4 pipe
+err avro: output: cannot write
+room 3 4 --version
+err avro: output: cannot write
+room 0 4 check full.avro
+err avro: output: cannot write
+room 15 4 check full.avro
+err avro: output: cannot write
+room 0 4 show full.avro
+err avro: output: cannot write
+room 14 4 show full.avro
+err avro: output: cannot write
+room 3 4 copy full.avro copied.avro
+err avro: output: cannot write
+holds copied.avro Obj\x01\x02\x16avro.schema\x0c"null"\x00\m\x06\x00\m
+"##,
+    41,
+);

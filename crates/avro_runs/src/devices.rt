@@ -1,5 +1,6 @@
-//! Readers and writers that are short, that fail, and that count their calls.
+//! A reader that is short or fails, and a writer that keeps what it takes, counts the calls, and may be full.
 
+use std::alloc::Global;
 use std::io;
 use std::io::{Read, Write};
 
@@ -42,58 +43,45 @@ impl Read for Given<'_> {
     }
 }
 
-/// A writer that takes a number of bytes, and then fails.
+/// A writer that takes a number of bytes, and then fails. It keeps them, and counts the calls.
 #[derive(Drop)]
-pub struct Full {
+pub struct Kept {
     /// How many bytes it still takes.
     pub room: usize,
+    /// The bytes that it took.
+    pub bytes: Vec<u8>,
+    /// How many calls took bytes.
+    pub calls: usize,
+    /// How many of them ended in the middle of a line.
+    pub torn: usize,
 }
 
-impl Write for Full {
+impl Kept {
+    /// A writer that takes this number of bytes.
+    pub fn with_room(alloc: Global, room: usize) -> Kept {
+        Kept {
+            room,
+            bytes: Vec::new(alloc),
+            calls: 0,
+            torn: 0,
+        }
+    }
+}
+
+impl Write for Kept {
     fn write(&mut self, buf: &[u8]) -> io::Result<usize> {
         if self.room == 0 {
             return Err(io::Error::from(io::ErrorKind::StorageFull));
         }
         let taken = self.room.min(buf.len());
         self.room -= taken;
-        Ok(taken)
-    }
-
-    fn flush(&mut self) -> io::Result<()> {
-        Ok(())
-    }
-}
-
-/// A writer that takes all bytes, and counts the calls.
-#[derive(Drop)]
-pub struct Counted {
-    /// How many calls there were.
-    pub calls: usize,
-    /// How many bytes they took.
-    pub bytes: usize,
-    /// How many calls took bytes that end in the middle of a line.
-    pub torn: usize,
-}
-
-impl Counted {
-    /// A writer that has taken nothing.
-    pub fn new() -> Counted {
-        Counted {
-            calls: 0,
-            bytes: 0,
-            torn: 0,
-        }
-    }
-}
-
-impl Write for Counted {
-    fn write(&mut self, buf: &[u8]) -> io::Result<usize> {
         self.calls = self.calls.saturating_add(1);
-        self.bytes = self.bytes.saturating_add(buf.len());
         if !buf.ends_with(b"\n") {
             self.torn = self.torn.saturating_add(1);
         }
-        Ok(buf.len())
+        let (front, _) = buf.split_at(taken);
+        self.bytes.extend_from_slice(front)?;
+        Ok(taken)
     }
 
     fn flush(&mut self) -> io::Result<()> {

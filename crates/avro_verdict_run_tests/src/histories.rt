@@ -1,178 +1,75 @@
 //! Histories of schemas in files.
 
-use avro_runs::{Row, check_rows};
-use avro_samples::{Text, built};
-use std::fs;
-use std::test::Fail;
-
-/// The certificates of an int and of a long for a union of a long and a string.
-const TWO: &str =
-    "history 1\napproval 1\npair 0 0\npair 0 1\nend\napproval 1\npair 0 0\npair 0 1\nend\nend\n";
-
-/// Those of an int and of a string.
-const MIXED: &str =
-    "history 1\napproval 1\npair 0 0\npair 0 1\nend\napproval 1\npair 0 0\npair 0 2\nend\nend\n";
-
-/// Files, and what they hold.
-const FILES: [(&str, &str); 13] = [
-    ("int.avsc", r#""int""#),
-    ("wide.avsc", r#""long""#),
-    ("string.avsc", r#""string""#),
-    ("union.avsc", r#"["long","string"]"#),
-    (
-        "old.avsc",
-        r#"{"type":"record","name":"R","fields":[{"name":"a","type":"int"}]}"#,
-    ),
-    ("empty.avsc", r#"{"type":"record","name":"R","fields":[]}"#),
-    (
-        "new.avsc",
-        r#"{"type":"record","name":"R","fields":[{"name":"a","type":"string","default":""}]}"#,
-    ),
-    ("open.avsc", "{"),
-    (
-        "fieldless.avsc",
-        r#"{"type":"record","name":"X","fields":[]}"#,
-    ),
-    ("two.cert", TWO),
-    ("mixed.cert", MIXED),
-    (
-        "cut.cert",
-        "history 1\napproval 1\npair 0 0\npair 0 1\nend\n",
-    ),
-    ("great.cert", "history 1\napproval 1\ndead 4096\nend\nend\n"),
-];
-
-/// The words of runs, and their status and output.
-const RUNS: [Row; 20] = [
-    (
-        "history int.avsc wide.avsc union.avsc",
-        0,
-        "int.avsc yes\nwide.avsc yes\n",
-        "",
-    ),
-    (
-        "history old.avsc empty.avsc new.avsc",
-        1,
-        "old.avsc no\nempty.avsc yes\n",
-        "",
-    ),
-    ("history old.avsc empty.avsc", 0, "old.avsc yes\n", ""),
-    (
-        "history big.avsc big.avsc",
-        2,
-        "big.avsc undecided Pairs\n",
-        "",
-    ),
-    (
-        "history big.avsc int.avsc big.avsc",
-        1,
-        "big.avsc undecided Pairs\nint.avsc no\n",
-        "",
-    ),
-    (
-        "history int.avsc wide.avsc union.avsc --confirm two.cert",
-        0,
-        "confirmed\n",
-        "",
-    ),
-    (
-        "history --confirm two.cert wide.avsc union.avsc",
-        1,
-        "not confirmed\n",
-        "",
-    ),
-    (
-        "history int.avsc string.avsc union.avsc --confirm mixed.cert",
-        0,
-        "confirmed\n",
-        "",
-    ),
-    (
-        "history string.avsc --confirm mixed.cert int.avsc union.avsc",
-        1,
-        "not confirmed\n",
-        "",
-    ),
-    (
-        "history int.avsc union.avsc --confirm cut.cert",
-        3,
-        "",
-        "avro: cut.cert: G1\n",
-    ),
-    (
-        "history int.avsc union.avsc --confirm great.cert",
-        3,
-        "",
-        "avro: great.cert: G2\n",
-    ),
-    (
-        "history int.avsc open.avsc --confirm cut.cert",
-        3,
-        "",
-        "avro: open.avsc: S1\n",
-    ),
-    (
-        "history int.avsc union.avsc --confirm absent.cert",
-        4,
-        "",
-        "avro: absent.cert: cannot read\n",
-    ),
-    (
-        "history int.avsc union.avsc --certificates absent/out.cert",
-        4,
-        "int.avsc yes\n",
-        "avro: absent/out.cert: cannot write\n",
-    ),
-    (
-        "history int.avsc wide.avsc union.avsc --certificates history.cert",
-        0,
-        "int.avsc yes\nwide.avsc yes\n",
-        "",
-    ),
-    (
-        "history --certificates mixed_yes.cert int.avsc string.avsc union.avsc",
-        0,
-        "int.avsc yes\nstring.avsc yes\n",
-        "",
-    ),
-    (
-        "history old.avsc empty.avsc new.avsc --certificates unwritten.cert",
-        1,
-        "old.avsc no\nempty.avsc yes\n",
-        "",
-    ),
-    (
-        "history big.avsc big.avsc --certificates unwritten.cert",
-        2,
-        "big.avsc undecided Pairs\n",
-        "",
-    ),
-    (
-        "history fieldless.avsc large.avsc fieldless.avsc --certificates unwritten.cert",
-        2,
-        "fieldless.avsc yes\nlarge.avsc undecided Size\n",
-        "",
-    ),
-    (
-        "history large.avsc fieldless.avsc fieldless.avsc --certificates unwritten.cert",
-        2,
-        "large.avsc undecided Size\nfieldless.avsc yes\n",
-        "",
-    ),
-];
-
-#[test]
-fn histories_are_judged_confirmed_and_written(rt: HostRuntime) -> Result<(), Fail> {
-    for (file, text) in FILES {
-        fs::write(&rt, file, text)?;
-    }
-    fs::write(&rt, "big.avsc", &built(rt.alloc(), Text::Ints(2048))?)?;
-    fs::write(&rt, "large.avsc", &built(rt.alloc(), Text::Doubled(11))?)?;
-    check_rows(&rt, &RUNS)?;
-    for (file, text) in [("history.cert", TWO), ("mixed_yes.cert", MIXED)] {
-        let written = fs::read(&rt, file)?;
-        assert_eq!(rt; written.as_slice(), text.as_bytes(), "{file}");
-    }
-    assert!(rt; fs::read_to_string(&rt, "unwritten.cert").is_err());
-    Ok(())
-}
+/// The sheet, and how many runs it has.
+pub(crate) const SHEET: (&str, usize) = (
+    r##"
+file int.avsc "int"
+file wide.avsc "long"
+file string.avsc "string"
+file union.avsc ["long","string"]
+file old.avsc {"type":"record","name":"R","fields":[{"name":"a","type":"int"}]}
+file empty.avsc {"type":"record","name":"R","fields":[]}
+file new.avsc {"type":"record","name":"R","fields":[{"name":"a","type":"string","default":""}]}
+file open.avsc {
+file fieldless.avsc {"type":"record","name":"X","fields":[]}
+file two.cert history 1\napproval 1\npair 0 0\npair 0 1\nend\napproval 1\npair 0 0\npair 0 1\nend\nend\n
+file mixed.cert history 1\napproval 1\npair 0 0\npair 0 1\nend\napproval 1\npair 0 0\npair 0 2\nend\nend\n
+file cut.cert history 1\napproval 1\npair 0 0\npair 0 1\nend\n
+file great.cert history 1\napproval 1\ndead 4096\nend\nend\n
+built big.avsc ints 2048
+built large.avsc doubled 11
+run 0 history int.avsc wide.avsc union.avsc
+out int.avsc yes
+out wide.avsc yes
+run 1 history old.avsc empty.avsc new.avsc
+out old.avsc no
+out empty.avsc yes
+run 0 history old.avsc empty.avsc
+out old.avsc yes
+run 2 history big.avsc big.avsc
+out big.avsc undecided Pairs
+run 1 history big.avsc int.avsc big.avsc
+out big.avsc undecided Pairs
+out int.avsc no
+run 0 history int.avsc wide.avsc union.avsc --confirm two.cert
+out confirmed
+run 1 history --confirm two.cert wide.avsc union.avsc
+out not confirmed
+run 0 history int.avsc string.avsc union.avsc --confirm mixed.cert
+out confirmed
+run 1 history string.avsc --confirm mixed.cert int.avsc union.avsc
+out not confirmed
+run 3 history int.avsc union.avsc --confirm cut.cert
+err avro: cut.cert: G1
+run 3 history int.avsc union.avsc --confirm great.cert
+err avro: great.cert: G2
+run 3 history int.avsc open.avsc --confirm cut.cert
+err avro: open.avsc: S1
+run 4 history int.avsc union.avsc --confirm absent.cert
+err avro: absent.cert: cannot read
+run 4 history int.avsc union.avsc --certificates absent/out.cert
+out int.avsc yes
+err avro: absent/out.cert: cannot write
+run 0 history int.avsc wide.avsc union.avsc --certificates history.cert
+out int.avsc yes
+out wide.avsc yes
+run 0 history --certificates mixed_yes.cert int.avsc string.avsc union.avsc
+out int.avsc yes
+out string.avsc yes
+run 1 history old.avsc empty.avsc new.avsc --certificates unwritten.cert
+out old.avsc no
+out empty.avsc yes
+run 2 history big.avsc big.avsc --certificates unwritten.cert
+out big.avsc undecided Pairs
+run 2 history fieldless.avsc large.avsc fieldless.avsc --certificates unwritten.cert
+out fieldless.avsc yes
+out large.avsc undecided Size
+run 2 history large.avsc fieldless.avsc fieldless.avsc --certificates unwritten.cert
+out large.avsc undecided Size
+out fieldless.avsc yes
+holds history.cert history 1\napproval 1\npair 0 0\npair 0 1\nend\napproval 1\npair 0 0\npair 0 1\nend\nend\n
+holds mixed_yes.cert history 1\napproval 1\npair 0 0\npair 0 1\nend\napproval 1\npair 0 0\npair 0 2\nend\nend\n
+absent unwritten.cert
+"##,
+    20,
+);

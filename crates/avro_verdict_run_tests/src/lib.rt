@@ -21,8 +21,8 @@ mod modes;
 #[cfg(test)]
 mod program;
 #[cfg(test)]
-mod program_rows;
-#[cfg(test)]
 mod schema_command;
+#[cfg(test)]
+mod sheets;
 #[cfg(test)]
 mod written_files;
