@@ -1,8 +1,8 @@
 //! What fails at a pair of nodes itself.
 
-ghost use Rattle.std.specs.Prelude.{◌≡◌, ◌++◌, [], ◌∷◌, IfOk, OnOk};
-ghost use Rattle.avro_schema.specs.Node.{node_at};
-ghost use Rattle.avro_schema.specs.Seen.{node_of, seen_fields, field_of};
+ghost use Rattle.std.specs.Prelude.{◌≡◌, ◌++◌, [], ◌∷◌, IfOk, OnOk, unwrap_or};
+ghost use Rattle.avro_schema.specs.Node.{node_at, symbols_of};
+ghost use Rattle.avro_schema.specs.Seen.{node_of, seen_fields, field_of, texts_of};
 ghost use Rattle.avro_schema.specs.SeenSchema.{schema_nodes};
 ghost use Rattle.avro_compare.specs.Planned.{AreInside, AreSources, IsComparison};
 ghost use Rattle.avro_compare.specs.Source.{source_of};
@@ -10,7 +10,7 @@ ghost use Rattle.avro_explain.specs.Details.{details_of, details_of_kind, missin
 ghost use Rattle.avro_explain.specs.inside.Walks.{detail_for, untaken_from, untaken_one};
 
 use crate::found::Detail;
-use avro_compare::{Aim, Comparison, FaultKind, Names, source_kept};
+use avro_compare::{Aim, Comparison, FaultKind, Names, source_kept, symbol_kept};
 use avro_schema::{Field, Memory, Node};
 use std::alloc::Global;
 
@@ -47,7 +47,7 @@ fn details_of_nodes(
         _ => match pair.aim {
             Aim::Fault(kind) => one_detail(alloc, detail_of(kind)),
             Aim::To(Some(_), _) => Ok(Vec::new(alloc)),
-            Aim::To(None, _) => details_inside(alloc, n, q, pair),
+            Aim::To(None, _) => details_inside(alloc, names, n, q, pair),
         },
     }
 }
@@ -74,11 +74,14 @@ fn one_detail(alloc: Global, detail: Detail) -> Result<Vec<Detail>, Memory>
 /// What fails at two nodes that match and are no unions.
 fn details_inside(
     alloc: Global,
+    names: &Names,
     n: &Node,
     q: &Node,
     pair: &Comparison,
 ) -> Result<Vec<Detail>, Memory>
-    requires { AreInside (node_of n.now) (node_of q.now) pair.now }
+    requires inside { AreInside (node_of n.now) (node_of q.now) pair.now }
+    requires from { node_of n.now ≡ node_at (schema_nodes names.now.0) pair.now.w.0 }
+    requires to { node_of q.now ≡ node_at (schema_nodes names.now.1) pair.now.r.0 }
     ensures { IfOk result (λ found. found.items ≡ details_of_kind (node_of n.now) (node_of q.now)) }
 {
     match n {
@@ -90,8 +93,8 @@ fn details_inside(
             Node::Record(b) => missing_fields(alloc, &a.fields, &b.fields, &pair.sources),
             _ => Ok(Vec::new(alloc)),
         },
-        Node::Enum(_) => match q {
-            Node::Enum(_) => lacking_symbols(alloc, &pair.symbols),
+        Node::Enum(a) => match q {
+            Node::Enum(_) => lacking_symbols(alloc, names, &a.symbols, pair),
             _ => Ok(Vec::new(alloc)),
         },
         _ => Ok(Vec::new(alloc)),
@@ -134,13 +137,24 @@ fn add_missing(
     Ok(())
 }
 
-/// The writer's symbols that the reader's enum lacks, where it has no default.
-fn lacking_symbols(alloc: Global, symbols: &[Option<u32>]) -> Result<Vec<Detail>, Memory>
-    ensures { IfOk result (λ found. found.items ≡ untaken_from 0 symbols.now) }
+/// The writer's symbols that the reader's enum lacks, where it has no default. They are looked up only where it lacks one.
+fn lacking_symbols(
+    alloc: Global,
+    names: &Names,
+    symbols: &[String],
+    pair: &Comparison,
+) -> Result<Vec<Detail>, Memory>
+    requires inside { AreInside (node_at (schema_nodes names.now.0) pair.now.w.0) (node_at (schema_nodes names.now.1) pair.now.r.0) pair.now }
+    requires texts { texts_of symbols.now ≡ unwrap_or (symbols_of (node_at (schema_nodes names.now.0) pair.now.w.0)) [] }
+    ensures { IfOk result (λ found. found.items ≡ untaken_from (node_at (schema_nodes names.now.1) pair.now.r.0) 0 (texts_of symbols.now)) }
 {
     let mut found = Vec::new(alloc);
+    if !pair.lacks_symbol() {
+        return Ok(found);
+    }
     for index in 0..symbols.len() {
-        add_lacking(&mut found, symbols[index], index)?;
+        let symbol = symbol_kept(names, pair.w, pair.r, &pair.symbols, index);
+        add_lacking(&mut found, symbol, index)?;
     }
     Ok(found)
 }

@@ -2,6 +2,7 @@
 use Rattle.std.specs.Prelude.{◌≡◌, ◌≤◌, ℕ, suc, Bool, true, false, cond, List, [], ◌∷◌, ◌++◌, Option, Some, None, map, length, slice_get}
 use Rattle.avro_schema.specs.Distinct.{are_distinct}
 use Rattle.avro_schema.specs.Node.{Node}
+use Rattle.avro_compare.specs.Children.{lacks}
 use Rattle.avro_compare.specs.declared.error.FaultKind.{FaultKind}
 use Rattle.avro_certificate.specs.Closed.{same_pair, is_among, is_among_pairs}
 use Rattle.avro_certificate.specs.Evidence.{IsReached}
@@ -56,14 +57,15 @@ abbrev pub detail_for : FaultKind → Detail
 detail_for FaultKind.NoBranch = NoBranch
 detail_for _ = NoMatch
 
--- the symbols, from an index on, for which the reader has none
+-- a symbol for which the reader has none
 abbrev pub untaken_one : ℕ → Option ℕ → List Detail
 untaken_one index None = NoSymbol index ∷ []
 untaken_one index (Some k) = []
 
-abbrev pub untaken_from : ℕ → List (Option ℕ) → List Detail
-untaken_from index [] = []
-untaken_from index (s ∷ ss) = untaken_one index s ++ untaken_from (suc index) ss
+-- the symbols, from an index on, that a reader's node lacks
+abbrev pub untaken_from : Node → ℕ → List (List ℕ) → List Detail
+untaken_from q index [] = []
+untaken_from q index (s ∷ ss) = cond (lacks q s) (NoSymbol index ∷ []) [] ++ untaken_from q (suc index) ss
 
 -- the steps that a step is in the writer's schema, and in the reader's
 abbrev pub writer_steps : Step → List PathStep

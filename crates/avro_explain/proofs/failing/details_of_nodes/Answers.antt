@@ -46,8 +46,8 @@ returns-in-To-None-default c =
     let is = sym (told writer reader n pair.r q (To None here.field-1) (plain_kept c.args.n.now c.in_default.not-Union) (sym aims ∙ own)) in
     subst (λ (ds : List Detail). IfOk c.details_inside.result (λ found. found.items ≡ ds)) is c.details_inside.ensures
 
-pub details_inside-requires : goal.details_inside-requires
-details_inside-requires c =
+pub details_inside-requires-clause-inside : goal.details_inside-requires-clause-inside
+details_inside-requires-clause-inside c =
     let here = c.in-To-None-default in
     let own : c.args.pair.now.aim ≡ To None here.field-1 = search rules in
     inside_of (schema_nodes c.args.names.now.0) (schema_nodes c.args.names.now.1) c.args.pair.now (node_of c.args.n.now) (node_of c.args.q.now) c.requires.pair c.requires.from c.requires.to here.field-1 own
