@@ -32,6 +32,29 @@ fn built_step<R: Files + AllocGlobal>(rt: &R, name: &str, rest: &str) -> Result<
     Ok(true)
 }
 
+/// Puts a text behind what a file holds, so many times, `NAME NUMBER TEXT`. The first `#` of the text stands for the
+/// number of the time.
+fn add_step<R: Files + AllocGlobal>(rt: &R, name: &str, rest: &str) -> Result<bool, Fail> {
+    let (count, escaped) = halves(rest);
+    let Ok(count) = count.parse::<u32>() else {
+        return Ok(false);
+    };
+    let part = text_of(rt.alloc(), escaped)?;
+    let (front, back) = part.split_once('#').unwrap_or((part.as_str(), ""));
+    let is_numbered = front.len() < part.len();
+    let mut bytes = fs::read(rt, name)?;
+    for time in 1..=count {
+        bytes.extend_from_slice(front.as_bytes())?;
+        if is_numbered {
+            let number = time.to_string(rt.alloc())?;
+            bytes.extend_from_slice(number.as_bytes())?;
+        }
+        bytes.extend_from_slice(back.as_bytes())?;
+    }
+    fs::write(rt, name, &bytes)?;
+    Ok(true)
+}
+
 /// Whether a file holds this number of lines.
 fn has_lines<R: Files + AllocGlobal>(rt: &R, name: &str, count: &str) -> Result<bool, Fail> {
     let text = fs::read_to_string(rt, name)?;
@@ -48,6 +71,7 @@ pub(crate) fn file_step<R: Files + AllocGlobal>(
     let name = text_of(rt.alloc(), escaped)?;
     match word {
         "file" => fs::write(rt, &name, &bytes_of(rt.alloc(), rest)?)?,
+        "add" => return add_step(rt, &name, rest),
         "built" => return built_step(rt, &name, rest),
         "folder" => fs::create_dir(rt, &name)?,
         "hard" => fs::hard_link(rt, &name, rest)?,

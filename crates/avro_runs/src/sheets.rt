@@ -66,6 +66,7 @@ fn fault(line: &str, sheet: &Sheet) -> Fail {
 /// |---|---|
 /// | `# TEXT` | nothing |
 /// | `file NAME BYTES`, `folder NAME`, `hard FROM TO`, `soft FROM TO` | makes a file, a folder, a link |
+/// | `add NAME NUMBER TEXT` | puts a text behind a file's, so many times, with the number of the time in place of a `#` |
 /// | `built NAME KIND NUMBER` | makes a file of a sample schema |
 /// | `input BYTES` | the standard input of later runs |
 /// | `run STATUS WORDS` | a run, with its exit status |

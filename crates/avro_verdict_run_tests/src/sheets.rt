@@ -1,30 +1,62 @@
 //! The sheets of runs: each line of them holds, and they have as many runs as they say.
 
 use crate::{
-    certificate_files, explained, histories, json_faults, json_verdicts, kept_files, limit_options,
-    modes, program, schema_command, written_files,
+    all_faults, canonical_forms, certificate_files, certificate_texts, defaults, explained,
+    histories, json_faults, json_verdicts, judged, judged_ties, kept_files, limit_options, modes,
+    program, schema_command, schema_texts, written_files,
 };
 use avro_runs::check_sheet;
 use std::test::Fail;
 
-/// The sheets, and how many runs they have.
-const SHEETS: [(&str, usize); 11] = [
+/// The sheets of words, files and options, and how many runs they have.
+const COMMANDS: [(&str, usize); 7] = [
     program::SHEET,
     kept_files::SHEET,
     written_files::SHEET,
     schema_command::SHEET,
-    explained::SHEET,
-    certificate_files::SHEET,
-    histories::SHEET,
-    modes::SHEET,
     limit_options::SHEET,
     json_verdicts::SHEET,
     json_faults::SHEET,
 ];
 
 #[test]
-fn each_line_holds(rt: HostRuntime) -> Result<(), Fail> {
-    for (lines, runs) in SHEETS {
+fn commands_are_told(rt: HostRuntime) -> Result<(), Fail> {
+    for (lines, runs) in COMMANDS {
+        check_sheet(&rt, lines, runs)?;
+    }
+    Ok(())
+}
+
+/// The sheets of schemas and of all faults of two, and how many runs they have.
+const SCHEMAS: [(&str, usize); 5] = [
+    schema_texts::SHEET,
+    canonical_forms::SHEET,
+    defaults::SHEET,
+    explained::SHEET,
+    all_faults::SHEET,
+];
+
+#[test]
+fn schemas_are_told(rt: HostRuntime) -> Result<(), Fail> {
+    for (lines, runs) in SCHEMAS {
+        check_sheet(&rt, lines, runs)?;
+    }
+    Ok(())
+}
+
+/// The sheets of verdicts, certificates and histories, and how many runs they have.
+const VERDICTS: [(&str, usize); 6] = [
+    judged::SHEET,
+    judged_ties::SHEET,
+    certificate_files::SHEET,
+    certificate_texts::SHEET,
+    histories::SHEET,
+    modes::SHEET,
+];
+
+#[test]
+fn verdicts_are_told(rt: HostRuntime) -> Result<(), Fail> {
+    for (lines, runs) in VERDICTS {
         check_sheet(&rt, lines, runs)?;
     }
     Ok(())

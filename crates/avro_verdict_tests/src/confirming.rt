@@ -1,6 +1,6 @@
 //! Certificates of approvals.
 
-use avro_judge::{Certificate, JudgeLimits, Verdict, confirm, judge};
+use avro_judge::{Certificate, confirm};
 use avro_schema_json::read_schema;
 use std::alloc::Global;
 use std::test::Fail;
@@ -34,39 +34,45 @@ const TWO: &str =
 /// The same with the first field alone, as a long.
 const ONE: &str = r#"{"type":"record","name":"R","fields":[{"name":"a","type":"long"}]}"#;
 
-/// Pairs of schemas, and the certificate of their approval.
-const ROWS: [(&str, &str, &str); 6] = [
-    (TWO, ONE, "approval 1\npair 0 0\npair 1 1\nend\n"),
+/// Pairs of schemas, certificates, and the certificate of the approval that they confirm, or nothing where they confirm
+/// none: those that are not closed.
+const GIVEN: [(&str, &str, &str, &str); 13] = [
+    (
+        TWO,
+        ONE,
+        "approval 1\npair 0 0\npair 1 1\nend\n",
+        "approval 1\npair 0 0\npair 1 1\nend\n",
+    ),
     (
         INT_LIST,
         LONG_LIST,
+        "approval 1\npair 0 0\npair 0 2\npair 1 1\npair 2 2\npair 3 2\npair 3 3\nend\n",
         "approval 1\npair 0 0\npair 0 2\npair 1 1\npair 2 2\npair 3 2\npair 3 3\nend\n",
     ),
     (
         HALF_DEAD,
         r#""long""#,
         "approval 1\ndead 2\npair 0 0\npair 1 0\nend\n",
+        "approval 1\ndead 2\npair 0 0\npair 1 0\nend\n",
     ),
     (
         r#""int""#,
         r#"["null","long","int"]"#,
+        "approval 1\npair 0 0\npair 0 2\nend\n",
         "approval 1\npair 0 0\npair 0 2\nend\n",
     ),
     (
         TEXT,
         SWAPPED,
         "approval 1\npair 0 0\npair 1 2\npair 2 1\nend\n",
+        "approval 1\npair 0 0\npair 1 2\npair 2 1\nend\n",
     ),
     (
         MAPS,
         MAPS_OF_LONGS,
         "approval 1\npair 0 0\npair 1 1\npair 2 2\npair 3 2\npair 3 4\npair 4 2\npair 4 3\nend\n",
+        "approval 1\npair 0 0\npair 1 1\npair 2 2\npair 3 2\npair 3 4\npair 4 2\npair 4 3\nend\n",
     ),
-];
-
-/// Pairs of schemas, certificates, and the certificate of the approval that they confirm, or nothing where they confirm
-/// none: those that are not closed.
-const GIVEN: [(&str, &str, &str, &str); 7] = [
     (
         TWO,
         ONE,
@@ -112,32 +118,11 @@ fn confirmed_text(alloc: Global, writer: &str, reader: &str, given: &str) -> Res
     }
 }
 
-/// The certificate of the approval of a verdict.
-fn judged_text(alloc: Global, writer: &str, reader: &str) -> Result<Vec<u8>, Fail> {
-    let writer = read_schema(alloc, writer.as_bytes())?;
-    let reader = read_schema(alloc, reader.as_bytes())?;
-    match judge(alloc, &writer, &reader, &JudgeLimits::default())? {
-        Verdict::Approved(judged) => Ok(judged.certificate(alloc)?.write(alloc)?),
-        _ => Err(Fail::new("the pair is not approved")),
-    }
-}
-
 #[test]
 fn certificates_confirm_where_they_are_closed(rt: HostRuntime) -> Result<(), Fail> {
     for (writer, reader, given, text) in GIVEN {
         let confirmed = confirmed_text(rt.alloc(), writer, reader, given)?;
         assert_eq!(rt; confirmed.as_slice(), text.as_bytes(), "{given}");
-    }
-    Ok(())
-}
-
-#[test]
-fn approvals_have_their_certificates(rt: HostRuntime) -> Result<(), Fail> {
-    for (writer, reader, text) in ROWS {
-        let judged = judged_text(rt.alloc(), writer, reader)?;
-        assert_eq!(rt; judged.as_slice(), text.as_bytes(), "{text}");
-        let confirmed = confirmed_text(rt.alloc(), writer, reader, text)?;
-        assert_eq!(rt; confirmed.as_slice(), text.as_bytes(), "{text}");
     }
     Ok(())
 }

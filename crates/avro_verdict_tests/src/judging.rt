@@ -1,50 +1,11 @@
-use crate::judging_rows::{EQUALS, ROWS};
-use avro_answer::{Form, judge_text};
+//! What approvals read.
+
 use avro_binary::Tree;
 use avro_judge::{Approved, JudgeLimits, Verdict, confirm, judge};
 use avro_schema::Limits;
 use avro_schema_json::read_schema;
 use std::alloc::{AllocError, Global};
 use std::test::Fail;
-
-/// The verdict of two schemas' texts, as the program prints it.
-pub(crate) fn verdict(
-    alloc: Global,
-    writer: &str,
-    reader: &str,
-    limits: &JudgeLimits,
-) -> Result<String, Fail> {
-    match judge_text(
-        alloc,
-        writer.as_bytes(),
-        reader.as_bytes(),
-        limits,
-        Form::Text,
-    ) {
-        Ok(answer) => text_of(alloc, &answer.text),
-        Err(_) => Err(Fail::new("a text is refused")),
-    }
-}
-
-/// A text of these bytes.
-pub(crate) fn text_of(alloc: Global, bytes: &[u8]) -> Result<String, Fail> {
-    match str::from_utf8(bytes) {
-        Ok(text) => Ok(String::from_str(alloc, text)?),
-        Err(_) => Err(Fail::new("an answer is no text")),
-    }
-}
-
-#[test]
-fn pairs_of_all_kinds_are_judged(rt: HostRuntime) -> Result<(), Fail> {
-    for rows in [&ROWS[..], &EQUALS[..]] {
-        for row in rows {
-            let (writer, reader, text) = *row;
-            let found = verdict(rt.alloc(), writer, reader, &JudgeLimits::default())?;
-            assert_eq!(rt; found.as_str(), text, "{writer} {reader}");
-        }
-    }
-    Ok(())
-}
 
 /// Pairs of schemas that are approved, a writer's bytes, and what is read: the datum and the length, or the refusal.
 const READ: [(&str, &str, &[u8], &str); 8] = [

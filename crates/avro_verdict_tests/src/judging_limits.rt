@@ -1,19 +1,11 @@
 //! Verdicts at the limits of judging, and beyond them.
 
-use crate::judging::{text_of, verdict};
-use avro_answer::{Form, judge_schemas};
+use avro_answer::{Form, judge_schemas, judge_text};
 use avro_judge::JudgeLimits;
 use avro_schema::{Draft, Limits, Node, Schema};
 use avro_schema_json::read_schema;
 use std::alloc::Global;
 use std::test::Fail;
-
-/// A union of two records, of which the second is as large and less deep.
-const SHALLOWER: &str =
-    r#"[{"type":"record","name":"C","fields":[{"name":"f","type":{"type":"record","name":"D","fields":[{"name":"f","type":{"type":"record","name":"E","fields":[]}}]}}]},{"type":"record","name":"G","fields":[{"name":"a","type":"E"},{"name":"b","type":"E"}]}]"#;
-
-/// A record of one int.
-const ONE: &str = r#"{"type":"record","name":"R","fields":[{"name":"x","type":"int"}]}"#;
 
 const INT: &str = r#""int""#;
 
@@ -24,51 +16,32 @@ const FIXED_AND_INT: &str =
 const FIXED_AND_STRING: &str =
     r#"{"type":"record","name":"R","fields":[{"name":"f","type":{"type":"fixed","name":"F","size":2}},{"name":"x","type":"string"}]}"#;
 
-/// Writers and readers, limits of depth, size and pairs, and the verdict. Contents have no limit.
-const ROWS: [(&str, &str, (u32, u32, u32), &str); 7] = [
-    (
-        SHALLOWER,
-        INT,
-        (3, 4096, 4_194_304),
-        "no\nfault NoMatch at /0\nnodes 4\ndatum {\"G\":{\"a\":{},\"b\":{}}}\n",
-    ),
-    (SHALLOWER, INT, (2, 4096, 4_194_304), "undecided Depth\n"),
-    (SHALLOWER, INT, (3, 3, 4_194_304), "undecided Size\n"),
-    (ONE, INT, (128, 4096, 1), "undecided Pairs\n"),
-    (
-        ONE,
-        INT,
-        (128, 2, 2),
-        "no\nfault NoMatch at /\nnodes 2\ndatum {\"x\":0}\n",
-    ),
-    (ONE, ONE, (1, 1, 4), "yes\n"),
-    (
-        FIXED_AND_INT,
-        FIXED_AND_STRING,
-        (128, 4096, 4_194_304),
-        "no\nfault NoMatch at /1\nnodes 3\ndatum {\"f\":\"\\u0000\\u0000\",\"x\":0}\n",
-    ),
-];
+/// A text of these bytes.
+fn text_of(alloc: Global, bytes: &[u8]) -> Result<String, Fail> {
+    match str::from_utf8(bytes) {
+        Ok(text) => Ok(String::from_str(alloc, text)?),
+        Err(_) => Err(Fail::new("an answer is no text")),
+    }
+}
 
-/// A verdict at limits of depth, size and pairs, of data without contents.
-fn verdict_at(
-    alloc: Global,
-    writer: &str,
-    reader: &str,
-    numbers: (u32, u32, u32),
-) -> Result<String, Fail> {
-    let (depth, size, pairs) = numbers;
-    let limits = Limits::new(depth, 1_048_576, 1).ok_or("limits")?;
-    let limits = JudgeLimits::new(pairs, size, limits).ok_or("limits of judging")?;
-    verdict(alloc, writer, reader, &limits)
+/// The verdict of two schemas' texts, at limits of data without contents.
+fn verdict_without_contents(alloc: Global, writer: &str, reader: &str) -> Result<String, Fail> {
+    let limits = Limits::new(128, 1_048_576, 1).ok_or("limits")?;
+    let limits = JudgeLimits::new(4_194_304, 4096, limits).ok_or("limits of judging")?;
+    let (writer, reader) = (writer.as_bytes(), reader.as_bytes());
+    match judge_text(alloc, writer, reader, &limits, Form::Text) {
+        Ok(answer) => text_of(alloc, &answer.text),
+        Err(_) => Err(Fail::new("a text is refused")),
+    }
 }
 
 #[test]
-fn limits_are_exact(rt: HostRuntime) -> Result<(), Fail> {
-    for (writer, reader, numbers, text) in ROWS {
-        let found = verdict_at(rt.alloc(), writer, reader, numbers)?;
-        assert_eq!(rt; found.as_str(), text, "{writer} {reader}");
-    }
+fn contents_have_no_limit(rt: HostRuntime) -> Result<(), Fail> {
+    let found = verdict_without_contents(rt.alloc(), FIXED_AND_INT, FIXED_AND_STRING)?;
+    assert_eq!(rt;
+        found.as_str(),
+        "no\nfault NoMatch at /1\nnodes 3\ndatum {\"f\":\"\\u0000\\u0000\",\"x\":0}\n"
+    );
     Ok(())
 }
 

@@ -1,5 +1,5 @@
-//! Tests of resolution and verdicts: worked rows of reading, judging, certificates, histories and all faults, and of what
-//! is answered of texts.
+//! Tests of resolution and verdicts: worked rows of reading, approvals, certificates and histories, and of what is answered
+//! of texts.
 #![tactic(auto)]
 
 #[cfg(test)]
@@ -9,15 +9,11 @@ mod certificates;
 #[cfg(test)]
 mod confirming;
 #[cfg(test)]
-mod explaining;
-#[cfg(test)]
 mod history;
 #[cfg(test)]
 mod judging;
 #[cfg(test)]
 mod judging_limits;
-#[cfg(test)]
-mod judging_rows;
 #[cfg(test)]
 mod resolving;
 #[cfg(test)]
