@@ -14,3 +14,4 @@ pub mod MapEntries
 pub mod RecordSlots
 pub mod OnePass
 pub mod Knowing
+pub mod Aiming

@@ -7,9 +7,10 @@ use Rattle.avro_schema.specs.declared.schema.NodeId.{NodeId}
 use Rattle.avro_compare.specs.Fault.{ResolutionFault}
 use Rattle.avro_resolve.specs.Ends.{turned, SlotsAre, AllBelow, values_before, entries_before, before}
 use Rattle.avro_compare.specs.Planned.{AreFor}
-use Rattle.avro_compare.specs.Pairs.{wrapped, item_id, value_id, branch_id, field_for}
+use Rattle.avro_compare.specs.Pairs.{IsAim, wrapped, item_id, value_id, branch_id, field_for}
 use Rattle.avro_compare.specs.Resolve.{Resolved, Sourced, resolve, resolve_items, resolve_entries, resolve_sources, fields_at, result_map, through}
 use Rattle.avro_compare.specs.Source.{missing_field}
+use Rattle.avro_compare.specs.declared.guided.Aim.TheVariants.{To}
 use Rattle.avro_compare.specs.declared.guided.At.{At}
 use Rattle.avro_compare.specs.declared.guided.At.TheVariants.{Ignored, Pair}
 use Rattle.avro_resolve.specs.declared.resolving.guided.Made.{Made}
@@ -161,6 +162,12 @@ abbrev pub KnowsFields : {O F : Type 0} → List Node → List Node → Slots O 
 KnowsFields writer reader (Slots.Good slots start branch a b) known = AreFor (fields_at (node_at writer a.0)) (fields_at (node_at reader b.0)) known
 KnowsFields writer reader (Slots.Faulty fault) known = Unit {0}
 KnowsFields writer reader Slots.Nothing known = Unit {0}
+
+-- Two nodes lead to each other, no field is missing, and of the writer's first fields it is known what they are for.
+pub record IsWhole (writer reader : List Node) (w r : NodeId) (known : List At) : Type 0 where
+  pub leads : IsAim writer reader (node_at writer w.0) (node_at reader r.0) (To None r)
+  pub complete : missing_field (fields_at (node_at writer w.0)) (fields_at (node_at reader r.0)) ≡ None
+  pub fields : AreFor (fields_at (node_at writer w.0)) (fields_at (node_at reader r.0)) known
 
 -- what is kept, and else what follows
 abbrev pub kept_or : {A : Type 0} → Option A → A → A

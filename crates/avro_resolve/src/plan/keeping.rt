@@ -5,7 +5,7 @@ ghost use Rattle.avro_compare.specs.Pairs.{IsAim, IsSymbol, field_for};
 ghost use Rattle.avro_compare.specs.Planned.{AreInside, AreComparisons, AreFor, AreSources, IsComparison};
 ghost use Rattle.avro_compare.specs.Resolve.{enum_as, fields_at, symbol_at};
 ghost use Rattle.avro_compare.specs.Source.{missing_field};
-ghost use Rattle.avro_resolve.specs.inside.Guided.{kept_or};
+ghost use Rattle.avro_resolve.specs.inside.Guided.{IsWhole, kept_or};
 
 use avro_compare::{Aim, At, Comparison, aim, fields_of, missing, part_for, symbol_for};
 use avro_schema::{NodeId, Schema};
@@ -79,6 +79,25 @@ pub(crate) fn missing_kept(
     match inside_of(pairs, index, w, q) {
         Some(pair) => pair.missing,
         None => missing(fields_of(writer, w), fields_of(reader, q)),
+    }
+}
+
+/// What the writer's first fields are for, as it is kept at an index, where the two nodes lead to each other and no field is missing.
+#[inline(always)]
+pub(crate) fn whole_kept(pairs: &[Comparison], index: u32, w: NodeId, r: NodeId) -> Option<&[At]>
+    ensures { (writer reader : List Node) → AreComparisons writer reader pairs.now
+        → IfSome result (λ known. IsWhole writer reader w r known.now) }
+{
+    match pair_of(pairs, index, w, r) {
+        Some(pair) => match pair.aim {
+            Aim::To(None, _) => match pair.missing {
+                None => Some(&pair.fields),
+                Some(_) => None,
+            },
+            Aim::To(Some(_), _) => None,
+            Aim::Fault(_) => None,
+        },
+        None => None,
     }
 }
 

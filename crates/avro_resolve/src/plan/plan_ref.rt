@@ -3,7 +3,7 @@ ghost use Rattle.avro_resolve.specs.inside.Guided.{kept_or};
 
 use crate::error::ReadResolveError;
 use crate::plan::keeping::{
-    aim_kept, field_kept, fields_kept, missing_kept, sources_kept, symbol_kept,
+    aim_kept, field_kept, fields_kept, missing_kept, sources_kept, symbol_kept, whole_kept,
 };
 use crate::plan::parts::{branch_of, items_of, values_of};
 use crate::put::Put;
@@ -42,10 +42,10 @@ impl<'a> Model for PlanRef<'a> {
 }
 
 impl<'a> PlanRef<'a> {
-    ghost use Rattle.std.specs.Prelude.{◌≡◌, IfOk, slice_get};
+    ghost use Rattle.std.specs.Prelude.{◌≡◌, IfOk, IfSome, slice_get};
     ghost use Rattle.avro_schema.specs.Node.{node_at};
     ghost use Rattle.avro_schema.specs.SeenSchema.{schema_nodes};
-    ghost use Rattle.avro_resolve.specs.inside.Guided.{branch_part, kept_or};
+    ghost use Rattle.avro_resolve.specs.inside.Guided.{IsWhole, branch_part, kept_or};
     ghost use Rattle.avro_compare.specs.Pairs.{IsAim, IsSymbol, field_for, item_id, value_id, branch_id};
     ghost use Rattle.avro_compare.specs.Planned.{AreComparisons, AreFor, AreSources};
     ghost use Rattle.avro_resolve.specs.Reading.{BuildsResolved};
@@ -215,6 +215,14 @@ impl<'a> PlanRef<'a> {
         ensures { result ≡ missing_field (fields_at (node_at (schema_nodes self.now.0) w.0)) (fields_at (node_at (schema_nodes self.now.1) q.0)) }
     {
         missing_kept(self.pairs, index, self.writer, w, self.reader, q)
+    }
+
+    /// What the writer's first fields are for, where two nodes lead to each other, no field is missing, and this is kept.
+    #[inline(always)]
+    pub(crate) fn whole(&self, index: u32, w: NodeId, r: NodeId) -> Option<&'a [At]>
+        ensures { IfSome result (λ known. IsWhole (schema_nodes self.now.0) (schema_nodes self.now.1) w r known.now) }
+    {
+        whole_kept(self.pairs, index, w, r)
     }
 
     /// What the writer's first fields are for, as many as are kept.

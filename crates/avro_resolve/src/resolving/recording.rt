@@ -15,7 +15,41 @@ use avro_compare::{Aim, At, FaultKind, fields_of};
 use std::alloc::{AllocError, Global};
 
 /// What was made of no fields, and what is known of the first.
+#[inline(always)]
 pub(crate) fn start_filling<'a, P: Put>(
+    alloc: Global,
+    builder: &mut P,
+    plan: &PlanRef<'a>,
+    part: Part,
+) -> Result<Filling<'a, P::Out, P::Fields>, AllocError>
+    ensures kept { OnOk result (P.keeps builder.old builder.new) }
+    ensures stands { (nodes : List Node) (fs : List FieldNode) → IfOk result (λ filling. FillsAs (P.stands_for builder.new) (P.fields_stand_for builder.new) (schema_nodes plan.now.0) (schema_nodes plan.now.1) nodes fs part.at filling []) }
+{
+    match part.at {
+        At::Ignored => start_apart(alloc, builder, plan, part),
+        At::Pair(w, r) => {
+            let index = plan.index_of(part);
+            match plan.whole(index, w, r) {
+                Some(known) => {
+                    let slots = builder.slots(alloc);
+                    let fields = builder.fields(alloc, None)?;
+                    let parts = plan.parts(index);
+                    Ok(Filling {
+                        slots: Slots::Good(slots, fields, None, w, r),
+                        index,
+                        known,
+                        parts,
+                    })
+                }
+                None => start_apart(alloc, builder, plan, part),
+            }
+        }
+    }
+}
+
+/// The same of any two nodes, step by step.
+#[inline(always)]
+fn start_apart<'a, P: Put>(
     alloc: Global,
     builder: &mut P,
     plan: &PlanRef<'a>,
