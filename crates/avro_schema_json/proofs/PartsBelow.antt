@@ -1,5 +1,5 @@
 -- Where a union may begin for an object, by what is below its branches.
-use Rattle.std.proofs.Common.{rules, ◌≡◌, ℕ, zero, suc, ◌+◌, ◌-◌, ◌*◌, ◌<◌, ◌≤◌, ◌==◌, drop, ◌⊎◌, inl, inr, Bool, true, false, ◌&&◌, ◌||◌, cond, List, [], ◌∷◌, ◌++◌, length, Option, Some, None, option_map, option_and_then, add-one, Bor, get_or, refl, sym, ap, subst, ◌∙◌, arith, Ordering, Less, Equal, Greater}
+use Rattle.std.proofs.Common.{rules, ◌≡◌, ℕ, zero, suc, ◌+◌, ◌-◌, ◌*◌, ◌<◌, ◌≤◌, ◌==◌, drop, ◌⊎◌, inl, inr, Bool, true, false, ◌&&◌, ◌||◌, cond, List, [], ◌∷◌, ◌++◌, length, Option, Some, None, option_map, add-one, Bor, get_or, refl, sym, ap, subst, ◌∙◌, arith, Ordering, Less, Equal, Greater}
 use Rattle.std.specs.Prelude.{max, slice_get, String, string_bytes, bytes_eq}
 use Rattle.std.specs.declared.alloc.Global.{Global}
 use Rattle.std.specs.List.{list_all, list_any}
@@ -8,14 +8,13 @@ use Rattle.std.specs.Ordering.{nat_cmp, is_eq}
 use Rattle.std.specs.Cmp.Lexicographic.{slice_cmp}
 use Rattle.std.specs.BTreeMap.{BTreeMap}
 use Rattle.std.proofs.Math.Nat.{max-eq_left, max-eq_right}
-use Rattle.std.proofs.lemmas.Bool.{false≢true, false_from_ne_true}
+use Rattle.std.proofs.lemmas.Bool.{false≢true}
 use Rattle.std.proofs.lemmas.Bool.Decides.{Decides-eqb}
 use Rattle.std.proofs.lemmas.Map.Text.{is_eq-slice_cmp}
 use Rattle.std.proofs.lemmas.Slice.Eq.{bytes_eq-Decides}
 use Rattle.avro_name.specs.Name.{Name}
 use Rattle.avro_schema.specs.Node.{Node, FieldNode, node_at}
 use Rattle.avro_schema.specs.Seen.{ids_of}
-use Rattle.avro_schema.specs.Value.{Value}
 use Rattle.avro_schema.specs.declared.schema.NodeId.{NodeId}
 use Rattle.serde_json.specs.Data.{Data, Items, Members, no_members, member}
 use Rattle.serde_json.specs.Find.{get_member}
@@ -23,11 +22,10 @@ use Rattle.serde_json.specs.View.{view, number_view, items_view, members_view}
 use Rattle.serde_json.specs.declared.number.Number.{Number}
 use Rattle.serde_json.specs.declared.value.Value.{Value as Tree, the_lemmas}
 use Rattle.serde_json.proofs.Views.{Entry}
-use Rattle.avro_schema_json.specs.DeclaredDefaults.{default_of, each_default, entries_default, member_keys, names_only}
-use Rattle.avro_schema_json.specs.inside.BranchKeys.{fields_key, members_key, find_word, kind_key, field_key, part_key, any_field, any_below, has_part, SkipsPart, ArePartsSkipped, IsTable, FitsNoneBefore}
+use Rattle.avro_schema_json.specs.DeclaredDefaults.{default_of, each_default, entries_default, member_keys}
+use Rattle.avro_schema_json.specs.inside.BranchKeys.{fields_key, members_key, find_word, kind_key, field_key, part_key, any_field, any_below, has_part, SkipsPart, ArePartsSkipped}
 use Rattle.avro_schema_json.specs.inside.OwnDefaults.{own_default, default_of_fields}
-use Rattle.avro_schema_json.specs.inside.Parts.{IsBelow, FitsNoPartBefore, FitsNoRecordBefore}
-use Rattle.avro_schema_json.specs.declared.defaults.union_table.UnionTable.{UnionTable}
+use Rattle.avro_schema_json.specs.inside.Parts.{IsBelow, FitsNoPartBefore}
 use Rattle.avro_schema_json.proofs.DefaultsSeen.{drop_past}
 use Rattle.avro_schema_json.proofs.DefaultSteps.{drop_at, field_at-found}
 use Rattle.avro_schema_json.proofs.MisfitsSeen.{field-misfit, field-missing, other-keys, item-misfit}

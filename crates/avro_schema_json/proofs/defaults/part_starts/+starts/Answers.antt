@@ -1,4 +1,4 @@
-use Rattle.std.proofs.Common.{◌≡◌, ◌<◌, length, get_or, refl, subst, rules, arith, inl, inr, sym, ap, ◌∙◌, option_map, Some}
+use Rattle.std.proofs.Common.{◌≡◌, ◌<◌, refl, subst, rules, arith, inl, inr, sym, ap, ◌∙◌, option_map, Some}
 use Rattle.avro_schema.specs.Node.{Node, node_at}
 use Rattle.std.specs.Prelude.{string_bytes}
 use Rattle.serde_json.specs.Data.{Data}
