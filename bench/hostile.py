@@ -260,6 +260,46 @@ def empties(count):
     return of_union(of_all + [{"type": "record", "name": "L", "fields": []}], {})
 
 
+def alike(count, item, field):
+    """The same of objects, of at most this many records that differ in a fixed of their own each, and one with int in its place."""
+    def record(k, leaf):
+        return {"type": "record", "name": "R%d" % k, "fields": field(k, leaf)}
+    def text(size):
+        most = min(count, size // 400)
+        return of_union([record(k, fixed("F%d" % k)) for k in range(most)] + [record(most, "int")], item)(size)
+    return text
+
+
+def plain_fields(names):
+    """Fields of int, the last of another type."""
+    return lambda k, leaf: [{"name": name, "type": leaf if name == names[-1] else "int"} for name in names]
+
+
+def inside(field, around):
+    """A field `a` of what is around another."""
+    return lambda k, leaf: [{"name": "a", "type": around(k, field(k, leaf))}]
+
+
+def leaf_of(k, leaf):
+    """A type itself."""
+    return leaf
+
+
+def in_array(k, inner):
+    """An array of a type."""
+    return {"type": "array", "items": inner}
+
+
+def in_map(k, inner):
+    """A map of a type."""
+    return {"type": "map", "values": inner}
+
+
+def in_record(k, fields):
+    """A record of fields, of its own for each branch."""
+    return {"type": "record", "name": "I%d" % k, "fields": fields}
+
+
 def wide(count, item, last):
     """The same of this many fixeds of one byte and a last branch."""
     return of_union([fixed("F%d" % k) for k in range(count)] + [last], item)
@@ -295,6 +335,13 @@ KINDS = {
     "look-alikes 1000 in 25": look_alikes(1000, 25),
     "wide numbers": wide(2000, 7, "int"), "wide texts": wide(2000, "ab", "string"), "wide objects": empties(2000),
     "wide symbols": enums(2000, "a1999"), "one long text": long_text(1000),
+    "alike": alike(1000, {"a": 1, "b": 2}, plain_fields("ab")),
+    "alike in two": alike(1000, {"a": 1, "b": 2, "c": 3}, plain_fields("abc")),
+    "alike arrays": alike(1000, {"a": [7]}, inside(leaf_of, in_array)),
+    "alike maps": alike(1000, {"a": {"k": 7}}, inside(leaf_of, in_map)),
+    "alike in a record": alike(1000, {"a": {"a": 1, "b": 2}}, inside(plain_fields("ab"), in_record)),
+    "alike arrays in a record": alike(1000, {"a": {"a": [7]}}, inside(inside(leaf_of, in_array), in_record)),
+    "alike in an array": alike(800, {"a": [{"a": 1, "b": 2}]}, inside(lambda k, leaf: in_record(k, plain_fields("ab")(k, leaf)), in_array)),
 }
 
 

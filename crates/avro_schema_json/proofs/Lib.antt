@@ -21,3 +21,4 @@ pub mod DefaultsFit
 pub mod RepeatsSeen
 pub mod TablesSeen
 pub mod RecordsSeen
+pub mod PartsBelow

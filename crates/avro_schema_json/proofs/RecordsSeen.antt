@@ -31,7 +31,7 @@ use Rattle.serde_json.specs.declared.value.Value.{Value as Tree}
 -- ---- objects
 
 -- JSON of one kind is no default of a node of another, unless this is a union
-no_kind : (nodes : List Node) (d : Data) (n : Node) → (field_key n ≡ kind_key d → ⊥) → (field_key n ≡ 6 → ⊥) → default_of nodes d n ≡ None
+pub no_kind : (nodes : List Node) (d : Data) (n : Node) → (field_key n ≡ kind_key d → ⊥) → (field_key n ≡ 6 → ⊥) → default_of nodes d n ≡ None
 no_kind nodes Data.null Node.null h u = absurd (h refl)
 no_kind nodes Data.null Node.boolean h u = refl
 no_kind nodes Data.null Node.int h u = refl
@@ -286,7 +286,7 @@ pub firsts_end : (nodes : List Node) (ids : List NodeId) (kind : ℕ) (names : B
     → (word : List ℕ) → SkipsFirst nodes (ids_of ids) kind word 0 (unwrap_or (find_word names word) (length ids))
 firsts_end nodes ids kind names left is good word = λ j id from below at. good word j id (omega (arith, is)) below at
 
-last_names : (records : List (BTreeMap (Bor (List ℕ)) ℕ)) (last : BTreeMap (Bor (List ℕ)) ℕ) (m : ℕ) (names : BTreeMap (Bor (List ℕ)) ℕ)
+pub last_names : (records : List (BTreeMap (Bor (List ℕ)) ℕ)) (last : BTreeMap (Bor (List ℕ)) ℕ) (m : ℕ) (names : BTreeMap (Bor (List ℕ)) ℕ)
     → slice_get (records ++ last ∷ []) m ≡ Some names → (slice_get records m ≡ Some names) ⊎ ((m ≡ length records) × (last ≡ names))
 last_names [] last zero names h = inr (refl, cc)
 last_names [] last (suc m) names h = absurd cc

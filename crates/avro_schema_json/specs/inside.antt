@@ -9,6 +9,7 @@ pub mod FieldNames
 pub mod Misfits
 pub mod NameRefusal
 pub mod OwnDefaults
+pub mod Parts
 pub mod Repeats
 pub mod SymbolIndices
 pub mod SeenRaw

@@ -14,6 +14,7 @@ ghost use Rattle.serde_json.specs.View.{view, items_view, members_view};
 mod array_misfit;
 mod asks;
 mod branch_keys;
+mod counts;
 mod fields;
 mod first_branches;
 pub(crate) mod gathered;
@@ -21,13 +22,15 @@ mod known;
 mod misfit;
 mod misfits;
 mod object_misfit;
+mod part_starts;
+mod parts;
 mod plain_defaults;
 mod record_tables;
 pub(crate) mod tables;
 mod unfit;
 pub(crate) mod union_table;
 
-use crate::defaults::asks::may_repeat;
+use crate::defaults::asks::repeated_ids;
 use crate::defaults::fields::names_fields;
 use crate::defaults::first_branches::first_branch;
 use crate::defaults::gathered::Gathered;
@@ -88,11 +91,12 @@ fn known_default(
         Some(ids) => {
             let nothing = no_table(alloc);
             let table = table_at(raws, &*tables, &nothing, id, ids);
-            if known != 0 || !may_repeat(raws, tree, ids) {
+            let repeated = repeated_ids(alloc, raws, table, tree, ids)?;
+            if known != 0 || repeated.len() < 2 {
                 return branch_default(alloc, raws, tables, table, &null, tree, ids, all, known);
             }
             let mut gathered = nothing_gathered(alloc)?;
-            let known = gather(alloc, raws, tables, tree, ids, &mut gathered)?;
+            let known = gather(alloc, raws, tables, tree, &repeated, &mut gathered)?;
             branch_default(
                 alloc, raws, tables, table, &null, tree, ids, &gathered, known,
             )

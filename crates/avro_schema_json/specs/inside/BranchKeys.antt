@@ -1,5 +1,5 @@
 -- The keys of branches: JSON fits a branch of one of two keys, or an enum of which it is a symbol.
-use Rattle.std.specs.Prelude.{◌≡◌, ◌==◌, ◌&&◌, ◌+◌, ◌≤◌, ◌<◌, ℕ, Bool, false, bytes_eq, List, [], ◌∷◌, length, slice_get, Option, Some, None}
+use Rattle.std.specs.Prelude.{◌≡◌, ◌==◌, ◌&&◌, ◌||◌, ◌+◌, ◌*◌, ◌≤◌, ◌<◌, ℕ, zero, suc, Bool, false, bytes_eq, List, [], ◌∷◌, length, slice_get, Option, Some, None}
 use Rattle.std.specs.Option.{unwrap_or}
 use Rattle.std.specs.Ordering.{nat_cmp}
 use Rattle.std.specs.Str.{chars}
@@ -109,12 +109,59 @@ abbrev pub AreRecordsSkipped : List Node → List ℕ → List (BTreeMap (Bor (L
 AreRecordsSkipped nodes ids records other =
     (kind : ℕ) (names : BTreeMap (Bor (List ℕ)) ℕ) (word : List ℕ) → slice_get records kind ≡ Some names → SkipsFirst nodes ids kind word 0 (unwrap_or (find_word names word) other)
 
--- no branch of a key is before the index that a table has for it, no enum of a symbol, and no record by its first field
+-- ---- parts, some steps below a branch: a step goes to the items of an array, to the values of a map or to a field of a record. A part is known by the name of the
+-- last field on the way to it, and by its kind
+
+-- the kind of a part: that of the JSON that may fit, or 6 for a union
+abbrev pub part_key : Node → ℕ
+part_key Node.null = 0
+part_key Node.boolean = 1
+part_key Node.int = 2
+part_key Node.long = 2
+part_key Node.bytes = 3
+part_key Node.string = 3
+part_key (Node.enum name aliases symbols default) = 3
+part_key (Node.fixed name aliases count) = 3
+part_key (Node.array id) = 4
+part_key (Node.map_of id) = 5
+part_key (Node.union ids) = 6
+part_key (Node.record_of name aliases fields) = fields_key fields
+
+-- whether one of the fields, by their names and their nodes, passes
+abbrev pub any_field : (List ℕ → ℕ → Bool) → List FieldNode → Bool
+any_field read [] = false
+any_field read (f ∷ fields) = read f.name f.node || any_field read fields
+
+-- whether a part one step below passes
+abbrev pub any_below : (List ℕ → ℕ → Bool) → List ℕ → Node → Bool
+any_below read name (Node.array id) = read name id
+any_below read name (Node.map_of id) = read name id
+any_below read name (Node.record_of title aliases fields) = any_field read fields
+any_below read name _ = false
+
+-- whether a part so many steps below a node under a name is of a kind and under a word
+abbrev pub has_part : List Node → ℕ → ℕ → List ℕ → List ℕ → Node → Bool
+has_part nodes zero kind word name n = bytes_eq name word && (part_key n == kind)
+has_part nodes (suc steps) kind word name n = any_below (λ m id. has_part nodes steps kind word m (node_at nodes id)) name n
+
+-- no branch from one index up to another has such a part
+abbrev pub SkipsPart : List Node → List ℕ → ℕ → ℕ → List ℕ → ℕ → ℕ → Type 0
+SkipsPart nodes ids steps kind word from to =
+    (j id : ℕ) → from ≤ j → j < to → slice_get ids j ≡ Some id → has_part nodes steps kind word [] (node_at nodes id) ≡ false
+
+-- one map for each number of steps and each of 9 kinds
+abbrev pub ArePartsSkipped : List Node → List ℕ → List (BTreeMap (Bor (List ℕ)) ℕ) → ℕ → Type 0
+ArePartsSkipped nodes ids parts other =
+    (steps kind : ℕ) (names : BTreeMap (Bor (List ℕ)) ℕ) (word : List ℕ) → kind < 9 → slice_get parts (steps * 9 + kind) ≡ Some names
+    → SkipsPart nodes ids steps kind word 0 (unwrap_or (find_word names word) other)
+
+-- no branch of a key is before the index that a table has for it, no enum of a symbol, no record by its first field,
+-- and none by its parts
 abbrev pub IsTable : List Node → List ℕ → UnionTable → Type 0
 IsTable nodes ids table =
     ((key : ℕ) → Skips nodes ids key 0 (unwrap_or (get nat_cmp table.first key) table.other))
     × ((word : List ℕ) → SkipsSymbol nodes ids word 0 (unwrap_or (find_word table.symbols word) table.no_symbol))
-    × AreRecordsSkipped nodes ids table.records.items table.no_record
+    × AreRecordsSkipped nodes ids table.records.items table.no_record × ArePartsSkipped nodes ids table.parts.items table.no_part
 
 -- one table for each union
 abbrev pub AreTables : List Node → List UnionTable → Type 0

@@ -1,7 +1,10 @@
 //! Which nodes the parts of a JSON value are asked about. What is asked decides what is looked at,
 //! not what is found: a node that is not asked about is tried when its turn comes.
 
+use crate::defaults::first_branches::first_branch;
 use crate::defaults::object_misfit::lacks_field;
+use crate::defaults::unfit::characters_of;
+use crate::defaults::union_table::UnionTable;
 use crate::raw::{RawField, RawNode};
 use avro_schema::{Memory, NodeId};
 use serde_json::{Map, Value};
@@ -42,15 +45,16 @@ impl Asked {
         Ok(())
     }
 
-    /// Asks about those of more nodes for which JSON is looked into.
+    /// Asks about those of more nodes, from an index on, for which JSON is looked into.
     fn add_entered(
         &mut self,
         raws: &[RawNode],
         tree: &Value,
         ids: &[NodeId],
+        start: usize,
     ) -> Result<(), Memory> {
-        for id in ids {
-            self.add_if_entered(raws, tree, *id)?;
+        for i in start..ids.len() {
+            self.add_if_entered(raws, tree, ids[i])?;
         }
         Ok(())
     }
@@ -64,23 +68,35 @@ impl Asked {
     }
 }
 
-/// Whether JSON is looked into for two or more of some branches, so that what one finds may be looked at
-/// again for another. Where no part has parts of its own, each branch is tried in place: that costs no more
-/// than its parts.
-pub(crate) fn may_repeat(raws: &[RawNode], tree: &Value, ids: &[NodeId]) -> bool {
+/// The branches for which JSON is looked into, from the one where its table begins: where they are two or more,
+/// what one finds may be looked at again for another. There are none where no part has parts of its own: each
+/// branch is tried in place then, which costs no more than its parts.
+pub(crate) fn repeated_ids(
+    alloc: Global,
+    raws: &[RawNode],
+    table: &UnionTable,
+    tree: &Value,
+    ids: &[NodeId],
+) -> Result<Vec<NodeId>, Memory> {
+    let mut repeated: Vec<NodeId> = Vec::new(alloc);
     if is_flat(tree) {
-        return false;
+        return Ok(repeated);
     }
-    let mut is_one = false;
-    for id in ids {
-        if may_enter(raws, tree, *id) {
-            if is_one {
-                return true;
-            }
-            is_one = true;
+    let start = first_branch(table, tree, characters_of(tree))?;
+    for i in start..ids.len() {
+        if may_enter(raws, tree, ids[i]) {
+            repeated.push(ids[i])?;
         }
     }
-    false
+    Ok(repeated)
+}
+
+/// Where in a union the branches that JSON may fit begin.
+fn start_of(tables: &[UnionTable], tree: &Value, id: NodeId) -> Result<usize, Memory> {
+    match tables.get(id.0 as usize) {
+        Some(table) => first_branch(table, tree, characters_of(tree)),
+        None => Ok(0),
+    }
 }
 
 /// Whether JSON has no part that is an array or an object.
@@ -129,13 +145,17 @@ fn may_enter(raws: &[RawNode], tree: &Value, id: NodeId) -> bool {
 pub(crate) fn own_ids(
     alloc: Global,
     raws: &[RawNode],
+    tables: &[UnionTable],
     tree: &Value,
     asked: &[NodeId],
 ) -> Result<Vec<NodeId>, Memory> {
     let mut own = Asked::new(alloc);
     for id in asked {
         match raws.get(id.0 as usize) {
-            Some(RawNode::Union(branches)) => own.add_entered(raws, tree, branches)?,
+            Some(RawNode::Union(branches)) => {
+                let start = start_of(tables, tree, *id)?;
+                own.add_entered(raws, tree, branches, start)?;
+            }
             _ => own.add_if_entered(raws, tree, *id)?,
         }
     }

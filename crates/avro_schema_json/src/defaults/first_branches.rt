@@ -11,6 +11,7 @@ ghost use Rattle.serde_json.specs.Data.{Data};
 ghost use Rattle.serde_json.specs.View.{view, members_view};
 
 use crate::defaults::branch_keys::{key_of_kind, key_of_tree};
+use crate::defaults::part_starts::first_of_members;
 use crate::defaults::union_table::UnionTable;
 use avro_schema::Memory;
 use serde_json::{Map, Value};
@@ -41,7 +42,7 @@ fn first_by_keys(table: &UnionTable, tree: &Value, characters: usize) -> Result<
 }
 
 /// What is kept for a word, or the index for another.
-fn first_of_word(kept: &BTreeMap<&str, usize>, other: usize, word: &str) -> usize
+pub(crate) fn first_of_word(kept: &BTreeMap<&str, usize>, other: usize, word: &str) -> usize
     ensures { result ≡ unwrap_or (find_word kept.now word.now) other }
 {
     match kept.get(word) {
@@ -75,7 +76,7 @@ fn first_record(table: &UnionTable, members: &Map<String, Value>) -> usize
     least
 }
 
-/// An index before which an object fits no branch, by the table of a union.
+/// An index before which an object fits no branch, by the first fields of records.
 fn first_of_object(table: &UnionTable, members: &Map<String, Value>) -> usize
     ensures { (nodes : List SeenNode) (ids : List ℕ) → IsTable nodes ids table.now → FitsNoneBefore nodes (Data.object (members_view members.now.entries)) ids result }
 {
@@ -85,6 +86,15 @@ fn first_of_object(table: &UnionTable, members: &Map<String, Value>) -> usize
     } else {
         of_map.min(first_record(table, members))
     }
+}
+
+/// An index before which an object fits no branch, by the table of a union.
+fn first_by_members(table: &UnionTable, members: &Map<String, Value>) -> usize
+    ensures { (nodes : List SeenNode) (ids : List ℕ) → IsTable nodes ids table.now → FitsNoneBefore nodes (Data.object (members_view members.now.entries)) ids result }
+{
+    let by_first = first_of_object(table, members);
+    let by_parts = first_of_members(table, 0, "", members);
+    by_first.max(by_parts)
 }
 
 /// An index before which JSON that is no object fits no branch, by the table of a union.
@@ -109,7 +119,7 @@ pub(crate) fn first_branch(
     ensures { IfOk result (λ start. (nodes : List SeenNode) (ids : List ℕ) → IsTable nodes ids table.now → FitsNoneBefore nodes (view tree.now) ids start) }
 {
     match tree {
-        Value::Object(members) => Ok(first_of_object(table, members)),
+        Value::Object(members) => Ok(first_by_members(table, members)),
         _ => first_of_other(table, tree, characters),
     }
 }

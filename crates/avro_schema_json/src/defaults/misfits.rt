@@ -38,7 +38,7 @@ pub(crate) fn gather<'a>(
     if !has_parts(tree) {
         return Ok(0);
     }
-    let own = own_ids(alloc, raws, tree, asked)?;
+    let own = own_ids(alloc, raws, tables, tree, asked)?;
     match tree {
         Value::Array(items) => gather_array(alloc, raws, tables, items, &own, all),
         Value::Object(members) => gather_object(alloc, raws, tables, members, &own, all),

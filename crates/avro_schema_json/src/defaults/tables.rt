@@ -12,6 +12,8 @@ ghost use Rattle.avro_schema_json.specs.inside.BranchKeys.{symbols_of, find_word
 ghost use Rattle.avro_schema_json.specs.inside.OwnDefaults.{all_without_defaults, without_defaults};
 
 use crate::defaults::branch_keys::key_at;
+use crate::defaults::counts::{count_of_parts, count_of_symbols};
+use crate::defaults::parts::parts_of;
 use crate::defaults::record_tables::first_of_records;
 use crate::defaults::union_table::UnionTable;
 use crate::raw::RawNode;
@@ -85,12 +87,20 @@ fn first_of_symbols<'a>(
     Ok(symbols)
 }
 
-/// The table of some branches.
+/// No symbols.
+fn no_symbols<'a>(alloc: Global) -> BTreeMap<&'a str, usize>
+    ensures { (word : List ℕ) → find_word result word ≡ None }
+{
+    BTreeMap::new(alloc)
+}
+
+/// The table of some branches, with or without their parts.
 fn table_of<'a>(
     alloc: Global,
     raws: &'a [RawNode<'a>],
     null: &'a RawNode<'a>,
     ids: &[NodeId],
+    has_parts: bool,
 ) -> Result<UnionTable<'a>, Memory>
     requires { without_defaults null.now ≡ SeenNode.null }
     ensures { IfOk result (λ table. IsTable (all_without_defaults raws.now) (ids_of ids.now) table) }
@@ -98,6 +108,7 @@ fn table_of<'a>(
     let first = first_of_keys(alloc, raws, ids)?;
     let symbols = first_of_symbols(alloc, raws, null, ids)?;
     let records = first_of_records(alloc, raws, null, ids)?;
+    let parts = parts_of(alloc, raws, null, ids, has_parts)?;
     Ok(UnionTable {
         first,
         other: ids.len(),
@@ -105,14 +116,9 @@ fn table_of<'a>(
         no_symbol: ids.len(),
         records,
         no_record: ids.len(),
+        parts,
+        no_part: ids.len(),
     })
-}
-
-/// No symbols.
-fn no_symbols<'a>(alloc: Global) -> BTreeMap<&'a str, usize>
-    ensures { (word : List ℕ) → find_word result word ≡ None }
-{
-    BTreeMap::new(alloc)
 }
 
 /// The table of some branches, without their symbols.
@@ -121,6 +127,7 @@ fn table_of_keys<'a>(
     raws: &'a [RawNode<'a>],
     null: &'a RawNode<'a>,
     ids: &[NodeId],
+    has_parts: bool,
 ) -> Result<UnionTable<'a>, Memory>
     requires { without_defaults null.now ≡ SeenNode.null }
     ensures { IfOk result (λ table. IsTable (all_without_defaults raws.now) (ids_of ids.now) table) }
@@ -128,6 +135,7 @@ fn table_of_keys<'a>(
     let first = first_of_keys(alloc, raws, ids)?;
     let symbols = no_symbols(alloc);
     let records = first_of_records(alloc, raws, null, ids)?;
+    let parts = parts_of(alloc, raws, null, ids, has_parts)?;
     Ok(UnionTable {
         first,
         other: ids.len(),
@@ -135,6 +143,8 @@ fn table_of_keys<'a>(
         no_symbol: 0,
         records,
         no_record: ids.len(),
+        parts,
+        no_part: ids.len(),
     })
 }
 
@@ -149,41 +159,27 @@ pub(crate) fn no_table<'a>(alloc: Global) -> UnionTable<'a>
         no_symbol: 0,
         records: Vec::new(alloc),
         no_record: 0,
+        parts: Vec::new(alloc),
+        no_part: 0,
     }
 }
 
-/// How many symbols the branches of a node have, or as many as a number may say.
-fn count_of_symbols(raws: &[RawNode], raw: &RawNode) -> usize {
-    let Some(ids) = branches(raw) else {
-        return 0;
-    };
-    let mut count = 0usize;
-    for id in ids {
-        match raws.get(id.0 as usize) {
-            Some(RawNode::Enum(of_branch)) => {
-                count = count.saturating_add(of_branch.node.symbols.len());
-            }
-            _ => {}
-        }
-    }
-    count
-}
-
-/// The table of some branches, with their symbols or without.
+/// The table of some branches, with their symbols or without, and likewise their parts.
 fn table_of_branches<'a>(
     alloc: Global,
     raws: &'a [RawNode<'a>],
     null: &'a RawNode<'a>,
     ids: &[NodeId],
     has_symbols: bool,
+    has_parts: bool,
 ) -> Result<UnionTable<'a>, Memory>
     requires { without_defaults null.now ≡ SeenNode.null }
     ensures { IfOk result (λ table. IsTable (all_without_defaults raws.now) (ids_of ids.now) table) }
 {
     if has_symbols {
-        table_of(alloc, raws, null, ids)
+        table_of(alloc, raws, null, ids, has_parts)
     } else {
-        table_of_keys(alloc, raws, null, ids)
+        table_of_keys(alloc, raws, null, ids, has_parts)
     }
 }
 
@@ -194,18 +190,20 @@ fn table_of_node<'a>(
     null: &'a RawNode<'a>,
     raw: &RawNode,
     has_symbols: bool,
+    has_parts: bool,
 ) -> Result<UnionTable<'a>, Memory>
     requires { without_defaults null.now ≡ SeenNode.null }
     ensures { IfOk result (λ table. (ids : List ℕ) → branches_of (without_defaults raw.now) ≡ Some ids → IsTable (all_without_defaults raws.now) ids table) }
 {
     match branches(raw) {
-        Some(ids) => table_of_branches(alloc, raws, null, ids, has_symbols),
+        Some(ids) => table_of_branches(alloc, raws, null, ids, has_symbols, has_parts),
         None => Ok(no_table(alloc)),
     }
 }
 
-/// A table for each union among the nodes. Those of the later ones have no symbols once a million are
-/// kept: an enum of many may be a branch of many unions.
+/// A table for each union among the nodes. Those of the later ones have no symbols once a million are kept, and
+/// no parts once a million are, nor has one of more than 100,000: an enum or a record of many may be a branch of
+/// many unions.
 pub(crate) fn tables_of<'a>(
     alloc: Global,
     raws: &'a [RawNode<'a>],
@@ -216,11 +214,16 @@ pub(crate) fn tables_of<'a>(
 {
     let mut tables: Vec<UnionTable<'a>> = Vec::new(alloc);
     let mut left = 1_000_000usize;
+    let mut parts_left = 1_000_000usize;
     for raw in raws {
         let count = count_of_symbols(raws, raw);
         let has_symbols = count <= left;
-        let table = table_of_node(alloc, raws, null, raw, has_symbols)?;
+        let most = parts_left.min(100_000);
+        let parts = count_of_parts(raws, raw, most);
+        let has_parts = parts <= most;
+        let table = table_of_node(alloc, raws, null, raw, has_symbols, has_parts)?;
         tables.push(table)?;
+        parts_left = parts_left.saturating_sub(parts);
         if has_symbols {
             left -= count;
         }

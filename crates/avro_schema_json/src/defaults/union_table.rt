@@ -1,7 +1,7 @@
 use std::collections::BTreeMap;
 
-/// Where in a union the first branch of each key is, the first enum of each symbol, and the first record by its
-/// first field. A key tells the JSON that may fit a branch.
+/// Where in a union the first branch of each key is, the first enum of each symbol, the first record by its
+/// first field, and the first branch by what is below it. A key tells the JSON that may fit a branch.
 #[derive(Drop)]
 pub(crate) struct UnionTable<'a> {
     /// The index of the first branch of each key.
@@ -20,4 +20,9 @@ pub(crate) struct UnionTable<'a> {
     /// The result for a name that is of no first field: the number of branches, or 0 where there is no
     /// table.
     pub no_record: usize,
+    /// For each number of steps up to three, and each of nine kinds of parts, the index of the first branch by
+    /// the name of such a part.
+    pub parts: Vec<BTreeMap<&'a str, usize>>,
+    /// The result for a name that no such part has: the number of branches, or 0 where there is no table.
+    pub no_part: usize,
 }
