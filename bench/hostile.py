@@ -270,6 +270,16 @@ def alike(count, item, field):
     return text
 
 
+def same_kinds(count, field, item):
+    """The same of records whose fields are of one kind of JSON: what is made of how many follow a record is its field."""
+    def record(k, left):
+        return {"type": "record", "name": "R%d" % k, "fields": [{"name": "a", "type": field(k, left)}]}
+    def text(size):
+        most = min(count, size // 400)
+        return of_union([record(k, most - 1 - k) for k in range(most)], item)(size)
+    return text
+
+
 def plain_fields(names):
     """Fields of int, the last of another type."""
     return lambda k, leaf: [{"name": name, "type": leaf if name == names[-1] else "int"} for name in names]
@@ -341,6 +351,8 @@ KINDS = {
     "alike maps": alike(1000, {"a": {"k": 7}}, inside(leaf_of, in_map)),
     "alike in a record": alike(1000, {"a": {"a": 1, "b": 2}}, inside(plain_fields("ab"), in_record)),
     "alike arrays in a record": alike(1000, {"a": {"a": [7]}}, inside(inside(leaf_of, in_array), in_record)),
+    "alike sizes": same_kinds(1000, lambda k, left: dict(fixed("F%d" % k), size=left), {"a": ""}),
+    "alike unions": same_kinds(1000, lambda k, left: ["null", "boolean" if left else "int"], {"a": 1}),
     "alike in an array": alike(800, {"a": [{"a": 1, "b": 2}]}, inside(lambda k, leaf: in_record(k, plain_fields("ab")(k, leaf)), in_array)),
 }
 
