@@ -271,7 +271,7 @@ def alike(count, item, field):
 
 
 def same_kinds(count, field, item):
-    """The same of records whose fields are of one kind of JSON: what is made of how many follow a record is its field."""
+    """The same of records whose fields are of one kind of JSON. A field is made of its record's index and of how many records follow."""
     def record(k, left):
         return {"type": "record", "name": "R%d" % k, "fields": [{"name": "a", "type": field(k, left)}]}
     def text(size):

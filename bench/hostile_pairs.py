@@ -95,6 +95,12 @@ def bare(count):
     return many([record("E", [], namespace=f"n{i}") for i in range(count)])
 
 
+def single(count):
+    """Records of one field of one type, all of one simple name."""
+    of = fixed("F", size=0, namespace="n")
+    return many([record("E", [("a", "n.F" if i else of)], namespace=f"n{i}") for i in range(count)])
+
+
 def branches(count):
     """Fields of one union of records each, the records defined before."""
     names = [f"R{i}" for i in range(count)]
@@ -168,6 +174,7 @@ def pairs():
         [enum(["a"], namespace=f"n{i}", default="a") for i in range(4_000)]
     )
     yield "the longest record against records", many([wide(36_000, {})] + ["E"] * 3_999), bare(4_000)
+    yield "the longest record against records of a field", many([wide(36_000, {})] + ["E"] * 3_999), single(4_000)
     yield "records against the longest record", bare(4_000), many([wide(24_000, {"default": ""})] + ["E"] * 3_999)
 
 
