@@ -8,3 +8,4 @@ pub mod SeenSchema
 pub mod Ranges
 pub mod Faulty
 pub mod SeenKind
+pub mod Empty

@@ -22,4 +22,4 @@ pub use draft::Draft;
 pub use fault::DraftError;
 pub use fitting::fits;
 pub use limits::Limits;
-pub use schema::{EnumNode, Field, FixedNode, Node, NodeId, RecordNode, Schema};
+pub use schema::{Empty, EnumNode, Field, FixedNode, Node, NodeId, RecordNode, Schema};

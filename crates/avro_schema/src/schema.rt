@@ -107,8 +107,18 @@ pub struct Schema {
     ghost formed: { is_schema (nodes_of nodes.items) ≡ true },
 }
 
+/// The datum of a node whose data take no bytes.
+#[derive(Clone, Copy, Debug, PartialEq, Eq)]
+pub struct Empty {
+    /// Its number of nodes.
+    pub nodes: u32,
+    /// Its depth.
+    pub depth: u32,
+}
+
 impl Schema {
-    ghost use Rattle.std.specs.Prelude.{◌≡◌, ◌<◌, ◌↔◌, true, IsTrue, length};
+    ghost use Rattle.std.specs.Prelude.{◌≡◌, ◌<◌, ◌↔◌, true, IsTrue, IfSome, length};
+    ghost use Rattle.avro_schema.specs.Empty.{IsEmptyDatum};
     ghost use Rattle.avro_schema.specs.Node.{node_at};
     ghost use Rattle.avro_schema.specs.Seen.{node_of, nodes_of};
     ghost use Rattle.avro_schema.specs.SeenSchema.{schema_nodes};
@@ -169,6 +179,13 @@ impl Schema {
         ensures formed { is_schema (schema_nodes self.now) ≡ true }
     {
         self.nodes.len()
+    }
+
+    /// The datum of a node that takes no bytes, where one is known.
+    pub fn empty(&self, id: NodeId) -> Option<Empty>
+        ensures { IfSome result (λ e. IsEmptyDatum (schema_nodes self.now) (node_at (schema_nodes self.now) id.0) e.nodes e.depth) }
+    {
+        None
     }
 
     /// Whether this is a node of the schema.
