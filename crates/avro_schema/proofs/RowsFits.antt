@@ -3,9 +3,11 @@ use Rattle.std.proofs.Common.{◌≡◌, refl, ℕ, pos, negsuc, true, false, Li
 use Rattle.std.specs.Str.{is_utf8, chars}
 use lib.Utf8.{encode}
 use Rattle.avro_schema.specs.Value.{Value, no_values, no_entries, entry, size, depth, longest_blob}
-use Rattle.avro_schema.specs.Node.{Node, root_of}
+use Rattle.avro_schema.specs.Node.{Node, node_at, root_of}
+use Rattle.avro_schema.specs.Empty.{is_empty}
+use Rattle.avro_schema.specs.Empties.{empty_datum, has_measure}
 use Rattle.avro_schema.specs.Fits.{fits, is_within}
-use Rattle.avro_schema.proofs.public.RowsSchemas.{simply, one_value, two_values, map_of_int, linked_list}
+use Rattle.avro_schema.proofs.public.RowsSchemas.{simply, one_value, two_values, map_of_int, linked_list, chain_of_four, doubled, record_of_itself}
 
 -- the least and the greatest int and long, and those beyond
 greatest_int : fits [] Node.int (Value.int (pos 2147483647)) ≡ true
@@ -144,3 +146,26 @@ two_links-too_many = refl
 
 key_too_long : is_within (record { depth = 5; nodes = 7; blob = 4 }) (two_entries (codes "left") (codes "right")) ≡ false
 key_too_long = refl
+
+-- data whose encoding has no bytes, and others
+null_and_no_bytes-empty : is_empty (Value.record_of (two_values Value.null (Value.fixed []))) ≡ true
+null_and_no_bytes-empty = refl
+
+one_byte-not_empty : is_empty (Value.record_of (two_values Value.null (Value.fixed (7 ∷ [])))) ≡ false
+one_byte-not_empty = refl
+
+no_items-not_empty : is_empty (Value.array no_values) ≡ false
+no_items-not_empty = refl
+
+-- The third of a chain of records takes no bytes, three levels deep; an enum takes one, and a record of itself has no datum.
+third_of_chain-empty : has_measure 3 3 (empty_datum 3 chain_of_four (node_at chain_of_four 3)) ≡ true
+third_of_chain-empty = refl
+
+third_of_chain-too_deep : empty_datum 2 chain_of_four (node_at chain_of_four 3) ≡ None
+third_of_chain-too_deep = refl
+
+enum_inside-not_empty : empty_datum 9 (doubled 1) (root_of (doubled 1)) ≡ None
+enum_inside-not_empty = refl
+
+record_of_itself-not_empty : empty_datum 9 record_of_itself (root_of record_of_itself) ≡ None
+record_of_itself-not_empty = refl

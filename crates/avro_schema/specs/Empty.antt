@@ -2,7 +2,7 @@
 use Rattle.std.specs.Prelude.{◌≡◌, ℕ, Bool, true, false, ◌&&◌, List, length, ◌==◌}
 use Rattle.avro_schema.specs.Fits.{fits}
 use Rattle.avro_schema.specs.Node.{Node}
-use Rattle.avro_schema.specs.Value.{Value, Values, Entries, no_values, value, size, depth}
+use Rattle.avro_schema.specs.Value.{Value, Values, no_values, value, size, depth}
 
 abbrev mutual
   pub is_empty : Value → Bool

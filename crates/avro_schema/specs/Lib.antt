@@ -9,3 +9,4 @@ pub mod Ranges
 pub mod Faulty
 pub mod SeenKind
 pub mod Empty
+pub mod Empties

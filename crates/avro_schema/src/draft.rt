@@ -1,6 +1,7 @@
 ghost use Rattle.std.specs.Prelude.{◌≤◌, vec_len};
 
 use crate::checking::check_nodes;
+use crate::empties::find_empties;
 use crate::fault::DraftError;
 use crate::schema::{Node, NodeId, Schema};
 use std::alloc::Global;
@@ -59,7 +60,9 @@ impl Draft {
         ensures succeeds { is_schema (draft_nodes self) ≡ true → IfErr result (λ e. e ≡ DraftError.OutOfMemory) }
         ensures faulty { IfErr result (IsRefused (draft_nodes self)) }
     {
-        check_nodes(*self.nodes.allocator(), &self.nodes)?;
-        Ok(Schema::from_nodes(self.nodes))
+        let alloc = *self.nodes.allocator();
+        check_nodes(alloc, &self.nodes)?;
+        let empties = find_empties(alloc, &self.nodes)?;
+        Ok(Schema::from_nodes(self.nodes, empties))
     }
 }

@@ -8,6 +8,7 @@ mod branches;
 mod checking;
 mod datum;
 mod draft;
+mod empties;
 mod fault;
 mod fitting;
 pub mod laws;
@@ -19,7 +20,8 @@ mod uniqueness;
 
 pub use datum::{Datum, Memory, depth, size};
 pub use draft::Draft;
+pub use empties::Empty;
 pub use fault::DraftError;
 pub use fitting::fits;
 pub use limits::Limits;
-pub use schema::{Empty, EnumNode, Field, FixedNode, Node, NodeId, RecordNode, Schema};
+pub use schema::{EnumNode, Field, FixedNode, Node, NodeId, RecordNode, Schema};

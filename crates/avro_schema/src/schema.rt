@@ -1,9 +1,11 @@
 ghost use Rattle.std.specs.Prelude.{◌≡◌, true};
 ghost use Rattle.avro_schema.specs.Seen.{node_of, nodes_of};
 ghost use Rattle.avro_schema.specs.Fits.{is_null_node};
+ghost use Rattle.avro_schema.specs.Empties.{AreEmpties};
 ghost use Rattle.avro_schema.specs.WellFormed.{is_schema};
 
 use crate::datum::Datum;
+use crate::empties::{Empty, known_at};
 use avro_name::FullName;
 
 /// The index of a node among those of its schema; 0 is the root.
@@ -103,22 +105,17 @@ pub struct Schema {
     nodes: Vec<Node>,
     // what an id without a node is read as
     null: Node,
+    // for each node, its datum without bytes, where one is known
+    empties: Vec<Option<Empty>>,
     ghost is_null: { is_null_node (node_of null) ≡ true },
     ghost formed: { is_schema (nodes_of nodes.items) ≡ true },
-}
-
-/// The datum of a node whose data take no bytes.
-#[derive(Clone, Copy, Debug, PartialEq, Eq)]
-pub struct Empty {
-    /// Its number of nodes.
-    pub nodes: u32,
-    /// Its depth.
-    pub depth: u32,
+    ghost are_empties: { AreEmpties (nodes_of nodes.items) empties.items },
 }
 
 impl Schema {
     ghost use Rattle.std.specs.Prelude.{◌≡◌, ◌<◌, ◌↔◌, true, IsTrue, IfSome, length};
     ghost use Rattle.avro_schema.specs.Empty.{IsEmptyDatum};
+    ghost use Rattle.avro_schema.specs.Empties.{AreEmpties};
     ghost use Rattle.avro_schema.specs.Node.{node_at};
     ghost use Rattle.avro_schema.specs.Seen.{node_of, nodes_of};
     ghost use Rattle.avro_schema.specs.SeenSchema.{schema_nodes};
@@ -127,14 +124,16 @@ impl Schema {
     /// The greatest number of nodes.
     pub const MAX_NODES: usize = 4096;
 
-    /// A schema of nodes that form one.
-    pub(crate) fn from_nodes(nodes: Vec<Node>) -> Schema
-        requires { is_schema (nodes_of nodes.items) ≡ true }
+    /// A schema of nodes that form one, and of what is known of their data without bytes.
+    pub(crate) fn from_nodes(nodes: Vec<Node>, empties: Vec<Option<Empty>>) -> Schema
+        requires formed { is_schema (nodes_of nodes.items) ≡ true }
+        requires empties { AreEmpties (nodes_of nodes.items) empties.items }
         ensures { schema_nodes result ≡ nodes_of nodes.items }
     {
         Schema {
             nodes,
             null: Node::Null,
+            empties,
         }
     }
 
@@ -185,7 +184,7 @@ impl Schema {
     pub fn empty(&self, id: NodeId) -> Option<Empty>
         ensures { IfSome result (λ e. IsEmptyDatum (schema_nodes self.now) (node_at (schema_nodes self.now) id.0) e.nodes e.depth) }
     {
-        None
+        known_at(&self.empties, id)
     }
 
     /// Whether this is a node of the schema.

@@ -1,6 +1,6 @@
 //! A schema that is read, with its text.
 
-use avro_schema::{Node, RecordNode, Schema};
+use avro_schema::{Empty, Node, NodeId, RecordNode, Schema};
 use avro_schema_json::{ReaderText, SchemaError};
 use std::test::Fail;
 
@@ -34,5 +34,39 @@ fn a_text_is_kept_with_its_schema(rt: HostRuntime) -> Result<(), Fail> {
     }
     let refused = ReaderText::read(rt.alloc(), b"\"Foo\"").err();
     assert_eq!(rt; refused, Some(SchemaError::UnknownName));
+    Ok(())
+}
+
+/// Three records, each of two of the one before, and beside them what takes a byte: the numbers of their nodes.
+const DOUBLED: &str = r#"{"type":"record","name":"A","fields":[{"name":"n","type":"null"},
+    {"name":"b","type":{"type":"record","name":"B","fields":[
+        {"name":"c","type":{"type":"record","name":"C","fields":[{"name":"z","type":{"type":"fixed","name":"Z","size":0}},{"name":"y","type":"Z"}]}},
+        {"name":"d","type":"C"}]}},
+    {"name":"e","type":"B"},{"name":"f","type":["null","C"]},{"name":"g","type":"boolean"}]}"#;
+
+#[test]
+fn data_without_bytes_are_known(rt: HostRuntime) -> Result<(), Fail> {
+    let schema = ReaderText::read(rt.alloc(), DOUBLED.as_bytes())?;
+    let mut known = Vec::new(rt.alloc());
+    for id in 0..10u32 {
+        known.push(schema.schema().empty(NodeId(id)))?;
+    }
+    let of = |nodes, depth| Some(Empty { nodes, depth });
+    assert_eq!(rt;
+        known.as_slice(),
+        [
+            None,
+            of(1, 1),
+            of(7, 3),
+            of(3, 2),
+            of(1, 1),
+            None,
+            of(1, 1),
+            None,
+            None,
+            None
+        ]
+        .as_slice()
+    );
     Ok(())
 }

@@ -1,0 +1,176 @@
+//! The nodes whose data take no bytes (Avro 1.11, "Binary Encoding").
+
+ghost use Rattle.std.specs.Prelude.{◌≡◌, ◌<◌, ◌+◌, ◌≤◌, max, suc, true, ℕ, List, ◌∷◌, Some, IfSome, IfOk, length, slice_get, OnOk};
+ghost use Rattle.avro_schema.specs.Empties.{AreEmpties, empty_datum, empty_parts, has_measure, have_measure};
+ghost use Rattle.avro_name.specs.Name.{Name};
+ghost use Rattle.avro_schema.specs.Node.{Node as SeenNode, node_at, field_ids};
+ghost use Rattle.avro_schema.specs.Seen.{node_of, nodes_of, seen_fields};
+
+use crate::datum::Memory;
+use crate::schema::{Field, Node, NodeId};
+use std::alloc::Global;
+
+/// The datum of a node whose data take no bytes.
+#[derive(Clone, Copy, Debug, PartialEq, Eq)]
+pub struct Empty {
+    /// Its number of nodes.
+    pub nodes: u32,
+    /// Its depth.
+    pub depth: u32,
+}
+
+/// How often all nodes are gone through at most. No datum is read that is deeper.
+const MOST_ROUNDS: u32 = 256;
+
+/// The datum of a node that takes no bytes, where it is known.
+#[inline(always)]
+pub(crate) fn known_at(known: &[Option<Empty>], id: NodeId) -> Option<Empty>
+    ensures { IfSome result (λ e. slice_get known.now id.0 ≡ Some (Some e)) }
+{
+    match known.get(id.0 as usize) {
+        Some(entry) => *entry,
+        None => None,
+    }
+}
+
+/// A datum and others, as a sum, unless it is too large.
+fn with(first: Empty, others: Empty) -> Option<Empty>
+    ensures { IfSome result (λ e. (e.nodes ≡ first.nodes + others.nodes) × (e.depth ≡ max first.depth others.depth)) }
+{
+    let nodes = first.nodes.checked_add(others.nodes)?;
+    Some(Empty {
+        nodes,
+        depth: first.depth.max(others.depth),
+    })
+}
+
+/// A datum that has others as its parts.
+fn around(parts: Empty) -> Option<Empty>
+    ensures { IfSome result (λ e. (e.nodes ≡ suc parts.nodes) × (e.depth ≡ suc parts.depth)) }
+{
+    let nodes = parts.nodes.checked_add(1)?;
+    let depth = parts.depth.checked_add(1)?;
+    Some(Empty { nodes, depth })
+}
+
+/// The datum of a node before others, where it is known to take no bytes.
+fn before(known: &[Option<Empty>], id: NodeId, others: Empty) -> Option<Empty>
+    ensures { (nodes : List SeenNode) (ids : List ℕ) → AreEmpties nodes known.now
+        → have_measure others.nodes others.depth (empty_parts (λ i. empty_datum others.depth nodes (node_at nodes i)) ids) ≡ true
+        → IfSome result (λ e. have_measure e.nodes e.depth (empty_parts (λ i. empty_datum e.depth nodes (node_at nodes i)) (id.0 ∷ ids)) ≡ true) }
+{
+    match known_at(known, id) {
+        Some(first) => with(first, others),
+        None => None,
+    }
+}
+
+/// The data of fields, where all are known to take no bytes.
+fn empty_fields(known: &[Option<Empty>], fields: &[Field]) -> Option<Empty>
+    ensures { (nodes : List SeenNode) → AreEmpties nodes known.now → IfSome result (λ e. have_measure e.nodes e.depth (empty_parts (λ id. empty_datum e.depth nodes (node_at nodes id)) (field_ids (seen_fields fields.now))) ≡ true) }
+{
+    let mut all = Empty { nodes: 0, depth: 0 };
+    let mut left = fields.len();
+    while left > 0 {
+        left -= 1;
+        match before(known, fields[left].node, all) {
+            Some(more) => all = more,
+            None => return None,
+        }
+    }
+    Some(all)
+}
+
+/// The datum of a node, where it is known to take no bytes.
+fn empty_of(known: &[Option<Empty>], node: &Node) -> Option<Empty>
+    ensures { (nodes : List SeenNode) → AreEmpties nodes known.now → IfSome result (λ e. has_measure e.nodes e.depth (empty_datum e.depth nodes (node_of node.now)) ≡ true) }
+{
+    match node {
+        Node::Null => Some(Empty { nodes: 1, depth: 1 }),
+        Node::Fixed(fixed) => empty_fixed(fixed.size),
+        Node::Record(record) => empty_record(known, &record.fields),
+        _ => None,
+    }
+}
+
+/// The datum of a fixed of no bytes.
+fn empty_fixed(size: u32) -> Option<Empty>
+    ensures none { IfSome result (λ e. size ≡ 0) }
+    ensures count { IfSome result (λ e. e.nodes ≡ 1) }
+    ensures levels { IfSome result (λ e. e.depth ≡ 1) }
+{
+    if size == 0 {
+        Some(Empty { nodes: 1, depth: 1 })
+    } else {
+        None
+    }
+}
+
+/// The datum of a record of fields, where it is known to take no bytes.
+fn empty_record(known: &[Option<Empty>], fields: &[Field]) -> Option<Empty>
+    ensures { (nodes : List SeenNode) → AreEmpties nodes known.now → (name : Name) (aliases : List Name) → IfSome result (λ e. has_measure e.nodes e.depth (empty_datum e.depth nodes (SeenNode.record_of name aliases (seen_fields fields.now))) ≡ true) }
+{
+    match empty_fields(known, fields) {
+        Some(parts) => around(parts),
+        None => None,
+    }
+}
+
+/// Learns whether the data of the node at an index take no bytes, and says whether that is new.
+fn learn(nodes: &[Node], known: &mut Vec<Option<Empty>>, index: usize) -> bool
+    requires { index < length nodes.now }
+    ensures { AreEmpties (nodes_of nodes.now) known.old.items → AreEmpties (nodes_of nodes.now) known.new.items }
+{
+    if index >= known.len() || known[index].is_some() {
+        return false;
+    }
+    match empty_of(known, &nodes[index]) {
+        Some(empty) => {
+            known[index] = Some(empty);
+            true
+        }
+        None => false,
+    }
+}
+
+/// Goes through all nodes, parts before what they are parts of as they are mostly numbered, and says whether anything is new.
+fn learn_all(nodes: &[Node], known: &mut Vec<Option<Empty>>) -> bool
+    ensures { AreEmpties (nodes_of nodes.now) known.old.items → AreEmpties (nodes_of nodes.now) known.new.items }
+{
+    let mut is_new = false;
+    let mut left = nodes.len();
+    while left > 0 {
+        left -= 1;
+        is_new |= learn(nodes, known, left);
+    }
+    is_new
+}
+
+/// A list that knows nothing of so many nodes.
+fn nothing_known(alloc: Global, count: usize) -> Result<Vec<Option<Empty>>, Memory>
+    ensures { (nodes : List SeenNode) → IfOk result (λ known. AreEmpties nodes known.items) }
+{
+    let mut known = Vec::new(alloc);
+    for _node in 0..count {
+        known.push(None)?;
+    }
+    Ok(known)
+}
+
+/// For each node, its datum without bytes, where it has one. Of records that are parts of one another far too often to be
+/// read nothing is known.
+///
+/// # Errors
+///
+/// Memory ran out.
+pub(crate) fn find_empties(alloc: Global, nodes: &[Node]) -> Result<Vec<Option<Empty>>, Memory>
+    ensures { IfOk result (λ known. AreEmpties (nodes_of nodes.now) known.items) }
+{
+    let mut known = nothing_known(alloc, nodes.len())?;
+    for _round in 0..MOST_ROUNDS {
+        if !learn_all(nodes, &mut known) {
+            return Ok(known);
+        }
+    }
+    Ok(known)
+}
