@@ -111,6 +111,21 @@ def tower_arrays(share):
     return {"file": container({"type": "array", "items": tower(31, 4)}, block(count, (number(1) + number(0)) * count))}
 
 
+def towers_beside(share):
+    """A block of as many data of one byte as one may have, each with a tower beside its byte, and a reader of the byte alone."""
+    byte = ("byte", "boolean")
+    count = DATA // share
+    return {"file": container(record("W", [("tower", tower(31, 4)), byte]), block(count, b"\x01" * count)), "byte": written(record("W", [byte]))}
+
+
+def fields_beside(share):
+    """1,000 data of one byte, each with 40,000 fields beside it whose type is a record without fields, or an eighth of both."""
+    names = short_names(40_000 // share)
+    fields = [("_byte", "boolean"), ("_none", record("E", []))] + [(name, "E") for name in names]
+    count = 1_000 // share
+    return {"file": container(record("W", fields), block(count, b"\x01" * count))}
+
+
 def shown_arrays(share):
     """A block of 100 arrays of 1,000,000 nulls, or of 12."""
     count = 100 // share
@@ -239,7 +254,8 @@ def crossed(share):
 
 
 CHECK, COPY = ["check", "file"], ["copy", "file", "{out}"]
-SAME, MORE, SHOW = [*COPY, "--reader", "same"], [*COPY, "--reader", "more"], ["show", "file"]
+SAME, MORE, BYTE = ([*COPY, "--reader", name] for name in ("same", "more", "byte"))
+SHOW = ["show", "file"]
 TEXT, FINGERPRINT, JUDGE = ["schema", "text"], ["schema", "text", "--fingerprint"], ["judge", "writer", "reader"]
 ONE_FIELD = [("b", "Leaf")]
 
@@ -251,6 +267,8 @@ ROWS = [
     Row("nulls in 50,000 blocks", null_blocks, CHECK, COPY, SAME),
     Row("arrays of nulls", null_arrays, CHECK, COPY),
     Row("arrays of one tower", tower_arrays, CHECK, COPY),
+    Row("towers beside a byte", towers_beside, CHECK, COPY, BYTE),
+    Row("fields beside a byte", fields_beside, CHECK, COPY),
     Row("arrays shown", shown_arrays, SHOW),
     Row("towers shown", shown_towers, SHOW),
     *(Row(f"look-alikes, {count} fixeds, {depth} around", look_alikes(count, depth), TEXT) for count in (100, 1_000) for depth in (0, 1, 10, 100)),
