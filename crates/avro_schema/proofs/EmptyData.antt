@@ -73,13 +73,13 @@ measured count levels (Some v) h =
     let parts = and_parts (size v == count) (depth v == levels) h in
     record { datum = v; found = refl; many = same (size v) count parts.0; deep = same (depth v) levels parts.1 }
 
-record AllMeasured (count levels : ℕ) (o : Option Values) : Type 0 where
-  data_are : Values
-  found : o ≡ Some data_are
-  many : values_size data_are ≡ count
-  deep : values_depth data_are ≡ levels
+pub record AllMeasured (count levels : ℕ) (o : Option Values) : Type 0 where
+  pub data_are : Values
+  pub found : o ≡ Some data_are
+  pub many : values_size data_are ≡ count
+  pub deep : values_depth data_are ≡ levels
 
-all_measured : (count levels : ℕ) (o : Option Values) → have_measure count levels o ≡ true → AllMeasured count levels o
+pub all_measured : (count levels : ℕ) (o : Option Values) → have_measure count levels o ≡ true → AllMeasured count levels o
 all_measured count levels None h = absurd (false≢true h)
 all_measured count levels (Some vs) h =
     let parts = and_parts (values_size vs == count) (values_depth vs == levels) h in
@@ -154,6 +154,11 @@ datum-fits : (levels : ℕ) (nodes : List Node) (n : Node) (v : Value) → empty
 datum-fits zero nodes n v h = cc
 datum-fits (suc levels) nodes n v h =
     inside-fit nodes (λ id. empty_datum levels nodes (node_at nodes id)) (λ id w found. datum-fits levels nodes (node_at nodes id) w found) n v h
+
+pub parts_shown : (levels : ℕ) (nodes : List Node) (ids : List ℕ) (vs : Values) → empty_parts (λ id. empty_datum levels nodes (node_at nodes id)) ids ≡ Some vs
+    → (fields_fit nodes ids vs ≡ true) × (are_empty vs ≡ true)
+parts_shown levels nodes ids vs h =
+    parts-fit nodes (λ id. empty_datum levels nodes (node_at nodes id)) (λ id w found. datum-fits levels nodes (node_at nodes id) w found) ids vs h
 
 -- an entry is of a datum without bytes
 pub entry_shown : (nodes : List Node) (n : Node) (e : Empty) → has_measure e.nodes e.depth (empty_datum e.depth nodes n) ≡ true → IsEmptyDatum nodes n e.nodes e.depth

@@ -10,3 +10,4 @@ pub mod Faulty
 pub mod SeenKind
 pub mod Empty
 pub mod Empties
+pub mod Runs

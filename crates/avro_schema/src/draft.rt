@@ -3,6 +3,7 @@ ghost use Rattle.std.specs.Prelude.{◌≤◌, vec_len};
 use crate::checking::check_nodes;
 use crate::empties::find_empties;
 use crate::fault::DraftError;
+use crate::runs::find_runs;
 use crate::schema::{Node, NodeId, Schema};
 use std::alloc::Global;
 
@@ -63,6 +64,7 @@ impl Draft {
         let alloc = *self.nodes.allocator();
         check_nodes(alloc, &self.nodes)?;
         let empties = find_empties(alloc, &self.nodes)?;
-        Ok(Schema::from_nodes(self.nodes, empties))
+        let runs = find_runs(alloc, &self.nodes, &empties)?;
+        Ok(Schema::from_nodes(self.nodes, empties, runs))
     }
 }

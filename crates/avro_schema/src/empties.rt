@@ -34,7 +34,7 @@ pub(crate) fn known_at(known: &[Option<Empty>], id: NodeId) -> Option<Empty>
 }
 
 /// A datum and others, as a sum, unless it is too large.
-fn with(first: Empty, others: Empty) -> Option<Empty>
+pub(crate) fn with(first: Empty, others: Empty) -> Option<Empty>
     ensures { IfSome result (λ e. (e.nodes ≡ first.nodes + others.nodes) × (e.depth ≡ max first.depth others.depth)) }
 {
     let nodes = first.nodes.checked_add(others.nodes)?;

@@ -15,6 +15,7 @@ pub mod laws;
 mod limits;
 mod naming;
 mod parts;
+mod runs;
 mod schema;
 mod uniqueness;
 
@@ -24,4 +25,5 @@ pub use empties::Empty;
 pub use fault::DraftError;
 pub use fitting::fits;
 pub use limits::Limits;
+pub use runs::EmptyFields;
 pub use schema::{EnumNode, Field, FixedNode, Node, NodeId, RecordNode, Schema};

@@ -2,10 +2,12 @@ ghost use Rattle.std.specs.Prelude.{◌≡◌, true};
 ghost use Rattle.avro_schema.specs.Seen.{node_of, nodes_of};
 ghost use Rattle.avro_schema.specs.Fits.{is_null_node};
 ghost use Rattle.avro_schema.specs.Empties.{AreEmpties};
+ghost use Rattle.avro_schema.specs.Runs.{AreAllRuns};
 ghost use Rattle.avro_schema.specs.WellFormed.{is_schema};
 
 use crate::datum::Datum;
 use crate::empties::{Empty, known_at};
+use crate::runs::{EmptyFields, runs_at};
 use avro_name::FullName;
 
 /// The index of a node among those of its schema; 0 is the root.
@@ -107,15 +109,19 @@ pub struct Schema {
     null: Node,
     // for each node, its datum without bytes, where one is known
     empties: Vec<Option<Empty>>,
+    // for each node and each of its fields, those from it on whose data take no bytes, unless they are few
+    runs: Vec<Vec<EmptyFields>>,
     ghost is_null: { is_null_node (node_of null) ≡ true },
     ghost formed: { is_schema (nodes_of nodes.items) ≡ true },
     ghost are_empties: { AreEmpties (nodes_of nodes.items) empties.items },
+    ghost are_runs: { AreAllRuns (nodes_of nodes.items) runs.items },
 }
 
 impl Schema {
-    ghost use Rattle.std.specs.Prelude.{◌≡◌, ◌<◌, ◌↔◌, true, IsTrue, IfSome, length};
+    ghost use Rattle.std.specs.Prelude.{◌≡◌, ◌<◌, ◌↔◌, ℕ, true, IsTrue, IfSome, Some, length, slice_get, drop};
     ghost use Rattle.avro_schema.specs.Empty.{IsEmptyDatum};
     ghost use Rattle.avro_schema.specs.Empties.{AreEmpties};
+    ghost use Rattle.avro_schema.specs.Runs.{AreAllRuns, StartWithEmpties, ids_at};
     ghost use Rattle.avro_schema.specs.Node.{node_at};
     ghost use Rattle.avro_schema.specs.Seen.{node_of, nodes_of};
     ghost use Rattle.avro_schema.specs.SeenSchema.{schema_nodes};
@@ -125,15 +131,21 @@ impl Schema {
     pub const MAX_NODES: usize = 4096;
 
     /// A schema of nodes that form one, and of what is known of their data without bytes.
-    pub(crate) fn from_nodes(nodes: Vec<Node>, empties: Vec<Option<Empty>>) -> Schema
+    pub(crate) fn from_nodes(
+        nodes: Vec<Node>,
+        empties: Vec<Option<Empty>>,
+        runs: Vec<Vec<EmptyFields>>,
+    ) -> Schema
         requires formed { is_schema (nodes_of nodes.items) ≡ true }
         requires empties { AreEmpties (nodes_of nodes.items) empties.items }
+        requires runs { AreAllRuns (nodes_of nodes.items) runs.items }
         ensures { schema_nodes result ≡ nodes_of nodes.items }
     {
         Schema {
             nodes,
             null: Node::Null,
             empties,
+            runs,
         }
     }
 
@@ -181,10 +193,19 @@ impl Schema {
     }
 
     /// The datum of a node that takes no bytes, where one is known.
+    #[inline(always)]
     pub fn empty(&self, id: NodeId) -> Option<Empty>
         ensures { IfSome result (λ e. IsEmptyDatum (schema_nodes self.now) (node_at (schema_nodes self.now) id.0) e.nodes e.depth) }
     {
         known_at(&self.empties, id)
+    }
+
+    /// For each of a node's first fields, those from it on whose data take no bytes, as far as that is known.
+    #[inline(always)]
+    pub fn empty_fields(&self, id: NodeId) -> &[EmptyFields]
+        ensures { (k : ℕ) (run : EmptyFields) → slice_get result.now k ≡ Some run → StartWithEmpties (schema_nodes self.now) (drop k (ids_at (node_at (schema_nodes self.now) id.0))) run }
+    {
+        runs_at(&self.runs, id)
     }
 
     /// Whether this is a node of the schema.
