@@ -1,5 +1,5 @@
 -- Items without bytes: as many as a block has are the same, and the first that passes a limit passes that of nodes.
-use Rattle.std.proofs.Common.{◌≡◌, inl, inr, ◌⊎◌, ℕ, zero, suc, ◌+◌, ◌*◌, ◌-◌, ◌^◌, ◌<◌, ◌≤◌, true, nat_lt, List, [], ◌∷◌, ◌++◌, length, replicate, Result, Ok, Err, Some, length-append, refl, sym, ap, ◌∙◌, subst, arith, append-nil, append_assoc}
+use Rattle.std.proofs.Common.{◌≡◌, inl, inr, ℕ, zero, suc, ◌+◌, ◌*◌, ◌-◌, ◌^◌, ◌<◌, ◌≤◌, true, nat_lt, List, [], ◌∷◌, ◌++◌, length, replicate, Result, Ok, Err, Some, length-append, refl, sym, ap, ◌∙◌, subst, arith, append-nil, append_assoc}
 use Rattle.std.specs.Prelude.{OnOk}
 use Rattle.std.specs.Result.{IfErr}
 use Rattle.std.specs.List.{concat, list_all}
@@ -22,7 +22,9 @@ use Rattle.avro_binary.specs.declared.error.ReadError.{ReadError}
 use Rattle.avro_binary.proofs.EncodingOrFault.{encoding_or_fault_lem}
 use Rattle.avro_binary.proofs.Front.{one_front}
 use Rattle.avro_binary.proofs.NoFront.{no_front_of_fault, within-small}
+use Rattle.avro_binary.proofs.NoFrontItems.{IsSmall}
 use Rattle.avro_binary.proofs.PartOrFault.{below_or}
+use Rattle.avro_binary.proofs.public.EmptyData.{none-long}
 use Rattle.avro_binary.proofs.RunLaws.{values_run}
 use Rattle.avro_binary.proofs.RunSteps.{moves-same}
 
@@ -103,24 +105,19 @@ only_limit nodes limits id v bytes (invalid_length p) formed encoded h = absurd 
 only_limit nodes limits id v bytes (wrong_block_size p) formed encoded h = absurd (no_front_of_fault nodes limits id bytes (wrong_block_size p) v [] bytes formed h (λ e. absurd cc) encoded refl)
 only_limit nodes limits id v bytes (duplicate_key p) formed encoded h = absurd (no_front_of_fault nodes limits id bytes (duplicate_key p) v [] bytes formed h (λ e. absurd cc) encoded refl)
 
--- a datum without bytes that takes more nodes than are left passes that limit, whatever follows
+-- a datum without bytes that is not within limits passes one, whatever follows
 pub limit_passed : (nodes : List Node) (limits : LimitValues) (id : ℕ) (v : Value) (bytes : List ℕ) → is_schema nodes ≡ true → list_all (λ b. nat_lt b 256) bytes ≡ true
-    → limits.nodes < 2 ^ 32 → limits.blob < 2 ^ 63 → Encodes nodes (node_at nodes id) v [] → limits.nodes < size v
+    → limits.nodes < 2 ^ 32 → limits.blob < 2 ^ 63 → Encodes nodes (node_at nodes id) v [] → (IsSmall limits.depth limits.nodes limits.blob v → ⊥)
     → Breaks nodes limits (node_at nodes id) bytes limit_exceeded
 limit_passed nodes limits id v bytes formed are few small encoded over =
     elim (encoding_or_fault_lem nodes (node_at nodes id) limits bytes are few small) as (λ _. Breaks nodes limits (node_at nodes id) bytes limit_exceeded) [
       | inl found ↦
           let same : v ≡ found.0 = (one_front nodes (node_at nodes id) v found.0 [] found.1 bytes found.2 encoded found.3 found.5).1 in
-          let fits_in : size v ≤ limits.nodes = subst (λ (w : Value). size w ≤ limits.nodes) (sym same) (within-small limits found.0 found.4).1 in
-          absurd (omega (arith, fits_in, over))
+          absurd (over (subst (λ (w : Value). IsSmall limits.depth limits.nodes limits.blob w) (sym same) (within-small limits found.0 found.4)))
       | inr fault ↦ only_limit nodes limits id v bytes fault.0 formed encoded fault.1
     ]
 
 -- ---- Sums
-
-none-long : (xs : List ℕ) → length xs ≡ 0 → xs ≡ []
-none-long [] h = refl
-none-long (x ∷ xs) h = absurd cc
 
 all-nodes : (now after last size k : ℕ) → now ≡ after + size → after ≡ last + size * k → now ≡ last + suc k * size
 all-nodes now after last size k h e = omega (arith, h, e, suc-mul k size)
@@ -180,7 +177,7 @@ module _ (nodes : List Node) (limits : LimitValues) (id : ℕ) {a now after : Cu
           fault = limit_exceeded;
           split = found.moves.split ∙ ap (λ (f : List ℕ). f ++ now.bytes) (same-bytes (suc some.0));
           breaks = limit_passed nodes (record { depth = limits.depth; nodes = rest; blob = limits.blob }) id v now.bytes formed
-              (subst (λ (bs : List ℕ). list_all (λ x. nat_lt x 256) bs ≡ true) (sym in-place) are) (let h = some.3 in omega (arith, few, h)) small empty some.4;
+              (subst (λ (bs : List ℕ). list_all (λ x. nat_lt x 256) bs ≡ true) (sym in-place) are) (let h = some.3 in omega (arith, few, h)) small empty (λ within. let p = within.1 in let q = some.4 in absurd (omega arith));
           moved = refl;
         };
       }

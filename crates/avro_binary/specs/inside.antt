@@ -1,1 +1,2 @@
 pub mod CountsAgain
+pub mod PassesEmpty

@@ -151,6 +151,28 @@ impl<'a> Cursor<'a> {
         }
     }
 
+    /// Passes a datum without bytes, of a number of nodes and so deep.
+    ///
+    /// # Errors
+    ///
+    /// `LimitExceeded` where fewer nodes are left, or less depth.
+    pub(crate) fn pass_empty(&mut self, nodes: u32, depth: u32) -> Result<(), ReadError>
+        ensures counted { OnOk result (CountsAgain self.old nodes self.new) }
+        ensures deep { OnOk result (depth ≤ self.old.depth) }
+        ensures refused { IfErr result (λ e. (read_fault e ≡ Some limit_exceeded) × ((self.old.nodes < nodes) ⊎ (self.old.depth < depth))) }
+        ensures unchanged { OnErr result (self.new ≡ self.old) }
+        ensures in_range { (self.old.nodes < 2 ^ 32) × (self.old.blob < 2 ^ 32) }
+        ensures are_bytes { (i : ℕ) → slice_index self.old.bytes i < 2 ^ 8 }
+    {
+        drop_content(self.rest);
+        let _blob = self.blob;
+        if self.nodes < nodes || self.depth < depth {
+            return Err(ReadError::LimitExceeded);
+        }
+        self.nodes -= nodes;
+        Ok(())
+    }
+
     /// Enters a node: it takes one of the nodes left and one of the depth.
     ///
     /// # Errors

@@ -1,17 +1,16 @@
-ghost use Rattle.std.specs.Prelude.{◌≡◌, ◌<◌, ℕ, List, [], ◌∷◌, ◌++◌, Option, Some, true, false, length, replicate, slice_get, IfOk, OnOk};
+ghost use Rattle.std.specs.Prelude.{◌≡◌, ◌<◌, ℕ, List, [], ◌∷◌, ◌++◌, Option, Some, true, false, length, replicate, slice_get, IfOk, IfSome, OnOk};
 ghost use Rattle.avro_name.specs.Name.{Name};
-ghost use Rattle.avro_schema.specs.Fits.{fields_fit};
+ghost use Rattle.avro_schema.specs.Empty.{is_empty};
+ghost use Rattle.avro_schema.specs.Fits.{fields_fit, fits};
 ghost use Rattle.avro_schema.specs.Node.{Node, FieldNode, node_at, field_ids};
 ghost use Rattle.avro_schema.specs.Seen.{values_from, entries_from};
 ghost use Rattle.avro_schema.specs.Value.{Value};
 
 use std::alloc::{AllocError, Global};
 
-/// What is made from a datum of a node that is read, and from each of its parts, where the maker
-/// says what each part is for.
+/// What is made from a datum of a node that is read, and from each of its parts, where the maker says what each part is for.
 ///
-/// A call fails only where memory runs out. What a result stands for is said for the maker as it
-/// then is; it stays so for every later one that keeps it.
+/// A call fails only where memory runs out. What a result stands for is said for the maker as it then is; it stays so for every later one that keeps it.
 pub trait Make {
     /// What a part is for.
     type At: Copy;
@@ -54,6 +53,11 @@ pub trait Make {
 
     /// What the value of the next field is for.
     ghost field_at: { Self → Self.Fields → Self.At };
+
+    /// Makes at once what a datum without bytes is made into, or `None` where its parts are needed for that.
+    fn empty(&mut self, alloc: Global, at: Self::At) -> Result<Option<Self::Out>, AllocError>
+        ensures kept { OnOk result (keeps self.old self.new) }
+        ensures stands { (nodes : List Node) (n : Node) (v : Value) → fits nodes n v ≡ true → is_empty v ≡ true → IfOk result (λ o. IfSome o (λ out. stands_for self.new nodes n at out v)) };
 
     /// Makes null.
     fn null(&mut self, alloc: Global, at: Self::At) -> Result<Self::Out, AllocError>

@@ -67,6 +67,10 @@ impl<'b, B: Build> Make for Own<'b, B> {
 
     ghost field_at_kept = { λ s t fields kept. refl };
 
+    fn empty(&mut self, _alloc: Global, _at: ()) -> Result<Option<B::Out>, AllocError> {
+        Ok(None)
+    }
+
     fn null(&mut self, alloc: Global, _at: ()) -> Result<B::Out, AllocError> {
         self.builder.null(alloc)
     }

@@ -9,6 +9,7 @@ ghost use Rattle.avro_binary.specs.CursorReads.{ReadsNode, ReadsRun, ValuesRun, 
 ghost use Rattle.avro_binary.specs.Making.{Made};
 
 mod maps;
+mod records;
 
 use crate::cursor::Cursor;
 use crate::error::ReadError;
@@ -17,6 +18,7 @@ use crate::leaves::{
 };
 use crate::make::Make;
 use crate::reading::maps::read_map;
+use crate::reading::records::read_record;
 use avro_schema::{Field, Node, NodeId, Schema};
 use std::alloc::Global;
 
@@ -50,7 +52,7 @@ pub fn read_at<M: Make>(
         Node::Array(items) => read_array(alloc, schema, *items, cursor, maker, at),
         Node::Map(values) => read_map(alloc, schema, *values, cursor, maker, at),
         Node::Union(branches) => read_union(alloc, schema, branches, cursor, maker, at),
-        Node::Record(record) => read_record(alloc, schema, &record.fields, cursor, maker, at),
+        Node::Record(record) => read_record(alloc, schema, id, &record.fields, cursor, maker, at),
         Node::Enum(enumeration) => read_symbol(alloc, enumeration.symbols.len(), cursor, maker, at),
         Node::Fixed(fixed) => read_fixed(alloc, fixed.size, cursor, maker, at),
     }
@@ -192,10 +194,10 @@ fn read_branch<M: Make>(
     Ok(maker.branch(alloc, at, index as u32, value)?)
 }
 
-/// Reads a record.
+/// Enters a record, reads a datum for each field, and leaves it.
 #[cycle(reading)]
-#[inline(never)]
-fn read_record<M: Make>(
+#[inline(always)]
+fn enter_record<M: Make>(
     alloc: Global,
     schema: &Schema,
     fields: &[Field],

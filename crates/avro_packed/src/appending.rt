@@ -212,6 +212,12 @@ impl Make for Appending {
     ghost field_at_kept = { λ s t fields kept. refl };
 
     #[inline(always)]
+    fn empty(&mut self, _alloc: Global, at: Option<u32>) -> Result<Option<Written>, AllocError> {
+        let start = self.begin(at)?;
+        Ok(Some(self.since(start)))
+    }
+
+    #[inline(always)]
     fn null(&mut self, _alloc: Global, at: Option<u32>) -> Result<Written, AllocError> {
         let start = self.begin(at)?;
         Ok(self.since(start))

@@ -99,6 +99,14 @@ impl<'p, 'a, 'b, P: Put> Make for Resolving<'p, 'a, 'b, P> {
     ghost field_at_kept = { λ s t fields kept. ap (λ (g : List Node × List Node). field_part g.0 g.1 fields) kept.1 };
 
     #[inline(always)]
+    fn empty(&mut self, _alloc: Global, at: Part) -> Result<Option<Made<P::Out>>, AllocError> {
+        match at.at {
+            At::Ignored => Ok(Some(Made::Nothing)),
+            At::Pair(..) => Ok(None),
+        }
+    }
+
+    #[inline(always)]
     fn null(&mut self, alloc: Global, at: Part) -> Result<Made<P::Out>, AllocError> {
         match at.at {
             At::Ignored => Ok(Made::Nothing),

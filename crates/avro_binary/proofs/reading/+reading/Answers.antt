@@ -14,8 +14,10 @@ use Rattle.avro_binary.specs.Fault.{limit_exceeded}
 use Rattle.avro_binary.specs.Seen.{read_fault}
 use Rattle.avro_binary.specs.inside.CountsAgain.{CountsAgain}
 use Rattle.avro_binary.specs.Making.{Made}
-use Rattle.avro_binary.specs.CursorReads.{limits_at}
+use Rattle.avro_binary.specs.CursorValue.{CursorValue}
+use Rattle.avro_binary.specs.CursorReads.{ReadsNode, limits_at}
 use Rattle.avro_binary.proofs.BlockSteps.{head_read, end_read, has_size, blocks_none, head_refused, item_refused, size_refused, depth_kept, blob_kept, offset_is, block_smaller, blocks_push}
+use Rattle.avro_binary.proofs.EmptyReads.{reads_kept}
 use Rattle.avro_binary.proofs.NodeSteps.{node_left, node_refused, enter_refused, ArrayDone, array_found, map_found, FieldsDone, fields_none, branch_refused, union_found, branch_at, ids-length, texts-length, null_past, fields_push, field_breaks, record_found, record_refused, ids_split, ids_next, ids_all}
 use Rattle.avro_binary.proofs.public.Ranges.{bytes-below}
 use Rattle.avro_binary.proofs.Repeated.{others_last, same_reads}
@@ -374,7 +376,7 @@ read_at-returns-in-Str g t c =
 pub read_at-returns-in-Record : goal.read_at-returns-in-Record
 read_at-returns-in-Record g t c =
     let record_is = c.in-Record.record in
-    rw (sym c.node.ensures ∙ ap node_of c.in-Record.is, ← c.deref-in-Record.ensures.value) (c.read_record.ensures record_is.name record_is.aliases.items)
+    c.read_record.ensures record_is.name record_is.aliases.items (rw c.deref-in-Record.ensures.value (sym c.node.ensures ∙ ap node_of c.in-Record.is))
 
 pub read_at-returns-in-Enum : goal.read_at-returns-in-Enum
 read_at-returns-in-Enum g t c =
@@ -422,19 +424,19 @@ read_union-returns-in_err-out g t c =
     rw (p.1, p.2) (node_refused (schema_nodes c.args.schema.now) (Node.union (ids_of c.args.branches.now)) c.args.cursor.now c.enter.new.self c.read_branch.new.cursor c.read_branch.new.cursor
     c.in_err-out.field-0.0 c.in_ok-enter.ensures.entered c.in_err-out.ensures)
 
-pub read_record-returns-in_err-enter : goal.read_record-returns-in_err-enter
-read_record-returns-in_err-enter g t c = λ name aliases.
+pub enter_record-returns-in_err-enter : goal.enter_record-returns-in_err-enter
+enter_record-returns-in_err-enter g t c = λ name aliases.
     let p = err_from_is_err_and c.from_residual.result c.from_residual.ensures.1 in
     rw (p.1, p.2) (enter_refused (schema_nodes c.args.schema.now) (Node.record_of name aliases (seen_fields c.args.fields.now)) c.args.cursor.now c.enter.new.self c.in_err-enter.field-0.0 c.in_err-enter.ensures.refused)
 
-pub read_record-returns-in_err-out : goal.read_record-returns-in_err-out
-read_record-returns-in_err-out g t c = λ name aliases.
+pub enter_record-returns-in_err-out : goal.enter_record-returns-in_err-out
+enter_record-returns-in_err-out g t c = λ name aliases.
     let p = err_from_is_err_and c.from_residual-in_err-out.result c.from_residual-in_err-out.ensures.1 in
     rw (p.1, p.2) (node_refused (schema_nodes c.args.schema.now) (Node.record_of name aliases (seen_fields c.args.fields.now)) c.args.cursor.now c.enter.new.self c.read_fields.new.cursor c.read_fields.new.cursor
     c.in_err-out.field-0.0 c.in_ok-enter.ensures.entered (c.in_err-out.ensures name aliases))
 
-pub read_record-returns : goal.read_record-returns
-read_record-returns g t c = λ name aliases.
+pub enter_record-returns : goal.enter_record-returns
+enter_record-returns g t c = λ name aliases.
     let read = c.in_ok-out.ensures name aliases in
     let same = read.found.1.moves.depth in
     let entered = c.in_ok-enter.ensures.entered.depth in
@@ -444,6 +446,20 @@ read_record-returns g t c = λ name aliases.
     c.read_fields.new.cursor c.leave.new.self c.in_ok-out.out c.in_ok-enter.ensures.entered read (c.leave.ensures.freed deep)
 
 -- ---- Records
+
+pub records::read_record-returns-in-None : goal.records::read_record-returns-in-None
+records::read_record-returns-in-None g t c = λ name aliases is.
+    let nodes = schema_nodes c.args.schema.now in
+    let n = node_at nodes c.args.id.0 in
+    let maker = c.args.maker.now in
+    let mid = c.pass_empty.new.maker in
+    let made = c.enter_record.new.maker in
+    let after = c.enter_record.new.cursor in
+    let result = c.enter_record.result in
+    let passed = c.in_ok-out.ensures.none c.in-None.is in
+    let at_node = subst (λ (m : Node). ReadsNode (Made g.M.Make.keeps (λ s. g.M.Make.stands_for s nodes m c.args.at) mid made) nodes m c.pass_empty.new.cursor after result) (sym is) (c.enter_record.ensures name aliases) in
+    reads_kept g.M.Make.keeps (λ s. g.M.Make.stands_for s nodes n c.args.at) nodes n c.args.cursor.now after maker mid made (g.met.M.Make.keeps_on maker mid made passed.1) result
+    (subst (λ (before : CursorValue). ReadsNode (Made g.M.Make.keeps (λ s. g.M.Make.stands_for s nodes n c.args.at) mid made) nodes n before after result) passed.0 at_node)
 
 pub read_fields-returns-in_err-value : goal.read_fields-returns-in_err-value
 read_fields-returns-in_err-value g t c = λ name aliases.
