@@ -1,7 +1,8 @@
 //! A schema that is read, with its text.
 
-use avro_schema::{Empty, Node, NodeId, RecordNode, Schema};
+use avro_schema::{Empty, EmptyFields, Node, NodeId, RecordNode, Schema};
 use avro_schema_json::{ReaderText, SchemaError};
+use std::alloc::Global;
 use std::test::Fail;
 
 /// A record in a namespace, with aliases, and an enum that its three fields go to.
@@ -37,7 +38,7 @@ fn a_text_is_kept_with_its_schema(rt: HostRuntime) -> Result<(), Fail> {
     Ok(())
 }
 
-/// Three records, each of two of the one before, and beside them what takes a byte: the numbers of their nodes.
+/// A record of three others, each of which is twice in the next one, and of what may take a byte.
 const DOUBLED: &str = r#"{"type":"record","name":"A","fields":[{"name":"n","type":"null"},
     {"name":"b","type":{"type":"record","name":"B","fields":[
         {"name":"c","type":{"type":"record","name":"C","fields":[{"name":"z","type":{"type":"fixed","name":"Z","size":0}},{"name":"y","type":"Z"}]}},
@@ -68,5 +69,43 @@ fn data_without_bytes_are_known(rt: HostRuntime) -> Result<(), Fail> {
         ]
         .as_slice()
     );
+    Ok(())
+}
+
+/// A record of a boolean, a record without fields, and as many fields more of its type.
+fn beside_a_byte(alloc: Global, more: usize) -> Result<ReaderText, Fail> {
+    let mut text = String::new(alloc);
+    text.push_str(
+        r#"{"type":"record","name":"W","fields":[{"name":"b","type":"boolean"},{"name":"e","type":{"type":"record","name":"E","fields":[]}}"#,
+    )?;
+    for index in 0..more {
+        let field = format!(in alloc; r#",{{"name":"f{index}","type":"E"}}"#)?;
+        text.push_str(&field)?;
+    }
+    text.push_str("]}")?;
+    Ok(ReaderText::read(alloc, text.as_bytes())?)
+}
+
+#[test]
+fn fields_without_bytes_are_known(rt: HostRuntime) -> Result<(), Fail> {
+    let few = beside_a_byte(rt.alloc(), 6)?;
+    assert_eq!(rt; few.schema().empty_fields(NodeId(0)).len(), 0);
+    let many = beside_a_byte(rt.alloc(), 7)?;
+    let runs = many.schema().empty_fields(NodeId(0));
+    let counts: [u32; 9] = [0, 8, 7, 6, 5, 4, 3, 2, 1];
+    assert_eq!(rt; runs.len(), counts.len());
+    for (run, count) in runs.iter().zip(counts) {
+        let depth = u32::from(count > 0);
+        assert_eq!(rt;
+            *run,
+            EmptyFields {
+                fields: count,
+                nodes: count,
+                depth
+            }
+        );
+    }
+    assert_eq!(rt; many.schema().empty_fields(NodeId(2)).len(), 0);
+    assert_eq!(rt; many.schema().empty_fields(NodeId(3)).len(), 0);
     Ok(())
 }

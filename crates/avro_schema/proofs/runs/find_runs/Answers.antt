@@ -15,5 +15,5 @@ loop-i-preserved c = record {
       let same = ap node_of c.index-nodes-i.is ∙ node_here c.args.nodes.now c.loop-i.i c.index-nodes-i.result c.loop-i-test.true ∙ ap (node_at nodes) (sym c.loop-i.invariant.count) in
       subst (λ (lists : List (Vec EmptyFields)). AreAllRuns nodes lists) (sym c.in_ok-push.ensures.items)
       (list_behind nodes c.loop-i.lists.items c.in_ok-runs.runs (c.loop-i.invariant.found are)
-        (subst (λ (n : SeenNode). AreRuns nodes (ids_at n) c.in_ok-runs.runs.items) same (c.in_ok-runs.ensures nodes are)));
+      (subst (λ (n : SeenNode). AreRuns nodes (ids_at n) c.in_ok-runs.runs.items) same (c.in_ok-runs.ensures nodes are)));
 }
