@@ -6,6 +6,7 @@ use Rattle.avro_schema.specs.Value.{Value, no_values, no_entries, entry, size, d
 use Rattle.avro_schema.specs.Node.{Node, node_at, root_of}
 use Rattle.avro_schema.specs.Empty.{is_empty}
 use Rattle.avro_schema.specs.Empties.{empty_datum, has_measure}
+use Rattle.avro_schema.specs.Runs.{is_run}
 use Rattle.avro_schema.specs.Fits.{fits, is_within}
 use Rattle.avro_schema.proofs.public.RowsSchemas.{simply, one_value, two_values, map_of_int, linked_list, chain_of_four, doubled, record_of_itself}
 
@@ -169,3 +170,16 @@ enum_inside-not_empty = refl
 
 record_of_itself-not_empty : empty_datum 9 record_of_itself (root_of record_of_itself) ≡ None
 record_of_itself-not_empty = refl
+
+-- a record without fields twice, and one that has it as its field: how many of them, of how many nodes, how deep
+two_fields-run : is_run chain_of_four (1 ∷ 1 ∷ 2 ∷ []) (record { fields = 2; nodes = 2; depth = 1 }) ≡ true
+two_fields-run = refl
+
+three_fields-run : is_run chain_of_four (1 ∷ 1 ∷ 2 ∷ []) (record { fields = 3; nodes = 4; depth = 2 }) ≡ true
+three_fields-run = refl
+
+four_fields-no_run : is_run chain_of_four (1 ∷ 1 ∷ 2 ∷ []) (record { fields = 4; nodes = 4; depth = 2 }) ≡ false
+four_fields-no_run = refl
+
+depth_of_the_last-no_run : is_run chain_of_four (1 ∷ 2 ∷ 1 ∷ []) (record { fields = 3; nodes = 4; depth = 1 }) ≡ false
+depth_of_the_last-no_run = refl

@@ -1,9 +1,9 @@
 ghost use Rattle.std.specs.Prelude.{◌≤◌, vec_len};
 
 use crate::checking::check_nodes;
-use crate::empties::find_empties;
+use crate::empties::{find_empties, worth_keeping};
 use crate::fault::DraftError;
-use crate::runs::find_runs;
+use crate::runs::{find_runs, lists_with_entries};
 use crate::schema::{Node, NodeId, Schema};
 use std::alloc::Global;
 
@@ -63,8 +63,9 @@ impl Draft {
     {
         let alloc = *self.nodes.allocator();
         check_nodes(alloc, &self.nodes)?;
-        let empties = find_empties(alloc, &self.nodes)?;
-        let runs = find_runs(alloc, &self.nodes, &empties)?;
+        let known = find_empties(alloc, &self.nodes)?;
+        let runs = lists_with_entries(alloc, find_runs(alloc, &self.nodes, &known)?);
+        let empties = worth_keeping(alloc, &self.nodes, known);
         Ok(Schema::from_nodes(self.nodes, empties, runs))
     }
 }

@@ -174,3 +174,28 @@ pub(crate) fn find_empties(alloc: Global, nodes: &[Node]) -> Result<Vec<Option<E
     }
     Ok(known)
 }
+
+/// Whether the data of a record take no bytes, as far as is known.
+fn has_empty_record(nodes: &[Node], known: &[Option<Empty>]) -> bool {
+    for i in 0..nodes.len() {
+        if nodes[i].fields().is_some() && i < known.len() && known[i].is_some() {
+            return true;
+        }
+    }
+    false
+}
+
+/// What is known, or nothing where no record is among it: other data without bytes are read as fast as they are found.
+pub(crate) fn worth_keeping(
+    alloc: Global,
+    nodes: &[Node],
+    known: Vec<Option<Empty>>,
+) -> Vec<Option<Empty>>
+    ensures { AreEmpties (nodes_of nodes.now) known.items → AreEmpties (nodes_of nodes.now) result.items }
+{
+    if has_empty_record(nodes, &known) {
+        known
+    } else {
+        Vec::new(alloc)
+    }
+}

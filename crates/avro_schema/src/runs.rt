@@ -168,6 +168,30 @@ pub(crate) fn find_runs(
     Ok(lists)
 }
 
+/// Whether any list has an entry.
+fn has_entry(lists: &[Vec<EmptyFields>]) -> bool {
+    for runs in lists {
+        if runs.len() > 0 {
+            return true;
+        }
+    }
+    false
+}
+
+/// The lists, or none where no list has an entry.
+pub(crate) fn lists_with_entries(
+    alloc: Global,
+    lists: Vec<Vec<EmptyFields>>,
+) -> Vec<Vec<EmptyFields>>
+    ensures { (nodes : List SeenNode) → AreAllRuns nodes lists.items → AreAllRuns nodes result.items }
+{
+    if has_entry(&lists) {
+        lists
+    } else {
+        Vec::new(alloc)
+    }
+}
+
 /// What is known of the fields of a node.
 #[inline(always)]
 pub(crate) fn runs_at(lists: &[Vec<EmptyFields>], id: NodeId) -> &[EmptyFields]
