@@ -76,13 +76,16 @@ pub(crate) fn add_name(
     let Some(text) = text_of(content) else {
         return Err(NameError::NoText);
     };
-    if names.contains(text) {
-        return Err(NameError::Twice);
-    }
     let name = String::from_str(alloc, text)?;
     let kept = String::from_str(alloc, text)?;
     match names.insert(kept) {
-        Ok(_) => Ok(name),
+        Ok(is_new) => {
+            if is_new {
+                Ok(name)
+            } else {
+                Err(NameError::Twice)
+            }
+        }
         Err(_) => Err(NameError::OutOfMemory),
     }
 }

@@ -4,8 +4,8 @@ use Rattle.std.specs.BTreeSet.{contains_text}
 use Rattle.std.proofs.lemmas.Map.Text.{btree_set_updates_text}
 use Rattle.avro_container.proofs.header.properties.add_name.Goals as goal
 
-pub returns-in-Ok-clause-added : goal.returns-in-Ok-clause-added
-returns-in-Ok-clause-added c = λ word.
+pub returns-then-is_new-clause-added : goal.returns-then-is_new-clause-added
+returns-then-is_new-clause-added c = λ word.
     let key = string_bytes c.in_ok-kept.kept in
     let same : key ≡ c.args.content.now = c.in_ok-kept.ensures.ok ∙ c.in-Some.ensures.some in
     btree_set_updates_text key c.args.names.now c.insert.new.self true c.in-Ok.ensures.updates word
