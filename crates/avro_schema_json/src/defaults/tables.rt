@@ -12,9 +12,11 @@ ghost use Rattle.avro_schema_json.specs.inside.BranchKeys.{symbols_of, find_word
 ghost use Rattle.avro_schema_json.specs.inside.OwnDefaults.{all_without_defaults, without_defaults};
 
 use crate::defaults::branch_keys::key_at;
+use crate::defaults::columns::{columns_or_none, starts_of};
 use crate::defaults::counts::{count_of_parts, count_of_symbols};
 use crate::defaults::parts::parts_of;
 use crate::defaults::record_tables::first_of_records;
+use crate::defaults::table_at::no_table;
 use crate::defaults::union_table::UnionTable;
 use crate::raw::RawNode;
 use crate::raw_nodes::{branches, raw_at};
@@ -109,6 +111,8 @@ fn table_of<'a>(
     let symbols = first_of_symbols(alloc, raws, null, ids)?;
     let records = first_of_records(alloc, raws, null, ids)?;
     let parts = parts_of(alloc, raws, null, ids, has_parts)?;
+    let columns = columns_or_none(alloc, raws, null, ids, has_parts)?;
+    let starts = starts_of(alloc, &columns)?;
     Ok(UnionTable {
         first,
         other: ids.len(),
@@ -118,6 +122,8 @@ fn table_of<'a>(
         no_record: ids.len(),
         parts,
         no_part: ids.len(),
+        columns,
+        starts,
     })
 }
 
@@ -136,6 +142,8 @@ fn table_of_keys<'a>(
     let symbols = no_symbols(alloc);
     let records = first_of_records(alloc, raws, null, ids)?;
     let parts = parts_of(alloc, raws, null, ids, has_parts)?;
+    let columns = columns_or_none(alloc, raws, null, ids, has_parts)?;
+    let starts = starts_of(alloc, &columns)?;
     Ok(UnionTable {
         first,
         other: ids.len(),
@@ -145,23 +153,9 @@ fn table_of_keys<'a>(
         no_record: ids.len(),
         parts,
         no_part: ids.len(),
+        columns,
+        starts,
     })
-}
-
-/// No table: it leaves no branch out.
-pub(crate) fn no_table<'a>(alloc: Global) -> UnionTable<'a>
-    ensures { (nodes : List SeenNode) (ids : List ℕ) → IsTable nodes ids result }
-{
-    UnionTable {
-        first: BTreeMap::new(alloc),
-        other: 0,
-        symbols: BTreeMap::new(alloc),
-        no_symbol: 0,
-        records: Vec::new(alloc),
-        no_record: 0,
-        parts: Vec::new(alloc),
-        no_part: 0,
-    }
 }
 
 /// The table of some branches, with their symbols or without, and likewise their parts.
@@ -229,20 +223,4 @@ pub(crate) fn tables_of<'a>(
         }
     }
     Ok(tables)
-}
-
-/// The table of a union of an id.
-pub(crate) fn table_at<'a, 'b>(
-    raws: &[RawNode],
-    tables: &'a [UnionTable<'b>],
-    no_table: &'a UnionTable<'b>,
-    id: NodeId,
-    ids: &[NodeId],
-) -> &'a UnionTable<'b>
-    requires union { branches_of (node_at (all_without_defaults raws.now) id.0) ≡ Some (ids_of ids.now) }
-    requires tables { AreTables (all_without_defaults raws.now) tables.now }
-    requires no_table { (nodes : List SeenNode) (ids : List ℕ) → IsTable nodes ids no_table.now }
-    ensures { IsTable (all_without_defaults raws.now) (ids_of ids.now) result.now }
-{
-    tables.get(id.0 as usize).unwrap_or(no_table)
 }
