@@ -54,17 +54,18 @@ fn sum_of(counts: &BTreeMap<&str, usize>) -> usize {
     sum
 }
 
-/// The names that many branches have, where there are many: as many names as are looked for among all fields in
-/// a million steps.
+/// The names that many branches have: as many as are looked for among all fields, for each kind of JSON, in so
+/// many steps.
 fn names_of<'a>(
     alloc: Global,
     raws: &'a [RawNode<'a>],
     ids: &[NodeId],
+    most: usize,
 ) -> Result<Vec<&'a str>, Memory> {
     let mut names: Vec<&'a str> = Vec::new(alloc);
     let counts = counts_of_names(alloc, raws, ids)?;
-    let mut left = 1_000_000usize;
-    let steps = sum_of(&counts).saturating_add(ids.len());
+    let mut left = most;
+    let steps = sum_of(&counts).saturating_add(ids.len()).saturating_mul(6);
     for (name, count) in counts.iter() {
         if *count >= 16 && steps <= left {
             names.push(*name)?;
@@ -112,19 +113,20 @@ fn columns_of<'a>(
     Ok(columns)
 }
 
-/// The columns of the names that many branches have, or none: they refuse no branch.
+/// The columns of the names that many branches have, in so many steps, or none: they refuse no branch.
 pub(crate) fn columns_or_none<'a>(
     alloc: Global,
     raws: &'a [RawNode<'a>],
     null: &'a RawNode<'a>,
     ids: &[NodeId],
     has_columns: bool,
+    steps: usize,
 ) -> Result<Vec<Column<'a>>, Memory>
     requires { without_defaults null.now ≡ SeenNode.null }
     ensures { IfOk result (λ columns. AreColumns (all_without_defaults raws.now) (ids_of ids.now) columns.items) }
 {
     let names = if has_columns {
-        names_of(alloc, raws, ids)?
+        names_of(alloc, raws, ids, steps)?
     } else {
         Vec::new(alloc)
     };

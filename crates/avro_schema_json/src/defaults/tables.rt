@@ -103,6 +103,7 @@ fn table_of<'a>(
     null: &'a RawNode<'a>,
     ids: &[NodeId],
     has_parts: bool,
+    steps: usize,
 ) -> Result<UnionTable<'a>, Memory>
     requires { without_defaults null.now ≡ SeenNode.null }
     ensures { IfOk result (λ table. IsTable (all_without_defaults raws.now) (ids_of ids.now) table) }
@@ -111,7 +112,7 @@ fn table_of<'a>(
     let symbols = first_of_symbols(alloc, raws, null, ids)?;
     let records = first_of_records(alloc, raws, null, ids)?;
     let parts = parts_of(alloc, raws, null, ids, has_parts)?;
-    let columns = columns_or_none(alloc, raws, null, ids, has_parts)?;
+    let columns = columns_or_none(alloc, raws, null, ids, has_parts, steps)?;
     let starts = starts_of(alloc, &columns)?;
     Ok(UnionTable {
         first,
@@ -134,6 +135,7 @@ fn table_of_keys<'a>(
     null: &'a RawNode<'a>,
     ids: &[NodeId],
     has_parts: bool,
+    steps: usize,
 ) -> Result<UnionTable<'a>, Memory>
     requires { without_defaults null.now ≡ SeenNode.null }
     ensures { IfOk result (λ table. IsTable (all_without_defaults raws.now) (ids_of ids.now) table) }
@@ -142,7 +144,7 @@ fn table_of_keys<'a>(
     let symbols = no_symbols(alloc);
     let records = first_of_records(alloc, raws, null, ids)?;
     let parts = parts_of(alloc, raws, null, ids, has_parts)?;
-    let columns = columns_or_none(alloc, raws, null, ids, has_parts)?;
+    let columns = columns_or_none(alloc, raws, null, ids, has_parts, steps)?;
     let starts = starts_of(alloc, &columns)?;
     Ok(UnionTable {
         first,
@@ -166,14 +168,15 @@ fn table_of_branches<'a>(
     ids: &[NodeId],
     has_symbols: bool,
     has_parts: bool,
+    steps: usize,
 ) -> Result<UnionTable<'a>, Memory>
     requires { without_defaults null.now ≡ SeenNode.null }
     ensures { IfOk result (λ table. IsTable (all_without_defaults raws.now) (ids_of ids.now) table) }
 {
     if has_symbols {
-        table_of(alloc, raws, null, ids, has_parts)
+        table_of(alloc, raws, null, ids, has_parts, steps)
     } else {
-        table_of_keys(alloc, raws, null, ids, has_parts)
+        table_of_keys(alloc, raws, null, ids, has_parts, steps)
     }
 }
 
@@ -185,19 +188,20 @@ fn table_of_node<'a>(
     raw: &RawNode,
     has_symbols: bool,
     has_parts: bool,
+    steps: usize,
 ) -> Result<UnionTable<'a>, Memory>
     requires { without_defaults null.now ≡ SeenNode.null }
     ensures { IfOk result (λ table. (ids : List ℕ) → branches_of (without_defaults raw.now) ≡ Some ids → IsTable (all_without_defaults raws.now) ids table) }
 {
     match branches(raw) {
-        Some(ids) => table_of_branches(alloc, raws, null, ids, has_symbols, has_parts),
+        Some(ids) => table_of_branches(alloc, raws, null, ids, has_symbols, has_parts, steps),
         None => Ok(no_table(alloc)),
     }
 }
 
 /// A table for each union among the nodes. Those of the later ones have no symbols once a million are kept, and
 /// no parts once a million are, nor has one of more than 100,000: an enum or a record of many may be a branch of
-/// many unions.
+/// many unions. Columns take at most 12 million steps in all, and half of them for one union.
 pub(crate) fn tables_of<'a>(
     alloc: Global,
     raws: &'a [RawNode<'a>],
@@ -209,13 +213,17 @@ pub(crate) fn tables_of<'a>(
     let mut tables: Vec<UnionTable<'a>> = Vec::new(alloc);
     let mut left = 1_000_000usize;
     let mut parts_left = 1_000_000usize;
+    let mut steps_left = 12_000_000usize;
     for raw in raws {
         let count = count_of_symbols(raws, raw);
         let has_symbols = count <= left;
         let most = parts_left.min(100_000);
         let parts = count_of_parts(raws, raw, most);
         let has_parts = parts <= most;
-        let table = table_of_node(alloc, raws, null, raw, has_symbols, has_parts)?;
+        let steps = steps_left.min(6_000_000);
+        let table = table_of_node(alloc, raws, null, raw, has_symbols, has_parts, steps)?;
+        let taken = table.columns.len().saturating_mul(parts);
+        steps_left = steps_left.saturating_sub(taken);
         tables.push(table)?;
         parts_left = parts_left.saturating_sub(parts);
         if has_symbols {
