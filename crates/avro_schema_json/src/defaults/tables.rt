@@ -201,7 +201,7 @@ fn table_of_node<'a>(
 
 /// A table for each union among the nodes. Those of the later ones have no symbols once a million are kept, and
 /// no parts once a million are, nor has one of more than 100,000: an enum or a record of many may be a branch of
-/// many unions. Columns take at most 12 million steps in all, and half of them for one union.
+/// many unions. Columns take at most 4 million steps in all, and half of them for one union.
 pub(crate) fn tables_of<'a>(
     alloc: Global,
     raws: &'a [RawNode<'a>],
@@ -213,14 +213,14 @@ pub(crate) fn tables_of<'a>(
     let mut tables: Vec<UnionTable<'a>> = Vec::new(alloc);
     let mut left = 1_000_000usize;
     let mut parts_left = 1_000_000usize;
-    let mut steps_left = 12_000_000usize;
+    let mut steps_left = 4_000_000usize;
     for raw in raws {
         let count = count_of_symbols(raws, raw);
         let has_symbols = count <= left;
         let most = parts_left.min(100_000);
         let parts = count_of_parts(raws, raw, most);
         let has_parts = parts <= most;
-        let steps = steps_left.min(6_000_000);
+        let steps = steps_left.min(2_000_000);
         let table = table_of_node(alloc, raws, null, raw, has_symbols, has_parts, steps)?;
         let taken = table.columns.len().saturating_mul(parts);
         steps_left = steps_left.saturating_sub(taken);
