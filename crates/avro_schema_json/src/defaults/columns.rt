@@ -125,7 +125,7 @@ pub(crate) fn columns_or_none<'a>(
     requires { without_defaults null.now ≡ SeenNode.null }
     ensures { IfOk result (λ columns. AreColumns (all_without_defaults raws.now) (ids_of ids.now) columns.items) }
 {
-    let names = if has_columns {
+    let names = if has_columns && steps > 0 {
         names_of(alloc, raws, ids, steps)?
     } else {
         Vec::new(alloc)

@@ -199,6 +199,15 @@ fn table_of_node<'a>(
     }
 }
 
+/// How many steps the columns of a union of so many parts may take, or 0 where not one name may be looked for.
+fn steps_for(left: usize, parts: usize) -> usize {
+    if parts.saturating_mul(6) > left {
+        0
+    } else {
+        left.min(2_000_000)
+    }
+}
+
 /// A table for each union among the nodes. Those of the later ones have no symbols once a million are kept, and
 /// no parts once a million are, nor has one of more than 100,000: an enum or a record of many may be a branch of
 /// many unions. Columns take at most 4 million steps in all, and half of them for one union.
@@ -220,7 +229,7 @@ pub(crate) fn tables_of<'a>(
         let most = parts_left.min(100_000);
         let parts = count_of_parts(raws, raw, most);
         let has_parts = parts <= most;
-        let steps = steps_left.min(2_000_000);
+        let steps = steps_for(steps_left, parts);
         let table = table_of_node(alloc, raws, null, raw, has_symbols, has_parts, steps)?;
         let taken = table.columns.len().saturating_mul(parts);
         steps_left = steps_left.saturating_sub(taken);
