@@ -280,6 +280,17 @@ def same_kinds(count, field, item):
     return text
 
 
+def by_turns(count):
+    """The same of objects of two members: the first of these records differs in one of the two, the next in the other, and so on."""
+    def text(size):
+        most = min(count, size // 400)
+        def fields(k):
+            types = ["int", "int"] if k == most - 1 else ["int", fixed("F%d" % k)] if k % 2 else [fixed("F%d" % k), "int"]
+            return [{"name": name, "type": of_field} for name, of_field in zip("ab", types)]
+        return of_union([{"type": "record", "name": "R%d" % k, "fields": fields(k)} for k in range(most)], {"a": 1, "b": 2})(size)
+    return text
+
+
 def plain_fields(names):
     """Fields of int, the last of another type."""
     return lambda k, leaf: [{"name": name, "type": leaf if name == names[-1] else "int"} for name in names]
@@ -353,6 +364,8 @@ KINDS = {
     "alike arrays in a record": alike(1000, {"a": {"a": [7]}}, inside(inside(leaf_of, in_array), in_record)),
     "alike sizes": same_kinds(1000, lambda k, left: dict(fixed("F%d" % k), size=left), {"a": ""}),
     "alike unions": same_kinds(1000, lambda k, left: ["null", "boolean" if left else "int"], {"a": 1}),
+    "alike symbols": same_kinds(1000, lambda k, left: {"type": "enum", "name": "E%d" % k, "symbols": ["s%d" % left]}, {"a": "s0"}),
+    "alike by turns": by_turns(1000),
     "alike in an array": alike(800, {"a": [{"a": 1, "b": 2}]}, inside(lambda k, leaf: in_record(k, plain_fields("ab")(k, leaf)), in_array)),
 }
 

@@ -17,6 +17,7 @@ pub mod ReadSeen
 mod KnownFound
 pub mod MadeSound
 pub mod MisfitsSeen
+pub mod ColumnsSeen
 pub mod DefaultsFit
 pub mod RepeatsSeen
 pub mod TablesSeen

@@ -241,7 +241,7 @@ object-kept nodes before after ms g i all index ids members =
 -- ---- what is known of parts
 
 -- one more item
-pushed : {A : Type 0} (xs : List A) (p : A) (i : ℕ) (q : A) → slice_get (xs ++ p ∷ []) i ≡ Some q → (slice_get xs i ≡ Some q) ⊎ ((length xs ≡ i) × (p ≡ q))
+pub pushed : {A : Type 0} (xs : List A) (p : A) (i : ℕ) (q : A) → slice_get (xs ++ p ∷ []) i ≡ Some q → (slice_get xs i ≡ Some q) ⊎ ((length xs ≡ i) × (p ≡ q))
 pushed [] p zero q h = inr (refl, cc)
 pushed [] p (suc i) q h = inl h
 pushed (x ∷ xs) p zero q h = inl h

@@ -10,6 +10,7 @@ pub mod Misfits
 pub mod NameRefusal
 pub mod OwnDefaults
 pub mod Parts
+pub mod Probes
 pub mod Repeats
 pub mod SymbolIndices
 pub mod SeenRaw

@@ -14,18 +14,25 @@ ghost use Rattle.serde_json.specs.View.{view, items_view, members_view};
 mod array_misfit;
 mod asks;
 mod branch_keys;
+pub(crate) mod column;
+mod columns;
 mod counts;
 mod fields;
 mod first_branches;
+mod flat;
 pub(crate) mod gathered;
 mod known;
+mod member_codes;
 mod misfit;
 mod misfits;
 mod object_misfit;
 mod part_starts;
 mod parts;
 mod plain_defaults;
+pub(crate) mod probe;
+mod probes;
 mod record_tables;
+mod table_at;
 pub(crate) mod tables;
 mod unfit;
 pub(crate) mod union_table;
@@ -41,7 +48,8 @@ use crate::defaults::misfits::gather;
 use crate::defaults::plain_defaults::{
     boolean_default, null_default, number_default, text_default,
 };
-use crate::defaults::tables::{no_table, table_at};
+use crate::defaults::probes::{is_refused, probes_of};
+use crate::defaults::table_at::{no_table, table_at};
 use crate::defaults::unfit::{characters_of, is_unfit};
 use crate::defaults::union_table::UnionTable;
 use crate::raw::{RawField, RawNode};
@@ -130,8 +138,12 @@ fn branch_default(
     let start = first_branch(table, tree, characters)?;
     let nothing: BTreeSet<u32> = BTreeSet::new(alloc);
     let misfits = misfits_at(&*all, &nothing, known);
+    let probes = probes_of(alloc, table, tree)?;
     for i in start..ids.len() {
         let id = ids[i];
+        if is_refused(&probes, i) {
+            continue;
+        }
         if is_unfit(raws, null, tree, characters, id) {
             continue;
         }

@@ -10,7 +10,10 @@ use Rattle.avro_schema.specs.Node.{Node, FieldNode, node_at, branches_of}
 use Rattle.serde_json.specs.Data.{Data, Members, no_members, member}
 use Rattle.serde_json.specs.Find.{get_member}
 use Rattle.avro_schema_json.specs.DeclaredAttributes.{symbol_index}
-use Rattle.avro_schema_json.specs.inside.OwnDefaults.{own_default}
+use Rattle.avro_schema_json.specs.DeclaredDefaults.{default_of}
+use Rattle.avro_schema_json.specs.inside.Characters.{characters_in}
+use Rattle.avro_schema_json.specs.inside.OwnDefaults.{own_default, default_of_fields}
+use Rattle.avro_schema_json.specs.declared.defaults.column.Column.{Column}
 use Rattle.avro_schema_json.specs.declared.defaults.union_table.UnionTable.{UnionTable}
 
 -- a record without fields, and one with some
@@ -155,13 +158,46 @@ ArePartsSkipped nodes ids parts other =
     (steps kind : ℕ) (names : BTreeMap (Bor (List ℕ)) ℕ) (word : List ℕ) → kind < 9 → slice_get parts (steps * 9 + kind) ≡ Some names
     → SkipsPart nodes ids steps kind word 0 (unwrap_or (find_word names word) other)
 
+-- ---- columns: a code is 0 where no JSON of a kind fits, n + 2 where only a text of n characters may, and 1 where more may
+
+-- the code refuses the JSON
+abbrev pub Refuses : ℕ → Data → Type 0
+Refuses code d = (code ≡ 1 → ⊥) × (code ≡ characters_in d + 2 → ⊥)
+
+-- the JSON that the code refuses, of a kind, is no default of a node itself
+abbrev pub IsOwnCode : List Node → ℕ → Node → ℕ → Type 0
+IsOwnCode nodes kind n code = (d : Data) → kind_key d ≡ kind → Refuses code d → own_default nodes d n ≡ None
+
+-- nor of one of its branches
+abbrev pub IsCode : List Node → ℕ → Node → ℕ → Type 0
+IsCode nodes kind n code = (d : Data) → kind_key d ≡ kind → Refuses code d → default_of nodes d n ≡ None
+
+-- an object is no record of fields where the code refuses its member of a name
+abbrev pub IsFieldCode : List Node → List ℕ → ℕ → List FieldNode → ℕ → Type 0
+IsFieldCode nodes name kind fields code =
+    (d : Data) (ms : Members) → get_member name ms ≡ Some d → kind_key d ≡ kind → Refuses code d → default_of_fields nodes ms fields ≡ None
+
+-- nor is it one of a branch
+abbrev pub IsMemberCode : List Node → List ℕ → ℕ → Node → ℕ → Type 0
+IsMemberCode nodes name kind n code =
+    (d : Data) (ms : Members) → get_member name ms ≡ Some d → kind_key d ≡ kind → Refuses code d → own_default nodes (Data.object ms) n ≡ None
+
+-- a code for each branch
+abbrev pub AreCodes : List Node → List ℕ → List ℕ → ℕ → List ℕ → Type 0
+AreCodes nodes ids name kind codes =
+    (j id code : ℕ) → slice_get ids j ≡ Some id → slice_get codes j ≡ Some code → IsMemberCode nodes name kind (node_at nodes id) code
+
+abbrev pub AreColumns : List Node → List ℕ → List Column → Type 0
+AreColumns nodes ids columns = (k : ℕ) (column : Column) → slice_get columns k ≡ Some column → AreCodes nodes ids column.name.now column.kind column.codes.items
+
 -- no branch of a key is before the index that a table has for it, no enum of a symbol, no record by its first field,
--- and none by its parts
+-- none by its parts, and its columns are of its branches
 abbrev pub IsTable : List Node → List ℕ → UnionTable → Type 0
 IsTable nodes ids table =
     ((key : ℕ) → Skips nodes ids key 0 (unwrap_or (get nat_cmp table.first key) table.other))
     × ((word : List ℕ) → SkipsSymbol nodes ids word 0 (unwrap_or (find_word table.symbols word) table.no_symbol))
     × AreRecordsSkipped nodes ids table.records.items table.no_record × ArePartsSkipped nodes ids table.parts.items table.no_part
+    × AreColumns nodes ids table.columns.items
 
 -- one table for each union
 abbrev pub AreTables : List Node → List UnionTable → Type 0

@@ -2,7 +2,10 @@
 //! not what is found: a node that is not asked about is tried when its turn comes.
 
 use crate::defaults::first_branches::first_branch;
+use crate::defaults::flat::{has_parts, is_flat};
 use crate::defaults::object_misfit::lacks_field;
+use crate::defaults::probe::Probe;
+use crate::defaults::probes::{is_refused, probes_of};
 use crate::defaults::unfit::characters_of;
 use crate::defaults::union_table::UnionTable;
 use crate::raw::{RawField, RawNode};
@@ -45,16 +48,20 @@ impl Asked {
         Ok(())
     }
 
-    /// Asks about those of more nodes, from an index on, for which JSON is looked into.
+    /// Asks about those of more nodes, from an index on, for which JSON is looked into, and which its members
+    /// don't refuse.
     fn add_entered(
         &mut self,
         raws: &[RawNode],
         tree: &Value,
         ids: &[NodeId],
         start: usize,
+        probes: &[Probe],
     ) -> Result<(), Memory> {
         for i in start..ids.len() {
-            self.add_if_entered(raws, tree, ids[i])?;
+            if !is_refused(probes, i) {
+                self.add_if_entered(raws, tree, ids[i])?;
+            }
         }
         Ok(())
     }
@@ -83,8 +90,9 @@ pub(crate) fn repeated_ids(
         return Ok(repeated);
     }
     let start = first_branch(table, tree, characters_of(tree))?;
+    let probes = probes_of(alloc, table, tree)?;
     for i in start..ids.len() {
-        if may_enter(raws, tree, ids[i]) {
+        if !is_refused(&probes, i) && may_enter(raws, tree, ids[i]) {
             repeated.push(ids[i])?;
         }
     }
@@ -99,35 +107,17 @@ fn start_of(tables: &[UnionTable], tree: &Value, id: NodeId) -> Result<usize, Me
     }
 }
 
-/// Whether JSON has no part that is an array or an object.
-fn is_flat(tree: &Value) -> bool {
-    match tree {
-        Value::Array(items) => are_leaves(items),
-        Value::Object(members) => {
-            for (_, member) in members.iter() {
-                if has_parts(member) {
-                    return false;
-                }
-            }
-            true
-        }
-        _ => true,
+/// What the branches of a union ask of the members of JSON.
+fn probes_at<'a>(
+    alloc: Global,
+    tables: &'a [UnionTable<'_>],
+    tree: &Value,
+    id: NodeId,
+) -> Result<Vec<Probe<'a>>, Memory> {
+    match tables.get(id.0 as usize) {
+        Some(table) => probes_of(alloc, table, tree),
+        None => Ok(Vec::new(alloc)),
     }
-}
-
-/// Whether none of some items is an array or an object.
-pub(crate) fn are_leaves(items: &[Value]) -> bool {
-    for item in items {
-        if has_parts(item) {
-            return false;
-        }
-    }
-    true
-}
-
-/// Whether JSON is an array or an object.
-pub(crate) fn has_parts(tree: &Value) -> bool {
-    tree.is_array() || tree.is_object()
 }
 
 /// Whether JSON is looked into for the node of an id: an array for an array, an object for a map or a
@@ -154,7 +144,8 @@ pub(crate) fn own_ids(
         match raws.get(id.0 as usize) {
             Some(RawNode::Union(branches)) => {
                 let start = start_of(tables, tree, *id)?;
-                own.add_entered(raws, tree, branches, start)?;
+                let probes = probes_at(alloc, tables, tree, *id)?;
+                own.add_entered(raws, tree, branches, start, &probes)?;
             }
             _ => own.add_if_entered(raws, tree, *id)?,
         }

@@ -13,7 +13,8 @@ ghost use Rattle.serde_json.specs.View.{view};
 use crate::defaults::first_branches::first_branch;
 use crate::defaults::known::has;
 use crate::defaults::plain_defaults::{number_default, text_default};
-use crate::defaults::tables::{no_table, table_at};
+use crate::defaults::probes::{is_refused, probes_of};
+use crate::defaults::table_at::{no_table, table_at};
 use crate::defaults::unfit::{characters_of, is_unfit};
 use crate::defaults::union_table::UnionTable;
 use crate::raw::RawNode;
@@ -66,8 +67,13 @@ fn fits_no_branch(
 {
     let characters = characters_of(tree);
     let start = first_branch(table, tree, characters)?;
+    let probes = probes_of(alloc, table, tree)?;
     for i in start..ids.len() {
-        if !is_own_misfit(alloc, raws, null, tree, characters, known, ids[i])? {
+        let id = ids[i];
+        if is_refused(&probes, i) {
+            continue;
+        }
+        if !is_own_misfit(alloc, raws, null, tree, characters, known, id)? {
             return Ok(false);
         }
     }

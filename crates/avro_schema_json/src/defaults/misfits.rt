@@ -9,7 +9,8 @@ ghost use Rattle.serde_json.specs.Data.{Data};
 ghost use Rattle.serde_json.specs.View.{view, items_view, members_view};
 
 use crate::defaults::array_misfit::is_array_misfit;
-use crate::defaults::asks::{are_leaves, asked_items, asked_members, has_parts, own_ids};
+use crate::defaults::asks::{asked_items, asked_members, own_ids};
+use crate::defaults::flat::{are_leaves, has_parts};
 use crate::defaults::gathered::Gathered;
 use crate::defaults::known::{keep_array, keep_object};
 use crate::defaults::object_misfit::is_object_misfit;

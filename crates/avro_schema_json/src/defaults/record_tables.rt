@@ -14,7 +14,7 @@ use std::alloc::Global;
 use std::collections::BTreeMap;
 
 /// The kind of a field by its node: that of the JSON that may fit, or 6 for a union, which may take any.
-fn kind_of(node: &RawNode) -> usize
+pub(crate) fn kind_of(node: &RawNode) -> usize
     ensures { result ≡ field_key (without_defaults node.now) }
 {
     match node {

@@ -12,9 +12,11 @@ ghost use Rattle.avro_schema_json.specs.inside.BranchKeys.{symbols_of, find_word
 ghost use Rattle.avro_schema_json.specs.inside.OwnDefaults.{all_without_defaults, without_defaults};
 
 use crate::defaults::branch_keys::key_at;
+use crate::defaults::columns::{columns_or_none, starts_of};
 use crate::defaults::counts::{count_of_parts, count_of_symbols};
 use crate::defaults::parts::parts_of;
 use crate::defaults::record_tables::first_of_records;
+use crate::defaults::table_at::no_table;
 use crate::defaults::union_table::UnionTable;
 use crate::raw::RawNode;
 use crate::raw_nodes::{branches, raw_at};
@@ -101,6 +103,7 @@ fn table_of<'a>(
     null: &'a RawNode<'a>,
     ids: &[NodeId],
     has_parts: bool,
+    steps: usize,
 ) -> Result<UnionTable<'a>, Memory>
     requires { without_defaults null.now ≡ SeenNode.null }
     ensures { IfOk result (λ table. IsTable (all_without_defaults raws.now) (ids_of ids.now) table) }
@@ -109,6 +112,8 @@ fn table_of<'a>(
     let symbols = first_of_symbols(alloc, raws, null, ids)?;
     let records = first_of_records(alloc, raws, null, ids)?;
     let parts = parts_of(alloc, raws, null, ids, has_parts)?;
+    let columns = columns_or_none(alloc, raws, null, ids, has_parts, steps)?;
+    let starts = starts_of(alloc, &columns)?;
     Ok(UnionTable {
         first,
         other: ids.len(),
@@ -118,6 +123,8 @@ fn table_of<'a>(
         no_record: ids.len(),
         parts,
         no_part: ids.len(),
+        columns,
+        starts,
     })
 }
 
@@ -128,6 +135,7 @@ fn table_of_keys<'a>(
     null: &'a RawNode<'a>,
     ids: &[NodeId],
     has_parts: bool,
+    steps: usize,
 ) -> Result<UnionTable<'a>, Memory>
     requires { without_defaults null.now ≡ SeenNode.null }
     ensures { IfOk result (λ table. IsTable (all_without_defaults raws.now) (ids_of ids.now) table) }
@@ -136,6 +144,8 @@ fn table_of_keys<'a>(
     let symbols = no_symbols(alloc);
     let records = first_of_records(alloc, raws, null, ids)?;
     let parts = parts_of(alloc, raws, null, ids, has_parts)?;
+    let columns = columns_or_none(alloc, raws, null, ids, has_parts, steps)?;
+    let starts = starts_of(alloc, &columns)?;
     Ok(UnionTable {
         first,
         other: ids.len(),
@@ -145,23 +155,9 @@ fn table_of_keys<'a>(
         no_record: ids.len(),
         parts,
         no_part: ids.len(),
+        columns,
+        starts,
     })
-}
-
-/// No table: it leaves no branch out.
-pub(crate) fn no_table<'a>(alloc: Global) -> UnionTable<'a>
-    ensures { (nodes : List SeenNode) (ids : List ℕ) → IsTable nodes ids result }
-{
-    UnionTable {
-        first: BTreeMap::new(alloc),
-        other: 0,
-        symbols: BTreeMap::new(alloc),
-        no_symbol: 0,
-        records: Vec::new(alloc),
-        no_record: 0,
-        parts: Vec::new(alloc),
-        no_part: 0,
-    }
 }
 
 /// The table of some branches, with their symbols or without, and likewise their parts.
@@ -172,14 +168,15 @@ fn table_of_branches<'a>(
     ids: &[NodeId],
     has_symbols: bool,
     has_parts: bool,
+    steps: usize,
 ) -> Result<UnionTable<'a>, Memory>
     requires { without_defaults null.now ≡ SeenNode.null }
     ensures { IfOk result (λ table. IsTable (all_without_defaults raws.now) (ids_of ids.now) table) }
 {
     if has_symbols {
-        table_of(alloc, raws, null, ids, has_parts)
+        table_of(alloc, raws, null, ids, has_parts, steps)
     } else {
-        table_of_keys(alloc, raws, null, ids, has_parts)
+        table_of_keys(alloc, raws, null, ids, has_parts, steps)
     }
 }
 
@@ -191,19 +188,29 @@ fn table_of_node<'a>(
     raw: &RawNode,
     has_symbols: bool,
     has_parts: bool,
+    steps: usize,
 ) -> Result<UnionTable<'a>, Memory>
     requires { without_defaults null.now ≡ SeenNode.null }
     ensures { IfOk result (λ table. (ids : List ℕ) → branches_of (without_defaults raw.now) ≡ Some ids → IsTable (all_without_defaults raws.now) ids table) }
 {
     match branches(raw) {
-        Some(ids) => table_of_branches(alloc, raws, null, ids, has_symbols, has_parts),
+        Some(ids) => table_of_branches(alloc, raws, null, ids, has_symbols, has_parts, steps),
         None => Ok(no_table(alloc)),
+    }
+}
+
+/// How many steps the columns of a union of so many parts may take, or 0 where not one name may be looked for.
+fn steps_for(left: usize, parts: usize) -> usize {
+    if parts.saturating_mul(6) > left {
+        0
+    } else {
+        left.min(2_000_000)
     }
 }
 
 /// A table for each union among the nodes. Those of the later ones have no symbols once a million are kept, and
 /// no parts once a million are, nor has one of more than 100,000: an enum or a record of many may be a branch of
-/// many unions.
+/// many unions. Columns take at most 4 million steps in all, and half of them for one union.
 pub(crate) fn tables_of<'a>(
     alloc: Global,
     raws: &'a [RawNode<'a>],
@@ -215,13 +222,17 @@ pub(crate) fn tables_of<'a>(
     let mut tables: Vec<UnionTable<'a>> = Vec::new(alloc);
     let mut left = 1_000_000usize;
     let mut parts_left = 1_000_000usize;
+    let mut steps_left = 4_000_000usize;
     for raw in raws {
         let count = count_of_symbols(raws, raw);
         let has_symbols = count <= left;
         let most = parts_left.min(100_000);
         let parts = count_of_parts(raws, raw, most);
         let has_parts = parts <= most;
-        let table = table_of_node(alloc, raws, null, raw, has_symbols, has_parts)?;
+        let steps = steps_for(steps_left, parts);
+        let table = table_of_node(alloc, raws, null, raw, has_symbols, has_parts, steps)?;
+        let taken = table.columns.len().saturating_mul(parts);
+        steps_left = steps_left.saturating_sub(taken);
         tables.push(table)?;
         parts_left = parts_left.saturating_sub(parts);
         if has_symbols {
@@ -229,20 +240,4 @@ pub(crate) fn tables_of<'a>(
         }
     }
     Ok(tables)
-}
-
-/// The table of a union of an id.
-pub(crate) fn table_at<'a, 'b>(
-    raws: &[RawNode],
-    tables: &'a [UnionTable<'b>],
-    no_table: &'a UnionTable<'b>,
-    id: NodeId,
-    ids: &[NodeId],
-) -> &'a UnionTable<'b>
-    requires union { branches_of (node_at (all_without_defaults raws.now) id.0) ≡ Some (ids_of ids.now) }
-    requires tables { AreTables (all_without_defaults raws.now) tables.now }
-    requires no_table { (nodes : List SeenNode) (ids : List ℕ) → IsTable nodes ids no_table.now }
-    ensures { IsTable (all_without_defaults raws.now) (ids_of ids.now) result.now }
-{
-    tables.get(id.0 as usize).unwrap_or(no_table)
 }

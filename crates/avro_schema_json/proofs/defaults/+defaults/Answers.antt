@@ -1,4 +1,4 @@
-use Rattle.std.proofs.Common.{◌≡◌, ◌+◌, ℕ, List, Some, option_map, sym, ap, ◌∙◌}
+use Rattle.std.proofs.Common.{◌≡◌, ◌+◌, ℕ, List, Some, option_map, sym, ap, subst, ◌∙◌}
 use Rattle.avro_schema.specs.Node.{node_at, branches_of}
 use Rattle.avro_schema.specs.Seen.{value_of, ids_of}
 use Rattle.avro_schema.specs.Value.{Value}
@@ -7,7 +7,10 @@ use Rattle.serde_json.specs.Find.{get_member}
 use Rattle.serde_json.specs.View.{view, items_view, members_view}
 use Rattle.serde_json.proofs.Views.{view-lookup}
 use Rattle.avro_schema_json.specs.DeclaredDefaults.{each_default, entries_default}
+use Rattle.avro_schema_json.specs.declared.defaults.probe.Probe.{Probe}
 use Rattle.avro_schema_json.specs.inside.OwnDefaults.{all_without_defaults, fields_seen}
+use Rattle.avro_schema_json.specs.inside.Probes.{AreProbes}
+use Rattle.avro_schema_json.proofs.ColumnsSeen.{branch-refused}
 use Rattle.avro_schema_json.proofs.DefaultsSeen.{default-union, entries_end}
 use Rattle.avro_schema_json.proofs.DefaultSteps.{item_next, items_end, entry_next, fields_left, field_next, field_stop, field_missing, fields_end}
 use Rattle.avro_schema_json.proofs.MisfitsSeen.{branch-skip, branch-pass, item-at, left-first, left-next}
@@ -39,6 +42,17 @@ branch_default-loop-i-init t c =
     let nodes = all_without_defaults c.args.raws.now in
     let ids = c.args.ids.now in
     begins_late nodes (view c.args.tree.now) ids c.in_ok-start.start (c.in_ok-start.ensures nodes (ids_of ids) c.requires.table)
+
+pub branch_default-loop-i-preserved-then-is_refused : goal.branch_default-loop-i-preserved-then-is_refused
+branch_default-loop-i-preserved-then-is_refused t c =
+    let nodes = all_without_defaults c.args.raws.now in
+    let d = view c.args.tree.now in
+    let ids = c.args.ids.now in
+    branch-refused nodes d ids c.loop-i.i _ c.loop-i-test.true
+    (λ id at.
+    c.is_refused.ensures c.if-is_refused.true nodes (ids_of ids) d id
+    (subst (λ (ps : List Probe). AreProbes nodes (ids_of ids) d ps) (sym c.deref.ensures.value) (c.in_ok-probes.ensures nodes (ids_of ids) c.requires.table)) at)
+    c.loop-i.invariant
 
 pub branch_default-loop-i-preserved-then-has : goal.branch_default-loop-i-preserved-then-has
 branch_default-loop-i-preserved-then-has t c =

@@ -10,4 +10,5 @@ returns c = (
       symbols_none (all_without_defaults c.args.raws.now) (ids_of c.args.ids.now) c.no_symbols-symbols.result word (c.no_symbols-symbols.ensures word),
   c.in_ok-records.ensures,
   c.in_ok-parts.ensures,
+  c.in_ok-columns.ensures,
 )

@@ -5,7 +5,7 @@ use Rattle.avro_schema_json.specs.inside.BranchKeys.{IsTable}
 use Rattle.avro_schema_json.specs.inside.OwnDefaults.{all_without_defaults}
 use Rattle.avro_schema_json.specs.declared.defaults.union_table.UnionTable.{UnionTable}
 use Rattle.avro_schema_json.proofs.TablesSeen.{table-there}
-use Rattle.avro_schema_json.proofs.defaults.tables.table_at.Goals as goal
+use Rattle.avro_schema_json.proofs.defaults.table_at.table_at.Goals as goal
 
 behind : (found : Option (Bor UnionTable)) (nothing : Bor UnionTable) → (unwrap_or found nothing).now ≡ unwrap_or (option_map (λ x. x.now) found) nothing.now
 behind None nothing = refl
