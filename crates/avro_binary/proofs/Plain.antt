@@ -134,7 +134,7 @@ module _ (nodes : List Node) (few : (id : ℕ) → HasFewChoices (node_at nodes 
         let key = SpellsBytes-plain_bytes k (and_parts (is_count (length k)) _ texts.0).0 in
         (plain_bytes k, plain v, plain_entry_items es, key, Spells-plain id v parts.0, EntriesSpelled-plain id es texts.1 parts.1, refl)
 
-    FieldsSpelled-plain : (ids : List ℕ) (vs : Values) → fields_fit nodes ids vs ≡ true → EachSpelled vs (plain_items vs)
+    pub FieldsSpelled-plain : (ids : List ℕ) (vs : Values) → fields_fit nodes ids vs ≡ true → EachSpelled vs (plain_items vs)
     FieldsSpelled-plain ids no_values h = refl
     FieldsSpelled-plain [] (value v vs) h = absurd (false≢true h)
     FieldsSpelled-plain (id ∷ ids) (value v vs) h =

@@ -1,2 +1,3 @@
 pub mod CountsAgain
 pub mod PassesEmpty
+pub mod PassesRun

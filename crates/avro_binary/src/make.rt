@@ -1,6 +1,6 @@
-ghost use Rattle.std.specs.Prelude.{◌≡◌, ◌<◌, ℕ, List, [], ◌∷◌, ◌++◌, Option, Some, true, false, length, replicate, slice_get, IfOk, IfSome, OnOk};
+ghost use Rattle.std.specs.Prelude.{◌≡◌, ◌<◌, ℕ, List, [], ◌∷◌, ◌++◌, Option, Some, true, false, length, replicate, take, drop, slice_get, IfOk, IfSome, OnOk};
 ghost use Rattle.avro_name.specs.Name.{Name};
-ghost use Rattle.avro_schema.specs.Empty.{is_empty};
+ghost use Rattle.avro_schema.specs.Empty.{are_empty, is_empty};
 ghost use Rattle.avro_schema.specs.Fits.{fields_fit, fits};
 ghost use Rattle.avro_schema.specs.Node.{Node, FieldNode, node_at, field_ids};
 ghost use Rattle.avro_schema.specs.Seen.{values_from, entries_from};
@@ -212,6 +212,13 @@ pub trait Make {
             → slice_get (field_ids fs) (length vs) ≡ Some id → stands_for self.old nodes (node_at nodes id) (field_at self.old fields.old) value v
             → OnOk result (fields_stand_for self.new nodes fs at fields.new (vs ++ v ∷ [])) };
 
+    /// Adds at once the values of the next fields, each of which is a datum without bytes, and says so, or adds none.
+    fn empty_fields(&self, fields: &mut Self::Fields, count: u32) -> bool
+        ensures added { (nodes : List Node) (fs : List FieldNode) (at : Self.At) (vs ws : List Value) → result ≡ true → length ws ≡ count → are_empty (values_from ws) ≡ true
+            → fields_fit nodes (take count (drop (length vs) (field_ids fs))) (values_from ws) ≡ true → fields_stand_for self.now nodes fs at fields.old vs
+            → fields_stand_for self.now nodes fs at fields.new (vs ++ ws) }
+        ensures none { result ≡ false → fields.new ≡ fields.old };
+
     /// Makes a record from the values of its fields.
     fn record(&mut self, alloc: Global, fields: Self::Fields) -> Result<Self::Out, AllocError>
         ensures kept { OnOk result (keeps self.old self.new) }
@@ -220,31 +227,23 @@ pub trait Make {
 
     /// A maker keeps what it has made.
     ghost keeps_itself: { (s : Self) → keeps s s };
-
     /// What is kept stays kept.
     ghost keeps_on: { (s t u : Self) → keeps s t → keeps t u → keeps s u };
-
     /// Items stand for the same data at a later maker.
     ghost items_kept: { (s t : Self) (nodes : List Node) (id : ℕ) (at : Self.At) (items : Self.Items) (vs : List Value) → keeps s t
         → items_stand_for s nodes id at items vs → items_stand_for t nodes id at items vs };
-
     /// Entries stand for the same keys and data at a later maker.
     ghost entries_kept: { (s t : Self) (nodes : List Node) (id : ℕ) (at : Self.At) (entries : Self.Entries) (es : List (List ℕ × Value)) → keeps s t
         → entries_stand_for s nodes id at entries es → entries_stand_for t nodes id at entries es };
-
     /// Fields stand for the same data at a later maker.
     ghost fields_kept: { (s t : Self) (nodes : List Node) (fs : List FieldNode) (at : Self.At) (fields : Self.Fields) (vs : List Value) → keeps s t
         → fields_stand_for s nodes fs at fields vs → fields_stand_for t nodes fs at fields vs };
-
     /// The parts are for the same at a later maker.
     ghost branch_at_kept: { (s t : Self) (at : Self.At) (branch : ℕ) → keeps s t → branch_at s at branch ≡ branch_at t at branch };
-
     /// The next item is for the same.
     ghost item_at_kept: { (s t : Self) (items : Self.Items) → keeps s t → item_at s items ≡ item_at t items };
-
     /// The next entry is for the same.
     ghost entry_at_kept: { (s t : Self) (entries : Self.Entries) → keeps s t → entry_at s entries ≡ entry_at t entries };
-
     /// The next field is for the same.
     ghost field_at_kept: { (s t : Self) (fields : Self.Fields) → keeps s t → field_at s fields ≡ field_at t fields };
 }

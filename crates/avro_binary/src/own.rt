@@ -174,6 +174,10 @@ impl<'b, B: Build> Make for Own<'b, B> {
         Ok(())
     }
 
+    fn empty_fields(&self, _fields: &mut Vec<B::Out>, _count: u32) -> bool {
+        false
+    }
+
     fn record(&mut self, alloc: Global, fields: Vec<B::Out>) -> Result<B::Out, AllocError> {
         self.builder.fields(alloc, fields)
     }

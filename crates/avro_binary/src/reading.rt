@@ -8,6 +8,7 @@ ghost use Rattle.avro_schema.specs.Value.{Value};
 ghost use Rattle.avro_binary.specs.CursorReads.{ReadsNode, ReadsRun, ValuesRun, value_breaks, outside, left_node};
 ghost use Rattle.avro_binary.specs.Making.{Made};
 
+mod fields;
 mod maps;
 mod records;
 
@@ -17,6 +18,7 @@ use crate::leaves::{
     read_boolean, read_bytes, read_fixed, read_int, read_long, read_null, read_symbol, read_text,
 };
 use crate::make::Make;
+use crate::reading::fields::read_parts;
 use crate::reading::maps::read_map;
 use crate::reading::records::read_record;
 use avro_schema::{Field, Node, NodeId, Schema};
@@ -200,37 +202,17 @@ fn read_branch<M: Make>(
 fn enter_record<M: Make>(
     alloc: Global,
     schema: &Schema,
+    id: NodeId,
     fields: &[Field],
     cursor: &mut Cursor<'_>,
     maker: &mut M,
     at: M::At,
 ) -> Result<M::Out, ReadError>
-    ensures { (name : Name) (aliases : List Name) → ReadsNode (Made M.keeps (λ m. M.stands_for m (schema_nodes schema.now) (SeenNode.record_of name aliases (seen_fields fields.now)) at) maker.old maker.new) (schema_nodes schema.now) (SeenNode.record_of name aliases (seen_fields fields.now)) cursor.old cursor.new result }
+    ensures { (name : Name) (aliases : List Name) → node_at (schema_nodes schema.now) id.0 ≡ SeenNode.record_of name aliases (seen_fields fields.now)
+        → ReadsNode (Made M.keeps (λ m. M.stands_for m (schema_nodes schema.now) (SeenNode.record_of name aliases (seen_fields fields.now)) at) maker.old maker.new) (schema_nodes schema.now) (SeenNode.record_of name aliases (seen_fields fields.now)) cursor.old cursor.new result }
 {
     cursor.enter()?;
-    let out = read_fields(alloc, schema, fields, cursor, maker, at)?;
+    let out = read_parts(alloc, schema, id, fields, cursor, maker, at)?;
     cursor.leave();
     Ok(out)
-}
-
-/// Reads a datum for each field.
-#[cycle(reading)]
-#[inline(always)]
-fn read_fields<M: Make>(
-    alloc: Global,
-    schema: &Schema,
-    fields: &[Field],
-    cursor: &mut Cursor<'_>,
-    maker: &mut M,
-    at: M::At,
-) -> Result<M::Out, ReadError>
-    ensures { (name : Name) (aliases : List Name) → ReadsNode (Made M.keeps (λ m. M.stands_for m (schema_nodes schema.now) (SeenNode.record_of name aliases (seen_fields fields.now)) at) maker.old maker.new) (schema_nodes schema.now) (SeenNode.record_of name aliases (seen_fields fields.now)) (outside cursor.old) (left_node cursor.new) result }
-{
-    let mut values = maker.fields(alloc, at)?;
-    for field in fields {
-        let part = maker.field_at(&values);
-        let value = read_at(alloc, schema, field.node, cursor, maker, part)?;
-        maker.field(alloc, &mut values, value)?;
-    }
-    Ok(maker.record(alloc, values)?)
 }

@@ -1,10 +1,12 @@
 -- What is gathered of items and entries, and what is moved.
-use Rattle.std.proofs.Common.{◌≡◌, ℕ, zero, suc, ◌+◌, List, [], ◌∷◌, ◌++◌, length, replicate, Option, refl, sym, ap, subst, ◌∙◌, append_assoc, arith, if◌then◌else◌}
+use Rattle.std.proofs.Common.{◌≡◌, ℕ, zero, suc, ◌+◌, List, [], ◌∷◌, ◌++◌, length, replicate, Option, true, refl, sym, ap, subst, ◌∙◌, append_assoc, arith, if◌then◌else◌}
 use Rattle.std.specs.Prelude.{Result, Ok, Err, OnOk, is_ok, pos}
 use Rattle.std.proofs.lemmas.List.{length-append, length-replicate}
+use Rattle.avro_schema.specs.Empty.{are_empty}
 use Rattle.avro_schema.specs.Value.{Value}
 use Rattle.avro_schema.specs.Seen.{values_from, entries_from}
 use Rattle.avro_binary.specs.Encoding.{plain, plain_bytes, plain_blocks, plain_values, plain_entries}
+use Rattle.avro_binary.proofs.public.EmptyData.{plain_values-empty}
 use Rattle.avro_packed.specs.Appended.{AreItems, AreEntries, Holds, StandsAt, branch_bytes}
 use Rattle.avro_zigzag.specs.Number.{number_bytes}
 use Rattle.avro_packed.specs.inside.Outputs.{stands_last}
@@ -67,6 +69,11 @@ pub field_behind : {T E : Type 0} (r : Result T E) (front : List ℕ) (vs : List
 field_behind r front vs v P h =
     subst (λ (l : List ℕ). OnOk r (P l))
     (append_assoc front (plain_values (values_from vs)) (plain v) ∙ ap (λ (l : List ℕ). front ++ l) (sym (values_with_one vs v))) h
+
+-- more fields that have no bytes
+pub plain-others : (vs ws : List Value) → are_empty (values_from ws) ≡ true → plain_values (values_from (vs ++ ws)) ≡ plain_values (values_from vs)
+plain-others [] ws none = plain_values-empty (values_from ws) none
+plain-others (v ∷ vs) ws none = ap (λ (b : List ℕ). plain v ++ b) (plain-others vs ws none)
 
 blocks_some : (count : ℕ) (bytes : List ℕ) → (count ≡ 0 → ⊥) → plain_blocks count bytes ≡ (number_bytes (pos count) ++ bytes) ++ 0 ∷ []
 blocks_some zero bytes some = absurd (some refl)

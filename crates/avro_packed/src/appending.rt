@@ -413,6 +413,10 @@ impl Make for Appending {
         join(alloc, &self.out, &mut self.spares, fields, value)
     }
 
+    fn empty_fields(&self, _fields: &mut Written, _count: u32) -> bool {
+        true
+    }
+
     #[inline(always)]
     fn record(&mut self, _alloc: Global, fields: Written) -> Result<Written, AllocError> {
         Ok(fields)

@@ -229,6 +229,14 @@ module _ {O F : Type 0} (S : O → Value → Type 0) (T : Option ℕ → F → L
       subst (λ (xs : List Value). IsSmall (values_size (values_from xs)) → resolve writer reader (node_at writer w.0) (node_at reader r.0) (Value.record_of (values_from xs)) ≡ Err (turned fault.value)) (sym (append_assoc vs (v ∷ []) more))
       (h are of_record (v ∷ more))
 
+-- more fields, where one before has a fault
+pub fields_after_fault : {O F : Type 0} (S : O → Value → Type 0) (T : Option ℕ → F → List Value → Type 0) (writer reader nodes : List Node) (fs : List FieldNode) (vs ws : List Value) (at : At) (fault : Box Fault)
+    → FieldsStandAs S T writer reader nodes fs at (Slots.Faulty fault) vs → FieldsStandAs S T writer reader nodes fs at (Slots.Faulty fault) (vs ++ ws)
+fields_after_fault S T writer reader nodes fs vs ws Ignored fault h = absurd h
+fields_after_fault S T writer reader nodes fs vs ws (Pair w r) fault h = λ are of_record more.
+    subst (λ (xs : List Value). IsSmall (values_size (values_from xs)) → resolve writer reader (node_at writer w.0) (node_at reader r.0) (Value.record_of (values_from xs)) ≡ Err (turned fault.value)) (sym (append_assoc vs ws more))
+    (h are of_record (ws ++ more))
+
 -- ---- Records
 
 module _ {O F : Type 0} (S : O → Value → Type 0) (T : Option ℕ → F → List Value → Type 0) (writer reader nodes : List Node) (name : Name) (aliases : List Name) (fs : List FieldNode) (vs : List Value) where

@@ -11,7 +11,9 @@ use crate::put::Put;
 use crate::resolving::failing::{fault_apart, step_apart};
 use crate::resolving::guided::{Filling, Made, Part, Run};
 use crate::resolving::making::{make_bytes, make_int, make_string, make_symbol};
-use crate::resolving::recording::{fill_next, make_record, next_field_part, start_filling};
+use crate::resolving::recording::{
+    fill_next, make_record, next_field_part, skip_fields, start_filling,
+};
 use crate::resolving::running::{
     make_array, make_map, next_part, put_entry, put_item, repeat_item, start_entries, start_items,
 };
@@ -326,6 +328,10 @@ impl<'p, 'a, 'b, P: Put> Make for Resolving<'p, 'a, 'b, P> {
         value: Made<P::Out>,
     ) -> Result<(), AllocError> {
         fill_next(self.builder, self.plan, fields, value)
+    }
+
+    fn empty_fields(&self, fields: &mut Filling<'a, P::Out, P::Fields>, _count: u32) -> bool {
+        skip_fields(self.builder, &fields.slots)
     }
 
     fn record(

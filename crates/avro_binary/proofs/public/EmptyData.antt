@@ -29,7 +29,7 @@ mutual
   plain-empty (Value.enum k) h = absurd (false≢true h)
   plain-empty (Value.fixed b) h = none-long b (none-counted (length b) h)
 
-  plain_values-empty : (vs : Values) → are_empty vs ≡ true → plain_values vs ≡ []
+  pub plain_values-empty : (vs : Values) → are_empty vs ≡ true → plain_values vs ≡ []
   plain_values-empty no_values h = refl
   plain_values-empty (value v vs) h =
       let parts = and_parts (is_empty v) (are_empty vs) h in
@@ -50,7 +50,7 @@ mutual
   longest_blob-empty (Value.enum k) h = absurd (false≢true h)
   longest_blob-empty (Value.fixed b) h = none-counted (length b) h
 
-  values_longest_blob-empty : (vs : Values) → are_empty vs ≡ true → values_longest_blob vs ≡ 0
+  pub values_longest_blob-empty : (vs : Values) → are_empty vs ≡ true → values_longest_blob vs ≡ 0
   values_longest_blob-empty no_values h = refl
   values_longest_blob-empty (value v vs) h =
       let parts = and_parts (is_empty v) (are_empty vs) h in

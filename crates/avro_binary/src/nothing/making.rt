@@ -152,6 +152,10 @@ impl Make for Nothing {
         Ok(())
     }
 
+    fn empty_fields(&self, _fields: &mut (), _count: u32) -> bool {
+        true
+    }
+
     fn record(&mut self, _alloc: Global, _fields: ()) -> Result<(), AllocError> {
         Ok(())
     }

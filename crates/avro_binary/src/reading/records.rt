@@ -34,7 +34,7 @@ pub(crate) fn read_record<M: Make>(
 {
     match pass_empty(alloc, schema, id, cursor, maker, at)? {
         Some(out) => Ok(out),
-        None => enter_record(alloc, schema, fields, cursor, maker, at),
+        None => enter_record(alloc, schema, id, fields, cursor, maker, at),
     }
 }
 

@@ -1,4 +1,4 @@
-ghost use Rattle.std.specs.Prelude.{◌≡◌, ◌++◌, ◌∷◌, [], ℕ, IfOk, List, OnOk, Some, length, slice_get};
+ghost use Rattle.std.specs.Prelude.{◌≡◌, ◌++◌, ◌∷◌, [], ℕ, IfOk, List, OnOk, Some, length, slice_get, true};
 ghost use Rattle.avro_name.specs.Name.{Name};
 ghost use Rattle.avro_schema.specs.Node.{FieldNode, Node, field_ids, node_at};
 ghost use Rattle.avro_schema.specs.Seen.{values_from};
@@ -203,6 +203,19 @@ fn put_field<P: Put>(
         },
         Slots::Faulty(_) => Ok(()),
         Slots::Nothing => Ok(()),
+    }
+}
+
+/// Whether nothing is kept of the fields that follow, since nothing is asked or a fault was met.
+#[inline(always)]
+pub(crate) fn skip_fields<P: Put>(_builder: &P, fields: &Slots<P::Out, P::Fields>) -> bool
+    ensures { (writer reader nodes : List Node) (fs : List FieldNode) (at : At) (vs ws : List Value) → result ≡ true → FieldsStandAs (P.stands_for _builder.now) (P.fields_stand_for _builder.now) writer reader nodes fs at fields.now vs
+        → FieldsStandAs (P.stands_for _builder.now) (P.fields_stand_for _builder.now) writer reader nodes fs at fields.now (vs ++ ws) }
+{
+    match fields {
+        Slots::Good(..) => false,
+        Slots::Faulty(_) => true,
+        Slots::Nothing => true,
     }
 }
 

@@ -8,8 +8,10 @@ use Rattle.std.proofs.lemmas.Result.{err_from_is_err_and}
 use Rattle.avro_schema.specs.Value.{Value, size}
 use Rattle.avro_schema.specs.Node.{Node, node_at, field_ids}
 use Rattle.avro_schema.specs.Seen.{node_of, ids_of, seen_fields, texts_of}
+use Rattle.avro_schema.specs.Runs.{StartWithEmpties, ids_at}
 use Rattle.avro_schema.specs.SeenSchema.{schema_nodes}
-use Rattle.avro_binary.specs.Elements.{Finds, IsIndex}
+use Rattle.avro_binary.specs.Breaks.{IndexBreaks}
+use Rattle.avro_binary.specs.Elements.{Finds, IsIndex, Refuses}
 use Rattle.avro_binary.specs.Fault.{limit_exceeded}
 use Rattle.avro_binary.specs.Seen.{read_fault}
 use Rattle.avro_binary.specs.inside.CountsAgain.{CountsAgain}
@@ -18,7 +20,8 @@ use Rattle.avro_binary.specs.CursorValue.{CursorValue}
 use Rattle.avro_binary.specs.CursorReads.{ReadsNode, limits_at}
 use Rattle.avro_binary.proofs.BlockSteps.{head_read, end_read, has_size, blocks_none, head_refused, item_refused, size_refused, depth_kept, blob_kept, offset_is, block_smaller, blocks_push}
 use Rattle.avro_binary.proofs.EmptyReads.{reads_kept}
-use Rattle.avro_binary.proofs.NodeSteps.{node_left, node_refused, enter_refused, ArrayDone, array_found, map_found, FieldsDone, fields_none, branch_refused, union_found, branch_at, ids-length, texts-length, null_past, fields_push, field_breaks, record_found, record_refused, ids_split, ids_next, ids_all}
+use Rattle.avro_binary.proofs.EmptyRuns.{none_passed, run_breaks_off, run_passed}
+use Rattle.avro_binary.proofs.NodeSteps.{node_left, node_refused, enter_refused, ArrayDone, array_found, map_found, FieldsDone, fields_none, branch_refused, branch_unread, union_found, branch_at, ids-length, texts-length, null_past, fields_push, field_breaks, record_found, record_refused, ids_split, ids_next, ids_all}
 use Rattle.avro_binary.proofs.public.Ranges.{bytes-below}
 use Rattle.avro_binary.proofs.Repeated.{others_last, same_reads}
 use Rattle.avro_binary.proofs.RunLaws.{values_kind, entries_kind}
@@ -425,25 +428,25 @@ read_union-returns-in_err-out g t c =
     c.in_err-out.field-0.0 c.in_ok-enter.ensures.entered c.in_err-out.ensures)
 
 pub enter_record-returns-in_err-enter : goal.enter_record-returns-in_err-enter
-enter_record-returns-in_err-enter g t c = λ name aliases.
+enter_record-returns-in_err-enter g t c = λ name aliases is.
     let p = err_from_is_err_and c.from_residual.result c.from_residual.ensures.1 in
     rw (p.1, p.2) (enter_refused (schema_nodes c.args.schema.now) (Node.record_of name aliases (seen_fields c.args.fields.now)) c.args.cursor.now c.enter.new.self c.in_err-enter.field-0.0 c.in_err-enter.ensures.refused)
 
 pub enter_record-returns-in_err-out : goal.enter_record-returns-in_err-out
-enter_record-returns-in_err-out g t c = λ name aliases.
+enter_record-returns-in_err-out g t c = λ name aliases is.
     let p = err_from_is_err_and c.from_residual-in_err-out.result c.from_residual-in_err-out.ensures.1 in
-    rw (p.1, p.2) (node_refused (schema_nodes c.args.schema.now) (Node.record_of name aliases (seen_fields c.args.fields.now)) c.args.cursor.now c.enter.new.self c.read_fields.new.cursor c.read_fields.new.cursor
-    c.in_err-out.field-0.0 c.in_ok-enter.ensures.entered (c.in_err-out.ensures name aliases))
+    rw (p.1, p.2) (node_refused (schema_nodes c.args.schema.now) (Node.record_of name aliases (seen_fields c.args.fields.now)) c.args.cursor.now c.enter.new.self c.read_parts.new.cursor c.read_parts.new.cursor
+    c.in_err-out.field-0.0 c.in_ok-enter.ensures.entered (c.in_err-out.ensures name aliases is))
 
 pub enter_record-returns : goal.enter_record-returns
-enter_record-returns g t c = λ name aliases.
-    let read = c.in_ok-out.ensures name aliases in
+enter_record-returns g t c = λ name aliases is.
+    let read = c.in_ok-out.ensures name aliases is in
     let same = read.found.1.moves.depth in
     let entered = c.in_ok-enter.ensures.entered.depth in
     let shallow = c.in_ok-enter.ensures.shallow in
-    let deep : c.read_fields.new.cursor.depth < 256 = omega arith in
+    let deep : c.read_parts.new.cursor.depth < 256 = omega arith in
     node_left (schema_nodes c.args.schema.now) (Node.record_of name aliases (seen_fields c.args.fields.now)) c.args.cursor.now c.enter.new.self
-    c.read_fields.new.cursor c.leave.new.self c.in_ok-out.out c.in_ok-enter.ensures.entered read (c.leave.ensures.freed deep)
+    c.read_parts.new.cursor c.leave.new.self c.in_ok-out.out c.in_ok-enter.ensures.entered read (c.leave.ensures.freed deep)
 
 -- ---- Records
 
@@ -457,12 +460,12 @@ records::read_record-returns-in-None g t c = λ name aliases is.
     let after = c.enter_record.new.cursor in
     let result = c.enter_record.result in
     let passed = c.in_ok-out.ensures.none c.in-None.is in
-    let at_node = subst (λ (m : Node). ReadsNode (Made g.M.Make.keeps (λ s. g.M.Make.stands_for s nodes m c.args.at) mid made) nodes m c.pass_empty.new.cursor after result) (sym is) (c.enter_record.ensures name aliases) in
+    let at_node = subst (λ (m : Node). ReadsNode (Made g.M.Make.keeps (λ s. g.M.Make.stands_for s nodes m c.args.at) mid made) nodes m c.pass_empty.new.cursor after result) (sym is) (c.enter_record.ensures name aliases is) in
     reads_kept g.M.Make.keeps (λ s. g.M.Make.stands_for s nodes n c.args.at) nodes n c.args.cursor.now after maker mid made (g.met.M.Make.keeps_on maker mid made passed.1) result
     (subst (λ (before : CursorValue). ReadsNode (Made g.M.Make.keeps (λ s. g.M.Make.stands_for s nodes n c.args.at) mid made) nodes n before after result) passed.0 at_node)
 
-pub read_fields-returns-in_err-value : goal.read_fields-returns-in_err-value
-read_fields-returns-in_err-value g t c = λ name aliases.
+pub fields::read_fields-returns-in_err-value : goal.fields::read_fields-returns-in_err-value
+fields::read_fields-returns-in_err-value g t c = λ name aliases.
     let p = err_from_is_err_and c.from_residual-in_err-value.result c.from_residual-in_err-value.ensures.1 in
     let nodes = schema_nodes c.args.schema.now in
     let fields = c.args.fields.now in
@@ -476,8 +479,8 @@ read_fields-returns-in_err-value g t c = λ name aliases.
     rw (p.1, p.2) (record_refused nodes name aliases (seen_fields fields) c.args.cursor.now c.read_at.new.cursor e
     (field_breaks nodes (take i ids) c.args.cursor.now c.loop-field.cursor so_far.0 so_far.1 ids (drop (suc i) ids) field.node.0 are e c.in_err-value.ensures.refused))
 
-pub read_fields-loop-field-preserved : goal.read_fields-loop-field-preserved
-read_fields-loop-field-preserved g t c =
+pub fields::read_fields-loop-field-preserved : goal.fields::read_fields-loop-field-preserved
+fields::read_fields-loop-field-preserved g t c =
     let nodes = schema_nodes c.args.schema.now in
     let fields = c.args.fields.now in
     let ids = field_ids (seen_fields fields) in
@@ -503,8 +506,8 @@ read_fields-loop-field-preserved g t c =
           (subst (λ (a : g.row.M-At.Denot). g.M.Make.stands_for made nodes (node_at nodes field.node.0) a c.in_ok-value.value found.0) (c.field_at-part.ensures ∙ g.met.M.Make.field_at_kept maker made values found.2.0) found.2.1),
     )
 
-pub read_fields-returns : goal.read_fields-returns
-read_fields-returns g t c = λ name aliases.
+pub fields::read_fields-returns : goal.fields::read_fields-returns
+fields::read_fields-returns g t c = λ name aliases.
     let nodes = schema_nodes c.args.schema.now in
     let fields = c.args.fields.now in
     let i = c.loop-field.field-index in
@@ -514,7 +517,129 @@ read_fields-returns g t c = λ name aliases.
     record_found nodes name aliases (seen_fields fields) c.args.cursor.now c.loop-field.cursor so_far.0 c.in_ok-record.field-0 done
     (g.met.M.Make.keeps_on c.args.maker.now c.loop-field.maker c.record.new.self so_far.3 c.in_ok-record.ensures.kept, c.in_ok-record.ensures.stands nodes name aliases (seen_fields fields) c.args.at so_far.0 so_far.4 done.fitting)
 
+-- ---- Fields, some of which are passed at once
+
+pub fields::read_parts-returns-then-is_empty : goal.fields::read_parts-returns-then-is_empty
+fields::read_parts-returns-then-is_empty g t c = λ name aliases is. c.read_fields.ensures name aliases
+
+pub fields::read_parts-returns : goal.fields::read_parts-returns
+fields::read_parts-returns g t c = λ name aliases is.
+    let nodes = schema_nodes c.args.schema.now in
+    c.read_runs.ensures name aliases (λ k run at. subst (λ (n : Node). StartWithEmpties nodes (drop k (ids_at n)) run) is (c.empty_fields-runs.ensures k run at))
+
+pub fields::read_runs-loop-index-init : goal.fields::read_runs-loop-index-init
+fields::read_runs-loop-index-init g t c =
+    (refl, c.in_ok-values.ensures.kept, λ tells. ([], fields_none (schema_nodes c.args.schema.now) c.args.cursor.now, refl, c.in_ok-values.ensures.stands (schema_nodes c.args.schema.now) (seen_fields c.args.fields.now)))
+
+pub fields::read_runs-returns-in_err-passed : goal.fields::read_runs-returns-in_err-passed
+fields::read_runs-returns-in_err-passed g t c = λ name aliases tells.
+    let p = err_from_is_err_and c.from_residual-in_err-passed.result c.from_residual-in_err-passed.ensures.1 in
+    let nodes = schema_nodes c.args.schema.now in
+    let ids = field_ids (seen_fields c.args.fields.now) in
+    let i = c.loop-index.index in
+    let so_far = c.loop-index.invariant.2 tells in
+    let refused = c.in_err-passed.ensures.refused (drop i ids) (c.run_at-run.ensures nodes ids tells) in
+    let e = c.in_err-passed.field-0.0 in
+    rw (p.1, p.2) (record_refused nodes name aliases (seen_fields c.args.fields.now) c.args.cursor.now c.pass_run.new.cursor e
+    (run_breaks_off nodes ids i c.args.cursor.now c.loop-index.cursor so_far.0 e c.len-count.ensures.formed so_far.1 refused))
+
+pub fields::read_runs-returns-in_err-value : goal.fields::read_runs-returns-in_err-value
+fields::read_runs-returns-in_err-value g t c = λ name aliases tells.
+    let p = err_from_is_err_and c.from_residual-in_err-value.result c.from_residual-in_err-value.ensures.1 in
+    let nodes = schema_nodes c.args.schema.now in
+    let fields = c.args.fields.now in
+    let ids = field_ids (seen_fields fields) in
+    let i = c.loop-index.index in
+    let start = c.args.cursor.now in
+    let now = c.pass_run.new.cursor in
+    let so_far = c.loop-index.invariant.2 tells in
+    let starts = subst (λ (k : ℕ). StartWithEmpties nodes (drop k ids) c.run_at-run.result) (sym so_far.2) (c.run_at-run.ensures nodes ids tells) in
+    let more = c.in_ok-passed.ensures.found (seen_fields fields) c.args.at so_far.0 starts so_far.3 in
+    let none : c.in_ok-passed.passed ≡ 0 = c.if-passed-eq0.true in
+    let done = none_passed nodes ids i c.in_ok-passed.passed start c.loop-index.cursor now so_far.0 more.0 c.len-count.ensures.formed so_far.1 so_far.2 more.2 none in
+    let field = c.index-fields-index.result in
+    let below : i < length fields = c.loop-index-test.true in
+    let id = (get_or fields i field).node.0 in
+    let e = c.in_err-value.field-0.0 in
+    rw (p.1, p.2) (record_refused nodes name aliases (seen_fields fields) start c.read_at.new.cursor e
+    (field_breaks nodes (take i ids) start now (so_far.0 ++ more.0) done ids (drop (suc i) ids) id (ids_split fields i field below) e c.in_err-value.ensures.refused))
+
+pub fields::read_runs-loop-index-preserved-then-passed-eq0 : goal.fields::read_runs-loop-index-preserved-then-passed-eq0
+fields::read_runs-loop-index-preserved-then-passed-eq0 g t c =
+    let maker = c.loop-index.maker in
+    let made = c.read_at.new.maker in
+    let found = c.in_ok-value.ensures.found in (
+      found.1.moves.depth ∙ c.in_ok-passed.ensures.level ∙ c.loop-index.invariant.0,
+      g.met.M.Make.keeps_on c.args.maker.now maker c.field.new.self c.loop-index.invariant.1 (g.met.M.Make.keeps_on maker made c.field.new.self found.2.0 c.in_ok-field.ensures.kept),
+      λ tells.
+          let nodes = schema_nodes c.args.schema.now in
+          let fields = c.args.fields.now in
+          let ids = field_ids (seen_fields fields) in
+          let i = c.loop-index.index in
+          let start = c.args.cursor.now in
+          let now = c.pass_run.new.cursor in
+          let so_far = c.loop-index.invariant.2 tells in
+          let starts = subst (λ (k : ℕ). StartWithEmpties nodes (drop k ids) c.run_at-run.result) (sym so_far.2) (c.run_at-run.ensures nodes ids tells) in
+          let more = c.in_ok-passed.ensures.found (seen_fields fields) c.args.at so_far.0 starts so_far.3 in
+          let none : c.in_ok-passed.passed ≡ 0 = c.if-passed-eq0.true in
+          let done = none_passed nodes ids i c.in_ok-passed.passed start c.loop-index.cursor now so_far.0 more.0 c.len-count.ensures.formed so_far.1 so_far.2 more.2 none in
+          let xs = so_far.0 ++ more.0 in
+          let counted : length xs ≡ i = let n = so_far.2 in let m = more.1 in omega (arith, length-append so_far.0 more.0, n, m, none) in
+          let field = c.index-fields-index.result in
+          let below : i < length fields = c.loop-index-test.true in
+          let next : i + 1 ≡ suc i = omega arith in
+          let values = c.pass_run.new.values in
+          let id = (get_or fields i field).node.0 in
+          let at_field : slice_get ids (length xs) ≡ Some id = ap (λ (k : ℕ). slice_get ids k) counted ∙ field_id_at fields i field below in
+          let are : take i ids ++ id ∷ [] ≡ take (i + 1) ids = sym (ids_next fields i field below) ∙ ap (λ (m : ℕ). take m ids) (sym next) in (
+            xs ++ found.0 ∷ [],
+            subst (λ (ps : List ℕ). FieldsDone nodes ps start c.read_at.new.cursor (xs ++ found.0 ∷ [])) are
+                (fields_push nodes (take i ids) start now xs done id c.read_at.new.cursor found.0 found.1),
+            omega (arith, length-append xs (found.0 ∷ []), counted),
+            c.in_ok-field.ensures.stands nodes (seen_fields fields) id c.args.at xs found.0 (g.met.M.Make.fields_kept maker made nodes (seen_fields fields) c.args.at values xs found.2.0 more.3) at_field
+                (subst (λ (a : g.row.M-At.Denot). g.M.Make.stands_for made nodes (node_at nodes id) a c.in_ok-value.value found.0) (c.field_at-part.ensures ∙ g.met.M.Make.field_at_kept maker made values found.2.0) found.2.1),
+          ),
+    )
+
+pub fields::read_runs-loop-index-preserved : goal.fields::read_runs-loop-index-preserved
+fields::read_runs-loop-index-preserved g t c = (
+  c.in_ok-passed.ensures.level ∙ c.loop-index.invariant.0,
+  c.loop-index.invariant.1,
+  λ tells.
+      let nodes = schema_nodes c.args.schema.now in
+      let ids = field_ids (seen_fields c.args.fields.now) in
+      let i = c.loop-index.index in
+      let so_far = c.loop-index.invariant.2 tells in
+      let starts = subst (λ (k : ℕ). StartWithEmpties nodes (drop k ids) c.run_at-run.result) (sym so_far.2) (c.run_at-run.ensures nodes ids tells) in
+      let more = c.in_ok-passed.ensures.found (seen_fields c.args.fields.now) c.args.at so_far.0 starts so_far.3 in (
+        so_far.0 ++ more.0,
+        run_passed nodes ids i c.in_ok-passed.passed c.args.cursor.now c.loop-index.cursor c.pass_run.new.cursor so_far.0 more.0 c.len-count.ensures.formed so_far.1 so_far.2 more.2,
+        (let n = so_far.2 in let m = more.1 in omega (arith, length-append so_far.0 more.0, n, m)),
+        more.3,
+      ),
+)
+
+pub fields::read_runs-returns : goal.fields::read_runs-returns
+fields::read_runs-returns g t c = λ name aliases tells.
+    let nodes = schema_nodes c.args.schema.now in
+    let fields = c.args.fields.now in
+    let i = c.loop-index.index in
+    let so_far = c.loop-index.invariant.2 tells in
+    let past : length fields ≤ i = c.loop-index-test.false in
+    let done = subst (λ (ps : List ℕ). FieldsDone nodes ps c.args.cursor.now c.loop-index.cursor so_far.0) (ids_all fields i past) so_far.1 in
+    record_found nodes name aliases (seen_fields fields) c.args.cursor.now c.loop-index.cursor so_far.0 c.in_ok-record.field-0 done
+    (g.met.M.Make.keeps_on c.args.maker.now c.loop-index.maker c.record.new.self c.loop-index.invariant.1 c.in_ok-record.ensures.kept, c.in_ok-record.ensures.stands nodes name aliases (seen_fields fields) c.args.at so_far.0 so_far.3 done.fitting)
+
 -- ---- Unions
+
+pub read_branch-returns-in_err-index : goal.read_branch-returns-in_err-index
+read_branch-returns-in_err-index g t c =
+    let branches = c.args.branches.now in
+    let start = c.args.cursor.now in
+    let e = c.in_err-index.field-0.0 in
+    let p = err_from_is_err_and c.from_residual.result c.from_residual.ensures.1 in
+    let refused = subst (λ (n : ℕ). Refuses (IndexBreaks n) start e) (sym (ids-length branches)) c.in_err-index.ensures.refused in
+    rw (p.1, p.2) (branch_unread (schema_nodes c.args.schema.now) (ids_of branches) start c.index.new.self c.index.new.self e refused)
 
 pub read_branch-returns-in_err-value : goal.read_branch-returns-in_err-value
 read_branch-returns-in_err-value g t c =
@@ -578,6 +703,6 @@ maps::read_entries-loop-done-init g t c = (
       ([], before, refl, are, none, g.met.M.Make.keeps_itself c.args.maker.now, kept),
 )
 
-pub read_fields-loop-field-init : goal.read_fields-loop-field-init
-read_fields-loop-field-init g t c =
+pub fields::read_fields-loop-field-init : goal.fields::read_fields-loop-field-init
+fields::read_fields-loop-field-init g t c =
     ([], fields_none (schema_nodes c.args.schema.now) c.args.cursor.now, refl, c.in_ok-values.ensures.kept, c.in_ok-values.ensures.stands (schema_nodes c.args.schema.now) (seen_fields c.args.fields.now))

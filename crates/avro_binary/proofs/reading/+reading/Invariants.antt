@@ -1,4 +1,4 @@
-use Rattle.std.proofs.Common.{◌≡◌, ◌++◌, ◌+◌, ◌*◌, List, ℕ, [], take, length, bytes_eq, true}
+use Rattle.std.proofs.Common.{◌≡◌, ◌++◌, ◌+◌, ◌-◌, ◌*◌, List, ℕ, [], take, length, bytes_eq, true}
 use Rattle.avro_schema.specs.Value.{Value}
 use Rattle.avro_schema.specs.Distinct.{are_distinct}
 use Rattle.avro_schema.specs.Fits.{LimitValues}
@@ -7,6 +7,7 @@ use Rattle.avro_schema.specs.Seen.{seen_fields}
 use Rattle.avro_schema.specs.SeenSchema.{schema_nodes}
 use Rattle.avro_binary.specs.CursorReads.{ValuesRun, EntriesRun, FindsRun}
 use Rattle.avro_binary.specs.KeySet.{key_set}
+use Rattle.avro_binary.specs.inside.PassesRun.{TellOfRuns}
 use Rattle.avro_binary.proofs.NodeSteps.{ArrayDone, MapDone, FieldsDone}
 use Rattle.avro_binary.proofs.reading.+reading.Given as goal
 
@@ -37,8 +38,14 @@ decreases-maps::read_entry_blocks g l = 5 * l.cursor.now.depth + 4
 abbrev pub decreases-read_branch : goal.decreases-read_branch
 decreases-read_branch g l = 5 * l.cursor.now.depth + 4
 
-abbrev pub decreases-read_fields : goal.decreases-read_fields
-decreases-read_fields g l = 5 * l.cursor.now.depth + 4
+abbrev pub decreases-fields::read_fields : goal.decreases-fields::read_fields
+decreases-fields::read_fields g l = 5 * l.cursor.now.depth + 3
+
+abbrev pub decreases-fields::read_parts : goal.decreases-fields::read_parts
+decreases-fields::read_parts g l = 5 * l.cursor.now.depth + 4
+
+abbrev pub decreases-fields::read_runs : goal.decreases-fields::read_runs
+decreases-fields::read_runs g l = 5 * l.cursor.now.depth + 3
 
 abbrev pub decreases-read_items : goal.decreases-read_items
 decreases-read_items g l = 5 * l.cursor.now.depth + 3
@@ -81,7 +88,17 @@ invariant-maps::read_entries-loop-done g l =
     × ((at : _) (fs : List (List ℕ × Value)) → g.M.Make.entries_stand_for l.initial.maker (schema_nodes l.schema) l.id.0 at l.initial.entries fs → g.M.Make.entries_stand_for l.maker (schema_nodes l.schema) l.id.0 at l.entries (fs ++ xs)))
 
 -- the values of the fields before one
-abbrev pub invariant-read_fields-loop-field : goal.invariant-read_fields-loop-field
-invariant-read_fields-loop-field g l =
+abbrev pub invariant-fields::read_fields-loop-field : goal.invariant-fields::read_fields-loop-field
+invariant-fields::read_fields-loop-field g l =
     (xs : List Value) × FieldsDone (schema_nodes l.schema) (take l.field-index (field_ids (seen_fields l.fields))) l.initial.cursor l.cursor xs × (length xs ≡ l.field-index)
     × g.M.Make.keeps l.fn.maker l.maker × g.M.Make.fields_stand_for l.maker (schema_nodes l.schema) (seen_fields l.fields) l.fn.at l.values xs
+
+-- the values of the fields before an index, where the runs tell of the fields
+abbrev pub invariant-fields::read_runs-loop-index : goal.invariant-fields::read_runs-loop-index
+invariant-fields::read_runs-loop-index g l = (l.cursor.depth ≡ l.initial.cursor.depth) × g.M.Make.keeps l.fn.maker l.maker
+    × (TellOfRuns (schema_nodes l.schema) (field_ids (seen_fields l.fields)) l.runs
+    → (xs : List Value) × FieldsDone (schema_nodes l.schema) (take l.index (field_ids (seen_fields l.fields))) l.initial.cursor l.cursor xs × (length xs ≡ l.index)
+    × g.M.Make.fields_stand_for l.maker (schema_nodes l.schema) (seen_fields l.fields) l.fn.at l.values xs)
+
+abbrev pub decreases-fields::read_runs-loop-index : goal.decreases-fields::read_runs-loop-index
+decreases-fields::read_runs-loop-index g l = length l.fields - l.index
