@@ -119,10 +119,10 @@ def towers_beside(share):
 
 
 def fields_beside(share):
-    """1,000 data of one byte, each with 40,000 fields beside it whose type is a record without fields, or an eighth of both."""
+    """The same of many fields beside the byte, whose type is a record without fields."""
     names = short_names(40_000 // share)
     fields = [("_byte", "boolean"), ("_none", record("E", []))] + [(name, "E") for name in names]
-    count = 1_000 // share
+    count = DATA // share
     return {"file": container(record("W", fields), block(count, b"\x01" * count))}
 
 

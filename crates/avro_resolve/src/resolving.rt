@@ -309,6 +309,7 @@ impl<'p, 'a, 'b, P: Put> Make for Resolving<'p, 'a, 'b, P> {
         make_map(alloc, self.builder, entries.0)
     }
 
+    #[inline(always)]
     fn fields(
         &mut self,
         alloc: Global,
@@ -317,10 +318,12 @@ impl<'p, 'a, 'b, P: Put> Make for Resolving<'p, 'a, 'b, P> {
         start_filling(alloc, self.builder, self.plan, at)
     }
 
+    #[inline(always)]
     fn field_at(&self, fields: &Filling<'a, P::Out, P::Fields>) -> Part {
         next_field_part(self.plan, fields.known, fields.parts, &fields.slots)
     }
 
+    #[inline(always)]
     fn field(
         &mut self,
         _alloc: Global,
@@ -330,10 +333,12 @@ impl<'p, 'a, 'b, P: Put> Make for Resolving<'p, 'a, 'b, P> {
         fill_next(self.builder, self.plan, fields, value)
     }
 
+    #[inline(always)]
     fn empty_fields(&self, fields: &mut Filling<'a, P::Out, P::Fields>, _count: u32) -> bool {
         skip_fields(self.builder, &fields.slots)
     }
 
+    #[inline(always)]
     fn record(
         &mut self,
         alloc: Global,

@@ -39,6 +39,7 @@ pub(crate) fn fill_data(
 
 /// What is made of the fields of a reader's record, in its order: each is what is in the slot of its
 /// source, or its default. Returns the slots, too.
+#[inline(always)]
 pub(crate) fn fill<P: Put>(
     alloc: Global,
     builder: &mut P,
@@ -66,6 +67,7 @@ pub(crate) fn fill<P: Put>(
 }
 
 /// What is made of the value of a reader's field, by its source.
+#[inline(always)]
 fn value_of_field<P: Put>(
     alloc: Global,
     builder: &mut P,
@@ -93,6 +95,7 @@ fn value_of_field<P: Put>(
 }
 
 /// Takes what a slot holds, and leaves the slot empty.
+#[inline(always)]
 fn taken<O: Drop>(slots: &mut Vec<Option<O>>, index: usize) -> Option<O>
     ensures this { result ≡ slot_out (slice_get slots.old.items index) }
     ensures others { (k : ℕ) → (k ≡ index → ⊥) → slice_get slots.new.items k ≡ slice_get slots.old.items k }

@@ -220,6 +220,7 @@ pub(crate) fn skip_fields<P: Put>(_builder: &P, fields: &Slots<P::Out, P::Fields
 }
 
 /// What was made of a record, from its fields: the reader's in its order.
+#[inline(always)]
 pub(crate) fn make_record<P: Put>(
     alloc: Global,
     builder: &mut P,
