@@ -38,6 +38,36 @@ const EMPTY: &str = "{\"type\":\"record\",\"name\":\"R\",\"fields\":[]}";
 const LIST: &str =
     "{\"type\":\"record\",\"name\":\"Node\",\"fields\":[{\"name\":\"value\",\"type\":\"int\"},{\"name\":\"next\",\"type\":[\"null\",\"Node\"]}]}";
 
+/// A record beside a byte, of two records of a null each: seven nodes, four levels.
+const BESIDE: &str =
+    r#"{"type":"record","name":"W","fields":[{"name":"b","type":"boolean"},{"name":"x","type":
+    {"type":"record","name":"C","fields":[{"name":"d","type":{"type":"record","name":"D","fields":[{"name":"n","type":"null"}]}},
+        {"name":"e","type":"D"}]}}]}"#;
+
+/// Nine fields of records without fields beside a byte: eleven nodes, two levels.
+const NINE: &str =
+    r#"{"type":"record","name":"W","fields":[{"name":"a","type":{"type":"record","name":"E","fields":[]}},
+    {"name":"b","type":"boolean"},{"name":"c","type":"E"},{"name":"d","type":"E"},{"name":"f","type":"E"},{"name":"g","type":"E"},
+    {"name":"h","type":"E"},{"name":"i","type":"E"},{"name":"j","type":"E"},{"name":"k","type":"E"}]}"#;
+
+/// The display and the length of their data.
+const BESIDE_SHOWN: &str = r#"{"b":true,"x":{"d":{"n":null},"e":{"n":null}}} 1"#;
+
+const NINE_SHOWN: &str =
+    r#"{"a":{},"b":true,"c":{},"d":{},"f":{},"g":{},"h":{},"i":{},"j":{},"k":{}} 1"#;
+
+/// Limits on depth and nodes, and what is read within them of data without bytes.
+const WITHOUT_BYTES: [(u32, u32, Row); 8] = [
+    (4, 7, (BESIDE, b"\x01", BESIDE_SHOWN, "1")),
+    (3, 7, (BESIDE, b"\x01", "B9", "B9")),
+    (4, 6, (BESIDE, b"\x01", "B9", "B9")),
+    (4, 7, (BESIDE, b"\x02", "B3 at 0", "B3 at 0")),
+    (2, 11, (NINE, b"\x01", NINE_SHOWN, "1")),
+    (1, 11, (NINE, b"\x01", "B9", "B9")),
+    (2, 10, (NINE, b"\x01", "B9", "B9")),
+    (2, 3, (NINE, b"", "B1 at 0", "B1 at 0")),
+];
+
 /// What the two readers return: the datum's display and length, or the refusal, of both.
 fn answers(
     alloc: Global,
@@ -187,6 +217,15 @@ fn items_and_depth_are_limited(rt: HostRuntime) -> Result<(), Fail> {
         let answered = answers(alloc, &schema, &limits, &bytes)?;
         assert_eq!(rt; answered.1.as_str(), walked);
         assert_eq!(rt; answered.0.ends_with(walked), true);
+    }
+    Ok(())
+}
+
+#[test]
+fn data_without_bytes_keep_the_limits(rt: HostRuntime) -> Result<(), Fail> {
+    for (depth, nodes, row) in &WITHOUT_BYTES {
+        let limits = Limits::new(*depth, *nodes, 4).ok_or("no limits")?;
+        assert_eq!(rt; wrong_row(rt.alloc(), &limits, &[*row])?, None);
     }
     Ok(())
 }

@@ -41,8 +41,18 @@ const LETTERS: &str = "{\"type\":\"enum\",\"name\":\"E\",\"symbols\":[\"A\",\"B\
 
 const LETTERS_TURNED: &str = "{\"type\":\"enum\",\"name\":\"E\",\"symbols\":[\"B\",\"A\"]}";
 
+/// A record of two records without fields, and a byte; a reader's of the byte alone, and one of all.
+const TWO_EMPTY: &str =
+    r#"{"type":"record","name":"R","fields":[{"name":"x","type":{"type":"record","name":"C","fields":[
+    {"name":"d","type":{"type":"record","name":"D","fields":[]}},{"name":"e","type":"D"}]}},{"name":"a","type":"boolean"}]}"#;
+
+const THE_BYTE: &str =
+    r#"{"type":"record","name":"R","fields":[{"name":"a","type":["null","boolean"]}]}"#;
+
 /// Writers' schemas, readers' schemas, data, and what they are for the readers.
-const ROWS: [(&str, &str, &[u8], &[u8]); 16] = [
+const ROWS: [(&str, &str, &[u8], &[u8]); 18] = [
+    (TWO_EMPTY, THE_BYTE, b"\x01", b"\x02\x01"),
+    (TWO_EMPTY, TWO_EMPTY, b"\x01", b"\x01"),
     ("\"int\"", "[\"null\",\"long\"]", b"\x8a\x00", b"\x02\x0a"),
     ("\"boolean\"", "\"boolean\"", b"\x01", b"\x01"),
     (
