@@ -275,6 +275,27 @@ def at_node_limit(choose):
     return container(choose, root, 1, data), changed_tower(choose, root)
 
 
+def beside_a_byte(choose):
+    """Data of one byte, with data without bytes beside it: about as deep as they may be, or of about as many nodes."""
+    leaf = choose.choice([Type("null"), Type("fixed", name="F", size=0), Type("record", name="E", fields=[])])
+    if choose.randrange(2):
+        parts = [Type("record", name="C0", fields=[Field("a", leaf)])]
+        for level in range(1, DEPTH - 2 + choose.choice((-30, -2, -1, 0, 0, 1, 2))):
+            parts.append(Type("record", name=f"C{level}", fields=[Field("a", parts[-1])]))
+        parts += [parts[-1]] * choose.choice((0, 0, 7, 8, 12))
+    else:
+        part = tower(choose, choose.choice(((2,) * 14, (31, 31, 31), (9, 9, 9), (3, 5))), leaf)
+        parts = [part] * (choose.choice((1, 7, 8, 9)) if choose.randrange(3) else max(1, min(NODES // nodes_of(part) + choose.choice((-1, 0, 1)), 600)))
+    fields = [Field(f"p{k}", part) for k, part in enumerate(parts)]
+    fields.insert(choose.randrange(len(fields) + 1), Field("byte", Type("boolean")))
+    root = Type("record", name="Root", fields=fields)
+    data = bytes([choose.choice((0, 1, 1, 1, 1, 1, 1, 1, 1, 2)) for _ in range(choose.choice((1, 2, 5)))])
+    file = container(choose, root, len(data), data)
+    if choose.randrange(2):
+        return file, Type("record", name="Root", fields=[Field("byte", Type("boolean"))])
+    return file, changed_tower(choose, root)
+
+
 def changed_tower(choose, root):
     """A reader for data without bytes: the same, one that adds a field without bytes or with some, or one that leaves some out."""
     set_heights(root)
@@ -349,6 +370,7 @@ def container(choose, root, count, data):
 KINDS = {
     "whole": (whole, 32), "at fault": (at_fault, 28), "mutated": (mutated, 18), "without bytes": (without_bytes, 17),
     "node limit": (at_node_limit, 0.5), "depth limit": (at_depth_limit, 2), "block limit": (at_block_limit, 0.5), "long parts": (long_parts, 2),
+    "beside a byte": (beside_a_byte, 1),
 }
 
 
