@@ -1,6 +1,7 @@
 -- Takes go together, after what is held.
 use Rattle.std.proofs.Common.{◌≡◌, ◌≢◌, refl, ℕ, ◌+◌, ◌-◌, ◌≤◌, max, List, [], ◌++◌, length, take, drop, sym, ap, ◌∙◌, arith, append_assoc, append-nil, length-append}
 use Rattle.std.proofs.lemmas.List.{take-append-drop}
+use Rattle.std.specs.Prelude.{Result, Ok, Err, OnErr}
 use Rattle.avro_container.specs.declared.error.CopyError.{CopyError}
 use Rattle.avro_container.specs.declared.input.PartError.{PartError}
 use Rattle.avro_container.specs.inside.Filled.{GrowsBy, TakesAtMost, UnlessDevice}
@@ -78,3 +79,9 @@ PutsFrontOf-failed keeps chain a b c bytes front rest k e m = record {
   kept = chain a b c front [] k m;
   split = e ∙ ap (λ f. f ++ rest) (sym (append-nil front));
 }
+
+-- a call that puts nothing
+pub PutsFrontOf-none : {O T E : Type 0} (keeps : O → List ℕ → O → Type 0) → ((a : O) → keeps a [] a) → (a : O) (bytes : List ℕ) (r : Result T E)
+    → OnErr r (PutsFrontOf keeps a a bytes)
+PutsFrontOf-none keeps none a bytes (Ok x) = tt
+PutsFrontOf-none keeps none a bytes (Err e) = record { front = []; later = bytes; kept = none a; split = refl }
