@@ -5,6 +5,7 @@ pub mod Fault
 pub mod Breaks
 pub mod Seen
 pub mod Making
+pub mod Pieces
 pub mod Reading
 pub mod KeySet
 pub mod CursorValue

@@ -5,6 +5,7 @@ ghost use Rattle.avro_schema.specs.Fits.{fields_fit, fits};
 ghost use Rattle.avro_schema.specs.Node.{Node, FieldNode, node_at, field_ids};
 ghost use Rattle.avro_schema.specs.Seen.{values_from, entries_from};
 ghost use Rattle.avro_schema.specs.Value.{Value};
+ghost use Rattle.avro_binary.specs.Pieces.{ArePieces};
 
 use std::alloc::{AllocError, Global};
 
@@ -58,6 +59,24 @@ pub trait Make {
     fn empty(&mut self, alloc: Global, at: Self::At) -> Result<Option<Self::Out>, AllocError>
         ensures kept { OnOk result (keeps self.old self.new) }
         ensures stands { (nodes : List Node) (n : Node) (v : Value) → fits nodes n v ≡ true → is_empty v ≡ true → IfOk result (λ o. IfSome o (λ out. stands_for self.new nodes n at out v)) };
+
+    /// A list for the ends of the encodings of a record's fields, where the record may be made from these, or `None` where its parts
+    /// are needed.
+    fn ends(&mut self, alloc: Global, at: Self::At) -> Option<Vec<usize>>
+        ensures kept { keeps self.old self.new };
+
+    /// Makes a record from the encodings of its fields, each of which stands in the bytes from one end to the next, or `None` where its
+    /// parts are needed for that. No field has parts.
+    fn pieces(
+        &mut self,
+        alloc: Global,
+        at: Self::At,
+        bytes: &[u8],
+        ends: Vec<usize>,
+    ) -> Result<Option<Self::Out>, AllocError>
+        ensures kept { OnOk result (keeps self.old self.new) }
+        ensures stands { (nodes : List Node) (name : Name) (aliases : List Name) (fs : List FieldNode) (vs : List Value) → ArePieces vs bytes.now ends.items
+            → fields_fit nodes (field_ids fs) (values_from vs) ≡ true → IfOk result (λ o. IfSome o (λ out. stands_for self.new nodes (Node.record_of name aliases fs) at out (Value.record_of (values_from vs)))) };
 
     /// Makes null.
     fn null(&mut self, alloc: Global, at: Self::At) -> Result<Self::Out, AllocError>

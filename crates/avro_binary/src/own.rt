@@ -71,6 +71,20 @@ impl<'b, B: Build> Make for Own<'b, B> {
         Ok(None)
     }
 
+    fn ends(&mut self, _alloc: Global, _at: ()) -> Option<Vec<usize>> {
+        None
+    }
+
+    fn pieces(
+        &mut self,
+        _alloc: Global,
+        _at: (),
+        _bytes: &[u8],
+        _ends: Vec<usize>,
+    ) -> Result<Option<B::Out>, AllocError> {
+        Ok(None)
+    }
+
     fn null(&mut self, alloc: Global, _at: ()) -> Result<B::Out, AllocError> {
         self.builder.null(alloc)
     }

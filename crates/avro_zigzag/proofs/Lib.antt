@@ -1,3 +1,4 @@
 mod Rows
+mod Fewest
 mod Steps
 pub mod public

@@ -1,14 +1,17 @@
 //! The numbers of Avro's binary encoding: zig-zag, and then groups of seven bits.
 //!
 //! [`read_long`] and [`read_int`] read the number at the front of bytes, padded or not, or return a [`VarError`];
-//! [`write_long`] writes the shortest spelling, and [`to_zigzag`] gives the number whose groups those are.
+//! [`write_long`] writes the shortest spelling, [`starts_shortest`] tells it from the padded ones, and [`to_zigzag`] gives the number
+//! whose groups it is.
 #![tactic(auto)]
 
 pub mod laws;
 pub mod read;
+pub mod shortest;
 pub mod write;
 
 pub use read::{read_int, read_long};
+pub use shortest::starts_shortest;
 use thiserror::Error;
 pub use write::{to_zigzag, write_long};
 

@@ -60,6 +60,20 @@ impl Make for Nothing {
         Ok(Some(()))
     }
 
+    fn ends(&mut self, _alloc: Global, _at: ()) -> Option<Vec<usize>> {
+        None
+    }
+
+    fn pieces(
+        &mut self,
+        _alloc: Global,
+        _at: (),
+        _bytes: &[u8],
+        _ends: Vec<usize>,
+    ) -> Result<Option<()>, AllocError> {
+        Ok(None)
+    }
+
     fn null(&mut self, _alloc: Global, _at: ()) -> Result<(), AllocError> {
         Ok(())
     }
