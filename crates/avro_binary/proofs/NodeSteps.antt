@@ -31,13 +31,13 @@ use Rattle.avro_binary.proofs.public.Ranges.{is_count-from_below}
 -- ---- Entering and leaving
 
 -- a cursor that entered a node was outside it
-entered-from : (before mid : CursorValue) → Enters before mid → outside mid ≡ before
+pub entered-from : (before mid : CursorValue) → Enters before mid → outside mid ≡ before
 entered-from before mid e =
     let deep : suc mid.depth ≡ before.depth = let d = e.depth in omega arith in
     let many : suc mid.nodes ≡ before.nodes = let n = e.nodes in omega arith in
     λ i. record { bytes = e.bytes i; offset = e.offset i; depth = deep i; nodes = many i; blob = e.blob i }
 
-left-from : (inside after : CursorValue) → after ≡ record inside { depth = inside.depth + 1 } → left_node inside ≡ after
+pub left-from : (inside after : CursorValue) → after ≡ record inside { depth = inside.depth + 1 } → left_node inside ≡ after
 left-from inside after is =
     let deep : suc inside.depth ≡ inside.depth + 1 = omega arith in
     (λ i. record inside { depth = deep i }) ∙ sym is
@@ -258,7 +258,7 @@ pub record FieldsDone (nodes : List Node) (ids : List ℕ) (start now : CursorVa
   pub long : values_longest_blob (values_from vs) ≤ start.blob
   pub moves : Moves start (concat items) now
 
-pub fields_none : (nodes : List Node) (at : CursorValue) → FieldsDone nodes [] at at []
+unfoldable pub fields_none : (nodes : List Node) (at : CursorValue) → FieldsDone nodes [] at at []
 fields_none nodes at = record {
   items = [];
   fitting = refl;
@@ -271,7 +271,7 @@ fields_none nodes at = record {
 
 module _ (nodes : List Node) (ids : List ℕ) (start now : CursorValue) (vs : List Value) (done : FieldsDone nodes ids start now vs) where
   -- one more value
-  pub fields_push : (id : ℕ) (after : CursorValue) (v : Value) → FindsValue nodes (node_at nodes id) now after v
+  unfoldable pub fields_push : (id : ℕ) (after : CursorValue) (v : Value) → FindsValue nodes (node_at nodes id) now after v
       → FieldsDone nodes (ids ++ id ∷ []) start after (vs ++ v ∷ [])
   fields_push id after v value =
       let d = done.moves.depth in
@@ -318,7 +318,7 @@ module _ (nodes : List Node) (ids : List ℕ) (start now : CursorValue) (vs : Li
       }) reported
 
 module _ {R : Type 0} {stands : R → Value → Type 0} (nodes : List Node) (name : Name) (aliases : List Name) (fields : List FieldNode) (start now : CursorValue) where
-  pub record_found : (vs : List Value) (r : R) → FieldsDone nodes (field_ids fields) start now vs → stands r (Value.record_of (values_from vs))
+  unfoldable pub record_found : (vs : List Value) (r : R) → FieldsDone nodes (field_ids fields) start now vs → stands r (Value.record_of (values_from vs))
       → ReadsNode stands nodes (Node.record_of name aliases fields) (outside start) (left_node now) (Ok r)
   record_found vs r done s = record {
     found = (

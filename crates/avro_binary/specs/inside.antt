@@ -1,3 +1,3 @@
 pub mod CountsAgain
-pub mod PassesEmpty
+pub mod PassesAtOnce
 pub mod PassesRun

@@ -78,9 +78,23 @@ impl<'a> Cursor<'a> {
         self.nodes
     }
 
+    /// Another cursor at the same place.
+    #[inline(always)]
+    pub(crate) fn ahead(&self) -> Cursor<'a>
+        ensures { result ≡ self.now }
+    {
+        Cursor {
+            rest: self.rest,
+            len: self.len,
+            depth: self.depth,
+            nodes: self.nodes,
+            blob: self.blob,
+        }
+    }
+
     /// The bytes that are left.
     #[inline(always)]
-    fn rest(&self) -> &'a [u8]
+    pub(crate) fn rest(&self) -> &'a [u8]
         ensures { result.now ≡ self.now.bytes }
     {
         self.rest

@@ -10,6 +10,7 @@ ghost use Rattle.avro_binary.specs.Making.{Made};
 
 mod fields;
 mod maps;
+mod pieces;
 mod records;
 
 use crate::cursor::Cursor;

@@ -94,7 +94,7 @@ fn read_runs<M: Make>(
         )?;
         if passed == 0 {
             let part = maker.field_at(&values);
-            let value = read_at(alloc, schema, fields[index].node, cursor, maker, part)?;
+            let value = read_apart(alloc, schema, fields[index].node, cursor, maker, part)?;
             maker.field(alloc, &mut values, value)?;
             index += 1;
         } else {
@@ -102,6 +102,22 @@ fn read_runs<M: Make>(
         }
     }
     Ok(maker.record(alloc, values)?)
+}
+
+/// Reads a datum by a call: what reads one at hand stands in the loop over all fields alone.
+#[cycle(reading)]
+#[inline(never)]
+fn read_apart<M: Make>(
+    alloc: Global,
+    schema: &Schema,
+    id: NodeId,
+    cursor: &mut Cursor<'_>,
+    maker: &mut M,
+    at: M::At,
+) -> Result<M::Out, ReadError>
+    ensures { ReadsNode (Made M.keeps (λ m. M.stands_for m (schema_nodes schema.now) (node_at (schema_nodes schema.now) id.0) at) maker.old maker.new) (schema_nodes schema.now) (node_at (schema_nodes schema.now) id.0) cursor.old cursor.new result }
+{
+    read_at(alloc, schema, id, cursor, maker, at)
 }
 
 /// The run of the fields from an index on: none where nothing is known of them.

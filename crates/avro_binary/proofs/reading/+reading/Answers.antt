@@ -22,19 +22,11 @@ use Rattle.avro_binary.proofs.BlockSteps.{head_read, end_read, has_size, blocks_
 use Rattle.avro_binary.proofs.EmptyReads.{reads_kept}
 use Rattle.avro_binary.proofs.EmptyRuns.{none_passed, run_breaks_off, run_passed}
 use Rattle.avro_binary.proofs.NodeSteps.{node_left, node_refused, enter_refused, ArrayDone, array_found, map_found, FieldsDone, fields_none, branch_refused, branch_unread, union_found, branch_at, ids-length, texts-length, null_past, fields_push, field_breaks, record_found, record_refused, ids_split, ids_next, ids_all}
-use Rattle.avro_binary.proofs.public.Ranges.{bytes-below}
+use Rattle.avro_binary.proofs.public.Ranges.{bytes-below, not-below}
 use Rattle.avro_binary.proofs.Repeated.{others_last, same_reads}
 use Rattle.avro_binary.proofs.RunLaws.{values_kind, entries_kind}
 use Rattle.avro_binary.proofs.RunSteps.{run_none, run_push, run_breaks, value_run, value_report, entry_run, entry_report, key_report, moves-join, moves-passed}
 use Rattle.avro_binary.proofs.reading.+reading.Goals as goal
-
--- an id that a test finds past the end
-not-below : (k n : ℕ) (b : Bool) → b ≡ false → (k < n → IsTrue b) → n ≤ k
-not-below k n true h f = absurd cc
-not-below k n false h f = elim (nat_lt k n) as (λ x. nat_lt k n ≡ x → n ≤ k) [
-  | true ↦ λ e. let below : k < n = search (rules, tests) in absurd (false≢true (f below))
-  | false ↦ λ e. search (rules, tests)
-] refl
 
 -- the id of a field
 field_id_at : (fields : List Field) (k : ℕ) (d : Field) → k < length fields → slice_get (field_ids (seen_fields fields)) k ≡ Some (get_or fields k d).node.0
@@ -455,12 +447,12 @@ records::read_record-returns-in-None g t c = λ name aliases is.
     let nodes = schema_nodes c.args.schema.now in
     let n = node_at nodes c.args.id.0 in
     let maker = c.args.maker.now in
-    let mid = c.pass_empty.new.maker in
+    let mid = c.pass_at_once.new.maker in
     let made = c.enter_record.new.maker in
     let after = c.enter_record.new.cursor in
     let result = c.enter_record.result in
-    let passed = c.in_ok-out.ensures.none c.in-None.is in
-    let at_node = subst (λ (m : Node). ReadsNode (Made g.M.Make.keeps (λ s. g.M.Make.stands_for s nodes m c.args.at) mid made) nodes m c.pass_empty.new.cursor after result) (sym is) (c.enter_record.ensures name aliases is) in
+    let passed = (c.in_ok-out.ensures.passes name aliases is).none c.in-None.is in
+    let at_node = subst (λ (m : Node). ReadsNode (Made g.M.Make.keeps (λ s. g.M.Make.stands_for s nodes m c.args.at) mid made) nodes m c.pass_at_once.new.cursor after result) (sym is) (c.enter_record.ensures name aliases is) in
     reads_kept g.M.Make.keeps (λ s. g.M.Make.stands_for s nodes n c.args.at) nodes n c.args.cursor.now after maker mid made (g.met.M.Make.keeps_on maker mid made passed.1) result
     (subst (λ (before : CursorValue). ReadsNode (Made g.M.Make.keeps (λ s. g.M.Make.stands_for s nodes n c.args.at) mid made) nodes n before after result) passed.0 at_node)
 
@@ -561,13 +553,13 @@ fields::read_runs-returns-in_err-value g t c = λ name aliases tells.
     let below : i < length fields = c.loop-index-test.true in
     let id = (get_or fields i field).node.0 in
     let e = c.in_err-value.field-0.0 in
-    rw (p.1, p.2) (record_refused nodes name aliases (seen_fields fields) start c.read_at.new.cursor e
+    rw (p.1, p.2) (record_refused nodes name aliases (seen_fields fields) start c.read_apart.new.cursor e
     (field_breaks nodes (take i ids) start now (so_far.0 ++ more.0) done ids (drop (suc i) ids) id (ids_split fields i field below) e c.in_err-value.ensures.refused))
 
 pub fields::read_runs-loop-index-preserved-then-passed-eq0 : goal.fields::read_runs-loop-index-preserved-then-passed-eq0
 fields::read_runs-loop-index-preserved-then-passed-eq0 g t c =
     let maker = c.loop-index.maker in
-    let made = c.read_at.new.maker in
+    let made = c.read_apart.new.maker in
     let found = c.in_ok-value.ensures.found in (
       found.1.moves.depth ∙ c.in_ok-passed.ensures.level ∙ c.loop-index.invariant.0,
       g.met.M.Make.keeps_on c.args.maker.now maker c.field.new.self c.loop-index.invariant.1 (g.met.M.Make.keeps_on maker made c.field.new.self found.2.0 c.in_ok-field.ensures.kept),
@@ -593,8 +585,8 @@ fields::read_runs-loop-index-preserved-then-passed-eq0 g t c =
           let at_field : slice_get ids (length xs) ≡ Some id = ap (λ (k : ℕ). slice_get ids k) counted ∙ field_id_at fields i field below in
           let are : take i ids ++ id ∷ [] ≡ take (i + 1) ids = sym (ids_next fields i field below) ∙ ap (λ (m : ℕ). take m ids) (sym next) in (
             xs ++ found.0 ∷ [],
-            subst (λ (ps : List ℕ). FieldsDone nodes ps start c.read_at.new.cursor (xs ++ found.0 ∷ [])) are
-                (fields_push nodes (take i ids) start now xs done id c.read_at.new.cursor found.0 found.1),
+            subst (λ (ps : List ℕ). FieldsDone nodes ps start c.read_apart.new.cursor (xs ++ found.0 ∷ [])) are
+                (fields_push nodes (take i ids) start now xs done id c.read_apart.new.cursor found.0 found.1),
             omega (arith, length-append xs (found.0 ∷ []), counted),
             c.in_ok-field.ensures.stands nodes (seen_fields fields) id c.args.at xs found.0 (g.met.M.Make.fields_kept maker made nodes (seen_fields fields) c.args.at values xs found.2.0 more.3) at_field
                 (subst (λ (a : g.row.M-At.Denot). g.M.Make.stands_for made nodes (node_at nodes id) a c.in_ok-value.value found.0) (c.field_at-part.ensures ∙ g.met.M.Make.field_at_kept maker made values found.2.0) found.2.1),

@@ -12,46 +12,49 @@ use Rattle.avro_binary.proofs.NodeSteps.{ArrayDone, MapDone, FieldsDone}
 use Rattle.avro_binary.proofs.reading.+reading.Given as goal
 
 abbrev pub decreases-read_at : goal.decreases-read_at
-decreases-read_at g l = 5 * l.cursor.now.depth + 2
+decreases-read_at g l = 7 * l.cursor.now.depth + 3
 
 abbrev pub decreases-read_array : goal.decreases-read_array
-decreases-read_array g l = 5 * l.cursor.now.depth
+decreases-read_array g l = 7 * l.cursor.now.depth
 
 abbrev pub decreases-maps::read_map : goal.decreases-maps::read_map
-decreases-maps::read_map g l = 5 * l.cursor.now.depth
+decreases-maps::read_map g l = 7 * l.cursor.now.depth
 
 abbrev pub decreases-read_union : goal.decreases-read_union
-decreases-read_union g l = 5 * l.cursor.now.depth
+decreases-read_union g l = 7 * l.cursor.now.depth
 
 abbrev pub decreases-records::read_record : goal.decreases-records::read_record
-decreases-records::read_record g l = 5 * l.cursor.now.depth + 1
+decreases-records::read_record g l = 7 * l.cursor.now.depth + 1
 
 abbrev pub decreases-enter_record : goal.decreases-enter_record
-decreases-enter_record g l = 5 * l.cursor.now.depth
+decreases-enter_record g l = 7 * l.cursor.now.depth
 
 abbrev pub decreases-read_item_blocks : goal.decreases-read_item_blocks
-decreases-read_item_blocks g l = 5 * l.cursor.now.depth + 4
+decreases-read_item_blocks g l = 7 * l.cursor.now.depth + 6
 
 abbrev pub decreases-maps::read_entry_blocks : goal.decreases-maps::read_entry_blocks
-decreases-maps::read_entry_blocks g l = 5 * l.cursor.now.depth + 4
+decreases-maps::read_entry_blocks g l = 7 * l.cursor.now.depth + 6
 
 abbrev pub decreases-read_branch : goal.decreases-read_branch
-decreases-read_branch g l = 5 * l.cursor.now.depth + 4
+decreases-read_branch g l = 7 * l.cursor.now.depth + 6
 
 abbrev pub decreases-fields::read_fields : goal.decreases-fields::read_fields
-decreases-fields::read_fields g l = 5 * l.cursor.now.depth + 3
+decreases-fields::read_fields g l = 7 * l.cursor.now.depth + 5
 
 abbrev pub decreases-fields::read_parts : goal.decreases-fields::read_parts
-decreases-fields::read_parts g l = 5 * l.cursor.now.depth + 4
+decreases-fields::read_parts g l = 7 * l.cursor.now.depth + 6
 
 abbrev pub decreases-fields::read_runs : goal.decreases-fields::read_runs
-decreases-fields::read_runs g l = 5 * l.cursor.now.depth + 3
+decreases-fields::read_runs g l = 7 * l.cursor.now.depth + 5
+
+abbrev pub decreases-fields::read_apart : goal.decreases-fields::read_apart
+decreases-fields::read_apart g l = 7 * l.cursor.now.depth + 4
 
 abbrev pub decreases-read_items : goal.decreases-read_items
-decreases-read_items g l = 5 * l.cursor.now.depth + 3
+decreases-read_items g l = 7 * l.cursor.now.depth + 5
 
 abbrev pub decreases-maps::read_entries : goal.decreases-maps::read_entries
-decreases-maps::read_entries g l = 5 * l.cursor.now.depth + 3
+decreases-maps::read_entries g l = 7 * l.cursor.now.depth + 5
 
 -- the blocks so far, which are of some items
 abbrev pub invariant-read_item_blocks-loop-items : goal.invariant-read_item_blocks-loop-items

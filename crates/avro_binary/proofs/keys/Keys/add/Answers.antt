@@ -1,4 +1,4 @@
-use Rattle.std.proofs.Common.{◌||◌, ◌∙◌, List, ℕ, ap, not, refl, sym}
+use Rattle.std.proofs.Common.{◌||◌, ◌∙◌, ap, not, sym}
 use Rattle.std.specs.FinSet as set
 use Rattle.avro_binary.specs.KeySet.{KeySet, key_set, with_key}
 use Rattle.avro_binary.proofs.KeySets.{contains-none, key_set-again, key_set-contains, key_set-updates, seen_keys, with_three-insert}
