@@ -109,6 +109,22 @@ impl<'p, 'a, 'b, P: Put> Make for Resolving<'p, 'a, 'b, P> {
     }
 
     #[inline(always)]
+    fn ends(&mut self, _alloc: Global, _at: Part) -> Option<Vec<usize>> {
+        None
+    }
+
+    #[inline(always)]
+    fn pieces(
+        &mut self,
+        _alloc: Global,
+        _at: Part,
+        _bytes: &[u8],
+        _ends: Vec<usize>,
+    ) -> Result<Option<Made<P::Out>>, AllocError> {
+        Ok(None)
+    }
+
+    #[inline(always)]
     fn null(&mut self, alloc: Global, at: Part) -> Result<Made<P::Out>, AllocError> {
         match at.at {
             At::Ignored => Ok(Made::Nothing),
