@@ -44,6 +44,17 @@ impl Appending {
         append_plain(datum, &mut self.out)?;
         Ok(self.since(start))
     }
+
+    /// Writes bytes at hand.
+    #[inline(always)]
+    fn copy_of(&mut self, content: &[u8]) -> Result<Written, AllocError>
+        ensures kept { OnOk result (Grows self.old self.new) }
+        ensures holds { IfOk result (λ out. Holds self.new out content.now) }
+    {
+        let start = self.out.len();
+        self.out.extend_from_slice(content)?;
+        Ok(self.since(start))
+    }
 }
 
 impl Put for Appending {
@@ -166,9 +177,8 @@ impl Put for Appending {
 
     #[inline(always)]
     fn copied(&mut self, _alloc: Global, content: &[u8]) -> Result<Option<Written>, AllocError> {
-        let start = self.out.len();
-        self.out.extend_from_slice(content)?;
-        Ok(Some(self.since(start)))
+        let copied = self.copy_of(content)?;
+        Ok(Some(copied))
     }
 
     #[inline(always)]
