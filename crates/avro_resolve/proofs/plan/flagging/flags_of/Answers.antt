@@ -9,8 +9,8 @@ use Rattle.avro_compare.proofs.public.Planning.{holds_push, same_some}
 use Rattle.avro_resolve.specs.Copied.{IsFlag, IsStraight}
 use Rattle.avro_resolve.proofs.plan.flagging.flags_of.Goals as goal
 
-pub is_straight-requires-clause-pair : goal.is_straight-requires-clause-pair
-is_straight-requires-clause-pair c =
+pub is_straight-flag-requires-clause-pair : goal.is_straight-flag-requires-clause-pair
+is_straight-flag-requires-clause-pair c =
     c.requires c.loop-index.index c.index-pairs-index.result
     (slice_get_read c.args.pairs.now (length c.args.pairs.now) c.loop-index.index c.index-pairs-index.result refl c.loop-index-test.true c.index-pairs-index.is)
 
