@@ -43,8 +43,9 @@ module _ (writer reader : List Node) (ws : List FieldNode) where
   pub copied_all : (reads : List Field) (i : ℕ) → length reads ≤ i → AreCopied writer reader ws (seen_fields (drop i reads))
   copied_all reads i high = copied_none (seen_fields (drop i reads)) (ap seen_fields (drop_of_length-le reads high))
 
-  pub copied_by : {xs ws rs ys : List FieldNode} → xs ≡ ws → rs ≡ ys → AreCopied writer reader xs rs → AreCopied writer reader ws ys
-  copied_by {ws = vs} {rs = rs} e f h = subst (λ (gs : List FieldNode). AreCopied writer reader vs gs) f (subst (λ (gs : List FieldNode). AreCopied writer reader gs rs) e h)
+-- the same fields
+pub copied_by : (writer reader : List Node) {xs ws rs ys : List FieldNode} → xs ≡ ws → rs ≡ ys → AreCopied writer reader xs rs → AreCopied writer reader ws ys
+copied_by writer reader {ws = ws} {rs = rs} e f h = subst (λ (gs : List FieldNode). AreCopied writer reader ws gs) f (subst (λ (gs : List FieldNode). AreCopied writer reader gs rs) e h)
 
 -- what is kept of a pair that is straight, at equal nodes
 module _ (writer reader : List Node) (sources : List (Option ℕ)) where
