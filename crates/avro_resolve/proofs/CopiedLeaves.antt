@@ -1,13 +1,13 @@
 -- Leaves whose encodings are copied.
-use Rattle.std.proofs.Common.{◌≡◌, ℕ, ℤ, pos, Bool, true, false, ◌||◌, List, [], ◌++◌, length, Option, Some, None, Ok, refl, sym, ap, ◌∙◌, subst}
+use Rattle.std.proofs.Common.{◌≡◌, ℕ, ℤ, pos, true, false, ◌||◌, List, [], ◌++◌, length, Option, Some, None, Ok, refl, sym, ap, ◌∙◌, subst}
 use Rattle.std.proofs.lemmas.Bool.{false≢true}
 use Rattle.std.proofs.lemmas.List.{append-nil}
-use Rattle.avro_zigzag.specs.Number.{SpellsLong, number_bytes}
+use Rattle.avro_zigzag.specs.Number.{number_bytes}
 use Rattle.avro_zigzag.proofs.public.Spelling.{number_bytes-from_spelling}
 use Rattle.avro_schema.specs.Value.{Value}
 use Rattle.avro_schema.specs.Node.{Node, symbols_of}
-use Rattle.avro_schema.specs.Fits.{fits, is_int_node, is_long_node, is_bytes_node, is_string_node}
-use Rattle.avro_schema.proofs.public.FitsKind.{FitsKind, FitsKind-from_fits}
+use Rattle.avro_schema.specs.Fits.{is_int_node, is_long_node, is_bytes_node, is_string_node}
+use Rattle.avro_schema.proofs.public.FitsKind.{FitsKind}
 use Rattle.avro_binary.specs.Encoding.{Spells, SpellsBytes, plain, plain_bytes}
 use Rattle.avro_compare.specs.Resolve.{bytes_as, int_as, resolve, string_as}
 use Rattle.avro_resolve.specs.Copied.{IsCopied, IsAsSpelled, BeginsShortest, begins_with_number, is_as_written}

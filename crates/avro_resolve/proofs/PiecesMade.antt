@@ -1,6 +1,5 @@
 -- What is made of the pieces of a record.
-use Rattle.std.proofs.Common.{◌≡◌, ℕ, List, Option, Some, map, refl, sym, ap, ◌∙◌, subst}
-use Rattle.avro_schema.specs.Value.{Values}
+use Rattle.std.proofs.Common.{◌≡◌, ℕ, List, Some, map, refl, sym, ap, ◌∙◌, subst}
 use Rattle.avro_schema.specs.Node.{Node, FieldNode, node_at}
 use Rattle.avro_schema.specs.Seen.{values_from}
 use Rattle.avro_binary.specs.Encoding.{plain}

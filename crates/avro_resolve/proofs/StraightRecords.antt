@@ -1,6 +1,6 @@
 -- Records that are made from the encodings of their fields.
-use Rattle.std.proofs.Common.{◌≡◌, ℕ, zero, suc, ◌+◌, Bool, true, false, cond, List, [], ◌∷◌, ◌++◌, Option, Some, None, Ok, refl, sym, ap, ◌∙◌, subst, arith}
-use Rattle.std.specs.Prelude.{slice_get, unwrap_or, ◌==◌, ◌&&◌}
+use Rattle.std.proofs.Common.{◌≡◌, ℕ, zero, suc, ◌+◌, Bool, true, false, cond, List, [], ◌∷◌, Option, Some, None, Ok, Result, refl, sym, ap, ◌∙◌, subst, arith}
+use Rattle.std.specs.Prelude.{slice_get, unwrap_or, ◌==◌}
 use Rattle.std.proofs.lemmas.Bool.{and_parts, false≢true, cond-true, cond-false, eq-eqb, eqb-true, ne_eqb}
 use Rattle.avro_name.specs.Name.{Name}
 use Rattle.avro_schema.specs.Value.{Value, value}
@@ -12,17 +12,15 @@ use Rattle.avro_schema.proofs.public.FitsKind.{FitsKind-from_fits}
 use Rattle.avro_binary.specs.Encoding.{plain}
 use Rattle.avro_binary.specs.Pieces.{ArePieces, piece}
 use Rattle.avro_compare.specs.Fields.{IsField, here, later}
-use Rattle.avro_compare.specs.Pairs.{IsAim}
 use Rattle.avro_compare.specs.Resolve.{Resolved, Sourced, sourced_at, field_values, fields_at, with_sourced, both, inside, resolve, resolve_sources, record_or_missing, result_map}
 use Rattle.avro_compare.specs.Source.{is_index, missing_field, reader_field, source_of}
 use Rattle.avro_compare.specs.Fault.{ResolutionFault}
-use Rattle.std.specs.Prelude.{Result}
 use Rattle.avro_compare.specs.declared.guided.At.{At}
 use Rattle.avro_compare.specs.declared.guided.At.TheVariants.{Pair}
 use Rattle.avro_compare.proofs.public.Sources.{is_index-same}
 use Rattle.avro_resolve.specs.declared.resolving.guided.Made.{Made}
 use Rattle.avro_resolve.specs.inside.Guided.{MadeAs, StandsAs}
-use Rattle.avro_resolve.specs.Copied.{AreCopied, ArePlain, IsCopied, IsStraight}
+use Rattle.avro_resolve.specs.Copied.{AreCopied, ArePlain, IsStraight}
 use Rattle.avro_resolve.proofs.CopiedLeaves.{copied_spelling, copied_value}
 
 -- ---- Values that fit some fields

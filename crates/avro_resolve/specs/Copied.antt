@@ -1,5 +1,5 @@
 -- When a record is made for a reader from the encodings of the writer's fields, as they stand.
-use Rattle.std.specs.Prelude.{◌≡◌, ℕ, ℤ, Bool, true, false, ◌||◌, List, ◌++◌, Option, Some, None, slice_get}
+use Rattle.std.specs.Prelude.{◌≡◌, ℕ, ℤ, Bool, true, false, ◌||◌, List, ◌++◌, Some, None, slice_get}
 use Rattle.avro_zigzag.specs.Number.{zigzag, AreGroups, IsShortest}
 use Rattle.avro_schema.specs.Node.{Node, FieldNode, node_at, field_ids}
 use Rattle.avro_schema.specs.Fits.{is_null_node, is_boolean_node, is_int_node, is_long_node, is_bytes_node, is_string_node}

@@ -1,5 +1,4 @@
-use Rattle.std.proofs.Common.{◌≡◌, Some, length, refl, subst}
-use Rattle.std.specs.Prelude.{slice_get}
+use Rattle.std.proofs.Common.{length, refl, subst}
 use Rattle.std.proofs.lemmas.Option.{slice_get_read}
 use Rattle.avro_schema.specs.Node.{node_at}
 use Rattle.avro_schema.specs.SeenSchema.{schema_nodes}

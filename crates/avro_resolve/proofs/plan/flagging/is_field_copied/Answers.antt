@@ -1,4 +1,4 @@
-use Rattle.std.proofs.Common.{◌≡◌, ◌<◌, length, subst, rules}
+use Rattle.std.proofs.Common.{◌<◌, length, subst, rules}
 use Rattle.avro_schema.specs.Seen.{field_of, seen_fields}
 use Rattle.avro_schema.specs.SeenSchema.{schema_nodes}
 use Rattle.avro_compare.proofs.public.Planning.{same_some}
