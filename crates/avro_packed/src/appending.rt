@@ -23,6 +23,7 @@ pub struct Appending {
     pub(crate) out: Vec<u8>,
     pub(crate) spares: Vec<Box<Apart>>,
     pub(crate) slots: Vec<Vec<Option<Written>>>,
+    pub(crate) ends: Vec<Vec<usize>>,
 }
 
 impl Model for Appending {
@@ -42,6 +43,7 @@ impl Appending {
             out: Vec::new(alloc),
             spares: Vec::new(alloc),
             slots: Vec::new(alloc),
+            ends: Vec::new(alloc),
         }
     }
 
@@ -215,6 +217,22 @@ impl Make for Appending {
     fn empty(&mut self, _alloc: Global, at: Option<u32>) -> Result<Option<Written>, AllocError> {
         let start = self.begin(at)?;
         Ok(Some(self.since(start)))
+    }
+
+    #[inline(always)]
+    fn ends(&mut self, _alloc: Global, _at: Option<u32>) -> Option<Vec<usize>> {
+        None
+    }
+
+    #[inline(always)]
+    fn pieces(
+        &mut self,
+        _alloc: Global,
+        _at: Option<u32>,
+        _bytes: &[u8],
+        _ends: Vec<usize>,
+    ) -> Result<Option<Written>, AllocError> {
+        Ok(None)
     }
 
     #[inline(always)]

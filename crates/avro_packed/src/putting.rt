@@ -3,7 +3,7 @@
 use crate::appending::Appending;
 use crate::gathered::Gathered;
 use crate::moving::join_near;
-use crate::spares::{give_slots, slots};
+use crate::spares::{ends, give_ends, give_slots, slots};
 use crate::written::Written;
 use avro_binary::{Make, append_plain};
 use avro_resolve::Put;
@@ -42,6 +42,17 @@ impl Appending {
     {
         let start = self.out.len();
         append_plain(datum, &mut self.out)?;
+        Ok(self.since(start))
+    }
+
+    /// Writes bytes at hand.
+    #[inline(always)]
+    fn copy_of(&mut self, content: &[u8]) -> Result<Written, AllocError>
+        ensures kept { OnOk result (Grows self.old self.new) }
+        ensures holds { IfOk result (λ out. Holds self.new out content.now) }
+    {
+        let start = self.out.len();
+        self.out.extend_from_slice(content)?;
         Ok(self.since(start))
     }
 }
@@ -165,6 +176,12 @@ impl Put for Appending {
     }
 
     #[inline(always)]
+    fn copied(&mut self, _alloc: Global, content: &[u8]) -> Result<Option<Written>, AllocError> {
+        let copied = self.copy_of(content)?;
+        Ok(Some(copied))
+    }
+
+    #[inline(always)]
     fn items(&mut self, _alloc: Global) -> Result<Gathered, AllocError> {
         Ok(self.gather(None))
     }
@@ -252,5 +269,15 @@ impl Put for Appending {
         ensures kept { Grows self.old self.new }
     {
         give_slots(&mut self.slots, slots);
+    }
+
+    #[inline(always)]
+    fn ends(&mut self, alloc: Global) -> Option<Vec<usize>> {
+        Some(ends(alloc, &mut self.ends))
+    }
+
+    #[inline(always)]
+    fn keep_ends(&mut self, ends: Vec<usize>) {
+        give_ends(&mut self.ends, ends);
     }
 }

@@ -73,3 +73,27 @@ pub(crate) fn give_slots(kept: &mut Vec<Vec<Option<Written>>>, slots: Vec<Option
         }
     }
 }
+
+/// An empty list for ends of encodings.
+#[inline(always)]
+pub(crate) fn ends(alloc: Global, kept: &mut Vec<Vec<usize>>) -> Vec<usize> {
+    match kept.pop() {
+        Some(ends) => {
+            let mut ends = ends;
+            ends.clear();
+            ends
+        }
+        None => Vec::new(alloc),
+    }
+}
+
+/// Keeps a list of ends for later, where few are kept and it is small. Where memory runs out it is let go.
+#[inline(always)]
+pub(crate) fn give_ends(kept: &mut Vec<Vec<usize>>, ends: Vec<usize>) {
+    if ends.capacity() <= SLOTS && kept.len() < LISTS {
+        match kept.push(ends) {
+            Ok(()) => {}
+            Err(_) => {}
+        }
+    }
+}

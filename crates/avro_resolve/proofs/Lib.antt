@@ -15,3 +15,7 @@ pub mod RecordSlots
 pub mod OnePass
 pub mod Knowing
 pub mod Aiming
+pub mod CopiedLeaves
+pub mod StraightRecords
+pub mod Flagging
+pub mod PiecesMade

@@ -3,4 +3,5 @@ pub mod Reading
 pub mod Ends
 pub mod IntoBranch
 pub mod Tables
+pub mod Copied
 pub mod inside

@@ -2,8 +2,9 @@
 use Rattle.std.specs.Prelude.{List}
 use Rattle.avro_schema.specs.Node.{Node}
 use Rattle.avro_compare.specs.Planned.{AreComparisons}
+use Rattle.avro_resolve.specs.Copied.{AreFlags}
 use Rattle.avro_resolve.specs.declared.plan.plan_table.PlanTable.{PlanTable}
 
--- what is kept of each pair is what the nodes are to each other in these schemas
+-- what is kept of each pair is what the nodes are to each other in these schemas, and which pairs are straight
 abbrev pub IsTableOf : List Node → List Node → PlanTable → Type 0
-IsTableOf writer reader table = AreComparisons writer reader table.pairs.items
+IsTableOf writer reader table = AreComparisons writer reader table.pairs.items × AreFlags writer reader table.pairs.items table.flags.items

@@ -1,3 +1,4 @@
+pub(crate) mod flagging;
 pub(crate) mod found;
 pub(crate) mod keeping;
 pub(crate) mod ordering;

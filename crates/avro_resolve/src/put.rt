@@ -1,6 +1,7 @@
-ghost use Rattle.std.specs.Prelude.{◌≡◌, ℕ, List, [], ◌∷◌, ◌++◌, Option, IfOk, OnOk, replicate, true, false};
+ghost use Rattle.std.specs.Prelude.{◌≡◌, ℕ, List, [], ◌∷◌, ◌++◌, Option, IfOk, IfSome, OnOk, replicate, true, false};
 ghost use Rattle.avro_schema.specs.Seen.{values_from, entries_from, value_of};
 ghost use Rattle.avro_schema.specs.Value.{Value};
+ghost use Rattle.avro_binary.specs.Encoding.{plain};
 ghost use Rattle.avro_resolve.specs.IntoBranch.{in_branch};
 
 use avro_schema::Datum;
@@ -114,6 +115,11 @@ pub trait Put {
         ensures kept { OnOk result (keeps self.old self.new) }
         ensures stands { IfOk result (λ out. stands_for self.new out (value_of datum.now)) };
 
+    /// Makes a datum from its plain encoding, or `None` where the datum itself is needed for that.
+    fn copied(&mut self, alloc: Global, content: &[u8]) -> Result<Option<Self::Out>, AllocError>
+        ensures kept { OnOk result (keeps self.old self.new) }
+        ensures stands { (v : Value) → plain v ≡ content.now → IfOk result (λ o. IfSome o (λ out. stands_for self.new out v)) };
+
     /// No items.
     fn items(&mut self, alloc: Global) -> Result<Self::Items, AllocError>
         ensures kept { OnOk result (keeps self.old self.new) }
@@ -204,6 +210,14 @@ pub trait Put {
 
     /// Keeps such a list for later, or lets it go.
     fn keep_slots(&mut self, slots: Vec<Option<Self::Out>>)
+        ensures kept { keeps self.old self.new };
+
+    /// An empty list for the ends of the encodings of a record's fields, or `None` where no datum is made from its encoding.
+    fn ends(&mut self, alloc: Global) -> Option<Vec<usize>>
+        ensures kept { keeps self.old self.new };
+
+    /// Keeps such a list for later, or lets it go.
+    fn keep_ends(&mut self, ends: Vec<usize>)
         ensures kept { keeps self.old self.new };
 
     /// A maker keeps what it has made.

@@ -51,7 +51,7 @@ pub fn read_resolved<B: Build>(
 ) -> Result<(B::Out, usize), ReadResolveError>
     ensures { BuildsResolved B.stands_for (schema_nodes writer.now) (schema_nodes reader.now) limits.now bytes.now result }
 {
-    let plan = PlanRef::new(writer, reader, &[], &[], 0);
+    let plan = PlanRef::new(writer, reader, &[], &[], &[], 0);
     read_planned(alloc, &plan, bytes, limits, builder)
 }
 

@@ -1,3 +1,4 @@
+pub(crate) mod copying;
 pub(crate) mod failing;
 pub(crate) mod filling;
 pub(crate) mod guided;
@@ -8,6 +9,7 @@ pub(crate) mod running;
 
 use crate::plan::plan_ref::PlanRef;
 use crate::put::Put;
+use crate::resolving::copying::copy_record;
 use crate::resolving::failing::{fault_apart, step_apart};
 use crate::resolving::guided::{Filling, Made, Part, Run};
 use crate::resolving::making::{make_bytes, make_int, make_string, make_symbol};
@@ -106,6 +108,30 @@ impl<'p, 'a, 'b, P: Put> Make for Resolving<'p, 'a, 'b, P> {
             At::Ignored => Ok(Some(Made::Nothing)),
             At::Pair(..) => Ok(None),
         }
+    }
+
+    #[inline(always)]
+    fn ends(&mut self, alloc: Global, at: Part) -> Option<Vec<usize>> {
+        match at.at {
+            At::Ignored => None,
+            At::Pair(..) => {
+                if !self.plan.is_straight(self.plan.index_of(at)) {
+                    return None;
+                }
+                self.builder.ends(alloc)
+            }
+        }
+    }
+
+    #[inline(always)]
+    fn pieces(
+        &mut self,
+        alloc: Global,
+        at: Part,
+        bytes: &[u8],
+        ends: Vec<usize>,
+    ) -> Result<Option<Made<P::Out>>, AllocError> {
+        copy_record(alloc, self.builder, self.plan, at, bytes, ends)
     }
 
     #[inline(always)]

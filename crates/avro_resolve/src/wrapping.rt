@@ -139,6 +139,10 @@ impl<'b, B: Build> Put for Wrapping<'b, B> {
         self.builder.default(alloc, datum)
     }
 
+    fn copied(&mut self, _alloc: Global, _content: &[u8]) -> Result<Option<B::Out>, AllocError> {
+        Ok(None)
+    }
+
     fn items(&mut self, alloc: Global) -> Result<B::Items, AllocError> {
         self.builder.items(alloc)
     }
@@ -227,4 +231,10 @@ impl<'b, B: Build> Put for Wrapping<'b, B> {
     fn keep_slots(&mut self, _slots: Vec<Option<B::Out>>)
         ensures kept { Unit {0} }
     {}
+
+    fn ends(&mut self, _alloc: Global) -> Option<Vec<usize>> {
+        None
+    }
+
+    fn keep_ends(&mut self, _ends: Vec<usize>) {}
 }

@@ -2,6 +2,7 @@ ghost use Rattle.std.specs.Prelude.{◌≡◌, slice_get};
 ghost use Rattle.avro_resolve.specs.inside.Guided.{kept_or};
 
 use crate::error::ReadResolveError;
+use crate::plan::flagging::{is_set, straight_kept};
 use crate::plan::keeping::{
     aim_kept, field_kept, fields_kept, missing_kept, sources_kept, symbol_kept, whole_kept,
 };
@@ -22,6 +23,7 @@ pub struct PlanRef<'a> {
     reader: &'a Schema,
     pairs: &'a [Comparison],
     parts: &'a [Vec<u32>],
+    flags: &'a [bool],
     root: u32,
 }
 
@@ -31,6 +33,7 @@ impl<'a> Model for PlanRef<'a> {
     ghost use Rattle.avro_schema.specs.declared.schema.Schema.{Schema};
     ghost use Rattle.avro_schema.specs.SeenSchema.{schema_nodes};
     ghost use Rattle.avro_compare.specs.Planned.{AreComparisons};
+    ghost use Rattle.avro_resolve.specs.Copied.{AreFlags};
 
     ghost Value = { Schema × Schema };
 
@@ -38,7 +41,8 @@ impl<'a> Model for PlanRef<'a> {
 
     ghost view = { λ p. (p.writer.now, p.reader.now) };
 
-    ghost invariant = { λ p. AreComparisons (schema_nodes p.writer.now) (schema_nodes p.reader.now) p.pairs.now };
+    ghost invariant = { λ p. AreComparisons (schema_nodes p.writer.now) (schema_nodes p.reader.now) p.pairs.now
+        × AreFlags (schema_nodes p.writer.now) (schema_nodes p.reader.now) p.pairs.now p.flags.now };
 }
 
 impl<'a> PlanRef<'a> {
@@ -48,20 +52,24 @@ impl<'a> PlanRef<'a> {
     ghost use Rattle.avro_resolve.specs.inside.Guided.{IsWhole, branch_part, kept_or};
     ghost use Rattle.avro_compare.specs.Pairs.{IsAim, IsSymbol, field_for, item_id, value_id, branch_id};
     ghost use Rattle.avro_compare.specs.Planned.{AreComparisons, AreFor, AreSources};
+    ghost use Rattle.avro_resolve.specs.Copied.{AreFlags, IsStraight};
     ghost use Rattle.avro_resolve.specs.Reading.{BuildsResolved};
     ghost use Rattle.avro_compare.specs.Resolve.{enum_as, fields_at, symbol_at};
     ghost use Rattle.avro_compare.specs.Source.{missing_field};
 
     /// The plan of two schemas that keeps these pairs. `parts` holds for each pair the indices of the pairs of its
-    /// parts, and `root` is the index of the roots' pair. A pair that is not at its index is resolved by its names.
+    /// parts, `flags` which pairs are straight, and `root` is the index of the roots' pair. A pair that is not at its
+    /// index is resolved by its names.
     pub(crate) fn new(
         writer: &'a Schema,
         reader: &'a Schema,
         pairs: &'a [Comparison],
         parts: &'a [Vec<u32>],
+        flags: &'a [bool],
         root: u32,
     ) -> PlanRef<'a>
-        requires { AreComparisons (schema_nodes writer.now) (schema_nodes reader.now) pairs.now }
+        requires pairs { AreComparisons (schema_nodes writer.now) (schema_nodes reader.now) pairs.now }
+        requires flags { AreFlags (schema_nodes writer.now) (schema_nodes reader.now) pairs.now flags.now }
         ensures { result ≡ (writer.now, reader.now) }
     {
         PlanRef {
@@ -69,6 +77,7 @@ impl<'a> PlanRef<'a> {
             reader,
             pairs,
             parts,
+            flags,
             root,
         }
     }
@@ -247,6 +256,21 @@ impl<'a> PlanRef<'a> {
         ensures { AreSources (fields_at (node_at (schema_nodes self.now.0) w.0)) (fields_at (node_at (schema_nodes self.now.1) q.0)) result.now }
     {
         sources_kept(self.pairs, index, self.writer, w, self.reader, q)
+    }
+
+    /// Whether the pair at an index is flagged as straight.
+    #[inline(always)]
+    pub(crate) fn is_straight(&self, index: u32) -> bool {
+        is_set(self.flags, index)
+    }
+
+    /// The sources of the reader's fields, where the two nodes are kept at the index and are straight.
+    #[inline(always)]
+    pub(crate) fn straight(&self, index: u32, w: NodeId, r: NodeId) -> Option<&'a [Option<usize>]>
+        ensures { IfSome result (λ sources. IsStraight (schema_nodes self.now.0) (schema_nodes self.now.1) w r
+            × AreSources (fields_at (node_at (schema_nodes self.now.0) w.0)) (fields_at (node_at (schema_nodes self.now.1) r.0)) sources.now) }
+    {
+        straight_kept(self.pairs, self.flags, index, w, r)
     }
 
     /// The reader's symbol for a writer's.

@@ -1,3 +1,4 @@
+use crate::plan::flagging::flags_of;
 use crate::plan::ordering::indices_of;
 use crate::plan::plan_ref::PlanRef;
 use crate::plan::walking::compare_reached;
@@ -10,6 +11,7 @@ use std::alloc::Global;
 pub struct PlanTable {
     pub(crate) pairs: Vec<Comparison>,
     parts: Vec<Vec<u32>>,
+    pub(crate) flags: Vec<bool>,
     root: u32,
 }
 
@@ -34,7 +36,13 @@ impl PlanTable {
         ensures { IfOk result (λ table. IsTableOf (schema_nodes writer.now) (schema_nodes reader.now) table) }
     {
         let (parts, root) = indices_of(alloc, writer, reader, &pairs)?;
-        Ok(PlanTable { pairs, parts, root })
+        let flags = flags_of(alloc, writer, reader, &pairs, &parts)?;
+        Ok(PlanTable {
+            pairs,
+            parts,
+            flags,
+            root,
+        })
     }
 
     /// What a plan keeps of the pairs that the roots lead to.
@@ -46,9 +54,11 @@ impl PlanTable {
         ensures { IfOk result (λ table. IsTableOf (schema_nodes writer.now) (schema_nodes reader.now) table) }
     {
         let (pairs, parts) = compare_reached(alloc, writer, reader)?;
+        let flags = flags_of(alloc, writer, reader, &pairs, &parts)?;
         Ok(PlanTable {
             pairs,
             parts,
+            flags,
             root: 0,
         })
     }
@@ -58,6 +68,13 @@ impl PlanTable {
         requires { IsTableOf (schema_nodes writer.now) (schema_nodes reader.now) self.now }
         ensures { result ≡ (writer.now, reader.now) }
     {
-        PlanRef::new(writer, reader, &self.pairs, &self.parts, self.root)
+        PlanRef::new(
+            writer,
+            reader,
+            &self.pairs,
+            &self.parts,
+            &self.flags,
+            self.root,
+        )
     }
 }

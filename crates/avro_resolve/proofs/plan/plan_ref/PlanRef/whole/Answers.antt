@@ -10,4 +10,4 @@ returns c =
     let reader = c.self.inside.reader.now in
     let here : c.args.self.now ≡ (writer, reader) = search rules in
     subst (λ s. IfSome c.whole_kept.result (λ known. IsWhole (schema_nodes s.0) (schema_nodes s.1) c.args.w c.args.r known.now)) (sym here)
-    (c.whole_kept.ensures (schema_nodes writer) (schema_nodes reader) c.self.invariant)
+    (c.whole_kept.ensures (schema_nodes writer) (schema_nodes reader) c.self.invariant.0)

@@ -1,0 +1,30 @@
+-- What is made of the pieces of a record.
+use Rattle.std.proofs.Common.{◌≡◌, ℕ, List, Some, map, refl, sym, ap, ◌∙◌, subst}
+use Rattle.avro_schema.specs.Node.{Node, FieldNode, node_at}
+use Rattle.avro_schema.specs.Seen.{values_from}
+use Rattle.avro_binary.specs.Encoding.{plain}
+use Rattle.avro_binary.specs.Pieces.{piece}
+use Rattle.avro_compare.specs.Fields.{IsField}
+use Rattle.avro_compare.specs.Resolve.{Sourced, field_value, field_values, sourced_at}
+use Rattle.avro_compare.specs.Source.{source_of}
+use Rattle.avro_resolve.specs.Copied.{ArePlain, IsAsSpelled}
+use Rattle.avro_resolve.proofs.Slots.{values_seen}
+
+-- the same fields
+module _ {ws xs rs ys : List FieldNode} (e : ws ≡ xs) (f : rs ≡ ys) (found : Sourced) where
+  pub plain_by : (reader nodes : List Node) (bytes ends : List ℕ) → nodes ≡ reader → ArePlain reader xs ys found bytes ends → ArePlain nodes ws rs found bytes ends
+  plain_by reader nodes bytes ends same h =
+      subst (λ (ns : List Node). ArePlain ns ws rs found bytes ends) (sym same)
+      (subst (λ (gs : List FieldNode). ArePlain reader ws gs found bytes ends) (sym f) (subst (λ (gs : List FieldNode). ArePlain reader gs ys found bytes ends) (sym e) h))
+
+  pub values_by : values_from (map (field_value ws found) rs) ≡ field_values xs found ys
+  values_by = sym (values_seen ws rs found) ∙ ap (λ (gs : List FieldNode). field_values gs found rs) e ∙ ap (field_values xs found) f
+
+-- a field's value, whose source is copied
+pub value_copied : (reader : List Node) (ws rs : List FieldNode) (found : Sourced) (bytes ends : List ℕ) (f : FieldNode) (k : ℕ) (content : List ℕ) → source_of ws f ≡ Some k → IsField f rs
+    → ArePlain reader ws rs found bytes ends → content ≡ piece bytes ends k → IsAsSpelled (node_at reader f.node) content → plain (field_value ws found f) ≡ content
+value_copied reader ws rs found bytes ends f k content e is h same spelled =
+    ap plain sourced ∙ h f is k e (subst (λ (b : List ℕ). IsAsSpelled (node_at reader f.node) b) same spelled) ∙ sym same
+  where
+    sourced : field_value ws found f ≡ sourced_at found k
+    sourced = rw e refl

@@ -1,0 +1,27 @@
+use Rattle.std.proofs.Common.{◌≡◌, ◌∙◌, ◌+◌, true, drop, rules}
+use Rattle.avro_schema.specs.Seen.{field_of, seen_fields}
+use Rattle.avro_schema.specs.SeenSchema.{schema_nodes}
+use Rattle.avro_compare.proofs.public.Lists.{seen_at}
+use Rattle.avro_resolve.proofs.Flagging.{copied_all, copied_more, field_next}
+use Rattle.avro_resolve.proofs.plan.flagging.are_copied.Goals as goal
+
+pub loop-index-init : goal.loop-index-init
+loop-index-init c = λ rest. rest
+
+pub loop-index-preserved : goal.loop-index-preserved
+loop-index-preserved c =
+    let writer = schema_nodes c.args.writer.now in
+    let reader = schema_nodes c.args.reader.now in
+    let ws = seen_fields c.args.writes.now in
+    let reads = c.args.reads.now in
+    let i = c.loop-index.index in
+    let f = c.index-reads-index.result in
+    let low = c.loop-index-test.true in
+    let is = c.index-reads-index.is in
+    let yes : c.is_field_copied.result ≡ true = search rules in
+    let src = c.source_kept-source.ensures (seen_fields reads) c.requires.sources (seen_at reads i f low is) in
+    λ rest. c.loop-index.invariant (copied_more writer reader ws (field_of f) (seen_fields (drop (i + 1) reads)) (seen_fields (drop i reads)) (λ k e. c.is_field_copied.ensures k (src ∙ e) yes) rest (field_next reads i f low is))
+
+pub returns : goal.returns
+returns c = λ yes.
+    c.loop-index.invariant (copied_all (schema_nodes c.args.writer.now) (schema_nodes c.args.reader.now) (seen_fields c.args.writes.now) c.args.reads.now c.loop-index.index c.loop-index-test.false)

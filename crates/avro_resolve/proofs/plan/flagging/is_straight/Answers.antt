@@ -1,0 +1,34 @@
+use Rattle.std.proofs.Common.{◌≡◌, ◌∙◌, None, refl, sym, subst, rules}
+use Rattle.avro_schema.specs.Seen.{seen_fields}
+use Rattle.avro_schema.specs.SeenSchema.{schema_nodes}
+use Rattle.avro_compare.specs.Planned.{AreSources}
+use Rattle.avro_compare.specs.declared.guided.Aim.TheVariants.{To}
+use Rattle.avro_compare.proofs.public.Planning.{sources_by}
+use Rattle.avro_resolve.proofs.Aiming.{kept_leads}
+use Rattle.avro_resolve.proofs.Flagging.{copied_by}
+use Rattle.avro_resolve.proofs.plan.flagging.is_straight.Goals as goal
+
+pub are_copied-requires-clause-sources : goal.are_copied-requires-clause-sources
+are_copied-requires-clause-sources c =
+    let pair = c.args.pair.now in
+    let here = c.in-To-None-default in
+    let own : pair.aim ≡ To None here.field-1 = search rules in
+    subst (λ sources. AreSources (seen_fields c.fields_of-writes.result.now) (seen_fields c.fields_of-reads.result.now) sources) (sym c.deref.ensures.value)
+    (sources_by pair.sources.items c.fields_of-writes.ensures.seen c.fields_of-reads.ensures.seen (c.requires.pair.inside here.field-1 own).sources)
+
+pub returns-in-None : goal.returns-in-None
+returns-in-None c = λ yes.
+    let writer = schema_nodes c.args.writer.now in
+    let reader = schema_nodes c.args.reader.now in
+    let pair = c.args.pair.now in
+    let here = c.in-To-None-default in
+    let own : pair.aim ≡ To None here.field-1 = search rules in
+    let none : pair.missing ≡ None = search rules in
+    let inside = c.requires.pair.inside here.field-1 own in (
+      record {
+        leads = kept_leads writer reader pair pair.w pair.r here.field-1 c.requires.pair refl refl own;
+        complete = sym inside.complete ∙ none;
+        copied = copied_by writer reader c.fields_of-writes.ensures.seen c.fields_of-reads.ensures.seen (c.are_copied.ensures yes);
+      },
+      inside.sources,
+    )

@@ -1,0 +1,181 @@
+//! Making a record for the reader from the encodings of the writer's fields, as these stand.
+
+ghost use Rattle.std.specs.Prelude.{◌≡◌, [], ℕ, true, IfOk, IfSome, List, OnOk, None, map};
+ghost use Rattle.avro_name.specs.Name.{Name};
+ghost use Rattle.avro_schema.specs.Fits.{fields_fit};
+ghost use Rattle.avro_schema.specs.Node.{FieldNode, Node as SeenNode, field_ids, node_at};
+ghost use Rattle.avro_schema.specs.Seen.{field_of, node_of, seen_fields, values_from};
+ghost use Rattle.avro_schema.specs.SeenSchema.{schema_nodes};
+ghost use Rattle.avro_schema.specs.Value.{Value};
+ghost use Rattle.avro_binary.specs.Pieces.{ArePieces, piece};
+ghost use Rattle.avro_compare.specs.Fields.{IsField};
+ghost use Rattle.avro_compare.specs.Planned.{AreSources};
+ghost use Rattle.avro_compare.specs.Resolve.{Sourced, field_value};
+ghost use Rattle.avro_compare.specs.Source.{source_of};
+ghost use Rattle.avro_resolve.specs.Copied.{ArePlain, IsAsSpelled, begins_with_number};
+ghost use Rattle.avro_resolve.specs.inside.Guided.{StandsAs};
+
+use crate::plan::plan_ref::PlanRef;
+use crate::put::Put;
+use crate::resolving::guided::{Made, Part};
+use avro_compare::{At, fields_of, source_kept};
+use avro_schema::{Field, Node, NodeId, Schema};
+use avro_zigzag::starts_shortest;
+use std::alloc::{AllocError, Global};
+
+/// What is made of a record whose pair is straight, or `None` where a field is not spelled as it is written.
+#[inline(always)]
+pub(crate) fn copy_record<P: Put>(
+    alloc: Global,
+    builder: &mut P,
+    plan: &PlanRef<'_>,
+    part: Part,
+    bytes: &[u8],
+    ends: Vec<usize>,
+) -> Result<Option<Made<P::Out>>, AllocError>
+    ensures kept { OnOk result (P.keeps builder.old builder.new) }
+    ensures stands { (nodes : List SeenNode) (name : Name) (aliases : List Name) (fs : List FieldNode) (vs : List Value) → ArePieces vs bytes.now ends.items
+        → fields_fit nodes (field_ids fs) (values_from vs) ≡ true → IfOk result (λ o. IfSome o (λ made.
+        StandsAs (P.stands_for builder.new) (schema_nodes plan.now.0) (schema_nodes plan.now.1) nodes (SeenNode.record_of name aliases fs) part.at made (Value.record_of (values_from vs)))) }
+{
+    match part.at {
+        At::Ignored => Ok(None),
+        At::Pair(w, r) => match plan.straight(plan.index_of(part), w, r) {
+            Some(sources) => {
+                let writes = fields_of(plan.writer(), w);
+                let reads = fields_of(plan.reader(), r);
+                let reader = plan.reader();
+                let start = builder.fields(alloc, None)?;
+                match copy_fields(
+                    alloc, builder, reader, writes, reads, sources, bytes, &ends, start,
+                )? {
+                    Some(fields) => {
+                        let out = builder.record(alloc, fields)?;
+                        builder.keep_ends(ends);
+                        Ok(Some(Made::Good(out)))
+                    }
+                    None => Ok(None),
+                }
+            }
+            None => Ok(None),
+        },
+    }
+}
+
+/// What is made of the fields of a reader's record, in its order: each is the encoding of its source, or its default.
+#[inline(always)]
+fn copy_fields<P: Put>(
+    alloc: Global,
+    builder: &mut P,
+    reader: &Schema,
+    writes: &[Field],
+    reads: &[Field],
+    sources: &[Option<usize>],
+    bytes: &[u8],
+    ends: &[usize],
+    start: P::Fields,
+) -> Result<Option<P::Fields>, AllocError>
+    requires { AreSources (seen_fields writes.now) (seen_fields reads.now) sources.now }
+    ensures kept { OnOk result (P.keeps builder.old builder.new) }
+    ensures stands { (found : Sourced) → ArePlain (schema_nodes reader.now) (seen_fields writes.now) (seen_fields reads.now) found bytes.now ends.now → P.fields_stand_for builder.old None start []
+        → IfOk result (λ o. IfSome o (λ fields. P.fields_stand_for builder.new None fields (map (field_value (seen_fields writes.now) found) (seen_fields reads.now)))) }
+{
+    let mut fields = start;
+    for index in 0..reads.len() {
+        let f = &reads[index];
+        let source = source_kept(writes, sources, index, f);
+        match copy_field(alloc, builder, reader, source, f, bytes, ends)? {
+            Some(value) => builder.field(alloc, &mut fields, value)?,
+            None => return Ok(None),
+        }
+    }
+    Ok(Some(fields))
+}
+
+/// What is made of a reader's field, by its source.
+#[inline(always)]
+fn copy_field<P: Put>(
+    alloc: Global,
+    builder: &mut P,
+    reader: &Schema,
+    source: Option<usize>,
+    f: &Field,
+    bytes: &[u8],
+    ends: &[usize],
+) -> Result<Option<P::Out>, AllocError>
+    ensures kept { OnOk result (P.keeps builder.old builder.new) }
+    ensures stands { (ws rs : List FieldNode) (found : Sourced) → source ≡ source_of ws (field_of f.now) → IsField (field_of f.now) rs → ArePlain (schema_nodes reader.now) ws rs found bytes.now ends.now
+        → IfOk result (λ o. IfSome o (λ out. P.stands_for builder.new out (field_value ws found (field_of f.now)))) }
+{
+    match source {
+        Some(field) => match piece_of(bytes, ends, field) {
+            Some(content) => {
+                if !is_as_written(reader, f.node, content) {
+                    return Ok(None);
+                }
+                builder.copied(alloc, content)
+            }
+            None => Ok(None),
+        },
+        None => {
+            let out = put_default(alloc, builder, f)?;
+            Ok(Some(out))
+        }
+    }
+}
+
+/// What is made of the default of a field.
+#[inline(always)]
+fn put_default<P: Put>(alloc: Global, builder: &mut P, f: &Field) -> Result<P::Out, AllocError>
+    ensures kept { OnOk result (P.keeps builder.old builder.new) }
+    ensures stands { (ws : List FieldNode) (found : Sourced) → source_of ws (field_of f.now) ≡ None → IfOk result (λ out. P.stands_for builder.new out (field_value ws found (field_of f.now))) }
+{
+    match &f.default {
+        Some(datum) => builder.default(alloc, datum),
+        None => builder.null(alloc, None),
+    }
+}
+
+/// The encoding of a field, by its index, among the encodings of some fields.
+#[inline(always)]
+fn piece_of<'b>(bytes: &'b [u8], ends: &[usize], field: usize) -> Option<&'b [u8]>
+    ensures { IfSome result (λ content. content.now ≡ piece bytes.now ends.now field) }
+{
+    if field >= ends.len() {
+        return None;
+    }
+    let next = field + 1;
+    if next >= ends.len() {
+        return None;
+    }
+    let start = ends[field];
+    let end = ends[next];
+    if start > end || end > bytes.len() {
+        return None;
+    }
+    Some(&bytes[start..end])
+}
+
+/// Whether the encoding of a leaf is spelled as it is written.
+#[inline(always)]
+fn is_as_written(reader: &Schema, r: NodeId, content: &[u8]) -> bool
+    ensures { result ≡ true → IsAsSpelled (node_at (schema_nodes reader.now) r.0) content.now }
+{
+    if !has_number(reader.get(r)) {
+        return true;
+    }
+    starts_shortest(content)
+}
+
+/// Whether the encodings of a leaf begin with a number.
+#[inline(always)]
+fn has_number(n: &Node) -> bool
+    ensures { result ≡ begins_with_number (node_of n.now) }
+{
+    match n {
+        Node::Null => false,
+        Node::Boolean => false,
+        Node::Fixed(_) => false,
+        _ => true,
+    }
+}
