@@ -61,13 +61,25 @@ fn is_straight(
             None => {
                 let writes = fields_of(writer, pair.w);
                 let reads = fields_of(reader, pair.r);
-                are_copied(writer, reader, pairs, below, writes, reads, &pair.sources)
+                have_leaves(writer, writes)
+                    && are_copied(writer, reader, pairs, below, writes, reads, &pair.sources)
             }
             Some(_) => false,
         },
         Aim::To(Some(_), _) => false,
         Aim::Fault(_) => false,
     }
+}
+
+/// Whether no field has parts: reading passes the encodings of all of them.
+fn have_leaves(writer: &Schema, writes: &[Field]) -> bool {
+    for field in writes {
+        match writer.get(field.node) {
+            Node::Array(_) | Node::Map(_) | Node::Union(_) | Node::Record(_) => return false,
+            _ => {}
+        }
+    }
+    true
 }
 
 /// Whether each reader's field that has a source is copied from it.
