@@ -61,8 +61,10 @@ fn is_straight(
             None => {
                 let writes = fields_of(writer, pair.w);
                 let reads = fields_of(reader, pair.r);
-                have_leaves(writer, writes)
-                    && are_copied(writer, reader, pairs, below, writes, reads, &pair.sources)
+                if !have_leaves(writer, writes) {
+                    return false;
+                }
+                are_copied(writer, reader, pairs, below, writes, reads, &pair.sources)
             }
             Some(_) => false,
         },

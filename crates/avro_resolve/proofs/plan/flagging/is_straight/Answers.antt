@@ -16,8 +16,8 @@ are_copied-requires-clause-sources c =
     subst (λ sources. AreSources (seen_fields c.fields_of-writes.result.now) (seen_fields c.fields_of-reads.result.now) sources) (sym c.deref.ensures.value)
     (sources_by pair.sources.items c.fields_of-writes.ensures.seen c.fields_of-reads.ensures.seen (c.requires.pair.inside here.field-1 own).sources)
 
-pub returns-in-None : goal.returns-in-None
-returns-in-None c = λ yes.
+pub returns-else-not-have_leaves : goal.returns-else-not-have_leaves
+returns-else-not-have_leaves c = λ yes.
     let writer = schema_nodes c.args.writer.now in
     let reader = schema_nodes c.args.reader.now in
     let pair = c.args.pair.now in
