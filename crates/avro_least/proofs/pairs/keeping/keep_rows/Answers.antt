@@ -35,5 +35,8 @@ loop-index-preserved c =
     ]
 
 pub returns : goal.returns
-returns c = (c.loop-index.invariant.ascends, kept_all (λ k. row_entry (slice_get c.args.rows.now k)) c.loop-index.kept.items c.loop-index.index
-    (λ k high. ap row_entry (got_past c.args.rows.now k (omega (arith, high, c.loop-index-test.false, c.loop-index.auto.index-end)))) c.loop-index.invariant)
+returns c = (
+  c.loop-index.invariant.ascends,
+  kept_all (λ k. row_entry (slice_get c.args.rows.now k)) c.loop-index.kept.items c.loop-index.index
+      (λ k high. ap row_entry (got_past c.args.rows.now k (omega (arith, high, c.loop-index-test.false, c.loop-index.auto.index-end)))) c.loop-index.invariant,
+)

@@ -62,19 +62,19 @@ returns-in-Some c =
     let part : Some pair ≡ part_at w r asked c.args.k = ap seen_pair (sym c.in-Some.is) ∙ c.part_at.ensures ∙ kept_is w r ask asked c.args.k own in
     let others : (rows : List Row) → asked ≡ Asked.fields rows → given_entry (slice_get c.others_at-others.result.now c.args.k) ≡ least_of_others limit table (map (λ row. row.node) rows) c.args.k =
     λ rows fields.
-        let nodes : map (λ row. row.node) rows ≡ nodes_of (node_at ns w) =
-        rows_nodes limit table erring ns qs (node_at ns (c.args.key / length qs)) (node_at qs (c.args.key % length qs)) rows (sym fields) ∙ ap (λ (n : ℕ). nodes_of (node_at ns n)) (sym c.writers-w.ensures.is) in
-        let within : c.args.k < length (nodes_of (node_at ns w)) =
-        subst (λ (ids : List ℕ). c.args.k < length ids) nodes
-        (omega (
-          arith,
-          part_within w r (Asked.fields rows) c.args.k pair (ap (λ (a : Asked). part_at w r a c.args.k) (sym fields) ∙ sym part),
-          length-map rows row_part,
-          length-map rows (λ row. row.node),
-        )) in
-        ap (λ (es : List (Option KeptLeast)). given_entry (slice_get es c.args.k)) c.others_at-others.ensures
-        ∙ c.requires.graph.others w c.writers-w.ensures.within c.args.k within
-        ∙ ap (λ (ids : List ℕ). least_of_others limit table ids c.args.k) (sym nodes) in
+    let nodes : map (λ row. row.node) rows ≡ nodes_of (node_at ns w) =
+    rows_nodes limit table erring ns qs (node_at ns (c.args.key / length qs)) (node_at qs (c.args.key % length qs)) rows (sym fields) ∙ ap (λ (n : ℕ). nodes_of (node_at ns n)) (sym c.writers-w.ensures.is) in
+    let within : c.args.k < length (nodes_of (node_at ns w)) =
+    subst (λ (ids : List ℕ). c.args.k < length ids) nodes
+    (omega (
+      arith,
+      part_within w r (Asked.fields rows) c.args.k pair (ap (λ (a : Asked). part_at w r a c.args.k) (sym fields) ∙ sym part),
+      length-map rows row_part,
+      length-map rows (λ row. row.node),
+    )) in
+    ap (λ (es : List (Option KeptLeast)). given_entry (slice_get es c.args.k)) c.others_at-others.ensures
+    ∙ c.requires.graph.others w c.writers-w.ensures.within c.args.k within
+    ∙ ap (λ (ids : List ℕ). least_of_others limit table ids c.args.k) (sym nodes) in
     by_part_is limit table erring w r _ _ c.args.k asked asked (Some pair) (seen c.pair_entry-part.result) (seen c.around_part.result)
     c.writers-w.ensures.is c.readers-r.ensures.is refl part
     (c.pair_entry-part.ensures ∙ ap (λ (n : ℕ). erring_of n table ks (seen_all c.args.entries.now) c.in-Some.a.0 c.in-Some.b.0) c.count-nodes.ensures.count)
