@@ -155,14 +155,13 @@ fn field_below<'a>(
     datum: &'a Datum,
 ) -> Result<Option<Part<'a>>, Memory> {
     let records = compare(alloc, names, part.w, aimed(names, part))?;
-    match records.fields.get(index) {
-        Some(At::Pair(w, r)) => Ok(Some(Part {
-            datum,
-            w: *w,
-            r: *r,
-        })),
-        _ => Ok(None),
+    for field in &records.fields {
+        match field.1 {
+            At::Pair(w, r) if field.0 == index => return Ok(Some(Part { datum, w, r })),
+            _ => {}
+        }
     }
+    Ok(None)
 }
 
 /// The reader's node that a part is for: the branch that takes it, if it is for a union.

@@ -9,6 +9,7 @@ pub mod NamedKeys
 pub mod NamedStarts
 pub mod NoFields
 pub mod NodeTables
+pub mod Shared
 mod RowsMatch
 mod RowsSource
 pub mod ByNumber

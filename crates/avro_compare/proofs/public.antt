@@ -1,4 +1,5 @@
 pub mod Aims
+pub mod Entries
 pub mod LeadPairs
 pub mod Leading
 pub mod Lists

@@ -4,6 +4,7 @@ pub mod Fault
 pub mod Fields
 pub mod Resolve
 pub mod Seen
+pub mod Entries
 pub mod Pairs
 pub mod Planned
 pub mod Children

@@ -1,5 +1,5 @@
 -- What a plan keeps of pairs of nodes.
-use Rattle.std.specs.Prelude.{◌≡◌, ◌⊎◌, ℕ, suc, List, [], Option, Some, None, slice_get, unwrap_or, position, bytes_eq, length}
+use Rattle.std.specs.Prelude.{◌≡◌, ◌⊎◌, ◌≤◌, ℕ, List, [], Option, Some, None, slice_get, unwrap_or, position, bytes_eq, length}
 use Rattle.std.specs.Ordering.{nat_cmp}
 use Rattle.std.specs.Cmp.Lexicographic.{slice_cmp}
 use Rattle.std.specs.BTreeMap.{BTreeMap, get_by}
@@ -7,34 +7,45 @@ use denote.Ref.{Bor}
 use Rattle.avro_schema.specs.Node.{Node, FieldNode, node_at, symbols_of}
 use Rattle.avro_schema.specs.declared.schema.NodeId.{NodeId}
 use Rattle.avro_compare.specs.Children.{first_lacking}
+use Rattle.avro_compare.specs.Entries.{AreAscending, entry_at}
 use Rattle.avro_compare.specs.Pairs.{IsSymbol, aim_at, field_for}
 use Rattle.avro_compare.specs.Resolve.{enum_as, symbol_at, fields_at}
 use Rattle.avro_compare.specs.Source.{field_index, source_of, missing_field}
 use Rattle.avro_compare.specs.declared.guided.Aim.TheVariants.{To}
 use Rattle.avro_compare.specs.declared.guided.At.{At}
+use Rattle.avro_compare.specs.declared.guided.At.TheVariants.{Ignored}
 use Rattle.avro_compare.specs.declared.comparison.Comparison.{Comparison}
 
--- each is the source of the reader's field at its index
-abbrev pub AreSources : List FieldNode → List FieldNode → List (Option ℕ) → Type 0
-AreSources ws rs sources = (k : ℕ) (s : Option ℕ) → slice_get sources k ≡ Some s → (f : FieldNode) → slice_get rs k ≡ Some f → s ≡ source_of ws f
+-- of the reader's fields from an index on, those with a source are there with it, in order
+abbrev pub AreSourcesFrom : ℕ → List FieldNode → List FieldNode → List (ℕ × ℕ) → Type 0
+AreSourcesFrom n ws rs sources = AreAscending n sources × ((k : ℕ) (f : FieldNode) → n ≤ k → slice_get rs k ≡ Some f → entry_at sources k ≡ source_of ws f)
 
--- each is what the writer's field at its index is for
-abbrev pub AreFor : List FieldNode → List FieldNode → List At → Type 0
-AreFor ws rs parts = (k : ℕ) (at : At) → slice_get parts k ≡ Some at → at ≡ field_for ws rs k
+abbrev pub AreSources : List FieldNode → List FieldNode → List (ℕ × ℕ) → Type 0
+AreSources ws rs sources = AreSourcesFrom 0 ws rs sources
+
+-- what is not there is for nothing
+abbrev pub part_or_none : Option At → At
+part_or_none None = Ignored
+part_or_none (Some at) = at
+
+-- of the writer's fields from an index on, those that are for something are there with it, in order
+abbrev pub AreForFrom : ℕ → List FieldNode → List FieldNode → List (ℕ × At) → Type 0
+AreForFrom n ws rs parts = AreAscending n parts × ((k : ℕ) → n ≤ k → part_or_none (entry_at parts k) ≡ field_for ws rs k)
+
+abbrev pub AreFor : List FieldNode → List FieldNode → List (ℕ × At) → Type 0
+AreFor ws rs parts = AreForFrom 0 ws rs parts
 
 -- each is the reader's symbol for the writer's at its index
 abbrev pub AreSymbols : Node → Node → List (Option ℕ) → Type 0
 AreSymbols w q symbols = (k : ℕ) (s : Option ℕ) → slice_get symbols k ≡ Some s → IsSymbol (enum_as (symbol_at w k) q) s
 
--- What is kept inside two nodes is what their fields and their symbols are to each other: of each field, and of the index after the
--- writer's last, unless the other record has none; of each symbol, or of none.
+-- What is kept inside two nodes is what their fields and their symbols are to each other: of the fields that the two share, and of each
+-- symbol, or of none.
 pub record AreInside (w q : Node) (p : Comparison) : Type 0 where
   pub complete : p.missing ≡ missing_field (fields_at w) (fields_at q)
   pub lacking : p.lacking ≡ first_lacking w q
   pub fields : AreFor (fields_at w) (fields_at q) p.fields.items
-  pub all_fields : (length p.fields.items ≡ suc (length (fields_at w))) ⊎ (fields_at q ≡ [])
   pub sources : AreSources (fields_at w) (fields_at q) p.sources.items
-  pub all_sources : (length p.sources.items ≡ length (fields_at q)) ⊎ (fields_at w ≡ [])
   pub symbols : AreSymbols w q p.symbols.items
   pub all_symbols : (p.symbols.items ≡ []) ⊎ (length p.symbols.items ≡ length (unwrap_or (symbols_of w) []))
 

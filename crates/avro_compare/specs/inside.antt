@@ -2,5 +2,6 @@
 pub mod ByNode
 pub mod NameNumbers
 pub mod NameTables
+pub mod Listed
 pub mod Noting
 pub mod Led

@@ -1,21 +1,24 @@
 //! The pairs that a pair of nodes leads to, and whether the pair fails by itself.
 
-ghost use Rattle.std.specs.Prelude.{◌≡◌, ◌++◌, [], ◌∷◌, IfOk, OnOk, Some, slice_get};
+ghost use Rattle.std.specs.Prelude.{◌≡◌, ◌++◌, [], ◌∷◌, IfOk, None, OnOk, Some, slice_get};
 ghost use Rattle.avro_schema.specs.Node.{node_at};
 ghost use Rattle.avro_schema.specs.Seen.{node_of, ids_of, seen_fields, field_of};
 ghost use Rattle.avro_schema.specs.SeenSchema.{schema_nodes};
+ghost use Rattle.avro_schema.specs.declared.schema.NodeId.{NodeId};
 ghost use Rattle.avro_compare.specs.Children.{has_fault_of_kind, has_local_fault};
 ghost use Rattle.avro_compare.specs.Leads.{branch_leads, field_lead, field_leads, leads_at, leads_inside, leads_of};
-ghost use Rattle.avro_compare.specs.Planned.{AreInside, IsComparison};
+ghost use Rattle.avro_compare.specs.Planned.{AreInside, AreSourcesFrom, IsComparison};
 ghost use Rattle.avro_compare.specs.Resolve.{fields_at};
 ghost use Rattle.avro_compare.specs.Source.{source_of};
+ghost use Rattle.avro_compare.specs.declared.guided.Aim.TheVariants.{To};
 ghost use Rattle.avro_compare.specs.inside.Led.{led_by};
 
 use crate::comparison::Comparison;
+use crate::entries::{first_entry, rest_entries};
 use crate::guided::Aim;
 use crate::lead::{Lead, Step};
 use crate::names::Names;
-use crate::sourcing::{node_of_field, source_kept};
+use crate::sourcing::node_of_field;
 use avro_schema::{Field, Memory, Node, NodeId};
 use std::alloc::Global;
 
@@ -184,29 +187,31 @@ fn field_leads(
     if fields.len() == 0 {
         return Ok(found);
     }
+    let mut left: &[(usize, usize)] = &pair.sources;
     for index in 0..theirs.len() {
         let field = &theirs[index];
-        let source = source_by(names, pair, fields, index, field);
+        let source = source_by(names, pair, left, index, field);
+        left = rest_entries(left, index);
         add_field(&mut found, fields, source, field, index)?;
     }
     Ok(found)
 }
 
-/// The source of the reader's field at an index, as it is kept of the pair or else by name.
+/// The source of the reader's field at an index, by what is kept of the pair from that index on, or else by name.
 fn source_by(
     names: &Names,
     pair: &Comparison,
-    fields: &[Field],
+    left: &[(usize, usize)],
     index: usize,
     field: &Field,
 ) -> Option<usize>
-    requires pair { IsComparison (schema_nodes names.now.0) (schema_nodes names.now.1) pair.now }
-    requires from { seen_fields fields.now ≡ fields_at (node_at (schema_nodes names.now.0) pair.now.w.0) }
+    requires left { (q : NodeId) → pair.now.aim ≡ To None q → AreSourcesFrom index (fields_at (node_at (schema_nodes names.now.0) pair.now.w.0))
+        (fields_at (node_at (schema_nodes names.now.1) pair.now.r.0)) left.now }
     requires there { slice_get (fields_at (node_at (schema_nodes names.now.1) pair.now.r.0)) index ≡ Some (field_of field.now) }
-    ensures { result ≡ source_of (seen_fields fields.now) (field_of field.now) }
+    ensures { result ≡ source_of (fields_at (node_at (schema_nodes names.now.0) pair.now.w.0)) (field_of field.now) }
 {
     match pair.aim {
-        Aim::To(None, _) => source_kept(fields, &pair.sources, index, field),
+        Aim::To(None, _) => first_entry(left, index),
         _ => names.source(pair.w, field),
     }
 }

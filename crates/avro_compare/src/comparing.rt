@@ -1,8 +1,10 @@
-ghost use Rattle.std.specs.Prelude.{◌≡◌, ◌⊎◌, [], IfOk, length, suc};
+ghost use Rattle.std.specs.Prelude.{◌≡◌, ◌⊎◌, ℕ, [], IfOk, length, slice_get, suc};
 ghost use Rattle.avro_schema.specs.Node.{node_at};
 ghost use Rattle.avro_schema.specs.Seen.{seen_fields};
 ghost use Rattle.avro_compare.specs.Resolve.{fields_at};
 ghost use Rattle.avro_schema.specs.SeenSchema.{schema_nodes};
+ghost use Rattle.avro_compare.specs.Entries.{AreAscending, entry_at};
+ghost use Rattle.avro_compare.specs.inside.Listed.{AreListedFor, AreListedSources, listed_source, shared_part};
 ghost use Rattle.avro_compare.specs.inside.NameTables.{symbols_at};
 ghost use Rattle.avro_compare.specs.inside.Noting.{AreIgnored, noted};
 ghost use Rattle.avro_compare.specs.Planned.{AreFor, AreInside, AreComparisons, AreSources, AreSymbols, IsComparison};
@@ -83,14 +85,15 @@ pub fn compare_inside(
 {
     let writes = fields_of(names.writer(), w);
     let reads = fields_of(names.reader(), r);
-    let sources = keep_sources(alloc, names, w, writes, reads)?;
-    let fields = keep_fields(alloc, writes, reads, &sources)?;
+    let found = list_sources(alloc, names, w, writes, reads)?;
+    let fields = keep_fields(alloc, writes, reads, &found)?;
+    let sources = keep_sources(alloc, writes, reads, &found)?;
     let symbols = keep_symbols(alloc, names, w, r)?;
     Ok(Comparison {
         w,
         r,
         aim,
-        missing: missing_among(writes, reads, &sources),
+        missing: missing_among(writes, reads, &found),
         lacking: find_lacking(names, w, r, &symbols),
         fields,
         sources,
@@ -99,14 +102,14 @@ pub fn compare_inside(
 }
 
 /// The sources of a reader's fields, or nothing where the writer has no field.
-fn keep_sources(
+fn list_sources(
     alloc: Global,
     names: &Names,
     w: NodeId,
     writes: &[Field],
     reads: &[Field],
 ) -> Result<Vec<Option<usize>>, Memory>
-    ensures each { IfOk result (λ found. AreSources (fields_at (node_at (schema_nodes names.now.0) w.0)) (seen_fields reads.now) found.items) }
+    ensures each { IfOk result (λ found. AreListedSources (fields_at (node_at (schema_nodes names.now.0) w.0)) (seen_fields reads.now) found.items) }
     ensures all { IfOk result (λ found. (length found.items ≡ length (seen_fields reads.now)) ⊎ (seen_fields writes.now ≡ [])) }
 {
     if writes.len() > 0 {
@@ -123,7 +126,7 @@ fn find_sources(
     w: NodeId,
     reads: &[Field],
 ) -> Result<Vec<Option<usize>>, Memory>
-    ensures each { IfOk result (λ found. AreSources (fields_at (node_at (schema_nodes names.now.0) w.0)) (seen_fields reads.now) found.items) }
+    ensures each { IfOk result (λ found. AreListedSources (fields_at (node_at (schema_nodes names.now.0) w.0)) (seen_fields reads.now) found.items) }
     ensures all { IfOk result (λ found. length found.items ≡ length reads.now) }
 {
     let mut found = Vec::new(alloc);
@@ -133,22 +136,64 @@ fn find_sources(
     Ok(found)
 }
 
-/// What each of the writer's fields is for, or nothing where the reader has no field.
+/// The reader's fields that have a source, by the sources of all of them.
+fn keep_sources(
+    alloc: Global,
+    writes: &[Field],
+    reads: &[Field],
+    found: &[Option<usize>],
+) -> Result<Vec<(usize, usize)>, Memory>
+    requires each { AreListedSources (seen_fields writes.now) (seen_fields reads.now) found.now }
+    requires all { (length found.now ≡ length (seen_fields reads.now)) ⊎ (seen_fields writes.now ≡ []) }
+    ensures { IfOk result (λ kept. AreSources (seen_fields writes.now) (seen_fields reads.now) kept.items) }
+{
+    shared_sources(alloc, found)
+}
+
+/// The writer's fields that the reader takes, by the sources of the reader's fields.
 fn keep_fields(
     alloc: Global,
     writes: &[Field],
     reads: &[Field],
     sources: &[Option<usize>],
-) -> Result<Vec<At>, Memory>
-    requires { AreSources (seen_fields writes.now) (seen_fields reads.now) sources.now }
-    ensures each { IfOk result (λ found. AreFor (seen_fields writes.now) (seen_fields reads.now) found.items) }
-    ensures all { IfOk result (λ found. (length found.items ≡ suc (length (seen_fields writes.now))) ⊎ (seen_fields reads.now ≡ [])) }
+) -> Result<Vec<(usize, At)>, Memory>
+    requires { AreListedSources (seen_fields writes.now) (seen_fields reads.now) sources.now }
+    ensures { IfOk result (λ kept. AreFor (seen_fields writes.now) (seen_fields reads.now) kept.items) }
 {
     if reads.len() > 0 {
-        find_fields(alloc, writes, reads, sources)
+        let found = find_fields(alloc, writes, reads, sources)?;
+        shared_fields(alloc, &found)
     } else {
         Ok(Vec::new(alloc))
     }
+}
+
+/// The parts that are for something, each with its index.
+fn shared_fields(alloc: Global, parts: &[At]) -> Result<Vec<(usize, At)>, Memory>
+    ensures { IfOk result (λ kept. AreAscending 0 kept.items × ((k : ℕ) → entry_at kept.items k ≡ shared_part (slice_get parts.now k))) }
+{
+    let mut kept = Vec::new(alloc);
+    for index in 0..parts.len() {
+        match parts[index] {
+            At::Ignored => {}
+            At::Pair(w, r) => kept.push((index, At::Pair(w, r)))?,
+        }
+    }
+    Ok(kept)
+}
+
+/// The sources that there are, each with the index of the reader's field.
+fn shared_sources(alloc: Global, found: &[Option<usize>]) -> Result<Vec<(usize, usize)>, Memory>
+    ensures { IfOk result (λ kept. AreAscending 0 kept.items × ((k : ℕ) → entry_at kept.items k ≡ listed_source (slice_get found.now k))) }
+{
+    let mut kept = Vec::new(alloc);
+    for index in 0..found.len() {
+        match found[index] {
+            None => {}
+            Some(source) => kept.push((index, source))?,
+        }
+    }
+    Ok(kept)
 }
 
 /// What each of the writer's fields is for, from the sources of the reader's fields. One ignored
@@ -160,8 +205,8 @@ fn find_fields(
     reads: &[Field],
     sources: &[Option<usize>],
 ) -> Result<Vec<At>, Memory>
-    requires { AreSources (seen_fields writes.now) (seen_fields reads.now) sources.now }
-    ensures each { IfOk result (λ found. AreFor (seen_fields writes.now) (seen_fields reads.now) found.items) }
+    requires { AreListedSources (seen_fields writes.now) (seen_fields reads.now) sources.now }
+    ensures each { IfOk result (λ found. AreListedFor (seen_fields writes.now) (seen_fields reads.now) found.items) }
     ensures all { IfOk result (λ found. length found.items ≡ suc (length (seen_fields writes.now))) }
 {
     let mut found = all_ignored(alloc, writes.len() + 1)?;

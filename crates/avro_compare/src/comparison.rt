@@ -14,10 +14,10 @@ pub struct Comparison {
     pub missing: Option<usize>,
     /// The first of the writer's symbols that the reader lacks and has no default for.
     pub lacking: Option<usize>,
-    /// What each of the writer's fields is for, and one ignored part after the last; none where the reader has no field.
-    pub fields: Vec<At>,
-    /// The source of each of the reader's fields; none where the writer has no field.
-    pub sources: Vec<Option<usize>>,
+    /// The writer's fields that the reader takes, in order: the index of each, and what it is for. All others are ignored.
+    pub fields: Vec<(usize, At)>,
+    /// The reader's fields that have a source, in order: the index of each, and that of its source. All others have none.
+    pub sources: Vec<(usize, usize)>,
     /// The reader's symbol for each of the writer's; none where the writer has many more symbols than the reader.
     pub symbols: Vec<Option<u32>>,
 }

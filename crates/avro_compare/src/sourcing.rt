@@ -8,7 +8,7 @@ ghost use Rattle.avro_schema.specs.SeenSchema.{schema_nodes};
 ghost use Rattle.avro_compare.specs.Source.{field_index, is_index, source_of, missing_field};
 ghost use Rattle.avro_compare.specs.Resolve.{fields_at};
 ghost use Rattle.avro_compare.specs.Pairs.{field_for};
-ghost use Rattle.avro_compare.specs.Planned.{AreSources};
+ghost use Rattle.avro_compare.specs.inside.Listed.{AreListedSources};
 
 use crate::guided::At;
 use avro_schema::{Field, NodeId, RecordNode, Schema};
@@ -34,7 +34,7 @@ pub fn source(writer: &RecordNode, field: &Field) -> Option<usize>
 }
 
 /// The same among some fields.
-pub(crate) fn source_among(fields: &[Field], f: &Field) -> Option<usize>
+pub fn source_among(fields: &[Field], f: &Field) -> Option<usize>
     ensures { result ≡ source_of (seen_fields fields.now) (field_of f.now) }
 {
     match index_named(fields, f.name.as_str()) {
@@ -63,7 +63,7 @@ pub(crate) fn missing_among(
     reader: &[Field],
     sources: &[Option<usize>],
 ) -> Option<usize>
-    requires { AreSources (seen_fields writer.now) (seen_fields reader.now) sources.now }
+    requires { AreListedSources (seen_fields writer.now) (seen_fields reader.now) sources.now }
     ensures { result ≡ missing_field (seen_fields writer.now) (seen_fields reader.now) }
 {
     for index in 0..reader.len() {
@@ -95,13 +95,13 @@ pub(crate) fn node_of_field(fields: &[Field], index: usize) -> NodeId
 }
 
 /// The source of the reader's field at an index, as it is kept or else by name.
-pub fn source_kept(
+pub(crate) fn source_kept(
     writes: &[Field],
     sources: &[Option<usize>],
     index: usize,
     f: &Field,
 ) -> Option<usize>
-    ensures { (rs : List FieldNode) → AreSources (seen_fields writes.now) rs sources.now → slice_get rs index ≡ Some (field_of f.now)
+    ensures { (rs : List FieldNode) → AreListedSources (seen_fields writes.now) rs sources.now → slice_get rs index ≡ Some (field_of f.now)
         → result ≡ source_of (seen_fields writes.now) (field_of f.now) }
 {
     if index < sources.len() {
@@ -119,7 +119,7 @@ fn source_at(
     index: usize,
     f: &Field,
 ) -> Option<usize>
-    requires sources { AreSources (seen_fields writer.now) (seen_fields reader.now) sources.now }
+    requires sources { AreListedSources (seen_fields writer.now) (seen_fields reader.now) sources.now }
     requires there { slice_get (seen_fields reader.now) index ≡ Some (field_of f.now) }
     ensures { result ≡ source_of (seen_fields writer.now) (field_of f.now) }
 {
@@ -130,30 +130,21 @@ fn source_at(
 pub fn part_for(writer: &[Field], reader: &[Field], field: usize) -> At
     ensures { result ≡ field_for (seen_fields writer.now) (seen_fields reader.now) field }
 {
-    part_among(writer, reader, &[], field)
-}
-
-/// The same, by the sources of the reader's fields as far as they are kept.
-pub fn part_among(writer: &[Field], reader: &[Field], sources: &[Option<usize>], field: usize) -> At
-    requires { AreSources (seen_fields writer.now) (seen_fields reader.now) sources.now }
-    ensures { result ≡ field_for (seen_fields writer.now) (seen_fields reader.now) field }
-{
     let node = node_of_field(writer, field);
     for index in 0..reader.len() {
         let f = &reader[index];
-        if takes(writer, sources, index, f, field) {
+        if takes(writer, f, field) {
             return At::Pair(node, f.node);
         }
     }
     At::Ignored
 }
 
-/// Whether a writer's field, by its index, is the source of a reader's field, which is the one at an index.
-fn takes(writer: &[Field], sources: &[Option<usize>], index: usize, f: &Field, field: usize) -> bool
-    ensures { (rs : List FieldNode) → AreSources (seen_fields writer.now) rs sources.now → slice_get rs index ≡ Some (field_of f.now)
-        → result ≡ is_index (source_of (seen_fields writer.now) (field_of f.now)) field }
+/// Whether a writer's field, by its index, is the source of a reader's field.
+fn takes(writer: &[Field], f: &Field, field: usize) -> bool
+    ensures { result ≡ is_index (source_of (seen_fields writer.now) (field_of f.now)) field }
 {
-    match source_kept(writer, sources, index, f) {
+    match source_among(writer, f) {
         Some(k) => k == field,
         None => false,
     }

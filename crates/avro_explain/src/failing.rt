@@ -10,7 +10,7 @@ ghost use Rattle.avro_explain.specs.Details.{details_of, details_of_kind, missin
 ghost use Rattle.avro_explain.specs.inside.Walks.{detail_for, untaken_from, untaken_one};
 
 use crate::found::Detail;
-use avro_compare::{Aim, Comparison, FaultKind, Names, source_kept, symbol_kept};
+use avro_compare::{Aim, Comparison, FaultKind, Names, first_entry, rest_entries, symbol_kept};
 use avro_schema::{Field, Memory, Node};
 use std::alloc::Global;
 
@@ -106,15 +106,17 @@ fn missing_fields(
     alloc: Global,
     fields: &[Field],
     theirs: &[Field],
-    sources: &[Option<usize>],
+    sources: &[(usize, usize)],
 ) -> Result<Vec<Detail>, Memory>
     requires { AreSources (seen_fields fields.now) (seen_fields theirs.now) sources.now }
     ensures { IfOk result (λ found. found.items ≡ missing_from 0 (seen_fields fields.now) (seen_fields theirs.now)) }
 {
     let mut found = Vec::new(alloc);
+    let mut left = sources;
     for index in 0..theirs.len() {
         let field = &theirs[index];
-        let source = source_kept(fields, sources, index, field);
+        let source = first_entry(left, index);
+        left = rest_entries(left, index);
         add_missing(&mut found, fields, source, field, index)?;
     }
     Ok(found)

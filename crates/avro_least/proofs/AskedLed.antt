@@ -1,20 +1,20 @@
 -- What a pair asks for, by what is found of it.
-use Rattle.std.proofs.Common.{◌≡◌, ◌⊎◌, inl, inr, ℕ, suc, ◌+◌, ◌≤◌, ◌<◌, Bool, true, false, cond, List, [], ◌∷◌, Option, Some, None, length, refl, sym, ap, ◌∙◌, subst, arith, get_or}
+use Rattle.std.proofs.Common.{◌≡◌, ℕ, suc, ◌+◌, Bool, true, false, cond, List, [], ◌∷◌, Option, Some, None, refl, sym, ap, ◌∙◌, subst, arith}
 use Rattle.std.specs.Prelude.{option_map, slice_get, unwrap_or}
 use Rattle.avro_schema.specs.Node.{Node, FieldNode, branches_of, field_ids}
 use Rattle.avro_schema.specs.declared.schema.NodeId.{NodeId}
 use Rattle.avro_compare.specs.Match.{is_match, first_match}
 use Rattle.avro_compare.specs.Pairs.{aim_of, branch_aim, part_to}
-use Rattle.avro_compare.specs.Planned.{AreFor}
+use Rattle.avro_compare.specs.Entries.{first_entry, rest_entries}
+use Rattle.avro_compare.specs.Planned.{AreFor, AreForFrom, part_or_none}
 use Rattle.avro_compare.specs.Source.{reader_field}
 use Rattle.avro_compare.specs.declared.error.FaultKind.TheVariants.{NoMatch}
 use Rattle.avro_compare.specs.declared.guided.Aim.{Aim}
 use Rattle.avro_compare.specs.declared.guided.Aim.TheVariants.{Fault, To}
 use Rattle.avro_compare.specs.declared.guided.At.{At}
 use Rattle.avro_least.specs.Asked.{Asked, Row, asked, asked_branch, asked_inside, rows_from}
-use Rattle.avro_least.specs.SeenAsk.{rows_by, theirs_at, theirs_in}
-use Rattle.avro_compare.specs.declared.guided.At.TheVariants.{Ignored}
-use Rattle.std.proofs.lemmas.Option.{slice_get-get_or}
+use Rattle.avro_least.specs.SeenAsk.{rows_by, theirs_in}
+use Rattle.avro_compare.proofs.public.Entries.{first_for, rest_for}
 
 -- ---- Where a pair leads
 
@@ -48,39 +48,21 @@ theirs_same : (j : ℕ) (o : Option FieldNode) → theirs_in (Some (part_to j o)
 theirs_same j None = refl
 theirs_same j (Some f) = refl
 
-theirs_found : (ws rs : List FieldNode) (parts : List At) (k : ℕ) → AreFor ws rs parts → k < length parts → theirs_at parts k ≡ option_map (λ f. f.node) (reader_field ws rs k)
-theirs_found ws rs parts k h low =
-    let found = slice_get-get_or parts k Ignored low in
-    ap theirs_in (found ∙ ap Some (h k (get_or parts k Ignored) found)) ∙ theirs_same (unwrap_or (slice_get (field_ids ws) k) 0) (reader_field ws rs k)
-
-rows_found : (ws rs : List FieldNode) (parts : List At) (k : ℕ) (ps : List ℕ) → AreFor ws rs parts → k + length ps ≤ length parts → rows_by parts k ps ≡ rows_from ws rs k ps
-rows_found ws rs parts k [] h all = refl
-rows_found ws rs parts k (p ∷ ps) h all =
-    ap (λ (o : Option ℕ). record { node = p; theirs = o } ∷ rows_by parts (suc k) ps) (theirs_found ws rs parts k h (omega (arith, all)))
-    ∙ ap (λ (rows : List Row). record { node = p; theirs = option_map (λ f. f.node) (reader_field ws rs k) } ∷ rows) (rows_found ws rs parts (suc k) ps h (omega (arith, all)))
-
-theirs_none : (ws : List FieldNode) (parts : List At) (k : ℕ) → AreFor ws [] parts → theirs_at parts k ≡ None
-theirs_none ws parts k h = by (slice_get parts k) refl
+theirs_found : (ws rs : List FieldNode) (parts : List (ℕ × At)) (k : ℕ) → AreForFrom k ws rs parts → theirs_in (first_entry parts k) ≡ option_map (λ f. f.node) (reader_field ws rs k)
+theirs_found ws rs parts k h =
+    shown (first_entry parts k) ∙ ap (λ (at : At). theirs_in (Some at)) (first_for k ws rs parts h) ∙ theirs_same (unwrap_or (slice_get (field_ids ws) k) 0) (reader_field ws rs k)
   where
-    by : (o : Option At) → slice_get parts k ≡ o → theirs_in o ≡ None
-    by None e = refl
-    by (Some at) e = ap (λ (part : At). theirs_in (Some part)) (h k at e)
+    shown : (o : Option At) → theirs_in o ≡ theirs_in (Some (part_or_none o))
+    shown None = refl
+    shown (Some at) = refl
 
--- the same where the reader has no field, of as many parts as there are
-rows_none : (ws : List FieldNode) (parts : List At) (k : ℕ) (ps : List ℕ) → AreFor ws [] parts → rows_by parts k ps ≡ rows_from ws [] k ps
-rows_none ws parts k [] h = refl
-rows_none ws parts k (p ∷ ps) h =
-    ap (λ (o : Option ℕ). record { node = p; theirs = o } ∷ rows_by parts (suc k) ps) (theirs_none ws parts k h)
-    ∙ ap (λ (rows : List Row). record { node = p; theirs = None } ∷ rows) (rows_none ws parts (suc k) ps h)
-
-as_many : (fs : List FieldNode) → length (field_ids fs) ≡ length fs
-as_many [] = refl
-as_many (f ∷ fs) = ap suc (as_many fs)
+rows_found : (ws rs : List FieldNode) (parts : List (ℕ × At)) (k : ℕ) (ps : List ℕ) → AreForFrom k ws rs parts → rows_by parts k ps ≡ rows_from ws rs k ps
+rows_found ws rs parts k [] h = refl
+rows_found ws rs parts k (p ∷ ps) h =
+    ap (λ (o : Option ℕ). record { node = p; theirs = o } ∷ rows_by (rest_entries parts k) (suc k) ps) (theirs_found ws rs parts k h)
+    ∙ ap (λ (rows : List Row). record { node = p; theirs = option_map (λ f. f.node) (reader_field ws rs k) } ∷ rows)
+    (rows_found ws rs (rest_entries parts k) (suc k) ps (subst (λ (n : ℕ). AreForFrom n ws rs (rest_entries parts k)) (omega arith) (rest_for k ws rs parts h)))
 
 -- the rows of the parts are those of the fields
-pub rows_same : (ws rs : List FieldNode) (parts : List At) → AreFor ws rs parts → (length parts ≡ suc (length ws)) ⊎ (rs ≡ [])
-    → rows_by parts 0 (field_ids ws) ≡ rows_from ws rs 0 (field_ids ws)
-rows_same ws rs parts h (inl all) = rows_found ws rs parts 0 (field_ids ws) h (omega (arith, all, as_many ws))
-rows_same ws rs parts h (inr none) =
-    rows_none ws parts 0 (field_ids ws) (subst (λ (fs : List FieldNode). AreFor ws fs parts) none h)
-    ∙ ap (λ (fs : List FieldNode). rows_from ws fs 0 (field_ids ws)) (sym none)
+pub rows_same : (ws rs : List FieldNode) (parts : List (ℕ × At)) → AreFor ws rs parts → rows_by parts 0 (field_ids ws) ≡ rows_from ws rs 0 (field_ids ws)
+rows_same ws rs parts h = rows_found ws rs parts 0 (field_ids ws) h

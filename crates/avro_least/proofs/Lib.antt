@@ -9,8 +9,10 @@ pub mod Building
 pub mod Built
 pub mod BuiltErrors
 pub mod Choosing
+pub mod Entries
 pub mod Faults
 pub mod Fixed
+pub mod KeptParts
 pub mod LeastData
 pub mod LeastErrors
 pub mod LeastOrder

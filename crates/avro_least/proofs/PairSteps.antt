@@ -16,9 +16,7 @@ use Rattle.avro_least.specs.Tables.{Least, LeastTable, AreDataShown, ShowsError,
 use Rattle.avro_least.specs.SeenLeast.{seen, seen_all, given_entry}
 use Rattle.avro_least.specs.declared.kept.Least.{Least as KeptLeast}
 use Rattle.avro_least.specs.Reached.{is_key}
-use Rattle.avro_least.specs.Asked.{asked_at, asked_value, children_at, live_numbers, steps_at, is_known, AreAsked, ArePairsShown}
-use Rattle.avro_least.specs.SeenAsk.{ask_of, asks_of}
-use Rattle.avro_least.specs.declared.pairs.asking.Ask.{Ask}
+use Rattle.avro_least.specs.Asked.{asked_at, asked_value, children_at, live_numbers, steps_at, is_known, ArePairsShown}
 use Rattle.avro_certificate.proofs.public.Tests.{all_at, and_left, and_right, or_from_left, or_from_right}
 use Rattle.avro_least.proofs.Rounds.{set_here, set_other, slice_get-replicate}
 use Rattle.avro_least.proofs.AskedValue.{value_is}
@@ -59,14 +57,6 @@ module _ (writer reader : List Node) (table : LeastTable) (keys : List ℕ) wher
 -- the key at an index is below the bound of all keys
 pub below_at : (n : ℕ) (ks : List ℕ) (i k : ℕ) → list_all (λ x. nat_lt x n) ks ≡ true → slice_get ks i ≡ Some k → k < n
 below_at n ks i k all here = ltb-true k n (all_at (λ x. nat_lt x n) ks i k all here)
-
--- what the pair at an index asks for
-pub own_ask : (writer reader : List Node) (ks : List ℕ) (asks : List Ask) (ask : Ask) (i k : ℕ) → AreAsked writer reader ks (asks_of asks) → slice_get ks i ≡ Some k
-    → slice_get asks i ≡ Some ask → ask_of ask ≡ asked_at writer reader k
-own_ask writer reader ks asks ask i k all here got =
-    some_same (ask_of ask) (asked_at writer reader k)
-    (sym (slice_get-map ask_of asks i ∙ ap (option_map ask_of) got)
-    ∙ all i k here (lt-ltb i (length (asks_of asks)) (omega (arith, slice_get_within asks i ask got, length-map asks ask_of))))
 
 -- a step at a key
 module _ (writer reader : List Node) (limit : ℕ) (table : LeastTable) (keys : List ℕ) (entries : List (Option Least))

@@ -98,10 +98,6 @@ live_numbers count table (c ∷ cs) = cond (is_none (table c.w)) (live_numbers c
 abbrev pub steps_at : List Node → List Node → LeastTable → ℕ → List ℕ
 steps_at writer reader table k = live_numbers (length reader) table (children_at writer reader k)
 
--- what each key asks for, up to an index
-abbrev pub AreAsked : List Node → List Node → List ℕ → List Asked → Type 0
-AreAsked writer reader keys asks = (i k : ℕ) → slice_get keys i ≡ Some k → nat_lt i (length asks) ≡ true → slice_get asks i ≡ Some (asked_at writer reader k)
-
 -- each entry of the pairs that were reached has a datum that errs
 abbrev pub ArePairsShown : List Node → List Node → ℕ → LeastTable → List ℕ → List (Option Least) → Type 0
 ArePairsShown writer reader limit table keys entries =

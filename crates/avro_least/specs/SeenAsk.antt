@@ -1,6 +1,7 @@
 -- How contracts see what a pair asks for.
-use Rattle.std.specs.Prelude.{ℕ, suc, List, [], ◌∷◌, Option, Some, None, option_map, map, slice_get}
+use Rattle.std.specs.Prelude.{ℕ, suc, List, [], ◌∷◌, Option, Some, None, option_map, map}
 use Rattle.avro_schema.specs.Seen.{ids_of}
+use Rattle.avro_compare.specs.Entries.{first_entry, rest_entries}
 use Rattle.avro_compare.specs.declared.guided.At.{At}
 use Rattle.avro_least.specs.Asked.{Row, Asked}
 use Rattle.avro_least.specs.declared.pairs.asking.FieldAsk.{FieldAsk}
@@ -21,19 +22,13 @@ ask_of (Ask.Part w r) = Asked.part w.0 r.0
 ask_of (Ask.Branches ids) = Asked.branches (ids_of ids.items)
 ask_of (Ask.Fields rows) = Asked.fields (rows_of rows.items)
 
-abbrev pub asks_of : List Ask → List Asked
-asks_of asks = map ask_of asks
-
 -- the reader's field that a part is for
 abbrev pub theirs_in : Option At → Option ℕ
 theirs_in None = None
 theirs_in (Some At.Ignored) = None
 theirs_in (Some (At.Pair w r)) = Some r.0
 
-abbrev pub theirs_at : List At → ℕ → Option ℕ
-theirs_at parts index = theirs_in (slice_get parts index)
-
--- each writer's field beside it
-abbrev pub rows_by : List At → ℕ → List ℕ → List Row
+-- each writer's field beside it, by what is kept of the fields from an index on
+abbrev pub rows_by : List (ℕ × At) → ℕ → List ℕ → List Row
 rows_by parts index [] = []
-rows_by parts index (p ∷ ps) = record { node = p; theirs = theirs_at parts index } ∷ rows_by parts (suc index) ps
+rows_by parts index (p ∷ ps) = record { node = p; theirs = theirs_in (first_entry parts index) } ∷ rows_by (rest_entries parts index) (suc index) ps

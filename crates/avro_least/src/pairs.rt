@@ -3,6 +3,7 @@
 pub(crate) mod asking;
 pub(crate) mod erring;
 pub(crate) mod graph;
+pub(crate) mod keeping;
 pub(crate) mod leads;
 pub(crate) mod parts;
 pub(crate) mod reaching;

@@ -11,11 +11,14 @@ ghost use Rattle.avro_compare.specs.Planned.{AreInside};
 ghost use Rattle.avro_resolve.specs.Ends.{Ends, EndsFound, EndsSlot, field_step, taken_as};
 
 use crate::error::ResolveError;
+use crate::plan::keeping::part_known;
 use crate::plan::parts::{branch_of, items_of, values_of};
 use crate::resolving::failing::{fault_here, fault_in, turn};
 use crate::resolving::filling::fill_data;
 use crate::resolving::leaves::{leaf, wrapped};
-use avro_compare::{Aim, At, Comparison, FaultKind, Names, compare_inside, fields_of, part_among};
+use avro_compare::{
+    Aim, At, Comparison, FaultKind, Names, compare_inside, fields_of, rest_entries,
+};
 use avro_schema::{Datum, NodeId, Schema};
 use std::alloc::{AllocError, Global};
 
@@ -231,25 +234,14 @@ fn resolve_fields(
         (fields_at (node_at (schema_nodes names.now.0) w.0)) (fields_at (node_at (schema_nodes names.now.1) q.0)) 0 (values_seen values.now)) }
 {
     let mut slots = Vec::new(alloc);
+    let mut left: &[(usize, At)] = &inside.fields;
     for index in 0..values.len() {
-        let at = part_inside(names, w, q, inside, index);
+        let at = part_known(left, index);
+        left = rest_entries(left, index);
         let slot = resolve_field(alloc, names, at, index, &values[index])?;
         slots.push(slot)?;
     }
     Ok(slots)
-}
-
-/// What the writer's field at an index is for.
-fn part_inside(names: &Names, w: NodeId, q: NodeId, inside: &Comparison, index: usize) -> At
-    requires { AreInside (node_at (schema_nodes names.now.0) w.0) (node_at (schema_nodes names.now.1) q.0) inside.now }
-    ensures { result ≡ field_for (fields_at (node_at (schema_nodes names.now.0) w.0)) (fields_at (node_at (schema_nodes names.now.1) q.0)) index }
-{
-    if index < inside.fields.len() {
-        return inside.fields[index];
-    }
-    let writes = fields_of(names.writer(), w);
-    let reads = fields_of(names.reader(), q);
-    part_among(writes, reads, &inside.sources, index)
 }
 
 /// What the value of the writer's field at an index is for the reader's field whose source it is, where

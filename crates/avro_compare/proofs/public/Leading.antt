@@ -61,18 +61,13 @@ inside_by writer reader {v = v} {r = r} p e f h =
 -- what is found of the fields and the symbols of two nodes is what is inside
 pub inside_found : (w q : Node) (ws rs : List FieldNode) (p : Comparison) → ws ≡ fields_at w → rs ≡ fields_at q
     → p.missing ≡ missing_field ws rs → p.lacking ≡ first_lacking w q
-    → AreFor ws rs p.fields.items → (length p.fields.items ≡ suc (length ws)) ⊎ (rs ≡ [])
-    → AreSources (fields_at w) rs p.sources.items → (length p.sources.items ≡ length rs) ⊎ (ws ≡ [])
+    → AreFor ws rs p.fields.items → AreSources ws rs p.sources.items
     → AreSymbols w q p.symbols.items → (p.symbols.items ≡ []) ⊎ (length p.symbols.items ≡ length (symbols_at w)) → AreInside w q p
-inside_found w q ws rs p e f missing lacking fields all_fields sources all_sources symbols all_symbols = record {
+inside_found w q ws rs p e f missing lacking fields sources symbols all_symbols = record {
   complete = missing ∙ ap (λ xs. missing_field xs rs) e ∙ ap (missing_field (fields_at w)) f;
   lacking = lacking;
   fields = subst (λ ys. AreFor (fields_at w) ys p.fields.items) f (subst (λ xs. AreFor xs rs p.fields.items) e fields);
-  all_fields = subst (λ (ys : List FieldNode). (length p.fields.items ≡ suc (length (fields_at w))) ⊎ (ys ≡ [])) f
-      (subst (λ (xs : List FieldNode). (length p.fields.items ≡ suc (length xs)) ⊎ (rs ≡ [])) e all_fields);
-  sources = subst (λ ys. AreSources (fields_at w) ys p.sources.items) f sources;
-  all_sources = subst (λ (xs : List FieldNode). (length p.sources.items ≡ length (fields_at q)) ⊎ (xs ≡ [])) e
-      (subst (λ (ys : List FieldNode). (length p.sources.items ≡ length ys) ⊎ (ws ≡ [])) f all_sources);
+  sources = subst (λ ys. AreSources (fields_at w) ys p.sources.items) f (subst (λ xs. AreSources xs rs p.sources.items) e sources);
   symbols = symbols;
   all_symbols = all_symbols;
 }

@@ -1,5 +1,5 @@
 -- Lists from an index on, and lists with one more at their end.
-use Rattle.std.proofs.Common.{◌≡◌, ℕ, zero, suc, ◌+◌, ◌<◌, List, [], ◌∷◌, ◌++◌, drop, length, Some, None, refl, sym, ap, subst, arith}
+use Rattle.std.proofs.Common.{◌≡◌, ℕ, zero, suc, ◌+◌, ◌<◌, ◌≤◌, List, [], ◌∷◌, ◌++◌, drop, length, Some, None, refl, sym, ap, subst, arith}
 use Rattle.std.specs.Prelude.{slice_index_or, slice_get}
 use Rattle.avro_schema.specs.Seen.{seen_fields, field_of}
 use Rattle.avro_schema.specs.declared.schema.Field.{Field}
@@ -44,3 +44,10 @@ pub seen_at : (fs : List Field) (i : ℕ) (f : Field) → i < length fs → f �
 seen_at [] i f low is = absurd (omega (arith, low))
 seen_at (g ∷ fs) zero f low is = ap (λ (h : Field). Some (field_of h)) (sym is)
 seen_at (g ∷ fs) (suc i) f low is = seen_at fs i f (omega (arith, low)) is
+
+-- ---- Past the end
+
+pub got_past : {A : Type 0} (xs : List A) (k : ℕ) → length xs ≤ k → slice_get xs k ≡ None
+got_past [] k high = refl
+got_past (x ∷ xs) zero high = absurd (omega (arith, high))
+got_past (x ∷ xs) (suc k) high = got_past xs k (omega (arith, high))

@@ -8,16 +8,10 @@ use Rattle.avro_schema.specs.Seen.{seen_fields, field_of}
 use Rattle.avro_schema.specs.declared.schema.Field.{Field}
 use Rattle.avro_schema.specs.declared.schema.NodeId.{NodeId}
 use Rattle.avro_compare.specs.Pairs.{part_to}
-use Rattle.avro_compare.specs.Planned.{AreSources}
 use Rattle.avro_compare.specs.Source.{is_index, reader_field, source_of}
 use Rattle.avro_compare.specs.declared.guided.At.TheVariants.{Pair}
 use Rattle.avro_compare.proofs.public.Lists.{one_longer}
 use Rattle.avro_compare.proofs.public.Lists.{get_before, get_last, get_past, seen_next}
-
--- sources among the same fields
-pub sources_by : {ws xs rs ys : List FieldNode} (sources : List (Option ℕ)) → ws ≡ xs → rs ≡ ys → AreSources xs ys sources → AreSources ws rs sources
-sources_by {ws = ws} {ys = ys} sources e f h =
-    subst (λ (fs : List FieldNode). AreSources ws fs sources) (sym f) (subst (λ (fs : List FieldNode). AreSources fs ys sources) (sym e) h)
 
 -- what is kept at an index, which a call may reckon
 pub kept_here : (kept : List (Option ℕ)) (index at : ℕ) → at ≡ index → index < length kept → slice_get kept index ≡ Some (slice_index_or kept at None)

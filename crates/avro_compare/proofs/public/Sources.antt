@@ -1,6 +1,6 @@
 -- Which reader's field a writer's field is the source of: no two, since names and aliases are distinct.
-use Rattle.std.proofs.Common.{◌≡◌, ℕ, ◌<◌, true, false, not, List, [], ◌∷◌, ◌++◌, Option, Some, None, length, get_or, refl, ap, ◌∙◌, subst, ⊎_elim}
-use Rattle.std.specs.Prelude.{bytes_eq}
+use Rattle.std.proofs.Common.{◌≡◌, ℕ, ◌<◌, ◌≤◌, arith, true, false, not, List, [], ◌∷◌, ◌++◌, Option, Some, None, length, get_or, refl, ap, ◌∙◌, subst, ⊎_elim}
+use Rattle.std.specs.Prelude.{bytes_eq, ◌==◌}
 use Rattle.std.specs.List.{list_any, flat_map}
 use Rattle.std.proofs.lemmas.Bool.{and_parts, or_cases, or_left, or_right, both_ways, not-true, eqb-true, eq-eqb, cond-true, cond-false, false_from_ne_true}
 use Rattle.std.proofs.lemmas.Slice.Eq.{bytes_eq-Decides}
@@ -101,3 +101,17 @@ reader_field-source ws rs k g (here {fs = fs}) distinct e = read_first ws fs k g
 reader_field-source ws rs k g (later {g = f} {fs = fs} is) distinct e =
     read_later ws fs k f g (two_readers ws fs k f g is distinct e)
     (reader_field-source ws fs k g is (are_distinct-back (field_names f) (flat_map field_names fs) distinct) e)
+
+-- ---- A source is one of the writer's fields
+
+pub source_within : (ws : List FieldNode) (f : FieldNode) (k : ℕ) → source_of ws f ≡ Some k → k < length ws
+source_within ws f k e = (first_index-named ws f (f.name ∷ f.aliases) k e).0
+
+-- no reader's field takes what is past the writer's last
+pub past_all : (ws rs : List FieldNode) (k : ℕ) → length ws ≤ k → reader_field ws rs k ≡ None
+past_all ws [] k high = refl
+past_all ws (f ∷ fs) k high = cond-false (is_index (source_of ws f) k) (Some f) (reader_field ws fs k) (other (source_of ws f) refl) ∙ past_all ws fs k high
+  where
+    other : (o : Option ℕ) → source_of ws f ≡ o → is_index o k ≡ false
+    other None e = refl
+    other (Some j) e = false_from_ne_true (j == k) (λ t. absurd (omega (arith, eqb-true j k t, source_within ws f j e, high)))

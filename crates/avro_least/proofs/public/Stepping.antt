@@ -1,5 +1,5 @@
 -- The numbers of the pairs that a pair takes.
-use Rattle.std.proofs.Common.{◌≡◌, ℕ, suc, ◌+◌, ◌*◌, ◌/◌, ◌%◌, ◌<◌, ◌≤◌, Bool, true, false, cond, List, [], ◌∷◌, ◌++◌, Some, inl, inr, length, refl, sym, ◌∙◌, ap, arith}
+use Rattle.std.proofs.Common.{◌≡◌, ℕ, suc, ◌+◌, ◌*◌, ◌/◌, ◌%◌, ◌<◌, ◌≤◌, Bool, true, false, cond, List, [], ◌∷◌, ◌++◌, Some, inl, inr, length, refl, sym, ◌∙◌, ap, subst, arith}
 use Rattle.std.proofs.lemmas.Bool.{false≢true, and_from, ltb-true, lt-ltb, cases_eq}
 use Rattle.std.proofs.lemmas.List.{length-append}
 use Rattle.std.proofs.lemmas.Option.{slice_get_within}
@@ -10,7 +10,9 @@ use Rattle.avro_schema.specs.Node.{Node, node_at}
 use Rattle.avro_schema.specs.WellFormed.{is_schema}
 use Rattle.avro_compare.specs.Children.{Pair}
 use Rattle.avro_least.specs.Tables.{LeastTable, pair_number}
-use Rattle.avro_least.specs.Asked.{Asked, asked_at, children_at, live_numbers, steps_at, AreAsked}
+use Rattle.avro_least.specs.KeptAsks.{AreAsked, IsKept}
+use Rattle.avro_least.specs.declared.pairs.keeping.KeptAsk.{KeptAsk}
+use Rattle.avro_least.specs.Asked.{asked_at, children_at, live_numbers, steps_at}
 use Rattle.avro_certificate.proofs.public.Tests.{and_left, and_right}
 use Rattle.avro_least.proofs.public.Keys.{get_kept, some_same}
 use Rattle.avro_least.proofs.AskedWithin.{is_within, children_within, node_within}
@@ -68,14 +70,15 @@ module _ (writer reader : List Node) (table : LeastTable) where
   steps_below formed there k h = numbers_below (children_at writer reader k) (children_at_within formed there k h)
 
 -- one more pair is asked
-pub asked_more : (writer reader : List Node) (ks rest : List ℕ) (asks : List Asked) (key : ℕ) → AreAsked writer reader ks asks → slice_get ks (length asks) ≡ Some key
-    → AreAsked writer reader (ks ++ rest) (asks ++ asked_at writer reader key ∷ [])
-asked_more writer reader ks rest asks key before here i k found within = elim (cases_eq i (length asks)) [
+pub asked_more : (writer reader : List Node) (ks rest : List ℕ) (asks : List KeptAsk) (ask : KeptAsk) (key : ℕ) → AreAsked writer reader ks asks → slice_get ks (length asks) ≡ Some key
+    → IsKept ask (asked_at writer reader key) → AreAsked writer reader (ks ++ rest) (asks ++ ask ∷ [])
+asked_more writer reader ks rest asks ask key before here own i k one found got = elim (cases_eq i (length asks)) [
   | inl same ↦
       let it : Some k ≡ Some key = sym found ∙ get_kept ks rest i (omega (arith, same, slice_get_within ks (length asks) key here)) ∙ ap (slice_get ks) same ∙ here in
-      ap (slice_get (asks ++ asked_at writer reader key ∷ [])) same ∙ get_last asks (asked_at writer reader key) ∙ ap (λ x. Some (asked_at writer reader x)) (sym (some_same k key it))
+      let mine : Some one ≡ Some ask = sym got ∙ ap (slice_get (asks ++ ask ∷ [])) same ∙ get_last asks ask in
+      subst (λ (n : ℕ). IsKept one (asked_at writer reader n)) (sym (some_same k key it))
+      (subst (λ (x : KeptAsk). IsKept x (asked_at writer reader key)) (sym (some_same one ask mine)) own)
   | inr apart ↦
-      let low : i < length asks = omega (arith, apart, ltb-true i (length (asks ++ asked_at writer reader key ∷ [])) within, length-append asks (asked_at writer reader key ∷ [])) in
-      get_kept asks (asked_at writer reader key ∷ []) i low
-      ∙ before i k (sym (get_kept ks rest i (omega (arith, low, slice_get_within ks (length asks) key here))) ∙ found) (lt-ltb i (length asks) low)
+      let low : i < length asks = omega (arith, apart, slice_get_within (asks ++ ask ∷ []) i one got, length-append asks (ask ∷ [])) in
+      before i k one (sym (get_kept ks rest i (omega (arith, low, slice_get_within ks (length asks) key here))) ∙ found) (sym (get_kept asks (ask ∷ []) i low) ∙ got)
 ]

@@ -9,9 +9,9 @@ use Rattle.avro_schema.specs.WellFormed.{is_schema}
 use Rattle.avro_compare.specs.Children.{Pair}
 use Rattle.avro_least.specs.Tables.{Least, LeastTable, AtMost, AreDataShown, no_parts, pair_number, erring_of}
 use Rattle.avro_least.specs.SeenLeast.{seen_all, table_of}
-use Rattle.avro_least.specs.SeenAsk.{asks_of}
+use Rattle.avro_least.specs.KeptAsks.{AreAsked}
 use Rattle.avro_least.specs.Reached.{AreFollowed}
-use Rattle.avro_least.specs.Asked.{asked_at, steps_at, AreAsked, ArePairsShown}
+use Rattle.avro_least.specs.Asked.{asked_at, steps_at, ArePairsShown}
 use Rattle.avro_least.specs.inside.Parts.{part_at, value_by_part, value_alone, AreOthers}
 use Rattle.avro_least.specs.inside.Falling.{is_waiting, IsSearch}
 use Rattle.avro_least.specs.declared.pairs.leads.Lead.{Lead}
@@ -79,7 +79,7 @@ pub record IsGraph (g : Graph) : Type 0 where
   pub below : list_all (λ k. nat_lt k (length (schema_nodes g.writer.now) * length (schema_nodes g.reader.now))) (keys g.reached.now.known) ≡ true
   pub closed : AreFollowed (steps_at (schema_nodes g.writer.now) (schema_nodes g.reader.now) (table_of g.table.now)) (keys g.reached.now.known) (length (keys g.reached.now.known))
   pub asks : length g.reached.now.asks.items ≡ length (keys g.reached.now.known)
-  pub asked : AreAsked (schema_nodes g.writer.now) (schema_nodes g.reader.now) (keys g.reached.now.known) (asks_of g.reached.now.asks.items)
+  pub asked : AreAsked (schema_nodes g.writer.now) (schema_nodes g.reader.now) (keys g.reached.now.known) g.reached.now.asks.items
   pub others : AreOthers (schema_nodes g.writer.now) g.limit (table_of g.table.now) (length (schema_nodes g.writer.now)) g.others.now
   pub leads : AreLeads (schema_nodes g.writer.now) (schema_nodes g.reader.now) (table_of g.table.now) (keys g.reached.now.known) (length (keys g.reached.now.known)) g.leads.now
 

@@ -6,9 +6,9 @@ ghost use Rattle.avro_schema.specs.Seen.{node_of, seen_fields};
 ghost use Rattle.avro_schema.specs.SeenSchema.{schema_nodes};
 ghost use Rattle.avro_compare.specs.Planned.{AreInside, IsComparison};
 ghost use Rattle.avro_least.specs.Asked.{Asked, asked, asked_inside};
-ghost use Rattle.avro_least.specs.SeenAsk.{ask_of, rows_by, rows_of, theirs_at};
+ghost use Rattle.avro_least.specs.SeenAsk.{ask_of, rows_by, rows_of, theirs_in};
 
-use avro_compare::{Aim, At, Comparison};
+use avro_compare::{Aim, At, Comparison, first_entry, rest_entries};
 use avro_schema::{Field, Memory, Node, NodeId, Schema};
 use std::alloc::Global;
 
@@ -40,27 +40,29 @@ pub enum Ask {
     Fields(Vec<FieldAsk>),
 }
 
-/// The node of the reader's field that the part at an index is for, if there is one.
-fn theirs_at(parts: &[At], index: usize) -> Option<NodeId>
-    ensures { option_map (λ id. id.0) result ≡ theirs_at parts.now index }
+/// The node of the reader's field that a part is for, if there is one.
+fn theirs_in(part: Option<At>) -> Option<NodeId>
+    ensures { option_map (λ id. id.0) result ≡ theirs_in part }
 {
-    match parts.get(index) {
-        Some(At::Pair(_, theirs)) => Some(*theirs),
+    match part {
+        Some(At::Pair(_, theirs)) => Some(theirs),
         Some(At::Ignored) => None,
         None => None,
     }
 }
 
 /// Each of the writer's fields, with the reader's field that takes its value.
-fn rows(alloc: Global, writer: &[Field], parts: &[At]) -> Result<Vec<FieldAsk>, Memory>
+fn rows(alloc: Global, writer: &[Field], parts: &[(usize, At)]) -> Result<Vec<FieldAsk>, Memory>
     ensures { IfOk result (λ rows. rows_of rows.items ≡ rows_by parts.now 0 (field_ids (seen_fields writer.now))) }
 {
     let mut rows = Vec::new(alloc);
+    let mut left = parts;
     for i in 0..writer.len() {
         let row = FieldAsk {
             node: writer[i].node,
-            theirs: theirs_at(parts, i),
+            theirs: theirs_in(first_entry(left, i)),
         };
+        left = rest_entries(left, i);
         rows.push(row)?;
     }
     Ok(rows)

@@ -4,18 +4,15 @@ ghost use Rattle.std.specs.Prelude.{◌≡◌, ◌<◌, ◌*◌, ◌==◌, ℕ, 
 ghost use Rattle.std.specs.List.{list_all};
 ghost use Rattle.indexmap.specs.IndexSet.{keys};
 ghost use Rattle.avro_schema.specs.SeenSchema.{schema_nodes};
-ghost use Rattle.avro_least.specs.SeenAsk.{ask_of, asks_of};
 ghost use Rattle.avro_least.specs.SeenLeast.{table_of};
 ghost use Rattle.avro_least.specs.Tables.{pair_number};
-ghost use Rattle.avro_least.specs.Asked.{AreAsked};
-ghost use Rattle.avro_least.specs.inside.Parts.{part_at};
+ghost use Rattle.avro_least.specs.KeptAsks.{AreAsked, kept_part};
 ghost use Rattle.avro_least.specs.inside.Leading.{is_lead, leads_at, AreLeads};
-ghost use Rattle.avro_least.specs.declared.pairs.asking.Ask.{Ask};
+ghost use Rattle.avro_least.specs.declared.pairs.keeping.KeptAsk.{KeptAsk};
 
 use crate::kept::Least;
 use crate::nodes::least::{count, entry};
-use crate::pairs::asking::Ask;
-use crate::pairs::parts::{part_at, part_count};
+use crate::pairs::parts::{nth_part, part_count};
 use crate::pairs::reaching::{Reached, ask_at_index, number, readers, writers};
 use avro_schema::{Memory, NodeId, Schema};
 use indexmap::IndexSet;
@@ -73,28 +70,28 @@ fn add_lead(
     }
 }
 
-/// Adds a lead to the row of the pair that its part at an index is. A part whose writer's node has no data needs none.
+/// Adds a pair by its index to the row of the one that its part is. A part whose writer's node has no data needs none.
 fn add_part(
     table: &[Option<Least>],
     count: u32,
     known: &IndexSet<u64>,
-    part: Option<(NodeId, NodeId)>,
-    lead: Lead,
+    part: Option<(usize, NodeId, NodeId)>,
+    pair: usize,
     rows: &mut [Vec<Lead>],
 ) -> Result<(), Memory>
     requires { length rows.old ≡ length (keys known.now) }
     ensures one_each { OnOk result (length rows.new ≡ length rows.old) }
     ensures kept { OnOk result ((j i k : ℕ) → is_lead (leads_at rows.old j) i k ≡ true → is_lead (leads_at rows.new j) i k ≡ true) }
-    ensures added { OnOk result ((j : ℕ) (a b : NodeId) → part ≡ Some (a, b) → is_none (table_of table.now a.0) ≡ false
-        → position (λ q. pair_number count a.0 b.0 == q) (keys known.now) ≡ Some j → is_lead (leads_at rows.new j) lead.pair lead.part ≡ true) }
+    ensures added { OnOk result ((j k : ℕ) (a b : NodeId) → part ≡ Some (k, a, b) → is_none (table_of table.now a.0) ≡ false
+        → position (λ q. pair_number count a.0 b.0 == q) (keys known.now) ≡ Some j → is_lead (leads_at rows.new j) pair k ≡ true) }
 {
     match part {
         None => Ok(()),
-        Some((a, b)) => {
+        Some((k, a, b)) => {
             if entry(table, a).is_none() {
                 return Ok(());
             }
-            add_lead(known, number(count, a, b), lead, rows)
+            add_lead(known, number(count, a, b), Lead { pair, part: k }, rows)
         }
     }
 }
@@ -113,20 +110,13 @@ fn add_parts(
     requires within { i < length reached.now.asks.items }
     ensures one_each { OnOk result (length rows.new ≡ length rows.old) }
     ensures kept { OnOk result ((j p k : ℕ) → is_lead (leads_at rows.old j) p k ≡ true → is_lead (leads_at rows.new j) p k ≡ true) }
-    ensures added { OnOk result ((ask : Ask) (j k a b : ℕ) → slice_get reached.now.asks.items i ≡ Some ask → part_at w.0 r.0 (ask_of ask) k ≡ Some (record { w = a; r = b })
+    ensures added { OnOk result ((ask : KeptAsk) (j k a b : ℕ) → slice_get reached.now.asks.items i ≡ Some ask → kept_part w.0 r.0 ask k ≡ Some (record { w = a; r = b })
         → is_none (table_of table.now a) ≡ false → position (λ q. pair_number count a b == q) (keys reached.now.known) ≡ Some j → is_lead (leads_at rows.new j) i k ≡ true) }
 {
     let ask = ask_at_index(reached, i);
-    for k in 0..part_count(ask) {
-        let part = part_at(w, r, ask, k);
-        add_part(
-            table,
-            count,
-            &reached.known,
-            part,
-            Lead { pair: i, part: k },
-            rows,
-        )?;
+    for n in 0..part_count(ask) {
+        let part = nth_part(w, r, ask, n);
+        add_part(table, count, &reached.known, part, i, rows)?;
     }
     Ok(())
 }
@@ -145,7 +135,7 @@ pub(crate) fn leads(
 ) -> Result<Vec<Vec<Lead>>, Memory>
     requires below { list_all (λ k. nat_lt k (length (schema_nodes writer.now) * length (schema_nodes reader.now))) (keys reached.now.known) ≡ true }
     requires asks { length reached.now.asks.items ≡ length (keys reached.now.known) }
-    requires asked { AreAsked (schema_nodes writer.now) (schema_nodes reader.now) (keys reached.now.known) (asks_of reached.now.asks.items) }
+    requires asked { AreAsked (schema_nodes writer.now) (schema_nodes reader.now) (keys reached.now.known) reached.now.asks.items }
     ensures { IfOk result (λ t. AreLeads (schema_nodes writer.now) (schema_nodes reader.now) (table_of table.now) (keys reached.now.known) (length (keys reached.now.known)) t.items) }
 {
     let pairs = reached.known.len();

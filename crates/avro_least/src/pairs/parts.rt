@@ -6,31 +6,32 @@ ghost use Rattle.avro_schema.specs.Node.{field_ids};
 ghost use Rattle.avro_schema.specs.Seen.{ids_of, node_of, seen_fields};
 ghost use Rattle.avro_schema.specs.SeenSchema.{schema_nodes};
 ghost use Rattle.avro_least.specs.Asked.{Row, Asked};
-ghost use Rattle.avro_least.specs.SeenAsk.{ask_of, rows_of};
+ghost use Rattle.avro_least.specs.KeptAsks.{AreOrdered, IsKept, kept_count, kept_part, nth_part, pair_for, seen_part, with_index};
 ghost use Rattle.avro_least.specs.SeenLeast.{seen, given_entry, table_of};
 ghost use Rattle.avro_least.specs.Tables.{all_of};
-ghost use Rattle.avro_least.specs.inside.Parts.{around_part, least_of_others, nodes_of, others_at, part_at, parts_of, row_part, seen_pair, value_alone, AreOthers, AreOthersOf};
+ghost use Rattle.avro_least.specs.inside.Parts.{around_part, least_of_others, nodes_of, others_at, seen_pair, value_alone, AreOthers, AreOthersOf};
 
 use crate::filled::filled;
 use crate::kept::Least;
 use crate::nodes::least::{around, count, entry, together};
-use crate::pairs::asking::{Ask, FieldAsk};
+use crate::pairs::keeping::{KeptAsk, find_entry};
 use crate::queue::entry_at;
+use avro_compare::At;
 use avro_schema::{Field, Memory, Node, NodeId, Schema};
 use std::alloc::Global;
 
-/// The number of parts that a pair has.
-pub(crate) fn part_count(ask: &Ask) -> usize
-    ensures { (w r : ℕ) → result ≡ length (parts_of w r (ask_of ask.now)) }
+/// The number of parts that are kept of a pair.
+pub(crate) fn part_count(ask: &KeptAsk) -> usize
+    ensures { result ≡ kept_count ask.now }
 {
     match ask {
-        Ask::Quiet => 0,
-        Ask::Whole => 0,
-        Ask::Lone => 0,
-        Ask::Same(_) => 1,
-        Ask::Part(_, _) => 1,
-        Ask::Branches(ids) => ids.len(),
-        Ask::Fields(rows) => rows.len(),
+        KeptAsk::Quiet => 0,
+        KeptAsk::Whole => 0,
+        KeptAsk::Lone => 0,
+        KeptAsk::Same(_) => 1,
+        KeptAsk::Part(_, _) => 1,
+        KeptAsk::Branches(ids) => ids.len(),
+        KeptAsk::Fields(parts) => parts.len(),
     }
 }
 
@@ -41,11 +42,11 @@ fn id_at(ids: &[NodeId], k: usize) -> Option<NodeId>
     ids.get(k).copied()
 }
 
-/// The row at an index, if there is one.
-fn row_at(rows: &[FieldAsk], k: usize) -> Option<FieldAsk>
-    ensures { result ≡ slice_get rows.now k }
+/// The entry at an index, if there is one.
+fn entry_in(parts: &[(usize, At)], n: usize) -> Option<(usize, At)>
+    ensures { result ≡ slice_get parts.now n }
 {
-    rows.get(k).copied()
+    parts.get(n).copied()
 }
 
 /// The branch at an index against a reader's node.
@@ -58,31 +59,63 @@ fn branch_at(ids: &[NodeId], r: NodeId, k: usize) -> Option<(NodeId, NodeId)>
     }
 }
 
-/// The field at an index against the reader's field that takes its value, if there is one.
-fn field_at(rows: &[FieldAsk], k: usize) -> Option<(NodeId, NodeId)>
-    ensures { seen_pair result ≡ unwrap_or (slice_get (map row_part (rows_of rows.now)) k) None }
+/// The pair that a field leads to, if it leads to one.
+fn pair_for(part: Option<At>) -> Option<(NodeId, NodeId)>
+    ensures { seen_pair result ≡ pair_for part }
 {
-    match row_at(rows, k) {
+    match part {
+        Some(At::Pair(a, b)) => Some((a, b)),
+        Some(At::Ignored) => None,
         None => None,
-        Some(row) => match row.theirs {
-            None => None,
-            Some(theirs) => Some((row.node, theirs)),
-        },
     }
 }
 
 /// The nodes of the part at an index. There are none past the last part, and of a field that no reader's field takes.
-pub(crate) fn part_at(w: NodeId, r: NodeId, ask: &Ask, k: usize) -> Option<(NodeId, NodeId)>
-    ensures { seen_pair result ≡ part_at w.0 r.0 (ask_of ask.now) k }
+pub(crate) fn part_at(w: NodeId, r: NodeId, ask: &KeptAsk, k: usize) -> Option<(NodeId, NodeId)>
+    requires { AreOrdered ask.now }
+    ensures { seen_pair result ≡ kept_part w.0 r.0 ask.now k }
 {
     match ask {
-        Ask::Quiet => None,
-        Ask::Whole => None,
-        Ask::Lone => None,
-        Ask::Same(q) => (k == 0).then_some((w, *q)),
-        Ask::Part(a, b) => (k == 0).then_some((*a, *b)),
-        Ask::Branches(ids) => branch_at(ids, r, k),
-        Ask::Fields(rows) => field_at(rows, k),
+        KeptAsk::Quiet => None,
+        KeptAsk::Whole => None,
+        KeptAsk::Lone => None,
+        KeptAsk::Same(q) => (k == 0).then_some((w, *q)),
+        KeptAsk::Part(a, b) => (k == 0).then_some((*a, *b)),
+        KeptAsk::Branches(ids) => branch_at(ids, r, k),
+        KeptAsk::Fields(parts) => pair_for(find_entry(parts, k)),
+    }
+}
+
+/// A pair beside an index.
+fn at_index(k: usize, pair: Option<(NodeId, NodeId)>) -> Option<(usize, NodeId, NodeId)>
+    ensures { seen_part result ≡ with_index k (seen_pair pair) }
+{
+    match pair {
+        None => None,
+        Some((a, b)) => Some((k, a, b)),
+    }
+}
+
+/// The index of one of the parts that are kept, with its nodes.
+pub(crate) fn nth_part(
+    w: NodeId,
+    r: NodeId,
+    ask: &KeptAsk,
+    n: usize,
+) -> Option<(usize, NodeId, NodeId)>
+    ensures { seen_part result ≡ nth_part w.0 r.0 ask.now n }
+{
+    match ask {
+        KeptAsk::Quiet => None,
+        KeptAsk::Whole => None,
+        KeptAsk::Lone => None,
+        KeptAsk::Same(q) => at_index(n, (n == 0).then_some((w, *q))),
+        KeptAsk::Part(a, b) => at_index(n, (n == 0).then_some((*a, *b))),
+        KeptAsk::Branches(ids) => at_index(n, branch_at(ids, r, n)),
+        KeptAsk::Fields(parts) => match entry_in(parts, n) {
+            None => None,
+            Some((k, part)) => at_index(k, pair_for(Some(part))),
+        },
     }
 }
 
@@ -91,33 +124,33 @@ pub(crate) fn around_part(
     limit: u32,
     table: &[Option<Least>],
     others: &[Option<Least>],
-    ask: &Ask,
+    ask: &KeptAsk,
     k: usize,
     part: Option<Least>,
 ) -> Option<Least>
-    requires range { limit ≤ 16777216 }
-    requires others { (rows : List Row) → ask_of ask.now ≡ Asked.fields rows
-        → given_entry (slice_get others.now k) ≡ least_of_others limit (table_of table.now) (map (λ row. row.node) rows) k }
-    ensures { seen result ≡ around_part limit (table_of table.now) (ask_of ask.now) k (seen part) }
+    requires { limit ≤ 16777216 }
+    ensures { (a : Asked) → IsKept ask.now a
+        → ((rows : List Row) → a ≡ Asked.fields rows → given_entry (slice_get others.now k) ≡ least_of_others limit (table_of table.now) (map (λ row. row.node) rows) k)
+        → seen result ≡ around_part limit (table_of table.now) a k (seen part) }
 {
     match ask {
-        Ask::Quiet => None,
-        Ask::Whole => None,
-        Ask::Lone => None,
-        Ask::Same(_) => part,
-        Ask::Part(_, _) => around(limit, part),
-        Ask::Branches(_) => around(limit, part),
-        Ask::Fields(_) => around(limit, together(limit, part, entry_at(others, k))),
+        KeptAsk::Quiet => None,
+        KeptAsk::Whole => None,
+        KeptAsk::Lone => None,
+        KeptAsk::Same(_) => part,
+        KeptAsk::Part(_, _) => around(limit, part),
+        KeptAsk::Branches(_) => around(limit, part),
+        KeptAsk::Fields(_) => around(limit, together(limit, part, entry_at(others, k))),
     }
 }
 
 /// The entry of a pair that needs no part.
-pub(crate) fn value_alone(table: &[Option<Least>], w: NodeId, ask: &Ask) -> Option<Least>
-    ensures { seen result ≡ value_alone (table_of table.now) w.0 (ask_of ask.now) }
+pub(crate) fn value_alone(table: &[Option<Least>], w: NodeId, ask: &KeptAsk) -> Option<Least>
+    ensures { (a : Asked) → IsKept ask.now a → seen result ≡ value_alone (table_of table.now) w.0 a }
 {
     match ask {
-        Ask::Whole => entry(table, w),
-        Ask::Lone => Some(Least { nodes: 1, depth: 1 }),
+        KeptAsk::Whole => entry(table, w),
+        KeptAsk::Lone => Some(Least { nodes: 1, depth: 1 }),
         _ => None,
     }
 }

@@ -10,12 +10,13 @@ ghost use Rattle.avro_compare.specs.Planned.{AreComparisons, IsComparison};
 ghost use Rattle.avro_least.specs.Tables.{pair_number};
 ghost use Rattle.avro_least.specs.SeenLeast.{table_of};
 ghost use Rattle.avro_least.specs.Reached.{is_key, AreFollowed, IsSteppedTo};
-ghost use Rattle.avro_least.specs.Asked.{asked_at, live_numbers, open_children, steps_at, AreAsked};
-ghost use Rattle.avro_least.specs.SeenAsk.{ask_of, asks_of};
+ghost use Rattle.avro_least.specs.Asked.{asked_at, live_numbers, open_children, steps_at};
+ghost use Rattle.avro_least.specs.KeptAsks.{AreAsked, IsKept};
 
 use crate::kept::Least;
 use crate::nodes::least::{count, entry};
-use crate::pairs::asking::{Ask, ask_of_pair};
+use crate::pairs::asking::ask_of_pair;
+use crate::pairs::keeping::{KeptAsk, keep_ask};
 use avro_compare::{Comparison, Lead, Names, compare, has_fault, leads};
 use avro_schema::{Memory, NodeId, Schema};
 use indexmap::IndexSet;
@@ -29,7 +30,7 @@ pub struct Reached {
     /// The comparison of the pair at each index.
     pub found: Vec<Comparison>,
     /// What the pair at each index asks for.
-    pub asks: Vec<Ask>,
+    pub asks: Vec<KeptAsk>,
 }
 
 /// Adds numbers, each once.
@@ -133,10 +134,10 @@ fn visit(
     table: &[Option<Least>],
     key: u64,
     found: &mut Vec<Comparison>,
-) -> Result<(Ask, Vec<u64>), Memory>
+) -> Result<(KeptAsk, Vec<u64>), Memory>
     requires of_these { names.now ≡ (writer.now, reader.now) }
     requires within { key < length (schema_nodes writer.now) * length (schema_nodes reader.now) }
-    ensures asked { IfOk result (λ a. ask_of a.0 ≡ asked_at (schema_nodes writer.now) (schema_nodes reader.now) key) }
+    ensures asked { IfOk result (λ a. IsKept a.0 (asked_at (schema_nodes writer.now) (schema_nodes reader.now) key)) }
     ensures steps { IfOk result (λ a. a.1.items ≡ steps_at (schema_nodes writer.now) (schema_nodes reader.now) (table_of table.now) key) }
     ensures found { OnOk result (AreComparisons (schema_nodes writer.now) (schema_nodes reader.now) found.old.items
         → AreComparisons (schema_nodes writer.now) (schema_nodes reader.now) found.new.items) }
@@ -144,14 +145,14 @@ fn visit(
     let w = writers(writer, reader, key);
     let r = readers(reader, key);
     let pair = compare(alloc, names, w, r)?;
-    let ask = ask_of_pair(alloc, writer, reader, &pair)?;
+    let ask = keep_ask(alloc, ask_of_pair(alloc, writer, reader, &pair)?)?;
     let more = steps(alloc, names, table, count(reader), &pair)?;
     found.push(pair)?;
     Ok((ask, more))
 }
 
 /// What the pair at an index asks for.
-pub(crate) fn ask_at_index(reached: &Reached, i: usize) -> &Ask
+pub(crate) fn ask_at_index(reached: &Reached, i: usize) -> &KeptAsk
     requires { i < length reached.now.asks.items }
     ensures { slice_get reached.now.asks.items i ≡ Some result.now }
 {
@@ -178,7 +179,7 @@ pub fn reach(
     ensures stepped { IfOk result (λ p. (k : ℕ) → is_key (keys p.known) k ≡ true
         → IsSteppedTo (steps_at (schema_nodes writer.now) (schema_nodes reader.now) (table_of table.now)) k) }
     ensures one_each { IfOk result (λ p. length p.asks.items ≡ length (keys p.known)) }
-    ensures asked { IfOk result (λ p. AreAsked (schema_nodes writer.now) (schema_nodes reader.now) (keys p.known) (asks_of p.asks.items)) }
+    ensures asked { IfOk result (λ p. AreAsked (schema_nodes writer.now) (schema_nodes reader.now) (keys p.known) p.asks.items) }
     ensures found { IfOk result (λ p. AreComparisons (schema_nodes writer.now) (schema_nodes reader.now) p.found.items) }
 {
     // The contract of these calls bounds the number of nodes, which the proof needs.

@@ -4,9 +4,9 @@ ghost use Rattle.std.specs.Prelude.{◌≡◌, ◌<◌, ◌≤◌, ◌*◌, ◌/
 ghost use Rattle.std.specs.List.{list_all};
 ghost use Rattle.indexmap.specs.IndexSet.{keys};
 ghost use Rattle.avro_schema.specs.SeenSchema.{schema_nodes};
-ghost use Rattle.avro_least.specs.Asked.{asked_at, steps_at, AreAsked, ArePairsShown};
+ghost use Rattle.avro_least.specs.Asked.{asked_at, steps_at, ArePairsShown};
 ghost use Rattle.avro_least.specs.Reached.{AreFollowed};
-ghost use Rattle.avro_least.specs.SeenAsk.{asks_of};
+ghost use Rattle.avro_least.specs.KeptAsks.{AreAsked};
 ghost use Rattle.avro_least.specs.SeenLeast.{seen, seen_all, table_of};
 ghost use Rattle.avro_least.specs.Tables.{erring_of, AreDataShown, AreLow, IsLowForData};
 ghost use Rattle.avro_least.specs.inside.Parts.{value_alone, value_by_part};
@@ -150,7 +150,7 @@ pub fn least_errors(
     requires below { list_all (λ k. nat_lt k (length (schema_nodes writer.now) * length (schema_nodes reader.now))) (keys reached.now.known) ≡ true }
     requires closed { AreFollowed (steps_at (schema_nodes writer.now) (schema_nodes reader.now) (table_of table.now)) (keys reached.now.known) (length (keys reached.now.known)) }
     requires asks { length reached.now.asks.items ≡ length (keys reached.now.known) }
-    requires asked { AreAsked (schema_nodes writer.now) (schema_nodes reader.now) (keys reached.now.known) (asks_of reached.now.asks.items) }
+    requires asked { AreAsked (schema_nodes writer.now) (schema_nodes reader.now) (keys reached.now.known) reached.now.asks.items }
     ensures shown { IfOk result (λ t. ArePairsShown (schema_nodes writer.now) (schema_nodes reader.now) limit (table_of table.now) (keys reached.now.known) (seen_all t.items)) }
     ensures low { IfOk result (λ t. AreLow (schema_nodes writer.now) (schema_nodes reader.now) limit (table_of table.now)
         (erring_of (length (schema_nodes reader.now)) (table_of table.now) (keys reached.now.known) (seen_all t.items))) }

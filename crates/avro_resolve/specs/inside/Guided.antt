@@ -1,12 +1,14 @@
 -- What reading with resolution makes of a writer's datum, part by part.
-use Rattle.std.specs.Prelude.{◌≡◌, ◌<◌, ◌^◌, ℕ, ◌++◌, List, [], Option, Some, None, length, slice_get, Result, Ok, Err}
+use Rattle.std.specs.Prelude.{◌≡◌, ◌<◌, ◌^◌, ℕ, ◌+◌, ◌++◌, List, [], IfSome, Option, Some, None, length, slice_get, Result, Ok, Err}
 use Rattle.avro_schema.specs.Value.{Value, size, values_size, entries_size}
 use Rattle.avro_schema.specs.Node.{Node, FieldNode, node_at}
 use Rattle.avro_schema.specs.Seen.{values_from, entries_from}
 use Rattle.avro_schema.specs.declared.schema.NodeId.{NodeId}
 use Rattle.avro_compare.specs.Fault.{ResolutionFault}
 use Rattle.avro_resolve.specs.Ends.{turned, SlotsAre, AllBelow, values_before, entries_before, before}
-use Rattle.avro_compare.specs.Planned.{AreFor}
+use denote.Ref.{Bor}
+use Rattle.avro_compare.specs.Entries.{first_entry}
+use Rattle.avro_compare.specs.Planned.{AreFor, AreForFrom, part_or_none}
 use Rattle.avro_compare.specs.Pairs.{IsAim, wrapped, item_id, value_id, branch_id, field_for}
 use Rattle.avro_compare.specs.Resolve.{Resolved, Sourced, resolve, resolve_items, resolve_entries, resolve_sources, fields_at, result_map, through}
 use Rattle.avro_compare.specs.Source.{missing_field}
@@ -157,14 +159,28 @@ branch_part writer part k = record { at = branch_for writer part.at k; index = p
 abbrev pub part_below : At → ℕ → Part
 part_below at index = record { at = at; index = index; branch = None }
 
--- what is kept of the first fields is what these are for
-abbrev pub KnowsFields : {O F : Type 0} → List Node → List Node → Slots O F → List At → Type 0
-KnowsFields writer reader (Slots.Good slots start branch a b) known = AreFor (fields_at (node_at writer a.0)) (fields_at (node_at reader b.0)) known
+-- what is kept of the fields from the next on, if anything, is what these are for
+abbrev pub KnowsFields : {O F : Type 0} → List Node → List Node → Slots O F → Option (Bor (List (ℕ × At))) → Type 0
+KnowsFields writer reader (Slots.Good slots start branch a b) known =
+    IfSome known (λ parts. AreForFrom (length slots.items) (fields_at (node_at writer a.0)) (fields_at (node_at reader b.0)) parts.now)
 KnowsFields writer reader (Slots.Faulty fault) known = Unit {0}
 KnowsFields writer reader Slots.Nothing known = Unit {0}
 
--- Two nodes lead to each other, no field is missing, and of the writer's first fields it is known what they are for.
-pub record IsWhole (writer reader : List Node) (w r : NodeId) (known : List At) : Type 0 where
+-- the same of those after it
+abbrev pub KnowsNext : {O F : Type 0} → List Node → List Node → Slots O F → Option (Bor (List (ℕ × At))) → Type 0
+KnowsNext writer reader (Slots.Good slots start branch a b) known =
+    IfSome known (λ parts. AreForFrom (length slots.items + 1) (fields_at (node_at writer a.0)) (fields_at (node_at reader b.0)) parts.now)
+KnowsNext writer reader (Slots.Faulty fault) known = Unit {0}
+KnowsNext writer reader Slots.Nothing known = Unit {0}
+
+-- the index of the next field
+abbrev pub next_index : {O F : Type 0} → Slots O F → ℕ
+next_index (Slots.Good slots start branch a b) = length slots.items
+next_index (Slots.Faulty fault) = 0
+next_index Slots.Nothing = 0
+
+-- Two nodes lead to each other, no field is missing, and of the writer's fields it is known what they are for.
+pub record IsWhole (writer reader : List Node) (w r : NodeId) (known : List (ℕ × At)) : Type 0 where
   pub leads : IsAim writer reader (node_at writer w.0) (node_at reader r.0) (To None r)
   pub complete : missing_field (fields_at (node_at writer w.0)) (fields_at (node_at reader r.0)) ≡ None
   pub fields : AreFor (fields_at (node_at writer w.0)) (fields_at (node_at reader r.0)) known
@@ -174,20 +190,25 @@ abbrev pub kept_or : {A : Type 0} → Option A → A → A
 kept_or (Some kept) other = kept
 kept_or None other = other
 
--- what the next field is for, by what is known of the first fields
-abbrev pub part_next : {O F : Type 0} → List Node → List Node → List At → List ℕ → Slots O F → Part
+-- what a field is for, by what is known from there on, and else what follows
+abbrev pub known_part : Option (Bor (List (ℕ × At))) → ℕ → At → At
+known_part (Some parts) field other = part_or_none (first_entry parts.now field)
+known_part None field other = other
+
+-- what the next field is for, by what is known from there on
+abbrev pub part_next : {O F : Type 0} → List Node → List Node → Option (Bor (List (ℕ × At))) → List ℕ → Slots O F → Part
 part_next writer reader known parts (Slots.Good slots start branch a b) =
-    part_below (kept_or (slice_get known (length slots.items)) (next_field writer reader (Slots.Good slots start branch a b))) (kept_or (slice_get parts (length slots.items)) 0)
+    part_below (known_part known (length slots.items) (next_field writer reader (Slots.Good slots start branch a b))) (kept_or (slice_get parts 0) 0)
 part_next writer reader known parts (Slots.Faulty fault) = part_below Ignored 0
 part_next writer reader known parts Slots.Nothing = part_below Ignored 0
 
 abbrev pub field_part : {O F : Type 0} → List Node → List Node → Filling O F → Part
-field_part writer reader fields = part_next writer reader fields.known.now fields.parts.now fields.slots
+field_part writer reader fields = part_next writer reader fields.known fields.parts.now fields.slots
 
 -- fields that were made so far, with what is known of the next
 abbrev pub FillsAs : {O F : Type 0} → (O → Value → Type 0) → (Option ℕ → F → List Value → Type 0) → List Node → List Node → List Node → List FieldNode → At → Filling O F → List Value → Type 0
 FillsAs S T writer reader nodes fs at fields vs =
-    FieldsStandAs S T writer reader nodes fs at fields.slots vs × KnowsFields writer reader fields.slots fields.known.now
+    FieldsStandAs S T writer reader nodes fs at fields.slots vs × KnowsFields writer reader fields.slots fields.known
 
 -- what was made is kept, and the two schemas are the same
 abbrev pub AreKept : Type 0 → List Node → List Node → List Node → List Node → Type 0

@@ -1,13 +1,16 @@
-ghost use Rattle.std.specs.Prelude.{◌≡◌, List, IfSome, slice_get};
+ghost use Rattle.std.specs.Prelude.{◌≡◌, List, IfSome};
 ghost use Rattle.avro_schema.specs.Node.{Node, node_at};
 ghost use Rattle.avro_schema.specs.SeenSchema.{schema_nodes};
+ghost use Rattle.avro_compare.specs.Entries.{first_entry};
 ghost use Rattle.avro_compare.specs.Pairs.{IsAim, IsSymbol, field_for};
-ghost use Rattle.avro_compare.specs.Planned.{AreInside, AreComparisons, AreFor, AreSources, IsComparison};
+ghost use Rattle.avro_compare.specs.Planned.{AreInside, AreComparisons, AreFor, AreSources, IsComparison, part_or_none};
 ghost use Rattle.avro_compare.specs.Resolve.{enum_as, fields_at, symbol_at};
 ghost use Rattle.avro_compare.specs.Source.{missing_field};
-ghost use Rattle.avro_resolve.specs.inside.Guided.{IsWhole, kept_or};
+ghost use Rattle.avro_resolve.specs.inside.Guided.{IsWhole, known_part};
 
-use avro_compare::{Aim, At, Comparison, aim, fields_of, missing, part_for, symbol_for};
+use avro_compare::{
+    Aim, At, Comparison, aim, fields_of, first_entry, missing, part_for, symbol_for,
+};
 use avro_schema::{NodeId, Schema};
 
 /// What is kept at an index, if it is of these two nodes.
@@ -82,9 +85,14 @@ pub(crate) fn missing_kept(
     }
 }
 
-/// What the writer's first fields are for, as it is kept at an index, where the two nodes lead to each other and no field is missing.
+/// What the writer's fields are for, as it is kept at an index, where the two nodes lead to each other and no field is missing.
 #[inline(always)]
-pub(crate) fn whole_kept(pairs: &[Comparison], index: u32, w: NodeId, r: NodeId) -> Option<&[At]>
+pub(crate) fn whole_kept(
+    pairs: &[Comparison],
+    index: u32,
+    w: NodeId,
+    r: NodeId,
+) -> Option<&[(usize, At)]>
     ensures { (writer reader : List Node) → AreComparisons writer reader pairs.now
         → IfSome result (λ known. IsWhole writer reader w r known.now) }
 {
@@ -101,7 +109,7 @@ pub(crate) fn whole_kept(pairs: &[Comparison], index: u32, w: NodeId, r: NodeId)
     }
 }
 
-/// What the writer's first fields are for, as many as are kept at an index.
+/// What the writer's fields are for, if it is kept at an index.
 #[inline(always)]
 pub(crate) fn fields_kept<'p>(
     pairs: &'p [Comparison],
@@ -110,35 +118,46 @@ pub(crate) fn fields_kept<'p>(
     w: NodeId,
     reader: &Schema,
     q: NodeId,
-) -> &'p [At]
+) -> Option<&'p [(usize, At)]>
     requires { AreComparisons (schema_nodes writer.now) (schema_nodes reader.now) pairs.now }
-    ensures { AreFor (fields_at (node_at (schema_nodes writer.now) w.0)) (fields_at (node_at (schema_nodes reader.now) q.0)) result.now }
+    ensures { IfSome result (λ known. AreFor (fields_at (node_at (schema_nodes writer.now) w.0)) (fields_at (node_at (schema_nodes reader.now) q.0)) known.now) }
 {
     match inside_of(pairs, index, w, q) {
-        Some(pair) => &pair.fields,
-        None => &[],
+        Some(pair) => Some(&pair.fields),
+        None => None,
     }
 }
 
-/// What a writer's field, by its index in its record, is for, by what is known of the first fields or else by name.
+/// What a writer's field, by its index in its record, is for, by what is known from there on.
+#[inline(always)]
+pub(crate) fn part_known(known: &[(usize, At)], field: usize) -> At
+    ensures { result ≡ part_or_none (first_entry known.now field) }
+{
+    match first_entry(known, field) {
+        Some(at) => at,
+        None => At::Ignored,
+    }
+}
+
+/// What a writer's field, by its index in its record, is for, by what is known from there on or else by name.
 #[inline(always)]
 pub(crate) fn field_kept(
-    known: &[At],
+    known: Option<&[(usize, At)]>,
     writer: &Schema,
     w: NodeId,
     reader: &Schema,
     q: NodeId,
     field: usize,
 ) -> At
-    ensures { result ≡ kept_or (slice_get known.now field) (field_for (fields_at (node_at (schema_nodes writer.now) w.0)) (fields_at (node_at (schema_nodes reader.now) q.0)) field) }
+    ensures { result ≡ known_part known.entry field (field_for (fields_at (node_at (schema_nodes writer.now) w.0)) (fields_at (node_at (schema_nodes reader.now) q.0)) field) }
 {
-    if field < known.len() {
-        return known[field];
+    match known {
+        Some(known) => part_known(known, field),
+        None => part_for(fields_of(writer, w), fields_of(reader, q), field),
     }
-    part_for(fields_of(writer, w), fields_of(reader, q), field)
 }
 
-/// The sources of the reader's fields, as far as they are kept at an index.
+/// The sources of the reader's fields, if they are kept at an index.
 #[inline(always)]
 pub(crate) fn sources_kept<'p>(
     pairs: &'p [Comparison],
@@ -147,13 +166,13 @@ pub(crate) fn sources_kept<'p>(
     w: NodeId,
     reader: &Schema,
     q: NodeId,
-) -> &'p [Option<usize>]
+) -> Option<&'p [(usize, usize)]>
     requires { AreComparisons (schema_nodes writer.now) (schema_nodes reader.now) pairs.now }
-    ensures { AreSources (fields_at (node_at (schema_nodes writer.now) w.0)) (fields_at (node_at (schema_nodes reader.now) q.0)) result.now }
+    ensures { IfSome result (λ sources. AreSources (fields_at (node_at (schema_nodes writer.now) w.0)) (fields_at (node_at (schema_nodes reader.now) q.0)) sources.now) }
 {
     match inside_of(pairs, index, w, q) {
-        Some(pair) => &pair.sources,
-        None => &[],
+        Some(pair) => Some(&pair.sources),
+        None => None,
     }
 }
 

@@ -90,7 +90,7 @@ fn part_inside(node: &Node, reader: &Schema, pair: &Comparison, part: usize) -> 
         Node::Array(items) => At::Pair(*items, items_of(reader, pair.r)),
         Node::Map(values) => At::Pair(*values, values_of(reader, pair.r)),
         Node::Record(_) => match pair.fields.get(part) {
-            Some(field) => *field,
+            Some(field) => field.1,
             None => At::Ignored,
         },
         _ => At::Ignored,

@@ -46,10 +46,10 @@ impl<'a> Model for PlanRef<'a> {
 }
 
 impl<'a> PlanRef<'a> {
-    ghost use Rattle.std.specs.Prelude.{◌≡◌, IfOk, IfSome, slice_get};
+    ghost use Rattle.std.specs.Prelude.{◌≡◌, IfOk, IfSome};
     ghost use Rattle.avro_schema.specs.Node.{node_at};
     ghost use Rattle.avro_schema.specs.SeenSchema.{schema_nodes};
-    ghost use Rattle.avro_resolve.specs.inside.Guided.{IsWhole, branch_part, kept_or};
+    ghost use Rattle.avro_resolve.specs.inside.Guided.{IsWhole, branch_part, known_part};
     ghost use Rattle.avro_compare.specs.Pairs.{IsAim, IsSymbol, field_for, item_id, value_id, branch_id};
     ghost use Rattle.avro_compare.specs.Planned.{AreComparisons, AreFor, AreSources};
     ghost use Rattle.avro_resolve.specs.Copied.{AreFlags, IsStraight};
@@ -226,34 +226,40 @@ impl<'a> PlanRef<'a> {
         missing_kept(self.pairs, index, self.writer, w, self.reader, q)
     }
 
-    /// What the writer's first fields are for, where two nodes lead to each other, no field is missing, and this is kept.
+    /// What the writer's fields are for, where two nodes lead to each other, no field is missing, and this is kept.
     #[inline(always)]
-    pub(crate) fn whole(&self, index: u32, w: NodeId, r: NodeId) -> Option<&'a [At]>
+    pub(crate) fn whole(&self, index: u32, w: NodeId, r: NodeId) -> Option<&'a [(usize, At)]>
         ensures { IfSome result (λ known. IsWhole (schema_nodes self.now.0) (schema_nodes self.now.1) w r known.now) }
     {
         whole_kept(self.pairs, index, w, r)
     }
 
-    /// What the writer's first fields are for, as many as are kept.
+    /// What the writer's fields are for, if it is kept.
     #[inline(always)]
-    pub(crate) fn fields(&self, index: u32, w: NodeId, q: NodeId) -> &'a [At]
-        ensures { AreFor (fields_at (node_at (schema_nodes self.now.0) w.0)) (fields_at (node_at (schema_nodes self.now.1) q.0)) result.now }
+    pub(crate) fn fields(&self, index: u32, w: NodeId, q: NodeId) -> Option<&'a [(usize, At)]>
+        ensures { IfSome result (λ known. AreFor (fields_at (node_at (schema_nodes self.now.0) w.0)) (fields_at (node_at (schema_nodes self.now.1) q.0)) known.now) }
     {
         fields_kept(self.pairs, index, self.writer, w, self.reader, q)
     }
 
-    /// What the writer's field at an index is for, by what is known of the first fields.
+    /// What the writer's field at an index is for, by what is known from there on.
     #[inline(always)]
-    pub(crate) fn field(&self, known: &[At], w: NodeId, q: NodeId, field: usize) -> At
-        ensures { result ≡ kept_or (slice_get known.now field) (field_for (fields_at (node_at (schema_nodes self.now.0) w.0)) (fields_at (node_at (schema_nodes self.now.1) q.0)) field) }
+    pub(crate) fn field(
+        &self,
+        known: Option<&[(usize, At)]>,
+        w: NodeId,
+        q: NodeId,
+        field: usize,
+    ) -> At
+        ensures { result ≡ known_part known.entry field (field_for (fields_at (node_at (schema_nodes self.now.0) w.0)) (fields_at (node_at (schema_nodes self.now.1) q.0)) field) }
     {
         field_kept(known, self.writer, w, self.reader, q, field)
     }
 
-    /// The sources of the reader's fields, as far as they are kept.
+    /// The sources of the reader's fields, if they are kept.
     #[inline(always)]
-    pub(crate) fn sources(&self, index: u32, w: NodeId, q: NodeId) -> &[Option<usize>]
-        ensures { AreSources (fields_at (node_at (schema_nodes self.now.0) w.0)) (fields_at (node_at (schema_nodes self.now.1) q.0)) result.now }
+    pub(crate) fn sources(&self, index: u32, w: NodeId, q: NodeId) -> Option<&[(usize, usize)]>
+        ensures { IfSome result (λ sources. AreSources (fields_at (node_at (schema_nodes self.now.0) w.0)) (fields_at (node_at (schema_nodes self.now.1) q.0)) sources.now) }
     {
         sources_kept(self.pairs, index, self.writer, w, self.reader, q)
     }

@@ -1,18 +1,18 @@
-ghost use Rattle.std.specs.Prelude.{◌≡◌, ◌++◌, ◌∷◌, [], ℕ, true, IfOk, List, OnOk, Option, Some, map, slice_get, bytes_eq};
+ghost use Rattle.std.specs.Prelude.{◌≡◌, ◌+◌, ◌++◌, ◌∷◌, [], ℕ, true, IfOk, IfSome, List, OnOk, Option, Some, map, slice_get, bytes_eq};
 ghost use Rattle.std.specs.List.{AllZip, flat_map};
 ghost use Rattle.avro_schema.specs.Node.{FieldNode};
 ghost use Rattle.avro_schema.specs.Distinct.{are_distinct};
 ghost use Rattle.avro_schema.specs.WellFormed.{field_names};
 ghost use Rattle.avro_schema.specs.Seen.{values_of, field_of, seen_fields};
 ghost use Rattle.avro_compare.specs.Resolve.{Sourced, field_value, field_values};
-ghost use Rattle.avro_compare.specs.Planned.{AreSources};
+ghost use Rattle.avro_compare.specs.Planned.{AreSources, AreSourcesFrom};
 ghost use Rattle.avro_compare.specs.Source.{source_of};
 ghost use Rattle.avro_resolve.specs.Ends.{SlotsAre, SlotsFor, IsSeen, slot_out};
 
 use crate::put::Put;
 use crate::wrapping::Wrapping;
 use avro_binary::Tree;
-use avro_compare::source_kept;
+use avro_compare::{first_entry, rest_entries, source_among};
 use avro_schema::{Datum, Field};
 use std::alloc::{AllocError, Global};
 
@@ -22,7 +22,7 @@ pub(crate) fn fill_data(
     alloc: Global,
     writes: &[Field],
     reads: &[Field],
-    sources: &[Option<usize>],
+    sources: &[(usize, usize)],
     slots: Vec<Option<Datum>>,
 ) -> Result<Vec<Datum>, AllocError>
     requires distinct { are_distinct bytes_eq (flat_map field_names (seen_fields reads.now)) ≡ true }
@@ -33,7 +33,15 @@ pub(crate) fn fill_data(
     let mut tree = Tree;
     let mut builder = Wrapping::new(&mut tree);
     let start = (Vec::new(alloc), None);
-    let filled = fill(alloc, &mut builder, writes, reads, sources, slots, start)?;
+    let filled = fill(
+        alloc,
+        &mut builder,
+        writes,
+        reads,
+        Some(sources),
+        slots,
+        start,
+    )?;
     Ok(filled.1.0)
 }
 
@@ -45,25 +53,55 @@ pub(crate) fn fill<P: Put>(
     builder: &mut P,
     writes: &[Field],
     reads: &[Field],
-    sources: &[Option<usize>],
+    sources: Option<&[(usize, usize)]>,
     slots: Vec<Option<P::Out>>,
     start: P::Fields,
 ) -> Result<(Vec<Option<P::Out>>, P::Fields), AllocError>
     requires distinct { are_distinct bytes_eq (flat_map field_names (seen_fields reads.now)) ≡ true }
-    requires sources { AreSources (seen_fields writes.now) (seen_fields reads.now) sources.now }
+    requires sources { IfSome sources (λ ss. AreSources (seen_fields writes.now) (seen_fields reads.now) ss.now) }
     ensures kept { OnOk result (P.keeps builder.old builder.new) }
     ensures stands { (found : Sourced) (into : Option ℕ) → SlotsAre (P.stands_for builder.old) found slots.items → P.fields_stand_for builder.old into start []
         → IfOk result (λ filled. P.fields_stand_for builder.new into filled.1 (map (field_value (seen_fields writes.now) found) (seen_fields reads.now))) }
 {
     let mut slots = slots;
     let mut fields = start;
+    let mut left = sources;
     for index in 0..reads.len() {
         let f = &reads[index];
-        let source = source_kept(writes, sources, index, f);
+        let source = source_left(writes, left, index, f);
+        left = sources_after(left, index);
         let value = value_of_field(alloc, builder, source, f, &mut slots)?;
         builder.field(alloc, &mut fields, value)?;
     }
     Ok((slots, fields))
+}
+
+/// The source of the reader's field at an index, by what is kept from there on or else by name.
+#[inline(always)]
+fn source_left(
+    writes: &[Field],
+    left: Option<&[(usize, usize)]>,
+    index: usize,
+    f: &Field,
+) -> Option<usize>
+    ensures { (rs : List FieldNode) → IfSome left.entry (λ ss. AreSourcesFrom index (seen_fields writes.now) rs ss.now) → slice_get rs index ≡ Some (field_of f.now)
+        → result ≡ source_of (seen_fields writes.now) (field_of f.now) }
+{
+    match left {
+        Some(left) => first_entry(left, index),
+        None => source_among(writes, f),
+    }
+}
+
+/// What is kept of the sources of the fields after the one at an index, by what is kept from there on.
+#[inline(always)]
+fn sources_after(left: Option<&[(usize, usize)]>, index: usize) -> Option<&[(usize, usize)]>
+    ensures { (ws rs : List FieldNode) → IfSome left.entry (λ ss. AreSourcesFrom index ws rs ss.now) → IfSome result (λ ss. AreSourcesFrom (index + 1) ws rs ss.now) }
+{
+    match left {
+        Some(left) => Some(rest_entries(left, index)),
+        None => None,
+    }
 }
 
 /// What is made of the value of a reader's field, by its source.

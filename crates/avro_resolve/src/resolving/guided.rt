@@ -54,8 +54,8 @@ pub struct Filling<'a, O, F> {
     pub slots: Slots<O, F>,
     /// Where a plan may keep the pair of the record.
     pub index: u32,
-    /// What the writer's first fields are for, as many as the plan keeps.
-    pub known: &'a [At],
+    /// What the writer's other fields are for, if the plan keeps it.
+    pub known: Option<&'a [(usize, At)]>,
     /// Where the plan may keep the pairs of these fields.
     pub parts: &'a [u32],
 }

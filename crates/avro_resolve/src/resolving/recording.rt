@@ -1,17 +1,19 @@
-ghost use Rattle.std.specs.Prelude.{◌≡◌, ◌++◌, ◌∷◌, [], ℕ, IfOk, List, OnOk, Some, length, slice_get, true};
+ghost use denote.Ref.{Bor};
+ghost use Rattle.std.specs.Prelude.{◌≡◌, ◌+◌, ◌++◌, ◌∷◌, [], ℕ, IfOk, IfSome, List, OnOk, Option, Some, length, slice_get, true};
 ghost use Rattle.avro_name.specs.Name.{Name};
 ghost use Rattle.avro_schema.specs.Node.{FieldNode, Node, field_ids, node_at};
 ghost use Rattle.avro_schema.specs.Seen.{values_from};
 ghost use Rattle.avro_schema.specs.SeenSchema.{schema_nodes};
 ghost use Rattle.avro_schema.specs.Value.{Value};
-ghost use Rattle.avro_resolve.specs.inside.Guided.{FieldsStandAs, FillsAs, KnowsFields, StandsAs, field_part, next_field, part_below, part_next};
+ghost use Rattle.avro_compare.specs.Planned.{AreForFrom};
+ghost use Rattle.avro_resolve.specs.inside.Guided.{FieldsStandAs, FillsAs, KnowsFields, KnowsNext, StandsAs, field_part, next_field, next_index, part_below, part_next};
 
 use crate::plan::plan_ref::{PlanRef, index_at};
 use crate::put::Put;
 use crate::resolving::failing::{fault_apart, step_apart};
 use crate::resolving::filling::fill;
 use crate::resolving::guided::{Filling, Made, Part, Slots};
-use avro_compare::{Aim, At, FaultKind, fields_of};
+use avro_compare::{Aim, At, FaultKind, fields_of, first_entry, rest_entries};
 use std::alloc::{AllocError, Global};
 
 /// What was made of no fields, and what is known of the first.
@@ -37,7 +39,7 @@ pub(crate) fn start_filling<'a, P: Put>(
                     Ok(Filling {
                         slots: Slots::Good(slots, fields, None, w, r),
                         index,
-                        known,
+                        known: Some(known),
                         parts,
                     })
                 }
@@ -82,6 +84,7 @@ fn start_fields<P: Put>(
 ) -> Result<Slots<P::Out, P::Fields>, AllocError>
     ensures kept { OnOk result (P.keeps builder.old builder.new) }
     ensures stands { (nodes : List Node) (fs : List FieldNode) → IfOk result (λ slots. FieldsStandAs (P.stands_for builder.new) (P.fields_stand_for builder.new) (schema_nodes plan.now.0) (schema_nodes plan.now.1) nodes fs at slots []) }
+    ensures none { IfOk result (λ slots. next_index slots ≡ 0) }
 {
     match at {
         At::Ignored => Ok(Slots::Nothing),
@@ -111,34 +114,38 @@ fn index_of_records<O, F>(plan: &PlanRef<'_>, index: u32, slots: &Slots<O, F>) -
     }
 }
 
-/// What the writer's first fields are for, as many as are kept at an index.
+/// What the writer's fields are for, if it is kept at an index.
 #[inline(always)]
-fn known_fields<'a, O, F>(plan: &PlanRef<'a>, index: u32, fields: &Slots<O, F>) -> &'a [At]
-    ensures { KnowsFields (schema_nodes plan.now.0) (schema_nodes plan.now.1) fields.now result.now }
+fn known_fields<'a, O, F>(
+    plan: &PlanRef<'a>,
+    index: u32,
+    fields: &Slots<O, F>,
+) -> Option<&'a [(usize, At)]>
+    ensures { next_index fields.now ≡ 0 → KnowsFields (schema_nodes plan.now.0) (schema_nodes plan.now.1) fields.now result }
 {
     match fields {
         Slots::Good(_, _, _, w, q) => plan.fields(index, *w, *q),
-        Slots::Faulty(_) => &[],
-        Slots::Nothing => &[],
+        Slots::Faulty(_) => None,
+        Slots::Nothing => None,
     }
 }
 
-/// What the next field is for, by what is known of the first fields.
+/// What the next field is for, by what is known from there on.
 #[inline(always)]
 pub(crate) fn next_field_part<O, F>(
     plan: &PlanRef<'_>,
-    known: &[At],
+    known: Option<&[(usize, At)]>,
     parts: &[u32],
     fields: &Slots<O, F>,
 ) -> Part
-    ensures { result ≡ part_next (schema_nodes plan.now.0) (schema_nodes plan.now.1) known.now parts.now fields.now }
+    ensures { result ≡ part_next (schema_nodes plan.now.0) (schema_nodes plan.now.1) known.entry parts.now fields.now }
 {
     match fields {
         Slots::Good(slots, _, _, w, q) => {
             let field = slots.len();
             Part {
                 at: plan.field(known, *w, *q, field),
-                index: index_at(parts, field),
+                index: index_at(parts, 0),
                 branch: None,
             }
         }
@@ -158,6 +165,44 @@ fn ignored() -> Part
     }
 }
 
+/// The index of the next field.
+#[inline(always)]
+fn next_index<O, F>(fields: &Slots<O, F>) -> usize
+    ensures { result ≡ next_index fields.now }
+{
+    match fields {
+        Slots::Good(slots, _, _, _, _) => slots.len(),
+        Slots::Faulty(_) => 0,
+        Slots::Nothing => 0,
+    }
+}
+
+/// What is known of the fields after the one at an index, by what is known from there on.
+#[inline(always)]
+fn known_after(known: Option<&[(usize, At)]>, field: usize) -> Option<&[(usize, At)]>
+    ensures { (ws rs : List FieldNode) → IfSome known.entry (λ ps. AreForFrom field ws rs ps.now) → IfSome result (λ ps. AreForFrom (field + 1) ws rs ps.now) }
+{
+    match known {
+        Some(known) => Some(rest_entries(known, field)),
+        None => None,
+    }
+}
+
+/// Where the plan may keep the pairs of the fields after the one at an index.
+#[inline(always)]
+fn parts_after<'a>(known: Option<&[(usize, At)]>, parts: &'a [u32], field: usize) -> &'a [u32] {
+    match known {
+        Some(known) => {
+            if first_entry(known, field).is_some() && parts.len() > 0 {
+                &parts[1..]
+            } else {
+                parts
+            }
+        }
+        None => parts,
+    }
+}
+
 /// Adds what was made of a field after those before.
 #[inline(always)]
 pub(crate) fn fill_next<P: Put>(
@@ -170,6 +215,9 @@ pub(crate) fn fill_next<P: Put>(
         → slice_get (field_ids fs) (length vs) ≡ Some id → StandsAs (P.stands_for builder.now) (schema_nodes _plan.now.0) (schema_nodes _plan.now.1) nodes (node_at nodes id) (field_part (schema_nodes _plan.now.0) (schema_nodes _plan.now.1) fields.old).at made v
         → OnOk result (FillsAs (P.stands_for builder.now) (P.fields_stand_for builder.now) (schema_nodes _plan.now.0) (schema_nodes _plan.now.1) nodes fs at fields.new (vs ++ v ∷ [])) }
 {
+    let field = next_index(&fields.slots);
+    fields.parts = parts_after(fields.known, fields.parts, field);
+    fields.known = known_after(fields.known, field);
     put_field(builder, &mut fields.slots, made)
 }
 
@@ -180,7 +228,7 @@ fn put_field<P: Put>(
     fields: &mut Slots<P::Out, P::Fields>,
     made: Made<P::Out>,
 ) -> Result<(), AllocError>
-    ensures known { (writer reader : List Node) (known : List At) → KnowsFields writer reader fields.old known → OnOk result (KnowsFields writer reader fields.new known) }
+    ensures known { (writer reader : List Node) (known : Option (Bor (List (ℕ × At)))) → KnowsNext writer reader fields.old known → OnOk result (KnowsFields writer reader fields.new known) }
     ensures stands { (writer reader nodes : List Node) (fs : List FieldNode) (id : ℕ) (at : At) (vs : List Value) (v : Value) → FieldsStandAs (P.stands_for _builder.now) (P.fields_stand_for _builder.now) writer reader nodes fs at fields.old vs
         → slice_get (field_ids fs) (length vs) ≡ Some id → StandsAs (P.stands_for _builder.now) writer reader nodes (node_at nodes id) (next_field writer reader fields.old) made v
         → OnOk result (FieldsStandAs (P.stands_for _builder.now) (P.fields_stand_for _builder.now) writer reader nodes fs at fields.new (vs ++ v ∷ [])) }

@@ -1,8 +1,14 @@
-use Rattle.std.proofs.Common.{◌≡◌, ◌∙◌, List, Some, subst, sym, arith}
+use Rattle.std.proofs.Common.{◌≡◌, ◌∙◌, ◌++◌, ◌+◌, ℕ, List, Some, drop, subst, sym, arith}
+use Rattle.std.proofs.lemmas.Grind.{common_steps}
 use Rattle.std.specs.Prelude.{slice_get}
-use Rattle.avro_schema.specs.Node.{FieldNode}
+use Rattle.avro_schema.specs.Node.{FieldNode, node_at}
 use Rattle.avro_schema.specs.Seen.{field_of, seen_fields}
+use Rattle.avro_schema.specs.SeenSchema.{schema_nodes}
+use Rattle.avro_compare.specs.Leads.{field_leads}
+use Rattle.avro_compare.specs.Planned.{AreSourcesFrom}
+use Rattle.avro_compare.specs.Resolve.{fields_at}
 use Rattle.avro_compare.proofs.NoFields.{none_led, none_seen}
+use Rattle.avro_compare.proofs.public.Entries.{rest_sources}
 use Rattle.avro_compare.proofs.public.Lists.{seen_at}
 use Rattle.avro_compare.proofs.children.field_leads.Goals as goal
 
@@ -11,6 +17,21 @@ source_by-source-requires-clause-there c =
     let field = c.index-theirs-index.result in
     subst (λ (fs : List FieldNode). slice_get fs c.loop-index.index ≡ Some (field_of field)) c.requires.to
     (seen_at c.args.theirs.now c.loop-index.index field c.loop-index-test.true c.index-theirs-index.is)
+
+pub source_by-source-requires-clause-left : goal.source_by-source-requires-clause-left
+source_by-source-requires-clause-left c = c.loop-index.invariant.1
+
+pub loop-index-preserved : goal.loop-index-preserved
+loop-index-preserved c =
+    let i = c.loop-index.index in
+    let ws = fields_at (node_at (schema_nodes c.args.names.now.0) c.args.pair.now.w.0) in
+    let rs = fields_at (node_at (schema_nodes c.args.names.now.1) c.args.pair.now.r.0) in
+    let first : field_leads 0 (seen_fields c.args.fields.now) (seen_fields c.args.theirs.now)
+    ≡ c.add_field.new.found.items ++ field_leads (i + 1) (seen_fields c.args.fields.now) (seen_fields (drop (i + 1) c.args.theirs.now)) = grind (arith, common_steps) in (
+      first,
+      λ q own. subst (λ (left : List (ℕ × ℕ)). AreSourcesFrom (i + 1) ws rs left) (sym c.rest_entries-left.ensures)
+          (rest_sources i ws rs c.loop-index.left.now (c.loop-index.invariant.1 q own)),
+    )
 
 pub returns-then-fields-eq0 : goal.returns-then-fields-eq0
 returns-then-fields-eq0 c =

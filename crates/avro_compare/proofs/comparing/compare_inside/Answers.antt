@@ -15,8 +15,7 @@ returns c =
       inside_found w q (seen_fields writes) (seen_fields reads) _
           (c.fields_of-writes.ensures.seen ∙ ap (λ s. fields_at (node_at (schema_nodes s) c.args.w.0)) c.writer.ensures)
           (c.fields_of-reads.ensures.seen ∙ ap (λ s. fields_at (node_at (schema_nodes s) c.args.r.0)) c.reader.ensures)
-          c.missing_among.ensures c.find_lacking.ensures c.in_ok-fields.ensures.each c.in_ok-fields.ensures.all
-          c.in_ok-sources.ensures.each c.in_ok-sources.ensures.all
+          c.missing_among.ensures c.find_lacking.ensures c.in_ok-fields.ensures c.in_ok-sources.ensures
           c.in_ok-symbols.ensures.each c.in_ok-symbols.ensures.all,
       refl,
       refl,

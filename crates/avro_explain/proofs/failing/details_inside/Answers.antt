@@ -1,4 +1,4 @@
-use Rattle.std.proofs.Common.{◌≡◌, ◌∙◌, List, Option, ℕ, IfOk, ap, subst, sym}
+use Rattle.std.proofs.Common.{◌≡◌, ◌∙◌, List, ℕ, IfOk, ap, subst, sym}
 use Rattle.avro_schema.specs.Node.{Node, node_at}
 use Rattle.avro_schema.specs.Seen.{node_of, seen_fields, texts_of}
 use Rattle.avro_schema.specs.SeenSchema.{schema_nodes}
@@ -18,7 +18,7 @@ missing_fields-requires c =
     let q = KeptNode.Record c.in-Record-q.b in
     let inside : AreInside (node_of n) (node_of q) pair =
     subst (λ (m : KeptNode). AreInside (node_of n) (node_of m) pair) c.in-Record-q.is (subst (λ (m : KeptNode). AreInside (node_of m) (node_of c.args.q.now) pair) c.in-Record.is c.requires.inside) in
-    subst (λ (ss : List (Option ℕ)). AreSources (seen_fields c.deref.result.now) (seen_fields c.deref-in-Record-q.result.now) ss) (sym c.deref-in-Record-q-2.ensures.value)
+    subst (λ (ss : List (ℕ × ℕ)). AreSources (seen_fields c.deref.result.now) (seen_fields c.deref-in-Record-q.result.now) ss) (sym c.deref-in-Record-q-2.ensures.value)
     (subst (λ (fs : List Field). AreSources (seen_fields c.deref.result.now) (seen_fields fs) pair.sources.items) (sym c.deref-in-Record-q.ensures.value)
     (subst (λ (fs : List Field). AreSources (seen_fields fs) (seen_fields c.in-Record-q.b.fields.items) pair.sources.items) (sym c.deref.ensures.value) inside.sources))
 

@@ -1,4 +1,4 @@
-use Rattle.std.proofs.Common.{◌≡◌, ◌+◌, ◌∙◌, ap, sym, subst, Ok, Err}
+use Rattle.std.proofs.Common.{◌≡◌, ◌+◌, ◌∙◌, ℕ, List, ap, sym, subst, Ok, Err}
 use Rattle.std.proofs.lemmas.Result.{err_from_is_err_and}
 use Rattle.avro_schema.specs.Node.{node_at}
 use Rattle.avro_schema.specs.Seen.{value_of, entries_of}
@@ -6,7 +6,10 @@ use Rattle.avro_schema.specs.SeenSchema.{schema_nodes}
 use Rattle.avro_schema.specs.Value.{Value}
 use Rattle.avro_schema.proofs.public.DatumViews.{value_of-Map}
 use Rattle.avro_compare.specs.Pairs.{value_id}
+use Rattle.avro_compare.specs.Planned.{AreForFrom}
 use Rattle.avro_compare.specs.Resolve.{fields_at, resolve as resolve_value, resolve_entries, result_map}
+use Rattle.avro_compare.specs.declared.guided.At.{At}
+use Rattle.avro_compare.proofs.public.Entries.{first_for, rest_for}
 use Rattle.avro_resolve.specs.Ends.{EndsSlot, Fails, field_step}
 use Rattle.avro_resolve.proofs.InOrder.{ItemsSoFar, item_done, items_done, entry_done, entries_done, taken_map, fails_mapped}
 use Rattle.avro_resolve.proofs.Slots.{FieldsSoFar, field_done, field_fails}
@@ -37,8 +40,9 @@ resolve_fields-returns-in_err-slot t c =
     let i = c.loop-index.index in
     let error = c.in_err-slot.field-0.0 in
     let p = err_from_is_err_and c.from_residual.result c.from_residual.ensures.1 in
+    let part = c.part_known-at.ensures ∙ first_for i ws rs c.loop-index.left.now c.loop-index.invariant.0 in
     rw (p.1, p.2) (field_fails writer reader ws rs c.args.values.now i c.index-values-index.result c.loop-index.slots.items error c.loop-index-test.true
-    (subst (λ d. EndsSlot i (Err error) (field_step writer reader ws rs i (value_of d))) c.index-values-index.is (c.in_err-slot.ensures ws rs c.part_inside-at.ensures)) c.loop-index.invariant)
+    (subst (λ d. EndsSlot i (Err error) (field_step writer reader ws rs i (value_of d))) c.index-values-index.is (c.in_err-slot.ensures ws rs part)) c.loop-index.invariant.1)
 
 pub resolve_fields-loop-index-preserved : goal.resolve_fields-loop-index-preserved
 resolve_fields-loop-index-preserved t c =
@@ -47,9 +51,14 @@ resolve_fields-loop-index-preserved t c =
     let ws = fields_at (node_at writer c.args.w.0) in
     let rs = fields_at (node_at reader c.args.q.0) in
     let i = c.loop-index.index in
-    subst (FieldsSoFar writer reader ws rs c.args.values.now (i + 1)) (sym c.in_ok-push.ensures.items)
-    (field_done writer reader ws rs c.args.values.now i c.index-values-index.result c.loop-index.slots.items c.in_ok-slot.slot c.loop-index-test.true
-    (subst (λ d. EndsSlot i (Ok c.in_ok-slot.slot) (field_step writer reader ws rs i (value_of d))) c.index-values-index.is (c.in_ok-slot.ensures ws rs c.part_inside-at.ensures)) c.loop-index.invariant)
+    let left = c.loop-index.left.now in
+    let known = c.loop-index.invariant.0 in
+    let part = c.part_known-at.ensures ∙ first_for i ws rs left known in (
+      subst (λ (ps : List (ℕ × At)). AreForFrom (i + 1) ws rs ps) (sym c.rest_entries-left.ensures) (rest_for i ws rs left known),
+      subst (FieldsSoFar writer reader ws rs c.args.values.now (i + 1)) (sym c.in_ok-push.ensures.items)
+          (field_done writer reader ws rs c.args.values.now i c.index-values-index.result c.loop-index.slots.items c.in_ok-slot.slot c.loop-index-test.true
+          (subst (λ d. EndsSlot i (Ok c.in_ok-slot.slot) (field_step writer reader ws rs i (value_of d))) c.index-values-index.is (c.in_ok-slot.ensures ws rs part)) c.loop-index.invariant.1),
+    )
 
 pub resolve_values-loop-index-preserved : goal.resolve_values-loop-index-preserved
 resolve_values-loop-index-preserved t c =

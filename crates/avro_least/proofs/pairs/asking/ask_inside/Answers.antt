@@ -34,7 +34,7 @@ returns-in-Record-r c =
     let inside : AreInside (node_of w) (node_of r) pair =
     subst (λ (n : KeptNode). AreInside (node_of w) (node_of n) pair) c.in-Record-r.is (subst (λ (n : KeptNode). AreInside (node_of n) (node_of c.args.r.now) pair) c.in-Record.is c.requires) in
     let same = ap (λ fs. cond (is_some pair.missing) Asked.whole (Asked.fields (rows_by pair.fields.items 0 (field_ids (seen_fields fs))))) c.deref.ensures.value
-    ∙ ap (λ rows. cond (is_some pair.missing) Asked.whole (Asked.fields rows)) (rows_same ws rs pair.fields.items inside.fields inside.all_fields)
+    ∙ ap (λ rows. cond (is_some pair.missing) Asked.whole (Asked.fields rows)) (rows_same ws rs pair.fields.items inside.fields)
     ∙ ap (λ o. cond (is_some o) Asked.whole (Asked.fields (rows_from ws rs 0 (field_ids ws)))) inside.complete
     ∙ ap (λ (n : KeptNode). asked_inside (node_of w) (node_of n)) (sym c.in-Record-r.is)
     ∙ ap (λ (n : KeptNode). asked_inside (node_of n) (node_of c.args.r.now)) (sym c.in-Record.is) in

@@ -6,4 +6,4 @@ use Rattle.avro_least.proofs.pairs.asking.rows.Given as goal
 
 abbrev pub invariant-loop-i : goal.invariant-loop-i
 invariant-loop-i l = rows_by l.parts 0 (field_ids (seen_fields l.writer))
-    ≡ rows_of l.rows.items ++ rows_by l.parts l.i (field_ids (seen_fields (drop l.i l.writer)))
+    ≡ rows_of l.rows.items ++ rows_by l.left l.i (field_ids (seen_fields (drop l.i l.writer)))

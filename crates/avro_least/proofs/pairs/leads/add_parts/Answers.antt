@@ -3,44 +3,35 @@ use Rattle.std.proofs.lemmas.Bool.{cases_eq}
 use Rattle.std.specs.Prelude.{is_none, position, ◌==◌}
 use Rattle.indexmap.specs.IndexSet.{keys}
 use Rattle.avro_least.specs.Tables.{pair_number}
-use Rattle.avro_least.specs.SeenAsk.{ask_of}
+use Rattle.avro_least.specs.KeptAsks.{kept_part, nth_part}
 use Rattle.avro_least.specs.SeenLeast.{table_of}
-use Rattle.avro_least.specs.declared.pairs.asking.Ask.{Ask}
-use Rattle.avro_least.specs.inside.Parts.{part_at}
-use Rattle.avro_least.specs.inside.Leading.{is_lead, leads_at}
-use Rattle.avro_least.proofs.Others.{pair_given, part_within}
+use Rattle.avro_least.specs.declared.pairs.keeping.KeptAsk.{KeptAsk}
+use Rattle.avro_least.proofs.KeptParts.{nth_found, part_given}
 use Rattle.avro_least.proofs.pairs.leads.add_parts.Goals as goal
 
-pub loop-k-preserved : goal.loop-k-preserved
-loop-k-preserved c =
-    let inv = c.loop-k.invariant in
+pub loop-n-preserved : goal.loop-n-preserved
+loop-n-preserved c =
+    let inv = c.loop-n.invariant in
     let new = c.in_ok-add_part.ensures in record {
       one_each = new.one_each ∙ inv.one_each;
-      kept = λ j p n h. new.kept j p n (inv.kept j p n h);
-      added = λ j n a b below is live there. elim (cases_eq n c.loop-k.k) [
+      kept = λ j p k h. new.kept j p k (inv.kept j p k h);
+      added = λ j m k a b below is live there. elim (cases_eq m c.loop-n.n) [
         | inl same ↦
-            let given = pair_given c.part_at-part.result a b
-            (c.part_at-part.ensures ∙ ap (part_at c.args.w.0 c.args.r.0 (ask_of c.ask_at_index-ask.result.now)) (sym same) ∙ is) in
-            subst (λ (m : ℕ). is_lead (leads_at c.add_part.new.rows j) c.args.i m ≡ true) (sym same)
-            (new.added j given.0 given.1.0 given.1.1.0
+            let given = part_given c.nth_part-part.result k a b
+            (c.nth_part-part.ensures ∙ ap (nth_part c.args.w.0 c.args.r.0 c.ask_at_index-ask.result.now) (sym same) ∙ is) in
+            new.added j k given.0 given.1.0 given.1.1.0
             (subst (λ (x : ℕ). is_none (table_of c.args.table.now x) ≡ false) (sym given.1.1.1) live)
-            (ap (λ (x : ℕ). position (λ q. x == q) (keys c.args.reached.now.known)) (ap (λ (x : ℕ). pair_number c.args.count x given.1.0.0) given.1.1.1 ∙ ap (pair_number c.args.count a) given.1.1.2) ∙ there))
-        | inr apart ↦ new.kept j c.args.i n (inv.added j n a b (omega (arith, below, apart)) is live there)
+            (ap (λ (x : ℕ). position (λ q. x == q) (keys c.args.reached.now.known)) (ap (λ (x : ℕ). pair_number c.args.count x given.1.0.0) given.1.1.1 ∙ ap (pair_number c.args.count a) given.1.1.2) ∙ there)
+        | inr apart ↦ new.kept j c.args.i k (inv.added j m k a b (omega (arith, below, apart)) is live there)
       ];
     }
 
 pub returns-clause-added : goal.returns-clause-added
 returns-clause-added c ask j k a b here is live there =
-    let it : ask ≡ c.ask_at_index-ask.result.now = ask_same ask c.ask_at_index-ask.result.now (sym here ∙ c.ask_at_index-ask.ensures) in
-    let part : part_at c.args.w.0 c.args.r.0 (ask_of c.ask_at_index-ask.result.now) k ≡ Some (record { w = a; r = b }) =
-    subst (λ (x : Ask). part_at c.args.w.0 c.args.r.0 (ask_of x) k ≡ Some (record { w = a; r = b })) it is in
-    c.loop-k.invariant.added j k a b
-    (omega (
-      arith,
-      part_within c.args.w.0 c.args.r.0 (ask_of c.ask_at_index-ask.result.now) k (record { w = a; r = b }) part,
-      c.part_count-k-end.ensures c.args.w.0 c.args.r.0,
-      c.loop-k-test.false,
-    )) part live there
+    let own = c.ask_at_index-ask.result.now in
+    let it : ask ≡ own = ask_same ask own (sym here ∙ c.ask_at_index-ask.ensures) in
+    let found = nth_found c.args.w.0 c.args.r.0 own k (record { w = a; r = b }) (subst (λ (x : KeptAsk). kept_part c.args.w.0 c.args.r.0 x k ≡ Some (record { w = a; r = b })) it is) in
+    c.loop-n.invariant.added j found.0 k a b (omega (arith, found.1, c.part_count-n-end.ensures, c.loop-n-test.false)) found.2 live there
   where
-    ask_same : (x y : Ask) → Some x ≡ Some y → x ≡ y
+    ask_same : (x y : KeptAsk) → Some x ≡ Some y → x ≡ y
     ask_same x y e = cc

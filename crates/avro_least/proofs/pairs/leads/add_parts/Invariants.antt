@@ -2,16 +2,15 @@ use Rattle.std.proofs.Common.{◌≡◌, ◌<◌, ℕ, true, false, Some, length
 use Rattle.std.specs.Prelude.{is_none, position, ◌==◌}
 use Rattle.indexmap.specs.IndexSet.{keys}
 use Rattle.avro_least.specs.Tables.{pair_number}
-use Rattle.avro_least.specs.SeenAsk.{ask_of}
+use Rattle.avro_least.specs.KeptAsks.{nth_part}
 use Rattle.avro_least.specs.SeenLeast.{table_of}
-use Rattle.avro_least.specs.inside.Parts.{part_at}
 use Rattle.avro_least.specs.inside.Leading.{is_lead, leads_at}
 use Rattle.avro_least.proofs.pairs.leads.add_parts.Given as goal
 
-abbrev pub invariant-loop-k : goal.invariant-loop-k
-invariant-loop-k l = record {
+abbrev pub invariant-loop-n : goal.invariant-loop-n
+invariant-loop-n l = record {
   one_each : length l.rows ≡ length l.initial.rows;
   kept : (j p n : ℕ) → is_lead (leads_at l.initial.rows j) p n ≡ true → is_lead (leads_at l.rows j) p n ≡ true;
-  added : (j n a b : ℕ) → n < l.k → part_at l.w.0 l.r.0 (ask_of l.ask) n ≡ Some (record { w = a; r = b }) → is_none (table_of l.table a) ≡ false
-      → position (λ q. pair_number l.count a b == q) (keys l.reached.known) ≡ Some j → is_lead (leads_at l.rows j) l.i n ≡ true;
+  added : (j m k a b : ℕ) → m < l.n → nth_part l.w.0 l.r.0 l.ask m ≡ Some (k, record { w = a; r = b }) → is_none (table_of l.table a) ≡ false
+      → position (λ q. pair_number l.count a b == q) (keys l.reached.known) ≡ Some j → is_lead (leads_at l.rows j) l.i k ≡ true;
 }

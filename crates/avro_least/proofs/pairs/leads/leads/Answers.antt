@@ -7,14 +7,15 @@ use Rattle.indexmap.specs.IndexSet.{keys}
 use Rattle.avro_schema.specs.Node.{Node}
 use Rattle.avro_schema.specs.SeenSchema.{schema_nodes}
 use Rattle.avro_least.specs.Tables.{pair_number}
-use Rattle.avro_least.specs.Asked.{Asked, asked_at}
-use Rattle.avro_least.specs.SeenAsk.{ask_of}
+use Rattle.avro_least.specs.Asked.{asked_at}
+use Rattle.avro_least.specs.KeptAsks.{kept_part}
 use Rattle.avro_least.specs.SeenLeast.{table_of}
-use Rattle.avro_least.specs.declared.pairs.asking.Ask.{Ask}
+use Rattle.avro_least.specs.declared.pairs.keeping.KeptAsk.{KeptAsk}
 use Rattle.avro_least.specs.declared.pairs.leads.Lead.{Lead}
 use Rattle.avro_least.specs.inside.Parts.{part_at}
 use Rattle.avro_least.specs.inside.Leading.{is_lead, leads_at, AreLeads}
-use Rattle.avro_least.proofs.PairSteps.{below_at, own_ask}
+use Rattle.avro_least.proofs.PairSteps.{below_at}
+use Rattle.avro_least.proofs.KeptParts.{kept_is}
 use Rattle.avro_least.proofs.Taken.{leads_more}
 use Rattle.avro_least.proofs.pairs.leads.leads.Goals as goal
 
@@ -30,7 +31,7 @@ loop-i-preserved c =
     let ks : List ℕ = keys c.args.reached.now.known in
     let ns : List Node = schema_nodes c.args.writer.now in
     let qs : List Node = schema_nodes c.args.reader.now in
-    let asks : List Ask = c.args.reached.now.asks.items in
+    let asks : List KeptAsk = c.args.reached.now.asks.items in
     let key : ℕ = c.in-Some.key.now in
     let here : slice_get ks i ≡ Some key = sym c.in-Some.ensures.key in
     let rows : List (Vec Lead) = c.add_parts.new.rows in
@@ -39,13 +40,14 @@ loop-i-preserved c =
     let within : i < length asks = omega (arith, slice_get_within ks i key here, c.requires.asks) in
     let kept : (j p n : ℕ) → is_lead (leads_at c.loop-i.rows.items j) p n ≡ true → is_lead (leads_at rows j) p n ≡ true =
     subst (λ (old : List (Vec Lead)). (j p n : ℕ) → is_lead (leads_at old j) p n ≡ true → is_lead (leads_at rows j) p n ≡ true) c.deref_mut.ensures.value new.kept in
+    let ask : KeptAsk = get_or asks i KeptAsk.Quiet in
+    let got : slice_get asks i ≡ Some ask = slice_get-get_or asks i KeptAsk.Quiet within in
     let added : (j n a b : ℕ) → part_at (key / length qs) (key % length qs) (asked_at ns qs key) n ≡ Some (record { w = a; r = b }) → is_none (table_of c.args.table.now a) ≡ false
     → position (λ q. pair_number (length qs) a b == q) ks ≡ Some j → is_lead (leads_at rows j) i n ≡ true =
-    λ j n a b is live there. new.added (get_or asks i Ask.Quiet) j n a b (slice_get-get_or asks i Ask.Quiet within)
-    (ap (λ (m : ℕ). part_at m c.readers-r.result.0 (ask_of (get_or asks i Ask.Quiet)) n) c.writers-w.ensures.is
-    ∙ ap (λ (m : ℕ). part_at (key / length qs) m (ask_of (get_or asks i Ask.Quiet)) n) c.readers-r.ensures.is
-    ∙ ap (λ (x : Asked). part_at (key / length qs) (key % length qs) x n)
-    (own_ask ns qs ks asks (get_or asks i Ask.Quiet) i key c.requires.asked here (slice_get-get_or asks i Ask.Quiet within)) ∙ is) live
+    λ j n a b is live there. new.added ask j n a b got
+    (ap (λ (m : ℕ). kept_part m c.readers-r.result.0 ask n) c.writers-w.ensures.is
+    ∙ ap (λ (m : ℕ). kept_part (key / length qs) m ask n) c.readers-r.ensures.is
+    ∙ kept_is (key / length qs) (key % length qs) ask (asked_at ns qs key) n (c.requires.asked i key ask here got) ∙ is) live
     (ap (λ (m : ℕ). position (λ q. pair_number m a b == q) ks) c.count-nodes.ensures.count ∙ there) in record {
       one_each = ap length written ∙ as_many ∙ inv.one_each;
       leads = subst (λ (rs : List (Vec Lead)). AreLeads ns qs (table_of c.args.table.now) ks (i + 1) rs) (sym written)

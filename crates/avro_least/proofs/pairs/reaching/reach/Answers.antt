@@ -1,6 +1,5 @@
 use Rattle.std.proofs.Common.{length-append, ◌||◌, inl, inr, ◌≡◌, ◌≤◌, ◌<◌, ℕ, ◌+◌, ◌-◌, ◌*◌, true, List, [], ◌∷◌, ◌++◌, Some, length, refl, sym, ◌∙◌, ap, subst, arith}
 use Rattle.std.proofs.lemmas.Bool.{and_from, lt-ltb, ltb-true}
-use Rattle.std.proofs.lemmas.List.{length-map, map-append}
 use Rattle.std.specs.Prelude.{nat_lt, slice_get}
 use Rattle.std.specs.List.{list_all}
 use Rattle.indexmap.specs.IndexSet.{keys}
@@ -10,17 +9,17 @@ use Rattle.avro_compare.specs.Planned.{AreComparisons}
 use Rattle.avro_compare.specs.declared.comparison.Comparison.{Comparison}
 use Rattle.avro_least.specs.SeenLeast.{table_of}
 use Rattle.avro_least.specs.Reached.{is_key, AreFollowed, IsSteppedTo, from_first, one_step}
-use Rattle.avro_least.specs.Asked.{Asked, asked_at, steps_at, AreAsked}
-use Rattle.avro_least.specs.SeenAsk.{ask_of, asks_of}
-use Rattle.avro_least.specs.declared.pairs.asking.Ask.{Ask}
+use Rattle.avro_least.specs.Asked.{asked_at, steps_at}
+use Rattle.avro_least.specs.KeptAsks.{AreAsked, IsKept}
+use Rattle.avro_least.specs.declared.pairs.keeping.KeptAsk.{KeptAsk}
 use Rattle.avro_least.proofs.public.Keys.{key_kept, followed_more, few_keys, none_pass, key_at, no_key, only_key}
 use Rattle.avro_certificate.proofs.public.Tests.{and_left, or_cases, all_at}
 use Rattle.avro_least.proofs.PairSteps.{below_at}
 use Rattle.avro_least.proofs.public.Stepping.{some_pairs, steps_below, asked_more}
 use Rattle.avro_least.proofs.pairs.reaching.reach.Goals as goal
 
-none_asked : (writer reader : List Node) (ks : List ℕ) (asks : List Ask) → asks ≡ [] → AreAsked writer reader ks (asks_of asks)
-none_asked writer reader ks asks e i k found within = absurd (omega (arith, ltb-true i (length (asks_of asks)) within, length-map asks ask_of, ap length e))
+none_asked : (writer reader : List Node) (ks : List ℕ) (asks : List KeptAsk) → asks ≡ [] → AreAsked writer reader ks asks
+none_asked writer reader ks asks e = subst (λ (xs : List KeptAsk). AreAsked writer reader ks xs) (sym e) (λ i k ask found got. absurd cc)
 
 none_found : (writer reader : List Node) (found : List Comparison) → found ≡ [] → AreComparisons writer reader found
 none_found writer reader found e = subst (λ (ps : List Comparison). AreComparisons writer reader ps) (sym e) (λ k p got. absurd cc)
@@ -73,17 +72,16 @@ loop-next-smaller c =
 longer : (ks rest new : List ℕ) (i : ℕ) → new ≡ ks ++ rest → i < length ks → i + 1 ≤ length new
 longer ks rest new i is h = omega (arith, ap length is ∙ length-append ks rest, h)
 
-grown : (asks new : List Ask) (ask : Ask) (next : ℕ) → new ≡ asks ++ ask ∷ [] → length asks ≡ next → length new ≡ next + 1
+grown : (asks new : List KeptAsk) (ask : KeptAsk) (next : ℕ) → new ≡ asks ++ ask ∷ [] → length asks ≡ next → length new ≡ next + 1
 grown asks new ask next is h = omega (arith, ap length is ∙ length-append asks (ask ∷ []), h)
 
-more_asked : (writer reader : List Node) (ks rest keys : List ℕ) (asks new : List Ask) (ask : Ask) (key next : ℕ) → new ≡ asks ++ ask ∷ [] → keys ≡ ks ++ rest
-    → AreAsked writer reader ks (asks_of asks) → length asks ≡ next → slice_get ks next ≡ Some key → ask_of ask ≡ asked_at writer reader key
-    → AreAsked writer reader keys (asks_of new)
+more_asked : (writer reader : List Node) (ks rest keys : List ℕ) (asks new : List KeptAsk) (ask : KeptAsk) (key next : ℕ) → new ≡ asks ++ ask ∷ [] → keys ≡ ks ++ rest
+    → AreAsked writer reader ks asks → length asks ≡ next → slice_get ks next ≡ Some key → IsKept ask (asked_at writer reader key)
+    → AreAsked writer reader keys new
 more_asked writer reader ks rest keys asks new ask key next is all before h here own =
-    subst (λ (qs : List ℕ). AreAsked writer reader qs (asks_of new)) (sym all)
-    (subst (λ (es : List Asked). AreAsked writer reader (ks ++ rest) es)
-    (sym (ap asks_of is ∙ map-append ask_of asks (ask ∷ []) ∙ ap (λ (a : Asked). asks_of asks ++ a ∷ []) own))
-    (asked_more writer reader ks rest (asks_of asks) key before (ap (slice_get ks) (length-map asks ask_of ∙ h) ∙ here)))
+    subst (λ (qs : List ℕ). AreAsked writer reader qs new) (sym all)
+    (subst (λ (es : List KeptAsk). AreAsked writer reader (ks ++ rest) es) (sym is)
+    (asked_more writer reader ks rest asks ask key before (ap (slice_get ks) h ∙ here) own))
 
 pub loop-next-preserved : goal.loop-next-preserved
 loop-next-preserved c =

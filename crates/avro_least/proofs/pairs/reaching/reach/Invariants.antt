@@ -6,8 +6,8 @@ use Rattle.avro_schema.specs.SeenSchema.{schema_nodes}
 use Rattle.avro_compare.specs.Planned.{AreComparisons}
 use Rattle.avro_least.specs.SeenLeast.{table_of}
 use Rattle.avro_least.specs.Reached.{is_key, AreFollowed, IsSteppedTo}
-use Rattle.avro_least.specs.Asked.{steps_at, AreAsked}
-use Rattle.avro_least.specs.SeenAsk.{asks_of}
+use Rattle.avro_least.specs.Asked.{steps_at}
+use Rattle.avro_least.specs.KeptAsks.{AreAsked}
 use Rattle.avro_least.proofs.pairs.reaching.reach.Given as goal
 
 abbrev pub invariant-loop-next : goal.invariant-loop-next
@@ -16,7 +16,7 @@ invariant-loop-next l = (is_key (keys l.known) 0 ≡ true)
     × AreFollowed (steps_at (schema_nodes l.writer) (schema_nodes l.reader) (table_of l.table)) (keys l.known) l.next
     × (l.next ≤ length (keys l.known))
     × (length l.asks.items ≡ l.next)
-    × AreAsked (schema_nodes l.writer) (schema_nodes l.reader) (keys l.known) (asks_of l.asks.items)
+    × AreAsked (schema_nodes l.writer) (schema_nodes l.reader) (keys l.known) l.asks.items
     × ((P : ℕ → Bool) → P 0 ≡ true → ((k : ℕ) → P k ≡ true → list_all P (steps_at (schema_nodes l.writer) (schema_nodes l.reader) (table_of l.table) k) ≡ true) → list_all P (keys l.known) ≡ true)
     × ((k : ℕ) → is_key (keys l.known) k ≡ true → IsSteppedTo (steps_at (schema_nodes l.writer) (schema_nodes l.reader) (table_of l.table)) k)
     × AreComparisons (schema_nodes l.writer) (schema_nodes l.reader) l.found.items

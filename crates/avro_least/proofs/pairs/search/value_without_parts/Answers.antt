@@ -1,4 +1,4 @@
-use Rattle.std.proofs.Common.{◌≡◌, ◌*◌, ◌/◌, ℕ, Some, List, length, sym, ◌∙◌, ap, ap₂}
+use Rattle.std.proofs.Common.{◌≡◌, ◌*◌, ◌/◌, ℕ, Some, List, length, sym, ◌∙◌, ap}
 use Rattle.std.specs.Prelude.{slice_get}
 use Rattle.indexmap.specs.IndexSet.{keys}
 use Rattle.avro_schema.specs.Node.{Node}
@@ -6,7 +6,7 @@ use Rattle.avro_schema.specs.SeenSchema.{schema_nodes}
 use Rattle.avro_least.specs.Asked.{asked_at}
 use Rattle.avro_least.specs.SeenLeast.{table_of}
 use Rattle.avro_least.specs.inside.Parts.{value_alone}
-use Rattle.avro_least.proofs.PairSteps.{below_at, own_ask}
+use Rattle.avro_least.proofs.PairSteps.{below_at}
 use Rattle.avro_least.proofs.pairs.search.value_without_parts.Goals as goal
 use Rattle.avro_least.proofs.public.Keys.{some_same}
 
@@ -22,8 +22,7 @@ returns-in-Some c = record {
       let ks : List ℕ = keys c.args.graph.now.reached.now.known in
       let there : slice_get ks c.args.i ≡ Some c.in-Some.key.now = sym c.in-Some.ensures.key in
       let it : c.in-Some.key.now ≡ key = some_same c.in-Some.key.now key (sym there ∙ here) in
-      c.value_alone.ensures
-      ∙ ap₂ (value_alone (table_of c.args.graph.now.table.now)) c.writers-w.ensures.is
-      (own_ask ns qs ks c.args.graph.now.reached.now.asks.items c.ask_at_index.result.now c.args.i c.in-Some.key.now c.requires.asked there c.ask_at_index.ensures)
+      c.value_alone.ensures (asked_at ns qs c.in-Some.key.now) (c.requires.asked c.args.i c.in-Some.key.now c.ask_at_index.result.now there c.ask_at_index.ensures)
+      ∙ ap (λ (n : ℕ). value_alone (table_of c.args.graph.now.table.now) n (asked_at ns qs c.in-Some.key.now)) c.writers-w.ensures.is
       ∙ ap (λ (n : ℕ). value_alone (table_of c.args.graph.now.table.now) (n / length qs) (asked_at ns qs n)) it;
 }

@@ -8,6 +8,7 @@ use Rattle.avro_resolve.proofs.resolving.filling.fill.Goals as goal
 
 pub loop-index-init : goal.loop-index-init
 loop-index-init g c = (
+  c.requires.sources,
   c.requires.distinct,
   g.met.P.Put.keeps_itself c.args.builder.now,
   λ found into all starts. (
@@ -29,14 +30,15 @@ loop-index-preserved g c =
     let first = c.loop-index.builder in
     let second = c.value_of_field.new.builder in
     let third = c.field.new.self in
-    let distinct = c.loop-index.invariant.0 in
+    let distinct = c.loop-index.invariant.1 in
     let kept = c.in_ok-value.ensures.kept in
     let on = c.in_ok-field.ensures.kept in (
+      c.sources_after-left.ensures ws (seen_fields reads) c.loop-index.invariant.0,
       distinct_after ws reads i f low is distinct,
-      g.met.P.Put.keeps_on c.args.builder.now second third (g.met.P.Put.keeps_on c.args.builder.now first second c.loop-index.invariant.1 kept) on,
+      g.met.P.Put.keeps_on c.args.builder.now second third (g.met.P.Put.keeps_on c.args.builder.now first second c.loop-index.invariant.2 kept) on,
       λ found into all starts.
-          let before = c.loop-index.invariant.2 found into all starts in
-          let src = c.source_kept-source.ensures (seen_fields reads) c.requires.sources (seen_at reads i f low is) in
+          let before = c.loop-index.invariant.3 found into all starts in
+          let src = c.source_left-source.ensures (seen_fields reads) c.loop-index.invariant.0 (seen_at reads i f low is) in
           let rest = seen_fields (drop (i + 1) reads) in
           let taken = c.in_ok-value.ensures.stands ws found rest src (distinct_here ws reads i f low is distinct) (slots_here ws reads i f low is (S first) found _ before.0) in (
             slots_for_later (S first) (S third) (λ o v. g.met.P.Put.still_stands first third o v (g.met.P.Put.keeps_on first second third kept on)) ws rest found _ taken.0,
@@ -46,8 +48,8 @@ loop-index-preserved g c =
     )
 
 pub returns-clause-kept : goal.returns-clause-kept
-returns-clause-kept g c = c.loop-index.invariant.1
+returns-clause-kept g c = c.loop-index.invariant.2
 
 pub returns-clause-stands : goal.returns-clause-stands
 returns-clause-stands g c = λ found into all starts.
-    values_all (g.P.Put.fields_stand_for c.loop-index.builder into) (seen_fields c.args.writes.now) found c.args.reads.now c.loop-index.index c.loop-index.fields c.loop-index-test.false (c.loop-index.invariant.2 found into all starts).1
+    values_all (g.P.Put.fields_stand_for c.loop-index.builder into) (seen_fields c.args.writes.now) found c.args.reads.now c.loop-index.index c.loop-index.fields c.loop-index-test.false (c.loop-index.invariant.3 found into all starts).1

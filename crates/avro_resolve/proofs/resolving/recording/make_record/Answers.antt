@@ -1,12 +1,13 @@
-use Rattle.std.proofs.Common.{map, subst, sym, ap, ◌∙◌}
-use Rattle.avro_schema.specs.Node.{node_at}
+use Rattle.std.proofs.Common.{List, map, subst, sym, ap, ◌∙◌}
+use Rattle.std.specs.Prelude.{IfSome}
+use Rattle.avro_schema.specs.Node.{FieldNode, node_at}
 use Rattle.avro_schema.specs.Seen.{seen_fields}
 use Rattle.avro_schema.specs.SeenSchema.{schema_nodes}
 use Rattle.avro_schema.specs.Value.{Value}
 use Rattle.avro_resolve.specs.IntoBranch.{in_branch}
 use Rattle.avro_compare.specs.Resolve.{field_value, field_values, fields_at}
 use Rattle.avro_resolve.proofs.RecordSlots.{good_record, faulty_record}
-use Rattle.avro_compare.proofs.public.Planning.{sources_by}
+use Rattle.avro_compare.specs.Planned.{AreSources}
 use Rattle.avro_resolve.proofs.Slots.{values_seen}
 use Rattle.avro_resolve.proofs.resolving.recording.make_record.Goals as goal
 
@@ -38,5 +39,7 @@ returns-in-Faulty-clause-stands g c = λ nodes name aliases fs at vs h.
 
 pub fill-requires-clause-sources : goal.fill-requires-clause-sources
 fill-requires-clause-sources g c =
-    sources_by c.sources-sources.result.now (c.fields_of-writes.ensures.seen ∙ ap (λ s. fields_at (node_at (schema_nodes s) c.in-Good.w.0)) c.writer.ensures)
-    (c.fields_of-reads.ensures.seen ∙ ap (λ s. fields_at (node_at (schema_nodes s) c.in-Good.q.0)) c.reader.ensures) c.sources-sources.ensures
+    let of_writer = c.fields_of-writes.ensures.seen ∙ ap (λ s. fields_at (node_at (schema_nodes s) c.in-Good.w.0)) c.writer.ensures in
+    let of_reader = c.fields_of-reads.ensures.seen ∙ ap (λ s. fields_at (node_at (schema_nodes s) c.in-Good.q.0)) c.reader.ensures in
+    subst (λ (fs : List FieldNode). IfSome c.sources-sources.result (λ ss. AreSources (seen_fields c.fields_of-writes.result.now) fs ss.now)) (sym of_reader)
+    (subst (λ (fs : List FieldNode). IfSome c.sources-sources.result (λ ss. AreSources fs (fields_at (node_at (schema_nodes c.args.plan.now.1) c.in-Good.q.0)) ss.now)) (sym of_writer) c.sources-sources.ensures)
