@@ -48,9 +48,14 @@ pub copied_by : (writer reader : List Node) {xs ws rs ys : List FieldNode} → x
 copied_by writer reader {ws = ws} {rs = rs} e f h = subst (λ (gs : List FieldNode). AreCopied writer reader ws gs) f (subst (λ (gs : List FieldNode). AreCopied writer reader gs rs) e h)
 
 -- what is kept of a pair that is straight, at equal nodes
-module _ (writer reader : List Node) (sources : List (Option ℕ)) where
+module _ (writer reader : List Node) (sources : List (ℕ × ℕ)) where
   abbrev StraightWith : NodeId → NodeId → Type 0
   StraightWith w r = IsStraight writer reader w r × AreSources (fields_at (node_at writer w.0)) (fields_at (node_at reader r.0)) sources
 
   pub straight_at : {v w q r : NodeId} → v ≡ w → q ≡ r → StraightWith v q → StraightWith w r
   straight_at {v = v} {r = r} e f h = subst (λ (n : NodeId). StraightWith n r) e (subst (λ (n : NodeId). StraightWith v n) f h)
+
+-- sources of the same fields
+pub sources_by : {ws xs rs ys : List FieldNode} (sources : List (ℕ × ℕ)) → ws ≡ xs → rs ≡ ys → AreSources xs ys sources → AreSources ws rs sources
+sources_by {ws = ws} {xs = xs} {rs = rs} {ys = ys} sources e f h =
+    subst (λ (fs : List FieldNode). AreSources fs rs sources) (sym e) (subst (λ (gs : List FieldNode). AreSources xs gs sources) (sym f) h)

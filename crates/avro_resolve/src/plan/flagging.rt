@@ -10,7 +10,7 @@ ghost use Rattle.avro_resolve.specs.Copied.{AreCopied, AreFlags, CopiedFrom, IsC
 
 use crate::plan::keeping::aim_kept;
 use crate::plan::plan_ref::index_at;
-use avro_compare::{Aim, Comparison, fields_of, source_kept};
+use avro_compare::{Aim, Comparison, fields_of, first_entry, rest_entries};
 use avro_schema::{Field, Memory, Node, NodeId, Schema};
 use std::alloc::Global;
 
@@ -92,15 +92,17 @@ fn are_copied(
     below: &[u32],
     writes: &[Field],
     reads: &[Field],
-    sources: &[Option<usize>],
+    sources: &[(usize, usize)],
 ) -> bool
     requires kept { AreComparisons (schema_nodes writer.now) (schema_nodes reader.now) pairs.now }
     requires sources { AreSources (seen_fields writes.now) (seen_fields reads.now) sources.now }
     ensures { result ≡ true → AreCopied (schema_nodes writer.now) (schema_nodes reader.now) (seen_fields writes.now) (seen_fields reads.now) }
 {
+    let mut left = sources;
     for index in 0..reads.len() {
         let f = &reads[index];
-        let source = source_kept(writes, sources, index, f);
+        let source = first_entry(left, index);
+        left = rest_entries(left, index);
         if !is_field_copied(writer, reader, pairs, below, writes, source, f) {
             return false;
         }
@@ -201,7 +203,7 @@ pub(crate) fn straight_kept<'p>(
     index: u32,
     w: NodeId,
     r: NodeId,
-) -> Option<&'p [Option<usize>]>
+) -> Option<&'p [(usize, usize)]>
     ensures { (writer reader : List SeenNode) → AreFlags writer reader pairs.now flags.now
         → IfSome result (λ sources. IsStraight writer reader w r × AreSources (fields_at (node_at writer w.0)) (fields_at (node_at reader r.0)) sources.now) }
 {

@@ -272,7 +272,7 @@ impl<'a> PlanRef<'a> {
 
     /// The sources of the reader's fields, where the two nodes are kept at the index and are straight.
     #[inline(always)]
-    pub(crate) fn straight(&self, index: u32, w: NodeId, r: NodeId) -> Option<&'a [Option<usize>]>
+    pub(crate) fn straight(&self, index: u32, w: NodeId, r: NodeId) -> Option<&'a [(usize, usize)]>
         ensures { IfSome result (λ sources. IsStraight (schema_nodes self.now.0) (schema_nodes self.now.1) w r
             × AreSources (fields_at (node_at (schema_nodes self.now.0) w.0)) (fields_at (node_at (schema_nodes self.now.1) r.0)) sources.now) }
     {

@@ -18,7 +18,7 @@ ghost use Rattle.avro_resolve.specs.inside.Guided.{StandsAs};
 use crate::plan::plan_ref::PlanRef;
 use crate::put::Put;
 use crate::resolving::guided::{Made, Part};
-use avro_compare::{At, fields_of, source_kept};
+use avro_compare::{At, fields_of, first_entry, rest_entries};
 use avro_schema::{Field, Node, NodeId, Schema};
 use avro_zigzag::starts_shortest;
 use std::alloc::{AllocError, Global};
@@ -70,7 +70,7 @@ fn copy_fields<P: Put>(
     reader: &Schema,
     writes: &[Field],
     reads: &[Field],
-    sources: &[Option<usize>],
+    sources: &[(usize, usize)],
     bytes: &[u8],
     ends: &[usize],
     start: P::Fields,
@@ -81,9 +81,11 @@ fn copy_fields<P: Put>(
         → IfOk result (λ o. IfSome o (λ fields. P.fields_stand_for builder.new None fields (map (field_value (seen_fields writes.now) found) (seen_fields reads.now)))) }
 {
     let mut fields = start;
+    let mut left = sources;
     for index in 0..reads.len() {
         let f = &reads[index];
-        let source = source_kept(writes, sources, index, f);
+        let source = first_entry(left, index);
+        left = rest_entries(left, index);
         match copy_field(alloc, builder, reader, source, f, bytes, ends)? {
             Some(value) => builder.field(alloc, &mut fields, value)?,
             None => return Ok(None),

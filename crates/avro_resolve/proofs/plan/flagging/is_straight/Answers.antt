@@ -3,9 +3,8 @@ use Rattle.avro_schema.specs.Seen.{seen_fields}
 use Rattle.avro_schema.specs.SeenSchema.{schema_nodes}
 use Rattle.avro_compare.specs.Planned.{AreSources}
 use Rattle.avro_compare.specs.declared.guided.Aim.TheVariants.{To}
-use Rattle.avro_compare.proofs.public.Planning.{sources_by}
 use Rattle.avro_resolve.proofs.Aiming.{kept_leads}
-use Rattle.avro_resolve.proofs.Flagging.{copied_by}
+use Rattle.avro_resolve.proofs.Flagging.{copied_by, sources_by}
 use Rattle.avro_resolve.proofs.plan.flagging.is_straight.Goals as goal
 
 pub are_copied-requires-clause-sources : goal.are_copied-requires-clause-sources
