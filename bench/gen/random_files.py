@@ -1,5 +1,5 @@
-"""Random container files and readers' schemas, for `compare.py`: of all kinds of schemas, with faults in them, with data that have no bytes,
-and at the limits."""
+"""Random container files and readers' schemas, for `compare.py`: of all kinds of schemas, with faults in them, of records of leaves, with data
+that have no bytes, and at the limits."""
 
 import json
 
@@ -214,6 +214,42 @@ def mutated(choose):
     return changed(choose, file_of(choose, root)), evolved(choose, root)
 
 
+LEAVES = ("null", "boolean", "int", "int", "long", "bytes", "string", "string", "fixed", "enum")
+
+
+def leaf(choose, index):
+    """A type without parts, which has a name of its own where it has one."""
+    kind = choose.choice(LEAVES)
+    if kind == "fixed":
+        return Type(kind, name=f"F{index}", size=choose.randrange(4))
+    if kind == "enum":
+        return Type(kind, name=f"E{index}", symbols=["A", "B", "C"][:choose.randrange(1, 4)], symbol=None)
+    return Type(kind)
+
+
+def taken_leaf(choose, type):
+    """What a reader takes a writer's leaf as: most often the same, or what an int or a string may be."""
+    others = {"int": "long", "string": "bytes", "bytes": "string"}
+    return Type(others[type.kind]) if type.kind in others and choose.randrange(3) == 0 else type
+
+
+def of_leaves(choose):
+    """Records of leaves, alone or in other types, and a reader's that takes some of them in another order, with defaults between them."""
+    fields = [Field(f"f{k}", leaf(choose, k)) for k in range(choose.randrange(1, 12))]
+    taken = [Field(field.name, taken_leaf(choose, field.type)) for field in fields if choose.randrange(4)]
+    taken += [Field(f"d{k}", *choose.choice([(Type("int"), [7]), (Type("string"), ["no"]), (Type("null"), [None])])) for k in range(choose.randrange(3))]
+    choose.shuffle(taken)
+    write, read = Type("record", name="R", fields=fields), Type("record", name="R", fields=taken)
+    around = choose.choice((lambda of: of, lambda of: of, lambda of: Type("array", of=of), lambda of: Type("map", of=of),
+                            lambda of: Type("union", branches=[Type("null"), of]),
+                            lambda of: Type("record", name="Outer", fields=[Field("a", of), Field("b", Type("long"))])))
+    write, read = around(write), around(read)
+    set_heights(write)
+    set_heights(read)
+    file = file_of(choose, write, choose.choice((0, 0, 0, 0.02)))
+    return changed(choose, file) if choose.randrange(6) == 0 else file, read
+
+
 def without_bytes(choose):
     """A file of data most of which have no bytes, and readers for which they have none or some."""
     root = schema(choose, EMPTY)
@@ -368,7 +404,7 @@ def container(choose, root, count, data):
 
 # The kinds of files, and how often each is made; those at the limits take long.
 KINDS = {
-    "whole": (whole, 32), "at fault": (at_fault, 28), "mutated": (mutated, 18), "without bytes": (without_bytes, 17),
+    "whole": (whole, 32), "at fault": (at_fault, 28), "mutated": (mutated, 18), "leaves": (of_leaves, 20), "without bytes": (without_bytes, 17),
     "node limit": (at_node_limit, 0.5), "depth limit": (at_depth_limit, 2), "block limit": (at_block_limit, 0.5), "long parts": (long_parts, 2),
     "beside a byte": (beside_a_byte, 1),
 }
