@@ -249,7 +249,7 @@ def crossed(share):
     last = f"{spaces[-1]}.A"
     each = [f"{space}.A" for space in spaces]
     def side(first, second):
-        return written(record("R", [("_", record("T", zip(names, links))), *zip(names, first + second)]))
+        return written(record("R", [("__", record("T", zip(names, links))), *zip(names, first + second)]))
     return {"writer": side(each, [last] * count), "reader": side([last] * count, each)}
 
 
