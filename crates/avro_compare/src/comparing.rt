@@ -179,6 +179,7 @@ fn shared_fields(alloc: Global, parts: &[At]) -> Result<Vec<(usize, At)>, Memory
             At::Pair(w, r) => kept.push((index, At::Pair(w, r)))?,
         }
     }
+    kept.shrink_to_fit();
     Ok(kept)
 }
 
@@ -193,6 +194,7 @@ fn shared_sources(alloc: Global, found: &[Option<usize>]) -> Result<Vec<(usize, 
             Some(source) => kept.push((index, source))?,
         }
     }
+    kept.shrink_to_fit();
     Ok(kept)
 }
 

@@ -60,6 +60,7 @@ fn keep_rows(alloc: Global, rows: &[FieldAsk]) -> Result<Vec<(usize, At)>, Memor
             Some(theirs) => kept.push((index, At::Pair(row.node, theirs)))?,
         }
     }
+    kept.shrink_to_fit();
     Ok(kept)
 }
 

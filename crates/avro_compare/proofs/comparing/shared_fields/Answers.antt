@@ -4,6 +4,7 @@ use Rattle.std.proofs.lemmas.Option.{slice_get-get_or}
 use Rattle.avro_compare.specs.declared.guided.At.{At}
 use Rattle.avro_compare.specs.declared.guided.At.TheVariants.{Ignored, Pair}
 use Rattle.avro_compare.specs.inside.Listed.{shared_part}
+use Rattle.avro_compare.specs.Entries.{AreAscending, entry_at}
 use Rattle.avro_compare.proofs.public.Entries.{AreKept, kept_none, kept_skip, kept_push, kept_all}
 use Rattle.avro_compare.proofs.public.Lists.{got_past}
 use Rattle.avro_compare.proofs.comparing.shared_fields.Goals as goal
@@ -26,8 +27,11 @@ loop-index-preserved c =
     ]
 
 pub returns : goal.returns
-returns c = (
-  c.loop-index.invariant.ascends,
-  kept_all (λ k. shared_part (slice_get c.args.parts.now k)) c.loop-index.kept.items c.loop-index.index
-      (λ k high. ap shared_part (got_past c.args.parts.now k (omega (arith, high, c.loop-index-test.false, c.loop-index.auto.index-end)))) c.loop-index.invariant,
-)
+returns c =
+    let f = λ (k : ℕ). shared_part (slice_get c.args.parts.now k) in
+    let same = sym c.shrink_to_fit.ensures.items in
+    let all = kept_all f c.loop-index.kept.items c.loop-index.index
+    (λ k high. ap shared_part (got_past c.args.parts.now k (omega (arith, high, c.loop-index-test.false, c.loop-index.auto.index-end)))) c.loop-index.invariant in (
+      subst (λ (es : List (ℕ × At)). AreAscending 0 es) same c.loop-index.invariant.ascends,
+      λ k. subst (λ (es : List (ℕ × At)). entry_at es k ≡ f k) same (all k),
+    )

@@ -2,6 +2,7 @@ use Rattle.std.proofs.Common.{◌≡◌, ◌∙◌, ◌+◌, ℕ, List, Some, No
 use Rattle.std.specs.Prelude.{slice_get}
 use Rattle.std.proofs.lemmas.Option.{slice_get-get_or}
 use Rattle.avro_compare.specs.inside.Listed.{listed_source}
+use Rattle.avro_compare.specs.Entries.{AreAscending, entry_at}
 use Rattle.avro_compare.proofs.public.Entries.{AreKept, kept_none, kept_skip, kept_push, kept_all}
 use Rattle.avro_compare.proofs.public.Lists.{got_past}
 use Rattle.avro_compare.proofs.comparing.shared_sources.Goals as goal
@@ -24,8 +25,11 @@ loop-index-preserved c =
     ]
 
 pub returns : goal.returns
-returns c = (
-  c.loop-index.invariant.ascends,
-  kept_all (λ k. listed_source (slice_get c.args.found.now k)) c.loop-index.kept.items c.loop-index.index
-      (λ k high. ap listed_source (got_past c.args.found.now k (omega (arith, high, c.loop-index-test.false, c.loop-index.auto.index-end)))) c.loop-index.invariant,
-)
+returns c =
+    let f = λ (k : ℕ). listed_source (slice_get c.args.found.now k) in
+    let same = sym c.shrink_to_fit.ensures.items in
+    let all = kept_all f c.loop-index.kept.items c.loop-index.index
+    (λ k high. ap listed_source (got_past c.args.found.now k (omega (arith, high, c.loop-index-test.false, c.loop-index.auto.index-end)))) c.loop-index.invariant in (
+      subst (λ (es : List (ℕ × ℕ)). AreAscending 0 es) same c.loop-index.invariant.ascends,
+      λ k. subst (λ (es : List (ℕ × ℕ)). entry_at es k ≡ f k) same (all k),
+    )
