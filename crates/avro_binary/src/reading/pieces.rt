@@ -40,7 +40,7 @@ pub(crate) fn take_pieces<'c, M: Make>(
 }
 
 /// The same by a list for the ends of the fields.
-#[inline(always)]
+#[inline(never)]
 fn make_of_pieces<'c, M: Make>(
     alloc: Global,
     schema: &Schema,

@@ -76,11 +76,14 @@ impl Buffer {
         self.start += count;
     }
 
-    /// Moves the bytes to the front of the room.
+    /// Moves the bytes to the front of the room, where they are not there.
     fn move_to_front(&mut self)
         ensures same { held self.new ≡ held self.old }
         ensures front { free self.new + length (held self.new) ≡ length self.new.room.items }
     {
+        if self.start == 0 {
+            return;
+        }
         let (start, end) = (self.start, self.end);
         self.room.as_mut_slice().copy_within(start..end, 0);
         self.start = 0;
