@@ -22,9 +22,22 @@ use std::alloc::Global;
 #[derive(Clone, Copy, Debug)]
 pub(crate) struct Lead {
     /// The index of the pair.
-    pub(crate) pair: usize,
+    pub(crate) pair: u32,
     /// The index of its part.
-    pub(crate) part: usize,
+    pub(crate) part: u32,
+}
+
+/// The lead of the pair at an index by the part at an index. Either past the range of numbers would exceed any memory.
+fn lead_of(pair: usize, part: usize) -> Result<Lead, Memory>
+    ensures { IfOk result (λ l. (l.pair ≡ pair) × (l.part ≡ part)) }
+{
+    match u32::try_from(pair) {
+        Ok(pair) => match u32::try_from(part) {
+            Ok(part) => Ok(Lead { pair, part }),
+            Err(_) => Err(Memory),
+        },
+        Err(_) => Err(Memory),
+    }
 }
 
 /// The row at an index, or nothing past the end.
@@ -91,7 +104,8 @@ fn add_part(
             if entry(table, a).is_none() {
                 return Ok(());
             }
-            add_lead(known, number(count, a, b), Lead { pair, part: k }, rows)
+            let lead = lead_of(pair, k)?;
+            add_lead(known, number(count, a, b), lead, rows)
         }
     }
 }

@@ -93,9 +93,11 @@ fn take_part(graph: &Graph, lead: Lead, search: &mut Search) -> Result<(), Memor
     ensures taken { OnOk result ((rest : List Lead) → HaveTakenBut (lead ∷ rest) graph.now search.old → HaveTakenBut rest graph.now search.new) }
     ensures effort { OnOk result (effort search.new ≤ effort search.old) }
 {
-    if let Some(key) = graph.reached.known.get_index(lead.pair) {
-        let found = value_by_part(graph, &search.entries, lead.pair, *key, lead.part);
-        search.lower(lead.pair, found)?;
+    let pair = lead.pair as usize;
+    if let Some(key) = graph.reached.known.get_index(pair) {
+        let part = lead.part as usize;
+        let found = value_by_part(graph, &search.entries, pair, *key, part);
+        search.lower(pair, found)?;
     }
     Ok(())
 }
