@@ -14,11 +14,9 @@ use Rattle.avro_schema.specs.declared.schema.Field.{Field}
 use Rattle.avro_compare.specs.Children.{Pair}
 use Rattle.avro_least.specs.Tables.{Least, LeastTable, ErringTable, together, all_of, no_parts}
 use Rattle.avro_least.specs.Asked.{Row, Asked, asked}
-use Rattle.avro_least.specs.SeenAsk.{row_of, rows_of}
 use Rattle.avro_least.specs.declared.kept.Least.{Least as KeptLeast}
-use Rattle.avro_least.specs.declared.pairs.asking.FieldAsk.{FieldAsk}
 use Rattle.avro_least.specs.declared.pairs.leads.Lead.{Lead}
-use Rattle.avro_least.specs.inside.Parts.{least_of_others, nodes_of, row_part, parts_of, part_at, seen_pair, row_items, AreOthersOf, AreOthers}
+use Rattle.avro_least.specs.inside.Parts.{least_of_others, nodes_of, parts_of, part_at, seen_pair, row_items, AreOthersOf, AreOthers}
 use Rattle.avro_least.specs.inside.Leading.{is_lead, leads_at}
 use Rattle.avro_certificate.proofs.public.Tests.{or_from_left, or_from_right}
 use Rattle.avro_least.proofs.AskedKinds.{asks}
@@ -35,18 +33,6 @@ pub branch_here : (ids : List NodeId) (r k : ℕ) (id : NodeId) → slice_get id
 branch_here ids r k id here =
     ap (λ (x : Option (Option Pair)). unwrap_or x None)
     (slice_get-map (against r) (ids_of ids) k ∙ ap (option_map (against r)) (slice_get-map (λ id. id.0) ids k ∙ ap (option_map (λ id. id.0)) here))
-
--- the field at an index
-pub field_here : (rows : List FieldAsk) (k : ℕ) (row : FieldAsk) → slice_get rows k ≡ Some row → unwrap_or (slice_get (map row_part (rows_of rows)) k) None ≡ row_part (row_of row)
-field_here rows k row here = ap (λ (x : Option (Option Pair)). unwrap_or x None)
-    (slice_get-map row_part (rows_of rows) k ∙ ap (option_map row_part) (slice_get-map row_of rows k ∙ ap (option_map row_of) here))
-
-pub row_part_is : (row : FieldAsk) (o : Option NodeId) → row.theirs ≡ o → row_part (row_of row) ≡ option_map (λ id. record { w = row.node.0; r = id.0 }) o
-row_part_is row o e = ap (λ (x : Option NodeId). row_part (record { node = row.node.0; theirs = option_map (λ id. id.0) x })) e ∙ by_id o
-  where
-    by_id : (o : Option NodeId) → row_part (record { node = row.node.0; theirs = option_map (λ id. id.0) o }) ≡ option_map (λ id. record { w = row.node.0; r = id.0 }) o
-    by_id None = refl
-    by_id (Some id) = refl
 
 -- the ids of a part
 pub pair_given : (o : Option (NodeId × NodeId)) (a b : ℕ) → seen_pair o ≡ Some (record { w = a; r = b })

@@ -1,14 +1,17 @@
--- How contracts see what is kept of what a pair asks for.
-use Rattle.std.specs.Prelude.{◌≡◌, ℕ, List, Option, Some, None, option_map, map, length, slice_get, unwrap_or}
+-- How contracts see what a pair asks for, as a view of its comparison.
+use Rattle.std.specs.Prelude.{◌≡◌, ◌/◌, ◌%◌, ℕ, List, Option, Some, None, map, length, slice_get, unwrap_or}
 use Rattle.avro_schema.specs.Node.{Node}
 use Rattle.avro_schema.specs.Seen.{ids_of}
 use Rattle.avro_schema.specs.declared.schema.NodeId.{NodeId}
 use Rattle.avro_compare.specs.Children.{Pair}
 use Rattle.avro_compare.specs.Entries.{AreAscending, entry_at}
+use Rattle.avro_compare.specs.Planned.{AreFor, IsComparison}
+use Rattle.avro_compare.specs.Resolve.{fields_at}
+use Rattle.avro_compare.specs.declared.comparison.Comparison.{Comparison}
 use Rattle.avro_compare.specs.declared.guided.At.{At}
-use Rattle.avro_least.specs.Asked.{Row, Asked, asked_at}
+use Rattle.avro_least.specs.Asked.{Row, Asked}
+use Rattle.avro_least.specs.SeenAsk.{rows_by}
 use Rattle.avro_least.specs.inside.Parts.{part_at, row_part}
-use Rattle.avro_least.specs.declared.pairs.asking.FieldAsk.{FieldAsk}
 use Rattle.avro_least.specs.declared.pairs.keeping.KeptAsk.{KeptAsk}
 
 -- the pair that a field leads to
@@ -24,34 +27,55 @@ pub record KeepsRows (parts : List (ℕ × At)) (a : Asked) : Type 0 where
   pub ascends : AreAscending 0 parts
   pub same : (k : ℕ) → pair_for (entry_at parts k) ≡ unwrap_or (slice_get (map row_part rows) k) None
 
--- what is kept is what a pair asks for; of the fields of records, only those that lead to a pair
+-- the view is what a pair asks for; of the fields of records, only those that lead to a pair
 abbrev pub IsKept : KeptAsk → Asked → Type 0
 IsKept KeptAsk.Quiet a = a ≡ Asked.quiet
 IsKept KeptAsk.Whole a = a ≡ Asked.whole
 IsKept KeptAsk.Lone a = a ≡ Asked.lone
 IsKept (KeptAsk.Same q) a = a ≡ Asked.same q.0
 IsKept (KeptAsk.Part w r) a = a ≡ Asked.part w.0 r.0
-IsKept (KeptAsk.Branches ids) a = a ≡ Asked.branches (ids_of ids.items)
-IsKept (KeptAsk.Fields parts) a = KeepsRows parts.items a
+IsKept (KeptAsk.Branches ids) a = a ≡ Asked.branches (ids_of ids.now)
+IsKept (KeptAsk.Fields parts) a = KeepsRows parts.now a
 
--- what is kept at each index is what the key there asks for
-abbrev pub AreAsked : List Node → List Node → List ℕ → List KeptAsk → Type 0
-AreAsked writer reader keys asks = (i k : ℕ) (ask : KeptAsk) → slice_get keys i ≡ Some k → slice_get asks i ≡ Some ask → IsKept ask (asked_at writer reader k)
+-- the same with the ids of all of the writer's fields
+abbrev pub view_of : List ℕ → KeptAsk → Asked
+view_of ids KeptAsk.Quiet = Asked.quiet
+view_of ids KeptAsk.Whole = Asked.whole
+view_of ids KeptAsk.Lone = Asked.lone
+view_of ids (KeptAsk.Same q) = Asked.same q.0
+view_of ids (KeptAsk.Part w r) = Asked.part w.0 r.0
+view_of ids (KeptAsk.Branches branches) = Asked.branches (ids_of branches.now)
+view_of ids (KeptAsk.Fields parts) = Asked.fields (rows_by parts.now 0 ids)
+
+-- the fields are those that the reader's record takes
+abbrev pub AreTaken : Node → Node → KeptAsk → Type 0
+AreTaken n q (KeptAsk.Fields parts) = AreFor (fields_at n) (fields_at q) parts.now
+AreTaken n q ask = Unit {0}
+
+-- the comparison of the pair of a number
+pub record IsFound (writer reader : List Node) (key : ℕ) (p : Comparison) : Type 0 where
+  pub comparison : IsComparison writer reader p
+  pub from : p.w.0 ≡ key / length reader
+  pub to : p.r.0 ≡ key % length reader
+
+-- the comparison at each index is that of the pair of the number there
+abbrev pub AreFound : List Node → List Node → List ℕ → List Comparison → Type 0
+AreFound writer reader keys found = (i k : ℕ) (p : Comparison) → slice_get keys i ≡ Some k → slice_get found i ≡ Some p → IsFound writer reader k p
 
 -- the pair of the part at an index
 abbrev pub kept_part : ℕ → ℕ → KeptAsk → ℕ → Option Pair
 kept_part w r (KeptAsk.Same q) k = part_at w r (Asked.same q.0) k
 kept_part w r (KeptAsk.Part a b) k = part_at w r (Asked.part a.0 b.0) k
-kept_part w r (KeptAsk.Branches ids) k = part_at w r (Asked.branches (ids_of ids.items)) k
-kept_part w r (KeptAsk.Fields parts) k = pair_for (entry_at parts.items k)
+kept_part w r (KeptAsk.Branches ids) k = part_at w r (Asked.branches (ids_of ids.now)) k
+kept_part w r (KeptAsk.Fields parts) k = pair_for (entry_at parts.now k)
 kept_part w r ask k = None
 
--- how many parts are kept
+-- how many parts there are
 abbrev pub kept_count : KeptAsk → ℕ
 kept_count (KeptAsk.Same q) = 1
 kept_count (KeptAsk.Part a b) = 1
-kept_count (KeptAsk.Branches ids) = length ids.items
-kept_count (KeptAsk.Fields parts) = length parts.items
+kept_count (KeptAsk.Branches ids) = length ids.now
+kept_count (KeptAsk.Fields parts) = length parts.now
 kept_count ask = 0
 
 -- a pair beside an index
@@ -69,17 +93,12 @@ abbrev pub indexed : Option (ℕ × At) → Option (ℕ × Pair)
 indexed None = None
 indexed (Some e) = with_index e.0 (pair_for (Some e.1))
 
--- the index and the pair of one of the parts that are kept
+-- the index and the pair of one of these parts
 abbrev pub nth_part : ℕ → ℕ → KeptAsk → ℕ → Option (ℕ × Pair)
-nth_part w r (KeptAsk.Fields parts) n = indexed (slice_get parts.items n)
+nth_part w r (KeptAsk.Fields parts) n = indexed (slice_get parts.now n)
 nth_part w r ask n = with_index n (kept_part w r ask n)
 
 -- the fields are in order
 abbrev pub AreOrdered : KeptAsk → Type 0
-AreOrdered (KeptAsk.Fields parts) = AreAscending 0 parts.items
+AreOrdered (KeptAsk.Fields parts) = AreAscending 0 parts.now
 AreOrdered ask = Unit {0}
-
--- what is kept of a field
-abbrev pub row_entry : Option FieldAsk → Option At
-row_entry None = None
-row_entry (Some row) = option_map (λ q. At.Pair row.node q) row.theirs

@@ -18,8 +18,6 @@ pub use datum::tables::Tables;
 pub use kept::Least;
 pub use nodes::least::{count, entry};
 pub use nodes::search::least_data;
-pub use pairs::asking::{Ask, FieldAsk};
 pub use pairs::erring::pair_entry;
-pub use pairs::keeping::KeptAsk;
 pub use pairs::reaching::{Reached, reach, readers, writers};
 pub use pairs::search::least_errors;

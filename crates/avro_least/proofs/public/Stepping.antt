@@ -1,18 +1,19 @@
 -- The numbers of the pairs that a pair takes.
-use Rattle.std.proofs.Common.{◌≡◌, ℕ, suc, ◌+◌, ◌*◌, ◌/◌, ◌%◌, ◌<◌, ◌≤◌, Bool, true, false, cond, List, [], ◌∷◌, ◌++◌, Some, inl, inr, length, refl, sym, ◌∙◌, ap, subst, arith}
+use Rattle.std.proofs.Common.{◌≡◌, ℕ, suc, ◌+◌, ◌*◌, ◌/◌, ◌%◌, ◌<◌, ◌≤◌, Bool, true, false, cond, List, [], ◌∷◌, ◌++◌, Some, inl, inr, length, get_or, refl, sym, ◌∙◌, ap, subst, arith}
 use Rattle.std.proofs.lemmas.Bool.{false≢true, and_from, ltb-true, lt-ltb, cases_eq}
 use Rattle.std.proofs.lemmas.List.{length-append}
-use Rattle.std.proofs.lemmas.Option.{slice_get_within}
+use Rattle.std.proofs.lemmas.Option.{slice_get_within, slice_get-get_or}
 use Rattle.std.proofs.Math.Nat.{mul-le-mul_right, one-le-mul, mod-lt, div-lt_iff_lt-mul}
 use Rattle.std.specs.Prelude.{slice_get, nat_lt, is_none}
 use Rattle.std.specs.List.{list_all}
 use Rattle.avro_schema.specs.Node.{Node, node_at}
 use Rattle.avro_schema.specs.WellFormed.{is_schema}
 use Rattle.avro_compare.specs.Children.{Pair}
+use Rattle.avro_compare.specs.Planned.{AreComparisons}
+use Rattle.avro_compare.specs.declared.comparison.Comparison.{Comparison}
 use Rattle.avro_least.specs.Tables.{LeastTable, pair_number}
-use Rattle.avro_least.specs.KeptAsks.{AreAsked, IsKept}
-use Rattle.avro_least.specs.declared.pairs.keeping.KeptAsk.{KeptAsk}
-use Rattle.avro_least.specs.Asked.{asked_at, children_at, live_numbers, steps_at}
+use Rattle.avro_least.specs.KeptAsks.{AreFound, IsFound}
+use Rattle.avro_least.specs.Asked.{children_at, live_numbers, steps_at}
 use Rattle.avro_certificate.proofs.public.Tests.{and_left, and_right}
 use Rattle.avro_least.proofs.public.Keys.{get_kept, some_same}
 use Rattle.avro_least.proofs.AskedWithin.{is_within, children_within, node_within}
@@ -69,16 +70,21 @@ module _ (writer reader : List Node) (table : LeastTable) where
       → list_all (λ x. nat_lt x (length writer * length reader)) (steps_at writer reader table k) ≡ true
   steps_below formed there k h = numbers_below (children_at writer reader k) (children_at_within formed there k h)
 
--- one more pair is asked
-pub asked_more : (writer reader : List Node) (ks rest : List ℕ) (asks : List KeptAsk) (ask : KeptAsk) (key : ℕ) → AreAsked writer reader ks asks → slice_get ks (length asks) ≡ Some key
-    → IsKept ask (asked_at writer reader key) → AreAsked writer reader (ks ++ rest) (asks ++ ask ∷ [])
-asked_more writer reader ks rest asks ask key before here own i k one found got = elim (cases_eq i (length asks)) [
+-- one more comparison
+pub found_more : (writer reader : List Node) (ks rest : List ℕ) (found : List Comparison) (p : Comparison) (key : ℕ) → AreFound writer reader ks found → slice_get ks (length found) ≡ Some key
+    → IsFound writer reader key p → AreFound writer reader (ks ++ rest) (found ++ p ∷ [])
+found_more writer reader ks rest found p key before here own i k one there got = elim (cases_eq i (length found)) [
   | inl same ↦
-      let it : Some k ≡ Some key = sym found ∙ get_kept ks rest i (omega (arith, same, slice_get_within ks (length asks) key here)) ∙ ap (slice_get ks) same ∙ here in
-      let mine : Some one ≡ Some ask = sym got ∙ ap (slice_get (asks ++ ask ∷ [])) same ∙ get_last asks ask in
-      subst (λ (n : ℕ). IsKept one (asked_at writer reader n)) (sym (some_same k key it))
-      (subst (λ (x : KeptAsk). IsKept x (asked_at writer reader key)) (sym (some_same one ask mine)) own)
+      let it : Some k ≡ Some key = sym there ∙ get_kept ks rest i (omega (arith, same, slice_get_within ks (length found) key here)) ∙ ap (slice_get ks) same ∙ here in
+      let mine : Some one ≡ Some p = sym got ∙ ap (slice_get (found ++ p ∷ [])) same ∙ get_last found p in
+      subst (λ (n : ℕ). IsFound writer reader n one) (sym (some_same k key it))
+      (subst (λ (x : Comparison). IsFound writer reader key x) (sym (some_same one p mine)) own)
   | inr apart ↦
-      let low : i < length asks = omega (arith, apart, slice_get_within (asks ++ ask ∷ []) i one got, length-append asks (ask ∷ [])) in
-      before i k one (sym (get_kept ks rest i (omega (arith, low, slice_get_within ks (length asks) key here))) ∙ found) (sym (get_kept asks (ask ∷ []) i low) ∙ got)
+      let low : i < length found = omega (arith, apart, slice_get_within (found ++ p ∷ []) i one got, length-append found (p ∷ [])) in
+      before i k one (sym (get_kept ks rest i (omega (arith, low, slice_get_within ks (length found) key here))) ∙ there) (sym (get_kept found (p ∷ []) i low) ∙ got)
 ]
+
+-- each is one of nodes of the two schemas
+pub found_compared : (writer reader : List Node) (ks : List ℕ) (found : List Comparison) → AreFound writer reader ks found → length found ≤ length ks → AreComparisons writer reader found
+found_compared writer reader ks found all as_many i p got =
+    (all i (get_or ks i 0) p (slice_get-get_or ks i 0 (omega (arith, slice_get_within found i p got, as_many))) got).comparison

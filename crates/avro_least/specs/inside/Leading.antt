@@ -9,7 +9,7 @@ use Rattle.avro_schema.specs.WellFormed.{is_schema}
 use Rattle.avro_compare.specs.Children.{Pair}
 use Rattle.avro_least.specs.Tables.{Least, LeastTable, AtMost, AreDataShown, no_parts, pair_number, erring_of}
 use Rattle.avro_least.specs.SeenLeast.{seen_all, table_of}
-use Rattle.avro_least.specs.KeptAsks.{AreAsked}
+use Rattle.avro_least.specs.KeptAsks.{AreFound}
 use Rattle.avro_least.specs.Reached.{AreFollowed}
 use Rattle.avro_least.specs.Asked.{asked_at, steps_at, ArePairsShown}
 use Rattle.avro_least.specs.inside.Parts.{part_at, value_by_part, value_alone, AreOthers}
@@ -78,8 +78,8 @@ pub record IsGraph (g : Graph) : Type 0 where
   pub least : AreDataShown (schema_nodes g.writer.now) g.limit (table_of g.table.now)
   pub below : list_all (λ k. nat_lt k (length (schema_nodes g.writer.now) * length (schema_nodes g.reader.now))) (keys g.reached.now.known) ≡ true
   pub closed : AreFollowed (steps_at (schema_nodes g.writer.now) (schema_nodes g.reader.now) (table_of g.table.now)) (keys g.reached.now.known) (length (keys g.reached.now.known))
-  pub asks : length g.reached.now.asks.items ≡ length (keys g.reached.now.known)
-  pub asked : AreAsked (schema_nodes g.writer.now) (schema_nodes g.reader.now) (keys g.reached.now.known) g.reached.now.asks.items
+  pub one_each : length g.reached.now.found.items ≡ length (keys g.reached.now.known)
+  pub of_keys : AreFound (schema_nodes g.writer.now) (schema_nodes g.reader.now) (keys g.reached.now.known) g.reached.now.found.items
   pub others : AreOthers (schema_nodes g.writer.now) g.limit (table_of g.table.now) (length (schema_nodes g.writer.now)) g.others.now
   pub leads : AreLeads (schema_nodes g.writer.now) (schema_nodes g.reader.now) (table_of g.table.now) (keys g.reached.now.known) (length (keys g.reached.now.known)) g.leads.now
 

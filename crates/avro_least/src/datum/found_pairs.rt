@@ -11,7 +11,7 @@ ghost use Rattle.avro_least.specs.SeenAsk.{ask_of};
 
 use crate::datum::made::{one_byte, symbol};
 use crate::datum::tables::Tables;
-use crate::pairs::asking::{Ask, ask_of_pair};
+use crate::pairs::asking::{Ask, ask_with_rows};
 use crate::pairs::reaching::{Reached, number};
 use avro_compare::{Comparison, Names, compare};
 use avro_schema::{Datum, Memory, Node, NodeId};
@@ -51,10 +51,10 @@ pub(crate) fn ask_for(alloc: Global, tables: &Tables, w: NodeId, r: NodeId) -> R
     ensures { IfOk result (λ a. ask_of a ≡ asked (schema_nodes tables.now.writer.now) (schema_nodes tables.now.reader.now) (node_at (schema_nodes tables.now.writer.now) w.0) (node_at (schema_nodes tables.now.reader.now) r.0)) }
 {
     match found_of(tables.reached, tables.count, w, r) {
-        Some(pair) => ask_of_pair(alloc, tables.writer, tables.reader, pair),
+        Some(pair) => ask_with_rows(alloc, tables.writer, tables.reader, pair),
         None => {
             let pair = compare_alone(alloc, tables, w, r)?;
-            ask_of_pair(alloc, tables.writer, tables.reader, &pair)
+            ask_with_rows(alloc, tables.writer, tables.reader, &pair)
         }
     }
 }

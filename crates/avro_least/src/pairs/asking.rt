@@ -1,29 +1,33 @@
 //! What a datum needs to fail at a pair of nodes, from the comparison of the pair.
 
-ghost use Rattle.std.specs.Prelude.{◌≡◌, IfOk, is_some, cond, option_map};
-ghost use Rattle.avro_schema.specs.Node.{node_at, field_ids};
+ghost use Rattle.std.specs.Prelude.{◌≡◌, ℕ, List, IfOk, is_some, cond, option_map};
+ghost use Rattle.avro_schema.specs.Node.{Node as SeenNode, node_at, field_ids};
 ghost use Rattle.avro_schema.specs.Seen.{node_of, seen_fields};
 ghost use Rattle.avro_schema.specs.SeenSchema.{schema_nodes};
-ghost use Rattle.avro_compare.specs.Planned.{AreInside, IsComparison};
+ghost use Rattle.avro_compare.specs.Planned.{AreFor, AreInside, IsComparison};
+ghost use Rattle.avro_compare.specs.Resolve.{fields_at};
 ghost use Rattle.avro_least.specs.Asked.{Asked, asked, asked_inside};
+ghost use Rattle.avro_least.specs.KeptAsks.{AreTaken, IsKept, view_of};
 ghost use Rattle.avro_least.specs.SeenAsk.{ask_of, rows_by, rows_of, theirs_in};
+ghost use Rattle.avro_least.specs.inside.Parts.{nodes_of};
 
+use crate::pairs::keeping::KeptAsk;
 use avro_compare::{Aim, At, Comparison, first_entry, rest_entries};
 use avro_schema::{Field, Memory, Node, NodeId, Schema};
 use std::alloc::Global;
 
 /// A writer's field, and the reader's field that takes its value.
 #[derive(Clone, Copy, Debug)]
-pub struct FieldAsk {
+pub(crate) struct FieldAsk {
     /// The node of the writer's field.
-    pub node: NodeId,
+    pub(crate) node: NodeId,
     /// The node of the reader's field, if there is one.
-    pub theirs: Option<NodeId>,
+    pub(crate) theirs: Option<NodeId>,
 }
 
-/// What a pair of nodes asks of a datum that fails there.
+/// What a pair of nodes asks of a datum that fails there, with all of the writer's fields, to build the datum from.
 #[derive(Debug, Drop)]
-pub enum Ask {
+pub(crate) enum Ask {
     /// Nothing: no datum fails.
     Quiet,
     /// The writer's least datum: each datum fails.
@@ -69,61 +73,113 @@ fn rows(alloc: Global, writer: &[Field], parts: &[(usize, At)]) -> Result<Vec<Fi
 }
 
 /// What two records ask for.
-fn ask_fields(alloc: Global, writer: &[Field], pair: &Comparison) -> Result<Ask, Memory>
-    ensures { IfOk result (λ a. ask_of a ≡ cond (is_some pair.now.missing) Asked.whole
-        (Asked.fields (rows_by pair.now.fields.items 0 (field_ids (seen_fields writer.now))))) }
+fn ask_fields(pair: &Comparison) -> KeptAsk<'_>
+    ensures shown { (ids : List ℕ) → view_of ids result ≡ cond (is_some pair.now.missing) Asked.whole (Asked.fields (rows_by pair.now.fields.items 0 ids)) }
+    ensures taken { (n q : SeenNode) → AreFor (fields_at n) (fields_at q) pair.now.fields.items → AreTaken n q result }
 {
     if pair.missing.is_some() {
-        return Ok(Ask::Whole);
+        return KeptAsk::Whole;
     }
-    Ok(Ask::Fields(rows(alloc, writer, &pair.fields)?))
+    KeptAsk::Fields(&pair.fields)
 }
 
 /// What two enums ask for.
-fn ask_symbols(pair: &Comparison) -> Ask
-    ensures { ask_of result ≡ cond (is_some pair.now.lacking) Asked.lone Asked.quiet }
+fn ask_symbols(pair: &Comparison) -> KeptAsk<'_>
+    ensures shown { (ids : List ℕ) → view_of ids result ≡ cond (is_some pair.now.lacking) Asked.lone Asked.quiet }
+    ensures taken { (n q : SeenNode) → AreTaken n q result }
 {
     if pair.lacks_symbol() {
-        Ask::Lone
+        KeptAsk::Lone
     } else {
-        Ask::Quiet
+        KeptAsk::Quiet
     }
 }
 
 /// What two matching nodes ask for, neither of which is a union.
-fn ask_inside(alloc: Global, w: &Node, r: &Node, pair: &Comparison) -> Result<Ask, Memory>
+fn ask_inside<'a>(w: &Node, r: &Node, pair: &'a Comparison) -> KeptAsk<'a>
     requires { AreInside (node_of w.now) (node_of r.now) pair.now }
-    ensures { IfOk result (λ a. ask_of a ≡ asked_inside (node_of w.now) (node_of r.now)) }
+    ensures shown { view_of (nodes_of (node_of w.now)) result ≡ asked_inside (node_of w.now) (node_of r.now) }
+    ensures taken { AreTaken (node_of w.now) (node_of r.now) result }
 {
     match w {
-        Node::Bytes => Ok(if matches!(r, Node::Str) {
-            Ask::Lone
+        Node::Bytes => if matches!(r, Node::Str) {
+            KeptAsk::Lone
         } else {
-            Ask::Quiet
-        }),
+            KeptAsk::Quiet
+        },
         Node::Array(a) => match r {
-            Node::Array(b) => Ok(Ask::Part(*a, *b)),
-            _ => Ok(Ask::Quiet),
+            Node::Array(b) => KeptAsk::Part(*a, *b),
+            _ => KeptAsk::Quiet,
         },
         Node::Map(a) => match r {
-            Node::Map(b) => Ok(Ask::Part(*a, *b)),
-            _ => Ok(Ask::Quiet),
+            Node::Map(b) => KeptAsk::Part(*a, *b),
+            _ => KeptAsk::Quiet,
         },
-        Node::Record(a) => match r {
-            Node::Record(_) => ask_fields(alloc, &a.fields, pair),
-            _ => Ok(Ask::Quiet),
+        Node::Record(_) => match r {
+            Node::Record(_) => ask_fields(pair),
+            _ => KeptAsk::Quiet,
         },
         Node::Enum(_) => match r {
-            Node::Enum(_) => Ok(ask_symbols(pair)),
-            _ => Ok(Ask::Quiet),
+            Node::Enum(_) => ask_symbols(pair),
+            _ => KeptAsk::Quiet,
         },
-        _ => Ok(Ask::Quiet),
+        _ => KeptAsk::Quiet,
     }
 }
 
 /// What a pair of nodes asks for, from its comparison; no name is compared here. An id that a schema does not
 /// have counts as a null.
-pub(crate) fn ask_of_pair(
+pub(crate) fn ask_of_pair<'a>(
+    writer: &'a Schema,
+    reader: &Schema,
+    pair: &'a Comparison,
+) -> KeptAsk<'a>
+    requires { IsComparison (schema_nodes writer.now) (schema_nodes reader.now) pair.now }
+    ensures shown { view_of (nodes_of (node_at (schema_nodes writer.now) pair.now.w.0)) result
+        ≡ asked (schema_nodes writer.now) (schema_nodes reader.now) (node_at (schema_nodes writer.now) pair.now.w.0) (node_at (schema_nodes reader.now) pair.now.r.0) }
+    ensures kept { IsKept result (asked (schema_nodes writer.now) (schema_nodes reader.now) (node_at (schema_nodes writer.now) pair.now.w.0) (node_at (schema_nodes reader.now) pair.now.r.0)) }
+{
+    let from = writer.get(pair.w);
+    let to = reader.get(pair.r);
+    ask_nodes(writer, reader, from, to, pair)
+}
+
+/// The same, given the two nodes.
+fn ask_nodes<'a>(
+    writer: &Schema,
+    reader: &Schema,
+    from: &'a Node,
+    to: &Node,
+    pair: &'a Comparison,
+) -> KeptAsk<'a>
+    requires pair { IsComparison (schema_nodes writer.now) (schema_nodes reader.now) pair.now }
+    requires from { node_of from.now ≡ node_at (schema_nodes writer.now) pair.now.w.0 }
+    requires to { node_of to.now ≡ node_at (schema_nodes reader.now) pair.now.r.0 }
+    ensures shown { view_of (nodes_of (node_of from.now)) result ≡ asked (schema_nodes writer.now) (schema_nodes reader.now) (node_of from.now) (node_of to.now) }
+    ensures taken { AreTaken (node_of from.now) (node_of to.now) result }
+{
+    match from {
+        Node::Union(ids) => KeptAsk::Branches(ids),
+        _ => match pair.aim {
+            Aim::Fault(_) => KeptAsk::Whole,
+            Aim::To(Some(_), q) => KeptAsk::Same(q),
+            Aim::To(None, _) => ask_inside(from, to, pair),
+        },
+    }
+}
+
+/// Each of the fields of a writer's node, with the reader's field that takes its value. Only a record has fields.
+fn rows_of_node(alloc: Global, node: &Node, parts: &[(usize, At)]) -> Result<Vec<FieldAsk>, Memory>
+    ensures { IfOk result (λ rows. rows_of rows.items ≡ rows_by parts.now 0 (nodes_of (node_of node.now))) }
+{
+    match node {
+        Node::Record(record) => rows(alloc, &record.fields, parts),
+        _ => Ok(Vec::new(alloc)),
+    }
+}
+
+/// What a pair of nodes asks for, with all of the writer's fields.
+pub(crate) fn ask_with_rows(
     alloc: Global,
     writer: &Schema,
     reader: &Schema,
@@ -132,31 +188,16 @@ pub(crate) fn ask_of_pair(
     requires { IsComparison (schema_nodes writer.now) (schema_nodes reader.now) pair.now }
     ensures { IfOk result (λ a. ask_of a ≡ asked (schema_nodes writer.now) (schema_nodes reader.now) (node_at (schema_nodes writer.now) pair.now.w.0) (node_at (schema_nodes reader.now) pair.now.r.0)) }
 {
-    let from = writer.get(pair.w);
-    let to = reader.get(pair.r);
-    ask_nodes(alloc, writer, reader, from, to, pair)
-}
-
-/// The same, given the two nodes.
-fn ask_nodes(
-    alloc: Global,
-    writer: &Schema,
-    reader: &Schema,
-    from: &Node,
-    to: &Node,
-    pair: &Comparison,
-) -> Result<Ask, Memory>
-    requires pair { IsComparison (schema_nodes writer.now) (schema_nodes reader.now) pair.now }
-    requires from { node_of from.now ≡ node_at (schema_nodes writer.now) pair.now.w.0 }
-    requires to { node_of to.now ≡ node_at (schema_nodes reader.now) pair.now.r.0 }
-    ensures { IfOk result (λ a. ask_of a ≡ asked (schema_nodes writer.now) (schema_nodes reader.now) (node_of from.now) (node_of to.now)) }
-{
-    match from {
-        Node::Union(ids) => Ok(Ask::Branches(ids.to_vec(alloc)?)),
-        _ => match pair.aim {
-            Aim::Fault(_) => Ok(Ask::Whole),
-            Aim::To(Some(_), q) => Ok(Ask::Same(q)),
-            Aim::To(None, _) => ask_inside(alloc, from, to, pair),
-        },
+    match ask_of_pair(writer, reader, pair) {
+        KeptAsk::Quiet => Ok(Ask::Quiet),
+        KeptAsk::Whole => Ok(Ask::Whole),
+        KeptAsk::Lone => Ok(Ask::Lone),
+        KeptAsk::Same(q) => Ok(Ask::Same(q)),
+        KeptAsk::Part(a, b) => Ok(Ask::Part(a, b)),
+        KeptAsk::Branches(ids) => Ok(Ask::Branches(ids.to_vec(alloc)?)),
+        KeptAsk::Fields(parts) => {
+            let rows = rows_of_node(alloc, writer.get(pair.w), parts)?;
+            Ok(Ask::Fields(rows))
+        }
     }
 }

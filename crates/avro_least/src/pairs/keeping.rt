@@ -1,18 +1,15 @@
-//! What is kept of what a pair asks for: of records, only the fields that the reader takes.
+//! What a pair asks for, as a view of its comparison, and its fields by their indices.
 
-ghost use Rattle.std.specs.Prelude.{◌≡◌, ◌<◌, ℕ, IfOk, length, slice_get};
+ghost use Rattle.std.specs.Prelude.{◌≡◌, ◌<◌, length};
 ghost use Rattle.avro_compare.specs.Entries.{AreAscending, entry_at};
-ghost use Rattle.avro_least.specs.KeptAsks.{IsKept, row_entry};
-ghost use Rattle.avro_least.specs.SeenAsk.{ask_of};
 
-use crate::pairs::asking::{Ask, FieldAsk};
 use avro_compare::{At, first_entry};
-use avro_schema::{Memory, NodeId};
-use std::alloc::Global;
+use avro_schema::NodeId;
 
-/// What a pair of nodes asks of a datum that fails there, as it is kept of each pair.
-#[derive(Debug, Drop)]
-pub enum KeptAsk {
+/// What a pair of nodes asks of a datum that fails there, as its comparison and the writer's node say it. Nothing is
+/// copied for it.
+#[derive(Clone, Copy, Debug)]
+pub(crate) enum KeptAsk<'a> {
     /// Nothing: no datum fails.
     Quiet,
     /// The writer's least datum: each datum fails.
@@ -24,44 +21,10 @@ pub enum KeptAsk {
     /// An item or a value that fails at these two nodes.
     Part(NodeId, NodeId),
     /// A value that fails in one of the branches of the writer's union.
-    Branches(Vec<NodeId>),
+    Branches(&'a [NodeId]),
     /// One field that fails, beside the least data of the others: the fields that the reader takes, in order, each
     /// with its index.
-    Fields(Vec<(usize, At)>),
-}
-
-/// What is kept of what a pair asks for.
-pub(crate) fn keep_ask(alloc: Global, ask: Ask) -> Result<KeptAsk, Memory>
-    ensures { IfOk result (λ kept. IsKept kept (ask_of ask)) }
-{
-    match ask {
-        Ask::Quiet => Ok(KeptAsk::Quiet),
-        Ask::Whole => Ok(KeptAsk::Whole),
-        Ask::Lone => Ok(KeptAsk::Lone),
-        Ask::Same(q) => Ok(KeptAsk::Same(q)),
-        Ask::Part(a, b) => Ok(KeptAsk::Part(a, b)),
-        Ask::Branches(ids) => Ok(KeptAsk::Branches(ids)),
-        Ask::Fields(rows) => {
-            let parts = keep_rows(alloc, &rows)?;
-            Ok(KeptAsk::Fields(parts))
-        }
-    }
-}
-
-/// The fields that the reader takes, each with its index.
-fn keep_rows(alloc: Global, rows: &[FieldAsk]) -> Result<Vec<(usize, At)>, Memory>
-    ensures { IfOk result (λ kept. AreAscending 0 kept.items × ((k : ℕ) → entry_at kept.items k ≡ row_entry (slice_get rows.now k))) }
-{
-    let mut kept = Vec::new(alloc);
-    for index in 0..rows.len() {
-        let row = &rows[index];
-        match row.theirs {
-            None => {}
-            Some(theirs) => kept.push((index, At::Pair(row.node, theirs)))?,
-        }
-    }
-    kept.shrink_to_fit();
-    Ok(kept)
+    Fields(&'a [(usize, At)]),
 }
 
 /// What is kept of an index.

@@ -1,17 +1,17 @@
 //! Which pairs lead to a pair.
 
-ghost use Rattle.std.specs.Prelude.{◌≡◌, ◌<◌, ◌*◌, ◌==◌, ℕ, Some, true, false, length, nat_lt, position, slice_get, is_none, IfOk, OnOk};
+ghost use Rattle.std.specs.Prelude.{◌≡◌, ◌<◌, ◌*◌, ◌==◌, ℕ, Some, true, false, length, nat_lt, position, is_none, IfOk, OnOk};
 ghost use Rattle.std.specs.List.{list_all};
 ghost use Rattle.indexmap.specs.IndexSet.{keys};
 ghost use Rattle.avro_schema.specs.SeenSchema.{schema_nodes};
 ghost use Rattle.avro_least.specs.SeenLeast.{table_of};
 ghost use Rattle.avro_least.specs.Tables.{pair_number};
-ghost use Rattle.avro_least.specs.KeptAsks.{AreAsked, kept_part};
+ghost use Rattle.avro_least.specs.KeptAsks.{AreFound, kept_part};
 ghost use Rattle.avro_least.specs.inside.Leading.{is_lead, leads_at, AreLeads};
-ghost use Rattle.avro_least.specs.declared.pairs.keeping.KeptAsk.{KeptAsk};
 
 use crate::kept::Least;
 use crate::nodes::least::{count, entry};
+use crate::pairs::keeping::KeptAsk;
 use crate::pairs::parts::{nth_part, part_count};
 use crate::pairs::reaching::{Reached, ask_at_index, number, readers, writers};
 use avro_schema::{Memory, NodeId, Schema};
@@ -22,9 +22,22 @@ use std::alloc::Global;
 #[derive(Clone, Copy, Debug)]
 pub(crate) struct Lead {
     /// The index of the pair.
-    pub(crate) pair: usize,
+    pub(crate) pair: u32,
     /// The index of its part.
-    pub(crate) part: usize,
+    pub(crate) part: u32,
+}
+
+/// The lead of the pair at an index by the part at an index. Either past the range of numbers would exceed any memory.
+fn lead_of(pair: usize, part: usize) -> Result<Lead, Memory>
+    ensures { IfOk result (λ l. (l.pair ≡ pair) × (l.part ≡ part)) }
+{
+    match u32::try_from(pair) {
+        Ok(pair) => match u32::try_from(part) {
+            Ok(part) => Ok(Lead { pair, part }),
+            Err(_) => Err(Memory),
+        },
+        Err(_) => Err(Memory),
+    }
 }
 
 /// The row at an index, or nothing past the end.
@@ -91,32 +104,32 @@ fn add_part(
             if entry(table, a).is_none() {
                 return Ok(());
             }
-            add_lead(known, number(count, a, b), Lead { pair, part: k }, rows)
+            let lead = lead_of(pair, k)?;
+            add_lead(known, number(count, a, b), lead, rows)
         }
     }
 }
 
-/// Adds the pair at an index to the rows of those that it leads to.
+/// Adds the pair at an index to the rows of those that it leads to, by what it asks for.
 fn add_parts(
     table: &[Option<Least>],
     count: u32,
-    reached: &Reached,
+    known: &IndexSet<u64>,
+    ask: KeptAsk,
     w: NodeId,
     r: NodeId,
     i: usize,
     rows: &mut [Vec<Lead>],
 ) -> Result<(), Memory>
-    requires rows { length rows.old ≡ length (keys reached.now.known) }
-    requires within { i < length reached.now.asks.items }
+    requires { length rows.old ≡ length (keys known.now) }
     ensures one_each { OnOk result (length rows.new ≡ length rows.old) }
     ensures kept { OnOk result ((j p k : ℕ) → is_lead (leads_at rows.old j) p k ≡ true → is_lead (leads_at rows.new j) p k ≡ true) }
-    ensures added { OnOk result ((ask : KeptAsk) (j k a b : ℕ) → slice_get reached.now.asks.items i ≡ Some ask → kept_part w.0 r.0 ask k ≡ Some (record { w = a; r = b })
-        → is_none (table_of table.now a) ≡ false → position (λ q. pair_number count a b == q) (keys reached.now.known) ≡ Some j → is_lead (leads_at rows.new j) i k ≡ true) }
+    ensures added { OnOk result ((j k a b : ℕ) → kept_part w.0 r.0 ask.entry k ≡ Some (record { w = a; r = b }) → is_none (table_of table.now a) ≡ false
+        → position (λ q. pair_number count a b == q) (keys known.now) ≡ Some j → is_lead (leads_at rows.new j) i k ≡ true) }
 {
-    let ask = ask_at_index(reached, i);
     for n in 0..part_count(ask) {
         let part = nth_part(w, r, ask, n);
-        add_part(table, count, &reached.known, part, i, rows)?;
+        add_part(table, count, known, part, i, rows)?;
     }
     Ok(())
 }
@@ -134,8 +147,8 @@ pub(crate) fn leads(
     reached: &Reached,
 ) -> Result<Vec<Vec<Lead>>, Memory>
     requires below { list_all (λ k. nat_lt k (length (schema_nodes writer.now) * length (schema_nodes reader.now))) (keys reached.now.known) ≡ true }
-    requires asks { length reached.now.asks.items ≡ length (keys reached.now.known) }
-    requires asked { AreAsked (schema_nodes writer.now) (schema_nodes reader.now) (keys reached.now.known) reached.now.asks.items }
+    requires one_each { length reached.now.found.items ≡ length (keys reached.now.known) }
+    requires of_keys { AreFound (schema_nodes writer.now) (schema_nodes reader.now) (keys reached.now.known) reached.now.found.items }
     ensures { IfOk result (λ t. AreLeads (schema_nodes writer.now) (schema_nodes reader.now) (table_of table.now) (keys reached.now.known) (length (keys reached.now.known)) t.items) }
 {
     let pairs = reached.known.len();
@@ -147,7 +160,8 @@ pub(crate) fn leads(
             Some(key) => {
                 let w = writers(writer, reader, *key);
                 let r = readers(reader, *key);
-                add_parts(table, nodes, reached, w, r, i, &mut rows)?;
+                let ask = ask_at_index(writer, reader, reached, i);
+                add_parts(table, nodes, &reached.known, ask, w, r, i, &mut rows)?;
             }
         }
     }

@@ -21,8 +21,8 @@ use avro_schema::{Field, Memory, Node, NodeId, Schema};
 use std::alloc::Global;
 
 /// The number of parts that are kept of a pair.
-pub(crate) fn part_count(ask: &KeptAsk) -> usize
-    ensures { result ≡ kept_count ask.now }
+pub(crate) fn part_count(ask: KeptAsk) -> usize
+    ensures { result ≡ kept_count ask.entry }
 {
     match ask {
         KeptAsk::Quiet => 0,
@@ -71,16 +71,16 @@ fn pair_for(part: Option<At>) -> Option<(NodeId, NodeId)>
 }
 
 /// The nodes of the part at an index. There are none past the last part, and of a field that no reader's field takes.
-pub(crate) fn part_at(w: NodeId, r: NodeId, ask: &KeptAsk, k: usize) -> Option<(NodeId, NodeId)>
-    requires { AreOrdered ask.now }
-    ensures { seen_pair result ≡ kept_part w.0 r.0 ask.now k }
+pub(crate) fn part_at(w: NodeId, r: NodeId, ask: KeptAsk, k: usize) -> Option<(NodeId, NodeId)>
+    requires { AreOrdered ask }
+    ensures { seen_pair result ≡ kept_part w.0 r.0 ask.entry k }
 {
     match ask {
         KeptAsk::Quiet => None,
         KeptAsk::Whole => None,
         KeptAsk::Lone => None,
-        KeptAsk::Same(q) => (k == 0).then_some((w, *q)),
-        KeptAsk::Part(a, b) => (k == 0).then_some((*a, *b)),
+        KeptAsk::Same(q) => (k == 0).then_some((w, q)),
+        KeptAsk::Part(a, b) => (k == 0).then_some((a, b)),
         KeptAsk::Branches(ids) => branch_at(ids, r, k),
         KeptAsk::Fields(parts) => pair_for(find_entry(parts, k)),
     }
@@ -100,17 +100,17 @@ fn at_index(k: usize, pair: Option<(NodeId, NodeId)>) -> Option<(usize, NodeId, 
 pub(crate) fn nth_part(
     w: NodeId,
     r: NodeId,
-    ask: &KeptAsk,
+    ask: KeptAsk,
     n: usize,
 ) -> Option<(usize, NodeId, NodeId)>
-    ensures { seen_part result ≡ nth_part w.0 r.0 ask.now n }
+    ensures { seen_part result ≡ nth_part w.0 r.0 ask.entry n }
 {
     match ask {
         KeptAsk::Quiet => None,
         KeptAsk::Whole => None,
         KeptAsk::Lone => None,
-        KeptAsk::Same(q) => at_index(n, (n == 0).then_some((w, *q))),
-        KeptAsk::Part(a, b) => at_index(n, (n == 0).then_some((*a, *b))),
+        KeptAsk::Same(q) => at_index(n, (n == 0).then_some((w, q))),
+        KeptAsk::Part(a, b) => at_index(n, (n == 0).then_some((a, b))),
         KeptAsk::Branches(ids) => at_index(n, branch_at(ids, r, n)),
         KeptAsk::Fields(parts) => match entry_in(parts, n) {
             None => None,
@@ -124,12 +124,12 @@ pub(crate) fn around_part(
     limit: u32,
     table: &[Option<Least>],
     others: &[Option<Least>],
-    ask: &KeptAsk,
+    ask: KeptAsk,
     k: usize,
     part: Option<Least>,
 ) -> Option<Least>
     requires { limit ≤ 16777216 }
-    ensures { (a : Asked) → IsKept ask.now a
+    ensures { (a : Asked) → IsKept ask.entry a
         → ((rows : List Row) → a ≡ Asked.fields rows → given_entry (slice_get others.now k) ≡ least_of_others limit (table_of table.now) (map (λ row. row.node) rows) k)
         → seen result ≡ around_part limit (table_of table.now) a k (seen part) }
 {
@@ -145,8 +145,8 @@ pub(crate) fn around_part(
 }
 
 /// The entry of a pair that needs no part.
-pub(crate) fn value_alone(table: &[Option<Least>], w: NodeId, ask: &KeptAsk) -> Option<Least>
-    ensures { (a : Asked) → IsKept ask.now a → seen result ≡ value_alone (table_of table.now) w.0 a }
+pub(crate) fn value_alone(table: &[Option<Least>], w: NodeId, ask: KeptAsk) -> Option<Least>
+    ensures { (a : Asked) → IsKept ask.entry a → seen result ≡ value_alone (table_of table.now) w.0 a }
 {
     match ask {
         KeptAsk::Whole => entry(table, w),

@@ -11,26 +11,24 @@ ghost use Rattle.avro_least.specs.Tables.{pair_number};
 ghost use Rattle.avro_least.specs.SeenLeast.{table_of};
 ghost use Rattle.avro_least.specs.Reached.{is_key, AreFollowed, IsSteppedTo};
 ghost use Rattle.avro_least.specs.Asked.{asked_at, live_numbers, open_children, steps_at};
-ghost use Rattle.avro_least.specs.KeptAsks.{AreAsked, IsKept};
+ghost use Rattle.avro_least.specs.KeptAsks.{AreFound, IsFound, IsKept};
 
 use crate::kept::Least;
 use crate::nodes::least::{count, entry};
 use crate::pairs::asking::ask_of_pair;
-use crate::pairs::keeping::{KeptAsk, keep_ask};
+use crate::pairs::keeping::KeptAsk;
 use avro_compare::{Comparison, Lead, Names, compare, has_fault, leads};
 use avro_schema::{Memory, NodeId, Schema};
 use indexmap::IndexSet;
 use std::alloc::Global;
 
-/// The pairs that were reached, the comparison of each, and what each asks for.
+/// The pairs that were reached, and the comparison of each.
 #[derive(Debug, Drop)]
 pub struct Reached {
     /// The number of each pair, in order of discovery.
     pub known: IndexSet<u64>,
     /// The comparison of the pair at each index.
     pub found: Vec<Comparison>,
-    /// What the pair at each index asks for.
-    pub asks: Vec<KeptAsk>,
 }
 
 /// Adds numbers, each once.
@@ -124,8 +122,7 @@ pub fn readers(reader: &Schema, key: u64) -> NodeId
     NodeId((key % u64::from(count(reader))) as u32)
 }
 
-/// Compares a pair and returns what it asks for, with the numbers of the pairs that it leads to. The comparison is
-/// added to those of the others.
+/// Compares a pair, and returns the numbers of the pairs that it leads to beside its comparison.
 fn visit(
     alloc: Global,
     names: &Names,
@@ -133,30 +130,41 @@ fn visit(
     reader: &Schema,
     table: &[Option<Least>],
     key: u64,
-    found: &mut Vec<Comparison>,
-) -> Result<(KeptAsk, Vec<u64>), Memory>
+) -> Result<(Comparison, Vec<u64>), Memory>
     requires of_these { names.now ≡ (writer.now, reader.now) }
     requires within { key < length (schema_nodes writer.now) * length (schema_nodes reader.now) }
-    ensures asked { IfOk result (λ a. IsKept a.0 (asked_at (schema_nodes writer.now) (schema_nodes reader.now) key)) }
-    ensures steps { IfOk result (λ a. a.1.items ≡ steps_at (schema_nodes writer.now) (schema_nodes reader.now) (table_of table.now) key) }
-    ensures found { OnOk result (AreComparisons (schema_nodes writer.now) (schema_nodes reader.now) found.old.items
-        → AreComparisons (schema_nodes writer.now) (schema_nodes reader.now) found.new.items) }
+    ensures found { IfOk result (λ p. IsFound (schema_nodes writer.now) (schema_nodes reader.now) key p.0) }
+    ensures steps { IfOk result (λ p. p.1.items ≡ steps_at (schema_nodes writer.now) (schema_nodes reader.now) (table_of table.now) key) }
 {
     let w = writers(writer, reader, key);
     let r = readers(reader, key);
     let pair = compare(alloc, names, w, r)?;
-    let ask = keep_ask(alloc, ask_of_pair(alloc, writer, reader, &pair)?)?;
     let more = steps(alloc, names, table, count(reader), &pair)?;
-    found.push(pair)?;
-    Ok((ask, more))
+    Ok((pair, more))
+}
+
+/// The comparison at an index.
+fn found_at(reached: &Reached, i: usize) -> &Comparison
+    requires { i < length reached.now.found.items }
+    ensures { slice_get reached.now.found.items i ≡ Some result.now }
+{
+    &reached.found[i]
 }
 
 /// What the pair at an index asks for.
-pub(crate) fn ask_at_index(reached: &Reached, i: usize) -> &KeptAsk
-    requires { i < length reached.now.asks.items }
-    ensures { slice_get reached.now.asks.items i ≡ Some result.now }
+pub(crate) fn ask_at_index<'a>(
+    writer: &'a Schema,
+    reader: &Schema,
+    reached: &'a Reached,
+    i: usize,
+) -> KeptAsk<'a>
+    requires within { i < length reached.now.found.items }
+    requires one_each { length reached.now.found.items ≡ length (keys reached.now.known) }
+    requires of_keys { AreFound (schema_nodes writer.now) (schema_nodes reader.now) (keys reached.now.known) reached.now.found.items }
+    ensures { (key : ℕ) → slice_get (keys reached.now.known) i ≡ Some key → IsKept result (asked_at (schema_nodes writer.now) (schema_nodes reader.now) key) }
 {
-    &reached.asks[i]
+    let pair = found_at(reached, i);
+    ask_of_pair(writer, reader, pair)
 }
 
 /// All pairs that the roots lead to. A pair whose writer's node has no data, by the table of the
@@ -178,8 +186,8 @@ pub fn reach(
         → ((k : ℕ) → P k ≡ true → list_all P (steps_at (schema_nodes writer.now) (schema_nodes reader.now) (table_of table.now) k) ≡ true) → list_all P (keys p.known) ≡ true) }
     ensures stepped { IfOk result (λ p. (k : ℕ) → is_key (keys p.known) k ≡ true
         → IsSteppedTo (steps_at (schema_nodes writer.now) (schema_nodes reader.now) (table_of table.now)) k) }
-    ensures one_each { IfOk result (λ p. length p.asks.items ≡ length (keys p.known)) }
-    ensures asked { IfOk result (λ p. AreAsked (schema_nodes writer.now) (schema_nodes reader.now) (keys p.known) p.asks.items) }
+    ensures one_each { IfOk result (λ p. length p.found.items ≡ length (keys p.known)) }
+    ensures of_keys { IfOk result (λ p. AreFound (schema_nodes writer.now) (schema_nodes reader.now) (keys p.known) p.found.items) }
     ensures found { IfOk result (λ p. AreComparisons (schema_nodes writer.now) (schema_nodes reader.now) p.found.items) }
 {
     // The contract of these calls bounds the number of nodes, which the proof needs.
@@ -188,7 +196,6 @@ pub fn reach(
     let names = Names::new(alloc, writer, reader)?;
     let mut known = IndexSet::new(alloc);
     let mut found = Vec::new(alloc);
-    let mut asks = Vec::new(alloc);
     add_all(&mut known, &[0])?;
     let mut next = 0;
     while next < known.len() {
@@ -196,12 +203,12 @@ pub fn reach(
             None => unreachable!(),
             Some(key) => {
                 let key = *key;
-                let (ask, more) = visit(alloc, &names, writer, reader, table, key, &mut found)?;
+                let (pair, more) = visit(alloc, &names, writer, reader, table, key)?;
                 add_all(&mut known, &more)?;
-                asks.push(ask)?;
+                found.push(pair)?;
             }
         }
         next += 1;
     }
-    Ok(Reached { known, found, asks })
+    Ok(Reached { known, found })
 }

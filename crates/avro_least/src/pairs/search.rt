@@ -6,7 +6,7 @@ ghost use Rattle.indexmap.specs.IndexSet.{keys};
 ghost use Rattle.avro_schema.specs.SeenSchema.{schema_nodes};
 ghost use Rattle.avro_least.specs.Asked.{asked_at, steps_at, ArePairsShown};
 ghost use Rattle.avro_least.specs.Reached.{AreFollowed};
-ghost use Rattle.avro_least.specs.KeptAsks.{AreAsked};
+ghost use Rattle.avro_least.specs.KeptAsks.{AreFound};
 ghost use Rattle.avro_least.specs.SeenLeast.{seen, seen_all, table_of};
 ghost use Rattle.avro_least.specs.Tables.{erring_of, AreDataShown, AreLow, IsLowForData};
 ghost use Rattle.avro_least.specs.inside.Parts.{value_alone, value_by_part};
@@ -42,7 +42,7 @@ fn value_by_part(
     let nodes = count(graph.reader);
     let w = writers(graph.writer, graph.reader, key);
     let r = readers(graph.reader, key);
-    let ask = ask_at_index(graph.reached, i);
+    let ask = ask_at_index(graph.writer, graph.reader, graph.reached, i);
     match part_at(w, r, ask, k) {
         None => None,
         Some((a, b)) => {
@@ -63,7 +63,8 @@ fn value_without_parts(graph: &Graph, i: usize) -> Option<Least>
         None => None,
         Some(key) => {
             let w = writers(graph.writer, graph.reader, *key);
-            value_alone(graph.table, w, ask_at_index(graph.reached, i))
+            let ask = ask_at_index(graph.writer, graph.reader, graph.reached, i);
+            value_alone(graph.table, w, ask)
         }
     }
 }
@@ -92,9 +93,11 @@ fn take_part(graph: &Graph, lead: Lead, search: &mut Search) -> Result<(), Memor
     ensures taken { OnOk result ((rest : List Lead) → HaveTakenBut (lead ∷ rest) graph.now search.old → HaveTakenBut rest graph.now search.new) }
     ensures effort { OnOk result (effort search.new ≤ effort search.old) }
 {
-    if let Some(key) = graph.reached.known.get_index(lead.pair) {
-        let found = value_by_part(graph, &search.entries, lead.pair, *key, lead.part);
-        search.lower(lead.pair, found)?;
+    let pair = lead.pair as usize;
+    if let Some(key) = graph.reached.known.get_index(pair) {
+        let part = lead.part as usize;
+        let found = value_by_part(graph, &search.entries, pair, *key, part);
+        search.lower(pair, found)?;
     }
     Ok(())
 }
@@ -149,8 +152,8 @@ pub fn least_errors(
     requires least { IsLowForData (schema_nodes writer.now) limit (table_of table.now) }
     requires below { list_all (λ k. nat_lt k (length (schema_nodes writer.now) * length (schema_nodes reader.now))) (keys reached.now.known) ≡ true }
     requires closed { AreFollowed (steps_at (schema_nodes writer.now) (schema_nodes reader.now) (table_of table.now)) (keys reached.now.known) (length (keys reached.now.known)) }
-    requires asks { length reached.now.asks.items ≡ length (keys reached.now.known) }
-    requires asked { AreAsked (schema_nodes writer.now) (schema_nodes reader.now) (keys reached.now.known) reached.now.asks.items }
+    requires one_each { length reached.now.found.items ≡ length (keys reached.now.known) }
+    requires of_keys { AreFound (schema_nodes writer.now) (schema_nodes reader.now) (keys reached.now.known) reached.now.found.items }
     ensures shown { IfOk result (λ t. ArePairsShown (schema_nodes writer.now) (schema_nodes reader.now) limit (table_of table.now) (keys reached.now.known) (seen_all t.items)) }
     ensures low { IfOk result (λ t. AreLow (schema_nodes writer.now) (schema_nodes reader.now) limit (table_of table.now)
         (erring_of (length (schema_nodes reader.now)) (table_of table.now) (keys reached.now.known) (seen_all t.items))) }

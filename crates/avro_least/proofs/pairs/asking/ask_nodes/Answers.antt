@@ -1,23 +1,21 @@
-use Rattle.std.proofs.Common.{◌≡◌, subst, None, Some, rules}
-use Rattle.std.specs.Prelude.{IfOk}
+use Rattle.std.proofs.Common.{◌≡◌, ◌∙◌, None, Some, rules}
 use Rattle.avro_schema.specs.Seen.{node_of}
 use Rattle.avro_schema.specs.SeenSchema.{schema_nodes}
 use Rattle.avro_compare.specs.declared.guided.Aim.TheVariants.{To, Fault}
 use Rattle.avro_compare.proofs.public.Aims.{aims_of, inside_of, plain_kept}
-use Rattle.avro_least.specs.SeenAsk.{ask_of}
 use Rattle.avro_least.proofs.AskedLed.{asked_led}
 use Rattle.avro_least.proofs.pairs.asking.ask_nodes.Goals as goal
 
-pub returns-in-Fault : goal.returns-in-Fault
-returns-in-Fault c =
+pub returns-in-Fault-clause-shown : goal.returns-in-Fault-clause-shown
+returns-in-Fault-clause-shown c =
     let writer = schema_nodes c.args.writer.now in
     let reader = schema_nodes c.args.reader.now in
     let pair = c.args.pair.now in
     let aims = aims_of writer reader pair (node_of c.args.from.now) (node_of c.args.to.now) c.requires.pair c.requires.from c.requires.to in
     asked_led writer reader (node_of c.args.from.now) (node_of c.args.to.now) pair.r pair.aim (Fault c.in-Fault.field-0) (plain_kept c.args.from.now c.in_default.not-Union) aims c.in-Fault.is
 
-pub returns-in-To-Some-default : goal.returns-in-To-Some-default
-returns-in-To-Some-default c =
+pub returns-in-To-Some-default-clause-shown : goal.returns-in-To-Some-default-clause-shown
+returns-in-To-Some-default-clause-shown c =
     let writer = schema_nodes c.args.writer.now in
     let reader = schema_nodes c.args.reader.now in
     let pair = c.args.pair.now in
@@ -33,13 +31,13 @@ ask_inside-requires c =
     let own : pair.aim ≡ To None here.field-1 = search rules in
     inside_of (schema_nodes c.args.writer.now) (schema_nodes c.args.reader.now) pair (node_of c.args.from.now) (node_of c.args.to.now) c.requires.pair c.requires.from c.requires.to here.field-1 own
 
-pub returns-in-To-None-default : goal.returns-in-To-None-default
-returns-in-To-None-default c =
+pub returns-in-To-None-default-clause-shown : goal.returns-in-To-None-default-clause-shown
+returns-in-To-None-default-clause-shown c =
     let writer = schema_nodes c.args.writer.now in
     let reader = schema_nodes c.args.reader.now in
     let pair = c.args.pair.now in
     let here = c.in-To-None-default in
     let aims = aims_of writer reader pair (node_of c.args.from.now) (node_of c.args.to.now) c.requires.pair c.requires.from c.requires.to in
     let own : pair.aim ≡ To None here.field-1 = search rules in
-    subst (λ a. IfOk c.ask_inside.result (λ b. ask_of b ≡ a)) (asked_led writer reader (node_of c.args.from.now) (node_of c.args.to.now) pair.r pair.aim (To None here.field-1) (plain_kept c.args.from.now c.in_default.not-Union) aims own)
-    c.ask_inside.ensures
+    c.ask_inside.ensures.shown
+    ∙ asked_led writer reader (node_of c.args.from.now) (node_of c.args.to.now) pair.r pair.aim (To None here.field-1) (plain_kept c.args.from.now c.in_default.not-Union) aims own

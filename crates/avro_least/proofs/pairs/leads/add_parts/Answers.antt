@@ -1,11 +1,10 @@
-use Rattle.std.proofs.Common.{◌≡◌, ℕ, true, false, Some, inl, inr, arith, sym, ◌∙◌, ap, subst}
+use Rattle.std.proofs.Common.{◌≡◌, ℕ, false, inl, inr, arith, sym, ◌∙◌, ap, subst}
 use Rattle.std.proofs.lemmas.Bool.{cases_eq}
 use Rattle.std.specs.Prelude.{is_none, position, ◌==◌}
 use Rattle.indexmap.specs.IndexSet.{keys}
 use Rattle.avro_least.specs.Tables.{pair_number}
-use Rattle.avro_least.specs.KeptAsks.{kept_part, nth_part}
+use Rattle.avro_least.specs.KeptAsks.{nth_part}
 use Rattle.avro_least.specs.SeenLeast.{table_of}
-use Rattle.avro_least.specs.declared.pairs.keeping.KeptAsk.{KeptAsk}
 use Rattle.avro_least.proofs.KeptParts.{nth_found, part_given}
 use Rattle.avro_least.proofs.pairs.leads.add_parts.Goals as goal
 
@@ -18,20 +17,15 @@ loop-n-preserved c =
       added = λ j m k a b below is live there. elim (cases_eq m c.loop-n.n) [
         | inl same ↦
             let given = part_given c.nth_part-part.result k a b
-            (c.nth_part-part.ensures ∙ ap (nth_part c.args.w.0 c.args.r.0 c.ask_at_index-ask.result.now) (sym same) ∙ is) in
+            (c.nth_part-part.ensures ∙ ap (nth_part c.args.w.0 c.args.r.0 c.args.ask) (sym same) ∙ is) in
             new.added j k given.0 given.1.0 given.1.1.0
             (subst (λ (x : ℕ). is_none (table_of c.args.table.now x) ≡ false) (sym given.1.1.1) live)
-            (ap (λ (x : ℕ). position (λ q. x == q) (keys c.args.reached.now.known)) (ap (λ (x : ℕ). pair_number c.args.count x given.1.0.0) given.1.1.1 ∙ ap (pair_number c.args.count a) given.1.1.2) ∙ there)
+            (ap (λ (x : ℕ). position (λ q. x == q) (keys c.args.known.now)) (ap (λ (x : ℕ). pair_number c.args.count x given.1.0.0) given.1.1.1 ∙ ap (pair_number c.args.count a) given.1.1.2) ∙ there)
         | inr apart ↦ new.kept j c.args.i k (inv.added j m k a b (omega (arith, below, apart)) is live there)
       ];
     }
 
 pub returns-clause-added : goal.returns-clause-added
-returns-clause-added c ask j k a b here is live there =
-    let own = c.ask_at_index-ask.result.now in
-    let it : ask ≡ own = ask_same ask own (sym here ∙ c.ask_at_index-ask.ensures) in
-    let found = nth_found c.args.w.0 c.args.r.0 own k (record { w = a; r = b }) (subst (λ (x : KeptAsk). kept_part c.args.w.0 c.args.r.0 x k ≡ Some (record { w = a; r = b })) it is) in
+returns-clause-added c j k a b is live there =
+    let found = nth_found c.args.w.0 c.args.r.0 c.args.ask k (record { w = a; r = b }) is in
     c.loop-n.invariant.added j found.0 k a b (omega (arith, found.1, c.part_count-n-end.ensures, c.loop-n-test.false)) found.2 live there
-  where
-    ask_same : (x y : KeptAsk) → Some x ≡ Some y → x ≡ y
-    ask_same x y e = cc

@@ -1,6 +1,5 @@
-use Rattle.std.proofs.Common.{◌≡◌, ◌*◌, ◌+◌, ◌/◌, ◌%◌, ℕ, true, false, Some, List, length, get_or, ◌<◌, arith, sym, ◌∙◌, ap, subst}
+use Rattle.std.proofs.Common.{◌≡◌, ◌*◌, ◌+◌, ◌/◌, ◌%◌, ℕ, true, false, Some, List, length, arith, sym, ◌∙◌, ap, subst}
 use Rattle.std.proofs.lemmas.List.{with_items_is}
-use Rattle.std.proofs.lemmas.Option.{slice_get_within, slice_get-get_or}
 use Rattle.std.specs.Global.{Vec}
 use Rattle.std.specs.Prelude.{slice_get, is_none, position, ◌==◌}
 use Rattle.indexmap.specs.IndexSet.{keys}
@@ -31,23 +30,20 @@ loop-i-preserved c =
     let ks : List ℕ = keys c.args.reached.now.known in
     let ns : List Node = schema_nodes c.args.writer.now in
     let qs : List Node = schema_nodes c.args.reader.now in
-    let asks : List KeptAsk = c.args.reached.now.asks.items in
     let key : ℕ = c.in-Some.key.now in
     let here : slice_get ks i ≡ Some key = sym c.in-Some.ensures.key in
     let rows : List (Vec Lead) = c.add_parts.new.rows in
     let as_many : length rows ≡ length c.loop-i.rows.items = new.one_each ∙ ap length c.deref_mut.ensures.value in
     let written = with_items_is c.loop-i.rows rows (as_many ∙ sym c.loop-i.rows.ok.0) in
-    let within : i < length asks = omega (arith, slice_get_within ks i key here, c.requires.asks) in
     let kept : (j p n : ℕ) → is_lead (leads_at c.loop-i.rows.items j) p n ≡ true → is_lead (leads_at rows j) p n ≡ true =
     subst (λ (old : List (Vec Lead)). (j p n : ℕ) → is_lead (leads_at old j) p n ≡ true → is_lead (leads_at rows j) p n ≡ true) c.deref_mut.ensures.value new.kept in
-    let ask : KeptAsk = get_or asks i KeptAsk.Quiet in
-    let got : slice_get asks i ≡ Some ask = slice_get-get_or asks i KeptAsk.Quiet within in
+    let ask : KeptAsk = c.ask_at_index-ask.result in
     let added : (j n a b : ℕ) → part_at (key / length qs) (key % length qs) (asked_at ns qs key) n ≡ Some (record { w = a; r = b }) → is_none (table_of c.args.table.now a) ≡ false
     → position (λ q. pair_number (length qs) a b == q) ks ≡ Some j → is_lead (leads_at rows j) i n ≡ true =
-    λ j n a b is live there. new.added ask j n a b got
+    λ j n a b is live there. new.added j n a b
     (ap (λ (m : ℕ). kept_part m c.readers-r.result.0 ask n) c.writers-w.ensures.is
     ∙ ap (λ (m : ℕ). kept_part (key / length qs) m ask n) c.readers-r.ensures.is
-    ∙ kept_is (key / length qs) (key % length qs) ask (asked_at ns qs key) n (c.requires.asked i key ask here got) ∙ is) live
+    ∙ kept_is (key / length qs) (key % length qs) ask (asked_at ns qs key) n (c.ask_at_index-ask.ensures key here) ∙ is) live
     (ap (λ (m : ℕ). position (λ q. pair_number m a b == q) ks) c.count-nodes.ensures.count ∙ there) in record {
       one_each = ap length written ∙ as_many ∙ inv.one_each;
       leads = subst (λ (rs : List (Vec Lead)). AreLeads ns qs (table_of c.args.table.now) ks (i + 1) rs) (sym written)

@@ -5,24 +5,19 @@ use Rattle.std.specs.List.{list_all}
 use Rattle.indexmap.specs.IndexSet.{keys}
 use Rattle.avro_schema.specs.SeenSchema.{schema_nodes}
 use Rattle.avro_schema.specs.Node.{Node}
-use Rattle.avro_compare.specs.Planned.{AreComparisons}
 use Rattle.avro_compare.specs.declared.comparison.Comparison.{Comparison}
 use Rattle.avro_least.specs.SeenLeast.{table_of}
 use Rattle.avro_least.specs.Reached.{is_key, AreFollowed, IsSteppedTo, from_first, one_step}
-use Rattle.avro_least.specs.Asked.{asked_at, steps_at}
-use Rattle.avro_least.specs.KeptAsks.{AreAsked, IsKept}
-use Rattle.avro_least.specs.declared.pairs.keeping.KeptAsk.{KeptAsk}
+use Rattle.avro_least.specs.Asked.{steps_at}
+use Rattle.avro_least.specs.KeptAsks.{AreFound, IsFound}
 use Rattle.avro_least.proofs.public.Keys.{key_kept, followed_more, few_keys, none_pass, key_at, no_key, only_key}
 use Rattle.avro_certificate.proofs.public.Tests.{and_left, or_cases, all_at}
 use Rattle.avro_least.proofs.PairSteps.{below_at}
-use Rattle.avro_least.proofs.public.Stepping.{some_pairs, steps_below, asked_more}
+use Rattle.avro_least.proofs.public.Stepping.{some_pairs, steps_below, found_compared, found_more}
 use Rattle.avro_least.proofs.pairs.reaching.reach.Goals as goal
 
-none_asked : (writer reader : List Node) (ks : List ℕ) (asks : List KeptAsk) → asks ≡ [] → AreAsked writer reader ks asks
-none_asked writer reader ks asks e = subst (λ (xs : List KeptAsk). AreAsked writer reader ks xs) (sym e) (λ i k ask found got. absurd cc)
-
-none_found : (writer reader : List Node) (found : List Comparison) → found ≡ [] → AreComparisons writer reader found
-none_found writer reader found e = subst (λ (ps : List Comparison). AreComparisons writer reader ps) (sym e) (λ k p got. absurd cc)
+none_found : (writer reader : List Node) (ks : List ℕ) (found : List Comparison) → found ≡ [] → AreFound writer reader ks found
+none_found writer reader ks found e = subst (λ (ps : List Comparison). AreFound writer reader ks ps) (sym e) (λ i k p here got. absurd cc)
 
 -- the first key alone
 first_stepped : (steps : ℕ → List ℕ) (none : List ℕ) (k : ℕ) → length none ≡ 0 → (is_key none k || is_key (0 ∷ []) k) ≡ true → IsSteppedTo steps k
@@ -47,12 +42,11 @@ loop-next-init c =
           (and_from (nat_lt 0 total) true (lt-ltb 0 total (some_pairs (schema_nodes c.args.writer.now) (schema_nodes c.args.reader.now) c.count.ensures.formed c.count-2.ensures.formed)) refl),
       λ i k found within. absurd (omega (arith, ltb-true i 0 within)),
       omega arith,
-      ap length c.new-asks.ensures.items,
-      none_asked (schema_nodes c.args.writer.now) (schema_nodes c.args.reader.now) (keys c.add_all.new.known) c.new-asks.result.items c.new-asks.ensures.items,
+      ap length c.new-found.ensures.items,
+      none_found (schema_nodes c.args.writer.now) (schema_nodes c.args.reader.now) (keys c.add_all.new.known) c.new-found.result.items c.new-found.ensures.items,
       λ P zero step. c.in_ok-add_all.ensures.all P (none_pass P (keys c.new-known.result) c.new-known.ensures.len) (and_from (P 0) true zero refl),
       λ k m. first_stepped (steps_at (schema_nodes c.args.writer.now) (schema_nodes c.args.reader.now) (table_of c.args.table.now)) (keys c.new-known.result) k c.new-known.ensures.len
           (c.in_ok-add_all.ensures.old_or_new k m),
-      none_found (schema_nodes c.args.writer.now) (schema_nodes c.args.reader.now) c.new-found.result.items c.new-found.ensures.items,
     )
 
 pub visit-requires-clause-within : goal.visit-requires-clause-within
@@ -72,16 +66,16 @@ loop-next-smaller c =
 longer : (ks rest new : List ℕ) (i : ℕ) → new ≡ ks ++ rest → i < length ks → i + 1 ≤ length new
 longer ks rest new i is h = omega (arith, ap length is ∙ length-append ks rest, h)
 
-grown : (asks new : List KeptAsk) (ask : KeptAsk) (next : ℕ) → new ≡ asks ++ ask ∷ [] → length asks ≡ next → length new ≡ next + 1
-grown asks new ask next is h = omega (arith, ap length is ∙ length-append asks (ask ∷ []), h)
+grown : (found new : List Comparison) (p : Comparison) (next : ℕ) → new ≡ found ++ p ∷ [] → length found ≡ next → length new ≡ next + 1
+grown found new p next is h = omega (arith, ap length is ∙ length-append found (p ∷ []), h)
 
-more_asked : (writer reader : List Node) (ks rest keys : List ℕ) (asks new : List KeptAsk) (ask : KeptAsk) (key next : ℕ) → new ≡ asks ++ ask ∷ [] → keys ≡ ks ++ rest
-    → AreAsked writer reader ks asks → length asks ≡ next → slice_get ks next ≡ Some key → IsKept ask (asked_at writer reader key)
-    → AreAsked writer reader keys new
-more_asked writer reader ks rest keys asks new ask key next is all before h here own =
-    subst (λ (qs : List ℕ). AreAsked writer reader qs new) (sym all)
-    (subst (λ (es : List KeptAsk). AreAsked writer reader (ks ++ rest) es) (sym is)
-    (asked_more writer reader ks rest asks ask key before (ap (slice_get ks) h ∙ here) own))
+more_found : (writer reader : List Node) (ks rest keys : List ℕ) (found new : List Comparison) (p : Comparison) (key next : ℕ) → new ≡ found ++ p ∷ [] → keys ≡ ks ++ rest
+    → AreFound writer reader ks found → length found ≡ next → slice_get ks next ≡ Some key → IsFound writer reader key p
+    → AreFound writer reader keys new
+more_found writer reader ks rest keys found new p key next is all before h here own =
+    subst (λ (qs : List ℕ). AreFound writer reader qs new) (sym all)
+    (subst (λ (ps : List Comparison). AreFound writer reader (ks ++ rest) ps) (sym is)
+    (found_more writer reader ks rest found p key before (ap (slice_get ks) h ∙ here) own))
 
 pub loop-next-preserved : goal.loop-next-preserved
 loop-next-preserved c =
@@ -93,7 +87,7 @@ loop-next-preserved c =
     let key : ℕ = c.in-Some.key.now in
     let here : slice_get (keys c.loop-next.known) c.loop-next.next ≡ Some key = sym c.in-Some.ensures.key in
     let row : c.deref.result.now ≡ steps_at (schema_nodes c.args.writer.now) (schema_nodes c.args.reader.now) (table_of c.args.table.now) key =
-    c.deref.ensures.value ∙ c.in_ok-ask-in-Some.ensures.steps in
+    c.deref.ensures.value ∙ c.in_ok-pair-in-Some.ensures.steps in
     let all : list_all (is_key (keys c.add_all-in-Some.new.known)) (steps_at (schema_nodes c.args.writer.now) (schema_nodes c.args.reader.now) (table_of c.args.table.now) key) ≡ true =
     subst (λ (ks : List ℕ). list_all (is_key (keys c.add_all-in-Some.new.known)) ks ≡ true) row more.added in (
       subst (λ (ks : List ℕ). is_key ks 0 ≡ true) (sym is) (key_kept (keys c.loop-next.known) rest 0 inv.0),
@@ -105,13 +99,16 @@ loop-next-preserved c =
           (followed_more (steps_at (schema_nodes c.args.writer.now) (schema_nodes c.args.reader.now) (table_of c.args.table.now)) (keys c.loop-next.known) rest c.loop-next.next key inv.2 here
           (subst (λ (ks : List ℕ). list_all (is_key ks) (steps_at (schema_nodes c.args.writer.now) (schema_nodes c.args.reader.now) (table_of c.args.table.now) key) ≡ true) is all)),
       longer (keys c.loop-next.known) rest (keys c.add_all-in-Some.new.known) c.loop-next.next is (omega (arith, c.loop-next-test.true, c.len.ensures.len)),
-      grown c.loop-next.asks.items c.push.new.self.items c.in_ok-ask-in-Some.ask c.loop-next.next c.in_ok-push-in-Some.ensures.items inv.4,
-      more_asked (schema_nodes c.args.writer.now) (schema_nodes c.args.reader.now) (keys c.loop-next.known) rest (keys c.add_all-in-Some.new.known)
-          c.loop-next.asks.items c.push.new.self.items c.in_ok-ask-in-Some.ask key c.loop-next.next c.in_ok-push-in-Some.ensures.items is inv.5 inv.4 here c.in_ok-ask-in-Some.ensures.asked,
+      grown c.loop-next.found.items c.push.new.self.items c.in_ok-pair-in-Some.pair c.loop-next.next c.in_ok-push-in-Some.ensures.items inv.4,
+      more_found (schema_nodes c.args.writer.now) (schema_nodes c.args.reader.now) (keys c.loop-next.known) rest (keys c.add_all-in-Some.new.known)
+          c.loop-next.found.items c.push.new.self.items c.in_ok-pair-in-Some.pair key c.loop-next.next c.in_ok-push-in-Some.ensures.items is inv.5 inv.4 here c.in_ok-pair-in-Some.ensures.found,
       λ P zero step. more.all P (inv.6 P zero step) (subst (λ (ks : List ℕ). list_all P ks ≡ true) (sym row)
           (step key (all_at P (keys c.loop-next.known) c.loop-next.next key (inv.6 P zero step) here))),
       λ k m. more_stepped (steps_at (schema_nodes c.args.writer.now) (schema_nodes c.args.reader.now) (table_of c.args.table.now)) (keys c.loop-next.known) key k inv.7
           (key_at (keys c.loop-next.known) c.loop-next.next key here)
           (subst (λ (ks : List ℕ). (is_key (keys c.loop-next.known) k || is_key ks k) ≡ true) row (more.old_or_new k m)),
-      c.in_ok-ask-in-Some.ensures.found inv.8,
     )
+
+pub returns-clause-found : goal.returns-clause-found
+returns-clause-found c = found_compared (schema_nodes c.args.writer.now) (schema_nodes c.args.reader.now) (keys c.loop-next.known) c.loop-next.found.items c.loop-next.invariant.5
+    (omega (arith, c.loop-next.invariant.4, c.loop-next.invariant.3))

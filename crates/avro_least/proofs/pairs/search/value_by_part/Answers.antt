@@ -23,22 +23,21 @@ pub writers-w-requires : goal.writers-w-requires
 writers-w-requires c = below_at (length (schema_nodes c.args.graph.now.writer.now) * length (schema_nodes c.args.graph.now.reader.now)) (keys c.args.graph.now.reached.now.known) c.args.i c.args.key
     c.requires.graph.below c.requires.here
 
-pub ask_at_index-ask-requires : goal.ask_at_index-ask-requires
-ask_at_index-ask-requires c = omega (arith, slice_get_within (keys c.args.graph.now.reached.now.known) c.args.i c.args.key c.requires.here, c.requires.graph.asks)
+pub ask_at_index-ask-requires-clause-within : goal.ask_at_index-ask-requires-clause-within
+ask_at_index-ask-requires-clause-within c =
+    omega (arith, slice_get_within (keys c.args.graph.now.reached.now.known) c.args.i c.args.key c.requires.here, c.requires.graph.one_each)
 
 pub part_at-requires : goal.part_at-requires
-part_at-requires c =
-    let own = c.requires.graph.asked c.args.i c.args.key c.ask_at_index-ask.result.now c.requires.here c.ask_at_index-ask.ensures in
-    kept_ordered c.ask_at_index-ask.result.now _ own
+part_at-requires c = kept_ordered c.ask_at_index-ask.result _ (c.ask_at_index-ask.ensures c.args.key c.requires.here)
 
 pub returns-in-None : goal.returns-in-None
 returns-in-None c =
     let ns : List Node = schema_nodes c.args.graph.now.writer.now in
     let qs : List Node = schema_nodes c.args.graph.now.reader.now in
     let ks : List ℕ = keys c.args.graph.now.reached.now.known in
-    let ask : KeptAsk = c.ask_at_index-ask.result.now in
+    let ask : KeptAsk = c.ask_at_index-ask.result in
     let asked : Asked = asked_at ns qs c.args.key in
-    let own : IsKept ask asked = c.requires.graph.asked c.args.i c.args.key ask c.requires.here c.ask_at_index-ask.ensures in
+    let own : IsKept ask asked = c.ask_at_index-ask.ensures c.args.key c.requires.here in
     by_part_is c.args.graph.now.limit (table_of c.args.graph.now.table.now) (erring_of (length qs) (table_of c.args.graph.now.table.now) ks (seen_all c.args.entries.now))
     c.writers-w.result.0 c.readers-r.result.0 _ _ c.args.k asked asked None None None
     c.writers-w.ensures.is c.readers-r.ensures.is refl
@@ -55,9 +54,9 @@ returns-in-Some c =
     let limit : ℕ = c.args.graph.now.limit in
     let table : LeastTable = table_of c.args.graph.now.table.now in
     let erring : ErringTable = erring_of (length qs) table ks (seen_all c.args.entries.now) in
-    let ask : KeptAsk = c.ask_at_index-ask.result.now in
+    let ask : KeptAsk = c.ask_at_index-ask.result in
     let asked : Asked = asked_at ns qs c.args.key in
-    let own : IsKept ask asked = c.requires.graph.asked c.args.i c.args.key ask c.requires.here c.ask_at_index-ask.ensures in
+    let own : IsKept ask asked = c.ask_at_index-ask.ensures c.args.key c.requires.here in
     let pair : Pair = record { w = c.in-Some.a.0; r = c.in-Some.b.0 } in
     let part : Some pair ≡ part_at w r asked c.args.k = ap seen_pair (sym c.in-Some.is) ∙ c.part_at.ensures ∙ kept_is w r ask asked c.args.k own in
     let others : (rows : List Row) → asked ≡ Asked.fields rows → given_entry (slice_get c.others_at-others.result.now c.args.k) ≡ least_of_others limit table (map (λ row. row.node) rows) c.args.k =

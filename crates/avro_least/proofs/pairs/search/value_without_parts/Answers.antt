@@ -22,7 +22,7 @@ returns-in-Some c = record {
       let ks : List ℕ = keys c.args.graph.now.reached.now.known in
       let there : slice_get ks c.args.i ≡ Some c.in-Some.key.now = sym c.in-Some.ensures.key in
       let it : c.in-Some.key.now ≡ key = some_same c.in-Some.key.now key (sym there ∙ here) in
-      c.value_alone.ensures (asked_at ns qs c.in-Some.key.now) (c.requires.asked c.args.i c.in-Some.key.now c.ask_at_index.result.now there c.ask_at_index.ensures)
+      c.value_alone.ensures (asked_at ns qs c.in-Some.key.now) (c.ask_at_index-ask.ensures c.in-Some.key.now there)
       ∙ ap (λ (n : ℕ). value_alone (table_of c.args.graph.now.table.now) n (asked_at ns qs c.in-Some.key.now)) c.writers-w.ensures.is
       ∙ ap (λ (n : ℕ). value_alone (table_of c.args.graph.now.table.now) (n / length qs) (asked_at ns qs n)) it;
 }
