@@ -280,6 +280,11 @@ def same_kinds(count, field, item):
     return text
 
 
+def symbols_of_four(k, left):
+    """An enum of four symbols, the last of which is that of how many records follow."""
+    return {"type": "enum", "name": "E%d" % k, "symbols": ["a%d" % k, "b%d" % k, "c%d" % k, "s%d" % left]}
+
+
 def by_turns(count):
     """The same of objects of two members: the first of these records differs in one of the two, the next in the other, and so on."""
     def text(size):
@@ -365,6 +370,9 @@ KINDS = {
     "alike sizes": same_kinds(1000, lambda k, left: dict(fixed("F%d" % k), size=left), {"a": ""}),
     "alike unions": same_kinds(1000, lambda k, left: ["null", "boolean" if left else "int"], {"a": 1}),
     "alike symbols": same_kinds(1000, lambda k, left: {"type": "enum", "name": "E%d" % k, "symbols": ["s%d" % left]}, {"a": "s0"}),
+    "alike symbols of four": same_kinds(1000, symbols_of_four, {"a": "s0"}),
+    "alike symbols in unions": same_kinds(
+        1000, lambda k, left: ["null", {"type": "enum", "name": "E%d" % k, "symbols": ["s%d" % left]}], {"a": "s0"}),
     "alike by turns": by_turns(1000),
     "alike in an array": alike(800, {"a": [{"a": 1, "b": 2}]}, inside(lambda k, leaf: in_record(k, plain_fields("ab")(k, leaf)), in_array)),
 }

@@ -18,6 +18,7 @@ mod KnownFound
 pub mod MadeSound
 pub mod MisfitsSeen
 pub mod ColumnsSeen
+pub mod ListedSeen
 pub mod DefaultsFit
 pub mod RepeatsSeen
 pub mod TablesSeen

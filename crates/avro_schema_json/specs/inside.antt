@@ -6,6 +6,7 @@ pub mod ReadingSeen
 pub mod BranchKeys
 pub mod Characters
 pub mod FieldNames
+pub mod Listed
 pub mod Misfits
 pub mod NameRefusal
 pub mod OwnDefaults

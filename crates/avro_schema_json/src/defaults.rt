@@ -22,6 +22,7 @@ mod first_branches;
 mod flat;
 pub(crate) mod gathered;
 mod known;
+mod listed;
 mod member_codes;
 mod misfit;
 mod misfits;

@@ -12,6 +12,7 @@ use Rattle.serde_json.specs.Find.{get_member}
 use Rattle.avro_schema_json.specs.DeclaredAttributes.{symbol_index}
 use Rattle.avro_schema_json.specs.DeclaredDefaults.{default_of}
 use Rattle.avro_schema_json.specs.inside.Characters.{characters_in}
+use Rattle.avro_schema_json.specs.inside.Listed.{symbols_of, LacksSymbol, LacksBelow, FieldsLack, AreListed, fields_in}
 use Rattle.avro_schema_json.specs.inside.OwnDefaults.{own_default, default_of_fields}
 use Rattle.avro_schema_json.specs.declared.defaults.column.Column.{Column}
 use Rattle.avro_schema_json.specs.declared.defaults.union_table.UnionTable.{UnionTable}
@@ -60,11 +61,6 @@ size_key (Data.object ms) = members_key ms
 -- no branch of a key lies from one index up to another
 abbrev pub Skips : List Node → List ℕ → ℕ → ℕ → ℕ → Type 0
 Skips nodes ids key from to = (j id : ℕ) → from ≤ j → j < to → slice_get ids j ≡ Some id → branch_key (node_at nodes id) ≡ key → ⊥
-
--- the symbols of a node
-abbrev pub symbols_of : Node → List (List ℕ)
-symbols_of (Node.enum name aliases symbols default) = symbols
-symbols_of _ = []
 
 -- no branch from one index up to another is an enum of a symbol
 abbrev pub SkipsSymbol : List Node → List ℕ → List ℕ → ℕ → ℕ → Type 0
@@ -158,37 +154,45 @@ ArePartsSkipped nodes ids parts other =
     (steps kind : ℕ) (names : BTreeMap (Bor (List ℕ)) ℕ) (word : List ℕ) → kind < 9 → slice_get parts (steps * 9 + kind) ≡ Some names
     → SkipsPart nodes ids steps kind word 0 (unwrap_or (find_word names word) other)
 
--- ---- columns: a code is 0 where no JSON of a kind fits, n + 2 where only a text of n characters may, and 1 where more may
+-- ---- columns: a code is 0 where no JSON of a kind fits, 2 where only a text that is a symbol may, n + 3 where only a text of n characters may, and 1 where
+-- more may
 
--- the code refuses the JSON
-abbrev pub Refuses : ℕ → Data → Type 0
-Refuses code d = (code ≡ 1 → ⊥) × (code ≡ characters_in d + 2 → ⊥)
+-- the code refuses the JSON, if what is said of a text that is no symbol is so
+abbrev pub Refuses : ℕ → (List ℕ → Type 0) → Data → Type 0
+Refuses code Lacks d = (code ≡ 1 → ⊥) × (code ≡ 2 → (text : List ℕ) → d ≡ Data.string text → Lacks text) × (code ≡ characters_in d + 3 → ⊥)
 
 -- the JSON that the code refuses, of a kind, is no default of a node itself
 abbrev pub IsOwnCode : List Node → ℕ → Node → ℕ → Type 0
-IsOwnCode nodes kind n code = (d : Data) → kind_key d ≡ kind → Refuses code d → own_default nodes d n ≡ None
+IsOwnCode nodes kind n code = (d : Data) → kind_key d ≡ kind → Refuses code (λ text. LacksSymbol text n) d → own_default nodes d n ≡ None
 
 -- nor of one of its branches
 abbrev pub IsCode : List Node → ℕ → Node → ℕ → Type 0
-IsCode nodes kind n code = (d : Data) → kind_key d ≡ kind → Refuses code d → default_of nodes d n ≡ None
+IsCode nodes kind n code = (d : Data) → kind_key d ≡ kind → Refuses code (λ text. LacksBelow nodes text n) d → default_of nodes d n ≡ None
 
 -- an object is no record of fields where the code refuses its member of a name
 abbrev pub IsFieldCode : List Node → List ℕ → ℕ → List FieldNode → ℕ → Type 0
 IsFieldCode nodes name kind fields code =
-    (d : Data) (ms : Members) → get_member name ms ≡ Some d → kind_key d ≡ kind → Refuses code d → default_of_fields nodes ms fields ≡ None
+    (d : Data) (ms : Members) → get_member name ms ≡ Some d → kind_key d ≡ kind → Refuses code (λ text. FieldsLack nodes name text fields) d
+    → default_of_fields nodes ms fields ≡ None
 
 -- nor is it one of a branch
 abbrev pub IsMemberCode : List Node → List ℕ → ℕ → Node → ℕ → Type 0
 IsMemberCode nodes name kind n code =
-    (d : Data) (ms : Members) → get_member name ms ≡ Some d → kind_key d ≡ kind → Refuses code d → own_default nodes (Data.object ms) n ≡ None
+    (d : Data) (ms : Members) → get_member name ms ≡ Some d → kind_key d ≡ kind → Refuses code (λ text. FieldsLack nodes name text (fields_in n)) d
+    → own_default nodes (Data.object ms) n ≡ None
 
 -- a code for each branch
 abbrev pub AreCodes : List Node → List ℕ → List ℕ → ℕ → List ℕ → Type 0
 AreCodes nodes ids name kind codes =
     (j id code : ℕ) → slice_get ids j ≡ Some id → slice_get codes j ≡ Some code → IsMemberCode nodes name kind (node_at nodes id) code
 
+-- and of texts the branches that are listed
+abbrev pub IsColumn : List Node → List ℕ → Column → Type 0
+IsColumn nodes ids column =
+    AreCodes nodes ids column.name.now column.kind column.codes.items × (column.kind ≡ 3 → AreListed nodes ids column.name.now column.texts)
+
 abbrev pub AreColumns : List Node → List ℕ → List Column → Type 0
-AreColumns nodes ids columns = (k : ℕ) (column : Column) → slice_get columns k ≡ Some column → AreCodes nodes ids column.name.now column.kind column.codes.items
+AreColumns nodes ids columns = (k : ℕ) (column : Column) → slice_get columns k ≡ Some column → IsColumn nodes ids column
 
 -- no branch of a key is before the index that a table has for it, no enum of a symbol, no record by its first field,
 -- none by its parts, and its columns are of its branches

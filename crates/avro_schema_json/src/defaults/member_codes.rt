@@ -1,11 +1,13 @@
 //! What the branches of a union ask of the member of a name, where it is JSON of a kind: a code of 0 where none
-//! fits, of the number of characters and 2 where only a text of so many may, and of 1 where more may.
+//! fits, of 2 where only a text that is a symbol may, of the number of characters and 3 where only a text of so many
+//! may, and of 1 where more may.
 
-ghost use Rattle.std.specs.Prelude.{◌≡◌, ◌+◌, List, length, IfOk};
+ghost use Rattle.std.specs.Prelude.{◌≡◌, ◌+◌, ℕ, List, length, IfOk};
 ghost use Rattle.avro_schema.specs.Node.{Node as SeenNode, node_at};
 ghost use Rattle.avro_schema.specs.Seen.{ids_of};
 ghost use Rattle.avro_schema_json.specs.DeclaredDefaults.{first_fit};
 ghost use Rattle.avro_schema_json.specs.inside.BranchKeys.{kind_key, Refuses, IsOwnCode, IsCode, IsFieldCode, IsMemberCode, AreCodes};
+ghost use Rattle.avro_schema_json.specs.inside.Listed.{AllLack};
 ghost use Rattle.avro_schema_json.specs.inside.OwnDefaults.{own_default as own_default_by, all_without_defaults, without_defaults, fields_seen};
 ghost use Rattle.serde_json.specs.Data.{Data};
 
@@ -17,9 +19,9 @@ use std::alloc::Global;
 
 /// The code of a text of so many characters. One past the range of numbers would exceed any memory.
 pub(crate) fn code_of_size(size: usize) -> Result<usize, Memory>
-    ensures { IfOk result (λ code. code ≡ size + 2) }
+    ensures { IfOk result (λ code. code ≡ size + 3) }
 {
-    match size.checked_add(2) {
+    match size.checked_add(3) {
         Some(code) => Ok(code),
         None => Err(Memory),
     }
@@ -38,11 +40,27 @@ fn own_code(node: &RawNode, kind: usize) -> Result<usize, Memory>
     }
     match node {
         RawNode::Fixed(fixed) => code_of_size(fixed.size as usize),
+        RawNode::Enum(_) => Ok(2),
         _ => Ok(1),
     }
 }
 
-/// The code of a union of some branches: that of the one which may fit, where the others don't.
+/// The code of two nodes together: that of the one which may fit, where the other does not, or of two enums.
+fn code_of_two(first: usize, second: usize) -> usize
+    ensures { (nodes : List SeenNode) (ids : List ℕ) (d : Data) → Refuses result (λ text. AllLack nodes text ids) d
+        → Refuses first (λ text. AllLack nodes text ids) d × Refuses second (λ text. AllLack nodes text ids) d }
+{
+    if first == 0 {
+        return second;
+    }
+    if second == 0 || (first == 2 && second == 2) {
+        first
+    } else {
+        1
+    }
+}
+
+/// The code of a union of some branches: that of the one which may fit, or of several enums, where the others don't.
 fn code_of_branches(
     raws: &[RawNode],
     null: &RawNode,
@@ -50,19 +68,16 @@ fn code_of_branches(
     kind: usize,
 ) -> Result<usize, Memory>
     requires { without_defaults null.now ≡ SeenNode.null }
-    ensures { IfOk result (λ code. (d : Data) → kind_key d ≡ kind → Refuses code d
+    ensures { IfOk result (λ code. (d : Data) → kind_key d ≡ kind → Refuses code (λ text. AllLack (all_without_defaults raws.now) text (ids_of ids.now)) d
         → first_fit (all_without_defaults raws.now) (own_default_by (all_without_defaults raws.now) d) 0 (ids_of ids.now) ≡ None) }
 {
     let mut whole = 0usize;
     for i in 0..ids.len() {
-        let code = own_code(raw_at(&*raws, &*null, ids[i]), kind)?;
-        if code == 0 {
-            continue;
-        }
-        if whole != 0 {
+        if whole == 1 {
             return Ok(1);
         }
-        whole = code;
+        let code = own_code(raw_at(&*raws, &*null, ids[i]), kind)?;
+        whole = code_of_two(whole, code);
     }
     Ok(whole)
 }

@@ -8,11 +8,12 @@ ghost use Rattle.std.specs.BTreeMap.{get};
 ghost use Rattle.avro_schema.specs.Node.{Node as SeenNode, node_at, branches_of};
 ghost use Rattle.avro_schema.specs.Seen.{ids_of, texts_of};
 ghost use Rattle.avro_schema_json.specs.DeclaredAttributes.{symbol_index};
-ghost use Rattle.avro_schema_json.specs.inside.BranchKeys.{symbols_of, find_word, Skips, SkipsSymbol, IsTable, AreTables};
+ghost use Rattle.avro_schema_json.specs.inside.BranchKeys.{find_word, Skips, SkipsSymbol, IsTable, AreTables};
+ghost use Rattle.avro_schema_json.specs.inside.Listed.{symbols_of};
 ghost use Rattle.avro_schema_json.specs.inside.OwnDefaults.{all_without_defaults, without_defaults};
 
 use crate::defaults::branch_keys::key_at;
-use crate::defaults::columns::{columns_or_none, starts_of};
+use crate::defaults::columns::{columns_or_none, starts_of, steps_of_lists};
 use crate::defaults::counts::{count_of_parts, count_of_symbols};
 use crate::defaults::parts::parts_of;
 use crate::defaults::record_tables::first_of_records;
@@ -232,7 +233,8 @@ pub(crate) fn tables_of<'a>(
         let steps = steps_for(steps_left, parts);
         let table = table_of_node(alloc, raws, null, raw, has_symbols, has_parts, steps)?;
         let taken = table.columns.len().saturating_mul(parts);
-        steps_left = steps_left.saturating_sub(taken);
+        let listing = steps_of_lists(&table.columns);
+        steps_left = steps_left.saturating_sub(taken.saturating_add(listing));
         tables.push(table)?;
         parts_left = parts_left.saturating_sub(parts);
         if has_symbols {

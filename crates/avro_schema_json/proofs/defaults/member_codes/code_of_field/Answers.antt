@@ -5,6 +5,7 @@ use Rattle.avro_schema.specs.Node.{node_at}
 use Rattle.serde_json.specs.Find.{get_member}
 use Rattle.avro_schema_json.specs.inside.BranchKeys.{IsCode, IsFieldCode}
 use Rattle.avro_schema_json.specs.inside.OwnDefaults.{all_without_defaults, fields_seen}
+use Rattle.avro_schema_json.proofs.ListedSeen.{field-lacks}
 use Rattle.avro_schema_json.proofs.MisfitsSeen.{field-misfit_at}
 use Rattle.avro_schema_json.proofs.RawSeen.{field_item}
 use Rattle.avro_schema_json.proofs.defaults.member_codes.code_of_field.Goals as goal
@@ -22,6 +23,9 @@ returns-then-eq c =
     IfOk-weaker c.code_of.result (λ (code : ℕ). IsCode nodes c.args.kind (node_at nodes f.node.0) code)
     (λ (code : ℕ). IsFieldCode nodes word c.args.kind (fields_seen fs) code)
     (λ code h. λ d ms found kind refused.
-    field-misfit_at nodes ms (fields_seen fs) i key f.node.0 there
-    (d, subst (λ (w : List ℕ). get_member w ms ≡ Some d) (sym same) found, h d kind refused))
+    field-misfit_at nodes ms (fields_seen fs) i key f.node.0 there (
+      d,
+      subst (λ (w : List ℕ). get_member w ms ≡ Some d) (sym same) found,
+      h d kind (refused.0, λ two text is. field-lacks nodes word text (fields_seen fs) i key f.node.0 there same (refused.1 two text is), refused.2),
+    ))
     c.code_of.ensures

@@ -1,9 +1,8 @@
-use Rattle.std.proofs.Common.{◌≡◌, ◌+◌, ℕ, List, Some, option_map, sym, ap, subst, ◌∙◌}
+use Rattle.std.proofs.Common.{◌≡◌, ◌+◌, ℕ, Some, option_map, sym, ap, ◌∙◌}
 use Rattle.serde_json.specs.Data.{Data}
 use Rattle.serde_json.specs.Find.{get_member}
 use Rattle.serde_json.specs.View.{view, members_view}
 use Rattle.serde_json.proofs.Views.{view-lookup}
-use Rattle.avro_schema_json.specs.inside.BranchKeys.{AreCodes}
 use Rattle.avro_schema_json.proofs.ColumnsSeen.{no_probes, probes_next}
 use Rattle.avro_schema_json.proofs.defaults.probes.probes_of_members.Goals as goal
 
@@ -16,9 +15,8 @@ loop-key-preserved-in-Continue-branch-2 c = λ nodes ids good.
     let es = c.args.members.now.entries in
     let key = c.as_str-name.result.now in
     let d = view c.in-Some-get.tree.now in
-    let kind = c.key_of_kind.result in
     let found : get_member key (members_view es) ≡ Some d = sym (ap (option_map view) c.in-Some-get.ensures.value ∙ view-lookup key es) in
-    let codes : AreCodes nodes ids key kind c.deref.result.now =
-    subst (λ (kept : List ℕ). AreCodes nodes ids key kind kept) (sym c.deref.ensures.value) (c.in-Some-codes_for.ensures nodes ids good) in
-    rw c.in_ok-push-in-Some-codes_for.ensures.items (probes_next nodes ids (members_view es) key kind d c.loop-key.probes.items _ codes found c.key_of_kind.ensures
-    (c.in_ok-wanted-in-Some-codes_for.ensures ∙ ap (λ (n : ℕ). n + 2) c.characters_of.ensures) (c.loop-key.invariant nodes ids good))
+    let kept = c.in-Some-column_for.ensures in
+    rw c.in_ok-push-in-Some-column_for.ensures.items (probes_next nodes ids (members_view es) key d c.in-Some-column_for.column.now c.loop-key.probes.items _
+    (kept.kept nodes ids good) kept.named (kept.kind ∙ c.key_of_kind.ensures) found c.deref.ensures.value c.listed_for-listed.ensures
+    (c.in_ok-wanted-in-Some-column_for.ensures ∙ ap (λ (n : ℕ). n + 3) c.characters_of.ensures) (c.loop-key.invariant nodes ids good))
