@@ -1,6 +1,6 @@
 //! Which pairs lead to a pair.
 
-ghost use Rattle.std.specs.Prelude.{◌≡◌, ◌<◌, ◌*◌, ◌==◌, ℕ, Some, true, false, length, nat_lt, position, is_none, IfOk, OnOk};
+ghost use Rattle.std.specs.Prelude.{◌≡◌, ◌<◌, ◌*◌, ◌==◌, ◌++◌, ◌∷◌, [], ℕ, Some, true, false, length, nat_lt, position, is_none, IfOk, OnOk};
 ghost use Rattle.std.specs.List.{list_all};
 ghost use Rattle.indexmap.specs.IndexSet.{keys};
 ghost use Rattle.avro_schema.specs.SeenSchema.{schema_nodes};
@@ -61,6 +61,17 @@ fn empty_rows(alloc: Global, count: usize) -> Result<Vec<Vec<Lead>>, Memory>
     Ok(rows)
 }
 
+/// Adds a lead to a row. A row begins with room for three, which take no more memory than one: few have more.
+fn push_lead(row: &mut Vec<Lead>, lead: Lead) -> Result<(), Memory>
+    ensures { OnOk result (row.new.items ≡ row.old.items ++ lead ∷ []) }
+{
+    if row.len() == row.capacity() {
+        row.reserve_exact(row.len().max(3))?;
+    }
+    row.push(lead)?;
+    Ok(())
+}
+
 /// Adds a lead to the row of the pair of this number.
 fn add_lead(
     known: &IndexSet<u64>,
@@ -77,7 +88,7 @@ fn add_lead(
         None => Ok(()),
         Some(j) => {
             let row = &mut rows[j];
-            row.push(lead)?;
+            push_lead(row, lead)?;
             Ok(())
         }
     }

@@ -1,4 +1,4 @@
-use Rattle.std.proofs.Common.{◌≡◌, ◌∙◌, sym, arith}
+use Rattle.std.proofs.Common.{◌∙◌, sym, arith}
 use Rattle.avro_least.proofs.Entries.{first_alone}
 use Rattle.avro_least.proofs.pairs.keeping.find_entry.Goals as goal
 
