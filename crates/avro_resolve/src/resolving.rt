@@ -134,7 +134,7 @@ impl<'p, 'a, 'b, P: Put> Make for Resolving<'p, 'a, 'b, P> {
         copy_record(alloc, self.builder, self.plan, at, bytes, ends)
     }
 
-    #[inline(always)]
+    #[inline(never)]
     fn null(&mut self, alloc: Global, at: Part) -> Result<Made<P::Out>, AllocError> {
         match at.at {
             At::Ignored => Ok(Made::Nothing),
@@ -148,7 +148,7 @@ impl<'p, 'a, 'b, P: Put> Make for Resolving<'p, 'a, 'b, P> {
         }
     }
 
-    #[inline(always)]
+    #[inline(never)]
     fn boolean(
         &mut self,
         alloc: Global,
@@ -167,7 +167,7 @@ impl<'p, 'a, 'b, P: Put> Make for Resolving<'p, 'a, 'b, P> {
         }
     }
 
-    #[inline(always)]
+    #[inline(never)]
     fn int(&mut self, alloc: Global, at: Part, value: i32) -> Result<Made<P::Out>, AllocError> {
         match at.at {
             At::Ignored => Ok(Made::Nothing),
@@ -194,7 +194,7 @@ impl<'p, 'a, 'b, P: Put> Make for Resolving<'p, 'a, 'b, P> {
         }
     }
 
-    #[inline(always)]
+    #[inline(never)]
     fn bytes(
         &mut self,
         alloc: Global,
@@ -212,7 +212,7 @@ impl<'p, 'a, 'b, P: Put> Make for Resolving<'p, 'a, 'b, P> {
         }
     }
 
-    #[inline(always)]
+    #[inline(never)]
     fn string(&mut self, alloc: Global, at: Part, text: &str) -> Result<Made<P::Out>, AllocError> {
         match at.at {
             At::Ignored => Ok(Made::Nothing),
@@ -225,7 +225,7 @@ impl<'p, 'a, 'b, P: Put> Make for Resolving<'p, 'a, 'b, P> {
         }
     }
 
-    #[inline(always)]
+    #[inline(never)]
     fn fixed(
         &mut self,
         alloc: Global,
@@ -244,7 +244,7 @@ impl<'p, 'a, 'b, P: Put> Make for Resolving<'p, 'a, 'b, P> {
         }
     }
 
-    #[inline(always)]
+    #[inline(never)]
     fn symbol(&mut self, alloc: Global, at: Part, symbol: u32) -> Result<Made<P::Out>, AllocError> {
         match at.at {
             At::Ignored => Ok(Made::Nothing),
