@@ -127,6 +127,36 @@ def long_default(choose):
     return root
 
 
+def text_type(choose, name):
+    """A type of a field that likely takes some texts and not others: an enum of few symbols, unions with enums, or another."""
+    def enum(name):
+        return Type("enum", name=name, symbols=[f"s{it}" for it in choose.sample(range(8), choose.randrange(1, 4))], symbol=None)
+    made = choose.choice(("enum", "enum", "enum", "null", "two", "fixed", "string", "bytes", "int"))
+    if made == "null":
+        return Type("union", branches=choose.sample([Type("null"), enum(name)], 2))
+    if made == "two":
+        return Type("union", branches=[enum(name), Type(choose.choice(("int", "null", "bytes"))), enum(f"{name}x")])
+    if made == "fixed":
+        return Type("fixed", name=name, size=choose.randrange(4))
+    return enum(name) if made == "enum" else Type(made)
+
+
+def records_of_texts(choose):
+    """A default of many objects, of a union of records that differ in which texts their fields take."""
+    names, records = "ab"[:choose.choice((1, 1, 2))], []
+    for k in range(choose.choice((3, 15, 16, 17, 40, 90))):
+        fields = [Field(name, text_type(choose, f"T{name}{k}")) for name in names if choose.randrange(12)]
+        records.append(Type("record", name=f"R{k}", fields=fields))
+    root = Type("record", name="Root", fields=[Field("f", Type("array", of=Type("union", branches=records)))])
+    set_heights(root)
+    takes = [Defaults(choose, 8).of(root.fields[0].type.of) for _ in range(choose.choice((3, 30)))]
+    others = [{name: choose.choice(("", "ab", None, 7, *(f"s{it}" for it in range(9)))) for name in names} for _ in range(choose.choice((0, 1, 1, 6)))]
+    parts = takes + others
+    choose.shuffle(parts)
+    root.fields[0].default = [parts]
+    return root
+
+
 def named_types(choose, count, aliases):
     """Types whose names and aliases meet again and again, under namespaces that may be long."""
     made, taken = [], set()
@@ -323,6 +353,7 @@ def spoiled_pair(choose):
 TEXTS = {
     "text: random": (lambda choose: text_of(choose, schema(choose)), 6), "text: defaults": (lambda choose: text_of(choose, defaults(choose)), 14),
     "text: long defaults": (lambda choose: text_of(choose, long_default(choose)), 8),
+    "text: records of texts": (lambda choose: text_of(choose, records_of_texts(choose)), 8),
     "text: names": (lambda choose: text_of(choose, named(choose)), 6), "text: spoiled": (spoiled, 16),
 }
 PAIRS = {
