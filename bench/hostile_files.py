@@ -212,16 +212,18 @@ def twin_aliases(share):
     """A fixed and one in a namespace that differs in its last character, which has an alias again and again, and unions of it."""
     space, count, unions = "n" * (450_000 // share), 110_000 // share, 4_000 // share
     names = short_names(unions)
-    writer = record("R", [("_", fixed("x"))] + [(name, "x") for name in names], namespace=space + "a")
-    reader = record("R", [("_", fixed("A", aliases=["x"] * count))] + [(name, ["A"]) for name in names], namespace=space + "b")
+    writer = record("R", [("other", fixed("x"))] + [(name, "x") for name in names], namespace=space + "a")
+    reader = record("R", [("other", fixed("A", aliases=["x"] * count))] + [(name, ["A"]) for name in names], namespace=space + "b")
     return {"writer": written(writer), "reader": written(reader)}
 
 
 def alias_grid(share):
     """Records that meet unions, each of which begins with a record of many aliases."""
-    side = {1: 1_400, 8: 500}[share]
+    side = {1: 1_175, 8: 400}[share]
     names, letters = short_names(side), string.ascii_letters
-    aliases = ["".join(it) for it in itertools.islice(itertools.product(letters, repeat=3), 130_000 // share)]
+    spelled = ("".join(it) for it in itertools.product(letters, repeat=3))
+    # No alias is the word of a primitive type.
+    aliases = list(itertools.islice((it for it in spelled if it != "int"), 130_000 // share))
     union = record("V", [("u", [record(f"W{k}", []) for k in range(side)])])
     writer = record("R", [(names[0], union), *((name, "V") for name in names[1:])])
     first = record("V", [("u", [record("k.K", [], aliases=aliases), "null"])], namespace="n0")
@@ -233,10 +235,10 @@ def field_aliases(share):
     """Records without a common name, and one with a field of many aliases."""
     names = short_names(4_000 // share)
     bare = [record("A", [(name + "_", "q.F")], namespace=f"n{k}") for k, name in enumerate(names)]
-    writer = record("R", [("_", fixed("q.F")), *zip(names, bare)])
+    writer = record("R", [("other", fixed("q.F")), *zip(names, bare)])
     field = {"name": "y", "type": "int", "default": 7, "aliases": [f"x{k}" for k in range(100_000 // share)]}
     one = {"type": "record", "name": "A", "fields": [field]}
-    reader = record("R", [("_", fixed("q.F")), (names[0], one), *((name, "A") for name in names[1:])])
+    reader = record("R", [("other", fixed("q.F")), (names[0], one), *((name, "A") for name in names[1:])])
     return {"writer": written(writer), "reader": written(reader)}
 
 
