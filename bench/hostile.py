@@ -280,6 +280,11 @@ def same_kinds(count, field, item):
     return text
 
 
+def one_symbol(k, left):
+    """An enum of one symbol, that of how many records follow."""
+    return {"type": "enum", "name": "E%d" % k, "symbols": ["s%d" % left]}
+
+
 def symbols_of_four(k, left):
     """An enum of four symbols, the last of which is that of how many records follow."""
     return {"type": "enum", "name": "E%d" % k, "symbols": ["a%d" % k, "b%d" % k, "c%d" % k, "s%d" % left]}
@@ -369,10 +374,12 @@ KINDS = {
     "alike arrays in a record": alike(1000, {"a": {"a": [7]}}, inside(inside(leaf_of, in_array), in_record)),
     "alike sizes": same_kinds(1000, lambda k, left: dict(fixed("F%d" % k), size=left), {"a": ""}),
     "alike unions": same_kinds(1000, lambda k, left: ["null", "boolean" if left else "int"], {"a": 1}),
-    "alike symbols": same_kinds(1000, lambda k, left: {"type": "enum", "name": "E%d" % k, "symbols": ["s%d" % left]}, {"a": "s0"}),
+    "alike symbols": same_kinds(1000, one_symbol, {"a": "s0"}),
     "alike symbols of four": same_kinds(1000, symbols_of_four, {"a": "s0"}),
-    "alike symbols in unions": same_kinds(
-        1000, lambda k, left: ["null", {"type": "enum", "name": "E%d" % k, "symbols": ["s%d" % left]}], {"a": "s0"}),
+    "alike symbols in unions": same_kinds(1000, lambda k, left: ["null", one_symbol(k, left)], {"a": "s0"}),
+    "alike symbols in records": same_kinds(1000, lambda k, left: in_record(k, [{"name": "a", "type": one_symbol(k, left)}]), {"a": {"a": "s0"}}),
+    "alike symbols in arrays": same_kinds(1000, lambda k, left: in_array(k, one_symbol(k, left)), {"a": ["s0"]}),
+    "alike numbers": same_kinds(1000, lambda k, left: "int" if left else "long", {"a": 3_000_000_000}),
     "alike by turns": by_turns(1000),
     "alike in an array": alike(800, {"a": [{"a": 1, "b": 2}]}, inside(lambda k, leaf: in_record(k, plain_fields("ab")(k, leaf)), in_array)),
 }
