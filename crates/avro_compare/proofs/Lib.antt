@@ -3,6 +3,7 @@ pub mod EnoughSteps
 pub mod Pairing
 pub mod FaultsLed
 pub mod FieldsNoted
+pub mod FirstAlias
 pub mod FirstLacking
 pub mod Named
 pub mod NamedKeys

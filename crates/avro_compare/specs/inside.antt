@@ -1,4 +1,5 @@
 -- What only proofs and private contracts need.
+pub mod AliasTables
 pub mod ByNode
 pub mod NameNumbers
 pub mod NameTables

@@ -5,7 +5,7 @@ ghost use Rattle.avro_compare.specs.inside.ByNode.{HasTable, with_table};
 use avro_schema::NodeId;
 use std::alloc::AllocError;
 
-/// The fewest branches, fields or symbols of a node that has a table.
+/// The fewest branches, fields, symbols or aliases that a table is made of.
 pub const FEWEST: usize = 8;
 
 /// The table of a node, if it has one. The tables are sorted by their nodes.

@@ -212,7 +212,7 @@ fn source_by(
 {
     match pair.aim {
         Aim::To(None, _) => first_entry(left, index),
-        _ => names.source(pair.w, field),
+        _ => names.source_at(pair.w, pair.r, index, field),
     }
 }
 

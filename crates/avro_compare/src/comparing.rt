@@ -85,7 +85,7 @@ pub fn compare_inside(
 {
     let writes = fields_of(names.writer(), w);
     let reads = fields_of(names.reader(), r);
-    let found = list_sources(alloc, names, w, writes, reads)?;
+    let found = list_sources(alloc, names, w, r, writes, reads)?;
     let fields = keep_fields(alloc, writes, reads, &found)?;
     let sources = keep_sources(alloc, writes, reads, &found)?;
     let symbols = keep_symbols(alloc, names, w, r)?;
@@ -106,14 +106,16 @@ fn list_sources(
     alloc: Global,
     names: &Names,
     w: NodeId,
+    r: NodeId,
     writes: &[Field],
     reads: &[Field],
 ) -> Result<Vec<Option<usize>>, Memory>
+    requires { seen_fields reads.now ≡ fields_at (node_at (schema_nodes names.now.1) r.0) }
     ensures each { IfOk result (λ found. AreListedSources (fields_at (node_at (schema_nodes names.now.0) w.0)) (seen_fields reads.now) found.items) }
     ensures all { IfOk result (λ found. (length found.items ≡ length (seen_fields reads.now)) ⊎ (seen_fields writes.now ≡ [])) }
 {
     if writes.len() > 0 {
-        find_sources(alloc, names, w, reads)
+        find_sources(alloc, names, w, r, reads)
     } else {
         Ok(Vec::new(alloc))
     }
@@ -124,14 +126,16 @@ fn find_sources(
     alloc: Global,
     names: &Names,
     w: NodeId,
+    r: NodeId,
     reads: &[Field],
 ) -> Result<Vec<Option<usize>>, Memory>
+    requires { seen_fields reads.now ≡ fields_at (node_at (schema_nodes names.now.1) r.0) }
     ensures each { IfOk result (λ found. AreListedSources (fields_at (node_at (schema_nodes names.now.0) w.0)) (seen_fields reads.now) found.items) }
     ensures all { IfOk result (λ found. length found.items ≡ length reads.now) }
 {
     let mut found = Vec::new(alloc);
     for index in 0..reads.len() {
-        found.push(names.source(w, &reads[index]))?;
+        found.push(names.source_at(w, r, index, &reads[index]))?;
     }
     Ok(found)
 }

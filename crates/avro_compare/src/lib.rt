@@ -3,6 +3,7 @@
 //! [`compare`] finds it by [`Names`], the tables of names of two schemas.
 #![tactic(auto)]
 
+mod alias_tables;
 mod by_node;
 mod children;
 mod comparing;

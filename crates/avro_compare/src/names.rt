@@ -1,3 +1,4 @@
+use crate::alias_tables::{alias_tables, source_by_index};
 use crate::field_tables::{field_tables, source_by};
 use crate::guided::Aim;
 use crate::name_numbers::NameNumbers;
@@ -13,18 +14,21 @@ use std::marker::Model;
 
 /// A writer's schema and a reader's, with tables of names, by which names are found without
 /// looking at all of them: the branches of the reader's unions, for the first match of a record,
-/// an enum or a fixed, the fields of the writer's records, and the symbols of the reader's enums.
-/// A union of few branches, or with more aliases than branches, a record of few fields and an enum
-/// of few symbols are looked through, and take no memory here. The names and aliases of types are
+/// an enum or a fixed, the fields of the writer's records, the aliases of the reader's fields, and
+/// the symbols of the reader's enums. A union of few branches, or with more aliases than branches,
+/// a record of few fields, a field of few aliases and an enum of few symbols are looked through,
+/// and take no memory here. The names and aliases of types are
 /// numbered, and compared by their numbers. Contracts see the two schemas.
 #[derive(Drop)]
 pub struct Names<'a> {
     writer: &'a Schema,
     reader: &'a Schema,
     numbers: NameNumbers<'a>,
-    // Each list rises by its nodes, so that a node's table is found by binary search.
+    // Each list rises by its nodes, and that of aliases by the indices of fields too, so that a table is found by
+    // binary search.
     unions: Vec<(NodeId, BTreeMap<(u64, u32), usize>)>,
     fields: Vec<(NodeId, BTreeMap<&'a str, usize>)>,
+    aliases: Vec<((NodeId, usize), BTreeMap<&'a str, usize>)>,
     symbols: Vec<(NodeId, BTreeMap<&'a str, usize>)>,
 }
 
@@ -33,6 +37,7 @@ impl<'a> Model for Names<'a> {
     ghost use Rattle.avro_schema.specs.contracts.datum.Datum as datum;
     ghost use Rattle.avro_schema.specs.declared.schema.Schema.{Schema};
     ghost use Rattle.avro_schema.specs.SeenSchema.{schema_nodes};
+    ghost use Rattle.avro_compare.specs.inside.AliasTables.{AreAliasTables};
     ghost use Rattle.avro_compare.specs.inside.NameTables.{AreUnionTables, AreFieldTables, AreSymbolTables};
     ghost use Rattle.avro_compare.specs.inside.NameNumbers.{AreNumbers};
 
@@ -45,11 +50,12 @@ impl<'a> Model for Names<'a> {
     ghost invariant = { λ names. AreNumbers (schema_nodes names.writer.now) (schema_nodes names.reader.now) names.numbers
         × AreUnionTables names.numbers.table.simples (schema_nodes names.reader.now) names.unions.items
         × AreFieldTables (schema_nodes names.writer.now) names.fields.items
+        × AreAliasTables (schema_nodes names.reader.now) names.aliases.items
         × AreSymbolTables (schema_nodes names.reader.now) names.symbols.items };
 }
 
 impl<'a> Names<'a> {
-    ghost use Rattle.std.specs.Prelude.{◌≡◌, IfOk};
+    ghost use Rattle.std.specs.Prelude.{◌≡◌, IfOk, Some, slice_get};
     ghost use Rattle.avro_schema.specs.Node.{node_at};
     ghost use Rattle.avro_schema.specs.Seen.{field_of};
     ghost use Rattle.avro_schema.specs.SeenSchema.{schema_nodes};
@@ -70,6 +76,7 @@ impl<'a> Names<'a> {
         let numbers = name_numbers(alloc, writer, reader)?;
         let unions = union_tables(alloc, &numbers.table.simples, reader)?;
         let fields = field_tables(alloc, writer)?;
+        let aliases = alias_tables(alloc, reader)?;
         let symbols = symbol_tables(alloc, reader)?;
         Ok(Names {
             writer,
@@ -77,6 +84,7 @@ impl<'a> Names<'a> {
             numbers,
             unions,
             fields,
+            aliases,
             symbols,
         })
     }
@@ -91,6 +99,7 @@ impl<'a> Names<'a> {
             numbers: no_numbers(alloc),
             unions: Vec::new(alloc),
             fields: Vec::new(alloc),
+            aliases: Vec::new(alloc),
             symbols: Vec::new(alloc),
         }
     }
@@ -111,6 +120,29 @@ impl<'a> Names<'a> {
         ensures { result ≡ source_of (fields_at (node_at (schema_nodes self.now.0) w.0)) (field_of field.now) }
     {
         source_by(&self.fields, self.writer, w, field)
+    }
+
+    /// The same of a reader's field at an index of a record, whose aliases are found by their table if it has one.
+    pub(crate) fn source_at(
+        &self,
+        w: NodeId,
+        r: NodeId,
+        index: usize,
+        field: &Field,
+    ) -> Option<usize>
+        requires { slice_get (fields_at (node_at (schema_nodes self.now.1) r.0)) index ≡ Some (field_of field.now) }
+        ensures { result ≡ source_of (fields_at (node_at (schema_nodes self.now.0) w.0)) (field_of field.now) }
+    {
+        source_by_index(
+            &self.fields,
+            &self.aliases,
+            self.writer,
+            w,
+            self.reader,
+            r,
+            index,
+            field,
+        )
     }
 
     /// The index of a symbol of a reader's enum, or of its default; none at another reader's node.

@@ -29,7 +29,7 @@ pub(crate) fn field_names<'f>(
     Ok(names)
 }
 
-/// The index of each symbol, to look symbols up in.
+/// The index of each symbol, or of each alias of a field, to look them up in.
 ///
 /// # Errors
 ///

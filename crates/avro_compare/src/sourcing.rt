@@ -14,7 +14,7 @@ use crate::guided::At;
 use avro_schema::{Field, NodeId, RecordNode, Schema};
 
 /// The first index of a field of a name.
-fn index_named(fields: &[Field], name: &str) -> Option<usize>
+pub(crate) fn index_named(fields: &[Field], name: &str) -> Option<usize>
     ensures { result ≡ field_index (seen_fields fields.now) name.now }
 {
     for index in 0..fields.len() {
@@ -37,6 +37,9 @@ pub fn source(writer: &RecordNode, field: &Field) -> Option<usize>
 pub fn source_among(fields: &[Field], f: &Field) -> Option<usize>
     ensures { result ≡ source_of (seen_fields fields.now) (field_of f.now) }
 {
+    if fields.len() == 0 {
+        return None;
+    }
     match index_named(fields, f.name.as_str()) {
         Some(index) => return Some(index),
         None => {}

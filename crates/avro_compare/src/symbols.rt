@@ -109,7 +109,11 @@ pub(crate) fn symbol_by_name(
 }
 
 /// The first index of a symbol, by the names of the symbols.
-fn index_by_name(names: &BTreeMap<&str, usize>, symbols: &[String], symbol: &str) -> Option<usize>
+pub(crate) fn index_by_name(
+    names: &BTreeMap<&str, usize>,
+    symbols: &[String],
+    symbol: &str,
+) -> Option<usize>
     requires { FindsSymbols (texts_of symbols.now) names.now }
     ensures index { result ≡ position (λ s. bytes_eq s symbol.now) (texts_of symbols.now) }
     ensures below { IfSome result (λ k. k < length symbols.now) }

@@ -100,7 +100,7 @@ const FAULTY_REVERSED: &str =
     r#"{"type":"record","name":"R","fields":[{"name":"b","type":{"type":"enum","name":"E","symbols":["A"]}},{"name":"a","type":"string"}]}"#;
 
 /// Fields.
-pub(crate) const FIELDS: [Row; 11] = [
+pub(crate) const FIELDS: [Row; 12] = [
     (
         TEST,
         TEST_REVERSED,
@@ -140,6 +140,13 @@ pub(crate) const FIELDS: [Row; 11] = [
     (
         r#"{"type":"record","name":"R","fields":[{"name":"a","type":"int"},{"name":"b","type":"int"}]}"#,
         r#"{"type":"record","name":"R","fields":[{"name":"c","type":"int","aliases":["z","b","a"]}]}"#,
+        b"\x02\x04",
+        "{\"c\":2} 2",
+        b"\x04",
+    ),
+    (
+        r#"{"type":"record","name":"R","fields":[{"name":"a","type":"int"},{"name":"b","type":"int"}]}"#,
+        r#"{"type":"record","name":"R","fields":[{"name":"c","type":"int","aliases":["d0","d1","d2","d3","d4","d5","d6","d7","d8","b","e0","e1","e2","e3","e4","e5","e6","e7","e8","a"]}]}"#,
         b"\x02\x04",
         "{\"c\":2} 2",
         b"\x04",

@@ -19,9 +19,9 @@ loop-index-preserved c =
     let ws = fields_at (node_at (schema_nodes c.args.names.now.0) c.args.w.0) in
     let reads = c.args.reads.now in
     let i = c.loop-index.index in
-    holds_push (λ k s. (f : FieldNode) → slice_get (seen_fields reads) k ≡ Some f → s ≡ source_of ws f) c.loop-index.found.items c.push.new.self.items c.source.result i
+    holds_push (λ k s. (f : FieldNode) → slice_get (seen_fields reads) k ≡ Some f → s ≡ source_of ws f) c.loop-index.found.items c.push.new.self.items c.source_at.result i
     c.in_ok-push.ensures.items c.loop-index.invariant
-    (λ f is. c.source.ensures ∙ ap (source_of ws) (same_some (seen_at reads i c.index-reads-index.result c.loop-index-test.true c.index-reads-index.is) is))
+    (λ f is. c.source_at.ensures ∙ ap (source_of ws) (same_some (seen_at reads i c.index-reads-index.result c.loop-index-test.true c.index-reads-index.is) is))
 
 pub returns : goal.returns
 returns c = record { each = c.loop-index.invariant.0; all = c.loop-index.invariant.1 ∙ omega (arith, c.loop-index-test.false, c.loop-index.auto.index-end) }
