@@ -5,6 +5,7 @@ pub mod FaultsLed
 pub mod FieldsNoted
 pub mod FirstAlias
 pub mod FirstLacking
+pub mod LongSpaces
 pub mod Named
 pub mod NamedKeys
 pub mod NamedStarts

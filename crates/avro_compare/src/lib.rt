@@ -16,6 +16,7 @@ mod guided;
 mod lacking;
 pub mod laws;
 mod lead;
+mod long_spaces;
 mod matching;
 mod name_numbers;
 mod named_type;

@@ -1,7 +1,7 @@
 //! The names of the writer's types and of the reader's by number, so that the text of a name is compared with others
 //! once, and not for each pair of types.
 
-ghost use Rattle.std.specs.Prelude.{◌≡◌, ◌||◌, ℕ, List, Option, Some, IfOk, OnOk, is_some, slice_get};
+ghost use Rattle.std.specs.Prelude.{◌≡◌, ◌||◌, ℕ, List, Option, Some, IfOk, OnOk, bytes_eq, cond, is_some, slice_get};
 ghost use Rattle.std.specs.Option.{IfSome};
 ghost use Rattle.std.specs.BTreeMap.{get};
 ghost use Rattle.std.specs.List.{list_any};
@@ -10,9 +10,10 @@ ghost use Rattle.avro_schema.specs.Node.{Node as SeenNode, node_at};
 ghost use Rattle.avro_schema.specs.SeenSchema.{schema_nodes};
 ghost use Rattle.avro_compare.specs.declared.name_numbers.NameTable.{NameTable as SeenTable};
 ghost use Rattle.avro_compare.specs.inside.NameTables.{NameKey, NamedType as SeenType, is_number, key_cmp, named_type, number as number_in};
-ghost use Rattle.avro_compare.specs.inside.NameNumbers.{AreNumbers, AreOfReader, AreOfWriter, HoldsNames, IsTable, NumbersBy, TellsAlike, full_number as numbers_of, full_of, is_full, HasNames, aliases_of, simple_at, simple_of, space_at};
+ghost use Rattle.avro_compare.specs.inside.NameNumbers.{AreLong, AreNumbers, AreOfReader, AreOfWriter, HoldsNames, IsTable, NumbersBy, TellsAlike, both_numbers, full_number as numbers_of, full_of, is_full, HasNames, aliases_of, simple_at, simple_of, space_at};
 
 use crate::first_branches::type_at;
+use crate::long_spaces::{LONG, is_settled, keep_places, list_space, no_places};
 use crate::name_numbers::{NameNumbers, NameTable, ReaderNames};
 use crate::named_type::NamedType;
 use avro_name::FullName;
@@ -46,6 +47,7 @@ pub(crate) fn no_numbers<'w>(alloc: Global) -> NameNumbers<'w>
         table: NameTable {
             simples: BTreeMap::new(alloc),
             spaces: BTreeMap::new(alloc),
+            long_spaces: Vec::new(alloc),
         },
         writes: Vec::new(alloc),
         reads: Vec::new(alloc),
@@ -58,29 +60,42 @@ fn name_table<'w>(alloc: Global, writer: &'w Schema) -> Result<NameTable<'w>, Al
 {
     let mut simples = BTreeMap::new(alloc);
     let mut spaces = BTreeMap::new(alloc);
+    let mut long_spaces = Vec::new(alloc);
     let mut number = 0u32;
     for _round in 0..writer.len() {
-        add_type(&mut simples, &mut spaces, writer, NodeId(number))?;
+        add_type(
+            &mut simples,
+            &mut spaces,
+            &mut long_spaces,
+            writer,
+            NodeId(number),
+        )?;
         number = number.saturating_add(1);
     }
-    Ok(NameTable { simples, spaces })
+    Ok(NameTable {
+        simples,
+        spaces,
+        long_spaces,
+    })
 }
 
 /// Adds the names of a node, if it is a type.
 fn add_type<'w>(
     simples: &mut BTreeMap<&'w str, u32>,
     spaces: &mut BTreeMap<&'w str, u32>,
+    long_spaces: &mut Vec<(&'w str, u32)>,
     writer: &'w Schema,
     id: NodeId,
 ) -> Result<(), AllocError>
     ensures simples { OnOk result (NumbersBy (simple_at (schema_nodes writer.now)) simples.old → NumbersBy (simple_at (schema_nodes writer.now)) simples.new) }
     ensures spaces { OnOk result (NumbersBy (space_at (schema_nodes writer.now)) spaces.old → NumbersBy (space_at (schema_nodes writer.now)) spaces.new) }
+    ensures long { OnOk result (AreLong spaces.old long_spaces.old.items → AreLong spaces.new long_spaces.new.items) }
 {
     match type_at(writer, id) {
         None => Ok(()),
         Some(named) => {
             add_simple(simples, &named, id)?;
-            add_space(spaces, &named, id)?;
+            add_space(spaces, long_spaces, &named, id)?;
             Ok(())
         }
     }
@@ -98,15 +113,22 @@ fn add_simple<'w>(
     Ok(())
 }
 
-/// Gives the namespace of a type a number.
+/// Gives the namespace of a type a number, if it has none, and lists it if it is long.
 fn add_space<'w>(
     spaces: &mut BTreeMap<&'w str, u32>,
+    long_spaces: &mut Vec<(&'w str, u32)>,
     named: &NamedType<'w>,
     id: NodeId,
 ) -> Result<(), AllocError>
-    ensures { OnOk result ((text_at : ℕ → List ℕ) → text_at id.0 ≡ named.now.name.namespace → NumbersBy text_at spaces.old → NumbersBy text_at spaces.new) }
+    ensures numbers { OnOk result ((text_at : ℕ → List ℕ) → text_at id.0 ≡ named.now.name.namespace → NumbersBy text_at spaces.old → NumbersBy text_at spaces.new) }
+    ensures long { OnOk result (AreLong spaces.old long_spaces.old.items → AreLong spaces.new long_spaces.new.items) }
 {
-    add_text(spaces, named.name.namespace(), id.0)?;
+    let space = named.name.namespace();
+    if number(spaces, space).is_some() {
+        return Ok(());
+    }
+    add_text(spaces, space, id.0)?;
+    list_space(long_spaces, space, id.0)?;
     Ok(())
 }
 
@@ -116,7 +138,8 @@ fn add_text<'w>(
     text: &'w str,
     number: u32,
 ) -> Result<(), AllocError>
-    ensures { OnOk result ((text_at : ℕ → List ℕ) → text_at number ≡ text.now → NumbersBy text_at numbers.old → NumbersBy text_at numbers.new) }
+    ensures numbers { OnOk result ((text_at : ℕ → List ℕ) → text_at number ≡ text.now → NumbersBy text_at numbers.old → NumbersBy text_at numbers.new) }
+    ensures put { OnOk result ((other : List ℕ) → number_in numbers.new other ≡ cond (bytes_eq text.now other) (Some number) (number_in numbers.old other)) }
 {
     numbers.insert(text, number)?;
     Ok(())
@@ -174,11 +197,13 @@ fn reader_names(
     table: &NameTable,
     reader: &Schema,
 ) -> Result<Vec<ReaderNames>, AllocError>
+    requires { AreLong table.now.spaces table.now.long_spaces.items }
     ensures { IfOk result (λ names. AreOfReader table.now (schema_nodes reader.now) names.items) }
 {
     let mut names = Vec::new(alloc);
+    let mut places = no_places(alloc, &table.long_spaces)?;
     for index in 0..reader.len() {
-        let found = names_at(alloc, table, reader, NodeId(index as u32))?;
+        let found = names_at(alloc, &mut places, table, reader, NodeId(index as u32))?;
         names.push(found)?;
     }
     Ok(names)
@@ -187,10 +212,12 @@ fn reader_names(
 /// The names of a node by number, and none if it is no type.
 fn names_at(
     alloc: Global,
+    places: &mut Vec<usize>,
     table: &NameTable,
     reader: &Schema,
     id: NodeId,
 ) -> Result<ReaderNames, AllocError>
+    requires { AreLong table.now.spaces table.now.long_spaces.items }
     ensures { IfOk result (HasNames table.now (named_type (node_at (schema_nodes reader.now) id.0))) }
 {
     match type_at(reader, id) {
@@ -200,7 +227,7 @@ fn names_at(
         }),
         Some(named) => Ok(ReaderNames {
             simple: number(&table.simples, named.name.simple()),
-            aliases: alias_numbers(alloc, table, named.aliases)?,
+            aliases: alias_numbers(alloc, places, table, named.aliases)?,
         }),
     }
 }
@@ -208,16 +235,18 @@ fn names_at(
 /// The numbers of some names.
 fn alias_numbers(
     alloc: Global,
+    places: &mut Vec<usize>,
     table: &NameTable,
     names: &[FullName],
 ) -> Result<BTreeMap<(u32, u32), ()>, AllocError>
+    requires { AreLong table.now.spaces table.now.long_spaces.items }
     ensures { IfOk result (HoldsNames table.now names.now) }
 {
     let mut set = BTreeMap::new(alloc);
     let mut left = names.len();
     while left > 0 {
         left -= 1;
-        add_alias(&mut set, table, &names[left])?;
+        add_alias(&mut set, places, table, &names[left])?;
     }
     Ok(set)
 }
@@ -225,15 +254,42 @@ fn alias_numbers(
 /// Adds the numbers of a name, if it has some.
 fn add_alias(
     set: &mut BTreeMap<(u32, u32), ()>,
+    places: &mut Vec<usize>,
     table: &NameTable,
     name: &FullName,
 ) -> Result<(), AllocError>
+    requires { AreLong table.now.spaces table.now.long_spaces.items }
     ensures { OnOk result ((key : NameKey) → is_some (get key_cmp set.new key) ≡ (is_full key (numbers_of table.now name.now) || is_some (get key_cmp set.old key))) }
 {
-    match full_number(table, name) {
+    match number(&table.simples, name.simple()) {
         None => Ok(()),
-        Some(full) => {
-            set.insert(full, ())?;
+        Some(simple) => add_full(set, places, table, simple, name.namespace()),
+    }
+}
+
+/// Adds the number of a simple name with that of a namespace, if it has one. A long namespace is not looked up again
+/// where it is known to add nothing.
+fn add_full(
+    set: &mut BTreeMap<(u32, u32), ()>,
+    places: &mut Vec<usize>,
+    table: &NameTable,
+    simple: u32,
+    space: &str,
+) -> Result<(), AllocError>
+    requires { AreLong table.now.spaces table.now.long_spaces.items }
+    ensures { OnOk result ((key : NameKey) → is_some (get key_cmp set.new key) ≡ (is_full key (both_numbers (Some simple) (number_in table.now.spaces space.now)) || is_some (get key_cmp set.old key))) }
+{
+    if space.len() >= LONG {
+        if is_settled(set, &table.long_spaces, places, simple, space) {
+            return Ok(());
+        }
+    }
+    let found = number(&table.spaces, space);
+    keep_places(places, &table.long_spaces, space, found);
+    match found {
+        None => Ok(()),
+        Some(found) => {
+            set.insert((simple, found), ())?;
             Ok(())
         }
     }
