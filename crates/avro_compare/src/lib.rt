@@ -24,6 +24,7 @@ mod names;
 mod naming;
 mod numbering;
 mod pairs;
+mod reader_numbers;
 mod sourcing;
 mod symbol_tables;
 mod symbols;

@@ -4,7 +4,7 @@ use Rattle.avro_schema.specs.SeenSchema.{schema_nodes}
 use Rattle.avro_compare.specs.inside.NameTables.{named_type}
 use Rattle.avro_compare.specs.inside.NameNumbers.{HasNames}
 use Rattle.avro_compare.proofs.public.Planning.{holds_none, holds_push}
-use Rattle.avro_compare.proofs.numbering.reader_names.Goals as goal
+use Rattle.avro_compare.proofs.reader_numbers.reader_names.Goals as goal
 
 pub loop-index-init : goal.loop-index-init
 loop-index-init c =

@@ -4,7 +4,7 @@ use Rattle.std.specs.List.{list_any}
 use Rattle.std.specs.BTreeMap.{get}
 use Rattle.avro_compare.specs.inside.NameTables.{NameKey, key_cmp}
 use Rattle.avro_compare.specs.inside.NameNumbers.{full_number, is_full}
-use Rattle.avro_compare.proofs.numbering.alias_numbers.Given as goal
+use Rattle.avro_compare.proofs.reader_numbers.alias_numbers.Given as goal
 
 abbrev pub invariant-loop-left : goal.invariant-loop-left
 invariant-loop-left l = (l.left ≤ length l.names)

@@ -2,7 +2,7 @@ use Rattle.std.proofs.Common.{◌≡◌, ◌≤◌, true, length, rules}
 use Rattle.std.specs.List.{list_all}
 use Rattle.avro_compare.specs.inside.NameNumbers.{settles}
 use Rattle.avro_compare.proofs.LongSpaces.{settled}
-use Rattle.avro_compare.proofs.numbering.add_full.Goals as goal
+use Rattle.avro_compare.proofs.reader_numbers.add_full.Goals as goal
 
 pub returns-then-is_settled : goal.returns-then-is_settled
 returns-then-is_settled c =

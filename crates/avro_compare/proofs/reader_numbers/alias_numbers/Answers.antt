@@ -6,7 +6,7 @@ use Rattle.std.specs.Map.{lookup}
 use Rattle.avro_compare.specs.inside.NameTables.{key_cmp}
 use Rattle.avro_compare.specs.inside.NameNumbers.{full_number, is_full}
 use Rattle.avro_compare.proofs.ByNumber.{any_next, any_none}
-use Rattle.avro_compare.proofs.numbering.alias_numbers.Goals as goal
+use Rattle.avro_compare.proofs.reader_numbers.alias_numbers.Goals as goal
 
 pub loop-left-init : goal.loop-left-init
 loop-left-init c = (
