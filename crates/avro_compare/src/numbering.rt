@@ -1,16 +1,15 @@
 //! The names of the writer's types and of the reader's by number, so that the text of a name is compared with others
 //! once, and not for each pair of types.
 
-ghost use Rattle.std.specs.Prelude.{◌≡◌, ◌||◌, ℕ, List, Option, Some, IfOk, OnOk, bytes_eq, cond, is_some, slice_get};
+ghost use Rattle.std.specs.Prelude.{◌≡◌, ◌||◌, ℕ, List, Option, Some, IfOk, OnOk, bytes_eq, cond, slice_get};
 ghost use Rattle.std.specs.Option.{IfSome};
-ghost use Rattle.std.specs.BTreeMap.{get};
 ghost use Rattle.std.specs.List.{list_any};
 ghost use Rattle.avro_name.specs.Name.{Name};
 ghost use Rattle.avro_schema.specs.Node.{Node as SeenNode, node_at};
 ghost use Rattle.avro_schema.specs.SeenSchema.{schema_nodes};
 ghost use Rattle.avro_compare.specs.declared.name_numbers.NameTable.{NameTable as SeenTable};
-ghost use Rattle.avro_compare.specs.inside.NameTables.{NameKey, NamedType as SeenType, is_number, key_cmp, named_type, number as number_in};
-ghost use Rattle.avro_compare.specs.inside.NameNumbers.{AreLong, AreNumbers, AreOfReader, AreOfWriter, HoldsNames, IsTable, NumbersBy, TellsAlike, both_numbers, full_number as numbers_of, full_of, is_full, HasNames, aliases_of, simple_at, simple_of, space_at};
+ghost use Rattle.avro_compare.specs.inside.NameTables.{NamedType as SeenType, is_number, named_type, number as number_in};
+ghost use Rattle.avro_compare.specs.inside.NameNumbers.{AreLong, AreNumbers, AreOfWriter, HoldsNames, IsTable, NumbersBy, TellsAlike, full_number as numbers_of, full_of, is_full, HasNames, aliases_of, simple_at, simple_of, space_at};
 
 use crate::first_branches::type_at;
 use crate::long_spaces::list_space;
