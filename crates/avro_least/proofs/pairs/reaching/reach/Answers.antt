@@ -112,3 +112,8 @@ loop-next-preserved c =
 pub returns-clause-found : goal.returns-clause-found
 returns-clause-found c = found_compared (schema_nodes c.args.writer.now) (schema_nodes c.args.reader.now) (keys c.loop-next.known) c.loop-next.found.items c.loop-next.invariant.5
     (omega (arith, c.loop-next.invariant.4, c.loop-next.invariant.3))
+
+pub returns-clause-closed : goal.returns-clause-closed
+returns-clause-closed c = λ i k found within.
+    let low : i < length (keys c.loop-next.known) = ltb-true i (length (keys c.loop-next.known)) within in
+    c.loop-next.invariant.2 i k found (lt-ltb i c.loop-next.next (omega (arith, low, c.loop-next-test.false, c.len.ensures.len)))
