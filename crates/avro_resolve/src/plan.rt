@@ -2,6 +2,7 @@ pub(crate) mod flagging;
 pub(crate) mod found;
 pub(crate) mod keeping;
 pub(crate) mod ordering;
+pub(crate) mod pair_order;
 pub(crate) mod parts;
 pub(crate) mod plan_ref;
 pub(crate) mod plan_table;

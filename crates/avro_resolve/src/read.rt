@@ -2,6 +2,7 @@ ghost use Rattle.avro_schema.specs.SeenSchema.{schema_nodes};
 ghost use Rattle.avro_resolve.specs.Reading.{BuildsResolved, ReadsResolved};
 
 use crate::error::ReadResolveError;
+use crate::plan::pair_order::PairOrder;
 use crate::plan::plan_ref::PlanRef;
 use crate::put::Put;
 use crate::resolving::Resolving;
@@ -51,7 +52,8 @@ pub fn read_resolved<B: Build>(
 ) -> Result<(B::Out, usize), ReadResolveError>
     ensures { BuildsResolved B.stands_for (schema_nodes writer.now) (schema_nodes reader.now) limits.now bytes.now result }
 {
-    let plan = PlanRef::new(writer, reader, &[], &[], &[], 0);
+    let order = PairOrder::none(alloc);
+    let plan = PlanRef::new(writer, reader, &[], &[], &[], 0, &order);
     read_planned(alloc, &plan, bytes, limits, builder)
 }
 

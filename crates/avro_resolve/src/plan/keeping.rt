@@ -8,6 +8,7 @@ ghost use Rattle.avro_compare.specs.Resolve.{enum_as, fields_at, symbol_at};
 ghost use Rattle.avro_compare.specs.Source.{missing_field};
 ghost use Rattle.avro_resolve.specs.inside.Guided.{IsWhole, known_part};
 
+use crate::plan::pair_order::PairOrder;
 use avro_compare::{
     Aim, At, Comparison, aim, fields_of, first_entry, missing, part_for, symbol_for,
 };
@@ -15,7 +16,7 @@ use avro_schema::{NodeId, Schema};
 
 /// What is kept at an index, if it is of these two nodes.
 #[inline(always)]
-fn pair_of(pairs: &[Comparison], index: u32, w: NodeId, r: NodeId) -> Option<&Comparison>
+fn pair_at(pairs: &[Comparison], index: u32, w: NodeId, r: NodeId) -> Option<&Comparison>
     ensures { (writer reader : List Node) → AreComparisons writer reader pairs.now
         → IfSome result (λ p. IsComparison writer reader p.now × (p.now.w ≡ w) × (p.now.r ≡ r)) }
 {
@@ -30,13 +31,56 @@ fn pair_of(pairs: &[Comparison], index: u32, w: NodeId, r: NodeId) -> Option<&Co
     }
 }
 
-/// What is kept at an index, if it is of these two nodes and is kept inside them.
+/// What is kept of two nodes, by the order of the pairs if there is one. It stands apart from what reading runs through
+/// where it is passed the indices.
+#[cold]
+#[inline(never)]
+fn pair_by<'p>(
+    pairs: &'p [Comparison],
+    order: Option<&PairOrder>,
+    w: NodeId,
+    r: NodeId,
+) -> Option<&'p Comparison>
+    ensures { (writer reader : List Node) → AreComparisons writer reader pairs.now
+        → IfSome result (λ p. IsComparison writer reader p.now × (p.now.w ≡ w) × (p.now.r ≡ r)) }
+{
+    match order {
+        Some(order) => pair_at(pairs, order.index_of(w, r), w, r),
+        None => None,
+    }
+}
+
+/// What is kept of two nodes, at an index or else where the order of the pairs has it.
 #[inline(always)]
-fn inside_of(pairs: &[Comparison], index: u32, w: NodeId, q: NodeId) -> Option<&Comparison>
+fn pair_of<'p>(
+    pairs: &'p [Comparison],
+    order: Option<&PairOrder>,
+    index: u32,
+    w: NodeId,
+    r: NodeId,
+) -> Option<&'p Comparison>
+    ensures { (writer reader : List Node) → AreComparisons writer reader pairs.now
+        → IfSome result (λ p. IsComparison writer reader p.now × (p.now.w ≡ w) × (p.now.r ≡ r)) }
+{
+    match pair_at(pairs, index, w, r) {
+        Some(pair) => Some(pair),
+        None => pair_by(pairs, order, w, r),
+    }
+}
+
+/// The same, if it is kept inside the two nodes.
+#[inline(always)]
+fn inside_of<'p>(
+    pairs: &'p [Comparison],
+    order: Option<&PairOrder>,
+    index: u32,
+    w: NodeId,
+    q: NodeId,
+) -> Option<&'p Comparison>
     ensures { (writer reader : List Node) → AreComparisons writer reader pairs.now
         → IfSome result (λ p. AreInside (node_at writer w.0) (node_at reader q.0) p.now) }
 {
-    match pair_of(pairs, index, w, q) {
+    match pair_of(pairs, order, index, w, q) {
         Some(pair) => match pair.aim {
             Aim::To(None, _) => Some(pair),
             Aim::To(Some(_), _) => None,
@@ -50,6 +94,7 @@ fn inside_of(pairs: &[Comparison], index: u32, w: NodeId, q: NodeId) -> Option<&
 #[inline(always)]
 pub(crate) fn aim_kept(
     pairs: &[Comparison],
+    order: Option<&PairOrder>,
     index: u32,
     writer: &Schema,
     w: NodeId,
@@ -60,7 +105,7 @@ pub(crate) fn aim_kept(
     ensures { IsAim (schema_nodes writer.now) (schema_nodes reader.now)
         (node_at (schema_nodes writer.now) w.0) (node_at (schema_nodes reader.now) r.0) result }
 {
-    match pair_of(pairs, index, w, r) {
+    match pair_of(pairs, order, index, w, r) {
         Some(pair) => pair.aim,
         None => aim(writer, w, reader, r),
     }
@@ -70,6 +115,7 @@ pub(crate) fn aim_kept(
 #[inline(always)]
 pub(crate) fn missing_kept(
     pairs: &[Comparison],
+    order: Option<&PairOrder>,
     index: u32,
     writer: &Schema,
     w: NodeId,
@@ -79,7 +125,7 @@ pub(crate) fn missing_kept(
     requires { AreComparisons (schema_nodes writer.now) (schema_nodes reader.now) pairs.now }
     ensures { result ≡ missing_field (fields_at (node_at (schema_nodes writer.now) w.0)) (fields_at (node_at (schema_nodes reader.now) q.0)) }
 {
-    match inside_of(pairs, index, w, q) {
+    match inside_of(pairs, order, index, w, q) {
         Some(pair) => pair.missing,
         None => missing(fields_of(writer, w), fields_of(reader, q)),
     }
@@ -87,16 +133,17 @@ pub(crate) fn missing_kept(
 
 /// What the writer's fields are for, as it is kept at an index, where the two nodes lead to each other and no field is missing.
 #[inline(always)]
-pub(crate) fn whole_kept(
-    pairs: &[Comparison],
+pub(crate) fn whole_kept<'p>(
+    pairs: &'p [Comparison],
+    order: Option<&PairOrder>,
     index: u32,
     w: NodeId,
     r: NodeId,
-) -> Option<&[(usize, At)]>
+) -> Option<&'p [(usize, At)]>
     ensures { (writer reader : List Node) → AreComparisons writer reader pairs.now
         → IfSome result (λ known. IsWhole writer reader w r known.now) }
 {
-    match pair_of(pairs, index, w, r) {
+    match pair_of(pairs, order, index, w, r) {
         Some(pair) => match pair.aim {
             Aim::To(None, _) => match pair.missing {
                 None => Some(&pair.fields),
@@ -113,6 +160,7 @@ pub(crate) fn whole_kept(
 #[inline(always)]
 pub(crate) fn fields_kept<'p>(
     pairs: &'p [Comparison],
+    order: Option<&PairOrder>,
     index: u32,
     writer: &Schema,
     w: NodeId,
@@ -122,7 +170,7 @@ pub(crate) fn fields_kept<'p>(
     requires { AreComparisons (schema_nodes writer.now) (schema_nodes reader.now) pairs.now }
     ensures { IfSome result (λ known. AreFor (fields_at (node_at (schema_nodes writer.now) w.0)) (fields_at (node_at (schema_nodes reader.now) q.0)) known.now) }
 {
-    match inside_of(pairs, index, w, q) {
+    match inside_of(pairs, order, index, w, q) {
         Some(pair) => Some(&pair.fields),
         None => None,
     }
@@ -161,6 +209,7 @@ pub(crate) fn field_kept(
 #[inline(always)]
 pub(crate) fn sources_kept<'p>(
     pairs: &'p [Comparison],
+    order: Option<&PairOrder>,
     index: u32,
     writer: &Schema,
     w: NodeId,
@@ -170,7 +219,7 @@ pub(crate) fn sources_kept<'p>(
     requires { AreComparisons (schema_nodes writer.now) (schema_nodes reader.now) pairs.now }
     ensures { IfSome result (λ sources. AreSources (fields_at (node_at (schema_nodes writer.now) w.0)) (fields_at (node_at (schema_nodes reader.now) q.0)) sources.now) }
 {
-    match inside_of(pairs, index, w, q) {
+    match inside_of(pairs, order, index, w, q) {
         Some(pair) => Some(&pair.sources),
         None => None,
     }
@@ -179,6 +228,7 @@ pub(crate) fn sources_kept<'p>(
 /// The reader's symbol for a writer's, as it is kept at an index or else by name.
 pub(crate) fn symbol_kept(
     pairs: &[Comparison],
+    order: Option<&PairOrder>,
     index: u32,
     writer: &Schema,
     w: NodeId,
@@ -189,7 +239,7 @@ pub(crate) fn symbol_kept(
     requires { AreComparisons (schema_nodes writer.now) (schema_nodes reader.now) pairs.now }
     ensures { IsSymbol (enum_as (symbol_at (node_at (schema_nodes writer.now) w.0) symbol) (node_at (schema_nodes reader.now) q.0)) result }
 {
-    match inside_of(pairs, index, w, q) {
+    match inside_of(pairs, order, index, w, q) {
         Some(pair) => {
             if (symbol as usize) < pair.symbols.len() {
                 return pair.symbols[symbol as usize];

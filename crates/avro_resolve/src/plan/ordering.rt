@@ -1,41 +1,8 @@
+use crate::plan::pair_order::PairOrder;
 use crate::plan::parts::{items_of, values_of};
 use avro_compare::{Aim, At, Comparison};
 use avro_schema::{Memory, Node, NodeId, Schema};
 use std::alloc::Global;
-
-/// A pair of nodes, and its index among those of a plan.
-pub type IndexedPair = (NodeId, NodeId, u32);
-
-/// The pairs that are kept, in order, each with its index.
-fn in_order(alloc: Global, pairs: &[Comparison]) -> Result<Vec<IndexedPair>, Memory> {
-    let mut order = Vec::new(alloc);
-    let mut index = 0u32;
-    for pair in pairs {
-        order.push((pair.w, pair.r, index))?;
-        index = index.saturating_add(1);
-    }
-    order.sort_unstable();
-    Ok(order)
-}
-
-/// The index of a pair, and 0 where it is not among them. What is kept at an index says which pair
-/// it is of.
-fn index_in(order: &[IndexedPair], w: NodeId, r: NodeId) -> u32 {
-    let at = match order.binary_search(&(w, r, 0)) {
-        Ok(at) => at,
-        Err(at) => at,
-    };
-    match order.get(at) {
-        Some(pair) => {
-            if pair.0 == w && pair.1 == r {
-                pair.2
-            } else {
-                0
-            }
-        }
-        None => 0,
-    }
-}
 
 /// How many parts a pair of nodes has: none where nothing is made of them.
 pub(crate) fn count_of_parts(writer: &Schema, pair: &Comparison) -> usize {
@@ -104,8 +71,8 @@ pub(crate) fn indices_of(
     reader: &Schema,
     pairs: &[Comparison],
 ) -> Result<(Vec<Vec<u32>>, u32), Memory> {
-    let order = in_order(alloc, pairs)?;
-    let root = index_in(&order, writer.root(), reader.root());
+    let order = PairOrder::of(alloc, writer.len(), pairs)?;
+    let root = order.index_of(writer.root(), reader.root());
     let mut indices = Vec::new(alloc);
     for pair in pairs {
         indices.push(indices_of_parts(alloc, writer, reader, pair, &order)?)?;
@@ -119,13 +86,13 @@ fn indices_of_parts(
     writer: &Schema,
     reader: &Schema,
     pair: &Comparison,
-    order: &[IndexedPair],
+    order: &PairOrder,
 ) -> Result<Vec<u32>, Memory> {
     let mut parts = Vec::new(alloc);
     for part in 0..count_of_parts(writer, pair) {
         let index = match part_at(writer, reader, pair, part) {
             At::Ignored => 0,
-            At::Pair(w, r) => index_in(order, w, r),
+            At::Pair(w, r) => order.index_of(w, r),
         };
         parts.push(index)?;
     }

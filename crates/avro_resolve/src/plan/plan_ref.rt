@@ -6,6 +6,7 @@ use crate::plan::flagging::{is_set, straight_kept};
 use crate::plan::keeping::{
     aim_kept, field_kept, fields_kept, missing_kept, sources_kept, symbol_kept, whole_kept,
 };
+use crate::plan::pair_order::PairOrder;
 use crate::plan::parts::{branch_of, items_of, values_of};
 use crate::put::Put;
 use crate::read::{put_planned, read_planned};
@@ -25,6 +26,7 @@ pub struct PlanRef<'a> {
     parts: &'a [Vec<u32>],
     flags: &'a [bool],
     root: u32,
+    order: &'a PairOrder,
 }
 
 impl<'a> Model for PlanRef<'a> {
@@ -59,7 +61,7 @@ impl<'a> PlanRef<'a> {
 
     /// The plan of two schemas that keeps these pairs. `parts` holds for each pair the indices of the pairs of its
     /// parts, `flags` which pairs are straight, and `root` is the index of the roots' pair. A pair that is not at its
-    /// index is resolved by its names.
+    /// index is looked for in `order`, and if it is not there it is resolved by its names.
     pub(crate) fn new(
         writer: &'a Schema,
         reader: &'a Schema,
@@ -67,6 +69,7 @@ impl<'a> PlanRef<'a> {
         parts: &'a [Vec<u32>],
         flags: &'a [bool],
         root: u32,
+        order: &'a PairOrder,
     ) -> PlanRef<'a>
         requires pairs { AreComparisons (schema_nodes writer.now) (schema_nodes reader.now) pairs.now }
         requires flags { AreFlags (schema_nodes writer.now) (schema_nodes reader.now) pairs.now flags.now }
@@ -79,6 +82,7 @@ impl<'a> PlanRef<'a> {
             parts,
             flags,
             root,
+            order,
         }
     }
 
@@ -176,7 +180,15 @@ impl<'a> PlanRef<'a> {
         ensures { IsAim (schema_nodes self.now.0) (schema_nodes self.now.1)
             (node_at (schema_nodes self.now.0) w.0) (node_at (schema_nodes self.now.1) r.0) result }
     {
-        aim_kept(self.pairs, index, self.writer, w, self.reader, r)
+        aim_kept(
+            self.pairs,
+            Some(self.order),
+            index,
+            self.writer,
+            w,
+            self.reader,
+            r,
+        )
     }
 
     /// The nodes of the items of two nodes.
@@ -223,7 +235,15 @@ impl<'a> PlanRef<'a> {
     pub(crate) fn missing(&self, index: u32, w: NodeId, q: NodeId) -> Option<usize>
         ensures { result ≡ missing_field (fields_at (node_at (schema_nodes self.now.0) w.0)) (fields_at (node_at (schema_nodes self.now.1) q.0)) }
     {
-        missing_kept(self.pairs, index, self.writer, w, self.reader, q)
+        missing_kept(
+            self.pairs,
+            Some(self.order),
+            index,
+            self.writer,
+            w,
+            self.reader,
+            q,
+        )
     }
 
     /// What the writer's fields are for, where two nodes lead to each other, no field is missing, and this is kept.
@@ -231,7 +251,7 @@ impl<'a> PlanRef<'a> {
     pub(crate) fn whole(&self, index: u32, w: NodeId, r: NodeId) -> Option<&'a [(usize, At)]>
         ensures { IfSome result (λ known. IsWhole (schema_nodes self.now.0) (schema_nodes self.now.1) w r known.now) }
     {
-        whole_kept(self.pairs, index, w, r)
+        whole_kept(self.pairs, Some(self.order), index, w, r)
     }
 
     /// What the writer's fields are for, if it is kept.
@@ -239,7 +259,15 @@ impl<'a> PlanRef<'a> {
     pub(crate) fn fields(&self, index: u32, w: NodeId, q: NodeId) -> Option<&'a [(usize, At)]>
         ensures { IfSome result (λ known. AreFor (fields_at (node_at (schema_nodes self.now.0) w.0)) (fields_at (node_at (schema_nodes self.now.1) q.0)) known.now) }
     {
-        fields_kept(self.pairs, index, self.writer, w, self.reader, q)
+        fields_kept(
+            self.pairs,
+            Some(self.order),
+            index,
+            self.writer,
+            w,
+            self.reader,
+            q,
+        )
     }
 
     /// What the writer's field at an index is for, by what is known from there on.
@@ -261,7 +289,15 @@ impl<'a> PlanRef<'a> {
     pub(crate) fn sources(&self, index: u32, w: NodeId, q: NodeId) -> Option<&[(usize, usize)]>
         ensures { IfSome result (λ sources. AreSources (fields_at (node_at (schema_nodes self.now.0) w.0)) (fields_at (node_at (schema_nodes self.now.1) q.0)) sources.now) }
     {
-        sources_kept(self.pairs, index, self.writer, w, self.reader, q)
+        sources_kept(
+            self.pairs,
+            Some(self.order),
+            index,
+            self.writer,
+            w,
+            self.reader,
+            q,
+        )
     }
 
     /// Whether the pair at an index is flagged as straight.
@@ -284,7 +320,16 @@ impl<'a> PlanRef<'a> {
     pub(crate) fn symbol(&self, index: u32, w: NodeId, symbol: u32, q: NodeId) -> Option<u32>
         ensures { IsSymbol (enum_as (symbol_at (node_at (schema_nodes self.now.0) w.0) symbol) (node_at (schema_nodes self.now.1) q.0)) result }
     {
-        symbol_kept(self.pairs, index, self.writer, w, symbol, self.reader, q)
+        symbol_kept(
+            self.pairs,
+            Some(self.order),
+            index,
+            self.writer,
+            w,
+            symbol,
+            self.reader,
+            q,
+        )
     }
 }
 

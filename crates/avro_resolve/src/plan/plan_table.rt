@@ -1,5 +1,6 @@
 use crate::plan::flagging::flags_of;
 use crate::plan::ordering::indices_of;
+use crate::plan::pair_order::PairOrder;
 use crate::plan::plan_ref::PlanRef;
 use crate::plan::walking::compare_reached;
 use avro_compare::Comparison;
@@ -13,6 +14,7 @@ pub struct PlanTable {
     parts: Vec<Vec<u32>>,
     pub(crate) flags: Vec<bool>,
     root: u32,
+    order: PairOrder,
 }
 
 impl PlanTable {
@@ -42,6 +44,32 @@ impl PlanTable {
             parts,
             flags,
             root,
+            order: PairOrder::none(alloc),
+        })
+    }
+
+    /// The same for the reading of one datum: the pairs in order of their nodes, in place of those of the parts of each.
+    /// It is made in less time and memory. Reading looks for each pair by its nodes, and copies no record as it stands.
+    ///
+    /// # Errors
+    ///
+    /// Memory ran out.
+    pub fn of_one_read(
+        alloc: Global,
+        writer: &Schema,
+        reader: &Schema,
+        pairs: Vec<Comparison>,
+    ) -> Result<PlanTable, Memory>
+        requires { AreComparisons (schema_nodes writer.now) (schema_nodes reader.now) pairs.items }
+        ensures { IfOk result (λ table. IsTableOf (schema_nodes writer.now) (schema_nodes reader.now) table) }
+    {
+        let order = PairOrder::of(alloc, writer.len(), &pairs)?;
+        Ok(PlanTable {
+            pairs,
+            parts: Vec::new(alloc),
+            flags: Vec::new(alloc),
+            root: 0,
+            order,
         })
     }
 
@@ -60,6 +88,7 @@ impl PlanTable {
             parts,
             flags,
             root: 0,
+            order: PairOrder::none(alloc),
         })
     }
 
@@ -75,6 +104,7 @@ impl PlanTable {
             &self.parts,
             &self.flags,
             self.root,
+            &self.order,
         )
     }
 }
