@@ -16,7 +16,7 @@ use avro_schema::{NodeId, Schema};
 
 /// What is kept at an index, if it is of these two nodes.
 #[inline(always)]
-fn pair_at(pairs: &[Comparison], index: u32, w: NodeId, r: NodeId) -> Option<&Comparison>
+fn pair_of(pairs: &[Comparison], index: u32, w: NodeId, r: NodeId) -> Option<&Comparison>
     ensures { (writer reader : List Node) → AreComparisons writer reader pairs.now
         → IfSome result (λ p. IsComparison writer reader p.now × (p.now.w ≡ w) × (p.now.r ≡ r)) }
 {
@@ -31,10 +31,7 @@ fn pair_at(pairs: &[Comparison], index: u32, w: NodeId, r: NodeId) -> Option<&Co
     }
 }
 
-/// What is kept of two nodes, by the order of the pairs if there is one. It stands apart from what reading runs through
-/// where it is passed the indices.
-#[cold]
-#[inline(never)]
+/// What is kept of two nodes, where the order of the pairs has them.
 fn pair_by<'p>(
     pairs: &'p [Comparison],
     order: Option<&PairOrder>,
@@ -45,30 +42,35 @@ fn pair_by<'p>(
         → IfSome result (λ p. IsComparison writer reader p.now × (p.now.w ≡ w) × (p.now.r ≡ r)) }
 {
     match order {
-        Some(order) => pair_at(pairs, order.index_of(w, r), w, r),
+        Some(order) => pair_of(pairs, order.index_of(w, r), w, r),
         None => None,
     }
 }
 
-/// What is kept of two nodes, at an index or else where the order of the pairs has it.
-#[inline(always)]
-fn pair_of<'p>(
+/// What is kept of two nodes and inside them, where the order of the pairs has them. It stands apart from what reading runs
+/// through where it is passed the indices.
+#[cold]
+#[inline(never)]
+fn inside_by<'p>(
     pairs: &'p [Comparison],
     order: Option<&PairOrder>,
-    index: u32,
     w: NodeId,
-    r: NodeId,
+    q: NodeId,
 ) -> Option<&'p Comparison>
     ensures { (writer reader : List Node) → AreComparisons writer reader pairs.now
-        → IfSome result (λ p. IsComparison writer reader p.now × (p.now.w ≡ w) × (p.now.r ≡ r)) }
+        → IfSome result (λ p. AreInside (node_at writer w.0) (node_at reader q.0) p.now) }
 {
-    match pair_at(pairs, index, w, r) {
-        Some(pair) => Some(pair),
-        None => pair_by(pairs, order, w, r),
+    match pair_by(pairs, order, w, q) {
+        Some(pair) => match pair.aim {
+            Aim::To(None, _) => Some(pair),
+            Aim::To(Some(_), _) => None,
+            Aim::Fault(_) => None,
+        },
+        None => None,
     }
 }
 
-/// The same, if it is kept inside the two nodes.
+/// What is kept of two nodes and inside them, at an index or else where the order of the pairs has them.
 #[inline(always)]
 fn inside_of<'p>(
     pairs: &'p [Comparison],
@@ -80,13 +82,35 @@ fn inside_of<'p>(
     ensures { (writer reader : List Node) → AreComparisons writer reader pairs.now
         → IfSome result (λ p. AreInside (node_at writer w.0) (node_at reader q.0) p.now) }
 {
-    match pair_of(pairs, order, index, w, q) {
+    match pair_of(pairs, index, w, q) {
         Some(pair) => match pair.aim {
             Aim::To(None, _) => Some(pair),
             Aim::To(Some(_), _) => None,
             Aim::Fault(_) => None,
         },
-        None => None,
+        None => inside_by(pairs, order, w, q),
+    }
+}
+
+/// Where a pair of nodes leads, as it is kept where the order of the pairs has them, or else by name. It stands apart as
+/// well.
+#[cold]
+#[inline(never)]
+fn aim_by(
+    pairs: &[Comparison],
+    order: Option<&PairOrder>,
+    writer: &Schema,
+    w: NodeId,
+    reader: &Schema,
+    r: NodeId,
+) -> Aim
+    requires { AreComparisons (schema_nodes writer.now) (schema_nodes reader.now) pairs.now }
+    ensures { IsAim (schema_nodes writer.now) (schema_nodes reader.now)
+        (node_at (schema_nodes writer.now) w.0) (node_at (schema_nodes reader.now) r.0) result }
+{
+    match pair_by(pairs, order, w, r) {
+        Some(pair) => pair.aim,
+        None => aim(writer, w, reader, r),
     }
 }
 
@@ -105,9 +129,9 @@ pub(crate) fn aim_kept(
     ensures { IsAim (schema_nodes writer.now) (schema_nodes reader.now)
         (node_at (schema_nodes writer.now) w.0) (node_at (schema_nodes reader.now) r.0) result }
 {
-    match pair_of(pairs, order, index, w, r) {
+    match pair_of(pairs, index, w, r) {
         Some(pair) => pair.aim,
-        None => aim(writer, w, reader, r),
+        None => aim_by(pairs, order, writer, w, reader, r),
     }
 }
 
@@ -133,17 +157,16 @@ pub(crate) fn missing_kept(
 
 /// What the writer's fields are for, as it is kept at an index, where the two nodes lead to each other and no field is missing.
 #[inline(always)]
-pub(crate) fn whole_kept<'p>(
-    pairs: &'p [Comparison],
-    order: Option<&PairOrder>,
+pub(crate) fn whole_kept(
+    pairs: &[Comparison],
     index: u32,
     w: NodeId,
     r: NodeId,
-) -> Option<&'p [(usize, At)]>
+) -> Option<&[(usize, At)]>
     ensures { (writer reader : List Node) → AreComparisons writer reader pairs.now
         → IfSome result (λ known. IsWhole writer reader w r known.now) }
 {
-    match pair_of(pairs, order, index, w, r) {
+    match pair_of(pairs, index, w, r) {
         Some(pair) => match pair.aim {
             Aim::To(None, _) => match pair.missing {
                 None => Some(&pair.fields),

@@ -251,7 +251,7 @@ impl<'a> PlanRef<'a> {
     pub(crate) fn whole(&self, index: u32, w: NodeId, r: NodeId) -> Option<&'a [(usize, At)]>
         ensures { IfSome result (λ known. IsWhole (schema_nodes self.now.0) (schema_nodes self.now.1) w r known.now) }
     {
-        whole_kept(self.pairs, Some(self.order), index, w, r)
+        whole_kept(self.pairs, index, w, r)
     }
 
     /// What the writer's fields are for, if it is kept.

@@ -1,6 +1,6 @@
 use Rattle.std.proofs.Common.{◌≡◌, ◌<◌, length, refl, rules}
 use Rattle.std.proofs.lemmas.Option.{slice_get_read}
-use Rattle.avro_resolve.proofs.plan.keeping.pair_at.Goals as goal
+use Rattle.avro_resolve.proofs.plan.keeping.pair_of.Goals as goal
 
 pub returns-then-eq-2 : goal.returns-then-eq-2
 returns-then-eq-2 c = λ writer reader kept.
