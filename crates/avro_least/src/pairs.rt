@@ -5,6 +5,7 @@ pub(crate) mod erring;
 pub(crate) mod graph;
 pub(crate) mod keeping;
 pub(crate) mod leads;
+pub(crate) mod near;
 pub(crate) mod parts;
 pub(crate) mod reaching;
 pub(crate) mod search;

@@ -51,6 +51,10 @@ key_at [] i k h = absurd (grind arith)
 key_at (x ∷ xs) zero k h = or_from_left (k == x) (is_key xs k) (eq-eqb k x (sym (some_same x k h)))
 key_at (x ∷ xs) (suc i) k h = or_from_right (k == x) (is_key xs k) (key_at xs i k h)
 
+-- a key that is there is not added
+pub key_stays : (ks : List ℕ) (i k : ℕ) → slice_get ks i ≡ Some k → insert_key nat_eq ks k ≡ ks
+key_stays ks i k there = ap (λ b. if b then ks else (ks ++ k ∷ [])) (key_at ks i k there)
+
 -- what all keys pass, a key passes
 pub key_passes : (test : ℕ → Bool) (ks : List ℕ) (k : ℕ) → list_all test ks ≡ true → is_key ks k ≡ true → test k ≡ true
 key_passes test [] k all h = absurd (false≢true h)

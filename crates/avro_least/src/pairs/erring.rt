@@ -11,16 +11,22 @@ ghost use Rattle.avro_least.specs.SeenAsk.{row_of, rows_of};
 use crate::kept::Least;
 use crate::nodes::least::{entry, lesser, together};
 use crate::pairs::asking::FieldAsk;
+use crate::pairs::near::index_near;
 use crate::pairs::reaching::number;
 use crate::queue::entry_at;
 use avro_schema::NodeId;
 use indexmap::IndexSet;
 
-/// The entry of a pair, given its number.
-fn numbered_entry(known: &IndexSet<u64>, entries: &[Option<Least>], key: u64) -> Option<Least>
+/// The entry of a pair, given its number, which is looked for at the index `near` first.
+fn numbered_entry(
+    known: &IndexSet<u64>,
+    entries: &[Option<Least>],
+    key: u64,
+    near: usize,
+) -> Option<Least>
     ensures { seen result ≡ reached_entry (seen_all entries.now) (position (λ k. key == k) (keys known.now)) }
 {
-    match known.get_index_of(&key) {
+    match index_near(known, key, near) {
         None => Some(Least { nodes: 0, depth: 0 }),
         Some(i) => entry_at(entries, i),
     }
@@ -33,11 +39,12 @@ fn live_entry(
     entries: &[Option<Least>],
     w: NodeId,
     r: NodeId,
+    near: usize,
 ) -> Option<Least>
     ensures { seen result ≡ cond (nat_lt r.0 count) (reached_entry (seen_all entries.now) (position (λ k. pair_number count w.0 r.0 == k) (keys known.now))) (Some no_parts) }
 {
     if r.0 < count {
-        numbered_entry(known, entries, number(count, w, r))
+        numbered_entry(known, entries, number(count, w, r), near)
     } else {
         Some(Least { nodes: 0, depth: 0 })
     }
@@ -55,9 +62,24 @@ pub fn pair_entry(
 ) -> Option<Least>
     ensures { seen result ≡ erring_of count (table_of table.now) (keys known.now) (seen_all entries.now) w.0 r.0 }
 {
+    pair_entry_near(table, count, known, entries, w, r, 0)
+}
+
+/// The same of a pair that is mostly at the index `near`.
+pub(crate) fn pair_entry_near(
+    table: &[Option<Least>],
+    count: u32,
+    known: &IndexSet<u64>,
+    entries: &[Option<Least>],
+    w: NodeId,
+    r: NodeId,
+    near: usize,
+) -> Option<Least>
+    ensures { seen result ≡ erring_of count (table_of table.now) (keys known.now) (seen_all entries.now) w.0 r.0 }
+{
     match entry(table, w) {
         None => None,
-        Some(_) => live_entry(count, known, entries, w, r),
+        Some(_) => live_entry(count, known, entries, w, r, near),
     }
 }
 

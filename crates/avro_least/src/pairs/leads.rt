@@ -12,6 +12,7 @@ ghost use Rattle.avro_least.specs.inside.Leading.{is_lead, leads_at, AreLeads};
 use crate::kept::Least;
 use crate::nodes::least::{count, entry};
 use crate::pairs::keeping::KeptAsk;
+use crate::pairs::near::index_next;
 use crate::pairs::parts::{nth_part, part_count};
 use crate::pairs::reaching::{Reached, ask_at_index, number, readers, writers};
 use avro_schema::{Memory, NodeId, Schema};
@@ -72,11 +73,12 @@ fn push_lead(row: &mut Vec<Lead>, lead: Lead) -> Result<(), Memory>
     Ok(())
 }
 
-/// Adds a lead to the row of the pair of this number.
+/// Adds a lead to the row of the pair of this number, which is looked for first after the one that was found before.
 fn add_lead(
     known: &IndexSet<u64>,
     key: u64,
     lead: Lead,
+    next: &mut usize,
     rows: &mut [Vec<Lead>],
 ) -> Result<(), Memory>
     requires { length rows.old ≡ length (keys known.now) }
@@ -84,7 +86,7 @@ fn add_lead(
     ensures kept { OnOk result ((j i k : ℕ) → is_lead (leads_at rows.old j) i k ≡ true → is_lead (leads_at rows.new j) i k ≡ true) }
     ensures added { OnOk result ((j : ℕ) → position (λ q. key == q) (keys known.now) ≡ Some j → is_lead (leads_at rows.new j) lead.pair lead.part ≡ true) }
 {
-    match known.get_index_of(&key) {
+    match index_next(known, key, next) {
         None => Ok(()),
         Some(j) => {
             let row = &mut rows[j];
@@ -101,6 +103,7 @@ fn add_part(
     known: &IndexSet<u64>,
     part: Option<(usize, NodeId, NodeId)>,
     pair: usize,
+    next: &mut usize,
     rows: &mut [Vec<Lead>],
 ) -> Result<(), Memory>
     requires { length rows.old ≡ length (keys known.now) }
@@ -116,7 +119,7 @@ fn add_part(
                 return Ok(());
             }
             let lead = lead_of(pair, k)?;
-            add_lead(known, number(count, a, b), lead, rows)
+            add_lead(known, number(count, a, b), lead, next, rows)
         }
     }
 }
@@ -130,6 +133,7 @@ fn add_parts(
     w: NodeId,
     r: NodeId,
     i: usize,
+    next: &mut usize,
     rows: &mut [Vec<Lead>],
 ) -> Result<(), Memory>
     requires { length rows.old ≡ length (keys known.now) }
@@ -140,7 +144,7 @@ fn add_parts(
 {
     for n in 0..part_count(ask) {
         let part = nth_part(w, r, ask, n);
-        add_part(table, count, known, part, i, rows)?;
+        add_part(table, count, known, part, i, next, rows)?;
     }
     Ok(())
 }
@@ -165,6 +169,7 @@ pub(crate) fn leads(
     let pairs = reached.known.len();
     let nodes = count(reader);
     let mut rows = empty_rows(alloc, pairs)?;
+    let mut next = 0;
     for i in 0..pairs {
         match reached.known.get_index(i) {
             None => unreachable!(),
@@ -172,7 +177,17 @@ pub(crate) fn leads(
                 let w = writers(writer, reader, *key);
                 let r = readers(reader, *key);
                 let ask = ask_at_index(writer, reader, reached, i);
-                add_parts(table, nodes, &reached.known, ask, w, r, i, &mut rows)?;
+                add_parts(
+                    table,
+                    nodes,
+                    &reached.known,
+                    ask,
+                    w,
+                    r,
+                    i,
+                    &mut next,
+                    &mut rows,
+                )?;
             }
         }
     }

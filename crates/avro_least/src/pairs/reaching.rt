@@ -17,6 +17,7 @@ use crate::kept::Least;
 use crate::nodes::least::{count, entry};
 use crate::pairs::asking::ask_of_pair;
 use crate::pairs::keeping::KeptAsk;
+use crate::pairs::near::add_next;
 use avro_compare::{Comparison, Lead, Names, compare, has_fault, leads};
 use avro_schema::{Memory, NodeId, Schema};
 use indexmap::IndexSet;
@@ -31,15 +32,15 @@ pub struct Reached {
     pub found: Vec<Comparison>,
 }
 
-/// Adds numbers, each once.
-fn add_all(known: &mut IndexSet<u64>, more: &[u64]) -> Result<(), Memory>
+/// Adds numbers, each once. Each is looked for first after the one before, at `next`.
+fn add_all(known: &mut IndexSet<u64>, more: &[u64], next: &mut usize) -> Result<(), Memory>
     ensures kept { OnOk result ((rest : List ℕ) × (keys known.new ≡ keys known.old ++ rest)) }
     ensures added { OnOk result (list_all (is_key (keys known.new)) more.now ≡ true) }
     ensures old_or_new { OnOk result ((k : ℕ) → is_key (keys known.new) k ≡ true → (is_key (keys known.old) k || is_key more.now k) ≡ true) }
     ensures all { OnOk result ((P : ℕ → Bool) → list_all P (keys known.old) ≡ true → list_all P more.now ≡ true → list_all P (keys known.new) ≡ true) }
 {
     for key in more {
-        known.insert(*key)?;
+        add_next(known, *key, next)?;
     }
     Ok(())
 }
@@ -196,7 +197,8 @@ pub fn reach(
     let names = Names::new(alloc, writer, reader)?;
     let mut known = IndexSet::new(alloc);
     let mut found = Vec::new(alloc);
-    add_all(&mut known, &[0])?;
+    let mut near = 0;
+    add_all(&mut known, &[0], &mut near)?;
     let mut next = 0;
     while next < known.len() {
         match known.get_index(next) {
@@ -204,7 +206,7 @@ pub fn reach(
             Some(key) => {
                 let key = *key;
                 let (pair, more) = visit(alloc, &names, writer, reader, table, key)?;
-                add_all(&mut known, &more)?;
+                add_all(&mut known, &more, &mut near)?;
                 found.push(pair)?;
             }
         }

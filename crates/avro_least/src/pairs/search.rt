@@ -16,7 +16,7 @@ ghost use Rattle.avro_least.specs.declared.pairs.leads.Lead.{Lead};
 
 use crate::kept::Least;
 use crate::nodes::least::count;
-use crate::pairs::erring::pair_entry;
+use crate::pairs::erring::pair_entry_near;
 use crate::pairs::graph::Graph;
 use crate::pairs::leads::{Lead, leads, leads_at};
 use crate::pairs::parts::{around_part, others, others_at, part_at, value_alone};
@@ -25,13 +25,15 @@ use crate::queue::Search;
 use avro_schema::{Memory, Schema};
 use std::alloc::Global;
 
-/// What the entry of a pair comes to by its part at an index. The pair is given by its number and the index of that.
+/// What the entry of a pair comes to by its part at an index. The pair is given by its number and the index of that,
+/// and the part is mostly the pair at the index `near`.
 fn value_by_part(
     graph: &Graph,
     entries: &[Option<Least>],
     i: usize,
     key: u64,
     k: usize,
+    near: usize,
 ) -> Option<Least>
     requires graph { IsGraph graph.now }
     requires here { slice_get (keys graph.now.reached.now.known) i ≡ Some key }
@@ -46,7 +48,15 @@ fn value_by_part(
     match part_at(w, r, ask, k) {
         None => None,
         Some((a, b)) => {
-            let part = pair_entry(graph.table, nodes, &graph.reached.known, entries, a, b);
+            let part = pair_entry_near(
+                graph.table,
+                nodes,
+                &graph.reached.known,
+                entries,
+                a,
+                b,
+                near,
+            );
             let others = others_at(graph.others, w.0 as usize);
             around_part(graph.limit, graph.table, others, ask, k, part)
         }
@@ -84,8 +94,8 @@ fn start(alloc: Global, graph: &Graph) -> Result<Search, Memory>
     Ok(search)
 }
 
-/// Lowers the entry of a pair to what it comes to by a part.
-fn take_part(graph: &Graph, lead: Lead, search: &mut Search) -> Result<(), Memory>
+/// Lowers the entry of a pair to what it comes to by a part, which is mostly the pair at the index `near`.
+fn take_part(graph: &Graph, lead: Lead, near: usize, search: &mut Search) -> Result<(), Memory>
     requires graph { IsGraph graph.now }
     requires search { IsSearchOf graph.now search.old }
     ensures search { OnOk result (IsSearchOf graph.now search.new) }
@@ -96,7 +106,7 @@ fn take_part(graph: &Graph, lead: Lead, search: &mut Search) -> Result<(), Memor
     let pair = lead.pair as usize;
     if let Some(key) = graph.reached.known.get_index(pair) {
         let part = lead.part as usize;
-        let found = value_by_part(graph, &search.entries, pair, *key, part);
+        let found = value_by_part(graph, &search.entries, pair, *key, part, near);
         search.lower(pair, found)?;
     }
     Ok(())
@@ -114,7 +124,7 @@ fn take_parts(graph: &Graph, i: usize, search: &mut Search) -> Result<(), Memory
 {
     let leads = leads_at(graph.leads, i);
     for n in 0..leads.len() {
-        take_part(graph, leads[n], search)?;
+        take_part(graph, leads[n], i, search)?;
     }
     Ok(())
 }

@@ -23,15 +23,15 @@ pub loop-key-preserved : goal.loop-key-preserved
 loop-key-preserved c =
     let inv = c.loop-key.invariant in
     let k : ℕ = get_or c.args.more.now c.loop-key.key-index 0 in
-    let one : IsAdded (keys c.loop-key.known) k (keys c.insert.new.self) =
-    subst (λ (ks : List ℕ). IsAdded (keys c.loop-key.known) k ks) (sym c.in_ok-insert.ensures.keys) (added (keys c.loop-key.known) k) in
+    let one : IsAdded (keys c.loop-key.known) k (keys c.add_next.new.known) =
+    subst (λ (ks : List ℕ). IsAdded (keys c.loop-key.known) k ks) (sym c.in_ok-add_next.ensures) (added (keys c.loop-key.known) k) in
     let more = take_more c.args.more.now c.loop-key.key-index 0 c.loop-key-test.true in (
       (inv.0.0 ++ one.rest, one.is ∙ ap (λ ks. ks ++ one.rest) inv.0.1 ∙ append_assoc (keys c.args.known.now) inv.0.0 one.rest),
-      rw more (list_all-append (is_key (keys c.insert.new.self)) (take c.loop-key.key-index c.args.more.now) (k ∷ [])
-          ∙ and_from (list_all (is_key (keys c.insert.new.self)) (take c.loop-key.key-index c.args.more.now)) (is_key (keys c.insert.new.self) k && true)
+      rw more (list_all-append (is_key (keys c.add_next.new.known)) (take c.loop-key.key-index c.args.more.now) (k ∷ [])
+          ∙ and_from (list_all (is_key (keys c.add_next.new.known)) (take c.loop-key.key-index c.args.more.now)) (is_key (keys c.add_next.new.known) k && true)
           (subst (λ (ks : List ℕ). list_all (is_key ks) (take c.loop-key.key-index c.args.more.now) ≡ true) (sym one.is)
           (keys_kept (keys c.loop-key.known) one.rest (take c.loop-key.key-index c.args.more.now) inv.1))
-          (and_from (is_key (keys c.insert.new.self) k) true one.there refl)),
+          (and_from (is_key (keys c.add_next.new.known) k) true one.there refl)),
       λ P old new.
           let parts = sym (list_all-append P (take c.loop-key.key-index c.args.more.now) (k ∷ []))
           ∙ subst (λ (ks : List ℕ). list_all P ks ≡ true) more new in

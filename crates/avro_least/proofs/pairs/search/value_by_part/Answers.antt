@@ -74,7 +74,7 @@ returns-in-Some c =
     ap (λ (es : List (Option KeptLeast)). given_entry (slice_get es c.args.k)) c.others_at-others.ensures
     ∙ c.requires.graph.others w c.writers-w.ensures.within c.args.k within
     ∙ ap (λ (ids : List ℕ). least_of_others limit table ids c.args.k) (sym nodes) in
-    by_part_is limit table erring w r _ _ c.args.k asked asked (Some pair) (seen c.pair_entry-part.result) (seen c.around_part.result)
+    by_part_is limit table erring w r _ _ c.args.k asked asked (Some pair) (seen c.pair_entry_near-part.result) (seen c.around_part.result)
     c.writers-w.ensures.is c.readers-r.ensures.is refl part
-    (c.pair_entry-part.ensures ∙ ap (λ (n : ℕ). erring_of n table ks (seen_all c.args.entries.now) c.in-Some.a.0 c.in-Some.b.0) c.count-nodes.ensures.count)
+    (c.pair_entry_near-part.ensures ∙ ap (λ (n : ℕ). erring_of n table ks (seen_all c.args.entries.now) c.in-Some.a.0 c.in-Some.b.0) c.count-nodes.ensures.count)
     (c.around_part.ensures asked own others)
