@@ -70,7 +70,7 @@ pub(crate) fn fault_of_datum(
     // The law that no encoding begins another, by which the datum that is read is this one.
     prefix();
     let bytes = encoded(alloc, writer, datum)?;
-    let table = PlanTable::of(alloc, writer, reader, found)?;
+    let table = PlanTable::of_one_read(alloc, writer, reader, found)?;
     let plan = table.plan(writer, reader);
     match plan.read(alloc, &bytes, limits, &mut Nothing) {
         Err(ReadResolveError::Resolve(fault)) => Ok(fault),
