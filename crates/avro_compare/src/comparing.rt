@@ -10,6 +10,7 @@ ghost use Rattle.avro_compare.specs.inside.Noting.{AreIgnored, noted};
 ghost use Rattle.avro_compare.specs.Planned.{AreFor, AreInside, AreComparisons, AreSources, AreSymbols, IsComparison};
 
 use crate::comparison::Comparison;
+use crate::entries::push_lone;
 use crate::guided::{Aim, At};
 use crate::lacking::find_lacking;
 use crate::names::Names;
@@ -180,7 +181,7 @@ fn shared_fields(alloc: Global, parts: &[At]) -> Result<Vec<(usize, At)>, Memory
     for index in 0..parts.len() {
         match parts[index] {
             At::Ignored => {}
-            At::Pair(w, r) => kept.push((index, At::Pair(w, r)))?,
+            At::Pair(w, r) => push_lone(&mut kept, (index, At::Pair(w, r)))?,
         }
     }
     kept.shrink_to_fit();
@@ -195,7 +196,7 @@ fn shared_sources(alloc: Global, found: &[Option<usize>]) -> Result<Vec<(usize, 
     for index in 0..found.len() {
         match found[index] {
             None => {}
-            Some(source) => kept.push((index, source))?,
+            Some(source) => push_lone(&mut kept, (index, source))?,
         }
     }
     kept.shrink_to_fit();

@@ -8,7 +8,7 @@ use Rattle.avro_compare.specs.Entries.{AreAscending, entry_at}
 use Rattle.avro_compare.proofs.public.Entries.{AreKept, kept_none, kept_skip, kept_push, kept_all}
 use Rattle.avro_compare.proofs.public.Lists.{got_past}
 use Rattle.avro_compare.proofs.comparing.shared_fields.Goals as goal
-use Rattle.avro_compare.proofs.comparing.shared_fields.Goals.{in-Ignored, in-Pair+in_ok-push-in-Pair}
+use Rattle.avro_compare.proofs.comparing.shared_fields.Goals.{in-Ignored, in-Pair+in_ok-push_lone-in-Pair}
 
 pub loop-index-init : goal.loop-index-init
 loop-index-init c = kept_none (λ k. shared_part (slice_get c.args.parts.now k)) c.new-kept.result.items 0 c.new-kept.ensures.items refl
@@ -21,8 +21,8 @@ loop-index-preserved c =
     elim c.match-parts-index.branch [
       | in-Ignored w ↦ subst (λ (ys : List (ℕ × At)). AreKept f (i + 1) ys) (sym (ap (λ v. v.items) w.kept-is))
           (kept_skip f c.loop-index.kept.items i (ap shared_part (slice_get-get_or xs i Ignored c.loop-index-test.true ∙ ap (λ (o : At). Some o) w.in-Ignored.is)) c.loop-index.invariant)
-      | in-Pair+in_ok-push-in-Pair w ↦ subst (λ (ys : List (ℕ × At)). AreKept f (i + 1) ys) (sym (ap (λ v. v.items) w.kept-is))
-          (kept_push f c.loop-index.kept.items i (Pair w.in-Pair.w w.in-Pair.r) w.push.new.self.items w.in_ok-push-in-Pair.ensures.items
+      | in-Pair+in_ok-push_lone-in-Pair w ↦ subst (λ (ys : List (ℕ × At)). AreKept f (i + 1) ys) (sym (ap (λ v. v.items) w.kept-is))
+          (kept_push f c.loop-index.kept.items i (Pair w.in-Pair.w w.in-Pair.r) w.push_lone.new.kept.items w.in_ok-push_lone-in-Pair.ensures
           (ap shared_part (slice_get-get_or xs i Ignored c.loop-index-test.true ∙ ap (λ (o : At). Some o) w.in-Pair.is)) c.loop-index.invariant)
     ]
 

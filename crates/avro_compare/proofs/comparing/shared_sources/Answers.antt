@@ -6,7 +6,7 @@ use Rattle.avro_compare.specs.Entries.{AreAscending, entry_at}
 use Rattle.avro_compare.proofs.public.Entries.{AreKept, kept_none, kept_skip, kept_push, kept_all}
 use Rattle.avro_compare.proofs.public.Lists.{got_past}
 use Rattle.avro_compare.proofs.comparing.shared_sources.Goals as goal
-use Rattle.avro_compare.proofs.comparing.shared_sources.Goals.{in-None, in-Some+in_ok-push-in-Some}
+use Rattle.avro_compare.proofs.comparing.shared_sources.Goals.{in-None, in-Some+in_ok-push_lone-in-Some}
 
 pub loop-index-init : goal.loop-index-init
 loop-index-init c = kept_none (λ k. listed_source (slice_get c.args.found.now k)) c.new-kept.result.items 0 c.new-kept.ensures.items refl
@@ -19,8 +19,8 @@ loop-index-preserved c =
     elim c.match-found-index.branch [
       | in-None w ↦ subst (λ (ys : List (ℕ × ℕ)). AreKept f (i + 1) ys) (sym (ap (λ v. v.items) w.kept-is))
           (kept_skip f c.loop-index.kept.items i (ap listed_source (slice_get-get_or xs i None c.loop-index-test.true ∙ ap (λ (o : Option ℕ). Some o) w.in-None.is)) c.loop-index.invariant)
-      | in-Some+in_ok-push-in-Some w ↦ subst (λ (ys : List (ℕ × ℕ)). AreKept f (i + 1) ys) (sym (ap (λ v. v.items) w.kept-is))
-          (kept_push f c.loop-index.kept.items i w.in-Some.source w.push.new.self.items w.in_ok-push-in-Some.ensures.items
+      | in-Some+in_ok-push_lone-in-Some w ↦ subst (λ (ys : List (ℕ × ℕ)). AreKept f (i + 1) ys) (sym (ap (λ v. v.items) w.kept-is))
+          (kept_push f c.loop-index.kept.items i w.in-Some.source w.push_lone.new.kept.items w.in_ok-push_lone-in-Some.ensures
           (ap listed_source (slice_get-get_or xs i None c.loop-index-test.true ∙ ap (λ (o : Option ℕ). Some o) w.in-Some.is)) c.loop-index.invariant)
     ]
 
