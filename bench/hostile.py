@@ -290,6 +290,28 @@ def symbols_of_four(k, left):
     return {"type": "enum", "name": "E%d" % k, "symbols": ["a%d" % k, "b%d" % k, "c%d" % k, "s%d" % left]}
 
 
+def symbols_of_two(k, left):
+    """An enum of two symbols, the last of which is that of how many records follow."""
+    return {"type": "enum", "name": "E%d" % k, "symbols": ["first", "s%d" % left]}
+
+
+def two_sizes(k, left):
+    """Two fixeds, one of which has as many bytes as records follow."""
+    return [dict(fixed("F%d" % k), size=left), dict(fixed("G%d" % k), size=left + 1)]
+
+
+def two_records(k, left):
+    """Two records of an enum, one of which has the symbol of how many records follow."""
+    return [in_record(k, [{"name": "a", "type": one_symbol(k, left)}]),
+            {"type": "record", "name": "J%d" % k, "fields": [{"name": "a", "type": {"type": "enum", "name": "D%d" % k, "symbols": ["t%d" % left]}}]}]
+
+
+def nested_record(k, inner):
+    """A record of a record of a type."""
+    within = {"type": "record", "name": "M%d" % k, "fields": [{"name": "a", "type": inner}]}
+    return {"type": "record", "name": "L%d" % k, "fields": [{"name": "a", "type": within}]}
+
+
 def by_turns(count):
     """The same of objects of two members: the first of these records differs in one of the two, the next in the other, and so on."""
     def text(size):
@@ -381,6 +403,15 @@ KINDS = {
     "alike symbols in arrays": same_kinds(1000, lambda k, left: in_array(k, one_symbol(k, left)), {"a": ["s0"]}),
     "alike numbers": same_kinds(1000, lambda k, left: "int" if left else "long", {"a": 3_000_000_000}),
     "alike by turns": by_turns(1000),
+    "alike symbols in maps": same_kinds(1000, lambda k, left: {"type": "map", "values": one_symbol(k, left)}, {"a": {"k": "s0"}}),
+    "alike symbols behind others": same_kinds(1000, lambda k, left: in_array(k, symbols_of_two(k, left)), {"a": ["first", "s0"]}),
+    "alike symbols far down": same_kinds(1000, lambda k, left: in_record(k, [{"name": "a", "type": in_array(k, nested_record(k, one_symbol(k, left)))}]),
+                                         {"a": {"a": [{"a": {"a": "s0"}}]}}),
+    "alike sizes in records": same_kinds(1000, lambda k, left: in_record(k, [{"name": "a", "type": dict(fixed("F%d" % k), size=left)}]), {"a": {"a": ""}}),
+    "alike unions in records": same_kinds(1000, lambda k, left: in_record(k, [{"name": "a", "type": ["null", "boolean" if left else "int"]}]), {"a": {"a": 1}}),
+    "alike numbers in arrays": same_kinds(1000, lambda k, left: in_array(k, "int" if left else "long"), {"a": [1, 3_000_000_000]}),
+    "alike sizes of two": same_kinds(1000, two_sizes, {"a": ""}),
+    "alike records of two": same_kinds(1000, two_records, {"a": {"a": "s0"}}),
     "alike in an array": alike(800, {"a": [{"a": 1, "b": 2}]}, inside(lambda k, leaf: in_record(k, plain_fields("ab")(k, leaf)), in_array)),
 }
 

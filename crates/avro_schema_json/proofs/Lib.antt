@@ -17,7 +17,9 @@ pub mod ReadSeen
 mod KnownFound
 pub mod MadeSound
 pub mod MisfitsSeen
-pub mod ColumnsSeen
+pub mod BelowSeen
+pub mod PlacesSeen
+pub mod ProbesSeen
 pub mod ListedSeen
 pub mod DefaultsFit
 pub mod RepeatsSeen

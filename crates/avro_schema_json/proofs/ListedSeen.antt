@@ -3,18 +3,20 @@ use Rattle.std.proofs.Common.{◌≡◌, ℕ, zero, suc, ◌+◌, ◌<◌, ◌�
 use Rattle.std.specs.Prelude.{slice_get, bytes_eq, String, string_bytes}
 use Rattle.std.specs.declared.alloc.Global.{Global}
 use Rattle.std.specs.Ordering.{nat_cmp, is_eq}
-use Rattle.std.specs.BTreeMap.{BTreeMap}
+use Rattle.std.specs.BTreeMap.{BTreeMap, is_at}
+use Rattle.std.proofs.lemmas.Map.Lookups.{exact_unsigned}
 use Rattle.std.specs.BTreeSet.{BTreeSet, contains}
 use Rattle.std.proofs.lemmas.Bool.{false≢true}
 use Rattle.std.proofs.lemmas.Slice.Eq.{bytes_eq-Decides}
-use Rattle.avro_schema.specs.Node.{Node, FieldNode, node_at, branches_of}
+use Rattle.std.specs.Global.{Vec}
+use Rattle.avro_schema.specs.Node.{Node, node_at}
 use Rattle.avro_schema.specs.Seen.{ids_of, texts_of}
 use Rattle.avro_schema.specs.declared.schema.NodeId.{NodeId}
 use Rattle.avro_schema_json.specs.DeclaredAttributes.{symbol_index}
-use Rattle.avro_schema_json.specs.inside.Listed.{has_index, indices_of, is_listed, fields_in, KeepsListed, LacksSymbol, AllLack, LacksBelow, FieldsLack, AreListed}
+use Rattle.avro_schema_json.specs.inside.Listed.{has_index, indices_of, is_listed, KeepsListed, LacksSymbol, AllLack, AreListed, branches_of_size, is_sized, KeepsSized, LacksSize, AllLackSize, AreSized}
 use Rattle.avro_schema_json.proofs.DefaultsSeen.{drop_past}
-use Rattle.avro_schema_json.proofs.DefaultSteps.{field_at-found}
-use Rattle.avro_schema_json.proofs.RawSeen.{name_and_node}
+use Rattle.avro_schema_json.proofs.BelowSeen.{same_item, within, id_within}
+use Rattle.avro_schema_json.proofs.RawSeen.{at_index}
 use Rattle.avro_schema_json.proofs.RepeatsSeen.{id_at}
 use Rattle.avro_schema_json.proofs.SymbolsFound.{next_here}
 use Rattle.avro_schema_json.proofs.TablesSeen.{either}
@@ -30,9 +32,6 @@ keeps_twice one two three first second = λ text j h. first text j (second text 
 
 never : (b : Bool) → b ≡ true → b ≡ false → ⊥
 never b here there = false≢true (sym there ∙ here)
-
-same_item : {A : Type 0} (found : Option A) (x y : A) → found ≡ Some x → found ≡ Some y → x ≡ y
-same_item found x y e f = cc
 
 -- ---- one text
 
@@ -95,9 +94,6 @@ symbols_end texts symbols index n past good word none = good word none (rw (drop
 
 -- ---- nodes
 
-no_item : {A : Type 0} (x : A) → None ≡ Some x → ⊥
-no_item x h = cc
-
 abbrev pub NodesTo : List Node → List NodeId → Texts → ℕ → ℕ → Type 0
 NodesTo nodes ids texts index i =
     (word : List ℕ) → is_listed texts word index ≡ false → (j id : ℕ) → j < i → slice_get (ids_of ids) j ≡ Some id → LacksSymbol word (node_at nodes id)
@@ -120,89 +116,104 @@ node-next nodes ids old new index i id n within is keeps put good = λ word none
 pub nodes_end : (nodes : List Node) (ids : List NodeId) (texts : Texts) (index i : ℕ) → length ids ≤ i → NodesTo nodes ids texts index i → (word : List ℕ)
     → is_listed texts word index ≡ false → AllLack nodes word (ids_of ids)
 nodes_end nodes ids texts index i past good word none = λ j id at. good word none j id (omega (arith, id_within ids j id at, past)) at
-  where
-    id_within : (xs : List NodeId) (j id : ℕ) → slice_get (ids_of xs) j ≡ Some id → j < length xs
-    id_within [] j id at = absurd (no_item id at)
-    id_within (x ∷ xs) zero id at = omega arith
-    id_within (x ∷ xs) (suc j) id at = let w = id_within xs j id at in omega (arith, w)
 
--- a node with branches, and one with none
-pub branches-lack : (nodes : List Node) (word : List ℕ) (n : Node) (ids : List ℕ) → branches_of n ≡ Some ids → AllLack nodes word ids → LacksBelow nodes word n
-branches-lack nodes word n ids is all = (
-  λ none. absurd (no_item ids (sym none ∙ is)),
-  λ others same. subst (λ (xs : List ℕ). AllLack nodes word xs) (same_item (branches_of n) ids others is same) all,
-)
+-- ---- the nodes of each branch
 
-pub leaf-lacks : (nodes : List Node) (word : List ℕ) (n : Node) → branches_of n ≡ None → LacksSymbol word n → LacksBelow nodes word n
-leaf-lacks nodes word n is lacks = (λ none. lacks, λ ids same. absurd (no_item ids (sym is ∙ same)))
+abbrev pub ListedTo : List Node → List (Vec NodeId) → Texts → ℕ → Type 0
+ListedTo nodes sets texts i =
+    (j : ℕ) (set : Vec NodeId) (word : List ℕ) → j < i → slice_get sets j ≡ Some set → is_listed texts word j ≡ false → AllLack nodes word (ids_of set.items)
 
--- ---- fields
+pub listed_start : (nodes : List Node) (sets : List (Vec NodeId)) (texts : Texts) → ListedTo nodes sets texts 0
+listed_start nodes sets texts = λ j set word below at none. absurd (omega (arith, below))
 
-abbrev pub FieldsTo : List Node → List ℕ → List FieldNode → Texts → ℕ → ℕ → Type 0
-FieldsTo nodes name fields texts index i =
-    (word : List ℕ) → is_listed texts word index ≡ false → (j : ℕ) (f : FieldNode) → j < i → slice_get fields j ≡ Some f → f.name ≡ name
-    → LacksBelow nodes word (node_at nodes f.node)
-
-pub fields_start : (nodes : List Node) (name : List ℕ) (fields : List FieldNode) (texts : Texts) (index : ℕ) → FieldsTo nodes name fields texts index 0
-fields_start nodes name fields texts index = λ word none j f below at named. absurd (omega (arith, below))
-
--- one more field, whether it has the name
-pub field-next : (nodes : List Node) (name : List ℕ) (fields : List FieldNode) (old new : Texts) (index i : ℕ) (key : List ℕ) (id : ℕ)
-    → Some (key, id) ≡ option_map name_and_node (slice_get fields i) → KeepsListed old new
-    → (key ≡ name → (word : List ℕ) → is_listed new word index ≡ false → LacksBelow nodes word (node_at nodes id))
-    → FieldsTo nodes name fields old index i → FieldsTo nodes name fields new index (i + 1)
-field-next nodes name fields old new index i key id got keeps put good = λ word none j f below at named.
-    let found = field_at-found fields i key id (slice_get fields i) refl got in
+pub listed-next : (nodes : List Node) (sets : List (Vec NodeId)) (old new : Texts) (i : ℕ) (set : Vec NodeId) → i < length sets → set ≡ get_or sets i set
+    → KeepsListed old new → ((word : List ℕ) → is_listed new word i ≡ false → AllLack nodes word (ids_of set.items)) → ListedTo nodes sets old i
+    → ListedTo nodes sets new (i + 1)
+listed-next nodes sets old new i set within is keeps put good = λ j other word below at none.
     elim (either i j) [
       | inl h ↦ (
-          let one : f ≡ found.0 = same_item (slice_get fields j) f found.0 at (ap (slice_get fields) (sym h) ∙ found.1.at) in
-          let same : key ≡ name = sym found.1.named ∙ ap (λ (g : FieldNode). g.name) (sym one) ∙ named in
-          subst (λ p. LacksBelow nodes word (node_at nodes p)) (sym (ap (λ (g : FieldNode). g.node) one ∙ found.1.node_is)) (put same word none))
-      | inr h ↦ good word (keeps word index none) j f (omega (arith, below, h)) at named
+          let there : slice_get sets j ≡ Some set = ap (slice_get sets) (sym h) ∙ at_index sets i set within is in
+          let one : other ≡ set = same_item (slice_get sets j) other set at there in
+          subst (λ (v : Vec NodeId). AllLack nodes word (ids_of v.items)) (sym one) (put word (ap (is_listed new word) h ∙ none)))
+      | inr h ↦ good j other word (omega (arith, below, h)) at (keeps word j none)
     ]
 
-pub fields_end : (nodes : List Node) (name : List ℕ) (fields : List FieldNode) (texts : Texts) (index i : ℕ) → length fields ≤ i
-    → FieldsTo nodes name fields texts index i → (word : List ℕ) → is_listed texts word index ≡ false → FieldsLack nodes name word fields
-fields_end nodes name fields texts index i past good word none = λ j f at named. good word none j f (omega (arith, within fields j f at, past)) at named
+pub listed_end : (nodes : List Node) (sets : List (Vec NodeId)) (texts : Texts) (i : ℕ) → length sets ≤ i → ListedTo nodes sets texts i → AreListed nodes sets texts
+listed_end nodes sets texts i past good = λ j set word at none. good j set word (omega (arith, within sets j set at, past)) at none
+
+-- ---- sizes
+
+abbrev pub Sizes : Type 0
+Sizes = BTreeMap ℕ (BTreeSet ℕ)
+
+pub sizes_same : (sizes : Sizes) → KeepsSized sizes sizes
+sizes_same sizes = λ size j h. h
+
+pub sizes_twice : (one two three : Sizes) → KeepsSized one two → KeepsSized two three → KeepsSized one three
+sizes_twice one two three first second = λ size j h. first size j (second size j h)
+
+pub size-put : (old mid new : Sizes) (size other : ℕ) (indices : Option (BTreeSet ℕ)) (all : BTreeSet ℕ) (j : ℕ) → indices ≡ branches_of_size old size
+    → branches_of_size mid other ≡ cond (is_at (nat_cmp size) other) None (branches_of_size old other)
+    → branches_of_size new other ≡ cond (is_at (nat_cmp size) other) (Some all) (branches_of_size mid other)
+    → ((i : ℕ) → contains nat_cmp all i ≡ false → has_index indices i ≡ false) → is_sized new other j ≡ false → is_sized old other j ≡ false
+size-put old mid new size other indices all j taken left put keeps none = by (nat_cmp size other) refl
   where
-    within : (xs : List FieldNode) (j : ℕ) (f : FieldNode) → slice_get xs j ≡ Some f → j < length xs
-    within [] j f at = absurd (no_item f at)
-    within (x ∷ xs) zero f at = omega arith
-    within (x ∷ xs) (suc j) f at = let w = within xs j f at in omega (arith, w)
+    by : (o : Ordering) → nat_cmp size other ≡ o → is_sized old other j ≡ false
+    by Ordering.Equal e =
+        let same : size ≡ other = exact_unsigned size other e in
+        let now : branches_of_size new other ≡ Some all = rw e at put in
+        let here : has_index indices j ≡ false = keeps j (ap (λ (o : Option (BTreeSet ℕ)). has_index o j) (sym now) ∙ none) in
+        ap (λ (o : Option (BTreeSet ℕ)). has_index o j) (ap (branches_of_size old) (sym same) ∙ sym taken) ∙ here
+    by Ordering.Less e =
+        let now : branches_of_size new other ≡ branches_of_size mid other = rw e at put in
+        let before : branches_of_size mid other ≡ branches_of_size old other = rw e at left in
+        ap (λ (o : Option (BTreeSet ℕ)). has_index o j) (sym (now ∙ before)) ∙ none
+    by Ordering.Greater e =
+        let now : branches_of_size new other ≡ branches_of_size mid other = rw e at put in
+        let before : branches_of_size mid other ≡ branches_of_size old other = rw e at left in
+        ap (λ (o : Option (BTreeSet ℕ)). has_index o j) (sym (now ∙ before)) ∙ none
 
--- the node of one field of the name
-pub field-lacks : (nodes : List Node) (name word : List ℕ) (fields : List FieldNode) (i : ℕ) (key : List ℕ) (id : ℕ)
-    → Some (key, id) ≡ option_map name_and_node (slice_get fields i) → key ≡ name → FieldsLack nodes name word fields → LacksBelow nodes word (node_at nodes id)
-field-lacks nodes name word fields i key id got same lack =
-    let found = field_at-found fields i key id (slice_get fields i) refl got in
-    subst (λ p. LacksBelow nodes word (node_at nodes p)) found.1.node_is (lack i found.0 found.1.at (found.1.named ∙ same))
+abbrev pub SizesTo : List Node → List NodeId → Sizes → ℕ → ℕ → Type 0
+SizesTo nodes ids sizes index i =
+    (size : ℕ) → is_sized sizes size index ≡ false → (j id : ℕ) → j < i → slice_get (ids_of ids) j ≡ Some id → LacksSize size (node_at nodes id)
 
--- ---- branches of the union
+pub sizes_start : (nodes : List Node) (ids : List NodeId) (sizes : Sizes) (index : ℕ) → SizesTo nodes ids sizes index 0
+sizes_start nodes ids sizes index = λ size none j id below at. absurd (omega (arith, below))
 
-abbrev pub ListedTo : List Node → List NodeId → List ℕ → Texts → ℕ → Type 0
-ListedTo nodes ids name texts i =
-    (j id : ℕ) (word : List ℕ) → j < i → slice_get (ids_of ids) j ≡ Some id → is_listed texts word j ≡ false → FieldsLack nodes name word (fields_in (node_at nodes id))
-
-pub listed_start : (nodes : List Node) (ids : List NodeId) (name : List ℕ) (texts : Texts) → ListedTo nodes ids name texts 0
-listed_start nodes ids name texts = λ j id word below at none. absurd (omega (arith, below))
-
-pub listed-next : (nodes : List Node) (ids : List NodeId) (name : List ℕ) (old new : Texts) (i : ℕ) (id : NodeId) → i < length ids → KeepsListed old new
-    → ((word : List ℕ) → is_listed new word i ≡ false → FieldsLack nodes name word (fields_in (node_at nodes (get_or ids i id).0)))
-    → ListedTo nodes ids name old i → ListedTo nodes ids name new (i + 1)
-listed-next nodes ids name old new i id within keeps put good = λ j m word below at none.
+pub size-next : (nodes : List Node) (ids : List NodeId) (old new : Sizes) (index i : ℕ) (id : NodeId) (n : Node) → i < length ids
+    → n ≡ node_at nodes (get_or ids i id).0 → KeepsSized old new → ((size : ℕ) → is_sized new size index ≡ false → LacksSize size n)
+    → SizesTo nodes ids old index i → SizesTo nodes ids new index (i + 1)
+size-next nodes ids old new index i id n within is keeps put good = λ size none j m below at.
     elim (either i j) [
       | inl h ↦ (
           let there : slice_get (ids_of ids) j ≡ Some (get_or ids i id).0 = ap (slice_get (ids_of ids)) (sym h) ∙ id_at ids i id within in
           let one : m ≡ (get_or ids i id).0 = same_item (slice_get (ids_of ids) j) m (get_or ids i id).0 at there in
-          subst (λ p. FieldsLack nodes name word (fields_in (node_at nodes p))) (sym one) (put word (ap (is_listed new word) h ∙ none)))
-      | inr h ↦ good j m word (omega (arith, below, h)) at (keeps word j none)
+          subst (λ (p : Node). LacksSize size p) (is ∙ ap (node_at nodes) (sym one)) (put size none))
+      | inr h ↦ good size (keeps size index none) j m (omega (arith, below, h)) at
     ]
 
-pub listed_end : (nodes : List Node) (ids : List NodeId) (name : List ℕ) (texts : Texts) (i : ℕ) → length ids ≤ i → ListedTo nodes ids name texts i
-    → AreListed nodes (ids_of ids) name texts
-listed_end nodes ids name texts i past good = λ j id word at none. good j id word (omega (arith, id_within ids j id at, past)) at none
-  where
-    id_within : (xs : List NodeId) (j id : ℕ) → slice_get (ids_of xs) j ≡ Some id → j < length xs
-    id_within [] j id at = absurd (no_item id at)
-    id_within (x ∷ xs) zero id at = omega arith
-    id_within (x ∷ xs) (suc j) id at = let w = id_within xs j id at in omega (arith, w)
+pub sizes_end : (nodes : List Node) (ids : List NodeId) (sizes : Sizes) (index i : ℕ) → length ids ≤ i → SizesTo nodes ids sizes index i → (size : ℕ)
+    → is_sized sizes size index ≡ false → AllLackSize nodes size (ids_of ids)
+sizes_end nodes ids sizes index i past good size none = λ j id at. good size none j id (omega (arith, id_within ids j id at, past)) at
+
+abbrev pub SizedTo : List Node → List (Vec NodeId) → Sizes → ℕ → Type 0
+SizedTo nodes sets sizes i =
+    (j : ℕ) (set : Vec NodeId) (size : ℕ) → j < i → slice_get sets j ≡ Some set → is_sized sizes size j ≡ false → AllLackSize nodes size (ids_of set.items)
+
+pub sized_start : (nodes : List Node) (sets : List (Vec NodeId)) (sizes : Sizes) → SizedTo nodes sets sizes 0
+sized_start nodes sets sizes = λ j set size below at none. absurd (omega (arith, below))
+
+pub sized-next : (nodes : List Node) (sets : List (Vec NodeId)) (old new : Sizes) (i : ℕ) (set : Vec NodeId) → i < length sets → set ≡ get_or sets i set
+    → KeepsSized old new → ((size : ℕ) → is_sized new size i ≡ false → AllLackSize nodes size (ids_of set.items)) → SizedTo nodes sets old i
+    → SizedTo nodes sets new (i + 1)
+sized-next nodes sets old new i set within is keeps put good = λ j other size below at none.
+    elim (either i j) [
+      | inl h ↦ (
+          let there : slice_get sets j ≡ Some set = ap (slice_get sets) (sym h) ∙ at_index sets i set within is in
+          let one : other ≡ set = same_item (slice_get sets j) other set at there in
+          subst (λ (v : Vec NodeId). AllLackSize nodes size (ids_of v.items)) (sym one) (put size (ap (is_sized new size) h ∙ none)))
+      | inr h ↦ good j other size (omega (arith, below, h)) at (keeps size j none)
+    ]
+
+pub sized_end : (nodes : List Node) (sets : List (Vec NodeId)) (sizes : Sizes) (i : ℕ) → length sets ≤ i → SizedTo nodes sets sizes i → AreSized nodes sets sizes
+sized_end nodes sets sizes i past good = λ j set size at none. good j set size (omega (arith, within sets j set at, past)) at none

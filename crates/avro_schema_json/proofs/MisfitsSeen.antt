@@ -59,7 +59,7 @@ misfits-add nodes d old new p good added none = λ m there.
 
 -- ---- items
 
-first-none : (first : Option Value) → option_and_then (λ v. option_map (value v) None) first ≡ None
+pub first-none : (first : Option Value) → option_and_then (λ v. option_map (value v) None) first ≡ None
 first-none None = refl
 first-none (Some v) = refl
 

@@ -11,6 +11,7 @@ pub mod Misfits
 pub mod NameRefusal
 pub mod OwnDefaults
 pub mod Parts
+pub mod Places
 pub mod Probes
 pub mod Repeats
 pub mod SymbolIndices

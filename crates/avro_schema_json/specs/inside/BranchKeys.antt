@@ -1,5 +1,6 @@
 -- The keys of branches: JSON fits a branch of one of two keys, or an enum of which it is a symbol.
-use Rattle.std.specs.Prelude.{◌≡◌, ◌==◌, ◌&&◌, ◌||◌, ◌+◌, ◌*◌, ◌≤◌, ◌<◌, ℕ, zero, suc, Bool, false, bytes_eq, List, [], ◌∷◌, length, slice_get, Option, Some, None}
+use Rattle.std.specs.Prelude.{◌≡◌, ◌==◌, ◌&&◌, ◌||◌, ◌+◌, ◌*◌, ◌≤◌, ◌<◌, ℕ, zero, suc, Bool, true, false, bytes_eq, List, [], ◌∷◌, length, slice_get, Option, Some, None, is_some, IfSome}
+use Rattle.std.specs.Global.{Vec}
 use Rattle.std.specs.Option.{unwrap_or}
 use Rattle.std.specs.Ordering.{nat_cmp}
 use Rattle.std.specs.Str.{chars}
@@ -7,14 +8,20 @@ use Rattle.std.specs.Cmp.Lexicographic.{slice_cmp}
 use Rattle.std.specs.BTreeMap.{BTreeMap, get, get_by}
 use denote.Ref.{Bor}
 use Rattle.avro_schema.specs.Node.{Node, FieldNode, node_at, branches_of}
+use Rattle.avro_schema.specs.Seen.{ids_of}
+use Rattle.avro_schema.specs.declared.schema.NodeId.{NodeId}
 use Rattle.serde_json.specs.Data.{Data, Members, no_members, member}
-use Rattle.serde_json.specs.Find.{get_member}
+use Rattle.serde_json.specs.Find.{get as member_at, get_member}
 use Rattle.avro_schema_json.specs.DeclaredAttributes.{symbol_index}
-use Rattle.avro_schema_json.specs.DeclaredDefaults.{default_of}
-use Rattle.avro_schema_json.specs.inside.Characters.{characters_in}
-use Rattle.avro_schema_json.specs.inside.Listed.{symbols_of, LacksSymbol, LacksBelow, FieldsLack, AreListed, fields_in}
-use Rattle.avro_schema_json.specs.inside.OwnDefaults.{own_default, default_of_fields}
-use Rattle.avro_schema_json.specs.declared.defaults.column.Column.{Column}
+use Rattle.avro_schema_json.specs.DeclaredDefaults.{bytes_of_text, number_default}
+use Rattle.avro_schema_json.specs.inside.Listed.{symbols_of, is_listed, LacksSymbol, AllLack, is_sized, LacksSize, AllLackSize}
+use Rattle.avro_schema_json.specs.inside.OwnDefaults.{own_default}
+use Rattle.avro_schema_json.specs.inside.Places.{IsPart, FitsNone, AreBelow, AreRoot}
+use Rattle.avro_schema_json.specs.declared.defaults.place.Asks.{Asks}
+use Rattle.avro_schema_json.specs.declared.defaults.place.Links.{Links}
+use Rattle.avro_schema_json.specs.declared.defaults.place.Place.{Place}
+use Rattle.avro_schema_json.specs.declared.defaults.place.Places.{Places}
+use Rattle.avro_schema_json.specs.declared.defaults.place.Step.{Step}
 use Rattle.avro_schema_json.specs.declared.defaults.union_table.UnionTable.{UnionTable}
 
 -- a record without fields, and one with some
@@ -154,54 +161,91 @@ ArePartsSkipped nodes ids parts other =
     (steps kind : ℕ) (names : BTreeMap (Bor (List ℕ)) ℕ) (word : List ℕ) → kind < 9 → slice_get parts (steps * 9 + kind) ≡ Some names
     → SkipsPart nodes ids steps kind word 0 (unwrap_or (find_word names word) other)
 
--- ---- columns: a code is 0 where no JSON of a kind fits, 2 where only a text that is a symbol may, n + 3 where only a text of n characters may, and 1 where
--- more may
+-- ---- what branches ask of JSON
 
--- the code refuses the JSON, if what is said of a text that is no symbol is so
-abbrev pub Refuses : ℕ → (List ℕ → Type 0) → Data → Type 0
-Refuses code Lacks d = (code ≡ 1 → ⊥) × (code ≡ 2 → (text : List ℕ) → d ≡ Data.string text → Lacks text) × (code ≡ characters_in d + 3 → ⊥)
+-- a text whose characters are bytes, and a number that is an int
+abbrev pub is_bytes_text : Data → Bool
+is_bytes_text (Data.string text) = is_some (bytes_of_text text)
+is_bytes_text _ = false
 
--- the JSON that the code refuses, of a kind, is no default of a node itself
-abbrev pub IsOwnCode : List Node → ℕ → Node → ℕ → Type 0
-IsOwnCode nodes kind n code = (d : Data) → kind_key d ≡ kind → Refuses code (λ text. LacksSymbol text n) d → own_default nodes d n ≡ None
+abbrev pub is_int_number : Data → Bool
+is_int_number (Data.number x) = is_some (number_default x Node.int)
+is_int_number _ = false
 
--- nor of one of its branches
-abbrev pub IsCode : List Node → ℕ → Node → ℕ → Type 0
-IsCode nodes kind n code = (d : Data) → kind_key d ≡ kind → Refuses code (λ text. LacksBelow nodes text n) d → default_of nodes d n ≡ None
+-- nothing that is asked lets the JSON pass, if what is said of a text that is no symbol and of a number of characters that is no size is so
+abbrev pub Refuses : Asks → (List ℕ → Type 0) → (ℕ → Type 0) → Data → Type 0
+Refuses asks Lacks LackSize d =
+    (asks.any ≡ true → ⊥) × (asks.listed ≡ true → (text : List ℕ) → d ≡ Data.string text → Lacks text)
+    × (asks.sized ≡ true → (text : List ℕ) → d ≡ Data.string text → LackSize (length (chars text)))
+    × (asks.bytes ≡ true → is_bytes_text d ≡ false) × (asks.ints ≡ true → is_int_number d ≡ false)
 
--- an object is no record of fields where the code refuses its member of a name
-abbrev pub IsFieldCode : List Node → List ℕ → ℕ → List FieldNode → ℕ → Type 0
-IsFieldCode nodes name kind fields code =
-    (d : Data) (ms : Members) → get_member name ms ≡ Some d → kind_key d ≡ kind → Refuses code (λ text. FieldsLack nodes name text fields) d
-    → default_of_fields nodes ms fields ≡ None
+-- the JSON of a kind that does not pass is no default of a node itself
+abbrev pub IsOwnAsked : List Node → ℕ → Node → Asks → Type 0
+IsOwnAsked nodes kind n asks = (d : Data) → kind_key d ≡ kind → Refuses asks (λ text. LacksSymbol text n) (λ size. LacksSize size n) d → own_default nodes d n ≡ None
 
--- nor is it one of a branch
-abbrev pub IsMemberCode : List Node → List ℕ → ℕ → Node → ℕ → Type 0
-IsMemberCode nodes name kind n code =
-    (d : Data) (ms : Members) → get_member name ms ≡ Some d → kind_key d ≡ kind → Refuses code (λ text. FieldsLack nodes name text (fields_in n)) d
-    → own_default nodes (Data.object ms) n ≡ None
+-- nor of any of some nodes
+abbrev pub IsSetAsked : List Node → ℕ → List ℕ → Asks → Type 0
+IsSetAsked nodes kind set asks =
+    (d : Data) → kind_key d ≡ kind → Refuses asks (λ text. AllLack nodes text set) (λ size. AllLackSize nodes size set) d → FitsNone nodes d set
 
--- a code for each branch
-abbrev pub AreCodes : List Node → List ℕ → List ℕ → ℕ → List ℕ → Type 0
-AreCodes nodes ids name kind codes =
-    (j id code : ℕ) → slice_get ids j ≡ Some id → slice_get codes j ≡ Some code → IsMemberCode nodes name kind (node_at nodes id) code
+-- what is asked for the nodes of each branch, where there are some
+abbrev pub AreAsked : List Node → List (Vec NodeId) → ℕ → List Asks → Type 0
+AreAsked nodes sets kind all =
+    (j : ℕ) (asks : Asks) → slice_get all j ≡ Some asks → (set : Vec NodeId) × (slice_get sets j ≡ Some set) × IsSetAsked nodes kind (ids_of set.items) asks
 
--- and of texts the branches that are listed
-abbrev pub IsColumn : List Node → List ℕ → Column → Type 0
-IsColumn nodes ids column =
-    AreCodes nodes ids column.name.now column.kind column.codes.items × (column.kind ≡ 3 → AreListed nodes ids column.name.now column.texts)
+abbrev pub AreKindsAsked : List Node → List (Vec NodeId) → List (Vec Asks) → Type 0
+AreKindsAsked nodes sets kinds = (kind : ℕ) (all : Vec Asks) → slice_get kinds kind ≡ Some all → AreAsked nodes sets kind all.items
 
-abbrev pub AreColumns : List Node → List ℕ → List Column → Type 0
-AreColumns nodes ids columns = (k : ℕ) (column : Column) → slice_get columns k ≡ Some column → IsColumn nodes ids column
+-- ---- places: JSON that does not pass fits none of the nodes of a branch, where a text is a symbol of none of them and its number of characters no size if the
+-- branch is not listed
+abbrev pub IsPlace : List Node → Place → Type 0
+IsPlace nodes place =
+    (kind : ℕ) (all : Vec Asks) (j : ℕ) (asks : Asks) → slice_get place.asks.items kind ≡ Some all → slice_get all.items j ≡ Some asks
+    → (set : Vec NodeId) × (slice_get place.sets.items j ≡ Some set)
+    × ((d : Data) → kind_key d ≡ kind → Refuses asks (λ text. is_listed place.texts text j ≡ false) (λ size. is_sized place.sizes size j ≡ false) d
+    → FitsNone nodes d (ids_of set.items))
+
+abbrev pub AreEachPlaces : List Node → List Place → Type 0
+AreEachPlaces nodes all = (i : ℕ) (place : Place) → slice_get all i ≡ Some place → IsPlace nodes place
+
+-- the places before are among those after
+abbrev pub GrowsTo : List Place → List Place → Type 0
+GrowsTo before after = (i : ℕ) (place : Place) → slice_get before i ≡ Some place → slice_get after i ≡ Some place
+
+-- the parts of JSON at one place stand at another
+pub record IsLinked (nodes : List Node) (Part : Data → Data → Type 0) (all : List Place) (from to : ℕ) : Type 0 where
+  pub parent : Place
+  pub child : Place
+  pub from_is : slice_get all from ≡ Some parent
+  pub to_is : slice_get all to ≡ Some child
+  pub below : AreBelow nodes Part parent.sets.items child.sets.items
+
+-- the members of each name
+abbrev pub AreNamed : List Node → List Place → ℕ → BTreeMap (Bor (List ℕ)) ℕ → Type 0
+AreNamed nodes all from members = (name : List ℕ) (to : ℕ) → find_word members name ≡ Some to → IsLinked nodes (λ d e. member_at name d ≡ Some e) all from to
+
+-- a part of one kind, if there is a place for it
+abbrev pub IsLinkedIf : List Node → (Data → Data → Type 0) → List Place → ℕ → Option ℕ → Type 0
+IsLinkedIf nodes Part all from to = IfSome to (IsLinked nodes Part all from)
+
+abbrev pub AreLinks : List Node → List Place → ℕ → Links → Type 0
+AreLinks nodes all from links =
+    AreNamed nodes all from links.members × IsLinkedIf nodes (IsPart Step.Value) all from links.values × IsLinkedIf nodes (IsPart Step.Item) all from links.items
+
+-- the first place is the union's own
+abbrev pub ArePlaces : List Node → List ℕ → Places → Type 0
+ArePlaces nodes ids places =
+    AreEachPlaces nodes places.all.items × ((root : Place) → slice_get places.all.items 0 ≡ Some root → AreRoot ids root.sets.items)
+    × ((from : ℕ) (links : Links) → slice_get places.links.items from ≡ Some links → AreLinks nodes places.all.items from links)
 
 -- no branch of a key is before the index that a table has for it, no enum of a symbol, no record by its first field,
--- none by its parts, and its columns are of its branches
+-- none by its parts, and its places are of its branches
 abbrev pub IsTable : List Node → List ℕ → UnionTable → Type 0
 IsTable nodes ids table =
     ((key : ℕ) → Skips nodes ids key 0 (unwrap_or (get nat_cmp table.first key) table.other))
     × ((word : List ℕ) → SkipsSymbol nodes ids word 0 (unwrap_or (find_word table.symbols word) table.no_symbol))
     × AreRecordsSkipped nodes ids table.records.items table.no_record × ArePartsSkipped nodes ids table.parts.items table.no_part
-    × AreColumns nodes ids table.columns.items
+    × ArePlaces nodes ids table.places
 
 -- one table for each union
 abbrev pub AreTables : List Node → List UnionTable → Type 0

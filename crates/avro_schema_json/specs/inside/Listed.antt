@@ -2,10 +2,13 @@
 use Rattle.std.specs.Prelude.{◌≡◌, ℕ, Bool, false, List, [], slice_get, Option, Some, None}
 use Rattle.std.specs.Ordering.{nat_cmp}
 use Rattle.std.specs.Cmp.Lexicographic.{slice_cmp}
-use Rattle.std.specs.BTreeMap.{BTreeMap, get_by}
+use Rattle.std.specs.BTreeMap.{BTreeMap, get, get_by}
 use Rattle.std.specs.BTreeSet.{BTreeSet, contains}
 use denote.Ref.{Bor}
-use Rattle.avro_schema.specs.Node.{Node, FieldNode, node_at, branches_of}
+use Rattle.std.specs.Global.{Vec}
+use Rattle.avro_schema.specs.Node.{Node, node_at}
+use Rattle.avro_schema.specs.Seen.{ids_of}
+use Rattle.avro_schema.specs.declared.schema.NodeId.{NodeId}
 use Rattle.avro_schema_json.specs.DeclaredAttributes.{symbol_index}
 
 -- the symbols of a node
@@ -37,20 +40,33 @@ LacksSymbol text n = symbol_index text (symbols_of n) ≡ None
 abbrev pub AllLack : List Node → List ℕ → List ℕ → Type 0
 AllLack nodes text ids = (i id : ℕ) → slice_get ids i ≡ Some id → LacksSymbol text (node_at nodes id)
 
--- nor of a node or of one of its branches
-abbrev pub LacksBelow : List Node → List ℕ → Node → Type 0
-LacksBelow nodes text n = (branches_of n ≡ None → LacksSymbol text n) × ((ids : List ℕ) → branches_of n ≡ Some ids → AllLack nodes text ids)
-
--- nor of the fields of a name
-abbrev pub FieldsLack : List Node → List ℕ → List ℕ → List FieldNode → Type 0
-FieldsLack nodes name text fields = (i : ℕ) (f : FieldNode) → slice_get fields i ≡ Some f → f.name ≡ name → LacksBelow nodes text (node_at nodes f.node)
-
--- the fields of a node
-abbrev pub fields_in : Node → List FieldNode
-fields_in (Node.record_of name aliases fields) = fields
-fields_in _ = []
-
 -- nor of those of a branch that is not listed for it
-abbrev pub AreListed : List Node → List ℕ → List ℕ → BTreeMap (Bor (List ℕ)) (BTreeSet ℕ) → Type 0
-AreListed nodes ids name texts =
-    (j id : ℕ) (text : List ℕ) → slice_get ids j ≡ Some id → is_listed texts text j ≡ false → FieldsLack nodes name text (fields_in (node_at nodes id))
+abbrev pub AreListed : List Node → List (Vec NodeId) → BTreeMap (Bor (List ℕ)) (BTreeSet ℕ) → Type 0
+AreListed nodes sets texts =
+    (j : ℕ) (set : Vec NodeId) (text : List ℕ) → slice_get sets j ≡ Some set → is_listed texts text j ≡ false → AllLack nodes text (ids_of set.items)
+
+-- ---- likewise for the numbers of characters of texts, which are the sizes of fixeds
+
+abbrev pub size_of : Node → Option ℕ
+size_of (Node.fixed name aliases count) = Some count
+size_of _ = None
+
+abbrev pub branches_of_size : BTreeMap ℕ (BTreeSet ℕ) → ℕ → Option (BTreeSet ℕ)
+branches_of_size sizes size = get nat_cmp sizes size
+
+abbrev pub is_sized : BTreeMap ℕ (BTreeSet ℕ) → ℕ → ℕ → Bool
+is_sized sizes size j = has_index (branches_of_size sizes size) j
+
+abbrev pub KeepsSized : BTreeMap ℕ (BTreeSet ℕ) → BTreeMap ℕ (BTreeSet ℕ) → Type 0
+KeepsSized old new = (size j : ℕ) → is_sized new size j ≡ false → is_sized old size j ≡ false
+
+-- a node is no fixed of a size
+abbrev pub LacksSize : ℕ → Node → Type 0
+LacksSize size n = size_of n ≡ Some size → ⊥
+
+abbrev pub AllLackSize : List Node → ℕ → List ℕ → Type 0
+AllLackSize nodes size ids = (i id : ℕ) → slice_get ids i ≡ Some id → LacksSize size (node_at nodes id)
+
+abbrev pub AreSized : List Node → List (Vec NodeId) → BTreeMap ℕ (BTreeSet ℕ) → Type 0
+AreSized nodes sets sizes =
+    (j : ℕ) (set : Vec NodeId) (size : ℕ) → slice_get sets j ≡ Some set → is_sized sizes size j ≡ false → AllLackSize nodes size (ids_of set.items)

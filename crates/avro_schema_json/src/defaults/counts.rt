@@ -1,5 +1,6 @@
-//! How many symbols and parts the branches of unions have.
+//! How many symbols and parts the branches of unions have, and whether a default has parts of its own.
 
+use crate::defaults::flat::has_parts;
 use crate::raw::{RawField, RawNode};
 use crate::raw_nodes::branches;
 use avro_schema::NodeId;
@@ -62,4 +63,34 @@ pub(crate) fn count_of_parts(raws: &[RawNode], raw: &RawNode, most: usize) -> us
         count = count.saturating_add(count_below(raws, *id, 3, most));
     }
     count
+}
+
+/// Whether one of the fields has a default that is an array or an object.
+fn has_parted_default(fields: &[RawField]) -> bool {
+    for field in fields {
+        match field.default {
+            Some(tree) => {
+                if has_parts(tree) {
+                    return true;
+                }
+            }
+            None => {}
+        }
+    }
+    false
+}
+
+/// Whether a default of one of the nodes is an array or an object.
+pub(crate) fn has_parted_defaults(raws: &[RawNode]) -> bool {
+    for raw in raws {
+        match raw {
+            RawNode::Record(record) => {
+                if has_parted_default(&record.fields) {
+                    return true;
+                }
+            }
+            _ => {}
+        }
+    }
+    false
 }

@@ -1,6 +1,6 @@
 //! Where in a union the branches that JSON may fit begin, by its table.
 
-ghost use Rattle.std.specs.Prelude.{◌≡◌, ◌<◌, ℕ, false, List, slice_get, Some, IfOk};
+ghost use Rattle.std.specs.Prelude.{◌≡◌, ◌<◌, ℕ, false, List, slice_get, Some, None, IfOk};
 ghost use Rattle.std.specs.Option.{unwrap_or};
 ghost use Rattle.std.specs.Ordering.{nat_cmp};
 ghost use Rattle.std.specs.BTreeMap.{get};
@@ -15,6 +15,7 @@ use crate::defaults::part_starts::first_of_members;
 use crate::defaults::union_table::UnionTable;
 use avro_schema::Memory;
 use serde_json::{Map, Value};
+use std::alloc::Global;
 use std::collections::BTreeMap;
 
 /// Where the first branch of a key may be.
@@ -39,6 +40,13 @@ fn first_by_keys(table: &UnionTable, tree: &Value, characters: usize) -> Result<
     } else {
         Ok(of_size)
     }
+}
+
+/// Nothing is kept for a word.
+pub(crate) fn no_words<'a>(alloc: Global) -> BTreeMap<&'a str, usize>
+    ensures { (word : List ℕ) → find_word result word ≡ None }
+{
+    BTreeMap::new(alloc)
 }
 
 /// What is kept for a word, or the index for another.

@@ -99,7 +99,7 @@ fn fixed_datum(bytes: Vec<u8>, size: u32) -> Option<Datum>
 }
 
 /// One byte for each character of a text, whose code is the byte's value.
-fn bytes_of_text(alloc: Global, text: &str) -> Result<Option<Vec<u8>>, Memory>
+pub(crate) fn bytes_of_text(alloc: Global, text: &str) -> Result<Option<Vec<u8>>, Memory>
     ensures { IfOk result (λ bytes. option_map (λ b. b.items) bytes ≡ bytes_in text.now) }
 {
     let characters = characters(alloc, text)?;

@@ -1,12 +1,17 @@
+use crate::defaults::place::Asks;
 use std::collections::BTreeSet;
 
-/// A member of an object, with what the branches of a union ask of it.
+/// A part of JSON, with what the branches of a union ask of it.
 #[derive(Drop)]
 pub(crate) struct Probe<'a> {
-    /// The code of each branch.
-    pub codes: &'a [usize],
-    /// The indices of the branches that are listed for the member's text, if any is.
+    /// What each branch asks.
+    pub asks: &'a [Asks],
+    /// The indices of the branches that are listed for the part's text, if any is.
     pub listed: Option<&'a BTreeSet<usize>>,
-    /// The code, besides 1 and 2, of a branch that the member may fit.
-    pub wanted: usize,
+    /// The indices of the branches that are listed for the number of its characters, if any is.
+    pub sized: Option<&'a BTreeSet<usize>>,
+    /// Whether the part is a text whose characters are bytes.
+    pub is_bytes: bool,
+    /// Whether the part is a number that is an int.
+    pub is_int: bool,
 }

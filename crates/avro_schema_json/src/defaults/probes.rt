@@ -1,66 +1,37 @@
-//! Which branches of a union an object is no default of by one of its members, found by one look at each member
-//! and none at the branches.
+//! Which branches of a union an object is no default of by one of its parts, found by one look at each part and none at
+//! the nodes.
 
-ghost use Rattle.std.specs.Prelude.{◌≡◌, ◌+◌, ℕ, true, List, slice_get, option_copied, Some, None, IfOk, IfSome};
+ghost use Rattle.std.specs.Prelude.{◌≡◌, ℕ, true, List, length, slice_get, option_copied, Some, None, IfOk, OnOk, IfSome};
+ghost use Rattle.std.specs.Str.{chars};
 ghost use Rattle.avro_schema.specs.Node.{Node as SeenNode, node_at};
-ghost use Rattle.avro_schema_json.specs.inside.BranchKeys.{kind_key, IsTable, IsColumn, AreColumns};
-ghost use Rattle.avro_schema_json.specs.inside.Listed.{has_index, indices_of};
+ghost use Rattle.avro_schema_json.specs.inside.BranchKeys.{is_bytes_text, is_int_number, IsPlace, IsLinked, AreLinks, IsTable};
+ghost use Rattle.avro_schema_json.specs.inside.Listed.{has_index, indices_of, branches_of_size};
 ghost use Rattle.avro_schema_json.specs.inside.OwnDefaults.{own_default as own_default_by};
-ghost use Rattle.avro_schema_json.specs.inside.Probes.{IsRefused, IsProbe, AreProbes};
+ghost use Rattle.avro_schema_json.specs.inside.Probes.{IsRefused, IsProbeOf, IsAt, AreProbes, Probes};
+ghost use Rattle.avro_schema_json.specs.declared.defaults.place.Links.{Links as SeenLinks};
+ghost use Rattle.avro_schema_json.specs.declared.defaults.place.Place.{Place as SeenPlace};
 ghost use Rattle.serde_json.specs.Data.{Data};
-ghost use Rattle.serde_json.specs.View.{view, members_view};
+ghost use Rattle.serde_json.specs.Find.{get};
+ghost use Rattle.serde_json.specs.View.{view, items_view, members_view};
 
 use crate::defaults::branch_keys::key_of_kind;
-use crate::defaults::column::Column;
-use crate::defaults::member_codes::code_of_size;
+use crate::defaults::place::{Asks, Links, Place, Places};
+use crate::defaults::plain_defaults::{bytes_of_text, number_default};
 use crate::defaults::probe::Probe;
 use crate::defaults::unfit::characters_of;
 use crate::defaults::union_table::UnionTable;
+use crate::raw::RawNode;
 use avro_schema::Memory;
 use serde_json::{Map, Value};
 use std::alloc::Global;
 use std::collections::BTreeSet;
 
-/// The column of a name and a kind, at an index.
-fn column_at<'a, 'b>(
-    columns: &'a [Column<'b>],
-    index: usize,
-    name: &str,
-    kind: usize,
-) -> Option<&'a Column<'b>>
-    ensures kept { IfSome result (λ column. (nodes : List SeenNode) (ids : List ℕ) → AreColumns nodes ids columns.now → IsColumn nodes ids column.now) }
-    ensures named { IfSome result (λ column. column.now.name.now ≡ name.now) }
-    ensures kind { IfSome result (λ column. column.now.kind ≡ kind) }
-{
-    if index >= columns.len() {
-        return None;
-    }
-    let column = &columns[index];
-    if column.name == name && column.kind == kind {
-        Some(column)
-    } else {
-        None
-    }
-}
-
-/// What the branches ask of a member, if it is kept.
-fn column_for<'a, 'b>(table: &'a UnionTable<'b>, name: &str, kind: usize) -> Option<&'a Column<'b>>
-    ensures kept { IfSome result (λ column. (nodes : List SeenNode) (ids : List ℕ) → IsTable nodes ids table.now → IsColumn nodes ids column.now) }
-    ensures named { IfSome result (λ column. column.now.name.now ≡ name.now) }
-    ensures kind { IfSome result (λ column. column.now.kind ≡ kind) }
-{
-    match table.starts.get(name) {
-        Some(start) => column_at(&table.columns, start.saturating_add(kind), name, kind),
-        None => None,
-    }
-}
-
 /// The indices of the branches that are listed for JSON, if it is a text that is listed.
-fn listed_for<'a>(column: &'a Column<'_>, tree: &Value) -> Option<&'a BTreeSet<usize>>
-    ensures { (text : List ℕ) → view tree.now ≡ Data.string text → option_copied result ≡ indices_of column.now.texts text }
+fn listed_for<'a>(place: &'a Place<'_>, tree: &Value) -> Option<&'a BTreeSet<usize>>
+    ensures { (text : List ℕ) → view tree.now ≡ Data.string text → option_copied result ≡ indices_of place.now.texts text }
 {
     match tree {
-        Value::String(text) => column.texts.get(text.as_str()),
+        Value::String(text) => place.texts.get(text.as_str()),
         _ => None,
     }
 }
@@ -75,38 +46,189 @@ fn is_among(listed: Option<&BTreeSet<usize>>, index: usize) -> bool
     }
 }
 
-/// The members of an object with what the branches ask of them.
-fn probes_of_members<'a>(
-    alloc: Global,
-    table: &'a UnionTable<'_>,
-    members: &Map<String, Value>,
-) -> Result<Vec<Probe<'a>>, Memory>
-    ensures { IfOk result (λ probes. (nodes : List SeenNode) (ids : List ℕ) → IsTable nodes ids table.now → AreProbes nodes ids (Data.object (members_view members.now.entries)) probes.items) }
+/// The indices of the branches that are listed for the number of characters of JSON, if it is a text of such a number.
+fn sized_for<'a>(place: &'a Place<'_>, tree: &Value) -> Option<&'a BTreeSet<usize>>
+    ensures { (text : List ℕ) → view tree.now ≡ Data.string text → option_copied result ≡ branches_of_size place.now.sizes (length (chars text)) }
 {
-    let mut probes: Vec<Probe<'a>> = Vec::new(alloc);
+    place.sizes.get(&characters_of(tree))
+}
+
+/// Whether JSON is a text whose characters are bytes.
+fn is_bytes(alloc: Global, tree: &Value) -> Result<bool, Memory>
+    ensures { IfOk result (λ answer. answer ≡ is_bytes_text (view tree.now)) }
+{
+    match tree {
+        Value::String(text) => Ok(bytes_of_text(alloc, text.as_str())?.is_some()),
+        _ => Ok(false),
+    }
+}
+
+/// Whether JSON is a number that is an int.
+fn is_int(tree: &Value) -> bool
+    ensures { result ≡ is_int_number (view tree.now) }
+{
+    match tree {
+        Value::Number(number) => number_default(*number, &RawNode::Int).is_some(),
+        _ => false,
+    }
+}
+
+/// JSON at a place with what the branches ask of it, if they ask for something.
+fn probe_of<'a>(
+    alloc: Global,
+    place: &'a Place<'_>,
+    tree: &Value,
+) -> Result<Option<Probe<'a>>, Memory>
+    ensures { IfOk result (λ probe. IfSome probe (λ p. (nodes : List SeenNode) → IsPlace nodes place.now → IsProbeOf nodes place.now.sets.items (view tree.now) p)) }
+{
+    let kind = key_of_kind(tree);
+    if kind >= place.asks.len() {
+        return Ok(None);
+    }
+    let is_bytes = is_bytes(alloc, tree)?;
+    Ok(Some(Probe {
+        asks: &place.asks[kind],
+        listed: listed_for(place, tree),
+        sized: sized_for(place, tree),
+        is_bytes,
+        is_int: is_int(tree),
+    }))
+}
+
+/// What tells JSON from other JSON of its kind, beside a text for which a branch is listed.
+fn mark_of(tree: &Value, probe: &Probe) -> usize {
+    let is_special = probe.is_bytes || probe.is_int;
+    characters_of(tree)
+        .saturating_mul(2)
+        .saturating_add(usize::from(is_special))
+}
+
+/// Adds JSON at a place, if the same is not asked of it as of other JSON there.
+fn add_probe<'a>(
+    alloc: Global,
+    probes: &mut Vec<Probe<'a>>,
+    seen: &mut BTreeSet<(usize, usize, usize)>,
+    place: &'a Place<'_>,
+    tree: &Value,
+    at: usize,
+) -> Result<(), Memory>
+    ensures { OnOk result ((nodes : List SeenNode) (ids : List ℕ) (d : Data) → IsPlace nodes place.now → IsAt nodes ids d place.now.sets.items (view tree.now)
+        → AreProbes nodes ids d probes.old.items → AreProbes nodes ids d probes.new.items) }
+{
+    match probe_of(alloc, place, tree)? {
+        Some(probe) => {
+            let is_new = seen.insert((at, key_of_kind(tree), mark_of(tree, &probe)))?;
+            if is_new || probe.listed.is_some() {
+                probes.push(probe)?;
+            }
+            Ok(())
+        }
+        None => Ok(()),
+    }
+}
+
+/// Adds JSON that stands at the place of an index, and its parts.
+#[cycle(probing)]
+fn probe_part<'a>(
+    alloc: Global,
+    probes: &mut Vec<Probe<'a>>,
+    seen: &mut BTreeSet<(usize, usize, usize)>,
+    places: &'a Places<'_>,
+    at: usize,
+    tree: &Value,
+) -> Result<(), Memory>
+    ensures { OnOk result (Probes places.now at (view tree.now) probes.old.items probes.new.items) }
+{
+    if at >= places.all.len() {
+        return Ok(());
+    }
+    add_probe(alloc, probes, seen, &places.all[at], tree, at)?;
+    probe_below(alloc, probes, seen, places, at, tree)
+}
+
+/// Adds the parts of JSON that stands at the place of an index.
+#[cycle(probing)]
+fn probe_below<'a>(
+    alloc: Global,
+    probes: &mut Vec<Probe<'a>>,
+    seen: &mut BTreeSet<(usize, usize, usize)>,
+    places: &'a Places<'_>,
+    at: usize,
+    tree: &Value,
+) -> Result<(), Memory>
+    ensures { OnOk result (Probes places.now at (view tree.now) probes.old.items probes.new.items) }
+{
+    if at >= places.links.len() {
+        return Ok(());
+    }
+    let links = &places.links[at];
+    match tree {
+        Value::Array(items) => match links.items {
+            Some(to) => probe_items(alloc, probes, seen, places, to, items),
+            None => Ok(()),
+        },
+        Value::Object(members) => probe_members(alloc, probes, seen, places, links, members),
+        _ => Ok(()),
+    }
+}
+
+/// Adds items, which stand at the place of an index.
+#[cycle(probing)]
+fn probe_items<'a>(
+    alloc: Global,
+    probes: &mut Vec<Probe<'a>>,
+    seen: &mut BTreeSet<(usize, usize, usize)>,
+    places: &'a Places<'_>,
+    to: usize,
+    items: &Vec<Value>,
+) -> Result<(), Memory>
+    ensures { OnOk result ((from : ℕ) (links : SeenLinks) → slice_get places.now.links.items from ≡ Some links → links.items ≡ Some to
+        → Probes places.now from (Data.array (items_view items.now.items)) probes.old.items probes.new.items) }
+{
+    for item in items {
+        probe_part(alloc, probes, seen, places, to, item)?;
+    }
+    Ok(())
+}
+
+/// Where the member of a name stands.
+fn place_of_member(links: &Links, name: &str) -> Option<usize>
+    ensures { IfSome result (λ to. (nodes : List SeenNode) (all : List SeenPlace) (from : ℕ) → AreLinks nodes all from links.now
+        → IsLinked nodes (λ d e. get name.now d ≡ Some e) all from to) }
+{
+    match links.members.get(name) {
+        Some(to) => Some(*to),
+        None => links.values,
+    }
+}
+
+/// Adds the members of an object, by the links of its place.
+#[cycle(probing)]
+fn probe_members<'a>(
+    alloc: Global,
+    probes: &mut Vec<Probe<'a>>,
+    seen: &mut BTreeSet<(usize, usize, usize)>,
+    places: &'a Places<'_>,
+    links: &Links,
+    members: &Map<String, Value>,
+) -> Result<(), Memory>
+    ensures { OnOk result ((from : ℕ) → slice_get places.now.links.items from ≡ Some links.now
+        → Probes places.now from (Data.object (members_view members.now.entries)) probes.old.items probes.new.items) }
+{
     for (key, _) in members.iter() {
         let name = key.as_str();
-        match members.get(name) {
-            Some(tree) => match column_for(table, name, key_of_kind(tree)) {
-                Some(column) => {
-                    let wanted = code_of_size(characters_of(tree))?;
-                    let listed = listed_for(column, tree);
-                    let codes = &column.codes;
-                    probes.push(Probe {
-                        codes,
-                        listed,
-                        wanted,
-                    })?;
-                }
+        match place_of_member(links, name) {
+            Some(to) => match members.get(name) {
+                Some(tree) => probe_part(alloc, probes, seen, places, to, tree)?,
                 None => {}
             },
             None => {}
         }
     }
-    Ok(probes)
+    Ok(())
 }
 
-/// The members of JSON with what the branches ask of them.
+/// The parts of JSON with what the branches of a union ask of them.
 pub(crate) fn probes_of<'a>(
     alloc: Global,
     table: &'a UnionTable<'_>,
@@ -114,32 +236,35 @@ pub(crate) fn probes_of<'a>(
 ) -> Result<Vec<Probe<'a>>, Memory>
     ensures { IfOk result (λ probes. (nodes : List SeenNode) (ids : List ℕ) → IsTable nodes ids table.now → AreProbes nodes ids (view tree.now) probes.items) }
 {
-    match tree {
-        Value::Object(members) => probes_of_members(alloc, table, members),
-        _ => Ok(Vec::new(alloc)),
-    }
+    let mut probes: Vec<Probe<'a>> = Vec::new(alloc);
+    let mut seen: BTreeSet<(usize, usize, usize)> = BTreeSet::new(alloc);
+    probe_below(alloc, &mut probes, &mut seen, &table.places, 0, tree)?;
+    Ok(probes)
 }
 
-/// Whether a branch, by its code and its index, takes no such member.
-fn refuses(probe: &Probe, code: usize, index: usize) -> bool
-    ensures { result ≡ true → IsRefused probe.now code index }
+/// Whether a branch, by what it asks and its index, takes no such part.
+fn refuses(probe: &Probe, asks: Asks, index: usize) -> bool
+    ensures { result ≡ true → IsRefused probe.now asks index }
 {
-    if code == 1 || code == probe.wanted {
-        return false;
-    }
-    code != 2 || !is_among(probe.listed, index)
+    let is_listed = asks.listed && is_among(probe.listed, index);
+    let is_sized = asks.sized && is_among(probe.sized, index);
+    let is_plain = asks.bytes && probe.is_bytes || asks.ints && probe.is_int;
+    !(asks.any || is_listed || is_sized || is_plain)
 }
 
-/// Whether JSON is no default of the branch at an index by one of its members.
+/// Whether JSON is no default of the branch at an index by one of its parts.
 pub(crate) fn is_refused(probes: &[Probe], index: usize) -> bool
     ensures { result ≡ true → (nodes : List SeenNode) (ids : List ℕ) (d : Data) (id : ℕ) → AreProbes nodes ids d probes.now → slice_get ids index ≡ Some id
         → own_default_by nodes d (node_at nodes id) ≡ None }
 {
     for probe in probes {
-        if index < probe.codes.len() {
-            if refuses(probe, probe.codes[index], index) {
-                return true;
+        match probe.asks.get(index) {
+            Some(asks) => {
+                if refuses(probe, *asks, index) {
+                    return true;
+                }
             }
+            None => {}
         }
     }
     false

@@ -6,6 +6,7 @@ ghost use Rattle.avro_schema.specs.Seen.{ids_of};
 ghost use Rattle.avro_schema_json.specs.inside.BranchKeys.{IsTable, AreTables};
 ghost use Rattle.avro_schema_json.specs.inside.OwnDefaults.{all_without_defaults};
 
+use crate::defaults::places::no_places;
 use crate::defaults::union_table::UnionTable;
 use crate::raw::RawNode;
 use avro_schema::NodeId;
@@ -25,8 +26,7 @@ pub(crate) fn no_table<'a>(alloc: Global) -> UnionTable<'a>
         no_record: 0,
         parts: Vec::new(alloc),
         no_part: 0,
-        columns: Vec::new(alloc),
-        starts: BTreeMap::new(alloc),
+        places: no_places(alloc),
     }
 }
 

@@ -13,9 +13,10 @@ ghost use Rattle.avro_schema_json.specs.inside.Listed.{symbols_of};
 ghost use Rattle.avro_schema_json.specs.inside.OwnDefaults.{all_without_defaults, without_defaults};
 
 use crate::defaults::branch_keys::key_at;
-use crate::defaults::columns::{columns_or_none, starts_of, steps_of_lists};
-use crate::defaults::counts::{count_of_parts, count_of_symbols};
+use crate::defaults::counts::{count_of_parts, count_of_symbols, has_parted_defaults};
+use crate::defaults::first_branches::no_words;
 use crate::defaults::parts::parts_of;
+use crate::defaults::places::places_or_none;
 use crate::defaults::record_tables::first_of_records;
 use crate::defaults::table_at::no_table;
 use crate::defaults::union_table::UnionTable;
@@ -90,13 +91,6 @@ fn first_of_symbols<'a>(
     Ok(symbols)
 }
 
-/// No symbols.
-fn no_symbols<'a>(alloc: Global) -> BTreeMap<&'a str, usize>
-    ensures { (word : List ℕ) → find_word result word ≡ None }
-{
-    BTreeMap::new(alloc)
-}
-
 /// The table of some branches, with or without their parts.
 fn table_of<'a>(
     alloc: Global,
@@ -113,8 +107,7 @@ fn table_of<'a>(
     let symbols = first_of_symbols(alloc, raws, null, ids)?;
     let records = first_of_records(alloc, raws, null, ids)?;
     let parts = parts_of(alloc, raws, null, ids, has_parts)?;
-    let columns = columns_or_none(alloc, raws, null, ids, has_parts, steps)?;
-    let starts = starts_of(alloc, &columns)?;
+    let places = places_or_none(alloc, raws, null, ids, steps)?;
     Ok(UnionTable {
         first,
         other: ids.len(),
@@ -124,8 +117,7 @@ fn table_of<'a>(
         no_record: ids.len(),
         parts,
         no_part: ids.len(),
-        columns,
-        starts,
+        places,
     })
 }
 
@@ -142,11 +134,10 @@ fn table_of_keys<'a>(
     ensures { IfOk result (λ table. IsTable (all_without_defaults raws.now) (ids_of ids.now) table) }
 {
     let first = first_of_keys(alloc, raws, ids)?;
-    let symbols = no_symbols(alloc);
+    let symbols = no_words(alloc);
     let records = first_of_records(alloc, raws, null, ids)?;
     let parts = parts_of(alloc, raws, null, ids, has_parts)?;
-    let columns = columns_or_none(alloc, raws, null, ids, has_parts, steps)?;
-    let starts = starts_of(alloc, &columns)?;
+    let places = places_or_none(alloc, raws, null, ids, steps)?;
     Ok(UnionTable {
         first,
         other: ids.len(),
@@ -156,8 +147,7 @@ fn table_of_keys<'a>(
         no_record: ids.len(),
         parts,
         no_part: ids.len(),
-        columns,
-        starts,
+        places,
     })
 }
 
@@ -200,18 +190,23 @@ fn table_of_node<'a>(
     }
 }
 
-/// How many steps the columns of a union of so many parts may take, or 0 where not one name may be looked for.
-fn steps_for(left: usize, parts: usize) -> usize {
-    if parts.saturating_mul(6) > left {
-        0
+/// How many steps it may take to find the places below all unions: none where no default has parts.
+fn steps_for(raws: &[RawNode]) -> usize {
+    if has_parted_defaults(raws) {
+        4_000_000
     } else {
-        left.min(2_000_000)
+        0
     }
+}
+
+/// How many steps it took to find the places below a union.
+fn steps_of(table: &UnionTable) -> usize {
+    table.places.steps
 }
 
 /// A table for each union among the nodes. Those of the later ones have no symbols once a million are kept, and
 /// no parts once a million are, nor has one of more than 100,000: an enum or a record of many may be a branch of
-/// many unions. Columns take at most 4 million steps in all, and half of them for one union.
+/// many unions. Places take at most 4 million steps in all, and half of them for one union.
 pub(crate) fn tables_of<'a>(
     alloc: Global,
     raws: &'a [RawNode<'a>],
@@ -223,18 +218,16 @@ pub(crate) fn tables_of<'a>(
     let mut tables: Vec<UnionTable<'a>> = Vec::new(alloc);
     let mut left = 1_000_000usize;
     let mut parts_left = 1_000_000usize;
-    let mut steps_left = 4_000_000usize;
+    let mut steps_left = steps_for(raws);
     for raw in raws {
         let count = count_of_symbols(raws, raw);
         let has_symbols = count <= left;
         let most = parts_left.min(100_000);
         let parts = count_of_parts(raws, raw, most);
         let has_parts = parts <= most;
-        let steps = steps_for(steps_left, parts);
+        let steps = steps_left.min(2_000_000);
         let table = table_of_node(alloc, raws, null, raw, has_symbols, has_parts, steps)?;
-        let taken = table.columns.len().saturating_mul(parts);
-        let listing = steps_of_lists(&table.columns);
-        steps_left = steps_left.saturating_sub(taken.saturating_add(listing));
+        steps_left = steps_left.saturating_sub(steps_of(&table));
         tables.push(table)?;
         parts_left = parts_left.saturating_sub(parts);
         if has_symbols {

@@ -1,4 +1,4 @@
-use crate::defaults::column::Column;
+use crate::defaults::place::Places;
 use std::collections::BTreeMap;
 
 /// Where in a union the first branch of each key is, the first enum of each symbol, the first record by its
@@ -26,8 +26,6 @@ pub(crate) struct UnionTable<'a> {
     pub parts: Vec<BTreeMap<&'a str, usize>>,
     /// The result for a name that no such part has: the number of branches, or 0 where there is no table.
     pub no_part: usize,
-    /// What the branches ask of members: for a name, a column for each kind of JSON.
-    pub columns: Vec<Column<'a>>,
-    /// For each name, where the first of its columns is.
-    pub starts: BTreeMap<&'a str, usize>,
+    /// What the branches ask of the parts of objects.
+    pub places: Places<'a>,
 }

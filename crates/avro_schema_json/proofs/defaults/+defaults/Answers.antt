@@ -10,7 +10,7 @@ use Rattle.avro_schema_json.specs.DeclaredDefaults.{each_default, entries_defaul
 use Rattle.avro_schema_json.specs.declared.defaults.probe.Probe.{Probe}
 use Rattle.avro_schema_json.specs.inside.OwnDefaults.{all_without_defaults, fields_seen}
 use Rattle.avro_schema_json.specs.inside.Probes.{AreProbes}
-use Rattle.avro_schema_json.proofs.ColumnsSeen.{branch-refused}
+use Rattle.avro_schema_json.proofs.ProbesSeen.{branch-refused}
 use Rattle.avro_schema_json.proofs.DefaultsSeen.{default-union, entries_end}
 use Rattle.avro_schema_json.proofs.DefaultSteps.{item_next, items_end, entry_next, fields_left, field_next, field_stop, field_missing, fields_end}
 use Rattle.avro_schema_json.proofs.MisfitsSeen.{branch-skip, branch-pass, item-at, left-first, left-next}

@@ -4,7 +4,7 @@ use Rattle.serde_json.specs.View.{view}
 use Rattle.avro_schema_json.specs.declared.defaults.probe.Probe.{Probe}
 use Rattle.avro_schema_json.specs.inside.OwnDefaults.{all_without_defaults}
 use Rattle.avro_schema_json.specs.inside.Probes.{AreProbes}
-use Rattle.avro_schema_json.proofs.ColumnsSeen.{branch-refused}
+use Rattle.avro_schema_json.proofs.ProbesSeen.{branch-refused}
 use Rattle.avro_schema_json.proofs.DefaultsSeen.{branches_end}
 use Rattle.avro_schema_json.proofs.MisfitsSeen.{branch-pass}
 use Rattle.avro_schema_json.proofs.TablesSeen.{begins_late}

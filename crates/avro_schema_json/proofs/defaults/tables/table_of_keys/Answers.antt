@@ -7,8 +7,8 @@ pub returns : goal.returns
 returns c = (
   c.in_ok-first.ensures,
   λ word.
-      symbols_none (all_without_defaults c.args.raws.now) (ids_of c.args.ids.now) c.no_symbols-symbols.result word (c.no_symbols-symbols.ensures word),
+      symbols_none (all_without_defaults c.args.raws.now) (ids_of c.args.ids.now) c.no_words-symbols.result word (c.no_words-symbols.ensures word),
   c.in_ok-records.ensures,
   c.in_ok-parts.ensures,
-  c.in_ok-columns.ensures,
+  c.in_ok-places.ensures,
 )
