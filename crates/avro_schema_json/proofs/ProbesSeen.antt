@@ -17,7 +17,9 @@ use Rattle.avro_schema_json.specs.declared.defaults.place.Places.{Places}
 use Rattle.avro_schema_json.specs.declared.defaults.place.Step.{Step}
 use Rattle.avro_schema_json.specs.declared.defaults.probe.Probe.{Probe}
 use Rattle.avro_schema_json.specs.declared.defaults.union_table.UnionTable.{UnionTable}
-use Rattle.avro_schema_json.specs.inside.BranchKeys.{kind_key, find_word, is_bytes_text, is_int_number, IsPlace, IsLinked, IsLinkedIf, AreLinks, ArePlaces, IsTable}
+use Rattle.avro_schema_json.specs.inside.Asked.{is_bytes_text, is_int_number, IsPlace, IsLinked, IsLinkedIf, AreLinks, ArePlaces}
+use Rattle.avro_schema_json.specs.inside.BranchKeys.{kind_key, find_word}
+use Rattle.avro_schema_json.specs.inside.Tables.{IsTable}
 use Rattle.avro_schema_json.specs.inside.Listed.{has_index, indices_of, branches_of_size}
 use Rattle.avro_schema_json.specs.inside.OwnDefaults.{own_default}
 use Rattle.avro_schema_json.specs.inside.Places.{IsPart, FitsNone, AreRoot}

@@ -15,7 +15,8 @@ use Rattle.serde_json.specs.Find.{get_member}
 use Rattle.serde_json.specs.View.{view, members_view}
 use Rattle.serde_json.proofs.Views.{Entry}
 use Rattle.avro_schema_json.specs.DeclaredDefaults.{default_of}
-use Rattle.avro_schema_json.specs.inside.BranchKeys.{branch_key, members_key, kind_key, find_word, field_key, first_in, first_is, IsTable, SkipsFirst, AreRecordsSkipped, FitsNoneBefore, HasNoRecordBefore}
+use Rattle.avro_schema_json.specs.inside.BranchKeys.{branch_key, members_key, kind_key, find_word, field_key, first_in, first_is, SkipsFirst, AreRecordsSkipped, FitsNoneBefore, HasNoRecordBefore}
+use Rattle.avro_schema_json.specs.inside.Tables.{IsTable}
 use Rattle.avro_schema_json.specs.inside.OwnDefaults.{own_default, default_of_fields, fields_seen}
 use Rattle.avro_schema_json.specs.declared.defaults.union_table.UnionTable.{UnionTable}
 use Rattle.avro_schema_json.specs.declared.raw.RawField.{RawField}

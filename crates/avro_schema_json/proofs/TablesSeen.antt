@@ -21,7 +21,8 @@ use Rattle.serde_json.specs.View.{members_view}
 use Rattle.serde_json.proofs.Views.{Entry}
 use Rattle.avro_schema_json.specs.DeclaredAttributes.{symbol_index}
 use Rattle.avro_schema_json.specs.DeclaredDefaults.{first_fit, bytes_of_text, only_if}
-use Rattle.avro_schema_json.specs.inside.BranchKeys.{branch_key, members_key, kind_key, size_key, find_word, Skips, SkipsSymbol, IsTable, AreTables, HasNoKeyBefore, FitsNoneBefore}
+use Rattle.avro_schema_json.specs.inside.BranchKeys.{branch_key, members_key, kind_key, size_key, find_word, Skips, SkipsSymbol, HasNoKeyBefore, FitsNoneBefore}
+use Rattle.avro_schema_json.specs.inside.Tables.{IsTable, AreTables}
 use Rattle.avro_schema_json.specs.inside.Listed.{symbols_of}
 use Rattle.avro_schema_json.specs.inside.OwnDefaults.{own_default, without_defaults, all_without_defaults}
 use Rattle.avro_schema_json.specs.declared.defaults.union_table.UnionTable.{UnionTable}

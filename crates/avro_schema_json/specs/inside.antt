@@ -3,6 +3,7 @@ pub mod Reading
 pub mod KnownNames
 pub mod KnownSeen
 pub mod ReadingSeen
+pub mod Asked
 pub mod BranchKeys
 pub mod Characters
 pub mod FieldNames
@@ -15,5 +16,6 @@ pub mod Places
 pub mod Probes
 pub mod Repeats
 pub mod SymbolIndices
+pub mod Tables
 pub mod SeenRaw
 pub mod SeenDefaults

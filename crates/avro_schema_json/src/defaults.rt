@@ -5,7 +5,7 @@ ghost use Rattle.avro_schema.specs.Node.{Node as SeenNode, node_at};
 ghost use Rattle.avro_schema.specs.Seen.{value_of, values_of, entries_of, ids_of};
 ghost use Rattle.avro_schema.specs.Value.{Value as SeenValue};
 ghost use Rattle.avro_schema_json.specs.DeclaredDefaults.{default_of as default_by, each_default, entries_default as each_entry, default_under, fields_default as each_field, object_default as default_of_object, items_default as default_of_items, member_keys, first_fit};
-ghost use Rattle.avro_schema_json.specs.inside.BranchKeys.{IsTable, AreTables};
+ghost use Rattle.avro_schema_json.specs.inside.Tables.{IsTable, AreTables};
 ghost use Rattle.avro_schema_json.specs.inside.Misfits.{IsKnown};
 ghost use Rattle.avro_schema_json.specs.inside.OwnDefaults.{own_default as own_default_by, default_of_fields, without_defaults, all_without_defaults, fields_seen};
 ghost use Rattle.serde_json.specs.Data.{Data};
@@ -34,6 +34,7 @@ mod places;
 mod plain_defaults;
 pub(crate) mod probe;
 mod probes;
+mod probing;
 mod record_tables;
 mod sized;
 mod table_at;
@@ -52,7 +53,8 @@ use crate::defaults::misfits::gather;
 use crate::defaults::plain_defaults::{
     boolean_default, null_default, number_default, text_default,
 };
-use crate::defaults::probes::{is_refused, probes_of};
+use crate::defaults::probes::is_refused;
+use crate::defaults::probing::probes_of;
 use crate::defaults::table_at::{no_table, table_at};
 use crate::defaults::unfit::{characters_of, is_unfit};
 use crate::defaults::union_table::UnionTable;

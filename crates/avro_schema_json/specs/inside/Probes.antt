@@ -5,7 +5,7 @@ use Rattle.avro_schema.specs.Node.{Node, node_at}
 use Rattle.avro_schema.specs.Seen.{ids_of}
 use Rattle.avro_schema.specs.declared.schema.NodeId.{NodeId}
 use Rattle.serde_json.specs.Data.{Data}
-use Rattle.avro_schema_json.specs.inside.BranchKeys.{ArePlaces}
+use Rattle.avro_schema_json.specs.inside.Asked.{ArePlaces}
 use Rattle.avro_schema_json.specs.inside.Listed.{has_index}
 use Rattle.avro_schema_json.specs.inside.OwnDefaults.{own_default}
 use Rattle.avro_schema_json.specs.inside.Places.{FitsNone}

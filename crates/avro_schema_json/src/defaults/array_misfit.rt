@@ -2,7 +2,7 @@
 
 ghost use Rattle.std.specs.Prelude.{◌≡◌, true, None, IfOk};
 ghost use Rattle.avro_schema.specs.Node.{node_at};
-ghost use Rattle.avro_schema_json.specs.inside.BranchKeys.{AreTables};
+ghost use Rattle.avro_schema_json.specs.inside.Tables.{AreTables};
 ghost use Rattle.avro_schema_json.specs.inside.Misfits.{AreItemsKnown};
 ghost use Rattle.avro_schema_json.specs.inside.OwnDefaults.{own_default as own_default_by, all_without_defaults};
 ghost use Rattle.avro_schema_json.specs.DeclaredDefaults.{each_default};

@@ -3,7 +3,7 @@
 ghost use Rattle.std.specs.Prelude.{◌≡◌, true, None, List, IfOk};
 ghost use Rattle.avro_schema.specs.Node.{Node as SeenNode, node_at};
 ghost use Rattle.avro_schema.specs.Seen.{ids_of};
-ghost use Rattle.avro_schema_json.specs.inside.BranchKeys.{IsTable, AreTables};
+ghost use Rattle.avro_schema_json.specs.inside.Tables.{IsTable, AreTables};
 ghost use Rattle.avro_schema_json.specs.inside.Misfits.{AreMisfits};
 ghost use Rattle.avro_schema_json.specs.inside.Characters.{characters_in};
 ghost use Rattle.avro_schema_json.specs.inside.OwnDefaults.{own_default as own_default_by, all_without_defaults, without_defaults};
@@ -13,7 +13,8 @@ ghost use Rattle.serde_json.specs.View.{view};
 use crate::defaults::first_branches::first_branch;
 use crate::defaults::known::has;
 use crate::defaults::plain_defaults::{number_default, text_default};
-use crate::defaults::probes::{is_refused, probes_of};
+use crate::defaults::probes::is_refused;
+use crate::defaults::probing::probes_of;
 use crate::defaults::table_at::{no_table, table_at};
 use crate::defaults::unfit::{characters_of, is_unfit};
 use crate::defaults::union_table::UnionTable;

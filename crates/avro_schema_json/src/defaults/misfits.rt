@@ -2,7 +2,7 @@
 //! that it is asked about; nothing is kept for one without parts.
 
 ghost use Rattle.std.specs.Prelude.{◌≡◌, ◌⊎◌, ℕ, true, IfOk, OnOk};
-ghost use Rattle.avro_schema_json.specs.inside.BranchKeys.{AreTables};
+ghost use Rattle.avro_schema_json.specs.inside.Tables.{AreTables};
 ghost use Rattle.avro_schema_json.specs.inside.Misfits.{has_id, AreMisfits, IsKnown, Grows, AreItemsKnown, AreMembersKnown};
 ghost use Rattle.avro_schema_json.specs.inside.OwnDefaults.{all_without_defaults};
 ghost use Rattle.serde_json.specs.Data.{Data};

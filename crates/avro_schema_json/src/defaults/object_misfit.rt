@@ -2,7 +2,7 @@
 
 ghost use Rattle.std.specs.Prelude.{◌≡◌, true, None, List, IfOk};
 ghost use Rattle.avro_schema.specs.Node.{Node as SeenNode, node_at};
-ghost use Rattle.avro_schema_json.specs.inside.BranchKeys.{AreTables};
+ghost use Rattle.avro_schema_json.specs.inside.Tables.{AreTables};
 ghost use Rattle.avro_schema_json.specs.inside.Misfits.{AreMembersKnown, IsMemberMisfit};
 ghost use Rattle.avro_schema_json.specs.inside.OwnDefaults.{own_default as own_default_by, default_of_fields, fields_seen, all_without_defaults};
 ghost use Rattle.avro_schema_json.specs.DeclaredDefaults.{entries_default};

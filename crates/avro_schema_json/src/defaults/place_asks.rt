@@ -3,7 +3,7 @@
 ghost use Rattle.std.specs.Prelude.{◌≡◌, ℕ, false, List, IfOk};
 ghost use Rattle.avro_schema.specs.Node.{Node as SeenNode};
 ghost use Rattle.avro_schema.specs.Seen.{ids_of};
-ghost use Rattle.avro_schema_json.specs.inside.BranchKeys.{Refuses, IsOwnAsked, IsSetAsked, AreAsked, AreKindsAsked};
+ghost use Rattle.avro_schema_json.specs.inside.Asked.{Refuses, IsOwnAsked, IsSetAsked, AreAsked, AreKindsAsked};
 ghost use Rattle.avro_schema_json.specs.inside.Listed.{AllLack, AllLackSize};
 ghost use Rattle.avro_schema_json.specs.inside.OwnDefaults.{all_without_defaults, without_defaults};
 ghost use Rattle.serde_json.specs.Data.{Data};

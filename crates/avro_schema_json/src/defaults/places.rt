@@ -4,7 +4,7 @@ ghost use Rattle.std.specs.Prelude.{◌≡◌, ◌<◌, List, [], ◌∷◌, len
 ghost use Rattle.avro_schema.specs.Node.{Node as SeenNode};
 ghost use Rattle.avro_schema.specs.Seen.{ids_of};
 ghost use Rattle.avro_schema_json.specs.inside.OwnDefaults.{all_without_defaults, without_defaults};
-ghost use Rattle.avro_schema_json.specs.inside.BranchKeys.{IsPlace, AreEachPlaces, GrowsTo, IsLinked, AreNamed, IsLinkedIf, AreLinks, ArePlaces};
+ghost use Rattle.avro_schema_json.specs.inside.Asked.{IsPlace, AreEachPlaces, GrowsTo, IsLinked, AreNamed, IsLinkedIf, AreLinks, ArePlaces};
 ghost use Rattle.avro_schema_json.specs.inside.Places.{IsPart, AreRoot};
 
 use crate::defaults::below::sets_below;

@@ -3,7 +3,7 @@
 ghost use Rattle.std.specs.Prelude.{◌≡◌, ℕ, List, Some};
 ghost use Rattle.avro_schema.specs.Node.{Node as SeenNode, node_at, branches_of};
 ghost use Rattle.avro_schema.specs.Seen.{ids_of};
-ghost use Rattle.avro_schema_json.specs.inside.BranchKeys.{IsTable, AreTables};
+ghost use Rattle.avro_schema_json.specs.inside.Tables.{IsTable, AreTables};
 ghost use Rattle.avro_schema_json.specs.inside.OwnDefaults.{all_without_defaults};
 
 use crate::defaults::places::no_places;

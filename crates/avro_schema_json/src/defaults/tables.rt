@@ -8,7 +8,8 @@ ghost use Rattle.std.specs.BTreeMap.{get};
 ghost use Rattle.avro_schema.specs.Node.{Node as SeenNode, node_at, branches_of};
 ghost use Rattle.avro_schema.specs.Seen.{ids_of, texts_of};
 ghost use Rattle.avro_schema_json.specs.DeclaredAttributes.{symbol_index};
-ghost use Rattle.avro_schema_json.specs.inside.BranchKeys.{find_word, Skips, SkipsSymbol, IsTable, AreTables};
+ghost use Rattle.avro_schema_json.specs.inside.BranchKeys.{find_word, Skips, SkipsSymbol};
+ghost use Rattle.avro_schema_json.specs.inside.Tables.{IsTable, AreTables};
 ghost use Rattle.avro_schema_json.specs.inside.Listed.{symbols_of};
 ghost use Rattle.avro_schema_json.specs.inside.OwnDefaults.{all_without_defaults, without_defaults};
 

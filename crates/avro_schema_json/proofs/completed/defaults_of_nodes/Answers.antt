@@ -1,5 +1,5 @@
 use Rattle.std.proofs.Common.{List, sym, subst}
-use Rattle.avro_schema_json.specs.inside.BranchKeys.{AreTables}
+use Rattle.avro_schema_json.specs.inside.Tables.{AreTables}
 use Rattle.avro_schema_json.specs.inside.OwnDefaults.{all_without_defaults}
 use Rattle.avro_schema_json.specs.declared.defaults.union_table.UnionTable.{UnionTable}
 use Rattle.avro_schema_json.proofs.completed.defaults_of_nodes.Goals as goal

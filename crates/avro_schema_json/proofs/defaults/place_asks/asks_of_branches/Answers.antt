@@ -1,7 +1,7 @@
 use Rattle.std.proofs.Common.{List, subst}
 use Rattle.avro_schema.specs.Seen.{ids_of}
 use Rattle.avro_schema.specs.declared.schema.NodeId.{NodeId}
-use Rattle.avro_schema_json.specs.inside.BranchKeys.{IsSetAsked}
+use Rattle.avro_schema_json.specs.inside.Asked.{IsSetAsked}
 use Rattle.avro_schema_json.specs.inside.OwnDefaults.{all_without_defaults}
 use Rattle.avro_schema_json.proofs.PlacesSeen.{all_asked-start, all_asked-next}
 use Rattle.avro_schema_json.proofs.defaults.place_asks.asks_of_branches.Goals as goal

@@ -1,5 +1,5 @@
 use Rattle.std.proofs.Common.{◌<◌, length}
-use Rattle.avro_schema_json.specs.inside.BranchKeys.{AreEachPlaces, GrowsTo, AreNamed}
+use Rattle.avro_schema_json.specs.inside.Asked.{AreEachPlaces, GrowsTo, AreNamed}
 use Rattle.avro_schema_json.specs.inside.OwnDefaults.{all_without_defaults}
 use Rattle.avro_schema_json.proofs.defaults.places.add_members.Given as goal
 

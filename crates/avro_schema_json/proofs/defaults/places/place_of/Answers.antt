@@ -1,7 +1,7 @@
 use Rattle.std.proofs.Common.{List, subst}
 use Rattle.std.specs.Global.{Vec}
 use Rattle.avro_schema.specs.declared.schema.NodeId.{NodeId}
-use Rattle.avro_schema_json.specs.inside.BranchKeys.{AreKindsAsked}
+use Rattle.avro_schema_json.specs.inside.Asked.{AreKindsAsked}
 use Rattle.avro_schema_json.specs.inside.Listed.{AreListed, AreSized}
 use Rattle.avro_schema_json.specs.inside.OwnDefaults.{all_without_defaults}
 use Rattle.avro_schema_json.proofs.PlacesSeen.{place_made}

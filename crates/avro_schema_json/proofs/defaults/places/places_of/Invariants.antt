@@ -2,7 +2,7 @@ use Rattle.std.proofs.Common.{◌≡◌, Some}
 use Rattle.std.specs.Prelude.{slice_get}
 use Rattle.avro_schema.specs.Seen.{ids_of}
 use Rattle.avro_schema_json.specs.declared.defaults.place.Place.{Place}
-use Rattle.avro_schema_json.specs.inside.BranchKeys.{AreEachPlaces}
+use Rattle.avro_schema_json.specs.inside.Asked.{AreEachPlaces}
 use Rattle.avro_schema_json.specs.inside.OwnDefaults.{all_without_defaults}
 use Rattle.avro_schema_json.specs.inside.Places.{AreRoot}
 use Rattle.avro_schema_json.proofs.PlacesSeen.{AreLinksTo}

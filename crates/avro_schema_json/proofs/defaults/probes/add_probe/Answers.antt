@@ -3,7 +3,7 @@ use Rattle.std.specs.Prelude.{IfSome}
 use Rattle.avro_schema.specs.Node.{Node}
 use Rattle.serde_json.specs.View.{view}
 use Rattle.avro_schema_json.specs.declared.defaults.probe.Probe.{Probe}
-use Rattle.avro_schema_json.specs.inside.BranchKeys.{IsPlace}
+use Rattle.avro_schema_json.specs.inside.Asked.{IsPlace}
 use Rattle.avro_schema_json.specs.inside.Probes.{IsProbeOf}
 use Rattle.avro_schema_json.proofs.ProbesSeen.{probe_pushed}
 use Rattle.avro_schema_json.proofs.defaults.probes.add_probe.Goals as goal

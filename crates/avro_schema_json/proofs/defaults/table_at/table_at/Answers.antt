@@ -1,7 +1,7 @@
 use Rattle.std.proofs.Common.{◌≡◌, Option, Some, None, Bor, refl, sym, ap, subst, ◌∙◌, arith}
 use Rattle.std.specs.Prelude.{unwrap_or, option_map}
 use Rattle.avro_schema.specs.Seen.{ids_of}
-use Rattle.avro_schema_json.specs.inside.BranchKeys.{IsTable}
+use Rattle.avro_schema_json.specs.inside.Tables.{IsTable}
 use Rattle.avro_schema_json.specs.inside.OwnDefaults.{all_without_defaults}
 use Rattle.avro_schema_json.specs.declared.defaults.union_table.UnionTable.{UnionTable}
 use Rattle.avro_schema_json.proofs.TablesSeen.{table-there}

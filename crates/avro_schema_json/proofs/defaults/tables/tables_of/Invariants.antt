@@ -1,5 +1,5 @@
 use Rattle.std.proofs.Common.{◌≡◌, length}
-use Rattle.avro_schema_json.specs.inside.BranchKeys.{AreTables}
+use Rattle.avro_schema_json.specs.inside.Tables.{AreTables}
 use Rattle.avro_schema_json.specs.inside.OwnDefaults.{all_without_defaults}
 use Rattle.avro_schema_json.proofs.defaults.tables.tables_of.Given as goal
 

@@ -1,6 +1,6 @@
 use Rattle.serde_json.specs.View.{view}
 use Rattle.avro_schema_json.proofs.ProbesSeen.{no_probes, root_at}
-use Rattle.avro_schema_json.proofs.defaults.probes.probes_of.Goals as goal
+use Rattle.avro_schema_json.proofs.defaults.probing.probes_of.Goals as goal
 
 pub returns : goal.returns
 returns c = λ nodes ids good.

@@ -12,7 +12,7 @@ use Rattle.avro_schema_json.specs.inside.Probes.{Probes}
 use Rattle.avro_schema_json.proofs.MisfitsSeen.{item-at}
 use Rattle.avro_schema_json.proofs.ProbesSeen.{probed_next, item_linked, member_linked}
 use Rattle.avro_schema_json.proofs.RawSeen.{at_index}
-use Rattle.avro_schema_json.proofs.defaults.probes.+probing.Goals as goal
+use Rattle.avro_schema_json.proofs.defaults.probing.+probing.Goals as goal
 
 pub probe_below-returns-in-Some : goal.probe_below-returns-in-Some
 probe_below-returns-in-Some t c =

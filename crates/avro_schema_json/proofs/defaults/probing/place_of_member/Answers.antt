@@ -3,9 +3,9 @@ use Rattle.std.specs.Prelude.{IfSome}
 use Rattle.avro_schema.specs.Node.{Node}
 use Rattle.serde_json.specs.Find.{get}
 use Rattle.avro_schema_json.specs.declared.defaults.place.Place.{Place}
-use Rattle.avro_schema_json.specs.inside.BranchKeys.{AreLinks, IsLinked}
+use Rattle.avro_schema_json.specs.inside.Asked.{AreLinks, IsLinked}
 use Rattle.avro_schema_json.proofs.ProbesSeen.{named_linked, values_linked}
-use Rattle.avro_schema_json.proofs.defaults.probes.place_of_member.Goals as goal
+use Rattle.avro_schema_json.proofs.defaults.probing.place_of_member.Goals as goal
 
 pub returns-in-Some : goal.returns-in-Some
 returns-in-Some c = λ nodes all from good.

@@ -4,7 +4,7 @@ use Rattle.avro_schema_json.specs.declared.defaults.place.Links.{Links}
 use Rattle.avro_schema_json.specs.inside.Probes.{Probes}
 use Rattle.serde_json.specs.Data.{Data}
 use Rattle.serde_json.specs.View.{items_view, members_view}
-use Rattle.avro_schema_json.proofs.defaults.probes.+probing.Given as goal
+use Rattle.avro_schema_json.proofs.defaults.probing.+probing.Given as goal
 
 abbrev pub invariant-probe_items-loop-item : goal.invariant-probe_items-loop-item
 invariant-probe_items-loop-item l =
