@@ -157,6 +157,45 @@ def records_of_texts(choose):
     return root
 
 
+def part_type(choose, name, depth):
+    """A type of a field that likely takes some JSON and not other, with so many types within one another."""
+    made = choose.choice(("text", "text", "number", "array", "map", "record", "two") if depth else ("text", "text", "number"))
+    if made == "text":
+        return text_type(choose, f"T{name}")
+    if made == "number":
+        return Type(choose.choice(("int", "int", "long")))
+    if made == "record":
+        names = choose.choice(("a", "a", "b", "ab", ""))
+        return Type("record", name=f"P{name}", fields=[Field(it, part_type(choose, name + it, depth - 1)) for it in names])
+    if made == "two":
+        return union_of(choose, [Type("boolean"), *(part_type(choose, f"{name}{it}", 0) for it in "xy")])
+    return Type(made, of=part_type(choose, f"{name}i", depth - 1))
+
+
+def records_of_parts(choose):
+    """A default of many objects, of a union of records that differ in what the parts of their fields take."""
+    names, records, depth = "ab"[:choose.choice((1, 1, 2))], [], choose.choice((1, 2, 4))
+    same = choose.choice((None, None, "array", "map", "record"))
+    for k in range(choose.choice((3, 16, 17, 40, 90))):
+        fields = []
+        for name in names:
+            type = part_type(choose, f"{name}{k}", depth - 1)
+            if same == "record":
+                type = Type("record", name=f"Q{name}{k}", fields=[Field("a", type)])
+            elif same is not None:
+                type = Type(same, of=type)
+            fields.append(Field(name, type))
+        records.append(Type("record", name=f"R{k}", fields=fields))
+    root = Type("record", name="Root", fields=[Field("f", Type("array", of=Type("union", branches=records)))])
+    set_heights(root)
+    parts = []
+    for _ in range(choose.choice((3, 30, 90))):
+        tree = Defaults(choose, 12).of(choose.choice(records))
+        parts.append(misfit(choose, tree) if choose.randrange(40) == 0 else tree)
+    root.fields[0].default = [parts]
+    return root
+
+
 def named_types(choose, count, aliases):
     """Types whose names and aliases meet again and again, under namespaces that may be long."""
     made, taken = [], set()
@@ -354,6 +393,7 @@ TEXTS = {
     "text: random": (lambda choose: text_of(choose, schema(choose)), 6), "text: defaults": (lambda choose: text_of(choose, defaults(choose)), 14),
     "text: long defaults": (lambda choose: text_of(choose, long_default(choose)), 8),
     "text: records of texts": (lambda choose: text_of(choose, records_of_texts(choose)), 8),
+    "text: records of parts": (lambda choose: text_of(choose, records_of_parts(choose)), 12),
     "text: names": (lambda choose: text_of(choose, named(choose)), 6), "text: spoiled": (spoiled, 16),
 }
 PAIRS = {
