@@ -36,6 +36,7 @@ pub(crate) mod probe;
 mod probes;
 mod probing;
 mod record_tables;
+pub(crate) mod seen;
 mod sized;
 mod table_at;
 pub(crate) mod tables;

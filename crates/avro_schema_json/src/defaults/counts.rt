@@ -1,6 +1,6 @@
-//! How many symbols and parts the branches of unions have, and whether a default has parts of its own.
+//! How many symbols and parts the branches of unions have, and whether a default has an object in it.
 
-use crate::defaults::flat::has_parts;
+use crate::defaults::flat::has_object;
 use crate::raw::{RawField, RawNode};
 use crate::raw_nodes::branches;
 use avro_schema::NodeId;
@@ -65,12 +65,12 @@ pub(crate) fn count_of_parts(raws: &[RawNode], raw: &RawNode, most: usize) -> us
     count
 }
 
-/// Whether one of the fields has a default that is an array or an object.
-fn has_parted_default(fields: &[RawField]) -> bool {
+/// Whether one of the fields has a default with an object in it.
+fn has_object_default(fields: &[RawField]) -> bool {
     for field in fields {
         match field.default {
             Some(tree) => {
-                if has_parts(tree) {
+                if has_object(tree) {
                     return true;
                 }
             }
@@ -80,12 +80,12 @@ fn has_parted_default(fields: &[RawField]) -> bool {
     false
 }
 
-/// Whether a default of one of the nodes is an array or an object.
-pub(crate) fn has_parted_defaults(raws: &[RawNode]) -> bool {
+/// Whether a default of a field of one of the nodes has an object in it.
+pub(crate) fn has_object_defaults(raws: &[RawNode]) -> bool {
     for raw in raws {
         match raw {
             RawNode::Record(record) => {
-                if has_parted_default(&record.fields) {
+                if has_object_default(&record.fields) {
                     return true;
                 }
             }

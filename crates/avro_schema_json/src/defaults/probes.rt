@@ -14,6 +14,7 @@ use crate::defaults::branch_keys::key_of_kind;
 use crate::defaults::place::{Asks, Place};
 use crate::defaults::plain_defaults::{bytes_of_text, number_default};
 use crate::defaults::probe::Probe;
+use crate::defaults::seen::Seen;
 use crate::defaults::unfit::characters_of;
 use crate::raw::RawNode;
 use avro_schema::Memory;
@@ -90,21 +91,13 @@ fn probe_of<'a>(
     }))
 }
 
-/// What tells JSON from other JSON of its kind, beside a text for which a branch is listed.
-fn mark_of(tree: &Value, probe: &Probe) -> usize {
-    let is_special = probe.is_bytes || probe.is_int;
-    characters_of(tree)
-        .saturating_mul(2)
-        .saturating_add(usize::from(is_special))
-}
-
 /// Adds JSON at a place, if the same is not asked of it as of other JSON there.
-pub(crate) fn add_probe<'a>(
+pub(crate) fn add_probe<'a, 'b>(
     alloc: Global,
     probes: &mut Vec<Probe<'a>>,
-    seen: &mut BTreeSet<(usize, usize, usize)>,
+    seen: &mut Seen<'b>,
     place: &'a Place<'_>,
-    tree: &Value,
+    tree: &'b Value,
     at: usize,
 ) -> Result<(), Memory>
     ensures { OnOk result ((nodes : List SeenNode) (ids : List ℕ) (d : Data) → IsPlace nodes place.now → IsAt nodes ids d place.now.sets.items (view tree.now)
@@ -112,8 +105,7 @@ pub(crate) fn add_probe<'a>(
 {
     match probe_of(alloc, place, tree)? {
         Some(probe) => {
-            let is_new = seen.insert((at, key_of_kind(tree), mark_of(tree, &probe)))?;
-            if is_new || probe.listed.is_some() {
+            if seen.is_new(at, tree, &probe)? {
                 probes.push(probe)?;
             }
             Ok(())

@@ -14,21 +14,21 @@ ghost use Rattle.serde_json.specs.View.{view, items_view, members_view};
 use crate::defaults::place::{Links, Places};
 use crate::defaults::probe::Probe;
 use crate::defaults::probes::add_probe;
+use crate::defaults::seen::Seen;
 use crate::defaults::union_table::UnionTable;
 use avro_schema::Memory;
 use serde_json::{Map, Value};
 use std::alloc::Global;
-use std::collections::BTreeSet;
 
 /// Adds JSON that stands at the place of an index, and its parts.
 #[cycle(probing)]
-fn probe_part<'a>(
+fn probe_part<'a, 'b>(
     alloc: Global,
     probes: &mut Vec<Probe<'a>>,
-    seen: &mut BTreeSet<(usize, usize, usize)>,
+    seen: &mut Seen<'b>,
     places: &'a Places<'_>,
     at: usize,
-    tree: &Value,
+    tree: &'b Value,
 ) -> Result<(), Memory>
     ensures { OnOk result (Probes places.now at (view tree.now) probes.old.items probes.new.items) }
 {
@@ -41,13 +41,13 @@ fn probe_part<'a>(
 
 /// Adds the parts of JSON that stands at the place of an index.
 #[cycle(probing)]
-fn probe_below<'a>(
+fn probe_below<'a, 'b>(
     alloc: Global,
     probes: &mut Vec<Probe<'a>>,
-    seen: &mut BTreeSet<(usize, usize, usize)>,
+    seen: &mut Seen<'b>,
     places: &'a Places<'_>,
     at: usize,
-    tree: &Value,
+    tree: &'b Value,
 ) -> Result<(), Memory>
     ensures { OnOk result (Probes places.now at (view tree.now) probes.old.items probes.new.items) }
 {
@@ -67,13 +67,13 @@ fn probe_below<'a>(
 
 /// Adds items, which stand at the place of an index.
 #[cycle(probing)]
-fn probe_items<'a>(
+fn probe_items<'a, 'b>(
     alloc: Global,
     probes: &mut Vec<Probe<'a>>,
-    seen: &mut BTreeSet<(usize, usize, usize)>,
+    seen: &mut Seen<'b>,
     places: &'a Places<'_>,
     to: usize,
-    items: &Vec<Value>,
+    items: &'b Vec<Value>,
 ) -> Result<(), Memory>
     ensures { OnOk result ((from : ℕ) (links : SeenLinks) → slice_get places.now.links.items from ≡ Some links → links.items ≡ Some to
         → Probes places.now from (Data.array (items_view items.now.items)) probes.old.items probes.new.items) }
@@ -97,13 +97,13 @@ fn place_of_member(links: &Links, name: &str) -> Option<usize>
 
 /// Adds the members of an object, by the links of its place.
 #[cycle(probing)]
-fn probe_members<'a>(
+fn probe_members<'a, 'b>(
     alloc: Global,
     probes: &mut Vec<Probe<'a>>,
-    seen: &mut BTreeSet<(usize, usize, usize)>,
+    seen: &mut Seen<'b>,
     places: &'a Places<'_>,
     links: &Links,
-    members: &Map<String, Value>,
+    members: &'b Map<String, Value>,
 ) -> Result<(), Memory>
     ensures { OnOk result ((from : ℕ) → slice_get places.now.links.items from ≡ Some links.now
         → Probes places.now from (Data.object (members_view members.now.entries)) probes.old.items probes.new.items) }
@@ -130,7 +130,7 @@ pub(crate) fn probes_of<'a>(
     ensures { IfOk result (λ probes. (nodes : List SeenNode) (ids : List ℕ) → IsTable nodes ids table.now → AreProbes nodes ids (view tree.now) probes.items) }
 {
     let mut probes: Vec<Probe<'a>> = Vec::new(alloc);
-    let mut seen: BTreeSet<(usize, usize, usize)> = BTreeSet::new(alloc);
+    let mut seen = Seen::nothing(alloc);
     probe_below(alloc, &mut probes, &mut seen, &table.places, 0, tree)?;
     Ok(probes)
 }

@@ -14,7 +14,7 @@ ghost use Rattle.avro_schema_json.specs.inside.Listed.{symbols_of};
 ghost use Rattle.avro_schema_json.specs.inside.OwnDefaults.{all_without_defaults, without_defaults};
 
 use crate::defaults::branch_keys::key_at;
-use crate::defaults::counts::{count_of_parts, count_of_symbols, has_parted_defaults};
+use crate::defaults::counts::{count_of_parts, count_of_symbols, has_object_defaults};
 use crate::defaults::first_branches::no_words;
 use crate::defaults::parts::parts_of;
 use crate::defaults::places::places_or_none;
@@ -191,9 +191,9 @@ fn table_of_node<'a>(
     }
 }
 
-/// How many steps it may take to find the places below all unions: none where no default has parts.
+/// How many steps it may take to find the places below all unions: none where no default has an object in it.
 fn steps_for(raws: &[RawNode]) -> usize {
-    if has_parted_defaults(raws) {
+    if has_object_defaults(raws) {
         4_000_000
     } else {
         0
