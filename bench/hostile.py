@@ -300,6 +300,47 @@ def two_sizes(k, left):
     return [dict(fixed("F%d" % k), size=left), dict(fixed("G%d" % k), size=left + 1)]
 
 
+def long_array(count):
+    """One object with a long array of one symbol and another, of a union of this many records, of which the last has both."""
+    def text(size):
+        most = min(count, size // 400)
+        records = [{"type": "record", "name": "R%d" % k, "fields": [{"name": "a", "type": in_array(k, symbols_of_two(k, most - 1 - k))}]} for k in range(most)]
+        def schema(items):
+            field = {"name": "f", "type": records, "default": {"a": ["first"] * items + ["s0"]}}
+            return written({"type": "record", "name": "R", "fields": [field]})
+        return schema((size - len(schema(0))) // len('"first",'))
+    return text
+
+
+def wide_below(size):
+    """A union of records of one field, all of a record of 20 fields of a record of very many, and an object that fits the last branch."""
+    def text(count):
+        inner = {"type": "record", "name": "L", "fields": [{"name": "f%d" % k, "type": "int"} for k in range(count)]}
+        middle = {"type": "record", "name": "M", "fields": [{"name": "m%d" % k, "type": "L" if k else inner} for k in range(20)]}
+        records = [{"type": "record", "name": "R%d" % k, "fields": [{"name": "f", "type": "M" if k else middle}]} for k in range(size // 400)]
+        records.append({"type": "record", "name": "Z", "fields": [{"name": "z", "type": "int"}]})
+        return written({"type": "record", "name": "R", "fields": [{"name": "f", "type": records, "default": {"z": 1}}]})
+    return text(longest(size, text))
+
+
+def recursive(count):
+    """Unions of this many records that have the union again, and a default of objects within one another."""
+    def text(size):
+        names = ["R%d" % k for k in range(count)]
+        def record(k):
+            others = [record(j) for j in range(1, count)] if k == 0 else names[:k + 1]
+            return {"type": "record", "name": names[k], "fields": [{"name": "n", "type": ["null", *others]}]}
+        records = [record(0), *names[1:]]
+        default = "null"
+        for _ in range(100):
+            default = '{"n":' + default + "}"
+        items = (size - 100_000) // (len(default) + 1)
+        field = {"name": "f", "type": {"type": "array", "items": records}, "default": 0}
+        schema = written({"type": "record", "name": "R", "fields": [field]})
+        return schema.replace('"default":0', '"default":[' + ",".join([default] * items) + "]")
+    return text
+
+
 def two_records(k, left):
     """Two records of an enum, one of which has the symbol of how many records follow."""
     return [in_record(k, [{"name": "a", "type": one_symbol(k, left)}]),
@@ -405,13 +446,15 @@ KINDS = {
     "alike by turns": by_turns(1000),
     "alike symbols in maps": same_kinds(1000, lambda k, left: {"type": "map", "values": one_symbol(k, left)}, {"a": {"k": "s0"}}),
     "alike symbols behind others": same_kinds(1000, lambda k, left: in_array(k, symbols_of_two(k, left)), {"a": ["first", "s0"]}),
-    "alike symbols far down": same_kinds(1000, lambda k, left: in_record(k, [{"name": "a", "type": in_array(k, nested_record(k, one_symbol(k, left)))}]),
+    "alike symbols far down": same_kinds(600, lambda k, left: in_record(k, [{"name": "a", "type": in_array(k, nested_record(k, one_symbol(k, left)))}]),
                                          {"a": {"a": [{"a": {"a": "s0"}}]}}),
     "alike sizes in records": same_kinds(1000, lambda k, left: in_record(k, [{"name": "a", "type": dict(fixed("F%d" % k), size=left)}]), {"a": {"a": ""}}),
-    "alike unions in records": same_kinds(1000, lambda k, left: in_record(k, [{"name": "a", "type": ["null", "boolean" if left else "int"]}]), {"a": {"a": 1}}),
+    "alike unions in records": same_kinds(700, lambda k, left: in_record(k, [{"name": "a", "type": ["null", "boolean" if left else "int"]}]), {"a": {"a": 1}}),
     "alike numbers in arrays": same_kinds(1000, lambda k, left: in_array(k, "int" if left else "long"), {"a": [1, 3_000_000_000]}),
     "alike sizes of two": same_kinds(1000, two_sizes, {"a": ""}),
-    "alike records of two": same_kinds(1000, two_records, {"a": {"a": "s0"}}),
+    "wide below": wide_below, "recursive 20": recursive(20), "recursive 200": recursive(200),
+    "alike texts behind many": long_array(1000),
+    "alike records of two": same_kinds(600, two_records, {"a": {"a": "s0"}}),
     "alike in an array": alike(800, {"a": [{"a": 1, "b": 2}]}, inside(lambda k, leaf: in_record(k, plain_fields("ab")(k, leaf)), in_array)),
 }
 

@@ -12,7 +12,7 @@ use Rattle.serde_json.specs.Find.{get_item, get_member}
 use Rattle.avro_schema_json.specs.DeclaredDefaults.{default_of, each_default, entries_default, first_fit}
 use Rattle.avro_schema_json.specs.declared.defaults.place.Step.{Step}
 use Rattle.avro_schema_json.specs.inside.OwnDefaults.{own_default, default_of_fields}
-use Rattle.avro_schema_json.specs.inside.Places.{IsPart, IsWanted, FitsNone, KeepsNone, IsBelow, AreBelow}
+use Rattle.avro_schema_json.specs.inside.Places.{IsPart, IsWanted, FitsNone, KeepsAll, IsBelow, AreBelow}
 use Rattle.avro_schema_json.proofs.DefaultsSeen.{default-no_union, default-union}
 use Rattle.avro_schema_json.proofs.DefaultSteps.{field_at-found}
 use Rattle.avro_schema_json.proofs.MisfitsSeen.{first-none, member-misfit, pushed}
@@ -62,13 +62,13 @@ pub first_of-none : (nodes : List Node) (d : Data) (k : ℕ) (ids : List ℕ) �
 first_of-none nodes d k [] none = refl
 first_of-none nodes d k (id ∷ ids) none = rw (none 0 id refl) (first_of-none nodes d (suc k) ids (λ i m at. none (suc i) m at))
 
-pub keeps_same : (nodes : List Node) (xs : List NodeId) → KeepsNone nodes xs xs
+pub keeps_same : (nodes : List Node) (xs : List NodeId) → KeepsAll nodes xs xs
 keeps_same nodes xs = λ d none. none
 
-pub keeps_twice : (nodes : List Node) (one two three : List NodeId) → KeepsNone nodes one two → KeepsNone nodes two three → KeepsNone nodes one three
+pub keeps_twice : (nodes : List Node) (one two three : List NodeId) → KeepsAll nodes one two → KeepsAll nodes two three → KeepsAll nodes one three
 keeps_twice nodes one two three first second = λ d none. first d (second d none)
 
-pub keeps_push : (nodes : List Node) (xs : List NodeId) (last : NodeId) → KeepsNone nodes xs (xs ++ last ∷ [])
+pub keeps_push : (nodes : List Node) (xs : List NodeId) (last : NodeId) → KeepsAll nodes xs (xs ++ last ∷ [])
 keeps_push nodes xs last = λ d none i id at. none i id (ids_kept xs last i id at)
 
 pub last_none : (nodes : List Node) (d : Data) (xs : List NodeId) (last : NodeId) → FitsNone nodes d (ids_of (xs ++ last ∷ []))
@@ -116,7 +116,7 @@ pub fields_start : (nodes : List Node) (step : Step) (fields : List FieldNode) (
 fields_start nodes step fields kept = λ key d j f wanted none below at named. absurd (omega (arith, below))
 
 pub fields_next : (nodes : List Node) (step : Step) (fields : List FieldNode) (old new : List NodeId) (i : ℕ) (name : List ℕ) (id : ℕ)
-    → Some (name, id) ≡ option_map name_and_node (slice_get fields i) → KeepsNone nodes old new
+    → Some (name, id) ≡ option_map name_and_node (slice_get fields i) → KeepsAll nodes old new
     → (IsWanted step name → (d : Data) → FitsNone nodes d (ids_of new) → default_of nodes d (node_at nodes id) ≡ None)
     → FieldsPutTo nodes step fields old i → FieldsPutTo nodes step fields new (i + 1)
 fields_next nodes step fields old new i name id got keeps put good = λ key d j f wanted none below at named.
@@ -231,7 +231,7 @@ pub set_start : (nodes : List Node) (step : Step) (set below : List NodeId) → 
 set_start nodes step set below = λ d e j id part none less at. absurd (omega (arith, less))
 
 pub set_next : (nodes : List Node) (step : Step) (set old new : List NodeId) (i : ℕ) (id : NodeId) (n : Node) → i < length set → n ≡ node_at nodes (get_or set i id).0
-    → KeepsNone nodes old new → ((d e : Data) → IsPart step d e → FitsNone nodes e (ids_of new) → own_default nodes d n ≡ None)
+    → KeepsAll nodes old new → ((d e : Data) → IsPart step d e → FitsNone nodes e (ids_of new) → own_default nodes d n ≡ None)
     → SetPutTo nodes step set old i → SetPutTo nodes step set new (i + 1)
 set_next nodes step set old new i id n below is keeps put good = λ d e j m part none less at.
     elim (either i j) [

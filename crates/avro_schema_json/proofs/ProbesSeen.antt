@@ -23,7 +23,7 @@ use Rattle.avro_schema_json.specs.inside.Tables.{IsTable}
 use Rattle.avro_schema_json.specs.inside.Listed.{has_index, indices_of, branches_of_size}
 use Rattle.avro_schema_json.specs.inside.OwnDefaults.{own_default}
 use Rattle.avro_schema_json.specs.inside.Places.{IsPart, FitsNone, AreRoot}
-use Rattle.avro_schema_json.specs.inside.Probes.{IsRefused, IsProbe, AreProbes, IsProbeOf, IsAt, Probes as Probed}
+use Rattle.avro_schema_json.specs.inside.Probes.{IsRefused, IsProbe, AreProbes, IsProbeOf, IsAt, AddsProbes as Probed}
 use Rattle.avro_schema_json.proofs.BelowSeen.{no_item, same_item}
 use Rattle.avro_schema_json.proofs.MisfitsSeen.{pushed, branch-pass}
 use Rattle.avro_schema_json.proofs.RepeatsSeen.{id_at}

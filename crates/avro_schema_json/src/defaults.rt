@@ -12,6 +12,7 @@ ghost use Rattle.serde_json.specs.Data.{Data};
 ghost use Rattle.serde_json.specs.View.{view, items_view, members_view};
 
 mod array_misfit;
+pub(crate) mod asked_before;
 mod asks;
 mod below;
 mod branch_keys;
@@ -36,7 +37,6 @@ pub(crate) mod probe;
 mod probes;
 mod probing;
 mod record_tables;
-pub(crate) mod seen;
 mod sized;
 mod table_at;
 pub(crate) mod tables;

@@ -25,9 +25,9 @@ IsWanted (Step.Member name) key = key ≡ name.now
 abbrev pub FitsNone : List Node → Data → List ℕ → Type 0
 FitsNone nodes d ids = (i id : ℕ) → slice_get ids i ≡ Some id → own_default nodes d (node_at nodes id) ≡ None
 
--- nothing was taken away from some nodes
-abbrev pub KeepsNone : List Node → List NodeId → List NodeId → Type 0
-KeepsNone nodes old new = (d : Data) → FitsNone nodes d (ids_of new) → FitsNone nodes d (ids_of old)
+-- nodes stay among others: what fits none of these fits none of those
+abbrev pub KeepsAll : List Node → List NodeId → List NodeId → Type 0
+KeepsAll nodes old new = (d : Data) → FitsNone nodes d (ids_of new) → FitsNone nodes d (ids_of old)
 
 -- JSON fits none of some nodes, where its part fits none of those below
 abbrev pub IsBelow : List Node → (Data → Data → Type 0) → List ℕ → List ℕ → Type 0

@@ -42,8 +42,8 @@ IsAt nodes ids d sets e =
     → own_default nodes d (node_at nodes id) ≡ None
 
 -- probes of JSON are so after those of a part that stands at a place are added
-abbrev pub Probes : Places → ℕ → Data → List Probe → List Probe → Type 0
-Probes places at e old new =
+abbrev pub AddsProbes : Places → ℕ → Data → List Probe → List Probe → Type 0
+AddsProbes places at e old new =
     (nodes : List Node) (ids : List ℕ) (d : Data) → ArePlaces nodes ids places
     → ((place : Place) → slice_get places.all.items at ≡ Some place → IsAt nodes ids d place.sets.items e)
     → AreProbes nodes ids d old → AreProbes nodes ids d new

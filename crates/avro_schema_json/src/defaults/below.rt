@@ -1,11 +1,11 @@
-//! The nodes of which a part of JSON is one's, by those of the JSON.
+//! The nodes one of which a part of JSON must fit, by those one of which the JSON must fit.
 
 ghost use Rattle.std.specs.Prelude.{◌≡◌, ℕ, List, None, IsTrue, IfOk, OnOk};
 ghost use Rattle.avro_schema.specs.Node.{Node as SeenNode, node_at};
 ghost use Rattle.avro_schema.specs.Seen.{ids_of};
 ghost use Rattle.avro_schema_json.specs.DeclaredDefaults.{default_of as default_by};
 ghost use Rattle.avro_schema_json.specs.inside.OwnDefaults.{own_default as own_default_by, default_of_fields, all_without_defaults, without_defaults, fields_seen};
-ghost use Rattle.avro_schema_json.specs.inside.Places.{IsPart, IsWanted, FitsNone, KeepsNone, IsBelow, AreBelow};
+ghost use Rattle.avro_schema_json.specs.inside.Places.{IsPart, IsWanted, FitsNone, KeepsAll, IsBelow, AreBelow};
 ghost use Rattle.serde_json.specs.Data.{Data, Members};
 ghost use Rattle.serde_json.specs.Find.{get_member};
 
@@ -17,7 +17,7 @@ use std::alloc::Global;
 
 /// Puts some ids.
 fn put_ids(kept: &mut Vec<NodeId>, ids: &[NodeId]) -> Result<(), Memory>
-    ensures keeps { OnOk result ((nodes : List SeenNode) → KeepsNone nodes kept.old.items kept.new.items) }
+    ensures keeps { OnOk result ((nodes : List SeenNode) → KeepsAll nodes kept.old.items kept.new.items) }
     ensures put { OnOk result ((nodes : List SeenNode) (d : Data) → FitsNone nodes d (ids_of kept.new.items) → FitsNone nodes d (ids_of ids.now)) }
 {
     for i in 0..ids.len() {
@@ -28,7 +28,7 @@ fn put_ids(kept: &mut Vec<NodeId>, ids: &[NodeId]) -> Result<(), Memory>
 
 /// Puts an id.
 fn put_id(kept: &mut Vec<NodeId>, id: NodeId) -> Result<(), Memory>
-    ensures keeps { OnOk result ((nodes : List SeenNode) → KeepsNone nodes kept.old.items kept.new.items) }
+    ensures keeps { OnOk result ((nodes : List SeenNode) → KeepsAll nodes kept.old.items kept.new.items) }
     ensures put { OnOk result ((nodes : List SeenNode) (d : Data) → FitsNone nodes d (ids_of kept.new.items) → own_default_by nodes d (node_at nodes id.0) ≡ None) }
 {
     kept.push(id)?;
@@ -43,7 +43,7 @@ fn put_node(
     id: NodeId,
 ) -> Result<(), Memory>
     requires { without_defaults null.now ≡ SeenNode.null }
-    ensures keeps { OnOk result (KeepsNone (all_without_defaults raws.now) kept.old.items kept.new.items) }
+    ensures keeps { OnOk result (KeepsAll (all_without_defaults raws.now) kept.old.items kept.new.items) }
     ensures put { OnOk result ((d : Data) → FitsNone (all_without_defaults raws.now) d (ids_of kept.new.items)
         → default_by (all_without_defaults raws.now) d (node_at (all_without_defaults raws.now) id.0) ≡ None) }
 {
@@ -74,7 +74,7 @@ fn put_field(
     step: Step,
 ) -> Result<(), Memory>
     requires { without_defaults null.now ≡ SeenNode.null }
-    ensures keeps { OnOk result (KeepsNone (all_without_defaults raws.now) kept.old.items kept.new.items) }
+    ensures keeps { OnOk result (KeepsAll (all_without_defaults raws.now) kept.old.items kept.new.items) }
     ensures put { OnOk result (IsWanted step.entry name.now → (d : Data) → FitsNone (all_without_defaults raws.now) d (ids_of kept.new.items)
         → default_by (all_without_defaults raws.now) d (node_at (all_without_defaults raws.now) id.0) ≡ None) }
 {
@@ -94,7 +94,7 @@ fn put_fields(
     step: Step,
 ) -> Result<(), Memory>
     requires { without_defaults null.now ≡ SeenNode.null }
-    ensures keeps { OnOk result (KeepsNone (all_without_defaults raws.now) kept.old.items kept.new.items) }
+    ensures keeps { OnOk result (KeepsAll (all_without_defaults raws.now) kept.old.items kept.new.items) }
     ensures put { OnOk result ((key : List ℕ) (d : Data) (ms : Members) → IsWanted step.entry key → get_member key ms ≡ Some d
         → FitsNone (all_without_defaults raws.now) d (ids_of kept.new.items) → default_of_fields (all_without_defaults raws.now) ms (fields_seen fields.now) ≡ None) }
 {
@@ -113,7 +113,7 @@ fn put_items(
     step: Step,
 ) -> Result<(), Memory>
     requires { without_defaults null.now ≡ SeenNode.null }
-    ensures keeps { OnOk result (KeepsNone (all_without_defaults raws.now) kept.old.items kept.new.items) }
+    ensures keeps { OnOk result (KeepsAll (all_without_defaults raws.now) kept.old.items kept.new.items) }
     ensures put { OnOk result ((d e : Data) → IsPart step.entry d e → FitsNone (all_without_defaults raws.now) e (ids_of kept.new.items)
         → own_default_by (all_without_defaults raws.now) d (SeenNode.array items.0) ≡ None) }
 {
@@ -133,7 +133,7 @@ fn put_values(
     step: Step,
 ) -> Result<(), Memory>
     requires { without_defaults null.now ≡ SeenNode.null }
-    ensures keeps { OnOk result (KeepsNone (all_without_defaults raws.now) kept.old.items kept.new.items) }
+    ensures keeps { OnOk result (KeepsAll (all_without_defaults raws.now) kept.old.items kept.new.items) }
     ensures put { OnOk result ((d e : Data) → IsPart step.entry d e → FitsNone (all_without_defaults raws.now) e (ids_of kept.new.items)
         → own_default_by (all_without_defaults raws.now) d (SeenNode.map_of values.0) ≡ None) }
 {
@@ -144,7 +144,7 @@ fn put_values(
     }
 }
 
-/// Puts the nodes of which the part that a step goes to is one's, where the JSON is a node's.
+/// Puts the nodes one of which the part that a step goes to must fit, where the JSON is to fit a node.
 fn put_below(
     kept: &mut Vec<NodeId>,
     raws: &[RawNode],
@@ -153,7 +153,7 @@ fn put_below(
     step: Step,
 ) -> Result<(), Memory>
     requires { without_defaults null.now ≡ SeenNode.null }
-    ensures keeps { OnOk result (KeepsNone (all_without_defaults raws.now) kept.old.items kept.new.items) }
+    ensures keeps { OnOk result (KeepsAll (all_without_defaults raws.now) kept.old.items kept.new.items) }
     ensures put { OnOk result ((d e : Data) → IsPart step.entry d e → FitsNone (all_without_defaults raws.now) e (ids_of kept.new.items)
         → own_default_by (all_without_defaults raws.now) d (without_defaults node.now) ≡ None) }
 {
@@ -165,7 +165,7 @@ fn put_below(
     }
 }
 
-/// The nodes of which the part that a step goes to is one's, where the JSON is one of some nodes'.
+/// The nodes one of which the part that a step goes to must fit, where the JSON is to fit one of some nodes.
 fn set_below(
     alloc: Global,
     raws: &[RawNode],

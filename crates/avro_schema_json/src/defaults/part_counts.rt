@@ -1,9 +1,7 @@
 //! Which parts of JSON at a place are worth a place of their own: those that many nodes there have. What is wanted decides
 //! what is looked at, not what is found.
 
-use crate::defaults::counts::count_of_symbols;
 use crate::raw::{RawField, RawNode};
-use crate::raw_nodes::branches;
 use avro_schema::{Memory, NodeId};
 use std::alloc::Global;
 use std::collections::BTreeMap;
@@ -24,13 +22,15 @@ pub(crate) struct Wanted<'a> {
     pub steps: usize,
 }
 
-/// What a part is of: how many nodes have it, how many nodes it is of, with the branches of unions, and how many symbols
-/// these have.
+/// What a part is of.
 #[derive(Clone, Copy, Drop)]
 struct Count {
+    /// How many nodes have it.
     having: usize,
+    /// How many nodes it is of, with the branches of unions.
     nodes: usize,
-    symbols: usize,
+    /// How many symbols and sizes are listed for them, long symbols as several.
+    listed: usize,
 }
 
 impl Count {
@@ -39,33 +39,71 @@ impl Count {
         Count {
             having: 0,
             nodes: 0,
-            symbols: 0,
+            listed: 0,
         }
     }
 
-    /// One more part, of the node of an id.
-    fn and(self, raws: &[RawNode], id: NodeId) -> Count {
-        let (nodes, symbols) = match raws.get(id.0 as usize) {
-            Some(RawNode::Enum(raw)) => (1, raw.node.symbols.len()),
-            Some(raw) => match branches(raw) {
-                Some(ids) => (ids.len(), count_of_symbols(raws, raw)),
-                None => (1, 0),
-            },
-            None => (1, 0),
+    /// One part, of the node of an id.
+    fn of(raws: &[RawNode], id: NodeId) -> Count {
+        let (nodes, listed) = match raws.get(id.0 as usize) {
+            Some(RawNode::Union(ids)) => (ids.len(), listed_of(raws, ids)),
+            _ => (1, listed_at(raws, id)),
         };
         Count {
-            having: self.having.saturating_add(1),
-            nodes: self.nodes.saturating_add(nodes),
-            symbols: self.symbols.saturating_add(symbols),
+            having: 1,
+            nodes,
+            listed,
         }
     }
 
-    /// How many steps it takes to find the place of the part, where so many are taken to look for it.
-    fn steps(self, around: usize) -> usize {
-        let listed = self.symbols.saturating_mul(12);
-        let of_nodes = self.nodes.saturating_mul(7);
-        around.saturating_add(listed).saturating_add(of_nodes)
+    /// Both.
+    fn plus(self, other: Count) -> Count {
+        Count {
+            having: self.having.saturating_add(other.having),
+            nodes: self.nodes.saturating_add(other.nodes),
+            listed: self.listed.saturating_add(other.listed),
+        }
     }
+
+    /// How many steps it takes to find the place of the part, where so many are taken to look for it: one for each
+    /// node and for each of six kinds of JSON, and a dozen for what is listed.
+    fn steps(self, around: usize) -> usize {
+        let listed = self.listed.saturating_mul(12);
+        let nodes = self.nodes.saturating_mul(7);
+        around.saturating_add(listed).saturating_add(nodes)
+    }
+}
+
+/// How many steps a look at a text takes.
+fn weight_of(text: &str) -> usize {
+    1 + text.len() / 16
+}
+
+/// How much is listed for the node of an id.
+fn listed_at(raws: &[RawNode], id: NodeId) -> usize {
+    match raws.get(id.0 as usize) {
+        Some(RawNode::Enum(raw)) => weight_of_all(&raw.node.symbols),
+        Some(RawNode::Fixed(_)) => 1,
+        _ => 0,
+    }
+}
+
+/// How many steps a look at each of some texts takes.
+fn weight_of_all(texts: &[String]) -> usize {
+    let mut weight = 0usize;
+    for text in texts {
+        weight = weight.saturating_add(weight_of(text.as_str()));
+    }
+    weight
+}
+
+/// How much is listed for some nodes.
+fn listed_of(raws: &[RawNode], ids: &[NodeId]) -> usize {
+    let mut listed = 0usize;
+    for id in ids {
+        listed = listed.saturating_add(listed_at(raws, *id));
+    }
+    listed
 }
 
 /// What the parts of JSON at a place are of.
@@ -76,29 +114,71 @@ struct Counts<'a> {
     maps: usize,
     values: Count,
     items: Count,
+    /// How many steps it took to count.
+    steps: usize,
+    /// The most steps: once more are taken, nothing is counted.
+    most: usize,
 }
 
 impl<'a> Counts<'a> {
-    /// Nothing.
-    fn none(alloc: Global) -> Counts<'a> {
+    /// Nothing, and the most steps that may be taken.
+    fn none(alloc: Global, most: usize) -> Counts<'a> {
         Counts {
             members: BTreeMap::new(alloc),
             maps: 0,
             values: Count::none(),
             items: Count::none(),
+            steps: 0,
+            most,
         }
+    }
+
+    /// Whether too many steps were taken.
+    fn is_over(&self) -> bool {
+        self.steps > self.most
+    }
+
+    /// One part, of the node of an id, and so many steps more.
+    fn count(&mut self, raws: &[RawNode], id: NodeId, more: usize) -> Count {
+        let count = Count::of(raws, id);
+        let looked = count.nodes.saturating_add(count.listed);
+        self.steps = self.steps.saturating_add(looked).saturating_add(more);
+        count
     }
 
     /// Counts fields.
     fn add_fields(&mut self, raws: &[RawNode], fields: &'a [RawField<'_>]) -> Result<(), Memory> {
         for field in fields {
+            if self.is_over() {
+                return Ok(());
+            }
             let name = field.name.as_str();
+            let count = self.count(raws, field.node, weight_of(name));
             let before = match self.members.get(name) {
-                Some(count) => *count,
+                Some(before) => *before,
                 None => Count::none(),
             };
-            self.members.insert(name, before.and(raws, field.node))?;
-            self.values = self.values.and(raws, field.node);
+            self.members.insert(name, before.plus(count))?;
+            self.values = self.values.plus(count);
+        }
+        Ok(())
+    }
+
+    /// Counts the parts of a node.
+    fn add_node(&mut self, raws: &'a [RawNode<'a>], id: NodeId) -> Result<(), Memory> {
+        self.steps = self.steps.saturating_add(1);
+        match raws.get(id.0 as usize) {
+            Some(RawNode::Record(record)) => self.add_fields(raws, &record.fields)?,
+            Some(RawNode::Map(values)) => {
+                let count = self.count(raws, *values, 1);
+                self.maps = self.maps.saturating_add(1);
+                self.values = self.values.plus(count);
+            }
+            Some(RawNode::Array(items)) => {
+                let count = self.count(raws, *items, 1);
+                self.items = self.items.plus(count);
+            }
+            _ => {}
         }
         Ok(())
     }
@@ -106,27 +186,13 @@ impl<'a> Counts<'a> {
     /// Counts the parts of nodes.
     fn add_set(&mut self, raws: &'a [RawNode<'a>], set: &[NodeId]) -> Result<(), Memory> {
         for id in set {
-            match raws.get(id.0 as usize) {
-                Some(RawNode::Record(record)) => self.add_fields(raws, &record.fields)?,
-                Some(RawNode::Map(values)) => {
-                    self.maps = self.maps.saturating_add(1);
-                    self.values = self.values.and(raws, *values);
-                }
-                Some(RawNode::Array(items)) => self.items = self.items.and(raws, *items),
-                _ => {}
+            if self.is_over() {
+                return Ok(());
             }
+            self.add_node(raws, *id)?;
         }
         Ok(())
     }
-}
-
-/// How many nodes there are.
-fn count_of_nodes(sets: &[Vec<NodeId>]) -> usize {
-    let mut count = 0usize;
-    for set in sets {
-        count = count.saturating_add(set.len());
-    }
-    count
 }
 
 /// What the parts of JSON at a place are of, by the nodes of its branches.
@@ -134,8 +200,9 @@ fn counts_of<'a>(
     alloc: Global,
     raws: &'a [RawNode<'a>],
     sets: &[Vec<NodeId>],
+    most: usize,
 ) -> Result<Counts<'a>, Memory> {
-    let mut counts = Counts::none(alloc);
+    let mut counts = Counts::none(alloc, most);
     for set in sets {
         counts.add_set(raws, set)?;
     }
@@ -161,32 +228,29 @@ fn names_wanted<'a>(
     Ok((names, most.saturating_sub(left)))
 }
 
-/// The parts of JSON that are wanted at a place, in so many steps.
+/// The parts of JSON that are wanted at a place, in so many steps. None are where these are used up before all are
+/// counted.
 pub(crate) fn parts_wanted<'a>(
     alloc: Global,
     raws: &'a [RawNode<'a>],
     sets: &[Vec<NodeId>],
     most: usize,
 ) -> Result<Wanted<'a>, Memory> {
-    let counts = counts_of(alloc, raws, sets)?;
-    let looked = count_of_nodes(sets).saturating_add(counts.values.having);
-    let around = looked.saturating_add(sets.len().saturating_mul(7));
-    let (names, of_names) = names_wanted(
-        alloc,
-        &counts.members,
-        around,
-        most.saturating_sub(looked),
-    )?;
-    let mut steps = looked.saturating_add(of_names);
-    let of_values = steps.saturating_add(counts.values.steps(around));
-    let values = counts.maps >= FEWEST && of_values <= most;
+    let counts = counts_of(alloc, raws, sets, most)?;
+    let counted = counts.steps;
+    let left = most.saturating_sub(counted);
+    let around = counted.saturating_add(sets.len().saturating_mul(7));
+    let (names, of_names) = names_wanted(alloc, &counts.members, around, left)?;
+    let mut steps = counted.saturating_add(of_names);
+    let with_values = steps.saturating_add(counts.values.steps(around));
+    let values = counts.maps >= FEWEST && with_values <= most;
     if values {
-        steps = of_values;
+        steps = with_values;
     }
-    let of_items = steps.saturating_add(counts.items.steps(around));
-    let items = counts.items.having >= FEWEST && of_items <= most;
+    let with_items = steps.saturating_add(counts.items.steps(around));
+    let items = counts.items.having >= FEWEST && with_items <= most;
     if items {
-        steps = of_items;
+        steps = with_items;
     }
     Ok(Wanted {
         names,

@@ -12,7 +12,7 @@ pub(crate) enum Step<'a> {
     Member(&'a str),
 }
 
-/// What a branch asks of JSON of a kind: what none of these lets pass is no default of the branch.
+/// What the nodes of a branch ask of JSON of a kind at a place: what none of these lets pass fits none of them.
 #[derive(Clone, Copy, Drop)]
 pub(crate) struct Asks {
     /// Any passes.
@@ -30,13 +30,13 @@ pub(crate) struct Asks {
 /// Where JSON may stand below a default of a union, by the steps to it.
 #[derive(Drop)]
 pub(crate) struct Place<'a> {
-    /// For each branch the nodes of which JSON here is one's, where the default is the branch's.
+    /// For each branch the nodes one of which JSON here must fit, where the default is one of the branch.
     pub sets: Vec<Vec<NodeId>>,
     /// For each kind of JSON what each branch asks of it.
     pub asks: Vec<Vec<Asks>>,
-    /// The indices of the branches that are listed for each text: it is a symbol there.
+    /// The indices of the branches that are listed for each text: it is a symbol of one of their nodes.
     pub texts: BTreeMap<&'a str, BTreeSet<usize>>,
-    /// The same for each number of characters: it is the size of a fixed there.
+    /// The same for each number of characters: it is the size of one of their nodes.
     pub sizes: BTreeMap<usize, BTreeSet<usize>>,
 }
 
@@ -51,7 +51,7 @@ pub(crate) struct Links<'a> {
     pub items: Option<usize>,
 }
 
-/// The places below a union, its own first. Those before an index have links.
+/// The places below a union, its own first, and the links of the first ones.
 #[derive(Drop)]
 pub(crate) struct Places<'a> {
     pub all: Vec<Place<'a>>,

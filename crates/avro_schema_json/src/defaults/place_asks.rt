@@ -43,7 +43,7 @@ fn asks_of_kind(node: &RawNode) -> Asks
     asks
 }
 
-/// What a node asks of JSON of a kind. A union as a branch may take any.
+/// What a node asks of JSON of a kind. A union, which is no branch in a schema, lets any pass.
 fn asks_of_node(node: &RawNode, kind: usize) -> Asks
     ensures { (nodes : List SeenNode) → IsOwnAsked nodes kind (without_defaults node.now) result }
 {

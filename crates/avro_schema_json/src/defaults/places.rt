@@ -19,8 +19,11 @@ use avro_schema::{Memory, NodeId};
 use std::alloc::Global;
 use std::collections::BTreeMap;
 
-/// The most places below one union.
+/// The most places below one union whose parts have places.
 const MOST_PLACES: usize = 256;
+
+/// The most steps from a union to a place.
+const DEEPEST: usize = 8;
 
 /// A node by itself.
 fn one_node(alloc: Global, id: NodeId) -> Result<Vec<NodeId>, Memory>
@@ -191,7 +194,7 @@ pub(crate) fn no_places<'a>(alloc: Global) -> Places<'a>
     }
 }
 
-/// The places below a union, those of few steps first, as many as are found in so many steps.
+/// The places below a union, those near it first, as many as are found in so many steps of work.
 fn places_of<'a>(
     alloc: Global,
     raws: &'a [RawNode<'a>],
@@ -205,9 +208,15 @@ fn places_of<'a>(
     let mut all: Vec<Place<'a>> = Vec::new(alloc);
     let mut links: Vec<Links<'a>> = Vec::new(alloc);
     let mut steps = 0usize;
+    let mut depth = 0usize;
+    let mut next = 1usize;
     all.push(root_place(alloc, ids)?)?;
     for from in 0..MOST_PLACES {
-        if from >= all.len() {
+        if from >= next {
+            depth = depth.saturating_add(1);
+            next = all.len();
+        }
+        if from >= all.len() || depth >= DEEPEST || steps >= most {
             break;
         }
         let wanted = parts_wanted(alloc, raws, &all[from].sets, most.saturating_sub(steps))?;

@@ -10,11 +10,11 @@ ghost use Rattle.avro_schema_json.specs.inside.Probes.{IsRefused, IsProbeOf, IsA
 ghost use Rattle.serde_json.specs.Data.{Data};
 ghost use Rattle.serde_json.specs.View.{view};
 
+use crate::defaults::asked_before::AskedBefore;
 use crate::defaults::branch_keys::key_of_kind;
 use crate::defaults::place::{Asks, Place};
 use crate::defaults::plain_defaults::{bytes_of_text, number_default};
 use crate::defaults::probe::Probe;
-use crate::defaults::seen::Seen;
 use crate::defaults::unfit::characters_of;
 use crate::raw::RawNode;
 use avro_schema::Memory;
@@ -42,7 +42,7 @@ fn is_among(listed: Option<&BTreeSet<usize>>, index: usize) -> bool
     }
 }
 
-/// The indices of the branches that are listed for the number of characters of JSON, if it is a text of such a number.
+/// The indices of the branches that are listed for the number of characters of JSON.
 fn sized_for<'a>(place: &'a Place<'_>, tree: &Value) -> Option<&'a BTreeSet<usize>>
     ensures { (text : List ℕ) → view tree.now ≡ Data.string text → option_copied result ≡ branches_of_size place.now.sizes (length (chars text)) }
 {
@@ -95,7 +95,7 @@ fn probe_of<'a>(
 pub(crate) fn add_probe<'a, 'b>(
     alloc: Global,
     probes: &mut Vec<Probe<'a>>,
-    seen: &mut Seen<'b>,
+    seen: &mut AskedBefore<'b>,
     place: &'a Place<'_>,
     tree: &'b Value,
     at: usize,

@@ -3,7 +3,7 @@
 ghost use Rattle.std.specs.Prelude.{◌≡◌, ℕ, List, slice_get, Some, IfOk, OnOk, IfSome};
 ghost use Rattle.avro_schema.specs.Node.{Node as SeenNode};
 ghost use Rattle.avro_schema_json.specs.inside.Asked.{IsLinked, AreLinks};
-ghost use Rattle.avro_schema_json.specs.inside.Probes.{AreProbes, Probes};
+ghost use Rattle.avro_schema_json.specs.inside.Probes.{AreProbes, AddsProbes};
 ghost use Rattle.avro_schema_json.specs.inside.Tables.{IsTable};
 ghost use Rattle.avro_schema_json.specs.declared.defaults.place.Links.{Links as SeenLinks};
 ghost use Rattle.avro_schema_json.specs.declared.defaults.place.Place.{Place as SeenPlace};
@@ -11,10 +11,10 @@ ghost use Rattle.serde_json.specs.Data.{Data};
 ghost use Rattle.serde_json.specs.Find.{get};
 ghost use Rattle.serde_json.specs.View.{view, items_view, members_view};
 
+use crate::defaults::asked_before::AskedBefore;
 use crate::defaults::place::{Links, Places};
 use crate::defaults::probe::Probe;
 use crate::defaults::probes::add_probe;
-use crate::defaults::seen::Seen;
 use crate::defaults::union_table::UnionTable;
 use avro_schema::Memory;
 use serde_json::{Map, Value};
@@ -25,12 +25,12 @@ use std::alloc::Global;
 fn probe_part<'a, 'b>(
     alloc: Global,
     probes: &mut Vec<Probe<'a>>,
-    seen: &mut Seen<'b>,
+    seen: &mut AskedBefore<'b>,
     places: &'a Places<'_>,
     at: usize,
     tree: &'b Value,
 ) -> Result<(), Memory>
-    ensures { OnOk result (Probes places.now at (view tree.now) probes.old.items probes.new.items) }
+    ensures { OnOk result (AddsProbes places.now at (view tree.now) probes.old.items probes.new.items) }
 {
     if at >= places.all.len() {
         return Ok(());
@@ -44,12 +44,12 @@ fn probe_part<'a, 'b>(
 fn probe_below<'a, 'b>(
     alloc: Global,
     probes: &mut Vec<Probe<'a>>,
-    seen: &mut Seen<'b>,
+    seen: &mut AskedBefore<'b>,
     places: &'a Places<'_>,
     at: usize,
     tree: &'b Value,
 ) -> Result<(), Memory>
-    ensures { OnOk result (Probes places.now at (view tree.now) probes.old.items probes.new.items) }
+    ensures { OnOk result (AddsProbes places.now at (view tree.now) probes.old.items probes.new.items) }
 {
     if at >= places.links.len() {
         return Ok(());
@@ -70,13 +70,13 @@ fn probe_below<'a, 'b>(
 fn probe_items<'a, 'b>(
     alloc: Global,
     probes: &mut Vec<Probe<'a>>,
-    seen: &mut Seen<'b>,
+    seen: &mut AskedBefore<'b>,
     places: &'a Places<'_>,
     to: usize,
     items: &'b Vec<Value>,
 ) -> Result<(), Memory>
     ensures { OnOk result ((from : ℕ) (links : SeenLinks) → slice_get places.now.links.items from ≡ Some links → links.items ≡ Some to
-        → Probes places.now from (Data.array (items_view items.now.items)) probes.old.items probes.new.items) }
+        → AddsProbes places.now from (Data.array (items_view items.now.items)) probes.old.items probes.new.items) }
 {
     for item in items {
         probe_part(alloc, probes, seen, places, to, item)?;
@@ -100,13 +100,13 @@ fn place_of_member(links: &Links, name: &str) -> Option<usize>
 fn probe_members<'a, 'b>(
     alloc: Global,
     probes: &mut Vec<Probe<'a>>,
-    seen: &mut Seen<'b>,
+    seen: &mut AskedBefore<'b>,
     places: &'a Places<'_>,
     links: &Links,
     members: &'b Map<String, Value>,
 ) -> Result<(), Memory>
     ensures { OnOk result ((from : ℕ) → slice_get places.now.links.items from ≡ Some links.now
-        → Probes places.now from (Data.object (members_view members.now.entries)) probes.old.items probes.new.items) }
+        → AddsProbes places.now from (Data.object (members_view members.now.entries)) probes.old.items probes.new.items) }
 {
     for (key, _) in members.iter() {
         let name = key.as_str();
@@ -130,7 +130,7 @@ pub(crate) fn probes_of<'a>(
     ensures { IfOk result (λ probes. (nodes : List SeenNode) (ids : List ℕ) → IsTable nodes ids table.now → AreProbes nodes ids (view tree.now) probes.items) }
 {
     let mut probes: Vec<Probe<'a>> = Vec::new(alloc);
-    let mut seen = Seen::nothing(alloc);
+    let mut seen = AskedBefore::nothing(alloc);
     probe_below(alloc, &mut probes, &mut seen, &table.places, 0, tree)?;
     Ok(probes)
 }

@@ -207,7 +207,7 @@ fn steps_of(table: &UnionTable) -> usize {
 
 /// A table for each union among the nodes. Those of the later ones have no symbols once a million are kept, and
 /// no parts once a million are, nor has one of more than 100,000: an enum or a record of many may be a branch of
-/// many unions. Places take at most 4 million steps in all, and half of them for one union.
+/// many unions. It takes at most some 4 million steps to find all places, and half of them for one union.
 pub(crate) fn tables_of<'a>(
     alloc: Global,
     raws: &'a [RawNode<'a>],

@@ -8,7 +8,7 @@ use Rattle.serde_json.specs.View.{view, items_view, members_view}
 use Rattle.serde_json.specs.declared.value.Value.{Value as Tree}
 use Rattle.serde_json.proofs.Views.{view-lookup, view-Array, view-Object}
 use Rattle.avro_schema_json.specs.declared.defaults.place.Links.{Links}
-use Rattle.avro_schema_json.specs.inside.Probes.{Probes}
+use Rattle.avro_schema_json.specs.inside.Probes.{AddsProbes}
 use Rattle.avro_schema_json.proofs.MisfitsSeen.{item-at}
 use Rattle.avro_schema_json.proofs.ProbesSeen.{probed_next, item_linked, member_linked}
 use Rattle.avro_schema_json.proofs.RawSeen.{at_index}
@@ -25,9 +25,9 @@ probe_below-returns-in-Some t c =
     let there = at_index places.links.items c.args.at links (omega (arith, c.if-at-len.false, c.len.ensures, counted)) c.index-links.ensures in
     let is : Data.array items ≡ view c.args.tree.now = sym (ap view c.in-Array.is ∙ view-Array c.in-Array.items) in
     IfOk-weaker c.probe_items.result
-    (λ _. (from : ℕ) (of_place : Links) → slice_get places.links.items from ≡ Some of_place → of_place.items ≡ Some c.in-Some.to → Probes places from (Data.array items) old new)
-    (λ _. Probes places c.args.at (view c.args.tree.now) old new)
-    (λ done h. subst (λ (e : Data). Probes places c.args.at e old new) is (h c.args.at links there c.in-Some.is)) c.probe_items.ensures
+    (λ _. (from : ℕ) (of_place : Links) → slice_get places.links.items from ≡ Some of_place → of_place.items ≡ Some c.in-Some.to → AddsProbes places from (Data.array items) old new)
+    (λ _. AddsProbes places c.args.at (view c.args.tree.now) old new)
+    (λ done h. subst (λ (e : Data). AddsProbes places c.args.at e old new) is (h c.args.at links there c.in-Some.is)) c.probe_items.ensures
 
 pub probe_below-returns-in-Object : goal.probe_below-returns-in-Object
 probe_below-returns-in-Object t c =
@@ -40,9 +40,9 @@ probe_below-returns-in-Object t c =
     let there = at_index places.links.items c.args.at links (omega (arith, c.if-at-len.false, c.len.ensures, counted)) c.index-links.ensures in
     let is : Data.object members ≡ view c.args.tree.now = sym (ap view c.in-Object.is ∙ view-Object c.in-Object.members) in
     IfOk-weaker c.probe_members.result
-    (λ _. (from : ℕ) → slice_get places.links.items from ≡ Some links → Probes places from (Data.object members) old new)
-    (λ _. Probes places c.args.at (view c.args.tree.now) old new)
-    (λ done h. subst (λ (e : Data). Probes places c.args.at e old new) is (h c.args.at there)) c.probe_members.ensures
+    (λ _. (from : ℕ) → slice_get places.links.items from ≡ Some links → AddsProbes places from (Data.object members) old new)
+    (λ _. AddsProbes places c.args.at (view c.args.tree.now) old new)
+    (λ done h. subst (λ (e : Data). AddsProbes places c.args.at e old new) is (h c.args.at there)) c.probe_members.ensures
 
 pub probe_part-returns : goal.probe_part-returns
 probe_part-returns t c =
@@ -55,7 +55,7 @@ probe_part-returns t c =
     let place = c.index.result.now in
     let counted : vec_len places.all ≡ length places.all.items = search rules in
     let there = at_index places.all.items at place (omega (arith, c.if-at-len.false, c.len.ensures, counted)) c.index.ensures in
-    IfOk-weaker c.probe_below.result (λ _. Probes places at e mid new) (λ _. Probes places at e old new)
+    IfOk-weaker c.probe_below.result (λ _. AddsProbes places at e mid new) (λ _. AddsProbes places at e old new)
     (λ done h. λ nodes ids d good stands before.
     h nodes ids d good stands (c.in_ok-add_probe.ensures nodes ids d (good.0 at place there) (stands place there) before)) c.probe_below.ensures
 

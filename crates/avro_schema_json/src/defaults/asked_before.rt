@@ -8,17 +8,17 @@ use std::collections::BTreeSet;
 
 /// What was asked of JSON at places, so that the same is asked once.
 #[derive(Drop)]
-pub(crate) struct Seen<'a> {
+pub(crate) struct AskedBefore<'a> {
     /// The texts that are listed, each at a place.
     texts: BTreeSet<(usize, &'a str)>,
     /// What tells other JSON apart: its place, its kind, and what a branch may ask of it.
     others: BTreeSet<(usize, usize, usize)>,
 }
 
-impl<'a> Seen<'a> {
+impl<'a> AskedBefore<'a> {
     /// Nothing.
-    pub(crate) fn nothing(alloc: Global) -> Seen<'a> {
-        Seen {
+    pub(crate) fn nothing(alloc: Global) -> AskedBefore<'a> {
+        AskedBefore {
             texts: BTreeSet::new(alloc),
             others: BTreeSet::new(alloc),
         }
