@@ -402,6 +402,8 @@ PAIRS = {
     "pair: spoiled": (spoiled_pair, 4),
 }
 KINDS = {**TEXTS, **PAIRS}
+# The texts whose defaults are written, as those of a record that the writer has without fields.
+WRITTEN = "text: records of parts"
 # The command that makes a certificate.
 CERTIFIED = "judge --certificate"
 
@@ -412,6 +414,10 @@ def case(choose, kind):
     if kind in TEXTS:
         words = ["schema", "schema.avsc"]
         commands = [("schema", words), ("schema --canonical", [*words, "--canonical"]), ("schema --fingerprint", [*words, "--fingerprint"])]
+        if kind == WRITTEN:
+            commands.append(("copy --reader", ["copy", "in.avro", "out.avro", "--reader", "schema.avsc"]))
+            commands.append(("show --reader", ["show", "in.avro", "--reader", "schema.avsc"]))
+            return {"schema.avsc": made, "in.avro": file_of_one()}, commands
         return {"schema.avsc": made}, commands
     words = ["writer.avsc", "reader.avsc"]
     commands = [
@@ -425,6 +431,12 @@ def case(choose, kind):
     if choose.randrange(4) == 0:
         commands.append(("history", ["history", *words, "writer.avsc", "reader.avsc", "--certificates", "out.cert"]))
     return {"writer.avsc": made[0], "reader.avsc": made[1], "any.cert": any_certificate(choose)}, commands
+
+
+def file_of_one():
+    """A container file of one record without fields."""
+    text = b'{"type":"record","name":"Root","fields":[]}'
+    return b"Obj\x01\x02\x16avro.schema" + bytes([2 * len(text)]) + text + b"\x00" + b"s" * 16 + b"\x02\x00" + b"s" * 16
 
 
 def any_certificate(choose):
