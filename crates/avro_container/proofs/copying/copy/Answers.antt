@@ -1,7 +1,8 @@
 -- Each step goes on from the run of those before it.
-use Rattle.std.proofs.Common.{◌≤◌, Ok, subst, ◌∙◌, refl}
+use Rattle.std.proofs.Common.{◌≤◌, Ok, Err, inl, inr, ap, subst, sym, ◌∙◌, refl}
 use Rattle.std.proofs.lemmas.Result.{err_from_is_err_and}
 use Rattle.avro_container.specs.Copying.{IfBlock}
+use Rattle.avro_container.proofs.Heads.{err_inj}
 use Rattle.avro_container.proofs.CopySteps.{HasRun-begin, HasRun-header, HasRun-block, HasRun-end, HasRun-refused, HasRun-fault, CopiesFront-whole}
 use Rattle.avro_container.proofs.copying.copy.Goals as goal
 
@@ -55,3 +56,12 @@ returns-in_err-step-clause-fault g c =
     rw (p.1, p.2) (λ f is_fault.
     HasRun-fault g.I.Input.gives g.O.Output.keeps g.met.I.Input.chain g.met.O.Output.chain _ _ _ _ _ _ _ _ _ _ c.step.new.self _ _ _ f
     c.loop-copier.invariant.0 c.in_err-step.ensures.moves is_fault)
+
+pub returns-in_err-step-clause-output_fails : goal.returns-in_err-step-clause-output_fails
+returns-in_err-step-clause-output_fails g c =
+    let p = err_from_is_err_and c.from_residual.result c.from_residual.ensures.1 in
+    rw (p.1, p.2) (λ failed.
+    elim (c.in_err-step.ensures.output_fails (ap Err (err_inj _ _ _ failed))) [
+      | inl more ↦ inl (λ same. more (same ∙ sym c.loop-copier.invariant.2))
+      | inr stuck ↦ inr stuck
+    ])
