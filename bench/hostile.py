@@ -314,6 +314,8 @@ def long_array(count):
 
 def wide_below(size):
     """A union of records of one field, all of a record of 20 fields of a record of very many, and an object that fits the last branch."""
+    # A schema has 4,096 nodes at most, and each field of int is one.
+    size = min(size, 131_072)
     def text(count):
         inner = {"type": "record", "name": "L", "fields": [{"name": "f%d" % k, "type": "int"} for k in range(count)]}
         middle = {"type": "record", "name": "M", "fields": [{"name": "m%d" % k, "type": "L" if k else inner} for k in range(20)]}
@@ -334,9 +336,9 @@ def recursive(count):
         default = "null"
         for _ in range(100):
             default = '{"n":' + default + "}"
-        items = (size - 100_000) // (len(default) + 1)
         field = {"name": "f", "type": {"type": "array", "items": records}, "default": 0}
         schema = written({"type": "record", "name": "R", "fields": [field]})
+        items = max(1, (size - len(schema) - 2) // (len(default) + 1))
         return schema.replace('"default":0', '"default":[' + ",".join([default] * items) + "]")
     return text
 
