@@ -6,7 +6,7 @@ ghost use Rattle.avro_schema.specs.Seen.{value_of, values_of, entries_of, ids_of
 ghost use Rattle.avro_schema.specs.Value.{Value as SeenValue};
 ghost use Rattle.avro_schema_json.specs.DeclaredDefaults.{default_of as default_by, each_default, entries_default as each_entry, default_under, fields_default as each_field, object_default as default_of_object, items_default as default_of_items, member_keys, first_fit};
 ghost use Rattle.avro_schema_json.specs.inside.Tables.{IsTable, AreTables};
-ghost use Rattle.avro_schema_json.specs.inside.Misfits.{IsKnown};
+ghost use Rattle.avro_schema_json.specs.inside.Misfits.{IsKnown, AreItemsRead};
 ghost use Rattle.avro_schema_json.specs.inside.OwnDefaults.{own_default as own_default_by, default_of_fields, without_defaults, all_without_defaults, fields_seen};
 ghost use Rattle.serde_json.specs.Data.{Data};
 ghost use Rattle.serde_json.specs.View.{view, items_view, members_view};
@@ -14,6 +14,7 @@ ghost use Rattle.serde_json.specs.View.{view, items_view, members_view};
 mod array_misfit;
 pub(crate) mod asked_before;
 mod asks;
+mod before;
 mod below;
 mod branch_keys;
 mod counts;
@@ -23,6 +24,7 @@ mod flat;
 pub(crate) mod gathered;
 mod known;
 mod listed;
+pub(crate) mod merges;
 mod misfit;
 mod misfits;
 mod object_misfit;
@@ -37,6 +39,7 @@ pub(crate) mod probe;
 mod probes;
 mod probing;
 mod record_tables;
+mod same;
 mod sized;
 mod table_at;
 pub(crate) mod tables;
@@ -44,12 +47,14 @@ mod unfit;
 pub(crate) mod union_table;
 
 use crate::defaults::asks::repeated_ids;
+use crate::defaults::before::value_before;
 use crate::defaults::fields::names_fields;
 use crate::defaults::first_branches::first_branch;
 use crate::defaults::gathered::Gathered;
 use crate::defaults::known::{
     has, misfits_at, next_index, nothing_gathered, part_of_array, part_of_object,
 };
+use crate::defaults::merges::Merges;
 use crate::defaults::misfits::gather;
 use crate::defaults::plain_defaults::{
     boolean_default, null_default, number_default, text_default,
@@ -106,12 +111,22 @@ fn known_default(
         Some(ids) => {
             let nothing = no_table(alloc);
             let table = table_at(raws, &*tables, &nothing, id, ids);
-            let repeated = repeated_ids(alloc, raws, table, tree, ids)?;
-            if known != 0 || repeated.len() < 2 {
+            let repeated = repeated_ids(alloc, raws, table, tree, ids, known)?;
+            if repeated.len() < 2 {
                 return branch_default(alloc, raws, tables, table, &null, tree, ids, all, known);
             }
             let mut gathered = nothing_gathered(alloc)?;
-            let known = gather(alloc, raws, tables, tree, &repeated, &mut gathered)?;
+            let mut merges = Merges::none(alloc);
+            let known = gather(
+                alloc,
+                raws,
+                &null,
+                tables,
+                tree,
+                &repeated,
+                &mut merges,
+                &mut gathered,
+            )?;
             branch_default(
                 alloc, raws, tables, table, &null, tree, ids, &gathered, known,
             )
@@ -266,13 +281,38 @@ fn item_defaults(
     let mut index = 0usize;
     for item in items {
         let part = part_of_array(raws, items, item, all, known, index);
-        let Some(value) = known_default(alloc, raws, tables, item, id, all, part)? else {
+        let Some(value) = item_default(alloc, raws, tables, items, &values, item, id, all, part)?
+        else {
             return Ok(None);
         };
         values.push(value)?;
         index = next_index(index)?;
     }
     Ok(Some(values))
+}
+
+/// The default that the item after some gives, which is that of the last of them if it is the same.
+#[cycle(defaults)]
+fn item_default(
+    alloc: Global,
+    raws: &[RawNode],
+    tables: &[UnionTable],
+    items: &[Value],
+    values: &[Datum],
+    item: &Value,
+    id: NodeId,
+    all: &[Gathered],
+    known: usize,
+) -> Result<Option<Datum>, Memory>
+    requires tables { AreTables (all_without_defaults raws.now) tables.now }
+    requires known { IsKnown (all_without_defaults raws.now) all.now (view item.now) known }
+    requires values { AreItemsRead (all_without_defaults raws.now) (node_at (all_without_defaults raws.now) id.0) (items_view items.now) values.now }
+    ensures { IfOk result (λ datum. option_map value_of datum ≡ default_by (all_without_defaults raws.now) (view item.now) (node_at (all_without_defaults raws.now) id.0)) }
+{
+    match value_before(items, values, item)? {
+        Some(value) => Ok(Some(value)),
+        None => known_default(alloc, raws, tables, item, id, all, known),
+    }
 }
 
 /// The default that an object gives.

@@ -5,6 +5,8 @@ use Rattle.std.specs.BTreeMap.{BTreeMap}
 use Rattle.std.specs.BTreeSet.{BTreeSet, contains}
 use denote.Ref.{Bor}
 use Rattle.avro_schema.specs.Node.{Node, node_at}
+use Rattle.avro_schema.specs.Seen.{value_of}
+use Rattle.avro_schema.specs.declared.datum.Datum.{Datum}
 use Rattle.serde_json.specs.Data.{Data, Items, Members}
 use Rattle.serde_json.specs.Find.{at, get, get_item, get_member}
 use Rattle.avro_schema_json.specs.DeclaredDefaults.{default_of}
@@ -34,6 +36,10 @@ Grows before after = (i : ℕ) (g : Gathered) → slice_get before i ≡ Some g 
 -- what is known of items, and of members
 abbrev pub AreItemsKnown : List Node → List Gathered → Items → List ℕ → Type 0
 AreItemsKnown nodes all ds parts = (j : ℕ) (e : Data) (p : ℕ) → get_item j ds ≡ Some e → slice_get parts j ≡ Some p → IsKnown nodes all e p
+
+-- the data that are read of the first items
+abbrev pub AreItemsRead : List Node → Node → Items → List Datum → Type 0
+AreItemsRead nodes n ds values = (j : ℕ) (e : Data) (d : Datum) → get_item j ds ≡ Some e → slice_get values j ≡ Some d → Some (value_of d) ≡ default_of nodes e n
 
 abbrev pub AreMembersKnown : List Node → List Gathered → Members → BTreeMap (Bor (List ℕ)) ℕ → Type 0
 AreMembersKnown nodes all ms parts = (key : List ℕ) (e : Data) (p : ℕ) → get_member key ms ≡ Some e → find_word parts key ≡ Some p → IsKnown nodes all e p

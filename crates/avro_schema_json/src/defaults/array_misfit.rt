@@ -10,7 +10,7 @@ ghost use Rattle.serde_json.specs.Data.{Data};
 ghost use Rattle.serde_json.specs.View.{items_view};
 
 use crate::defaults::gathered::Gathered;
-use crate::defaults::known::{item_part, misfits_at, next_index};
+use crate::defaults::known::{item_part, left_at, misfits_at, next_index};
 use crate::defaults::misfit::is_misfit;
 use crate::defaults::union_table::UnionTable;
 use crate::raw::RawNode;
@@ -62,8 +62,10 @@ fn is_one_misfit(
     let nothing: BTreeSet<u32> = BTreeSet::new(alloc);
     let mut index = 0usize;
     for item in items {
-        let known = misfits_at(&*all, &nothing, item_part(parts, index));
-        if is_misfit(alloc, raws, tables, item, known, id)? {
+        let part = item_part(parts, index);
+        let known = misfits_at(&*all, &nothing, part);
+        let left = left_at(&*all, part);
+        if is_misfit(alloc, raws, tables, item, known, left, id)? {
             return Ok(true);
         }
         index = next_index(index)?;

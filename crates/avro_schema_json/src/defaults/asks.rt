@@ -1,8 +1,13 @@
 //! Which nodes the parts of a JSON value are asked about. What is asked decides what is looked at,
 //! not what is found: a node that is not asked about is tried when its turn comes.
 
+ghost use Rattle.std.specs.Prelude.{◌≡◌};
+ghost use Rattle.avro_schema.specs.Node.{Node as SeenNode};
+ghost use Rattle.avro_schema_json.specs.inside.OwnDefaults.{without_defaults};
+
 use crate::defaults::first_branches::first_branch;
 use crate::defaults::flat::{has_parts, is_flat};
+use crate::defaults::merges::Merges;
 use crate::defaults::object_misfit::lacks_field;
 use crate::defaults::probe::Probe;
 use crate::defaults::probes::is_refused;
@@ -17,41 +22,30 @@ use std::collections::{BTreeMap, BTreeSet};
 
 /// Nodes that a value is asked about, each once.
 #[derive(Drop)]
-pub(crate) struct Asked {
-    pub ids: Vec<NodeId>,
+struct Own {
+    ids: Vec<NodeId>,
     known: BTreeSet<u32>,
 }
 
-impl Asked {
+impl Own {
     /// No nodes.
-    fn new(alloc: Global) -> Asked {
-        Asked {
+    fn none(alloc: Global) -> Own {
+        Own {
             ids: Vec::new(alloc),
             known: BTreeSet::new(alloc),
         }
     }
 
-    /// Asks about one more node.
-    fn add(&mut self, id: NodeId) -> Result<(), Memory> {
-        if self.known.contains(&id.0) {
-            return Ok(());
-        }
-        self.known.insert(id.0)?;
-        self.ids.push(id)?;
-        Ok(())
-    }
-
-    /// Asks about one more node, if JSON is looked into for it.
-    fn add_if_entered(&mut self, raws: &[RawNode], tree: &Value, id: NodeId) -> Result<(), Memory> {
-        if may_enter(raws, tree, id) {
-            self.add(id)?;
+    /// Adds a node, if JSON is looked into for it.
+    fn add(&mut self, raws: &[RawNode], tree: &Value, id: NodeId) -> Result<(), Memory> {
+        if may_enter(raws, tree, id) && self.known.insert(id.0)? {
+            self.ids.push(id)?;
         }
         Ok(())
     }
 
-    /// Asks about those of more nodes, from an index on, for which JSON is looked into, and which its members
-    /// don't refuse.
-    fn add_entered(
+    /// Adds those of more nodes, from an index on, for which JSON is looked into, and which its parts don't refuse.
+    fn add_all(
         &mut self,
         raws: &[RawNode],
         tree: &Value,
@@ -61,43 +55,62 @@ impl Asked {
     ) -> Result<(), Memory> {
         for i in start..ids.len() {
             if !is_refused(probes, i) {
-                self.add_if_entered(raws, tree, ids[i])?;
+                self.add(raws, tree, ids[i])?;
             }
-        }
-        Ok(())
-    }
-
-    /// Asks about more nodes.
-    fn add_all(&mut self, ids: &[NodeId]) -> Result<(), Memory> {
-        for id in ids {
-            self.add(*id)?;
         }
         Ok(())
     }
 }
 
-/// The branches for which JSON is looked into, from the one where its table begins: where they are two or more,
-/// what one finds may be looked at again for another. There are none where no part has parts of its own: each
-/// branch is tried in place then, which costs no more than its parts.
-pub(crate) fn repeated_ids(
+/// Asks about one more node, unless it is the last that was asked about.
+fn ask(asked: &mut Vec<NodeId>, id: NodeId) -> Result<(), Memory> {
+    match asked.last() {
+        Some(last) => {
+            if last.0 == id.0 {
+                return Ok(());
+            }
+        }
+        None => {}
+    }
+    asked.push(id)?;
+    Ok(())
+}
+
+/// The branches for which JSON is looked into, from the one where their table begins, without those that its parts
+/// refuse.
+fn entered(
     alloc: Global,
     raws: &[RawNode],
     table: &UnionTable,
     tree: &Value,
     ids: &[NodeId],
 ) -> Result<Vec<NodeId>, Memory> {
-    let mut repeated: Vec<NodeId> = Vec::new(alloc);
-    if is_flat(tree) {
-        return Ok(repeated);
-    }
+    let mut entered: Vec<NodeId> = Vec::new(alloc);
     let start = first_branch(table, tree, characters_of(tree))?;
     let probes = probes_of(alloc, table, tree)?;
     for i in start..ids.len() {
         if !is_refused(&probes, i) && may_enter(raws, tree, ids[i]) {
-            repeated.push(ids[i])?;
+            entered.push(ids[i])?;
         }
     }
-    Ok(repeated)
+    Ok(entered)
+}
+
+/// The branches for which JSON is looked into: where they are two or more, what one finds may be looked at again for
+/// another. There are none where something is known of the JSON, nor where no part has parts of its own: each branch
+/// is tried in place then, which costs no more than its parts.
+pub(crate) fn repeated_ids(
+    alloc: Global,
+    raws: &[RawNode],
+    table: &UnionTable,
+    tree: &Value,
+    ids: &[NodeId],
+    known: usize,
+) -> Result<Vec<NodeId>, Memory> {
+    if known != 0 || is_flat(tree) {
+        return Ok(Vec::new(alloc));
+    }
+    entered(alloc, raws, table, tree, ids)
 }
 
 /// Where in a union the branches that JSON may fit begin.
@@ -133,25 +146,43 @@ fn may_enter(raws: &[RawNode], tree: &Value, id: NodeId) -> bool {
 }
 
 /// The nodes that are asked about, a union by its branches, for which JSON is looked into.
-pub(crate) fn own_ids(
+fn own_of_each(
     alloc: Global,
     raws: &[RawNode],
     tables: &[UnionTable],
     tree: &Value,
     asked: &[NodeId],
 ) -> Result<Vec<NodeId>, Memory> {
-    let mut own = Asked::new(alloc);
+    let mut own = Own::none(alloc);
     for id in asked {
         match raws.get(id.0 as usize) {
             Some(RawNode::Union(branches)) => {
                 let start = start_of(tables, tree, *id)?;
                 let probes = probes_at(alloc, tables, tree, *id)?;
-                own.add_entered(raws, tree, branches, start, &probes)?;
+                own.add_all(raws, tree, branches, start, &probes)?;
             }
-            _ => own.add_if_entered(raws, tree, *id)?,
+            _ => own.add(raws, tree, *id)?,
         }
     }
     Ok(own.ids)
+}
+
+/// The same, by what is merged where so many are asked about so often.
+pub(crate) fn own_ids<'a>(
+    alloc: Global,
+    raws: &'a [RawNode<'a>],
+    null: &'a RawNode<'a>,
+    tables: &[UnionTable],
+    tree: &Value,
+    asked: &[NodeId],
+    merges: &mut Merges<'a>,
+) -> Result<Vec<NodeId>, Memory>
+    requires { without_defaults null.now ≡ SeenNode.null }
+{
+    match merges.find(alloc, raws, null, asked)? {
+        Some(merged) => entered(alloc, raws, &merged.table, tree, &merged.ids),
+        None => own_of_each(alloc, raws, tables, tree, asked),
+    }
 }
 
 /// The nodes that arrays ask their items about.
@@ -160,26 +191,26 @@ pub(crate) fn asked_items(
     raws: &[RawNode],
     own: &[NodeId],
 ) -> Result<Vec<NodeId>, Memory> {
-    let mut asked = Asked::new(alloc);
+    let mut asked: Vec<NodeId> = Vec::new(alloc);
     for id in own {
         match raws.get(id.0 as usize) {
-            Some(RawNode::Array(items)) => asked.add(*items)?,
+            Some(RawNode::Array(items)) => ask(&mut asked, *items)?,
             _ => {}
         }
     }
-    Ok(asked.ids)
+    Ok(asked)
 }
 
 /// The nodes that maps ask their values about.
 fn asked_values(alloc: Global, raws: &[RawNode], own: &[NodeId]) -> Result<Vec<NodeId>, Memory> {
-    let mut asked = Asked::new(alloc);
+    let mut asked: Vec<NodeId> = Vec::new(alloc);
     for id in own {
         match raws.get(id.0 as usize) {
-            Some(RawNode::Map(values)) => asked.add(*values)?,
+            Some(RawNode::Map(values)) => ask(&mut asked, *values)?,
             _ => {}
         }
     }
-    Ok(asked.ids)
+    Ok(asked)
 }
 
 /// What is asked of each member that has parts: by maps, and by records that have a field of each key and no other.
@@ -188,7 +219,7 @@ pub(crate) fn asked_members<'a>(
     raws: &[RawNode],
     members: &'a Map<String, Value>,
     own: &[NodeId],
-) -> Result<BTreeMap<&'a str, Asked>, Memory> {
+) -> Result<BTreeMap<&'a str, Vec<NodeId>>, Memory> {
     let values = asked_values(alloc, raws, own)?;
     let mut asked = asked_of_each(alloc, members, &values)?;
     for id in own {
@@ -204,28 +235,35 @@ pub(crate) fn asked_members<'a>(
     Ok(asked)
 }
 
+/// The same ids again.
+fn copy_of_ids(alloc: Global, ids: &[NodeId]) -> Result<Vec<NodeId>, Memory> {
+    let mut copy: Vec<NodeId> = Vec::new(alloc);
+    for id in ids {
+        copy.push(*id)?;
+    }
+    Ok(copy)
+}
+
 /// The same nodes for each member that has parts.
 fn asked_of_each<'a>(
     alloc: Global,
     members: &'a Map<String, Value>,
     values: &[NodeId],
-) -> Result<BTreeMap<&'a str, Asked>, Memory> {
-    let mut asked: BTreeMap<&'a str, Asked> = BTreeMap::new(alloc);
+) -> Result<BTreeMap<&'a str, Vec<NodeId>>, Memory> {
+    let mut asked: BTreeMap<&'a str, Vec<NodeId>> = BTreeMap::new(alloc);
     for (key, tree) in members.iter() {
         if has_parts(tree) {
-            let mut of_member = Asked::new(alloc);
-            of_member.add_all(values)?;
-            asked.insert(key.as_str(), of_member)?;
+            asked.insert(key.as_str(), copy_of_ids(alloc, values)?)?;
         }
     }
     Ok(asked)
 }
 
 /// Asks of the member of each field what the field asks.
-fn ask_fields(asked: &mut BTreeMap<&str, Asked>, fields: &[RawField]) -> Result<(), Memory> {
+fn ask_fields(asked: &mut BTreeMap<&str, Vec<NodeId>>, fields: &[RawField]) -> Result<(), Memory> {
     for field in fields {
         match asked.get_mut(field.name.as_str()) {
-            Some(of_member) => of_member.add(field.node)?,
+            Some(of_member) => ask(of_member, field.node)?,
             None => {}
         }
     }

@@ -50,6 +50,14 @@ pub(crate) fn misfits_at<'a>(
     }
 }
 
+/// A few nodes that JSON is not known not to be a default of, at an index.
+pub(crate) fn left_at<'a>(all: &'a [Gathered<'_>], known: usize) -> &'a [NodeId] {
+    match gathered_at(all, known) {
+        Some(gathered) => &gathered.left,
+        None => &[],
+    }
+}
+
 /// Where what is known of an item stands.
 pub(crate) fn item_part(parts: &[usize], index: usize) -> usize
     ensures { (nodes : List SeenNode) (all : List SeenGathered) (ds : Items) (e : Data)
@@ -115,6 +123,7 @@ pub(crate) fn nothing_gathered<'a>(alloc: Global) -> Result<Vec<Gathered<'a>>, M
     let mut all: Vec<Gathered<'a>> = Vec::new(alloc);
     all.push(Gathered {
         misfits: BTreeSet::new(alloc),
+        left: Vec::new(alloc),
         items: Vec::new(alloc),
         members: BTreeMap::new(alloc),
     })?;
@@ -126,6 +135,7 @@ pub(crate) fn keep_array<'a>(
     alloc: Global,
     all: &mut Vec<Gathered<'a>>,
     misfits: BTreeSet<u32>,
+    left: Vec<NodeId>,
     items: Vec<usize>,
 ) -> Result<usize, Memory>
     ensures grown { IfOk result (λ known. Grows all.old.items all.new.items) }
@@ -135,6 +145,7 @@ pub(crate) fn keep_array<'a>(
     let known = all.len();
     all.push(Gathered {
         misfits,
+        left,
         items,
         members: BTreeMap::new(alloc),
     })?;
@@ -146,6 +157,7 @@ pub(crate) fn keep_object<'a>(
     alloc: Global,
     all: &mut Vec<Gathered<'a>>,
     misfits: BTreeSet<u32>,
+    left: Vec<NodeId>,
     members: BTreeMap<&'a str, usize>,
 ) -> Result<usize, Memory>
     ensures grown { IfOk result (λ known. Grows all.old.items all.new.items) }
@@ -155,6 +167,7 @@ pub(crate) fn keep_object<'a>(
     let known = all.len();
     all.push(Gathered {
         misfits,
+        left,
         items: Vec::new(alloc),
         members,
     })?;

@@ -25,14 +25,15 @@ use serde_json::Value;
 use std::alloc::Global;
 use std::collections::BTreeSet;
 
-/// Whether JSON is not a default of the node of an id, by what is known of it. Where this is
-/// false, the JSON may still not be one.
+/// Whether JSON is not a default of the node of an id, by what is known of it, and by a few nodes that are left. Where
+/// this is false, the JSON may still not be one.
 pub(crate) fn is_misfit(
     alloc: Global,
     raws: &[RawNode],
     tables: &[UnionTable],
     tree: &Value,
     known: &BTreeSet<u32>,
+    left: &[NodeId],
     id: NodeId,
 ) -> Result<bool, Memory>
     requires tables { AreTables (all_without_defaults raws.now) tables.now }
@@ -43,11 +44,34 @@ pub(crate) fn is_misfit(
     match branches(raw_at(&*raws, &null, id)) {
         None => is_own_misfit(alloc, raws, &null, tree, characters_of(tree), known, id),
         Some(ids) => {
+            if begin_with_one_of(ids, left) {
+                return Ok(false);
+            }
             let nothing = no_table(alloc);
             let table = table_at(raws, tables, &nothing, id, ids);
             fits_no_branch(alloc, raws, table, &null, tree, known, ids)
         }
     }
+}
+
+/// Whether an id is among a few.
+fn is_one_of(id: NodeId, few: &[NodeId]) -> bool {
+    for other in few {
+        if other.0 == id.0 {
+            return true;
+        }
+    }
+    false
+}
+
+/// Whether one of the first branches is one of a few nodes.
+fn begin_with_one_of(ids: &[NodeId], few: &[NodeId]) -> bool {
+    for i in 0..ids.len().min(16) {
+        if is_one_of(ids[i], few) {
+            return true;
+        }
+    }
+    false
 }
 
 /// Whether JSON is a default of none of some branches. The table tells where to begin.

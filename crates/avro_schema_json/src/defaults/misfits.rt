@@ -2,17 +2,20 @@
 //! that it is asked about; nothing is kept for one without parts.
 
 ghost use Rattle.std.specs.Prelude.{◌≡◌, ◌⊎◌, ℕ, true, IfOk, OnOk};
+ghost use Rattle.avro_schema.specs.Node.{Node as SeenNode};
 ghost use Rattle.avro_schema_json.specs.inside.Tables.{AreTables};
 ghost use Rattle.avro_schema_json.specs.inside.Misfits.{has_id, AreMisfits, IsKnown, Grows, AreItemsKnown, AreMembersKnown};
-ghost use Rattle.avro_schema_json.specs.inside.OwnDefaults.{all_without_defaults};
+ghost use Rattle.avro_schema_json.specs.inside.OwnDefaults.{all_without_defaults, without_defaults};
 ghost use Rattle.serde_json.specs.Data.{Data};
 ghost use Rattle.serde_json.specs.View.{view, items_view, members_view};
 
 use crate::defaults::array_misfit::is_array_misfit;
 use crate::defaults::asks::{asked_items, asked_members, own_ids};
+use crate::defaults::before::part_before;
 use crate::defaults::flat::{are_leaves, has_parts};
 use crate::defaults::gathered::Gathered;
 use crate::defaults::known::{keep_array, keep_object};
+use crate::defaults::merges::Merges;
 use crate::defaults::object_misfit::is_object_misfit;
 use crate::defaults::union_table::UnionTable;
 use crate::raw::RawNode;
@@ -24,14 +27,17 @@ use std::collections::{BTreeMap, BTreeSet};
 /// Gathers what is known of JSON and of its parts, by the nodes that it is asked about, unions by
 /// their branches. Nothing is kept for JSON without parts: it is tried in place.
 #[cycle(misfits)]
-pub(crate) fn gather<'a>(
+pub(crate) fn gather<'a, 'b>(
     alloc: Global,
-    raws: &[RawNode],
+    raws: &'b [RawNode<'b>],
+    null: &'b RawNode<'b>,
     tables: &[UnionTable],
     tree: &'a Value,
     asked: &[NodeId],
+    merges: &mut Merges<'b>,
     all: &mut Vec<Gathered<'a>>,
 ) -> Result<usize, Memory>
+    requires null { without_defaults null.now ≡ SeenNode.null }
     requires tables { AreTables (all_without_defaults raws.now) tables.now }
     ensures grown { IfOk result (λ known. Grows all.old.items all.new.items) }
     ensures known { IfOk result (λ known. IsKnown (all_without_defaults raws.now) all.new.items (view tree.now) known) }
@@ -39,62 +45,75 @@ pub(crate) fn gather<'a>(
     if !has_parts(tree) {
         return Ok(0);
     }
-    let own = own_ids(alloc, raws, tables, tree, asked)?;
+    let own = own_ids(alloc, raws, null, tables, tree, asked, merges)?;
     match tree {
-        Value::Array(items) => gather_array(alloc, raws, tables, items, &own, all),
-        Value::Object(members) => gather_object(alloc, raws, tables, members, &own, all),
+        Value::Array(items) => gather_array(alloc, raws, null, tables, items, &own, merges, all),
+        Value::Object(members) => gather_object(
+            alloc, raws, null, tables, members, &own, merges, all,
+        ),
         _ => Ok(0),
     }
 }
 
 /// Gathers what is known of an array and of its items.
 #[cycle(misfits)]
-fn gather_array<'a>(
+fn gather_array<'a, 'b>(
     alloc: Global,
-    raws: &[RawNode],
+    raws: &'b [RawNode<'b>],
+    null: &'b RawNode<'b>,
     tables: &[UnionTable],
     items: &'a Vec<Value>,
     own: &[NodeId],
+    merges: &mut Merges<'b>,
     all: &mut Vec<Gathered<'a>>,
 ) -> Result<usize, Memory>
+    requires null { without_defaults null.now ≡ SeenNode.null }
     requires tables { AreTables (all_without_defaults raws.now) tables.now }
     ensures grown { IfOk result (λ known. Grows all.old.items all.new.items) }
     ensures known { IfOk result (λ known. IsKnown (all_without_defaults raws.now) all.new.items (Data.array (items_view items.now.items)) known) }
 {
-    let parts = item_parts(alloc, raws, tables, items, own, all)?;
+    let parts = item_parts(alloc, raws, null, tables, items, own, merges, all)?;
     let misfits = array_misfits(alloc, raws, tables, items, all, &parts, own)?;
-    keep_array(alloc, all, misfits, parts)
+    let left = few_left(alloc, own, &misfits)?;
+    keep_array(alloc, all, misfits, left, parts)
 }
 
 /// Gathers what is known of an object and of its members.
 #[cycle(misfits)]
-fn gather_object<'a>(
+fn gather_object<'a, 'b>(
     alloc: Global,
-    raws: &[RawNode],
+    raws: &'b [RawNode<'b>],
+    null: &'b RawNode<'b>,
     tables: &[UnionTable],
     members: &'a Map<String, Value>,
     own: &[NodeId],
+    merges: &mut Merges<'b>,
     all: &mut Vec<Gathered<'a>>,
 ) -> Result<usize, Memory>
+    requires null { without_defaults null.now ≡ SeenNode.null }
     requires tables { AreTables (all_without_defaults raws.now) tables.now }
     ensures grown { IfOk result (λ known. Grows all.old.items all.new.items) }
     ensures known { IfOk result (λ known. IsKnown (all_without_defaults raws.now) all.new.items (Data.object (members_view members.now.entries)) known) }
 {
-    let parts = member_parts(alloc, raws, tables, members, own, all)?;
+    let parts = member_parts(alloc, raws, null, tables, members, own, merges, all)?;
     let misfits = object_misfits(alloc, raws, tables, members, all, &parts, own)?;
-    keep_object(alloc, all, misfits, parts)
+    let left = few_left(alloc, own, &misfits)?;
+    keep_object(alloc, all, misfits, left, parts)
 }
 
 /// Where what is known of each item stands, or of none where no item has parts.
 #[cycle(misfits)]
-fn item_parts<'a>(
+fn item_parts<'a, 'b>(
     alloc: Global,
-    raws: &[RawNode],
+    raws: &'b [RawNode<'b>],
+    null: &'b RawNode<'b>,
     tables: &[UnionTable],
     items: &'a Vec<Value>,
     own: &[NodeId],
+    merges: &mut Merges<'b>,
     all: &mut Vec<Gathered<'a>>,
 ) -> Result<Vec<usize>, Memory>
+    requires null { without_defaults null.now ≡ SeenNode.null }
     requires tables { AreTables (all_without_defaults raws.now) tables.now }
     ensures grown { IfOk result (λ parts. Grows all.old.items all.new.items) }
     ensures known { IfOk result (λ parts. AreItemsKnown (all_without_defaults raws.now) all.new.items (items_view items.now.items) parts.items) }
@@ -105,7 +124,10 @@ fn item_parts<'a>(
     }
     let asked = asked_items(alloc, raws, own)?;
     for item in items {
-        let part = gather(alloc, raws, tables, item, &asked, all)?;
+        let part = match part_before(items, &parts, item) {
+            Some(part) => part,
+            None => gather(alloc, raws, null, tables, item, &asked, merges, all)?,
+        };
         parts.push(part)?;
     }
     Ok(parts)
@@ -113,14 +135,17 @@ fn item_parts<'a>(
 
 /// Where what is known of each member that has parts stands.
 #[cycle(misfits)]
-fn member_parts<'a>(
+fn member_parts<'a, 'b>(
     alloc: Global,
-    raws: &[RawNode],
+    raws: &'b [RawNode<'b>],
+    null: &'b RawNode<'b>,
     tables: &[UnionTable],
     members: &'a Map<String, Value>,
     own: &[NodeId],
+    merges: &mut Merges<'b>,
     all: &mut Vec<Gathered<'a>>,
 ) -> Result<BTreeMap<&'a str, usize>, Memory>
+    requires null { without_defaults null.now ≡ SeenNode.null }
     requires tables { AreTables (all_without_defaults raws.now) tables.now }
     ensures grown { IfOk result (λ parts. Grows all.old.items all.new.items) }
     ensures known { IfOk result (λ parts. AreMembersKnown (all_without_defaults raws.now) all.new.items (members_view members.now.entries) parts) }
@@ -132,7 +157,7 @@ fn member_parts<'a>(
         match asked.get(key) {
             Some(of_member) => match members.get(key) {
                 Some(tree) => {
-                    let part = gather(alloc, raws, tables, tree, &of_member.ids, all)?;
+                    let part = gather(alloc, raws, null, tables, tree, of_member, merges, all)?;
                     parts.insert(key, part)?;
                 }
                 None => {}
@@ -141,6 +166,20 @@ fn member_parts<'a>(
         }
     }
     Ok(parts)
+}
+
+/// A few of some nodes that are not among the misfits.
+fn few_left(alloc: Global, own: &[NodeId], misfits: &BTreeSet<u32>) -> Result<Vec<NodeId>, Memory> {
+    let mut left: Vec<NodeId> = Vec::new(alloc);
+    for id in own {
+        if left.len() >= 4 {
+            return Ok(left);
+        }
+        if !misfits.contains(&id.0) {
+            left.push(*id)?;
+        }
+    }
+    Ok(left)
 }
 
 /// Adds an id.

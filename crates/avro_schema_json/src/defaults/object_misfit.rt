@@ -11,7 +11,7 @@ ghost use Rattle.serde_json.specs.View.{members_view};
 
 use crate::defaults::fields::names_fields;
 use crate::defaults::gathered::Gathered;
-use crate::defaults::known::{member_part, misfits_at};
+use crate::defaults::known::{left_at, member_part, misfits_at};
 use crate::defaults::misfit::is_misfit;
 use crate::defaults::union_table::UnionTable;
 use crate::raw::{RawField, RawNode};
@@ -87,8 +87,10 @@ fn is_member_misfit(
     let nothing: BTreeSet<u32> = BTreeSet::new(alloc);
     match members.get(key) {
         Some(tree) => {
-            let known = misfits_at(&*all, &nothing, member_part(parts, key));
-            is_misfit(alloc, raws, tables, tree, known, id)
+            let part = member_part(parts, key);
+            let known = misfits_at(&*all, &nothing, part);
+            let left = left_at(&*all, part);
+            is_misfit(alloc, raws, tables, tree, known, left, id)
         }
         None => Ok(false),
     }
@@ -114,6 +116,9 @@ fn is_record_misfit(
     }
     if is_field_misfit(alloc, raws, tables, members, all, parts, fields)? {
         return Ok(true);
+    }
+    if members.len() <= fields.len() {
+        return Ok(false);
     }
     Ok(!names_fields(alloc, members, fields)?)
 }

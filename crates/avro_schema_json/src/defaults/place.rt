@@ -34,6 +34,8 @@ pub(crate) struct Place<'a> {
     pub sets: Vec<Vec<NodeId>>,
     /// For each kind of JSON what each branch asks of it.
     pub asks: Vec<Vec<Asks>>,
+    /// For each kind of JSON how many branches let one pass for which they are not listed.
+    pub open: Vec<usize>,
     /// The indices of the branches that are listed for each text: it is a symbol of one of their nodes.
     pub texts: BTreeMap<&'a str, BTreeSet<usize>>,
     /// The same for each number of characters: it is the size of one of their nodes.

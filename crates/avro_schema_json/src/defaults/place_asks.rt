@@ -117,3 +117,23 @@ pub(crate) fn asks_of_kinds(
     }
     Ok(asks)
 }
+
+/// How many of some branches let JSON pass for which they are not listed.
+fn open_of(asks: &[Asks]) -> usize {
+    let mut count = 0usize;
+    for of_branch in asks {
+        if of_branch.any || of_branch.bytes || of_branch.ints {
+            count = count.saturating_add(1);
+        }
+    }
+    count
+}
+
+/// The same for each kind of JSON.
+pub(crate) fn open_of_kinds(alloc: Global, asks: &[Vec<Asks>]) -> Result<Vec<usize>, Memory> {
+    let mut open: Vec<usize> = Vec::new(alloc);
+    for of_kind in asks {
+        open.push(open_of(of_kind))?;
+    }
+    Ok(open)
+}

@@ -12,7 +12,7 @@ use crate::defaults::first_branches::no_words;
 use crate::defaults::listed::texts_of_sets;
 use crate::defaults::part_counts::{Wanted, parts_wanted};
 use crate::defaults::place::{Links, Place, Places, Step};
-use crate::defaults::place_asks::asks_of_kinds;
+use crate::defaults::place_asks::{asks_of_kinds, open_of_kinds};
 use crate::defaults::sized::sizes_of_sets;
 use crate::raw::RawNode;
 use avro_schema::{Memory, NodeId};
@@ -54,6 +54,7 @@ fn root_place<'a>(alloc: Global, ids: &[NodeId]) -> Result<Place<'a>, Memory>
     Ok(Place {
         sets: root_sets(alloc, ids)?,
         asks: Vec::new(alloc),
+        open: Vec::new(alloc),
         texts: BTreeMap::new(alloc),
         sizes: BTreeMap::new(alloc),
     })
@@ -71,11 +72,13 @@ fn place_of<'a>(
     ensures place { IfOk result (λ place. IsPlace (all_without_defaults raws.now) place) }
 {
     let asks = asks_of_kinds(alloc, raws, null, &sets)?;
+    let open = open_of_kinds(alloc, &asks)?;
     let texts = texts_of_sets(alloc, raws, null, &sets)?;
     let sizes = sizes_of_sets(alloc, raws, null, &sets)?;
     Ok(Place {
         sets,
         asks,
+        open,
         texts,
         sizes,
     })

@@ -2,7 +2,7 @@ use crate::defaults::place::Asks;
 use std::collections::BTreeSet;
 
 /// A part of JSON, with what the branches of a union ask of it.
-#[derive(Drop)]
+#[derive(Clone, Copy, Drop)]
 pub(crate) struct Probe<'a> {
     /// What each branch asks.
     pub asks: &'a [Asks],
@@ -14,4 +14,6 @@ pub(crate) struct Probe<'a> {
     pub is_bytes: bool,
     /// Whether the part is a number that is an int.
     pub is_int: bool,
+    /// How many branches may let the part pass, or more.
+    pub passing: usize,
 }

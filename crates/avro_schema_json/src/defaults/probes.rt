@@ -69,6 +69,24 @@ fn is_int(tree: &Value) -> bool
     }
 }
 
+/// How many indices there are, if any.
+fn count_of(listed: Option<&BTreeSet<usize>>) -> usize {
+    match listed {
+        Some(indices) => indices.len(),
+        None => 0,
+    }
+}
+
+/// How many branches may let JSON of a kind pass.
+fn passing_at(place: &Place, tree: &Value, kind: usize) -> usize {
+    let open = match place.open.get(kind) {
+        Some(open) => *open,
+        None => 0,
+    };
+    open.saturating_add(count_of(listed_for(place, tree)))
+        .saturating_add(count_of(sized_for(place, tree)))
+}
+
 /// JSON at a place with what the branches ask of it, if they ask for something.
 fn probe_of<'a>(
     alloc: Global,
@@ -88,6 +106,7 @@ fn probe_of<'a>(
         sized: sized_for(place, tree),
         is_bytes,
         is_int: is_int(tree),
+        passing: passing_at(place, tree, kind),
     }))
 }
 
@@ -124,12 +143,43 @@ fn refuses(probe: &Probe, asks: Asks, index: usize) -> bool
     !(asks.any || is_listed || is_sized || is_plain)
 }
 
+/// The index of the part that the fewest branches let pass.
+fn index_of_fewest(probes: &[Probe]) -> usize {
+    let mut index = 0usize;
+    let mut fewest = usize::MAX;
+    for i in 0..probes.len() {
+        if probes[i].passing < fewest {
+            fewest = probes[i].passing;
+            index = i;
+        }
+    }
+    index
+}
+
+/// Adds the part that the fewest branches let pass once more: it is asked first, since the last is.
+pub(crate) fn add_fewest(probes: &mut Vec<Probe>) -> Result<(), Memory>
+    ensures { OnOk result ((nodes : List SeenNode) (ids : List ℕ) (d : Data) → AreProbes nodes ids d probes.old.items → AreProbes nodes ids d probes.new.items) }
+{
+    let index = index_of_fewest(probes);
+    match probes.get(index) {
+        Some(probe) => {
+            let probe = *probe;
+            probes.push(probe)?;
+            Ok(())
+        }
+        None => Ok(()),
+    }
+}
+
 /// Whether JSON is no default of the branch at an index by one of its parts.
 pub(crate) fn is_refused(probes: &[Probe], index: usize) -> bool
     ensures { result ≡ true → (nodes : List SeenNode) (ids : List ℕ) (d : Data) (id : ℕ) → AreProbes nodes ids d probes.now → slice_get ids index ≡ Some id
         → own_default_by nodes d (node_at nodes id) ≡ None }
 {
-    for probe in probes {
+    let mut left = probes.len();
+    while left > 0 {
+        left -= 1;
+        let probe = &probes[left];
         match probe.asks.get(index) {
             Some(asks) => {
                 if refuses(probe, *asks, index) {

@@ -14,7 +14,7 @@ ghost use Rattle.serde_json.specs.View.{view, items_view, members_view};
 use crate::defaults::asked_before::AskedBefore;
 use crate::defaults::place::{Links, Places};
 use crate::defaults::probe::Probe;
-use crate::defaults::probes::add_probe;
+use crate::defaults::probes::{add_fewest, add_probe};
 use crate::defaults::union_table::UnionTable;
 use avro_schema::Memory;
 use serde_json::{Map, Value};
@@ -132,5 +132,6 @@ pub(crate) fn probes_of<'a>(
     let mut probes: Vec<Probe<'a>> = Vec::new(alloc);
     let mut seen = AskedBefore::nothing(alloc);
     probe_below(alloc, &mut probes, &mut seen, &table.places, 0, tree)?;
+    add_fewest(&mut probes)?;
     Ok(probes)
 }

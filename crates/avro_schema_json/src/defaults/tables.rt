@@ -153,7 +153,7 @@ fn table_of_keys<'a>(
 }
 
 /// The table of some branches, with their symbols or without, and likewise their parts.
-fn table_of_branches<'a>(
+pub(crate) fn table_of_branches<'a>(
     alloc: Global,
     raws: &'a [RawNode<'a>],
     null: &'a RawNode<'a>,
