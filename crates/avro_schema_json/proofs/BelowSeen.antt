@@ -1,15 +1,14 @@
 -- The nodes of which a part of JSON is one's, as they are put together.
-use Rattle.std.proofs.Common.{◌≡◌, ℕ, zero, suc, ◌+◌, ◌<◌, ◌≤◌, inl, inr, Bool, true, false, List, [], ◌∷◌, ◌++◌, length, length-append, Option, Some, None, option_map, IsTrue, get_or, refl, sym, ap, subst, ◌∙◌, arith}
-use Rattle.std.specs.Prelude.{⊤, slice_get, bytes_eq}
+use Rattle.std.proofs.Common.{◌≡◌, ℕ, zero, suc, ◌+◌, ◌<◌, ◌≤◌, inl, inr, List, [], ◌∷◌, ◌++◌, length, length-append, Option, Some, None, option_map, get_or, refl, sym, ap, subst, ◌∙◌, arith}
+use Rattle.std.specs.Prelude.{slice_get}
 use Rattle.std.specs.Global.{Vec}
 use Rattle.avro_name.specs.Name.{Name}
 use Rattle.avro_schema.specs.Node.{Node, FieldNode, node_at, branches_of}
 use Rattle.avro_schema.specs.Seen.{ids_of}
 use Rattle.avro_schema.specs.declared.schema.NodeId.{NodeId}
-use Rattle.avro_schema.specs.Value.{value}
 use Rattle.serde_json.specs.Data.{Data, Items, no_items, item, Members}
 use Rattle.serde_json.specs.Find.{get_item, get_member}
-use Rattle.avro_schema_json.specs.DeclaredDefaults.{default_of, each_default, entries_default, first_fit}
+use Rattle.avro_schema_json.specs.DeclaredDefaults.{default_of, each_default, first_fit}
 use Rattle.avro_schema_json.specs.declared.defaults.place.Step.{Step}
 use Rattle.avro_schema_json.specs.inside.OwnDefaults.{own_default, default_of_fields}
 use Rattle.avro_schema_json.specs.inside.Places.{IsPart, IsWanted, FitsNone, KeepsAll, IsBelow, AreBelow}

@@ -1,5 +1,5 @@
 -- Branches that are listed for texts, as they are put.
-use Rattle.std.proofs.Common.{◌≡◌, ℕ, zero, suc, ◌+◌, ◌<◌, ◌≤◌, drop, inl, inr, Bool, true, false, cond, List, [], ◌∷◌, length, Option, Some, None, option_map, add-one, Bor, get_or, refl, sym, ap, subst, ◌∙◌, arith, Ordering}
+use Rattle.std.proofs.Common.{◌≡◌, ℕ, suc, ◌+◌, ◌<◌, ◌≤◌, drop, inl, inr, Bool, true, false, cond, List, length, Option, Some, None, add-one, Bor, get_or, refl, sym, ap, subst, ◌∙◌, arith, Ordering}
 use Rattle.std.specs.Prelude.{slice_get, bytes_eq, String, string_bytes}
 use Rattle.std.specs.declared.alloc.Global.{Global}
 use Rattle.std.specs.Ordering.{nat_cmp, is_eq}

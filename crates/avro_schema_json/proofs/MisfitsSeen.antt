@@ -16,7 +16,8 @@ use Rattle.std.proofs.lemmas.Map.Lookups.{exact_unsigned}
 use Rattle.std.proofs.lemmas.Slice.Eq.{bytes_eq-Decides}
 use denote.Ref.{Bor}
 use Rattle.avro_schema.specs.Node.{Node, FieldNode, node_at}
-use Rattle.avro_schema.specs.Seen.{ids_of}
+use Rattle.avro_schema.specs.Seen.{ids_of, value_of}
+use Rattle.avro_schema.specs.declared.datum.Datum.{Datum}
 use Rattle.avro_schema.specs.declared.schema.NodeId.{NodeId}
 use Rattle.avro_schema.specs.Value.{Value, Values, value, entry}
 use Rattle.serde_json.specs.Data.{Data, Items, Members, no_members, member}
@@ -27,7 +28,7 @@ use Rattle.serde_json.proofs.Views.{Entry, get_item_within, member_here, member_
 use Rattle.avro_schema_json.specs.DeclaredDefaults.{default_of, default_under, each_default, entries_default, fields_default, first_fit, member_keys, names_only, only_if}
 use Rattle.avro_schema_json.specs.declared.defaults.gathered.Gathered.{Gathered}
 use Rattle.avro_schema_json.specs.inside.BranchKeys.{find_word}
-use Rattle.avro_schema_json.specs.inside.Misfits.{has_id, AreMisfits, IsKnown, nothing, known, Grows, IsMemberMisfit, AreItemsKnown, AreMembersKnown}
+use Rattle.avro_schema_json.specs.inside.Misfits.{has_id, AreMisfits, IsKnown, nothing, known, Grows, IsMemberMisfit, AreItemsKnown, AreMembersKnown, AreItemsRead}
 use Rattle.avro_schema_json.specs.inside.OwnDefaults.{own_default, default_of_fields}
 use Rattle.avro_schema_json.proofs.DefaultsSeen.{branch_next}
 use Rattle.avro_schema_json.proofs.DefaultSteps.{field_at-found}
@@ -142,7 +143,7 @@ field-missing_at nodes ms fields i name id got none =
 
 -- ---- branches in turn
 
-same-again : {A : Type 0} (xs : List A) (i : ℕ) (x : A) → get_or xs i x ≡ get_or xs i (get_or xs i x)
+pub same-again : {A : Type 0} (xs : List A) (i : ℕ) (x : A) → get_or xs i x ≡ get_or xs i (get_or xs i x)
 same-again [] i x = refl
 same-again (y ∷ ys) zero x = refl
 same-again (y ∷ ys) (suc i) x = same-again ys i x
@@ -260,6 +261,31 @@ items-push nodes before after ds parts p f grown good here last = λ i e q at th
         let found : get_item i ds ≡ Some f = subst (λ (k : ℕ). get_item k ds ≡ Some f) now.0 here in
         let value : f ≡ e = cc in
         subst (λ (x : Data). IsKnown nodes after x q) value (subst (λ (r : ℕ). IsKnown nodes after f r) now.1 last)
+
+-- what is known of an item is known of the next one that is the same
+pub item-before : (nodes : List Node) (all : List Gathered) (items : List Tree) (parts : List ℕ) (i : ℕ) (x y : Tree) (p : ℕ) → i < length items → x ≡ get_or items i x
+    → view x ≡ view y → slice_get parts i ≡ Some p → AreItemsKnown nodes all (items_view items) parts → IsKnown nodes all (view y) p
+item-before nodes all items parts i x y p below is same part good =
+    subst (λ (d : Data). IsKnown nodes all d p) same (good i (view x) p (item-at items items i i x refl refl below is) part)
+
+-- and so is its default
+pub value-before : (nodes : List Node) (n : Node) (items : List Tree) (values : List Datum) (i : ℕ) (x y : Tree) (v : Datum) → i < length items → x ≡ get_or items i x
+    → view x ≡ view y → slice_get values i ≡ Some v → AreItemsRead nodes n (items_view items) values → Some (value_of v) ≡ default_of nodes (view y) n
+value-before nodes n items values i x y v below is same kept good =
+    subst (λ (d : Data). Some (value_of v) ≡ default_of nodes d n) same (good i (view x) v (item-at items items i i x refl refl below is) kept)
+
+-- one more item is read
+pub items-read : (nodes : List Node) (n : Node) (ds : Items) (values : List Datum) (v : Datum) (f : Data) → AreItemsRead nodes n ds values
+    → get_item (length values) ds ≡ Some f → Some (value_of v) ≡ default_of nodes f n → AreItemsRead nodes n ds (values ++ v ∷ [])
+items-read nodes n ds values v f good here last = λ i e w at there. by_place i e w at (pushed values v i w there)
+  where
+    by_place : (i : ℕ) (e : Data) (w : Datum) → get_item i ds ≡ Some e → (slice_get values i ≡ Some w) ⊎ ((length values ≡ i) × (v ≡ w))
+        → Some (value_of w) ≡ default_of nodes e n
+    by_place i e w at (inl there) = good i e w at there
+    by_place i e w at (inr now) =
+        let found : get_item i ds ≡ Some f = subst (λ (k : ℕ). get_item k ds ≡ Some f) now.0 here in
+        let same : f ≡ e = cc in
+        subst (λ (x : Data). Some (value_of w) ≡ default_of nodes x n) same (subst (λ (u : Datum). Some (value_of u) ≡ default_of nodes f n) now.1 last)
 
 -- one more member
 pub members-insert : (nodes : List Node) (before after : List Gathered) (ms : Members) (old new : BTreeMap (Bor (List ℕ)) ℕ) (key : List ℕ) (f : Data) (part : ℕ)

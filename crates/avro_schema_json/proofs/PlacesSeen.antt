@@ -1,6 +1,6 @@
 -- What the branches of a union ask at places, as it is put together.
 use Rattle.std.proofs.Common.{◌≡◌, ℕ, zero, suc, ◌+◌, ◌<◌, ◌≤◌, inl, inr, Bool, true, false, ◌||◌, ◌==◌, cond, nat_lt, List, [], ◌∷◌, ◌++◌, length, length-append, Option, Some, None, option_map, option_and_then, Bor, get_or, refl, sym, ap, subst, ◌∙◌, arith}
-use Rattle.std.specs.Prelude.{slice_get, bytes_eq, is_some, IfSome}
+use Rattle.std.specs.Prelude.{slice_get, bytes_eq, is_some}
 use Rattle.std.specs.List.{list_all}
 use Rattle.std.specs.Str.{chars}
 use Rattle.std.proofs.lemmas.Bool.{false≢true}
@@ -9,7 +9,6 @@ use Rattle.avro_name.specs.Name.{Name}
 use Rattle.avro_schema.specs.Value.{Value}
 use Rattle.std.specs.Global.{Vec}
 use Rattle.std.specs.BTreeMap.{BTreeMap}
-use Rattle.std.specs.BTreeSet.{BTreeSet}
 use Rattle.std.proofs.lemmas.Slice.Eq.{bytes_eq-Decides}
 use Rattle.avro_schema.specs.Node.{Node, node_at}
 use Rattle.avro_schema.specs.Seen.{ids_of}
@@ -26,7 +25,7 @@ use Rattle.avro_schema_json.specs.inside.Asked.{Refuses, IsOwnAsked, IsSetAsked,
 use Rattle.avro_schema_json.specs.inside.BranchKeys.{kind_key, field_key, find_word}
 use Rattle.avro_schema_json.specs.inside.Listed.{is_listed, LacksSymbol, AllLack, AreListed, is_sized, LacksSize, AllLackSize, AreSized}
 use Rattle.avro_schema_json.specs.inside.OwnDefaults.{own_default}
-use Rattle.avro_schema_json.specs.inside.Places.{IsPart, FitsNone, IsBelow, AreBelow, AreRoot}
+use Rattle.avro_schema_json.specs.inside.Places.{IsPart, AreBelow, AreRoot}
 use Rattle.avro_schema_json.proofs.BelowSeen.{no_item, same_item, within, id_within, item_kept, item_last}
 use Rattle.avro_schema_json.proofs.MisfitsSeen.{pushed}
 use Rattle.avro_schema_json.proofs.RawSeen.{at_index}

@@ -1,5 +1,5 @@
 -- What the branches of a union ask of the parts of JSON, as it is used.
-use Rattle.std.proofs.Common.{◌≡◌, ℕ, zero, suc, ◌+◌, ◌<◌, drop, inl, inr, List, [], ◌∷◌, ◌++◌, length, Option, Some, None, get_or, refl, sym, ap, subst, ◌∙◌, arith}
+use Rattle.std.proofs.Common.{◌≡◌, ℕ, ◌+◌, ◌<◌, drop, inl, inr, List, [], ◌∷◌, ◌++◌, length, Option, Some, None, get_or, refl, sym, ap, subst, ◌∙◌, arith}
 use Rattle.std.specs.Prelude.{slice_get, option_copied, IfSome}
 use Rattle.std.specs.Global.{Vec}
 use Rattle.std.specs.Str.{chars}
@@ -22,8 +22,8 @@ use Rattle.avro_schema_json.specs.inside.BranchKeys.{kind_key, find_word}
 use Rattle.avro_schema_json.specs.inside.Tables.{IsTable}
 use Rattle.avro_schema_json.specs.inside.Listed.{has_index, indices_of, branches_of_size}
 use Rattle.avro_schema_json.specs.inside.OwnDefaults.{own_default}
-use Rattle.avro_schema_json.specs.inside.Places.{IsPart, FitsNone, AreRoot}
-use Rattle.avro_schema_json.specs.inside.Probes.{IsRefused, IsProbe, AreProbes, IsProbeOf, IsAt, AddsProbes as Probed}
+use Rattle.avro_schema_json.specs.inside.Places.{IsPart}
+use Rattle.avro_schema_json.specs.inside.Probes.{IsProbe, AreProbes, IsProbeOf, IsAt, AddsProbes as Probed}
 use Rattle.avro_schema_json.proofs.BelowSeen.{no_item, same_item}
 use Rattle.avro_schema_json.proofs.MisfitsSeen.{pushed, branch-pass}
 use Rattle.avro_schema_json.proofs.RepeatsSeen.{id_at}
@@ -49,6 +49,15 @@ probe_found nodes place e kind all probe is there kept listed sized bytes int go
         λ asked. sym int ∙ refused.4 asked,
       ),
     )
+
+-- a part once more
+pub probe_again : (nodes : List Node) (ids : List ℕ) (d : Data) (probes : List Probe) (i : ℕ) (probe : Probe) → slice_get probes i ≡ Some probe
+    → AreProbes nodes ids d probes → AreProbes nodes ids d (probes ++ probe ∷ [])
+probe_again nodes ids d probes i probe there before = λ k p at.
+    elim (pushed probes probe k p at) [
+      | inl earlier ↦ before k p earlier
+      | inr here ↦ subst (λ (q : Probe). IsProbe nodes ids d q) here.1 (before i probe there)
+    ]
 
 pub probe_pushed : (nodes : List Node) (ids : List ℕ) (d e : Data) (sets : List (Vec NodeId)) (probes : List Probe) (last : Probe) → IsProbeOf nodes sets e last
     → IsAt nodes ids d sets e → AreProbes nodes ids d probes → AreProbes nodes ids d (probes ++ last ∷ [])

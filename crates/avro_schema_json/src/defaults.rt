@@ -54,7 +54,6 @@ use crate::defaults::gathered::Gathered;
 use crate::defaults::known::{
     has, misfits_at, next_index, nothing_gathered, part_of_array, part_of_object,
 };
-use crate::defaults::merges::Merges;
 use crate::defaults::misfits::gather;
 use crate::defaults::plain_defaults::{
     boolean_default, null_default, number_default, text_default,
@@ -116,17 +115,7 @@ fn known_default(
                 return branch_default(alloc, raws, tables, table, &null, tree, ids, all, known);
             }
             let mut gathered = nothing_gathered(alloc)?;
-            let mut merges = Merges::none(alloc);
-            let known = gather(
-                alloc,
-                raws,
-                &null,
-                tables,
-                tree,
-                &repeated,
-                &mut merges,
-                &mut gathered,
-            )?;
+            let known = gather(alloc, raws, tables, tree, &repeated, &mut gathered)?;
             branch_default(
                 alloc, raws, tables, table, &null, tree, ids, &gathered, known,
             )
@@ -281,7 +270,7 @@ fn item_defaults(
     let mut index = 0usize;
     for item in items {
         let part = part_of_array(raws, items, item, all, known, index);
-        let Some(value) = item_default(alloc, raws, tables, items, &values, item, id, all, part)?
+        let Some(value) = item_default(alloc, raws, tables, item, items, &values, id, all, part)?
         else {
             return Ok(None);
         };
@@ -297,9 +286,9 @@ fn item_default(
     alloc: Global,
     raws: &[RawNode],
     tables: &[UnionTable],
+    item: &Value,
     items: &[Value],
     values: &[Datum],
-    item: &Value,
     id: NodeId,
     all: &[Gathered],
     known: usize,

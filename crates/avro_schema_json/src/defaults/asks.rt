@@ -1,10 +1,6 @@
 //! Which nodes the parts of a JSON value are asked about. What is asked decides what is looked at,
 //! not what is found: a node that is not asked about is tried when its turn comes.
 
-ghost use Rattle.std.specs.Prelude.{◌≡◌};
-ghost use Rattle.avro_schema.specs.Node.{Node as SeenNode};
-ghost use Rattle.avro_schema_json.specs.inside.OwnDefaults.{without_defaults};
-
 use crate::defaults::first_branches::first_branch;
 use crate::defaults::flat::{has_parts, is_flat};
 use crate::defaults::merges::Merges;
@@ -74,6 +70,22 @@ fn ask(asked: &mut Vec<NodeId>, id: NodeId) -> Result<(), Memory> {
     }
     asked.push(id)?;
     Ok(())
+}
+
+/// Those of some nodes for which JSON is looked into.
+fn all_entered(
+    alloc: Global,
+    raws: &[RawNode],
+    tree: &Value,
+    ids: &[NodeId],
+) -> Result<Vec<NodeId>, Memory> {
+    let mut entered: Vec<NodeId> = Vec::new(alloc);
+    for id in ids {
+        if may_enter(raws, tree, *id) {
+            entered.push(*id)?;
+        }
+    }
+    Ok(entered)
 }
 
 /// The branches for which JSON is looked into, from the one where their table begins, without those that its parts
@@ -168,19 +180,16 @@ fn own_of_each(
 }
 
 /// The same, by what is merged where so many are asked about so often.
-pub(crate) fn own_ids<'a>(
+pub(crate) fn own_ids(
     alloc: Global,
-    raws: &'a [RawNode<'a>],
-    null: &'a RawNode<'a>,
+    raws: &[RawNode],
     tables: &[UnionTable],
     tree: &Value,
     asked: &[NodeId],
-    merges: &mut Merges<'a>,
-) -> Result<Vec<NodeId>, Memory>
-    requires { without_defaults null.now ≡ SeenNode.null }
-{
-    match merges.find(alloc, raws, null, asked)? {
-        Some(merged) => entered(alloc, raws, &merged.table, tree, &merged.ids),
+    merges: &mut Merges,
+) -> Result<Vec<NodeId>, Memory> {
+    match merges.find(alloc, raws, asked)? {
+        Some(ids) => all_entered(alloc, raws, tree, ids),
         None => own_of_each(alloc, raws, tables, tree, asked),
     }
 }

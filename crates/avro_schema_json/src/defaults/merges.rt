@@ -1,52 +1,26 @@
 //! The branches of unions that JSON is asked about together, where the same unions are asked about again and again.
 //! What is merged decides what is looked at, not what is found.
 
-ghost use Rattle.std.specs.Prelude.{◌≡◌};
-ghost use Rattle.avro_schema.specs.Node.{Node as SeenNode};
-ghost use Rattle.avro_schema_json.specs.inside.OwnDefaults.{without_defaults};
-
-use crate::defaults::tables::table_of_branches;
-use crate::defaults::union_table::UnionTable;
 use crate::raw::RawNode;
 use avro_schema::{Memory, NodeId};
 use std::alloc::Global;
 use std::collections::{BTreeMap, BTreeSet};
 
-/// The fewest unions that are worth a table of all their branches.
+/// The fewest unions whose branches are worth merging.
 const FEWEST: usize = 8;
-
-/// How often the same unions are asked about before there is a table of their branches: making it takes longer than
-/// going through them.
-const USES: usize = 3;
-
-/// The branches of all of some nodes.
-#[derive(Drop)]
-pub(crate) struct Merged<'a> {
-    /// Those that have parts, each once.
-    pub ids: Vec<NodeId>,
-    pub table: UnionTable<'a>,
-}
-
-/// Nodes that are asked about together.
-#[derive(Drop)]
-struct Merge<'a> {
-    /// How often they were.
-    uses: usize,
-    /// Their branches, once this was often.
-    merged: Option<Merged<'a>>,
-}
 
 /// All nodes that are asked about together.
 #[derive(Drop)]
-pub(crate) struct Merges<'a> {
+pub(crate) struct Merges {
     /// The index for the ids of some nodes.
     indices: BTreeMap<Vec<u32>, usize>,
-    all: Vec<Merge<'a>>,
+    /// Their branches that have parts, each once, if these are worth merging.
+    all: Vec<Option<Vec<NodeId>>>,
 }
 
-impl<'a> Merges<'a> {
+impl Merges {
     /// None.
-    pub(crate) fn none(alloc: Global) -> Merges<'a> {
+    pub(crate) fn none(alloc: Global) -> Merges {
         Merges {
             indices: BTreeMap::new(alloc),
             all: Vec::new(alloc),
@@ -54,7 +28,12 @@ impl<'a> Merges<'a> {
     }
 
     /// The index for some nodes.
-    fn index_of(&mut self, alloc: Global, asked: &[NodeId]) -> Result<usize, Memory> {
+    fn index_of(
+        &mut self,
+        alloc: Global,
+        raws: &[RawNode],
+        asked: &[NodeId],
+    ) -> Result<usize, Memory> {
         let mut key: Vec<u32> = Vec::new(alloc);
         for id in asked {
             key.push(id.0)?;
@@ -64,36 +43,27 @@ impl<'a> Merges<'a> {
             None => {}
         }
         let at = self.all.len();
-        self.all.push(Merge {
-            uses: 0,
-            merged: None,
-        })?;
+        self.all.push(merged(alloc, raws, asked)?)?;
         self.indices.insert(key, at)?;
         Ok(at)
     }
 
-    /// The branches of all of some nodes, if these are many and were asked about often.
+    /// The branches of all of some nodes that have parts, each once, if these nodes are many and have far fewer branches
+    /// than are met when each is gone through.
     pub(crate) fn find(
         &mut self,
         alloc: Global,
-        raws: &'a [RawNode<'a>],
-        null: &'a RawNode<'a>,
+        raws: &[RawNode],
         asked: &[NodeId],
-    ) -> Result<Option<&Merged<'a>>, Memory>
-        requires { without_defaults null.now ≡ SeenNode.null }
-    {
+    ) -> Result<Option<&[NodeId]>, Memory> {
         if asked.len() < FEWEST {
             return Ok(None);
         }
-        let at = self.index_of(alloc, asked)?;
-        let Some(merge) = self.all.get_mut(at) else {
-            return Ok(None);
-        };
-        merge.uses = merge.uses.saturating_add(1);
-        if merge.uses == USES {
-            merge.merged = Some(merged_of(alloc, raws, null, asked)?);
+        let at = self.index_of(alloc, raws, asked)?;
+        match self.all.get(at) {
+            Some(Some(ids)) => Ok(Some(ids)),
+            _ => Ok(None),
         }
-        Ok(merge.merged.as_ref())
     }
 }
 
@@ -128,38 +98,29 @@ fn add_branches(
     Ok(())
 }
 
-/// The branches of all of some nodes that have parts, and how many there are if each is counted as often as it is met.
-fn branches_of_all(
+/// The branches of all of some nodes that have parts, each once, if they are fewer than four for each node, or than a
+/// sixteenth of all that are met when each node is gone through.
+fn merged(
     alloc: Global,
     raws: &[RawNode],
     asked: &[NodeId],
-) -> Result<(Vec<NodeId>, usize), Memory> {
+) -> Result<Option<Vec<NodeId>>, Memory> {
     let mut ids: Vec<NodeId> = Vec::new(alloc);
     let mut known: BTreeSet<u32> = BTreeSet::new(alloc);
-    let mut count = 0usize;
+    let mut met = 0usize;
     for id in asked {
         match raws.get(id.0 as usize) {
             Some(RawNode::Union(branches)) => {
-                count = count.saturating_add(branches.len());
+                met = met.saturating_add(branches.len());
                 add_branches(&mut ids, &mut known, raws, branches)?;
             }
             _ => add_if_parted(&mut ids, &mut known, raws, *id)?,
         }
     }
-    Ok((ids, count))
-}
-
-/// The branches of all of some nodes, with their table. It takes some dozen steps for each branch to find its places.
-fn merged_of<'a>(
-    alloc: Global,
-    raws: &'a [RawNode<'a>],
-    null: &'a RawNode<'a>,
-    asked: &[NodeId],
-) -> Result<Merged<'a>, Memory>
-    requires { without_defaults null.now ≡ SeenNode.null }
-{
-    let (ids, count) = branches_of_all(alloc, raws, asked)?;
-    let steps = count.saturating_mul(16).min(1_000_000);
-    let table = table_of_branches(alloc, raws, null, &ids, false, false, steps)?;
-    Ok(Merged { ids, table })
+    let most = asked.len().saturating_mul(4).max(met / 16);
+    if ids.len() <= most {
+        Ok(Some(ids))
+    } else {
+        Ok(None)
+    }
 }

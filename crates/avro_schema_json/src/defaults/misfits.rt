@@ -2,10 +2,9 @@
 //! that it is asked about; nothing is kept for one without parts.
 
 ghost use Rattle.std.specs.Prelude.{◌≡◌, ◌⊎◌, ℕ, true, IfOk, OnOk};
-ghost use Rattle.avro_schema.specs.Node.{Node as SeenNode};
 ghost use Rattle.avro_schema_json.specs.inside.Tables.{AreTables};
 ghost use Rattle.avro_schema_json.specs.inside.Misfits.{has_id, AreMisfits, IsKnown, Grows, AreItemsKnown, AreMembersKnown};
-ghost use Rattle.avro_schema_json.specs.inside.OwnDefaults.{all_without_defaults, without_defaults};
+ghost use Rattle.avro_schema_json.specs.inside.OwnDefaults.{all_without_defaults};
 ghost use Rattle.serde_json.specs.Data.{Data};
 ghost use Rattle.serde_json.specs.View.{view, items_view, members_view};
 
@@ -24,20 +23,34 @@ use serde_json::{Map, Value};
 use std::alloc::Global;
 use std::collections::{BTreeMap, BTreeSet};
 
-/// Gathers what is known of JSON and of its parts, by the nodes that it is asked about, unions by
-/// their branches. Nothing is kept for JSON without parts: it is tried in place.
-#[cycle(misfits)]
-pub(crate) fn gather<'a, 'b>(
+/// Gathers what is known of JSON and of its parts, by the nodes that it is asked about, unions by their branches.
+pub(crate) fn gather<'a>(
     alloc: Global,
-    raws: &'b [RawNode<'b>],
-    null: &'b RawNode<'b>,
+    raws: &[RawNode],
     tables: &[UnionTable],
     tree: &'a Value,
     asked: &[NodeId],
-    merges: &mut Merges<'b>,
     all: &mut Vec<Gathered<'a>>,
 ) -> Result<usize, Memory>
-    requires null { without_defaults null.now ≡ SeenNode.null }
+    requires tables { AreTables (all_without_defaults raws.now) tables.now }
+    ensures grown { IfOk result (λ known. Grows all.old.items all.new.items) }
+    ensures known { IfOk result (λ known. IsKnown (all_without_defaults raws.now) all.new.items (view tree.now) known) }
+{
+    let mut merges = Merges::none(alloc);
+    gather_part(alloc, raws, tables, tree, asked, &mut merges, all)
+}
+
+/// The same of a part. Nothing is kept for JSON without parts: it is tried in place.
+#[cycle(misfits)]
+fn gather_part<'a>(
+    alloc: Global,
+    raws: &[RawNode],
+    tables: &[UnionTable],
+    tree: &'a Value,
+    asked: &[NodeId],
+    merges: &mut Merges,
+    all: &mut Vec<Gathered<'a>>,
+) -> Result<usize, Memory>
     requires tables { AreTables (all_without_defaults raws.now) tables.now }
     ensures grown { IfOk result (λ known. Grows all.old.items all.new.items) }
     ensures known { IfOk result (λ known. IsKnown (all_without_defaults raws.now) all.new.items (view tree.now) known) }
@@ -45,34 +58,30 @@ pub(crate) fn gather<'a, 'b>(
     if !has_parts(tree) {
         return Ok(0);
     }
-    let own = own_ids(alloc, raws, null, tables, tree, asked, merges)?;
+    let own = own_ids(alloc, raws, tables, tree, asked, merges)?;
     match tree {
-        Value::Array(items) => gather_array(alloc, raws, null, tables, items, &own, merges, all),
-        Value::Object(members) => gather_object(
-            alloc, raws, null, tables, members, &own, merges, all,
-        ),
+        Value::Array(items) => gather_array(alloc, raws, tables, items, &own, merges, all),
+        Value::Object(members) => gather_object(alloc, raws, tables, members, &own, merges, all),
         _ => Ok(0),
     }
 }
 
 /// Gathers what is known of an array and of its items.
 #[cycle(misfits)]
-fn gather_array<'a, 'b>(
+fn gather_array<'a>(
     alloc: Global,
-    raws: &'b [RawNode<'b>],
-    null: &'b RawNode<'b>,
+    raws: &[RawNode],
     tables: &[UnionTable],
     items: &'a Vec<Value>,
     own: &[NodeId],
-    merges: &mut Merges<'b>,
+    merges: &mut Merges,
     all: &mut Vec<Gathered<'a>>,
 ) -> Result<usize, Memory>
-    requires null { without_defaults null.now ≡ SeenNode.null }
     requires tables { AreTables (all_without_defaults raws.now) tables.now }
     ensures grown { IfOk result (λ known. Grows all.old.items all.new.items) }
     ensures known { IfOk result (λ known. IsKnown (all_without_defaults raws.now) all.new.items (Data.array (items_view items.now.items)) known) }
 {
-    let parts = item_parts(alloc, raws, null, tables, items, own, merges, all)?;
+    let parts = item_parts(alloc, raws, tables, items, own, merges, all)?;
     let misfits = array_misfits(alloc, raws, tables, items, all, &parts, own)?;
     let left = few_left(alloc, own, &misfits)?;
     keep_array(alloc, all, misfits, left, parts)
@@ -80,22 +89,20 @@ fn gather_array<'a, 'b>(
 
 /// Gathers what is known of an object and of its members.
 #[cycle(misfits)]
-fn gather_object<'a, 'b>(
+fn gather_object<'a>(
     alloc: Global,
-    raws: &'b [RawNode<'b>],
-    null: &'b RawNode<'b>,
+    raws: &[RawNode],
     tables: &[UnionTable],
     members: &'a Map<String, Value>,
     own: &[NodeId],
-    merges: &mut Merges<'b>,
+    merges: &mut Merges,
     all: &mut Vec<Gathered<'a>>,
 ) -> Result<usize, Memory>
-    requires null { without_defaults null.now ≡ SeenNode.null }
     requires tables { AreTables (all_without_defaults raws.now) tables.now }
     ensures grown { IfOk result (λ known. Grows all.old.items all.new.items) }
     ensures known { IfOk result (λ known. IsKnown (all_without_defaults raws.now) all.new.items (Data.object (members_view members.now.entries)) known) }
 {
-    let parts = member_parts(alloc, raws, null, tables, members, own, merges, all)?;
+    let parts = member_parts(alloc, raws, tables, members, own, merges, all)?;
     let misfits = object_misfits(alloc, raws, tables, members, all, &parts, own)?;
     let left = few_left(alloc, own, &misfits)?;
     keep_object(alloc, all, misfits, left, parts)
@@ -103,17 +110,15 @@ fn gather_object<'a, 'b>(
 
 /// Where what is known of each item stands, or of none where no item has parts.
 #[cycle(misfits)]
-fn item_parts<'a, 'b>(
+fn item_parts<'a>(
     alloc: Global,
-    raws: &'b [RawNode<'b>],
-    null: &'b RawNode<'b>,
+    raws: &[RawNode],
     tables: &[UnionTable],
     items: &'a Vec<Value>,
     own: &[NodeId],
-    merges: &mut Merges<'b>,
+    merges: &mut Merges,
     all: &mut Vec<Gathered<'a>>,
 ) -> Result<Vec<usize>, Memory>
-    requires null { without_defaults null.now ≡ SeenNode.null }
     requires tables { AreTables (all_without_defaults raws.now) tables.now }
     ensures grown { IfOk result (λ parts. Grows all.old.items all.new.items) }
     ensures known { IfOk result (λ parts. AreItemsKnown (all_without_defaults raws.now) all.new.items (items_view items.now.items) parts.items) }
@@ -124,28 +129,49 @@ fn item_parts<'a, 'b>(
     }
     let asked = asked_items(alloc, raws, own)?;
     for item in items {
-        let part = match part_before(items, &parts, item) {
-            Some(part) => part,
-            None => gather(alloc, raws, null, tables, item, &asked, merges, all)?,
-        };
+        let part = gather_item(
+            alloc, raws, tables, item, items, &parts, &asked, merges, all,
+        )?;
         parts.push(part)?;
     }
     Ok(parts)
 }
 
+/// Gathers what is known of the item after some of which this is known: it is known where the last of these is the same.
+#[cycle(misfits)]
+fn gather_item<'a>(
+    alloc: Global,
+    raws: &[RawNode],
+    tables: &[UnionTable],
+    item: &'a Value,
+    items: &[Value],
+    parts: &[usize],
+    asked: &[NodeId],
+    merges: &mut Merges,
+    all: &mut Vec<Gathered<'a>>,
+) -> Result<usize, Memory>
+    requires tables { AreTables (all_without_defaults raws.now) tables.now }
+    requires parts { AreItemsKnown (all_without_defaults raws.now) all.now.items (items_view items.now) parts.now }
+    ensures grown { IfOk result (λ known. Grows all.old.items all.new.items) }
+    ensures known { IfOk result (λ known. IsKnown (all_without_defaults raws.now) all.new.items (view item.now) known) }
+{
+    match part_before(items, parts, item) {
+        Some(part) => Ok(part),
+        None => gather_part(alloc, raws, tables, item, asked, merges, all),
+    }
+}
+
 /// Where what is known of each member that has parts stands.
 #[cycle(misfits)]
-fn member_parts<'a, 'b>(
+fn member_parts<'a>(
     alloc: Global,
-    raws: &'b [RawNode<'b>],
-    null: &'b RawNode<'b>,
+    raws: &[RawNode],
     tables: &[UnionTable],
     members: &'a Map<String, Value>,
     own: &[NodeId],
-    merges: &mut Merges<'b>,
+    merges: &mut Merges,
     all: &mut Vec<Gathered<'a>>,
 ) -> Result<BTreeMap<&'a str, usize>, Memory>
-    requires null { without_defaults null.now ≡ SeenNode.null }
     requires tables { AreTables (all_without_defaults raws.now) tables.now }
     ensures grown { IfOk result (λ parts. Grows all.old.items all.new.items) }
     ensures known { IfOk result (λ parts. AreMembersKnown (all_without_defaults raws.now) all.new.items (members_view members.now.entries) parts) }
@@ -157,7 +183,7 @@ fn member_parts<'a, 'b>(
         match asked.get(key) {
             Some(of_member) => match members.get(key) {
                 Some(tree) => {
-                    let part = gather(alloc, raws, null, tables, tree, of_member, merges, all)?;
+                    let part = gather_part(alloc, raws, tables, tree, of_member, merges, all)?;
                     parts.insert(key, part)?;
                 }
                 None => {}

@@ -55,12 +55,13 @@ fn are_items_same(items: &Vec<Value>, others: &Vec<Value>) -> bool
     if items.len() != others.len() {
         return false;
     }
-    let mut index = 0usize;
-    for item in items {
-        if !is_same(item, &others[index]) {
+    for i in 0..items.len() {
+        let Some(other) = others.get(i) else {
+            return false;
+        };
+        if !is_same(&items[i], other) {
             return false;
         }
-        index += 1;
     }
     true
 }

@@ -153,7 +153,7 @@ fn table_of_keys<'a>(
 }
 
 /// The table of some branches, with their symbols or without, and likewise their parts.
-pub(crate) fn table_of_branches<'a>(
+fn table_of_branches<'a>(
     alloc: Global,
     raws: &'a [RawNode<'a>],
     null: &'a RawNode<'a>,

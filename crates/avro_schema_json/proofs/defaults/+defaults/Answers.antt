@@ -1,4 +1,4 @@
-use Rattle.std.proofs.Common.{◌≡◌, ◌+◌, ℕ, List, Some, option_map, sym, ap, subst, ◌∙◌}
+use Rattle.std.proofs.Common.{◌≡◌, ◌+◌, ℕ, List, [], ◌∷◌, length, length-append, Some, option_map, sym, ap, subst, ◌∙◌, arith}
 use Rattle.avro_schema.specs.Node.{node_at, branches_of}
 use Rattle.avro_schema.specs.Seen.{value_of, ids_of}
 use Rattle.avro_schema.specs.Value.{Value}
@@ -13,7 +13,7 @@ use Rattle.avro_schema_json.specs.inside.Probes.{AreProbes}
 use Rattle.avro_schema_json.proofs.ProbesSeen.{branch-refused}
 use Rattle.avro_schema_json.proofs.DefaultsSeen.{default-union, entries_end}
 use Rattle.avro_schema_json.proofs.DefaultSteps.{item_next, items_end, entry_next, fields_left, field_next, field_stop, field_missing, fields_end}
-use Rattle.avro_schema_json.proofs.MisfitsSeen.{branch-skip, branch-pass, item-at, left-first, left-next}
+use Rattle.avro_schema_json.proofs.MisfitsSeen.{branch-skip, branch-pass, item-at, items-read, left-first, left-next}
 use Rattle.avro_schema_json.proofs.TablesSeen.{begins_late}
 use Rattle.avro_schema_json.proofs.RawSeen.{field_item, fields_past}
 use Rattle.avro_schema_json.proofs.defaults.+defaults.Goals as goal
@@ -26,8 +26,8 @@ known_default-returns t c =
     let here : branches_of n ≡ Some ids = ap branches_of (sym c.raw_at-node.ensures) ∙ sym c.in-Some.ensures in
     rw (default-union nodes (view c.args.tree.now) n ids here) c.branch_default-in-Some.ensures
 
-pub known_default-returns-then-known-ne0 : goal.known_default-returns-then-known-ne0
-known_default-returns-then-known-ne0 t c =
+pub known_default-returns-then-len-lt2 : goal.known_default-returns-then-len-lt2
+known_default-returns-then-len-lt2 t c =
     let nodes = all_without_defaults c.args.raws.now in
     let n = node_at nodes c.args.id.0 in
     let ids = ids_of c.in-Some.ids.now in
@@ -70,11 +70,16 @@ item_defaults-loop-item-preserved t c =
     let nodes = all_without_defaults c.args.raws.now in
     let n = node_at nodes c.args.id.0 in
     let xs = c.deref-item-items.result.now in
+    let ys = c.args.items.now.items in
+    let x = c.item-item.result in
+    let v = c.in-Some.value in
     let read = ap (option_map value_of) (sym c.in-Some.is) ∙ c.in_ok-value.ensures in
     rw c.in_ok-push.ensures.items (
       c.in_ok-index.ensures ∙ ap (λ i. i + 1) l.invariant.0,
-      item_next nodes n xs l.item-index c.item-item.result (each_default nodes (items_view xs) n) l.values.items c.in-Some.value
-          c.loop-item-test.true c.item-item.is l.invariant.1 read,
+      item_next nodes n xs l.item-index x (each_default nodes (items_view xs) n) l.values.items v c.loop-item-test.true c.item-item.is l.invariant.1 read,
+      omega (arith, length-append l.values.items (v ∷ []), l.invariant.2),
+      items-read nodes n (items_view ys) l.values.items v (view x) l.invariant.3
+          (item-at xs ys l.item-index (length l.values.items) x c.deref-item-items.ensures.value l.invariant.2 c.loop-item-test.true c.item-item.is) read,
     )
 
 pub item_defaults-part_of_array-part-requires-clause-item : goal.item_defaults-part_of_array-part-requires-clause-item

@@ -1,8 +1,9 @@
-use Rattle.std.proofs.Common.{◌≡◌, ℕ, List, Option, drop, option_map}
+use Rattle.std.proofs.Common.{◌≡◌, ℕ, List, Option, drop, length, option_map}
 use Rattle.avro_schema.specs.Node.{Node, node_at}
 use Rattle.avro_schema.specs.Seen.{ids_of}
 use Rattle.avro_schema.specs.Value.{Value}
 use Rattle.avro_schema_json.specs.DeclaredDefaults.{first_fit, each_default, entries_default, fields_default, default_under}
+use Rattle.avro_schema_json.specs.inside.Misfits.{AreItemsRead}
 use Rattle.avro_schema_json.specs.inside.OwnDefaults.{all_without_defaults, fields_seen, own_default}
 use Rattle.serde_json.specs.View.{view, items_view, members_view}
 use Rattle.avro_schema_json.proofs.DefaultsSeen.{after_values, after_entries}
@@ -15,6 +16,7 @@ invariant-item_defaults-loop-item l =
     let node = node_at nodes l.id.0 in
     (l.index ≡ l.item-index) × (option_map (after_values l.values.items) (each_default nodes (items_view (drop l.item-index l.item-items)) node)
     ≡ each_default nodes (items_view l.item-items) node)
+    × (length l.values.items ≡ l.item-index) × AreItemsRead nodes node (items_view l.items.items) l.values.items
 
 abbrev pub invariant-entry_defaults-loop-key : goal.invariant-entry_defaults-loop-key
 invariant-entry_defaults-loop-key l =

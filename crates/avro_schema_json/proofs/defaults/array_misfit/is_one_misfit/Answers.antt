@@ -16,7 +16,7 @@ is_misfit-requires c =
       tables = c.requires.tables;
       known =
           let nodes = all_without_defaults c.args.raws.now in
-          c.misfits_at-known.ensures nodes (view x) (c.item_part.ensures nodes c.args.all.now (items_view ys) (view x) c.requires.parts at);
+          c.misfits_at-known.ensures nodes (view x) (c.item_part-part.ensures nodes c.args.all.now (items_view ys) (view x) c.requires.parts at);
     }
 
 pub returns-then-branch : goal.returns-then-branch

@@ -4,7 +4,6 @@ use Rattle.avro_schema.specs.Node.{Node, node_at}
 use Rattle.avro_schema.specs.Seen.{ids_of}
 use Rattle.serde_json.specs.Data.{Data}
 use Rattle.avro_schema_json.specs.DeclaredDefaults.{default_of}
-use Rattle.avro_schema_json.specs.declared.defaults.place.Step.{Step}
 use Rattle.avro_schema_json.specs.inside.OwnDefaults.{all_without_defaults, own_default}
 use Rattle.avro_schema_json.specs.inside.Places.{IsPart, FitsNone}
 use Rattle.avro_schema_json.proofs.BelowSeen.{map_below}

@@ -19,7 +19,7 @@ is_misfit-requires c =
       tables = c.requires.tables;
       known =
           let nodes = all_without_defaults c.args.raws.now in
-          c.misfits_at-known.ensures nodes d (c.member_part.ensures nodes c.args.all.now (members_view es) d c.requires.parts there);
+          c.misfits_at-known.ensures nodes d (c.member_part-part.ensures nodes c.args.all.now (members_view es) d c.requires.parts there);
     }
 
 pub returns-in-Some : goal.returns-in-Some

@@ -13,7 +13,7 @@ returns-clause-place c =
     let asks = c.in_ok-asks.asks in
     let texts = c.in_ok-texts.texts in
     let sizes = c.in_ok-sizes.sizes in
-    place_made nodes (record { sets = c.args.sets; asks = asks; texts = texts; sizes = sizes })
+    place_made nodes (record { sets = c.args.sets; asks = asks; «open» = c.in_ok-open.«open»; texts = texts; sizes = sizes })
     (subst (λ (xs : List (Vec NodeId)). AreKindsAsked nodes xs asks.items) c.deref.ensures.value c.in_ok-asks.ensures)
-    (subst (λ (xs : List (Vec NodeId)). AreListed nodes xs texts) c.deref-2.ensures.value c.in_ok-texts.ensures)
-    (subst (λ (xs : List (Vec NodeId)). AreSized nodes xs sizes) c.deref-3.ensures.value c.in_ok-sizes.ensures)
+    (subst (λ (xs : List (Vec NodeId)). AreListed nodes xs texts) c.deref-3.ensures.value c.in_ok-texts.ensures)
+    (subst (λ (xs : List (Vec NodeId)). AreSized nodes xs sizes) c.deref-4.ensures.value c.in_ok-sizes.ensures)

@@ -1,5 +1,4 @@
-use Rattle.std.proofs.Common.{◌≡◌, Some, [], ◌∷◌, length, refl}
-use Rattle.std.specs.Prelude.{slice_get}
+use Rattle.std.proofs.Common.{[], ◌∷◌, refl}
 use Rattle.avro_schema.specs.Seen.{ids_of}
 use Rattle.avro_schema_json.specs.inside.OwnDefaults.{all_without_defaults}
 use Rattle.avro_schema_json.proofs.PlacesSeen.{each_none, each_push, no_links, all_links-next, places_end}

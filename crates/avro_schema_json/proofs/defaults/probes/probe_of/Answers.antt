@@ -10,7 +10,7 @@ returns c = λ nodes good.
     let kinds = c.args.place.now.asks in
     let counted : vec_len kinds ≡ length kinds.items = search rules in
     probe_found nodes c.args.place.now (view c.args.tree.now) c.key_of_kind-kind.result c.index.result.now
-    (record { asks = c.deref.result; listed = c.listed_for.result; sized = c.sized_for.result; is_bytes = c.in_ok-is_bytes.is_bytes; is_int = c.is_int.result })
+    (record { asks = c.deref.result; listed = c.listed_for.result; sized = c.sized_for.result; is_bytes = c.in_ok-is_bytes.is_bytes; is_int = c.is_int.result; passing = c.passing_at.result })
     c.key_of_kind-kind.ensures
     (at_index kinds.items c.key_of_kind-kind.result c.index.result.now (omega (arith, c.if-kind-len.false, c.len.ensures, counted)) c.index.ensures)
     c.deref.ensures.value c.listed_for.ensures c.sized_for.ensures c.in_ok-is_bytes.ensures c.is_int.ensures good

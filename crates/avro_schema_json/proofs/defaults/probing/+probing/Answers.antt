@@ -5,7 +5,6 @@ use Rattle.std.proofs.lemmas.Result.{IfOk-weaker}
 use Rattle.serde_json.specs.Data.{Data}
 use Rattle.serde_json.specs.Find.{get_member}
 use Rattle.serde_json.specs.View.{view, items_view, members_view}
-use Rattle.serde_json.specs.declared.value.Value.{Value as Tree}
 use Rattle.serde_json.proofs.Views.{view-lookup, view-Array, view-Object}
 use Rattle.avro_schema_json.specs.declared.defaults.place.Links.{Links}
 use Rattle.avro_schema_json.specs.inside.Probes.{AddsProbes}

@@ -1,9 +1,4 @@
-use Rattle.std.proofs.Common.{List, ℕ, Option, Some, None, sym, subst, ◌∙◌}
-use Rattle.std.specs.Prelude.{IfSome}
-use Rattle.avro_schema.specs.Node.{Node}
-use Rattle.serde_json.specs.Find.{get}
-use Rattle.avro_schema_json.specs.declared.defaults.place.Place.{Place}
-use Rattle.avro_schema_json.specs.inside.Asked.{AreLinks, IsLinked}
+use Rattle.std.proofs.Common.{sym}
 use Rattle.avro_schema_json.proofs.ProbesSeen.{named_linked, values_linked}
 use Rattle.avro_schema_json.proofs.defaults.probing.place_of_member.Goals as goal
 

@@ -1,4 +1,3 @@
-use Rattle.std.proofs.Common.{None}
 use Rattle.avro_schema_json.proofs.ListedSeen.{size-put}
 use Rattle.avro_schema_json.proofs.defaults.sized.list_size.Goals as goal
 
