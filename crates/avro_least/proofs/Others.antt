@@ -16,8 +16,9 @@ use Rattle.avro_least.specs.Tables.{Least, LeastTable, ErringTable, together, al
 use Rattle.avro_least.specs.Asked.{Row, Asked, asked}
 use Rattle.avro_least.specs.declared.kept.Least.{Least as KeptLeast}
 use Rattle.avro_least.specs.declared.pairs.leads.Lead.{Lead}
+use Rattle.avro_least.specs.declared.pairs.leads.LeadRow.{LeadRow}
 use Rattle.avro_least.specs.inside.Parts.{least_of_others, nodes_of, parts_of, part_at, seen_pair, row_items, AreOthersOf, AreOthers}
-use Rattle.avro_least.specs.inside.Leading.{is_lead, leads_at}
+use Rattle.avro_least.specs.inside.Leading.{is_lead, leads_at, row_leads}
 use Rattle.avro_certificate.proofs.public.Tests.{or_from_left, or_from_right}
 use Rattle.avro_least.proofs.AskedKinds.{asks}
 use Rattle.avro_least.proofs.AskedValue.{row_nodes}
@@ -59,19 +60,19 @@ rows_nodes limit table erring writer reader n q rows e =
     ap (map (λ row. row.node)) own.rows_is ∙ row_nodes limit table erring own.fields own.theirs 0 (field_ids own.fields) ∙ ap nodes_of (sym own.from_is)
 
 -- a row that grows
-module _ (rows : List (Vec Lead)) (j : ℕ) (lead : Lead) (row old : Vec Lead) (within : j < length rows) (is : row.items ≡ (get_or rows j old).items ++ lead ∷ []) where
+module _ (rows : List LeadRow) (j : ℕ) (lead : Lead) (row old : LeadRow) (within : j < length rows) (is : row_leads row ≡ row_leads (get_or rows j old) ++ lead ∷ []) where
   pub lead_added : is_lead (leads_at (set rows j row) j) lead.pair lead.part ≡ true
   lead_added = rw (set_here rows j row within, is)
-      (list_any-append (λ l. (lead.pair == l.pair) && (lead.part == l.part)) (get_or rows j old).items (lead ∷ [])
-      ∙ or_from_right (is_lead (get_or rows j old).items lead.pair lead.part) (((lead.pair == lead.pair) && (lead.part == lead.part)) || false)
+      (list_any-append (λ l. (lead.pair == l.pair) && (lead.part == l.part)) (row_leads (get_or rows j old)) (lead ∷ [])
+      ∙ or_from_right (is_lead (row_leads (get_or rows j old)) lead.pair lead.part) (((lead.pair == lead.pair) && (lead.part == lead.part)) || false)
       (or_from_left ((lead.pair == lead.pair) && (lead.part == lead.part)) false
       (and_from (lead.pair == lead.pair) (lead.part == lead.part) (eq-eqb lead.pair lead.pair refl) (eq-eqb lead.part lead.part refl))))
 
   pub leads_kept : (k p n : ℕ) → is_lead (leads_at rows k) p n ≡ true → is_lead (leads_at (set rows j row) k) p n ≡ true
   leads_kept k p n m = elim (cases_eq k j) [
     | inl same ↦ rw (same, set_here rows j row within, is)
-        (list_any-append (λ l. (p == l.pair) && (n == l.part)) (get_or rows j old).items (lead ∷ [])
-        ∙ or_from_left (is_lead (get_or rows j old).items p n) (is_lead (lead ∷ []) p n) (rw (same, slice_get-get_or rows j old within) at m))
+        (list_any-append (λ l. (p == l.pair) && (n == l.part)) (row_leads (get_or rows j old)) (lead ∷ [])
+        ∙ or_from_left (is_lead (row_leads (get_or rows j old)) p n) (is_lead (lead ∷ []) p n) (rw (same, slice_get-get_or rows j old within) at m))
     | inr apart ↦ rw (set_other rows j k row apart) m
   ]
 

@@ -7,7 +7,6 @@ use Rattle.std.proofs.lemmas.List.Quantifiers.{position-Some}
 use Rattle.std.proofs.lemmas.Map.Keys.{apart_from_distinct}
 use Rattle.std.proofs.lemmas.Option.{get_or_from_slice_get, slice_get_within}
 use Rattle.std.specs.Prelude.{slice_get, unwrap_or, ◌==◌, is_none, nat_eq, position}
-use Rattle.std.specs.Global.{Vec}
 use Rattle.std.specs.List.{IsDistinct}
 use Rattle.avro_schema.specs.Node.{Node, node_at}
 use Rattle.avro_compare.specs.Children.{Pair}
@@ -15,6 +14,7 @@ use Rattle.avro_least.specs.Tables.{Least, LeastTable, AtMost, no_parts, pair_nu
 use Rattle.avro_least.specs.SeenLeast.{seen, seen_all, given_entry, improves}
 use Rattle.avro_least.specs.declared.kept.Least.{Least as KeptLeast}
 use Rattle.avro_least.specs.declared.pairs.leads.Lead.{Lead}
+use Rattle.avro_least.specs.declared.pairs.leads.LeadRow.{LeadRow}
 use Rattle.avro_least.specs.Asked.{asked_at, IsLowAtIndex}
 use Rattle.avro_least.specs.inside.Parts.{part_at, entry_of_part, around_part, value_by_part}
 use Rattle.avro_least.specs.inside.Falling.{is_waiting, lowered}
@@ -198,7 +198,7 @@ module _ (writer reader : List Node) (limit : ℕ) (table : LeastTable) (keys : 
           (improves_low (seen found) (given_entry (slice_get es lead.pair)) s d e (by_lead own s d there m)))
 
   -- the leads of the pair that is taken from the queue
-  pub next_leads : (rows : List (Vec Lead)) (entries : List (Option Least)) (waiting after : List Bool) (i : ℕ)
+  pub next_leads : (rows : List LeadRow) (entries : List (Option Least)) (waiting after : List Bool) (i : ℕ)
       → AreLeads writer reader table keys (length keys) rows
       → ((k : ℕ) → is_waiting waiting k ≡ true → (k ≡ i) ⊎ (is_waiting after k ≡ true))
       → AreTakenBut [] writer reader limit table keys entries waiting → AreTakenBut (leads_at rows i) writer reader limit table keys entries after
@@ -252,7 +252,7 @@ position_is ks j k distinct there = by_place (position (λ q. k == q) ks) refl
         ]
 
 -- the leads of one pair more
-pub leads_more : (writer reader : List Node) (table : LeastTable) (keys : List ℕ) (before rows : List (Vec Lead)) (i own : ℕ)
+pub leads_more : (writer reader : List Node) (table : LeastTable) (keys : List ℕ) (before rows : List LeadRow) (i own : ℕ)
     → IsDistinct nat_eq keys → slice_get keys i ≡ Some own
     → ((j p k : ℕ) → is_lead (leads_at before j) p k ≡ true → is_lead (leads_at rows j) p k ≡ true)
     → ((j k a b : ℕ) → part_at (own / length reader) (own % length reader) (asked_at writer reader own) k ≡ Some (record { w = a; r = b }) → is_none (table a) ≡ false

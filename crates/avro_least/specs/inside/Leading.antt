@@ -1,6 +1,5 @@
 -- Which pairs lead to a pair, and which have taken the entries of those that they lead to.
-use Rattle.std.specs.Prelude.{◌≡◌, ◌==◌, ◌&&◌, ◌<◌, ◌≤◌, ◌⊎◌, ◌*◌, ◌/◌, ◌%◌, ℕ, Bool, true, false, List, [], Option, Some, None, length, slice_get, unwrap_or, is_none, nat_lt}
-use Rattle.std.specs.Global.{Vec}
+use Rattle.std.specs.Prelude.{◌≡◌, ◌==◌, ◌&&◌, ◌<◌, ◌≤◌, ◌⊎◌, ◌*◌, ◌/◌, ◌%◌, ℕ, Bool, true, false, List, [], ◌∷◌, Option, Some, None, length, slice_get, unwrap_or, is_none, nat_lt}
 use Rattle.std.specs.List.{list_any, list_all}
 use Rattle.indexmap.specs.IndexSet.{keys}
 use Rattle.avro_schema.specs.Node.{Node}
@@ -15,6 +14,8 @@ use Rattle.avro_least.specs.Asked.{asked_at, steps_at, ArePairsShown}
 use Rattle.avro_least.specs.inside.Parts.{part_at, value_by_part, value_alone, AreOthers}
 use Rattle.avro_least.specs.inside.Falling.{is_waiting, IsSearch}
 use Rattle.avro_least.specs.declared.pairs.leads.Lead.{Lead}
+use Rattle.avro_least.specs.declared.pairs.leads.LeadRow.{LeadRow}
+use Rattle.avro_least.specs.declared.pairs.leads.LeadRow.TheVariants.{Empty, One, Two, More}
 use Rattle.avro_least.specs.declared.pairs.graph.Graph.{Graph}
 use Rattle.avro_least.specs.declared.queue.Search.{Search}
 
@@ -22,13 +23,20 @@ use Rattle.avro_least.specs.declared.queue.Search.{Search}
 abbrev pub is_lead : List Lead → ℕ → ℕ → Bool
 is_lead leads i k = list_any (λ l. (i == l.pair) && (k == l.part)) leads
 
--- the row at an index
-abbrev pub leads_at : List (Vec Lead) → ℕ → List Lead
+-- the leads of a row
+abbrev pub row_leads : LeadRow → List Lead
+row_leads Empty = []
+row_leads (One lead) = lead ∷ []
+row_leads (Two leads) = leads
+row_leads (More leads) = leads.value.items
+
+-- the leads of the row at an index
+abbrev pub leads_at : List LeadRow → ℕ → List Lead
 leads_at rows i = of_row (slice_get rows i)
   where
-    of_row : Option (Vec Lead) → List Lead
+    of_row : Option LeadRow → List Lead
     of_row None = []
-    of_row (Some row) = row.items
+    of_row (Some row) = row_leads row
 
 -- the pair at an index leads to that of a number by one of its parts, and the part's writer's node has data
 pub record LeadsBy (writer reader : List Node) (table : LeastTable) (keys : List ℕ) (i k key : ℕ) : Type 0 where
@@ -40,7 +48,7 @@ pub record LeadsBy (writer reader : List Node) (table : LeastTable) (keys : List
   pub number : pair_number (length reader) part.w part.r ≡ key
 
 -- each of the first pairs is a lead of those that it leads to
-abbrev pub AreLeads : List Node → List Node → LeastTable → List ℕ → ℕ → List (Vec Lead) → Type 0
+abbrev pub AreLeads : List Node → List Node → LeastTable → List ℕ → ℕ → List LeadRow → Type 0
 AreLeads writer reader table keys count rows = (i k j key : ℕ) → i < count → LeadsBy writer reader table keys i k key → slice_get keys j ≡ Some key
     → is_lead (leads_at rows j) i k ≡ true
 

@@ -1,7 +1,7 @@
 //! The pairs that were reached, and what the least data that fail at each of them are found from.
 
 use crate::kept::Least;
-use crate::pairs::leads::Lead;
+use crate::pairs::leads::LeadRow;
 use crate::pairs::reaching::Reached;
 use avro_schema::Schema;
 
@@ -21,5 +21,5 @@ pub(crate) struct Graph<'a> {
     /// The pairs that were reached.
     pub(crate) reached: &'a Reached,
     /// For each of them the pairs that lead to it.
-    pub(crate) leads: &'a [Vec<Lead>],
+    pub(crate) leads: &'a [LeadRow],
 }

@@ -7,7 +7,7 @@ ghost use Rattle.avro_schema.specs.SeenSchema.{schema_nodes};
 ghost use Rattle.avro_least.specs.SeenLeast.{table_of};
 ghost use Rattle.avro_least.specs.Tables.{pair_number};
 ghost use Rattle.avro_least.specs.KeptAsks.{AreFound, kept_part};
-ghost use Rattle.avro_least.specs.inside.Leading.{is_lead, leads_at, AreLeads};
+ghost use Rattle.avro_least.specs.inside.Leading.{is_lead, leads_at, row_leads, AreLeads};
 
 use crate::kept::Least;
 use crate::nodes::least::{count, entry};
@@ -18,6 +18,7 @@ use crate::pairs::reaching::{Reached, ask_at_index, number, readers, writers};
 use avro_schema::{Memory, NodeId, Schema};
 use indexmap::IndexSet;
 use std::alloc::Global;
+use std::slice;
 
 /// A pair that leads to another one, by the part at an index.
 #[derive(Clone, Copy, Debug)]
@@ -41,45 +42,83 @@ fn lead_of(pair: usize, part: usize) -> Result<Lead, Memory>
     }
 }
 
-/// The row at an index, or nothing past the end.
-pub(crate) fn leads_at(rows: &[Vec<Lead>], i: usize) -> &[Lead]
+/// The pairs that lead to a pair. Few pairs have more than two, so up to two take no memory of their own.
+#[derive(Drop)]
+pub(crate) enum LeadRow {
+    /// None.
+    Empty,
+    /// One.
+    One(Lead),
+    /// Two.
+    Two([Lead; 2]),
+    /// More, behind a box, since a list in place would make each row longer.
+    More(Box<Vec<Lead>>),
+}
+
+/// The leads of a row, in the order in which they were added.
+fn row_leads(row: &LeadRow) -> &[Lead]
+    ensures { result.now ≡ row_leads row.now }
+{
+    match row {
+        LeadRow::Empty => &[],
+        LeadRow::One(lead) => slice::from_ref(lead),
+        LeadRow::Two(leads) => leads,
+        LeadRow::More(leads) => leads.as_slice(),
+    }
+}
+
+/// The leads of the row at an index, or none past the end.
+pub(crate) fn leads_at(rows: &[LeadRow], i: usize) -> &[Lead]
     ensures { result.now ≡ leads_at rows.now i }
 {
     match rows.get(i) {
         None => &[],
-        Some(row) => row,
+        Some(row) => row_leads(row),
     }
 }
 
 /// This many empty rows.
-fn empty_rows(alloc: Global, count: usize) -> Result<Vec<Vec<Lead>>, Memory>
+fn empty_rows(alloc: Global, count: usize) -> Result<Vec<LeadRow>, Memory>
     ensures { IfOk result (λ t. length t.items ≡ count) }
 {
-    let mut rows = Vec::new(alloc);
+    let mut rows = Vec::with_capacity(alloc, count)?;
     for done in 0..count {
-        rows.push(Vec::new(alloc))?;
+        rows.push(LeadRow::Empty)?;
     }
     Ok(rows)
 }
 
-/// Adds a lead to a row. A row begins with room for three, which take no more memory than one: few have more.
-fn push_lead(row: &mut Vec<Lead>, lead: Lead) -> Result<(), Memory>
-    ensures { OnOk result (row.new.items ≡ row.old.items ++ lead ∷ []) }
+/// A row of some leads and one more behind them, in a list that begins with room for four.
+fn longer_row(alloc: Global, leads: &[Lead], lead: Lead) -> Result<LeadRow, Memory>
+    ensures { IfOk result (λ row. row_leads row ≡ leads.now ++ lead ∷ []) }
 {
-    if row.len() == row.capacity() {
-        row.reserve_exact(row.len().max(3))?;
+    let mut more = Vec::with_capacity(alloc, 4)?;
+    more.extend_from_slice(leads)?;
+    more.push(lead)?;
+    Ok(LeadRow::More(Box::new(alloc, more)?))
+}
+
+/// Adds a lead at the end of a row.
+fn push_lead(alloc: Global, row: &mut LeadRow, lead: Lead) -> Result<(), Memory>
+    ensures { OnOk result (row_leads row.new ≡ row_leads row.old ++ lead ∷ []) }
+{
+    match row {
+        LeadRow::Empty => *row = LeadRow::One(lead),
+        LeadRow::One(first) => *row = LeadRow::Two([*first, lead]),
+        LeadRow::Two(both) => *row = longer_row(alloc, both, lead)?,
+        LeadRow::More(leads) => leads.push(lead)?,
     }
-    row.push(lead)?;
     Ok(())
 }
 
 /// Adds a lead to the row of the pair of this number, which is looked for first after the one that was found before.
 fn add_lead(
+    alloc: Global,
     known: &IndexSet<u64>,
     key: u64,
     lead: Lead,
     next: &mut usize,
-    rows: &mut [Vec<Lead>],
+    rows: &mut [LeadRow],
 ) -> Result<(), Memory>
     requires { length rows.old ≡ length (keys known.now) }
     ensures one_each { OnOk result (length rows.new ≡ length rows.old) }
@@ -90,7 +129,7 @@ fn add_lead(
         None => Ok(()),
         Some(j) => {
             let row = &mut rows[j];
-            push_lead(row, lead)?;
+            push_lead(alloc, row, lead)?;
             Ok(())
         }
     }
@@ -98,13 +137,14 @@ fn add_lead(
 
 /// Adds a pair by its index to the row of the one that its part is. A part whose writer's node has no data needs none.
 fn add_part(
+    alloc: Global,
     table: &[Option<Least>],
     count: u32,
     known: &IndexSet<u64>,
     part: Option<(usize, NodeId, NodeId)>,
     pair: usize,
     next: &mut usize,
-    rows: &mut [Vec<Lead>],
+    rows: &mut [LeadRow],
 ) -> Result<(), Memory>
     requires { length rows.old ≡ length (keys known.now) }
     ensures one_each { OnOk result (length rows.new ≡ length rows.old) }
@@ -119,13 +159,14 @@ fn add_part(
                 return Ok(());
             }
             let lead = lead_of(pair, k)?;
-            add_lead(known, number(count, a, b), lead, next, rows)
+            add_lead(alloc, known, number(count, a, b), lead, next, rows)
         }
     }
 }
 
 /// Adds the pair at an index to the rows of those that it leads to, by what it asks for.
 fn add_parts(
+    alloc: Global,
     table: &[Option<Least>],
     count: u32,
     known: &IndexSet<u64>,
@@ -134,7 +175,7 @@ fn add_parts(
     r: NodeId,
     i: usize,
     next: &mut usize,
-    rows: &mut [Vec<Lead>],
+    rows: &mut [LeadRow],
 ) -> Result<(), Memory>
     requires { length rows.old ≡ length (keys known.now) }
     ensures one_each { OnOk result (length rows.new ≡ length rows.old) }
@@ -144,7 +185,7 @@ fn add_parts(
 {
     for n in 0..part_count(ask) {
         let part = nth_part(w, r, ask, n);
-        add_part(table, count, known, part, i, next, rows)?;
+        add_part(alloc, table, count, known, part, i, next, rows)?;
     }
     Ok(())
 }
@@ -160,7 +201,7 @@ pub(crate) fn leads(
     reader: &Schema,
     table: &[Option<Least>],
     reached: &Reached,
-) -> Result<Vec<Vec<Lead>>, Memory>
+) -> Result<Vec<LeadRow>, Memory>
     requires below { list_all (λ k. nat_lt k (length (schema_nodes writer.now) * length (schema_nodes reader.now))) (keys reached.now.known) ≡ true }
     requires one_each { length reached.now.found.items ≡ length (keys reached.now.known) }
     requires of_keys { AreFound (schema_nodes writer.now) (schema_nodes reader.now) (keys reached.now.known) reached.now.found.items }
@@ -178,6 +219,7 @@ pub(crate) fn leads(
                 let r = readers(reader, *key);
                 let ask = ask_at_index(writer, reader, reached, i);
                 add_parts(
+                    alloc,
                     table,
                     nodes,
                     &reached.known,

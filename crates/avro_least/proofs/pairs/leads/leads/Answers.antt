@@ -1,6 +1,5 @@
 use Rattle.std.proofs.Common.{◌≡◌, ◌*◌, ◌+◌, ◌/◌, ◌%◌, ℕ, true, false, Some, List, length, arith, sym, ◌∙◌, ap, subst}
 use Rattle.std.proofs.lemmas.List.{with_items_is}
-use Rattle.std.specs.Global.{Vec}
 use Rattle.std.specs.Prelude.{slice_get, is_none, position, ◌==◌}
 use Rattle.indexmap.specs.IndexSet.{keys}
 use Rattle.avro_schema.specs.Node.{Node}
@@ -10,7 +9,7 @@ use Rattle.avro_least.specs.Asked.{asked_at}
 use Rattle.avro_least.specs.KeptAsks.{kept_part}
 use Rattle.avro_least.specs.SeenLeast.{table_of}
 use Rattle.avro_least.specs.declared.pairs.keeping.KeptAsk.{KeptAsk}
-use Rattle.avro_least.specs.declared.pairs.leads.Lead.{Lead}
+use Rattle.avro_least.specs.declared.pairs.leads.LeadRow.{LeadRow}
 use Rattle.avro_least.specs.inside.Parts.{part_at}
 use Rattle.avro_least.specs.inside.Leading.{is_lead, leads_at, AreLeads}
 use Rattle.avro_least.proofs.PairSteps.{below_at}
@@ -32,11 +31,11 @@ loop-i-preserved c =
     let qs : List Node = schema_nodes c.args.reader.now in
     let key : ℕ = c.in-Some.key.now in
     let here : slice_get ks i ≡ Some key = sym c.in-Some.ensures.key in
-    let rows : List (Vec Lead) = c.add_parts.new.rows in
+    let rows : List LeadRow = c.add_parts.new.rows in
     let as_many : length rows ≡ length c.loop-i.rows.items = new.one_each ∙ ap length c.deref_mut.ensures.value in
     let written = with_items_is c.loop-i.rows rows (as_many ∙ sym c.loop-i.rows.ok.0) in
     let kept : (j p n : ℕ) → is_lead (leads_at c.loop-i.rows.items j) p n ≡ true → is_lead (leads_at rows j) p n ≡ true =
-    subst (λ (old : List (Vec Lead)). (j p n : ℕ) → is_lead (leads_at old j) p n ≡ true → is_lead (leads_at rows j) p n ≡ true) c.deref_mut.ensures.value new.kept in
+    subst (λ (old : List LeadRow). (j p n : ℕ) → is_lead (leads_at old j) p n ≡ true → is_lead (leads_at rows j) p n ≡ true) c.deref_mut.ensures.value new.kept in
     let ask : KeptAsk = c.ask_at_index-ask.result in
     let added : (j n a b : ℕ) → part_at (key / length qs) (key % length qs) (asked_at ns qs key) n ≡ Some (record { w = a; r = b }) → is_none (table_of c.args.table.now a) ≡ false
     → position (λ q. pair_number (length qs) a b == q) ks ≡ Some j → is_lead (leads_at rows j) i n ≡ true =
@@ -46,7 +45,7 @@ loop-i-preserved c =
     ∙ kept_is (key / length qs) (key % length qs) ask (asked_at ns qs key) n (c.ask_at_index-ask.ensures key here) ∙ is) live
     (ap (λ (m : ℕ). position (λ q. pair_number m a b == q) ks) c.count-nodes.ensures.count ∙ there) in record {
       one_each = ap length written ∙ as_many ∙ inv.one_each;
-      leads = subst (λ (rs : List (Vec Lead)). AreLeads ns qs (table_of c.args.table.now) ks (i + 1) rs) (sym written)
+      leads = subst (λ (rs : List LeadRow). AreLeads ns qs (table_of c.args.table.now) ks (i + 1) rs) (sym written)
           (leads_more ns qs (table_of c.args.table.now) ks c.loop-i.rows.items rows i key c.len-pairs.ensures.unique here kept added inv.leads);
     }
 
