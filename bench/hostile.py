@@ -239,12 +239,25 @@ def look_alikes(count, around):
     return text
 
 
+def next_to(item):
+    """Another value of the same kind, if there is one of the same branch or of the branch before: of an item that is the one before
+    again, no default is looked for again."""
+    if isinstance(item, list):
+        return [next_to(part) for part in item]
+    if isinstance(item, dict):
+        return {key: next_to(part) for key, part in item.items()}
+    if isinstance(item, int):
+        return item + 1
+    return {"s0": "s1", "": "x"}.get(item, item)
+
+
 def of_union(branches, item):
-    """An array of one value again and again, of a union of these branches, as its default."""
+    """An array of one value and the next to it by turns, of a union of these branches, as its default."""
     def text(size):
         field = {"name": "f", "type": {"type": "array", "items": branches}, "default": []}
         schema = {"type": "record", "name": "R", "fields": [field]}
-        field["default"] = [item] * ((size - len(written(schema))) // (len(written(item)) + 1))
+        two = [item, next_to(item)]
+        field["default"] = two * ((size - len(written(schema))) // (len(written(two)) - 1))
         return written(schema)
     return text
 
@@ -325,21 +338,20 @@ def wide_below(size):
     return text(longest(size, text))
 
 
-def recursive(count):
-    """Unions of this many records that have the union again, and a default of objects within one another."""
+def recursive(count, leaf):
+    """Unions of this many records that have the union again, and a default of objects within one another, which differ where the leaf is int."""
     def text(size):
         names = ["R%d" % k for k in range(count)]
         def record(k):
             others = [record(j) for j in range(1, count)] if k == 0 else names[:k + 1]
-            return {"type": "record", "name": names[k], "fields": [{"name": "n", "type": ["null", *others]}]}
+            return {"type": "record", "name": names[k], "fields": [{"name": "n", "type": [leaf, *others]}]}
         records = [record(0), *names[1:]]
-        default = "null"
-        for _ in range(100):
-            default = '{"n":' + default + "}"
+        within = '{"n":' * 100 + "%s" + "}" * 100
         field = {"name": "f", "type": {"type": "array", "items": records}, "default": 0}
         schema = written({"type": "record", "name": "R", "fields": [field]})
-        items = max(1, (size - len(schema) - 2) // (len(default) + 1))
-        return schema.replace('"default":0', '"default":[' + ",".join([default] * items) + "]")
+        items = max(1, (size - len(schema) - 2) // (len(within) + 6))
+        leaves = [str(k) if leaf == "int" else "null" for k in range(items)]
+        return schema.replace('"default":0', '"default":[' + ",".join(within % it for it in leaves) + "]")
     return text
 
 
@@ -454,7 +466,8 @@ KINDS = {
     "alike unions in records": same_kinds(700, lambda k, left: in_record(k, [{"name": "a", "type": ["null", "boolean" if left else "int"]}]), {"a": {"a": 1}}),
     "alike numbers in arrays": same_kinds(1000, lambda k, left: in_array(k, "int" if left else "long"), {"a": [1, 3_000_000_000]}),
     "alike sizes of two": same_kinds(1000, two_sizes, {"a": ""}),
-    "wide below": wide_below, "recursive 20": recursive(20), "recursive 200": recursive(200),
+    "wide below": wide_below, "recursive 20": recursive(20, "null"), "recursive 200": recursive(200, "null"),
+    "recursive numbers 20": recursive(20, "int"), "recursive numbers 200": recursive(200, "int"),
     "alike texts behind many": long_array(1000),
     "alike records of two": same_kinds(600, two_records, {"a": {"a": "s0"}}),
     "alike in an array": alike(800, {"a": [{"a": 1, "b": 2}]}, inside(lambda k, leaf: in_record(k, plain_fields("ab")(k, leaf)), in_array)),

@@ -196,6 +196,36 @@ def records_of_parts(choose):
     return root
 
 
+def again(choose, tree):
+    """The same default with some items once more behind themselves."""
+    if isinstance(tree, list):
+        parts = [again(choose, part) for part in tree]
+        return [part for it in parts for part in [it] * choose.choice((1, 1, 2, 3))]
+    if isinstance(tree, dict):
+        return {key: again(choose, part) for key, part in tree.items()}
+    return tree
+
+
+def records_of_unions(choose):
+    """A default of objects within one another, of a union of records that have unions of each other, some of them arrays."""
+    records = [Type("record", name=f"R{k}", fields=[]) for k in range(choose.choice((2, 4, 9, 14, 20)))]
+    for k, record in enumerate(records):
+        for name in "nm"[:choose.choice((1, 1, 1, 2))]:
+            leaf = Type(choose.choice(("null", "int", "long", "boolean", "string")))
+            if choose.randrange(4) == 0:
+                leaf = Type("enum", name=f"E{name}{k}", symbols=[f"s{it}" for it in choose.sample(range(6), 2)], symbol=None)
+            union = Type("union", branches=[leaf, *choose.sample(records, choose.randrange(1, len(records) + 1))])
+            record.fields.append(Field(name, Type("array", of=union) if choose.randrange(4) == 0 else union))
+    root = Type("record", name="Root", fields=[Field("f", Type("array", of=Type("union", branches=records)))])
+    set_heights(root)
+    parts = []
+    for _ in range(choose.choice((1, 3, 20))):
+        tree = Defaults(choose, choose.choice((4, 30))).of(choose.choice(records))
+        parts.append(misfit(choose, tree) if choose.randrange(20) == 0 else tree)
+    root.fields[0].default = [again(choose, parts)]
+    return root
+
+
 def named_types(choose, count, aliases):
     """Types whose names and aliases meet again and again, under namespaces that may be long."""
     made, taken = [], set()
@@ -394,6 +424,7 @@ TEXTS = {
     "text: long defaults": (lambda choose: text_of(choose, long_default(choose)), 8),
     "text: records of texts": (lambda choose: text_of(choose, records_of_texts(choose)), 8),
     "text: records of parts": (lambda choose: text_of(choose, records_of_parts(choose)), 12),
+    "text: records of unions": (lambda choose: text_of(choose, records_of_unions(choose)), 8),
     "text: names": (lambda choose: text_of(choose, named(choose)), 6), "text: spoiled": (spoiled, 16),
 }
 PAIRS = {
@@ -403,7 +434,7 @@ PAIRS = {
 }
 KINDS = {**TEXTS, **PAIRS}
 # The texts whose defaults are written, as those of a record that the writer has without fields.
-WRITTEN = "text: records of parts"
+WRITTEN = ("text: records of parts", "text: records of unions")
 # The command that makes a certificate.
 CERTIFIED = "judge --certificate"
 
@@ -414,7 +445,7 @@ def case(choose, kind):
     if kind in TEXTS:
         words = ["schema", "schema.avsc"]
         commands = [("schema", words), ("schema --canonical", [*words, "--canonical"]), ("schema --fingerprint", [*words, "--fingerprint"])]
-        if kind == WRITTEN:
+        if kind in WRITTEN:
             commands.append(("copy --reader", ["copy", "in.avro", "out.avro", "--reader", "schema.avsc"]))
             commands.append(("show --reader", ["show", "in.avro", "--reader", "schema.avsc"]))
             return {"schema.avsc": made, "in.avro": file_of_one()}, commands
