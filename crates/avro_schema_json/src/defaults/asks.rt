@@ -3,9 +3,8 @@
 
 use crate::defaults::first_branches::first_branch;
 use crate::defaults::flat::{has_parts, is_flat};
-use crate::defaults::merges::Merges;
+use crate::defaults::merges::{Merge, Merges};
 use crate::defaults::object_misfit::lacks_field;
-use crate::defaults::probe::Probe;
 use crate::defaults::probes::is_refused;
 use crate::defaults::probing::probes_of;
 use crate::defaults::unfit::characters_of;
@@ -32,26 +31,11 @@ impl Own {
         }
     }
 
-    /// Adds a node, if JSON is looked into for it.
-    fn add(&mut self, raws: &[RawNode], tree: &Value, id: NodeId) -> Result<(), Memory> {
-        if may_enter(raws, tree, id) && self.known.insert(id.0)? {
-            self.ids.push(id)?;
-        }
-        Ok(())
-    }
-
-    /// Adds those of more nodes, from an index on, for which JSON is looked into, and which its parts don't refuse.
-    fn add_all(
-        &mut self,
-        raws: &[RawNode],
-        tree: &Value,
-        ids: &[NodeId],
-        start: usize,
-        probes: &[Probe],
-    ) -> Result<(), Memory> {
-        for i in start..ids.len() {
-            if !is_refused(probes, i) {
-                self.add(raws, tree, ids[i])?;
+    /// Adds nodes.
+    fn add_all(&mut self, ids: &[NodeId]) -> Result<(), Memory> {
+        for id in ids {
+            if self.known.insert(id.0)? {
+                self.ids.push(*id)?;
             }
         }
         Ok(())
@@ -125,27 +109,6 @@ pub(crate) fn repeated_ids(
     entered(alloc, raws, table, tree, ids)
 }
 
-/// Where in a union the branches that JSON may fit begin.
-fn start_of(tables: &[UnionTable], tree: &Value, id: NodeId) -> Result<usize, Memory> {
-    match tables.get(id.0 as usize) {
-        Some(table) => first_branch(table, tree, characters_of(tree)),
-        None => Ok(0),
-    }
-}
-
-/// What the branches of a union ask of the members of JSON.
-fn probes_at<'a>(
-    alloc: Global,
-    tables: &'a [UnionTable<'_>],
-    tree: &Value,
-    id: NodeId,
-) -> Result<Vec<Probe<'a>>, Memory> {
-    match tables.get(id.0 as usize) {
-        Some(table) => probes_of(alloc, table, tree),
-        None => Ok(Vec::new(alloc)),
-    }
-}
-
 /// Whether JSON is looked into for the node of an id: an array for an array, an object for a map or a
 /// record.
 fn may_enter(raws: &[RawNode], tree: &Value, id: NodeId) -> bool {
@@ -157,7 +120,42 @@ fn may_enter(raws: &[RawNode], tree: &Value, id: NodeId) -> bool {
     }
 }
 
-/// The nodes that are asked about, a union by its branches, for which JSON is looked into.
+/// The branches of a union for which JSON is looked into.
+fn own_of_union(
+    alloc: Global,
+    raws: &[RawNode],
+    tables: &[UnionTable],
+    tree: &Value,
+    id: NodeId,
+    branches: &[NodeId],
+) -> Result<Vec<NodeId>, Memory> {
+    match tables.get(id.0 as usize) {
+        Some(table) => entered(alloc, raws, table, tree, branches),
+        None => all_entered(alloc, raws, tree, branches),
+    }
+}
+
+/// The node itself that is asked about, or the branches of the union that it is, for which JSON is looked into.
+fn own_of_one(
+    alloc: Global,
+    raws: &[RawNode],
+    tables: &[UnionTable],
+    tree: &Value,
+    id: NodeId,
+) -> Result<Vec<NodeId>, Memory> {
+    match raws.get(id.0 as usize) {
+        Some(RawNode::Union(branches)) => own_of_union(alloc, raws, tables, tree, id, branches),
+        _ => {
+            let mut own: Vec<NodeId> = Vec::new(alloc);
+            if may_enter(raws, tree, id) {
+                own.push(id)?;
+            }
+            Ok(own)
+        }
+    }
+}
+
+/// The same of each of some nodes, each once.
 fn own_of_each(
     alloc: Global,
     raws: &[RawNode],
@@ -165,21 +163,33 @@ fn own_of_each(
     tree: &Value,
     asked: &[NodeId],
 ) -> Result<Vec<NodeId>, Memory> {
+    if asked.len() == 1 {
+        return own_of_one(alloc, raws, tables, tree, asked[0]);
+    }
     let mut own = Own::none(alloc);
     for id in asked {
-        match raws.get(id.0 as usize) {
-            Some(RawNode::Union(branches)) => {
-                let start = start_of(tables, tree, *id)?;
-                let probes = probes_at(alloc, tables, tree, *id)?;
-                own.add_all(raws, tree, branches, start, &probes)?;
-            }
-            _ => own.add(raws, tree, *id)?,
-        }
+        let of_one = own_of_one(alloc, raws, tables, tree, *id)?;
+        own.add_all(&of_one)?;
     }
     Ok(own.ids)
 }
 
-/// The same, by what is merged where so many are asked about so often.
+/// The same of what nodes have together.
+fn own_of_merge(
+    alloc: Global,
+    raws: &[RawNode],
+    tables: &[UnionTable],
+    tree: &Value,
+    merge: &Merge,
+) -> Result<Vec<NodeId>, Memory> {
+    if merge.has_few() {
+        all_entered(alloc, raws, tree, &merge.ids)
+    } else {
+        own_of_each(alloc, raws, tables, tree, &merge.enough)
+    }
+}
+
+/// The nodes that are asked about, a union by its branches, for which JSON is looked into.
 pub(crate) fn own_ids(
     alloc: Global,
     raws: &[RawNode],
@@ -189,7 +199,7 @@ pub(crate) fn own_ids(
     merges: &mut Merges,
 ) -> Result<Vec<NodeId>, Memory> {
     match merges.find(alloc, raws, asked)? {
-        Some(ids) => all_entered(alloc, raws, tree, ids),
+        Some(merge) => own_of_merge(alloc, raws, tables, tree, merge),
         None => own_of_each(alloc, raws, tables, tree, asked),
     }
 }

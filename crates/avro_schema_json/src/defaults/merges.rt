@@ -6,16 +6,83 @@ use avro_schema::{Memory, NodeId};
 use std::alloc::Global;
 use std::collections::{BTreeMap, BTreeSet};
 
-/// The fewest unions whose branches are worth merging.
+/// The fewest unions that are worth merging.
 const FEWEST: usize = 8;
 
-/// All nodes that are asked about together.
+/// What some nodes have together.
+#[derive(Drop)]
+pub(crate) struct Merge {
+    /// Those of the nodes that have all the branches, the longest union first.
+    pub enough: Vec<NodeId>,
+    /// The branches that have parts, each once.
+    pub ids: Vec<NodeId>,
+    known: BTreeSet<u32>,
+}
+
+impl Merge {
+    /// What some nodes have together.
+    fn of(alloc: Global, raws: &[RawNode], asked: &[NodeId]) -> Result<Merge, Memory> {
+        let mut merge = Merge {
+            enough: Vec::new(alloc),
+            ids: Vec::new(alloc),
+            known: BTreeSet::new(alloc),
+        };
+        match longest_of(raws, asked) {
+            Some(id) => merge.add(raws, id)?,
+            None => {}
+        }
+        for id in asked {
+            merge.add(raws, *id)?;
+        }
+        Ok(merge)
+    }
+
+    /// Adds the branches of a node, and the node if it has one that is not known.
+    fn add(&mut self, raws: &[RawNode], id: NodeId) -> Result<(), Memory> {
+        let before = self.ids.len();
+        match raws.get(id.0 as usize) {
+            Some(RawNode::Union(branches)) => self.add_branches(raws, branches)?,
+            _ => self.add_branch(raws, id)?,
+        }
+        if self.ids.len() > before {
+            self.enough.push(id)?;
+        }
+        Ok(())
+    }
+
+    /// Adds branches.
+    fn add_branches(&mut self, raws: &[RawNode], branches: &[NodeId]) -> Result<(), Memory> {
+        for id in branches {
+            self.add_branch(raws, *id)?;
+        }
+        Ok(())
+    }
+
+    /// Adds a branch, if it has parts and is not known.
+    fn add_branch(&mut self, raws: &[RawNode], id: NodeId) -> Result<(), Memory> {
+        match raws.get(id.0 as usize) {
+            Some(RawNode::Array(_) | RawNode::Map(_) | RawNode::Record(_)) => {
+                if self.known.insert(id.0)? {
+                    self.ids.push(id)?;
+                }
+            }
+            _ => {}
+        }
+        Ok(())
+    }
+
+    /// Whether the nodes have few branches each, so that going through them costs less than their tables.
+    pub(crate) fn has_few(&self) -> bool {
+        self.ids.len() <= self.enough.len().saturating_mul(4)
+    }
+}
+
+/// All nodes that JSON is asked about together.
 #[derive(Drop)]
 pub(crate) struct Merges {
     /// The index for the ids of some nodes.
     indices: BTreeMap<Vec<u32>, usize>,
-    /// Their branches that have parts, each once, if these are worth merging.
-    all: Vec<Option<Vec<NodeId>>>,
+    all: Vec<Merge>,
 }
 
 impl Merges {
@@ -43,84 +110,40 @@ impl Merges {
             None => {}
         }
         let at = self.all.len();
-        self.all.push(merged(alloc, raws, asked)?)?;
+        self.all.push(Merge::of(alloc, raws, asked)?)?;
         self.indices.insert(key, at)?;
         Ok(at)
     }
 
-    /// The branches of all of some nodes that have parts, each once, if these nodes are many and have far fewer branches
-    /// than are met when each is gone through.
+    /// What some nodes have together, if they are many.
     pub(crate) fn find(
         &mut self,
         alloc: Global,
         raws: &[RawNode],
         asked: &[NodeId],
-    ) -> Result<Option<&[NodeId]>, Memory> {
+    ) -> Result<Option<&Merge>, Memory> {
         if asked.len() < FEWEST {
             return Ok(None);
         }
         let at = self.index_of(alloc, raws, asked)?;
-        match self.all.get(at) {
-            Some(Some(ids)) => Ok(Some(ids)),
-            _ => Ok(None),
-        }
+        Ok(self.all.get(at))
     }
 }
 
-/// Adds an id, if it is of a node that has parts and is not among those that are known.
-fn add_if_parted(
-    ids: &mut Vec<NodeId>,
-    known: &mut BTreeSet<u32>,
-    raws: &[RawNode],
-    id: NodeId,
-) -> Result<(), Memory> {
-    match raws.get(id.0 as usize) {
-        Some(RawNode::Array(_) | RawNode::Map(_) | RawNode::Record(_)) => {
-            if known.insert(id.0)? {
-                ids.push(id)?;
-            }
-        }
-        _ => {}
-    }
-    Ok(())
-}
-
-/// Adds the ids of branches, likewise.
-fn add_branches(
-    ids: &mut Vec<NodeId>,
-    known: &mut BTreeSet<u32>,
-    raws: &[RawNode],
-    branches: &[NodeId],
-) -> Result<(), Memory> {
-    for id in branches {
-        add_if_parted(ids, known, raws, *id)?;
-    }
-    Ok(())
-}
-
-/// The branches of all of some nodes that have parts, each once, if they are fewer than four for each node, or than a
-/// sixteenth of all that are met when each node is gone through.
-fn merged(
-    alloc: Global,
-    raws: &[RawNode],
-    asked: &[NodeId],
-) -> Result<Option<Vec<NodeId>>, Memory> {
-    let mut ids: Vec<NodeId> = Vec::new(alloc);
-    let mut known: BTreeSet<u32> = BTreeSet::new(alloc);
-    let mut met = 0usize;
+/// The union of the most branches.
+fn longest_of(raws: &[RawNode], asked: &[NodeId]) -> Option<NodeId> {
+    let mut longest: Option<NodeId> = None;
+    let mut most = 0usize;
     for id in asked {
         match raws.get(id.0 as usize) {
             Some(RawNode::Union(branches)) => {
-                met = met.saturating_add(branches.len());
-                add_branches(&mut ids, &mut known, raws, branches)?;
+                if branches.len() > most {
+                    most = branches.len();
+                    longest = Some(*id);
+                }
             }
-            _ => add_if_parted(&mut ids, &mut known, raws, *id)?,
+            _ => {}
         }
     }
-    let most = asked.len().saturating_mul(4).max(met / 16);
-    if ids.len() <= most {
-        Ok(Some(ids))
-    } else {
-        Ok(None)
-    }
+    longest
 }
