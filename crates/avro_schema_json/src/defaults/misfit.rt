@@ -47,6 +47,9 @@ pub(crate) fn is_misfit(
             if begin_with_one_of(ids, left) {
                 return Ok(false);
             }
+            if are_misfits(raws, &null, tree, known, ids) {
+                return Ok(true);
+            }
             let nothing = no_table(alloc);
             let table = table_at(raws, tables, &nothing, id, ids);
             fits_no_branch(alloc, raws, table, &null, tree, known, ids)
@@ -72,6 +75,32 @@ fn begin_with_one_of(ids: &[NodeId], few: &[NodeId]) -> bool {
         }
     }
     false
+}
+
+/// Whether JSON is a default of none of some branches, by their kinds and by what is known of it alone.
+fn are_misfits(
+    raws: &[RawNode],
+    null: &RawNode,
+    tree: &Value,
+    known: &BTreeSet<u32>,
+    ids: &[NodeId],
+) -> bool
+    requires null { without_defaults null.now ≡ SeenNode.null }
+    requires known { AreMisfits (all_without_defaults raws.now) (view tree.now) known.now }
+    ensures { result ≡ true
+        → first_fit (all_without_defaults raws.now) (own_default_by (all_without_defaults raws.now) (view tree.now)) 0 (ids_of ids.now) ≡ None }
+{
+    let characters = characters_of(tree);
+    for i in 0..ids.len() {
+        let id = ids[i];
+        if is_unfit(raws, null, tree, characters, id) {
+            continue;
+        }
+        if !has(known, id) {
+            return false;
+        }
+    }
+    true
 }
 
 /// Whether JSON is a default of none of some branches. The table tells where to begin.
