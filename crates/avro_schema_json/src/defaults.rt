@@ -18,6 +18,7 @@ mod before;
 mod below;
 mod branch_keys;
 mod counts;
+pub(crate) mod distinct;
 mod fields;
 mod first_branches;
 mod flat;

@@ -37,12 +37,12 @@ Grows before after = (i : ℕ) (g : Gathered) → slice_get before i ≡ Some g 
 abbrev pub AreItemsKnown : List Node → List Gathered → Items → List ℕ → Type 0
 AreItemsKnown nodes all ds parts = (j : ℕ) (e : Data) (p : ℕ) → get_item j ds ≡ Some e → slice_get parts j ≡ Some p → IsKnown nodes all e p
 
+abbrev pub AreMembersKnown : List Node → List Gathered → Members → BTreeMap (Bor (List ℕ)) ℕ → Type 0
+AreMembersKnown nodes all ms parts = (key : List ℕ) (e : Data) (p : ℕ) → get_member key ms ≡ Some e → find_word parts key ≡ Some p → IsKnown nodes all e p
+
 -- the data that are read of the first items
 abbrev pub AreItemsRead : List Node → Node → Items → List Datum → Type 0
 AreItemsRead nodes n ds values = (j : ℕ) (e : Data) (d : Datum) → get_item j ds ≡ Some e → slice_get values j ≡ Some d → Some (value_of d) ≡ default_of nodes e n
-
-abbrev pub AreMembersKnown : List Node → List Gathered → Members → BTreeMap (Bor (List ℕ)) ℕ → Type 0
-AreMembersKnown nodes all ms parts = (key : List ℕ) (e : Data) (p : ℕ) → get_member key ms ≡ Some e → find_word parts key ≡ Some p → IsKnown nodes all e p
 
 -- the member of a key is not a default of the node of an id
 abbrev pub IsMemberMisfit : List Node → Members → List ℕ → ℕ → Type 0

@@ -1,9 +1,10 @@
 //! Which nodes the parts of a JSON value are asked about. What is asked decides what is looked at,
 //! not what is found: a node that is not asked about is tried when its turn comes.
 
+use crate::defaults::distinct::Distinct;
 use crate::defaults::first_branches::first_branch;
 use crate::defaults::flat::{has_parts, is_flat};
-use crate::defaults::merges::{Merge, Merges};
+use crate::defaults::merges::Merges;
 use crate::defaults::object_misfit::lacks_field;
 use crate::defaults::probes::is_refused;
 use crate::defaults::probing::probes_of;
@@ -13,34 +14,7 @@ use crate::raw::{RawField, RawNode};
 use avro_schema::{Memory, NodeId};
 use serde_json::{Map, Value};
 use std::alloc::Global;
-use std::collections::{BTreeMap, BTreeSet};
-
-/// Nodes that a value is asked about, each once.
-#[derive(Drop)]
-struct Own {
-    ids: Vec<NodeId>,
-    known: BTreeSet<u32>,
-}
-
-impl Own {
-    /// No nodes.
-    fn none(alloc: Global) -> Own {
-        Own {
-            ids: Vec::new(alloc),
-            known: BTreeSet::new(alloc),
-        }
-    }
-
-    /// Adds nodes.
-    fn add_all(&mut self, ids: &[NodeId]) -> Result<(), Memory> {
-        for id in ids {
-            if self.known.insert(id.0)? {
-                self.ids.push(*id)?;
-            }
-        }
-        Ok(())
-    }
-}
+use std::collections::BTreeMap;
 
 /// Asks about one more node, unless it is the last that was asked about.
 fn ask(asked: &mut Vec<NodeId>, id: NodeId) -> Result<(), Memory> {
@@ -73,14 +47,14 @@ fn all_entered(
 }
 
 /// The branches for which JSON is looked into, from the one where their table begins, without those that its parts
-/// refuse.
+/// refuse, and how many were gone through.
 fn entered(
     alloc: Global,
     raws: &[RawNode],
     table: &UnionTable,
     tree: &Value,
     ids: &[NodeId],
-) -> Result<Vec<NodeId>, Memory> {
+) -> Result<(Vec<NodeId>, usize), Memory> {
     let mut entered: Vec<NodeId> = Vec::new(alloc);
     let start = first_branch(table, tree, characters_of(tree))?;
     let probes = probes_of(alloc, table, tree)?;
@@ -89,7 +63,7 @@ fn entered(
             entered.push(ids[i])?;
         }
     }
-    Ok(entered)
+    Ok((entered, ids.len().saturating_sub(start)))
 }
 
 /// The branches for which JSON is looked into: where they are two or more, what one finds may be looked at again for
@@ -106,7 +80,8 @@ pub(crate) fn repeated_ids(
     if known != 0 || is_flat(tree) {
         return Ok(Vec::new(alloc));
     }
-    entered(alloc, raws, table, tree, ids)
+    let (repeated, _) = entered(alloc, raws, table, tree, ids)?;
+    Ok(repeated)
 }
 
 /// Whether JSON is looked into for the node of an id: an array for an array, an object for a map or a
@@ -120,7 +95,7 @@ fn may_enter(raws: &[RawNode], tree: &Value, id: NodeId) -> bool {
     }
 }
 
-/// The branches of a union for which JSON is looked into.
+/// The branches of a union for which JSON is looked into, and how many were gone through.
 fn own_of_union(
     alloc: Global,
     raws: &[RawNode],
@@ -128,68 +103,58 @@ fn own_of_union(
     tree: &Value,
     id: NodeId,
     branches: &[NodeId],
-) -> Result<Vec<NodeId>, Memory> {
+) -> Result<(Vec<NodeId>, usize), Memory> {
     match tables.get(id.0 as usize) {
         Some(table) => entered(alloc, raws, table, tree, branches),
-        None => all_entered(alloc, raws, tree, branches),
+        None => Ok((all_entered(alloc, raws, tree, branches)?, branches.len())),
     }
 }
 
-/// The node itself that is asked about, or the branches of the union that it is, for which JSON is looked into.
-fn own_of_one(
+/// Adds the node itself that is asked about, or the branches of the union that it is, for which JSON is looked into, and
+/// returns how many were gone through.
+fn add_own(
     alloc: Global,
     raws: &[RawNode],
     tables: &[UnionTable],
     tree: &Value,
     id: NodeId,
-) -> Result<Vec<NodeId>, Memory> {
+    own: &mut Distinct,
+) -> Result<usize, Memory> {
     match raws.get(id.0 as usize) {
-        Some(RawNode::Union(branches)) => own_of_union(alloc, raws, tables, tree, id, branches),
+        Some(RawNode::Union(branches)) => {
+            let (ids, walked) = own_of_union(alloc, raws, tables, tree, id, branches)?;
+            own.add_all(&ids)?;
+            Ok(walked)
+        }
         _ => {
-            let mut own: Vec<NodeId> = Vec::new(alloc);
             if may_enter(raws, tree, id) {
-                own.push(id)?;
+                own.add(id)?;
             }
-            Ok(own)
+            Ok(1)
         }
     }
 }
 
-/// The same of each of some nodes, each once.
+/// The nodes that are asked about, a union by its branches, for which JSON is looked into, and how many were gone
+/// through.
 fn own_of_each(
     alloc: Global,
     raws: &[RawNode],
     tables: &[UnionTable],
     tree: &Value,
     asked: &[NodeId],
-) -> Result<Vec<NodeId>, Memory> {
-    if asked.len() == 1 {
-        return own_of_one(alloc, raws, tables, tree, asked[0]);
-    }
-    let mut own = Own::none(alloc);
+) -> Result<(Vec<NodeId>, usize), Memory> {
+    let mut own = Distinct::none(alloc);
+    let mut walked = 0usize;
     for id in asked {
-        let of_one = own_of_one(alloc, raws, tables, tree, *id)?;
-        own.add_all(&of_one)?;
+        let of_one = add_own(alloc, raws, tables, tree, *id, &mut own)?;
+        walked = walked.saturating_add(of_one);
     }
-    Ok(own.ids)
+    Ok((own.ids, walked))
 }
 
-/// The same of what nodes have together.
-fn own_of_merge(
-    alloc: Global,
-    raws: &[RawNode],
-    tables: &[UnionTable],
-    tree: &Value,
-    merge: &Merge,
-) -> Result<Vec<NodeId>, Memory> {
-    if merge.has_few() {
-        all_entered(alloc, raws, tree, &merge.ids)
-    } else {
-        own_of_each(alloc, raws, tables, tree, &merge.enough)
-    }
-}
-
-/// The nodes that are asked about, a union by its branches, for which JSON is looked into.
+/// The same, by what is merged where this is. Whatever a union's table does not leave out is among them, for each of the
+/// unions, so that what is not among them need not be looked at again.
 pub(crate) fn own_ids(
     alloc: Global,
     raws: &[RawNode],
@@ -198,10 +163,17 @@ pub(crate) fn own_ids(
     asked: &[NodeId],
     merges: &mut Merges,
 ) -> Result<Vec<NodeId>, Memory> {
-    match merges.find(alloc, raws, asked)? {
-        Some(merge) => own_of_merge(alloc, raws, tables, tree, merge),
-        None => own_of_each(alloc, raws, tables, tree, asked),
+    let Some(at) = merges.index_of(alloc, raws, asked)? else {
+        let (own, _) = own_of_each(alloc, raws, tables, tree, asked)?;
+        return Ok(own);
+    };
+    match merges.ids_at(at) {
+        Some(ids) => return all_entered(alloc, raws, tree, ids),
+        None => {}
     }
+    let (own, walked) = own_of_each(alloc, raws, tables, tree, asked)?;
+    merges.walk(alloc, raws, asked, at, walked)?;
+    Ok(own)
 }
 
 /// The nodes that arrays ask their items about.
@@ -210,26 +182,26 @@ pub(crate) fn asked_items(
     raws: &[RawNode],
     own: &[NodeId],
 ) -> Result<Vec<NodeId>, Memory> {
-    let mut asked: Vec<NodeId> = Vec::new(alloc);
+    let mut asked = Distinct::none(alloc);
     for id in own {
         match raws.get(id.0 as usize) {
-            Some(RawNode::Array(items)) => ask(&mut asked, *items)?,
+            Some(RawNode::Array(items)) => asked.add(*items)?,
             _ => {}
         }
     }
-    Ok(asked)
+    Ok(asked.ids)
 }
 
 /// The nodes that maps ask their values about.
 fn asked_values(alloc: Global, raws: &[RawNode], own: &[NodeId]) -> Result<Vec<NodeId>, Memory> {
-    let mut asked: Vec<NodeId> = Vec::new(alloc);
+    let mut asked = Distinct::none(alloc);
     for id in own {
         match raws.get(id.0 as usize) {
-            Some(RawNode::Map(values)) => ask(&mut asked, *values)?,
+            Some(RawNode::Map(values)) => asked.add(*values)?,
             _ => {}
         }
     }
-    Ok(asked)
+    Ok(asked.ids)
 }
 
 /// What is asked of each member that has parts: by maps, and by records that have a field of each key and no other.

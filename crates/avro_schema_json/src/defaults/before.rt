@@ -12,7 +12,7 @@ use crate::defaults::same::is_same;
 use avro_schema::{Datum, Memory};
 use serde_json::Value;
 
-/// Where what is known of the last item stands of which something is known, if this item is the same as the next one.
+/// Where what is known of the item stands that comes before an item, if the two are the same.
 pub(crate) fn part_before(items: &[Value], parts: &[usize], item: &Value) -> Option<usize>
     ensures { IfSome result (λ part. (nodes : List SeenNode) (all : List SeenGathered)
         → AreItemsKnown nodes all (items_view items.now) parts.now → IsKnown nodes all (view item.now) part) }
@@ -33,7 +33,7 @@ pub(crate) fn part_before(items: &[Value], parts: &[usize], item: &Value) -> Opt
     }
 }
 
-/// The default that the last item gave that was read, if this item is the same as the next one.
+/// The default that the item gave that comes before an item, if the two are the same.
 pub(crate) fn value_before(
     items: &[Value],
     values: &[Datum],

@@ -1,88 +1,35 @@
-//! The branches of unions that JSON is asked about together, where the same unions are asked about again and again.
-//! What is merged decides what is looked at, not what is found.
+//! The branches of nodes that JSON is asked about together, where the same nodes are asked about again and again. What is
+//! merged decides what is looked at, not what is found.
 
+use crate::defaults::distinct::Distinct;
 use crate::raw::RawNode;
 use avro_schema::{Memory, NodeId};
 use std::alloc::Global;
-use std::collections::{BTreeMap, BTreeSet};
+use std::collections::BTreeMap;
 
-/// The fewest unions that are worth merging.
+/// The fewest nodes whose branches are worth merging.
 const FEWEST: usize = 8;
 
-/// What some nodes have together.
+/// The most lists of nodes that are kept.
+const MOST: usize = 1_000;
+
+/// The branches of some nodes.
 #[derive(Drop)]
-pub(crate) struct Merge {
-    /// Those of the nodes that have all the branches, the longest union first.
-    pub enough: Vec<NodeId>,
-    /// The branches that have parts, each once.
-    pub ids: Vec<NodeId>,
-    known: BTreeSet<u32>,
+struct Merge {
+    /// How many there are, each counted for each node.
+    all: usize,
+    /// How many were gone through so far.
+    walked: usize,
+    /// Those that have parts, each once, if they were merged and are few for each node.
+    ids: Option<Vec<NodeId>>,
 }
 
-impl Merge {
-    /// What some nodes have together.
-    fn of(alloc: Global, raws: &[RawNode], asked: &[NodeId]) -> Result<Merge, Memory> {
-        let mut merge = Merge {
-            enough: Vec::new(alloc),
-            ids: Vec::new(alloc),
-            known: BTreeSet::new(alloc),
-        };
-        match longest_of(raws, asked) {
-            Some(id) => merge.add(raws, id)?,
-            None => {}
-        }
-        for id in asked {
-            merge.add(raws, *id)?;
-        }
-        Ok(merge)
-    }
-
-    /// Adds the branches of a node, and the node if it has one that is not known.
-    fn add(&mut self, raws: &[RawNode], id: NodeId) -> Result<(), Memory> {
-        let before = self.ids.len();
-        match raws.get(id.0 as usize) {
-            Some(RawNode::Union(branches)) => self.add_branches(raws, branches)?,
-            _ => self.add_branch(raws, id)?,
-        }
-        if self.ids.len() > before {
-            self.enough.push(id)?;
-        }
-        Ok(())
-    }
-
-    /// Adds branches.
-    fn add_branches(&mut self, raws: &[RawNode], branches: &[NodeId]) -> Result<(), Memory> {
-        for id in branches {
-            self.add_branch(raws, *id)?;
-        }
-        Ok(())
-    }
-
-    /// Adds a branch, if it has parts and is not known.
-    fn add_branch(&mut self, raws: &[RawNode], id: NodeId) -> Result<(), Memory> {
-        match raws.get(id.0 as usize) {
-            Some(RawNode::Array(_) | RawNode::Map(_) | RawNode::Record(_)) => {
-                if self.known.insert(id.0)? {
-                    self.ids.push(id)?;
-                }
-            }
-            _ => {}
-        }
-        Ok(())
-    }
-
-    /// Whether the nodes have few branches each, so that going through them costs less than their tables.
-    pub(crate) fn has_few(&self) -> bool {
-        self.ids.len() <= self.enough.len().saturating_mul(4)
-    }
-}
-
-/// All nodes that JSON is asked about together.
+/// The branches of each list of nodes that was asked about.
 #[derive(Drop)]
 pub(crate) struct Merges {
     /// The index for the ids of some nodes.
     indices: BTreeMap<Vec<u32>, usize>,
-    all: Vec<Merge>,
+    of_lists: Vec<Merge>,
 }
 
 impl Merges {
@@ -90,60 +37,127 @@ impl Merges {
     pub(crate) fn none(alloc: Global) -> Merges {
         Merges {
             indices: BTreeMap::new(alloc),
-            all: Vec::new(alloc),
+            of_lists: Vec::new(alloc),
         }
     }
 
-    /// The index for some nodes.
-    fn index_of(
+    /// The index for some nodes, if they are many and not too many lists are kept.
+    pub(crate) fn index_of(
         &mut self,
         alloc: Global,
         raws: &[RawNode],
         asked: &[NodeId],
-    ) -> Result<usize, Memory> {
-        let mut key: Vec<u32> = Vec::new(alloc);
-        for id in asked {
-            key.push(id.0)?;
-        }
-        match self.indices.get(&key) {
-            Some(at) => return Ok(*at),
-            None => {}
-        }
-        let at = self.all.len();
-        self.all.push(Merge::of(alloc, raws, asked)?)?;
-        self.indices.insert(key, at)?;
-        Ok(at)
-    }
-
-    /// What some nodes have together, if they are many.
-    pub(crate) fn find(
-        &mut self,
-        alloc: Global,
-        raws: &[RawNode],
-        asked: &[NodeId],
-    ) -> Result<Option<&Merge>, Memory> {
+    ) -> Result<Option<usize>, Memory> {
         if asked.len() < FEWEST {
             return Ok(None);
         }
-        let at = self.index_of(alloc, raws, asked)?;
-        Ok(self.all.get(at))
+        let key = key_of(alloc, asked)?;
+        match self.indices.get(&key) {
+            Some(at) => return Ok(Some(*at)),
+            None => {}
+        }
+        let at = self.of_lists.len();
+        if at >= MOST {
+            return Ok(None);
+        }
+        self.of_lists.push(Merge {
+            all: count_of(raws, asked),
+            walked: 0,
+            ids: None,
+        })?;
+        self.indices.insert(key, at)?;
+        Ok(Some(at))
+    }
+
+    /// The branches that were merged, at an index.
+    pub(crate) fn ids_at(&self, at: usize) -> Option<&[NodeId]> {
+        match self.of_lists.get(at) {
+            Some(merge) => match &merge.ids {
+                Some(ids) => Some(ids),
+                None => None,
+            },
+            None => None,
+        }
+    }
+
+    /// Says that so many branches of the nodes of an index were gone through. They are merged once this was all of them:
+    /// that takes about as long, and where it never was, they need not be.
+    pub(crate) fn walk(
+        &mut self,
+        alloc: Global,
+        raws: &[RawNode],
+        asked: &[NodeId],
+        at: usize,
+        count: usize,
+    ) -> Result<(), Memory> {
+        match self.of_lists.get_mut(at) {
+            Some(merge) => {
+                let before = merge.walked;
+                merge.walked = before.saturating_add(count);
+                if before < merge.all && merge.walked >= merge.all {
+                    merge.ids = merged(alloc, raws, asked)?;
+                }
+            }
+            None => {}
+        }
+        Ok(())
     }
 }
 
-/// The union of the most branches.
-fn longest_of(raws: &[RawNode], asked: &[NodeId]) -> Option<NodeId> {
-    let mut longest: Option<NodeId> = None;
-    let mut most = 0usize;
+/// The ids of nodes.
+fn key_of(alloc: Global, asked: &[NodeId]) -> Result<Vec<u32>, Memory> {
+    let mut key: Vec<u32> = Vec::new(alloc);
+    for id in asked {
+        key.push(id.0)?;
+    }
+    Ok(key)
+}
+
+/// How many branches nodes have, each counted for each node.
+fn count_of(raws: &[RawNode], asked: &[NodeId]) -> usize {
+    let mut count = 0usize;
+    for id in asked {
+        count = match raws.get(id.0 as usize) {
+            Some(RawNode::Union(branches)) => count.saturating_add(branches.len()),
+            _ => count.saturating_add(1),
+        };
+    }
+    count
+}
+
+/// Adds a branch, if it has parts.
+fn add_branch(ids: &mut Distinct, raws: &[RawNode], id: NodeId) -> Result<(), Memory> {
+    match raws.get(id.0 as usize) {
+        Some(RawNode::Array(_) | RawNode::Map(_) | RawNode::Record(_)) => ids.add(id),
+        _ => Ok(()),
+    }
+}
+
+/// Adds branches that have parts.
+fn add_branches(ids: &mut Distinct, raws: &[RawNode], branches: &[NodeId]) -> Result<(), Memory> {
+    for id in branches {
+        add_branch(ids, raws, *id)?;
+    }
+    Ok(())
+}
+
+/// The branches of all of some nodes that have parts, each once, if they are at most four for each node: all of them are
+/// then looked at for an object, without the tables of the unions.
+fn merged(
+    alloc: Global,
+    raws: &[RawNode],
+    asked: &[NodeId],
+) -> Result<Option<Vec<NodeId>>, Memory> {
+    let mut ids = Distinct::none(alloc);
     for id in asked {
         match raws.get(id.0 as usize) {
-            Some(RawNode::Union(branches)) => {
-                if branches.len() > most {
-                    most = branches.len();
-                    longest = Some(*id);
-                }
-            }
-            _ => {}
+            Some(RawNode::Union(branches)) => add_branches(&mut ids, raws, branches)?,
+            _ => add_branch(&mut ids, raws, *id)?,
         }
     }
-    longest
+    if ids.ids.len() <= asked.len().saturating_mul(4) {
+        Ok(Some(ids.ids))
+    } else {
+        Ok(None)
+    }
 }

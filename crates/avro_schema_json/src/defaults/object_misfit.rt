@@ -117,7 +117,7 @@ fn is_record_misfit(
     if is_field_misfit(alloc, raws, tables, members, all, parts, fields)? {
         return Ok(true);
     }
-    if members.len() <= fields.len() {
+    if members.len() == 1 && fields.len() > 0 {
         return Ok(false);
     }
     Ok(!names_fields(alloc, members, fields)?)

@@ -6,8 +6,8 @@ ghost use Rattle.serde_json.specs.View.{view, number_view, items_view, members_v
 
 use serde_json::{Map, Number, Value};
 
-/// Whether a number is the same as another one. Where this is false, it may be so: numbers below zero and those that
-/// are not whole are not compared.
+/// Whether a number is the same as another one. Where this is false, they may still be: numbers below zero are not
+/// compared.
 fn is_same_number(one: Number, other: Number) -> bool
     ensures { result ≡ true → number_view one ≡ number_view other }
 {
@@ -17,7 +17,7 @@ fn is_same_number(one: Number, other: Number) -> bool
     }
 }
 
-/// Whether JSON is the same as other JSON. Where this is false, it may be so.
+/// Whether JSON is the same as other JSON. Where this is false, they may still be.
 #[cycle(same)]
 pub(crate) fn is_same(one: &Value, other: &Value) -> bool
     ensures { result ≡ true → view one.now ≡ view other.now }
