@@ -355,6 +355,55 @@ def recursive(count, leaf):
     return text
 
 
+def refused_by_one(size):
+    """Records that have unions of at most 15 of them, and one that has a union of all. A default of objects within one another fits
+    none of them. Both the length of the text and that of the unions are small: what is tried again at each level shows."""
+    names = ["R%d" % k for k in range(17)]
+    def record(k):
+        return {"type": "record", "name": names[k], "fields": [{"name": "n", "type": ["null", *names[max(0, k - 14):k + 1]]}]}
+    first = {"type": "record", "name": "R0", "fields": [{"name": "n", "type": ["null", "R0", *map(record, range(1, 17))]}]}
+    fields = [{"name": "first", "type": first}, {"name": "f", "type": ["null", *names[:15]], "default": 0}]
+    within = '{"n":' * 60 + "true" + "}" * 60
+    return written({"type": "record", "name": "R", "fields": fields}).replace('"default":0', '"default":' + within)
+
+
+def fields_twice(size):
+    """The same of records that have a field twice, which is refused in the end, and of objects that have another member."""
+    names = ["R%d" % k for k in range(7)]
+    def record(k):
+        first = ["R0", *map(record, range(1, 7))] if k == 0 else names[:k + 1]
+        second = ["R0"] if k == 0 else names[:k + 1]
+        return {"type": "record", "name": names[k], "fields": [{"name": "n", "type": ["null", "X", *it]} for it in (first, second)]}
+    other = {"type": "record", "name": "X", "fields": [{"name": "x", "type": "int"}, {"name": "y", "type": "int"}]}
+    within = '{"x":0,"n":' * 60 + "null" + "}" * 60
+    fields = [{"name": "other", "type": other}, {"name": "first", "type": record(0)}, {"name": "f", "type": ["null", "X", *names], "default": 0}]
+    return written({"type": "record", "name": "R", "fields": fields}).replace('"default":0', '"default":' + within)
+
+
+def skipped(count):
+    """An array of objects, of records that have the same union of this many records, none of which an item may be of."""
+    def text(size):
+        names = ["E%d" % k for k in range(count)]
+        empty = [{"type": "record", "name": name, "fields": []} for name in names]
+        records = [{"type": "record", "name": "R%d" % k, "fields": [{"name": "n", "type": names if k else empty}]} for k in range(14)]
+        last = {"type": "record", "name": "L", "fields": [{"name": "n", "type": {"type": "array", "items": "int"}}]}
+        field = {"name": "f", "type": {"type": "array", "items": [*records, last]}, "default": 0}
+        schema = written({"type": "record", "name": "R", "fields": [field]})
+        items = ",".join('{"n":[%d]}' % k for k in range(max(1, (size - len(schema)) // 14)))
+        return schema.replace('"default":0', '"default":[' + items + "]")
+    return text
+
+
+def maps_by_turns(size):
+    """An object of maps, of many records that have maps of one record or of another by turns."""
+    empty = [{"name": name.lower(), "type": {"type": "record", "name": name, "fields": []}} for name in "AB"]
+    records = [{"type": "record", "name": "R%d" % k, "fields": [{"name": "n", "type": [{"type": "map", "values": "AB"[k % 2]}]}]} for k in range(1300)]
+    field = {"name": "f", "type": records, "default": 0}
+    schema = written({"type": "record", "name": "R", "fields": [*empty, field]})
+    members = ",".join('"%x":{}' % k for k in range(1, max(2, (size - len(schema)) // 11)))
+    return schema.replace('"default":0', '"default":{"n":{"0":{"q":{}},' + members + "}}")
+
+
 def two_records(k, left):
     """Two records of an enum, one of which has the symbol of how many records follow."""
     return [in_record(k, [{"name": "a", "type": one_symbol(k, left)}]),
@@ -468,6 +517,7 @@ KINDS = {
     "alike sizes of two": same_kinds(1000, two_sizes, {"a": ""}),
     "wide below": wide_below, "recursive 20": recursive(20, "null"), "recursive 200": recursive(200, "null"),
     "recursive numbers 20": recursive(20, "int"), "recursive numbers 200": recursive(200, "int"),
+    "refused by one": refused_by_one, "fields twice": fields_twice, "skipped 3000": skipped(3000), "maps by turns": maps_by_turns,
     "alike texts behind many": long_array(1000),
     "alike records of two": same_kinds(600, two_records, {"a": {"a": "s0"}}),
     "alike in an array": alike(800, {"a": [{"a": 1, "b": 2}]}, inside(lambda k, leaf: in_record(k, plain_fields("ab")(k, leaf)), in_array)),
