@@ -47,7 +47,7 @@ pub(crate) fn is_misfit(
             if begin_with_one_of(ids, left) {
                 return Ok(false);
             }
-            if are_misfits(raws, &null, tree, known, ids) {
+            if are_few_misfits(raws, &null, tree, known, ids) {
                 return Ok(true);
             }
             let nothing = no_table(alloc);
@@ -77,8 +77,9 @@ fn begin_with_one_of(ids: &[NodeId], few: &[NodeId]) -> bool {
     false
 }
 
-/// Whether JSON is a default of none of some branches, by their kinds and by what is known of it alone.
-fn are_misfits(
+/// Whether JSON is a default of none of some branches, which are few, by their kinds and by what is known of it alone.
+/// Going through them takes less than their table then.
+fn are_few_misfits(
     raws: &[RawNode],
     null: &RawNode,
     tree: &Value,
@@ -90,6 +91,9 @@ fn are_misfits(
     ensures { result ≡ true
         → first_fit (all_without_defaults raws.now) (own_default_by (all_without_defaults raws.now) (view tree.now)) 0 (ids_of ids.now) ≡ None }
 {
+    if ids.len() > 16 {
+        return false;
+    }
     let characters = characters_of(tree);
     for i in 0..ids.len() {
         let id = ids[i];

@@ -3,7 +3,7 @@ use Rattle.serde_json.specs.View.{view}
 use Rattle.avro_schema_json.specs.inside.OwnDefaults.{all_without_defaults}
 use Rattle.avro_schema_json.proofs.DefaultsSeen.{branches_end}
 use Rattle.avro_schema_json.proofs.MisfitsSeen.{branch-pass, branch-skip}
-use Rattle.avro_schema_json.proofs.defaults.misfit.are_misfits.Goals as goal
+use Rattle.avro_schema_json.proofs.defaults.misfit.are_few_misfits.Goals as goal
 
 pub loop-i-preserved-then-is_unfit : goal.loop-i-preserved-then-is_unfit
 loop-i-preserved-then-is_unfit c =
