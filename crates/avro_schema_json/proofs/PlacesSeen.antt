@@ -22,7 +22,7 @@ use Rattle.avro_schema_json.specs.declared.defaults.place.Place.{Place}
 use Rattle.avro_schema_json.specs.declared.defaults.place.Places.{Places}
 use Rattle.avro_schema_json.specs.declared.defaults.place.Step.{Step}
 use Rattle.avro_schema_json.specs.inside.Asked.{Refuses, IsOwnAsked, IsSetAsked, AreAsked, AreKindsAsked, IsPlace, AreEachPlaces, GrowsTo, IsLinked, AreNamed, IsLinkedIf, AreLinks, ArePlaces}
-use Rattle.avro_schema_json.specs.inside.BranchKeys.{kind_key, field_key, find_word}
+use Rattle.avro_schema_json.specs.inside.BranchKeys.{kind_key, find_word}
 use Rattle.avro_schema_json.specs.inside.Listed.{is_listed, LacksSymbol, AllLack, AreListed, is_sized, LacksSize, AllLackSize, AreSized}
 use Rattle.avro_schema_json.specs.inside.OwnDefaults.{own_default}
 use Rattle.avro_schema_json.specs.inside.Places.{IsPart, AreBelow, AreRoot}

@@ -1,26 +1,30 @@
--- A union in which a branch occurs twice is a fault of the nodes with their defaults.
-use Rattle.std.proofs.Common.{◌≡◌, ℕ, zero, suc, ◌+◌, ◌<◌, true, false, not, ◌&&◌, List, [], ◌∷◌, length, map, filter_map, Option, Some, None, get_or, ◌⊎◌, inl, inr, refl, sym, ap, subst, ◌∙◌, arith, nat_lt}
-use Rattle.std.specs.Prelude.{slice_get, is_some}
+-- A union in which a branch occurs twice, and a record that has two fields of one name, is a fault of the nodes with their defaults.
+use Rattle.std.proofs.Common.{◌≡◌, ℕ, zero, suc, ◌+◌, ◌<◌, Bool, true, false, not, ◌&&◌, ◌||◌, cond, List, [], ◌∷◌, ◌++◌, length, map, filter_map, Option, Some, None, get_or, ◌⊎◌, inl, inr, refl, sym, ap, subst, ◌∙◌, arith, nat_lt}
+use Rattle.std.specs.Prelude.{slice_get, is_some, bytes_eq, flat_map}
 use Rattle.std.specs.List.{list_all, list_any, cons_option}
 use Rattle.std.specs.Ordering.{nat_cmp}
 use Rattle.std.specs.BTreeSet.{BTreeSet, contains}
 use Rattle.std.proofs.lemmas.Bool.{and_parts, or_parts, false≢true, not-true, false_from_ne_true}
 use Rattle.std.proofs.lemmas.Bool.Decides.{Decides-eqb}
 use Rattle.std.proofs.lemmas.List.{length-map}
+use Rattle.std.proofs.lemmas.Slice.Eq.{bytes_eq-Decides}
+use denote.Ref.{Bor}
+use Rattle.std.specs.BTreeMap.{BTreeMap}
+use Rattle.avro_schema_json.specs.inside.BranchKeys.{find_word}
 use Rattle.avro_name.proofs.public.Names.{same_name-self}
 use Rattle.avro_schema.specs.Distinct.{are_distinct}
-use Rattle.avro_schema.specs.Faulty.{invalid_union, breaks, IsThere}
-use Rattle.avro_schema.specs.Node.{Node, node_at, node_name, branches_of}
+use Rattle.avro_schema.specs.Faulty.{invalid_union, duplicate_field, breaks, has_fields_rule, IsThere}
+use Rattle.avro_schema.specs.Node.{Node, FieldNode, node_at, node_name, branches_of}
 use Rattle.avro_schema.specs.Seen.{ids_of}
 use Rattle.avro_schema.specs.declared.schema.NodeId.{NodeId}
 use Rattle.avro_schema.specs.SeenKind.{kind_at, has_kind}
-use Rattle.avro_schema.specs.WellFormed.{is_edge, is_union, BranchKind, unnamed, named, branch_kind, same_kind}
+use Rattle.avro_schema.specs.WellFormed.{field_names, is_edge, is_union, BranchKind, unnamed, named, branch_kind, same_kind}
 use Rattle.avro_schema.proofs.public.NodeFaults.{broken-there}
-use Rattle.avro_schema_json.specs.Declares.{RawNode}
-use Rattle.avro_schema_json.specs.DeclaredSchema.{node_without_defaults, completed_node}
+use Rattle.avro_schema_json.specs.Declares.{RawField, RawNode}
+use Rattle.avro_schema_json.specs.DeclaredSchema.{field_without_default, node_without_defaults, completed_field, completed_node}
 use Rattle.avro_schema_json.specs.inside.OwnDefaults.{without_defaults, all_without_defaults}
 use Rattle.avro_schema_json.specs.declared.raw.RawNode.{RawNode as KeptNode}
-use Rattle.avro_schema_json.specs.inside.Repeats.{kind_code, code_by, Repeats, SomeRepeats}
+use Rattle.avro_schema_json.specs.inside.Repeats.{kind_code, code_by, Repeats, SomeRepeats, RepeatsName, RecordRepeatsName, SomeRepeatsName}
 
 -- ---- one code, one kind
 
@@ -185,3 +189,103 @@ pub some-repeats : (raws : List KeptNode) (i : ℕ) (raw : KeptNode) (ids : List
 some-repeats raws i raw ids below at are edges repeats =
     let here : node_at (all_without_defaults raws) i ≡ without_defaults raw = node_here raws i raw below ∙ ap without_defaults (sym at) in
     (i, ids, omega (arith, as_many raws, below), ap branches_of here ∙ sym are, edges, repeats)
+
+-- ---- names of fields
+
+any_behind : {A : Type 0} (p : A → Bool) (xs ys : List A) → list_any p ys ≡ true → list_any p (xs ++ ys) ≡ true
+any_behind p [] ys h = h
+any_behind p (x ∷ xs) ys h = rw (any_behind p xs ys h) (either (p x))
+  where
+    either : (b : Bool) → (b || true) ≡ true
+    either true = refl
+    either false = refl
+
+distinct_behind : {A : Type 0} (equal : A → A → Bool) (xs ys : List A) → are_distinct equal ys ≡ false → are_distinct equal (xs ++ ys) ≡ false
+distinct_behind equal [] ys h = h
+distinct_behind equal (x ∷ xs) ys h = rw (distinct_behind equal xs ys h) (neither (not (list_any (equal x) (xs ++ ys))))
+  where
+    neither : (b : Bool) → (b && false) ≡ false
+    neither true = refl
+    neither false = refl
+
+name_among : (fields : List FieldNode) (i : ℕ) (f : FieldNode) (name : List ℕ) → slice_get fields i ≡ Some f → name ≡ f.name
+    → list_any (bytes_eq name) (flat_map field_names fields) ≡ true
+name_among [] i f name at same = cc
+name_among (g ∷ fields) zero f name at same =
+    let here : g ≡ f = cc in
+    let equal : bytes_eq name g.name ≡ true = (bytes_eq-Decides name g.name).1 (same ∙ ap (λ (h : FieldNode). h.name) (sym here)) in
+    rw equal refl
+name_among (g ∷ fields) (suc i) f name at same =
+    any_behind (bytes_eq name) (field_names g) (flat_map field_names fields) (name_among fields i f name at same)
+
+name_twice : (fields : List FieldNode) (i j : ℕ) (f g : FieldNode) → j < i → slice_get fields i ≡ Some f → slice_get fields j ≡ Some g → f.name ≡ g.name
+    → are_distinct bytes_eq (flat_map field_names fields) ≡ false
+name_twice [] i j f g below here before same = cc
+name_twice (h ∷ fields) zero j f g below here before same = absurd (omega (arith, below))
+name_twice (h ∷ fields) (suc i) zero f g below here before same =
+    let first : h ≡ g = cc in
+    let there : list_any (bytes_eq h.name) (h.aliases ++ flat_map field_names fields) ≡ true =
+    any_behind (bytes_eq h.name) h.aliases (flat_map field_names fields)
+    (name_among fields i f h.name here (ap (λ (k : FieldNode). k.name) first ∙ sym same)) in
+    rw there refl
+name_twice (h ∷ fields) (suc i) (suc j) f g below here before same =
+    distinct_behind bytes_eq (field_names h) (flat_map field_names fields) (name_twice fields i j f g (omega (arith, below)) here before same)
+
+completed_names : (nodes : List Node) (fields : List RawField)
+    → flat_map field_names (map (completed_field nodes) fields) ≡ flat_map field_names (map field_without_default fields)
+completed_names nodes [] = refl
+completed_names nodes (f ∷ fields) = rw (completed_names nodes fields) refl
+
+node_breaks : (n : Node) → RecordRepeatsName n → has_fields_rule n ≡ false
+node_breaks (Node.record_of name aliases fields) r = name_twice fields r.0 r.1 r.2 r.3 r.4 r.5 r.6 r.7
+node_breaks _ r = absurd r
+
+names_break : (nodes : List Node) (raws : List RawNode) (m : ℕ) → RecordRepeatsName (node_at (map node_without_defaults raws) m)
+    → has_fields_rule (node_at (map (completed_node nodes) raws) m) ≡ false
+names_break nodes [] m r = absurd r
+names_break nodes (RawNode.plain n ∷ raws) zero r = node_breaks n r
+names_break nodes (RawNode.record_of name aliases fields ∷ raws) zero r =
+    rw (completed_names nodes fields) (name_twice (map field_without_default fields) r.0 r.1 r.2 r.3 r.4 r.5 r.6 r.7)
+names_break nodes (RawNode.plain n ∷ raws) (suc m) r = names_break nodes raws m r
+names_break nodes (RawNode.record_of name aliases fields ∷ raws) (suc m) r = names_break nodes raws m r
+
+pub repeated_field-there : (nodes : List Node) (raws : List RawNode) → SomeRepeatsName (map node_without_defaults raws) → IsThere duplicate_field (map (completed_node nodes) raws)
+repeated_field-there nodes raws some =
+    let completed = map (completed_node nodes) raws in
+    let count : length completed ≡ length (map node_without_defaults raws) = simp length-map in
+    broken-there duplicate_field completed some.0 (rw count some.1) (ap not (names_break nodes raws some.0 some.2))
+
+-- each name is that of a field before this one
+abbrev pub AreFieldNames : List FieldNode → BTreeMap (Bor (List ℕ)) ℕ → ℕ → Type 0
+AreFieldNames fields names i =
+    (word : List ℕ) (j : ℕ) → find_word names word ≡ Some j → (f : FieldNode) × (j < i) × (slice_get fields j ≡ Some f) × (word ≡ f.name)
+
+pub names-next : (fields : List FieldNode) (old new : BTreeMap (Bor (List ℕ)) ℕ) (i : ℕ) (f : FieldNode) (name : List ℕ) → slice_get fields i ≡ Some f → name ≡ f.name
+    → ((word : List ℕ) → find_word new word ≡ cond (bytes_eq name word) (Some i) (find_word old word)) → AreFieldNames fields old i → AreFieldNames fields new (i + 1)
+names-next fields old new i f name at is put are = λ word j found. by_word word j found (bytes_eq name word) refl
+  where
+    by_word : (word : List ℕ) (j : ℕ) → find_word new word ≡ Some j → (b : Bool) → bytes_eq name word ≡ b
+        → (g : FieldNode) × (j < i + 1) × (slice_get fields j ≡ Some g) × (word ≡ g.name)
+    by_word word j found false h =
+        let before = rw h at (sym (put word) ∙ found) in
+        let was = are word j before in
+        (was.0, omega (arith, was.1), was.2, was.3)
+    by_word word j found true h =
+        let w : Some i ≡ Some j = rw h at (sym (put word) ∙ found) in
+        let same : i ≡ j = cc in
+        let text : name ≡ word = (bytes_eq-Decides name word).0 h in
+        (f, omega (arith, same), subst (λ (k : ℕ). slice_get fields k ≡ Some f) same at, sym text ∙ is)
+
+pub name-found : (fields : List FieldNode) (names : BTreeMap (Bor (List ℕ)) ℕ) (i : ℕ) (f : FieldNode) (word : List ℕ) → slice_get fields i ≡ Some f → word ≡ f.name
+    → is_some (find_word names word) ≡ true → AreFieldNames fields names i → RepeatsName fields
+name-found fields names i f word at is there are = by_found (find_word names word) refl there
+  where
+    by_found : (o : Option ℕ) → find_word names word ≡ o → is_some o ≡ true → RepeatsName fields
+    by_found None e t = absurd (false≢true t)
+    by_found (Some j) e t = let was = are word j e in (i, j, f, was.0, was.1, at, was.2, sym is ∙ was.3)
+
+pub some-names : (raws : List KeptNode) (i : ℕ) (raw : KeptNode) → i < length raws → raw ≡ get_or raws i raw → RecordRepeatsName (without_defaults raw)
+    → SomeRepeatsName (all_without_defaults raws)
+some-names raws i raw below at repeats =
+    let here : node_at (all_without_defaults raws) i ≡ without_defaults raw = node_here raws i raw below ∙ ap without_defaults (sym at) in
+    (i, omega (arith, as_many raws, below), subst RecordRepeatsName (sym here) repeats)

@@ -21,7 +21,7 @@ use crate::defaults::tables::tables_of;
 use crate::defaults::union_table::UnionTable;
 use crate::error::SchemaError;
 use crate::raw::{RawEnum, RawField, RawNode, RawRecord};
-use crate::repeats::has_repeated_branch;
+use crate::repeats::{has_repeated_branch, has_repeated_field};
 use avro_schema::{Datum, Draft, DraftError, Field, Memory, Node, RecordNode, Schema};
 use std::alloc::Global;
 use std::vec::IntoIter;
@@ -238,6 +238,9 @@ pub(crate) fn schema_of(alloc: Global, raws: Vec<RawNode<'_>>) -> Result<Schema,
 {
     if has_repeated_branch(alloc, &raws)? {
         return Err(SchemaError::InvalidUnion);
+    }
+    if has_repeated_field(alloc, &raws)? {
+        return Err(SchemaError::DuplicateField);
     }
     let Defaults { of_nodes, are_read } = defaults_of_nodes(alloc, &raws)?;
     let draft = draft_of(alloc, raws, of_nodes)?;

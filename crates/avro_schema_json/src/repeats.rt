@@ -1,18 +1,19 @@
-//! Unions in which a branch occurs twice: they are refused before any default is read, since each
-//! value of a default could be tried for many branches of one kind.
+//! Unions in which a branch occurs twice, and records that have two fields of one name: they are refused before any
+//! default is read, since each value of a default could be tried for many branches of one kind, or read for each of the
+//! fields.
 
 ghost use Rattle.std.specs.Prelude.{◌≡◌, ◌⊎◌, ℕ, true, IfOk, OnOk};
 ghost use Rattle.std.specs.Ordering.{nat_cmp};
 ghost use Rattle.std.specs.BTreeSet.{contains};
 ghost use Rattle.avro_schema.specs.Seen.{ids_of};
-ghost use Rattle.avro_schema_json.specs.inside.OwnDefaults.{all_without_defaults};
-ghost use Rattle.avro_schema_json.specs.inside.Repeats.{code_by, Repeats, SomeRepeats};
+ghost use Rattle.avro_schema_json.specs.inside.OwnDefaults.{all_without_defaults, fields_seen};
+ghost use Rattle.avro_schema_json.specs.inside.Repeats.{code_by, Repeats, SomeRepeats, RepeatsName, SomeRepeatsName};
 
-use crate::raw::RawNode;
+use crate::raw::{RawField, RawNode};
 use crate::raw_nodes::{are_edges, branches, raw_at};
 use avro_schema::{Memory, NodeId};
 use std::alloc::Global;
-use std::collections::BTreeSet;
+use std::collections::{BTreeMap, BTreeSet};
 
 /// The code of a branch: an even one for each kind without a name, an odd one for each other node.
 fn code_of(raws: &[RawNode], branch: NodeId) -> u64
@@ -70,6 +71,38 @@ pub(crate) fn has_repeated_branch(alloc: Global, raws: &[RawNode]) -> Result<boo
                 }
             }
             None => {}
+        }
+    }
+    Ok(false)
+}
+
+/// Whether two fields have one name.
+fn repeats_name(alloc: Global, fields: &[RawField]) -> Result<bool, Memory>
+    ensures { IfOk result (λ answer. answer ≡ true → RepeatsName (fields_seen fields.now)) }
+{
+    let mut names: BTreeMap<&str, usize> = BTreeMap::new(alloc);
+    for i in 0..fields.len() {
+        let name = fields[i].name.as_str();
+        if names.contains_key(name) {
+            return Ok(true);
+        }
+        names.insert(name, i)?;
+    }
+    Ok(false)
+}
+
+/// Whether one of the records has two fields of one name.
+pub(crate) fn has_repeated_field(alloc: Global, raws: &[RawNode]) -> Result<bool, Memory>
+    ensures { IfOk result (λ answer. answer ≡ true → SomeRepeatsName (all_without_defaults raws.now)) }
+{
+    for i in 0..raws.len() {
+        match &raws[i] {
+            RawNode::Record(record) => {
+                if repeats_name(alloc, &record.fields)? {
+                    return Ok(true);
+                }
+            }
+            _ => {}
         }
     }
     Ok(false)

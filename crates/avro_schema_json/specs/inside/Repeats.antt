@@ -1,7 +1,7 @@
--- Unions in which a branch occurs twice.
+-- Unions in which a branch occurs twice, and records that have two fields of one name.
 use Rattle.std.specs.Prelude.{◌≡◌, ℕ, ◌+◌, ◌*◌, ◌<◌, true, List, length, Option, Some, None, slice_get}
 use Rattle.std.specs.List.{list_all}
-use Rattle.avro_schema.specs.Node.{Node, node_at, branches_of}
+use Rattle.avro_schema.specs.Node.{Node, FieldNode, node_at, branches_of}
 use Rattle.avro_schema.specs.WellFormed.{BranchKind, unnamed, named, branch_kind, is_edge}
 
 -- an even number for each kind without a name, an odd one for each other node
@@ -22,3 +22,15 @@ abbrev pub SomeRepeats : List Node → Type 0
 SomeRepeats nodes =
     (m : ℕ) × (ids : List ℕ) × (m < length nodes) × (branches_of (node_at nodes m) ≡ Some ids)
     × (list_all (is_edge nodes m) ids ≡ true) × Repeats nodes ids
+
+-- two fields have one name
+abbrev pub RepeatsName : List FieldNode → Type 0
+RepeatsName fields = (i : ℕ) × (j : ℕ) × (f : FieldNode) × (g : FieldNode) × (j < i) × (slice_get fields i ≡ Some f) × (slice_get fields j ≡ Some g) × (f.name ≡ g.name)
+
+-- the same in a record
+abbrev pub RecordRepeatsName : Node → Type 0
+RecordRepeatsName (Node.record_of name aliases fields) = RepeatsName fields
+RecordRepeatsName _ = ⊥
+
+abbrev pub SomeRepeatsName : List Node → Type 0
+SomeRepeatsName nodes = (m : ℕ) × (m < length nodes) × RecordRepeatsName (node_at nodes m)

@@ -3,7 +3,7 @@ use Rattle.std.specs.Prelude.{Contains, Option, Some, None, IfSome, option_map, 
 use Rattle.std.proofs.lemmas.List.{length-map}
 use Rattle.std.proofs.lemmas.Result.{err_from_is_err_and}
 use Rattle.avro_schema.specs.Node.{Node}
-use Rattle.avro_schema.specs.Faulty.{NodeFault, invalid_union, limit_exceeded, fault_of, IsThere, IsRefused}
+use Rattle.avro_schema.specs.Faulty.{NodeFault, invalid_union, duplicate_field, limit_exceeded, fault_of, IsThere, IsRefused}
 use Rattle.avro_schema.specs.SeenSchema.{draft_nodes}
 use Rattle.avro_schema.specs.WellFormed.{is_schema}
 use Rattle.avro_schema.specs.Value.{Value}
@@ -18,8 +18,8 @@ use Rattle.avro_schema_json.specs.inside.OwnDefaults.{all_without_defaults}
 use Rattle.avro_schema_json.specs.Refusals.{refusal_of_fault, refusal_of}
 use Rattle.avro_schema_json.specs.inside.SeenDefaults.{lists_seen, defaults_of_node, nodes_with_defaults}
 use Rattle.avro_schema_json.specs.inside.SeenRaw.{raw_nodes_of}
-use Rattle.avro_schema_json.specs.inside.Repeats.{SomeRepeats}
-use Rattle.avro_schema_json.proofs.RepeatsSeen.{repeated-there}
+use Rattle.avro_schema_json.specs.inside.Repeats.{SomeRepeats, SomeRepeatsName}
+use Rattle.avro_schema_json.proofs.RepeatsSeen.{repeated-there, repeated_field-there}
 use Rattle.avro_schema_json.proofs.DeclarationLaws.{no_refusals-from_is_schema}
 use Rattle.avro_schema_json.proofs.CompletedSeen.{nodes-completed, or_else-first, or_else-unread, too_many-there, refusal-contains}
 use Rattle.avro_schema_json.proofs.completed.schema_of.Goals as goal
@@ -71,6 +71,13 @@ returns-then-branch-clause-refused c =
     inr (of_fault raws invalid_union (repeated-there (nodes_without_defaults raws) raws
     (subst (λ (ns : List KeptNode). SomeRepeats (all_without_defaults ns)) c.deref.ensures.value repeats)))
 
+pub returns-then-branch-2-clause-refused : goal.returns-then-branch-2-clause-refused
+returns-then-branch-2-clause-refused c =
+    let repeats = c.in_ok-has_repeated_field.ensures c.if-branch-2.true in
+    let raws = raw_nodes_of c.args.raws.items in
+    inr (of_fault raws duplicate_field (repeated_field-there (nodes_without_defaults raws) raws
+    (subst (λ (ns : List KeptNode). SomeRepeatsName (all_without_defaults ns)) c.deref-2.ensures.value repeats)))
+
 pub returns-in_err-draft-clause-refused : goal.returns-in_err-draft-clause-refused
 returns-in_err-draft-clause-refused c =
     let p = err_from_is_err_and c.from_residual-in_err-draft.result c.from_residual-in_err-draft.ensures.1 in
@@ -78,8 +85,8 @@ returns-in_err-draft-clause-refused c =
 
 pub returns-in_err-schema-clause-refused : goal.returns-in_err-schema-clause-refused
 returns-in_err-schema-clause-refused c =
-    let completed = completed_draft c.args.raws.items c.deref-2.result.now (lists_seen c.in_ok-of_nodes.field-0.of_nodes.items) (draft_nodes c.in_ok-draft.draft)
-    c.deref-2.ensures.value c.in_ok-of_nodes.ensures.data c.in_ok-draft.ensures.nodes in
+    let completed = completed_draft c.args.raws.items c.deref-3.result.now (lists_seen c.in_ok-of_nodes.field-0.of_nodes.items) (draft_nodes c.in_ok-draft.draft)
+    c.deref-3.ensures.value c.in_ok-of_nodes.ensures.data c.in_ok-draft.ensures.nodes in
     let p = err_from_is_err_and c.from_residual-in_err-schema.result c.from_residual-in_err-schema.ensures.1 in
     rw p.1 (of_draft (raw_nodes_of c.args.raws.items) (draft_nodes c.in_ok-draft.draft) c.in_err-schema.field-0.0 p.0 completed
     c.in_err-schema.ensures.faulty p.2)
@@ -87,21 +94,21 @@ returns-in_err-schema-clause-refused c =
 pub returns-then-not-are_read-clause-refused : goal.returns-then-not-are_read-clause-refused
 returns-then-not-are_read-clause-refused c =
     let raws = raw_nodes_of c.args.raws.items in
-    let completed = completed_draft c.args.raws.items c.deref-2.result.now (lists_seen c.in_ok-of_nodes.field-0.of_nodes.items) (draft_nodes c.in_ok-draft.draft)
-    c.deref-2.ensures.value c.in_ok-of_nodes.ensures.data c.in_ok-draft.ensures.nodes in
+    let completed = completed_draft c.args.raws.items c.deref-3.result.now (lists_seen c.in_ok-of_nodes.field-0.of_nodes.items) (draft_nodes c.in_ok-draft.draft)
+    c.deref-3.ensures.value c.in_ok-of_nodes.ensures.data c.in_ok-draft.ensures.nodes in
     let formed : is_schema (completed_nodes raws) ≡ true = ap is_schema (sym completed) ∙ c.in_ok-schema.ensures.formed in
     let unread : are_all_defaults_read raws ≡ false =
-    ap (λ (ns : List KeptNode). are_all_defaults_read (raw_nodes_of ns)) (sym c.deref-2.ensures.value) ∙ sym c.in_ok-of_nodes.ensures.read ∙ c.if-not-are_read.true in
+    ap (λ (ns : List KeptNode). are_all_defaults_read (raw_nodes_of ns)) (sym c.deref-3.ensures.value) ∙ sym c.in_ok-of_nodes.ensures.read ∙ c.if-not-are_read.true in
     inr (or_else-unread (refusals_of_nodes (completed_nodes raws)) (are_all_defaults_read raws) SchemaError.InvalidDefault (no_refusals-from_is_schema (completed_nodes raws) formed) unread)
 
 pub returns-clause-found : goal.returns-clause-found
 returns-clause-found c =
-    let completed = completed_draft c.args.raws.items c.deref-2.result.now (lists_seen c.in_ok-of_nodes.field-0.of_nodes.items) (draft_nodes c.in_ok-draft.draft)
-    c.deref-2.ensures.value c.in_ok-of_nodes.ensures.data c.in_ok-draft.ensures.nodes in
+    let completed = completed_draft c.args.raws.items c.deref-3.result.now (lists_seen c.in_ok-of_nodes.field-0.of_nodes.items) (draft_nodes c.in_ok-draft.draft)
+    c.deref-3.ensures.value c.in_ok-of_nodes.ensures.data c.in_ok-draft.ensures.nodes in
     c.in_ok-schema.ensures.schema ∙ completed
 
 pub returns-clause-formed : goal.returns-clause-formed
 returns-clause-formed c =
-    let completed = completed_draft c.args.raws.items c.deref-2.result.now (lists_seen c.in_ok-of_nodes.field-0.of_nodes.items) (draft_nodes c.in_ok-draft.draft)
-    c.deref-2.ensures.value c.in_ok-of_nodes.ensures.data c.in_ok-draft.ensures.nodes in
+    let completed = completed_draft c.args.raws.items c.deref-3.result.now (lists_seen c.in_ok-of_nodes.field-0.of_nodes.items) (draft_nodes c.in_ok-draft.draft)
+    c.deref-3.ensures.value c.in_ok-of_nodes.ensures.data c.in_ok-draft.ensures.nodes in
     ap is_schema (sym completed) ∙ c.in_ok-schema.ensures.formed
