@@ -17,6 +17,7 @@ ghost use Rattle.avro_schema_json.specs.inside.SeenRaw.{raw_field_of, raw_fields
 ghost use Rattle.avro_schema_json.specs.declared.error.SchemaError.TheVariants.{InvalidDefault, OutOfMemory};
 
 use crate::defaults::default_of;
+use crate::defaults::merges::Merges;
 use crate::defaults::tables::tables_of;
 use crate::defaults::union_table::UnionTable;
 use crate::error::SchemaError;
@@ -46,12 +47,13 @@ fn default_of_field(
     raws: &[RawNode],
     tables: &[UnionTable],
     field: &RawField,
+    merges: &mut Merges,
 ) -> Result<Option<Datum>, Memory>
     requires tables { AreTables (all_without_defaults raws.now) tables.now }
     ensures { IfOk result (λ datum. option_map value_of datum ≡ field_default (all_without_defaults raws.now) (raw_field_of field.now)) }
 {
     match field.default {
-        Some(tree) => default_of(alloc, raws, tables, tree, field.node),
+        Some(tree) => default_of(alloc, raws, tables, tree, field.node, merges),
         None => Ok(None),
     }
 }
@@ -62,6 +64,7 @@ fn defaults_of_fields(
     raws: &[RawNode],
     tables: &[UnionTable],
     fields: &[RawField],
+    merges: &mut Merges,
 ) -> Result<NodeDefaults, Memory>
     requires tables { AreTables (all_without_defaults raws.now) tables.now }
     ensures data { IfOk result (λ defaults. data_seen defaults.of_fields.items ≡ map (field_default (all_without_defaults raws.now)) (raw_fields_of fields.now)) }
@@ -70,7 +73,7 @@ fn defaults_of_fields(
     let mut of_fields: Vec<Option<Datum>> = Vec::new(alloc);
     let mut are_read = true;
     for field in fields {
-        let default = default_of_field(alloc, raws, tables, field)?;
+        let default = default_of_field(alloc, raws, tables, field, merges)?;
         are_read = are_read && (default.is_some() || !field.default.is_some());
         of_fields.push(default)?;
     }
@@ -86,13 +89,14 @@ fn defaults_of_node(
     raws: &[RawNode],
     tables: &[UnionTable],
     raw: &RawNode,
+    merges: &mut Merges,
 ) -> Result<NodeDefaults, Memory>
     requires tables { AreTables (all_without_defaults raws.now) tables.now }
     ensures data { IfOk result (λ defaults. data_seen defaults.of_fields.items ≡ node_defaults_by (all_without_defaults raws.now) (raw_node_of raw.now)) }
     ensures read { IfOk result (λ defaults. defaults.are_read ≡ are_defaults_read (all_without_defaults raws.now) (raw_node_of raw.now)) }
 {
     match raw {
-        RawNode::Record(record) => defaults_of_fields(alloc, raws, tables, &record.fields),
+        RawNode::Record(record) => defaults_of_fields(alloc, raws, tables, &record.fields, merges),
         _ => Ok(NodeDefaults {
             of_fields: Vec::new(alloc),
             are_read: true,
@@ -107,13 +111,14 @@ fn defaults_of_nodes(alloc: Global, raws: &[RawNode]) -> Result<Defaults, Memory
 {
     let null = RawNode::Null;
     let tables = tables_of(alloc, raws, &null)?;
+    let mut merges = Merges::none(alloc);
     let mut of_nodes: Vec<Vec<Option<Datum>>> = Vec::new(alloc);
     let mut are_read = true;
     for raw in raws {
         let NodeDefaults {
             of_fields,
             are_read: are_these_read,
-        } = defaults_of_node(alloc, raws, &tables, raw)?;
+        } = defaults_of_node(alloc, raws, &tables, raw, &mut merges)?;
         are_read = are_read && are_these_read;
         of_nodes.push(of_fields)?;
     }

@@ -55,6 +55,7 @@ use crate::defaults::gathered::Gathered;
 use crate::defaults::known::{
     has, misfits_at, next_index, nothing_gathered, part_of_array, part_of_object,
 };
+use crate::defaults::merges::Merges;
 use crate::defaults::misfits::gather;
 use crate::defaults::plain_defaults::{
     boolean_default, null_default, number_default, text_default,
@@ -73,19 +74,20 @@ use std::alloc::Global;
 use std::collections::BTreeSet;
 
 /// The default that JSON gives for the node of an id, or nothing where there is none. A union
-/// takes it as one of the first branch that it fits.
+/// takes it as one of the first branch that it fits. What is merged for one default is there for the next.
 pub(crate) fn default_of(
     alloc: Global,
     raws: &[RawNode],
     tables: &[UnionTable],
     tree: &Value,
     id: NodeId,
+    merges: &mut Merges,
 ) -> Result<Option<Datum>, Memory>
     requires tables { AreTables (all_without_defaults raws.now) tables.now }
     ensures { IfOk result (λ datum. option_map value_of datum ≡ default_by (all_without_defaults raws.now) (view tree.now) (node_at (all_without_defaults raws.now) id.0)) }
 {
     let nothing: Vec<Gathered> = Vec::new(alloc);
-    known_default(alloc, raws, tables, tree, id, &nothing, 0)
+    known_default(alloc, raws, tables, tree, id, merges, &nothing, 0)
 }
 
 /// The default that JSON gives for the node of an id, by what is known of the JSON. Where nothing
@@ -97,6 +99,7 @@ fn known_default(
     tables: &[UnionTable],
     tree: &Value,
     id: NodeId,
+    merges: &mut Merges,
     all: &[Gathered],
     known: usize,
 ) -> Result<Option<Datum>, Memory>
@@ -107,18 +110,18 @@ fn known_default(
     let null = RawNode::Null;
     let node = raw_at(&*raws, &null, id);
     match branches(node) {
-        None => own_default(alloc, raws, tables, tree, node, all, known),
+        None => own_default(alloc, raws, tables, tree, node, merges, all, known),
         Some(ids) => {
             let nothing = no_table(alloc);
             let table = table_at(raws, &*tables, &nothing, id, ids);
             let repeated = repeated_ids(alloc, raws, table, tree, ids, known)?;
             if repeated.len() < 2 {
-                return branch_default(alloc, raws, tables, table, &null, tree, ids, all, known);
+                return branch_default(alloc, raws, tables, table, &null, tree, ids, merges, all, known);
             }
             let mut gathered = nothing_gathered(alloc)?;
-            let known = gather(alloc, raws, tables, tree, &repeated, &mut gathered)?;
+            let known = gather(alloc, raws, tables, tree, &repeated, merges, &mut gathered)?;
             branch_default(
-                alloc, raws, tables, table, &null, tree, ids, &gathered, known,
+                alloc, raws, tables, table, &null, tree, ids, merges, &gathered, known,
             )
         }
     }
@@ -136,6 +139,7 @@ fn branch_default(
     null: &RawNode,
     tree: &Value,
     ids: &[NodeId],
+    merges: &mut Merges,
     all: &[Gathered],
     known: usize,
 ) -> Result<Option<Datum>, Memory>
@@ -162,7 +166,7 @@ fn branch_default(
         if has(misfits, id) {
             continue;
         }
-        match default_at(alloc, raws, tables, tree, id, all, known)? {
+        match default_at(alloc, raws, tables, tree, id, merges, all, known)? {
             Some(datum) => return in_branch(alloc, i, datum),
             None => {}
         }
@@ -178,6 +182,7 @@ fn default_at(
     tables: &[UnionTable],
     tree: &Value,
     id: NodeId,
+    merges: &mut Merges,
     all: &[Gathered],
     known: usize,
 ) -> Result<Option<Datum>, Memory>
@@ -187,7 +192,7 @@ fn default_at(
 {
     let null = RawNode::Null;
     let node = raw_at(&*raws, &null, id);
-    own_default(alloc, raws, tables, tree, node, all, known)
+    own_default(alloc, raws, tables, tree, node, merges, all, known)
 }
 
 /// A datum as one of a union, of this branch. A branch past the range of numbers would exceed any
@@ -209,6 +214,7 @@ fn own_default(
     tables: &[UnionTable],
     tree: &Value,
     node: &RawNode,
+    merges: &mut Merges,
     all: &[Gathered],
     known: usize,
 ) -> Result<Option<Datum>, Memory>
@@ -221,8 +227,8 @@ fn own_default(
         Value::Bool(value) => Ok(boolean_default(*value, node)),
         Value::Number(number) => Ok(number_default(*number, node)),
         Value::String(text) => text_default(alloc, text.as_str(), node),
-        Value::Array(items) => items_default(alloc, raws, tables, items, node, all, known),
-        Value::Object(members) => object_default(alloc, raws, tables, members, node, all, known),
+        Value::Array(items) => items_default(alloc, raws, tables, items, node, merges, all, known),
+        Value::Object(members) => object_default(alloc, raws, tables, members, node, merges, all, known),
     }
 }
 
@@ -234,6 +240,7 @@ fn items_default(
     tables: &[UnionTable],
     items: &Vec<Value>,
     node: &RawNode,
+    merges: &mut Merges,
     all: &[Gathered],
     known: usize,
 ) -> Result<Option<Datum>, Memory>
@@ -243,7 +250,7 @@ fn items_default(
         ≡ default_of_items (all_without_defaults raws.now) (λ m. each_default (all_without_defaults raws.now) (items_view items.now.items) m) (without_defaults node.now)) }
 {
     match node {
-        RawNode::Array(id) => match item_defaults(alloc, raws, tables, items, *id, all, known)? {
+        RawNode::Array(id) => match item_defaults(alloc, raws, tables, items, *id, merges, all, known)? {
             Some(values) => Ok(Some(Datum::Array(values))),
             None => Ok(None),
         },
@@ -259,6 +266,7 @@ fn item_defaults(
     tables: &[UnionTable],
     items: &Vec<Value>,
     id: NodeId,
+    merges: &mut Merges,
     all: &[Gathered],
     known: usize,
 ) -> Result<Option<Vec<Datum>>, Memory>
@@ -271,7 +279,7 @@ fn item_defaults(
     let mut index = 0usize;
     for item in items {
         let part = part_of_array(raws, items, item, all, known, index);
-        let Some(value) = item_default(alloc, raws, tables, item, items, &values, id, all, part)?
+        let Some(value) = item_default(alloc, raws, tables, item, items, &values, id, merges, all, part)?
         else {
             return Ok(None);
         };
@@ -291,6 +299,7 @@ fn item_default(
     items: &[Value],
     values: &[Datum],
     id: NodeId,
+    merges: &mut Merges,
     all: &[Gathered],
     known: usize,
 ) -> Result<Option<Datum>, Memory>
@@ -301,7 +310,7 @@ fn item_default(
 {
     match value_before(items, values, item)? {
         Some(value) => Ok(Some(value)),
-        None => known_default(alloc, raws, tables, item, id, all, known),
+        None => known_default(alloc, raws, tables, item, id, merges, all, known),
     }
 }
 
@@ -313,6 +322,7 @@ fn object_default(
     tables: &[UnionTable],
     members: &Map<String, Value>,
     node: &RawNode,
+    merges: &mut Merges,
     all: &[Gathered],
     known: usize,
 ) -> Result<Option<Datum>, Memory>
@@ -323,7 +333,7 @@ fn object_default(
         (λ key. default_under (all_without_defaults raws.now) key (members_view members.now.entries)) (member_keys (members_view members.now.entries)) (without_defaults node.now)) }
 {
     match node {
-        RawNode::Map(id) => match entry_defaults(alloc, raws, tables, members, *id, all, known)? {
+        RawNode::Map(id) => match entry_defaults(alloc, raws, tables, members, *id, merges, all, known)? {
             Some(entries) => Ok(Some(Datum::Map(entries))),
             None => Ok(None),
         },
@@ -333,6 +343,7 @@ fn object_default(
             tables,
             members,
             &record.fields,
+            merges,
             all,
             known,
         ),
@@ -348,6 +359,7 @@ fn entry_defaults(
     tables: &[UnionTable],
     members: &Map<String, Value>,
     id: NodeId,
+    merges: &mut Merges,
     all: &[Gathered],
     known: usize,
 ) -> Result<Option<Vec<(String, Datum)>>, Memory>
@@ -360,7 +372,7 @@ fn entry_defaults(
     for (key, tree) in members.iter() {
         let name = key.as_str();
         let part = part_of_object(raws, members, tree, all, known, name);
-        let Some(value) = known_default(alloc, raws, tables, tree, id, all, part)? else {
+        let Some(value) = known_default(alloc, raws, tables, tree, id, merges, all, part)? else {
             return Ok(None);
         };
         entries.push((copy_of_text(alloc, name)?, value))?;
@@ -376,6 +388,7 @@ fn record_default(
     tables: &[UnionTable],
     members: &Map<String, Value>,
     fields: &[RawField],
+    merges: &mut Merges,
     all: &[Gathered],
     known: usize,
 ) -> Result<Option<Datum>, Memory>
@@ -384,7 +397,7 @@ fn record_default(
     ensures { IfOk result (λ datum. option_map value_of datum
         ≡ default_of_fields (all_without_defaults raws.now) (members_view members.now.entries) (fields_seen fields.now)) }
 {
-    let Some(values) = field_defaults(alloc, raws, tables, members, fields, all, known)? else {
+    let Some(values) = field_defaults(alloc, raws, tables, members, fields, merges, all, known)? else {
         return Ok(None);
     };
     if names_fields(alloc, members, fields)? {
@@ -402,6 +415,7 @@ fn field_defaults(
     tables: &[UnionTable],
     members: &Map<String, Value>,
     fields: &[RawField],
+    merges: &mut Merges,
     all: &[Gathered],
     known: usize,
 ) -> Result<Option<Vec<Datum>>, Memory>
@@ -417,7 +431,7 @@ fn field_defaults(
             return Ok(None);
         };
         let part = part_of_object(raws, members, tree, all, known, name);
-        let Some(value) = known_default(alloc, raws, tables, tree, field.node, all, part)? else {
+        let Some(value) = known_default(alloc, raws, tables, tree, field.node, merges, all, part)? else {
             return Ok(None);
         };
         values.push(value)?;

@@ -23,26 +23,10 @@ use serde_json::{Map, Value};
 use std::alloc::Global;
 use std::collections::{BTreeMap, BTreeSet};
 
-/// Gathers what is known of JSON and of its parts, by the nodes that it is asked about, unions by their branches.
-pub(crate) fn gather<'a>(
-    alloc: Global,
-    raws: &[RawNode],
-    tables: &[UnionTable],
-    tree: &'a Value,
-    asked: &[NodeId],
-    all: &mut Vec<Gathered<'a>>,
-) -> Result<usize, Memory>
-    requires tables { AreTables (all_without_defaults raws.now) tables.now }
-    ensures grown { IfOk result (λ known. Grows all.old.items all.new.items) }
-    ensures known { IfOk result (λ known. IsKnown (all_without_defaults raws.now) all.new.items (view tree.now) known) }
-{
-    let mut merges = Merges::none(alloc);
-    gather_part(alloc, raws, tables, tree, asked, &mut merges, all)
-}
-
-/// The same of a part. Nothing is kept for JSON without parts: it is tried in place.
+/// Gathers what is known of JSON and of its parts, by the nodes that it is asked about, unions by their branches. Nothing is
+/// kept for JSON without parts: it is tried in place.
 #[cycle(misfits)]
-fn gather_part<'a>(
+pub(crate) fn gather<'a>(
     alloc: Global,
     raws: &[RawNode],
     tables: &[UnionTable],
@@ -157,7 +141,7 @@ fn gather_item<'a>(
 {
     match part_before(items, parts, item) {
         Some(part) => Ok(part),
-        None => gather_part(alloc, raws, tables, item, asked, merges, all),
+        None => gather(alloc, raws, tables, item, asked, merges, all),
     }
 }
 
@@ -183,7 +167,7 @@ fn member_parts<'a>(
         match asked.get(key) {
             Some(of_member) => match members.get(key) {
                 Some(tree) => {
-                    let part = gather_part(alloc, raws, tables, tree, of_member, merges, all)?;
+                    let part = gather(alloc, raws, tables, tree, of_member, merges, all)?;
                     parts.insert(key, part)?;
                 }
                 None => {}

@@ -7,11 +7,11 @@ use Rattle.avro_schema_json.specs.inside.OwnDefaults.{all_without_defaults}
 use Rattle.avro_schema_json.proofs.MisfitsSeen.{item-at, grown-twice, items-push, members-insert}
 use Rattle.avro_schema_json.proofs.defaults.misfits.+misfits.Goals as goal
 
-pub gather_part-returns-then-not-has_parts-clause-known : goal.gather_part-returns-then-not-has_parts-clause-known
-gather_part-returns-then-not-has_parts-clause-known t c = nothing refl
+pub gather-returns-then-not-has_parts-clause-known : goal.gather-returns-then-not-has_parts-clause-known
+gather-returns-then-not-has_parts-clause-known t c = nothing refl
 
-pub gather_part-returns : goal.gather_part-returns
-gather_part-returns t c = record { grown = λ i g at. at; known = nothing refl }
+pub gather-returns : goal.gather-returns
+gather-returns t c = record { grown = λ i g at. at; known = nothing refl }
 
 pub item_parts-loop-item-preserved : goal.item_parts-loop-item-preserved
 item_parts-loop-item-preserved t c =
@@ -40,7 +40,7 @@ member_parts-loop-key-preserved-in_ok-insert-in-Some-get-2 t c =
     let part = c.in_ok-part-in-Some-get-2.part in
     let there = sym (ap (option_map view) c.in-Some-get-2.ensures.value ∙ view-lookup key es) in
     let before = l.all.items in
-    let after = c.gather_part.new.all.items in
+    let after = c.gather.new.all.items in
     let grown = c.in_ok-part-in-Some-get-2.ensures.grown in (
       grown-twice c.args.all.now.items before after l.invariant.0 grown,
       members-insert nodes before after (members_view es) l.parts c.insert.new.self key x part grown l.invariant.1
