@@ -116,7 +116,9 @@ fn known_default(
             let table = table_at(raws, &*tables, &nothing, id, ids);
             let repeated = repeated_ids(alloc, raws, table, tree, ids, known)?;
             if repeated.len() < 2 {
-                return branch_default(alloc, raws, tables, table, &null, tree, ids, merges, all, known);
+                return branch_default(
+                    alloc, raws, tables, table, &null, tree, ids, merges, all, known,
+                );
             }
             let mut gathered = nothing_gathered(alloc)?;
             let known = gather(alloc, raws, tables, tree, &repeated, merges, &mut gathered)?;
@@ -228,7 +230,9 @@ fn own_default(
         Value::Number(number) => Ok(number_default(*number, node)),
         Value::String(text) => text_default(alloc, text.as_str(), node),
         Value::Array(items) => items_default(alloc, raws, tables, items, node, merges, all, known),
-        Value::Object(members) => object_default(alloc, raws, tables, members, node, merges, all, known),
+        Value::Object(members) => object_default(
+            alloc, raws, tables, members, node, merges, all, known,
+        ),
     }
 }
 
@@ -250,7 +254,9 @@ fn items_default(
         ≡ default_of_items (all_without_defaults raws.now) (λ m. each_default (all_without_defaults raws.now) (items_view items.now.items) m) (without_defaults node.now)) }
 {
     match node {
-        RawNode::Array(id) => match item_defaults(alloc, raws, tables, items, *id, merges, all, known)? {
+        RawNode::Array(id) => match item_defaults(
+            alloc, raws, tables, items, *id, merges, all, known,
+        )? {
             Some(values) => Ok(Some(Datum::Array(values))),
             None => Ok(None),
         },
@@ -279,7 +285,9 @@ fn item_defaults(
     let mut index = 0usize;
     for item in items {
         let part = part_of_array(raws, items, item, all, known, index);
-        let Some(value) = item_default(alloc, raws, tables, item, items, &values, id, merges, all, part)?
+        let Some(value) = item_default(
+            alloc, raws, tables, item, items, &values, id, merges, all, part,
+        )?
         else {
             return Ok(None);
         };
@@ -333,7 +341,9 @@ fn object_default(
         (λ key. default_under (all_without_defaults raws.now) key (members_view members.now.entries)) (member_keys (members_view members.now.entries)) (without_defaults node.now)) }
 {
     match node {
-        RawNode::Map(id) => match entry_defaults(alloc, raws, tables, members, *id, merges, all, known)? {
+        RawNode::Map(id) => match entry_defaults(
+            alloc, raws, tables, members, *id, merges, all, known,
+        )? {
             Some(entries) => Ok(Some(Datum::Map(entries))),
             None => Ok(None),
         },
@@ -397,7 +407,8 @@ fn record_default(
     ensures { IfOk result (λ datum. option_map value_of datum
         ≡ default_of_fields (all_without_defaults raws.now) (members_view members.now.entries) (fields_seen fields.now)) }
 {
-    let Some(values) = field_defaults(alloc, raws, tables, members, fields, merges, all, known)? else {
+    let Some(values) = field_defaults(alloc, raws, tables, members, fields, merges, all, known)?
+    else {
         return Ok(None);
     };
     if names_fields(alloc, members, fields)? {
@@ -431,7 +442,8 @@ fn field_defaults(
             return Ok(None);
         };
         let part = part_of_object(raws, members, tree, all, known, name);
-        let Some(value) = known_default(alloc, raws, tables, tree, field.node, merges, all, part)? else {
+        let Some(value) = known_default(alloc, raws, tables, tree, field.node, merges, all, part)?
+        else {
             return Ok(None);
         };
         values.push(value)?;
