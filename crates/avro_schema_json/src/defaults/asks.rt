@@ -3,7 +3,7 @@
 
 use crate::defaults::distinct::Distinct;
 use crate::defaults::first_branches::first_branch;
-use crate::defaults::flat::{are_as_few, has_parts, is_flat};
+use crate::defaults::flat::{has_parts, is_flat};
 use crate::defaults::merges::Merges;
 use crate::defaults::object_misfit::lacks_field;
 use crate::defaults::probes::is_refused;
@@ -95,8 +95,7 @@ fn may_enter(raws: &[RawNode], tree: &Value, id: NodeId) -> bool {
     }
 }
 
-/// The branches of a union for which JSON is looked into, and how many were gone through. Its table is not asked where
-/// going through them takes less.
+/// The branches of a union for which JSON is looked into, and how many were gone through.
 fn own_of_union(
     alloc: Global,
     raws: &[RawNode],
@@ -106,10 +105,8 @@ fn own_of_union(
     branches: &[NodeId],
 ) -> Result<(Vec<NodeId>, usize), Memory> {
     match tables.get(id.0 as usize) {
-        Some(table) if !are_as_few(branches.len(), tree) => {
-            entered(alloc, raws, table, tree, branches)
-        }
-        _ => Ok((all_entered(alloc, raws, tree, branches)?, branches.len())),
+        Some(table) => entered(alloc, raws, table, tree, branches),
+        None => Ok((all_entered(alloc, raws, tree, branches)?, branches.len())),
     }
 }
 

@@ -28,20 +28,6 @@ pub(crate) fn are_leaves(items: &[Value]) -> bool {
     true
 }
 
-/// How many items or members JSON has.
-fn number_of_parts(tree: &Value) -> usize {
-    match tree {
-        Value::Array(items) => items.len(),
-        Value::Object(members) => members.len(),
-        _ => 0,
-    }
-}
-
-/// Whether some branches are as few as the parts of JSON, or fewer: they are gone through in less time than the parts.
-pub(crate) fn are_as_few(branches: usize, tree: &Value) -> bool {
-    branches <= number_of_parts(tree)
-}
-
 /// Whether JSON is an array or an object.
 pub(crate) fn has_parts(tree: &Value) -> bool {
     tree.is_array() || tree.is_object()

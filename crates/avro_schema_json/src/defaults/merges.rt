@@ -10,7 +10,7 @@ use std::collections::BTreeMap;
 /// The fewest nodes whose branches are worth merging.
 const FEWEST: usize = 8;
 
-/// The most lists of nodes that are kept.
+/// The most lists of nodes that are kept. Before another one is, all are forgotten.
 const MOST: usize = 1_000;
 
 /// The branches of some nodes.
@@ -41,7 +41,7 @@ impl Merges {
         }
     }
 
-    /// The index for some nodes, if they are many and not too many lists are kept.
+    /// The index for some nodes, if they are many.
     pub(crate) fn index_of(
         &mut self,
         alloc: Global,
@@ -56,10 +56,10 @@ impl Merges {
             Some(at) => return Ok(Some(*at)),
             None => {}
         }
-        let at = self.of_lists.len();
-        if at >= MOST {
-            return Ok(None);
+        if self.of_lists.len() >= MOST {
+            self.forget(alloc);
         }
+        let at = self.of_lists.len();
         self.of_lists.push(Merge {
             all: count_of(raws, asked),
             walked: 0,
@@ -67,6 +67,12 @@ impl Merges {
         })?;
         self.indices.insert(key, at)?;
         Ok(Some(at))
+    }
+
+    /// Forgets all lists.
+    fn forget(&mut self, alloc: Global) {
+        self.indices = BTreeMap::new(alloc);
+        self.of_lists = Vec::new(alloc);
     }
 
     /// The branches that were merged, at an index.

@@ -11,7 +11,6 @@ ghost use Rattle.avro_schema_json.specs.DeclaredDefaults.{default_of as default_
 ghost use Rattle.serde_json.specs.View.{view};
 
 use crate::defaults::first_branches::first_branch;
-use crate::defaults::flat::are_as_few;
 use crate::defaults::known::has;
 use crate::defaults::plain_defaults::{number_default, text_default};
 use crate::defaults::probes::is_refused;
@@ -51,9 +50,6 @@ pub(crate) fn is_misfit(
             if are_few_misfits(raws, &null, tree, known, ids) {
                 return Ok(true);
             }
-            if are_as_few(ids.len(), tree) {
-                return Ok(false);
-            }
             let nothing = no_table(alloc);
             let table = table_at(raws, tables, &nothing, id, ids);
             fits_no_branch(alloc, raws, table, &null, tree, known, ids)
@@ -81,8 +77,8 @@ fn begin_with_one_of(ids: &[NodeId], few: &[NodeId]) -> bool {
     false
 }
 
-/// Whether JSON is a default of none of some branches, which are few or as few as its parts, by their kinds and by what is
-/// known of it alone. Going through them takes less than their table then.
+/// Whether JSON is a default of none of some branches, which are few, by their kinds and by what is known of it alone.
+/// Going through them takes less than their table then.
 fn are_few_misfits(
     raws: &[RawNode],
     null: &RawNode,
@@ -95,7 +91,7 @@ fn are_few_misfits(
     ensures { result ≡ true
         → first_fit (all_without_defaults raws.now) (own_default_by (all_without_defaults raws.now) (view tree.now)) 0 (ids_of ids.now) ≡ None }
 {
-    if ids.len() > 16 && !are_as_few(ids.len(), tree) {
+    if ids.len() > 16 {
         return false;
     }
     let characters = characters_of(tree);

@@ -23,7 +23,7 @@ use std::collections::BTreeMap;
 const MOST_PLACES: usize = 256;
 
 /// The most steps from a union to a place.
-const DEEPEST: usize = 8;
+const DEEPEST: usize = 16;
 
 /// A node by itself.
 fn one_node(alloc: Global, id: NodeId) -> Result<Vec<NodeId>, Memory>
