@@ -16,6 +16,7 @@ mod RowsLimits
 pub mod ReadSeen
 mod KnownFound
 pub mod MadeSound
+pub mod AlikeSeen
 pub mod MisfitsSeen
 pub mod BelowSeen
 pub mod PlacesSeen

@@ -148,13 +148,6 @@ same-again [] i x = refl
 same-again (y ∷ ys) zero x = refl
 same-again (y ∷ ys) (suc i) x = same-again ys i x
 
--- a branch that is known not to fit
-pub branch-skip : (nodes : List Node) (d : Data) (ids : List NodeId) (i : ℕ) (id : NodeId) (misfits : BTreeSet ℕ) (here : Bool) (all : Option Value) → i < length ids
-    → here ≡ has_id misfits (get_or ids i id).0 → here ≡ true → AreMisfits nodes d misfits
-    → first_fit nodes (own_default nodes d) i (ids_of (drop i ids)) ≡ all → first_fit nodes (own_default nodes d) (i + 1) (ids_of (drop (i + 1) ids)) ≡ all
-branch-skip nodes d ids i id misfits here all below is holds good whole =
-    branch_next nodes d ids i (get_or ids i id) all below (same-again ids i id) whole (good (get_or ids i id).0 (sym is ∙ holds))
-
 -- a branch that the JSON does not fit
 pub branch-pass : (nodes : List Node) (d : Data) (ids : List NodeId) (i : ℕ) (id : NodeId) (all : Option Value) → i < length ids
     → own_default nodes d (node_at nodes (get_or ids i id).0) ≡ None

@@ -22,7 +22,7 @@ use Rattle.serde_json.proofs.Views.{Entry}
 use Rattle.avro_schema_json.specs.DeclaredAttributes.{symbol_index}
 use Rattle.avro_schema_json.specs.DeclaredDefaults.{first_fit, bytes_of_text, only_if}
 use Rattle.avro_schema_json.specs.inside.BranchKeys.{branch_key, members_key, kind_key, size_key, find_word, Skips, SkipsSymbol, HasNoKeyBefore, FitsNoneBefore}
-use Rattle.avro_schema_json.specs.inside.Tables.{IsTable, AreTables}
+use Rattle.avro_schema_json.specs.inside.Tables.{IsTable, AreUnionTables}
 use Rattle.avro_schema_json.specs.inside.Listed.{symbols_of}
 use Rattle.avro_schema_json.specs.inside.OwnDefaults.{own_default, without_defaults, all_without_defaults}
 use Rattle.avro_schema_json.specs.declared.defaults.union_table.UnionTable.{UnionTable}
@@ -358,7 +358,7 @@ pushed (t ∷ tables) last (suc m) table h =
 
 pub tables_next : (raws : List RawNode) (tables : List UnionTable) (i : ℕ) (raw : RawNode) (last : UnionTable) → i < length raws → raw ≡ get_or raws i raw
     → length tables ≡ i → ((ids : List ℕ) → branches_of (without_defaults raw) ≡ Some ids → IsTable (all_without_defaults raws) ids last)
-    → AreTables (all_without_defaults raws) tables → AreTables (all_without_defaults raws) (tables ++ last ∷ [])
+    → AreUnionTables (all_without_defaults raws) tables → AreUnionTables (all_without_defaults raws) (tables ++ last ∷ [])
 tables_next raws tables i raw last within at count made good = λ m ids table union there.
     elim (pushed tables last m table there) [
       | inl before ↦ good m ids table union before
@@ -376,7 +376,7 @@ found_or [] m nothing = inr refl
 found_or (t ∷ tables) zero nothing = inl refl
 found_or (t ∷ tables) (suc m) nothing = found_or tables m nothing
 
-pub table-there : (nodes : List Node) (ids : List ℕ) (tables : List UnionTable) (m : ℕ) (nothing : UnionTable) → IsTable nodes ids nothing → AreTables nodes tables
+pub table-there : (nodes : List Node) (ids : List ℕ) (tables : List UnionTable) (m : ℕ) (nothing : UnionTable) → IsTable nodes ids nothing → AreUnionTables nodes tables
     → branches_of (node_at nodes m) ≡ Some ids → IsTable nodes ids (get_or tables m nothing)
 table-there nodes ids tables m nothing none good union =
     elim (found_or tables m nothing) [

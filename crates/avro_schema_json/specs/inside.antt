@@ -3,6 +3,7 @@ pub mod Reading
 pub mod KnownNames
 pub mod KnownSeen
 pub mod ReadingSeen
+pub mod Alike
 pub mod Asked
 pub mod BranchKeys
 pub mod Characters

@@ -19,7 +19,7 @@ ghost use Rattle.avro_schema_json.specs.declared.error.SchemaError.TheVariants.{
 use crate::defaults::default_of;
 use crate::defaults::merges::Merges;
 use crate::defaults::tables::tables_of;
-use crate::defaults::union_table::UnionTable;
+use crate::defaults::union_table::Tables;
 use crate::error::SchemaError;
 use crate::raw::{RawEnum, RawField, RawNode, RawRecord};
 use crate::repeats::{has_repeated_branch, has_repeated_field};
@@ -45,7 +45,7 @@ struct Defaults {
 fn default_of_field(
     alloc: Global,
     raws: &[RawNode],
-    tables: &[UnionTable],
+    tables: &Tables,
     field: &RawField,
     merges: &mut Merges,
 ) -> Result<Option<Datum>, Memory>
@@ -62,7 +62,7 @@ fn default_of_field(
 fn defaults_of_fields(
     alloc: Global,
     raws: &[RawNode],
-    tables: &[UnionTable],
+    tables: &Tables,
     fields: &[RawField],
     merges: &mut Merges,
 ) -> Result<NodeDefaults, Memory>
@@ -87,7 +87,7 @@ fn defaults_of_fields(
 fn defaults_of_node(
     alloc: Global,
     raws: &[RawNode],
-    tables: &[UnionTable],
+    tables: &Tables,
     raw: &RawNode,
     merges: &mut Merges,
 ) -> Result<NodeDefaults, Memory>

@@ -17,6 +17,7 @@ mod asks;
 mod before;
 mod below;
 mod branch_keys;
+mod classes;
 mod counts;
 pub(crate) mod distinct;
 mod fields;
@@ -24,6 +25,7 @@ mod first_branches;
 mod flat;
 pub(crate) mod gathered;
 mod known;
+mod likes;
 mod listed;
 pub(crate) mod merges;
 mod misfit;
@@ -53,7 +55,7 @@ use crate::defaults::fields::names_fields;
 use crate::defaults::first_branches::first_branch;
 use crate::defaults::gathered::Gathered;
 use crate::defaults::known::{
-    has, misfits_at, next_index, nothing_gathered, part_of_array, part_of_object,
+    is_known, misfits_at, next_index, nothing_gathered, part_of_array, part_of_object,
 };
 use crate::defaults::merges::Merges;
 use crate::defaults::misfits::gather;
@@ -64,7 +66,7 @@ use crate::defaults::probes::is_refused;
 use crate::defaults::probing::probes_of;
 use crate::defaults::table_at::{no_table, table_at};
 use crate::defaults::unfit::{characters_of, is_unfit};
-use crate::defaults::union_table::UnionTable;
+use crate::defaults::union_table::{Tables, UnionTable};
 use crate::raw::{RawField, RawNode};
 use crate::raw_nodes::{branches, raw_at};
 use crate::texts::copy_of_text;
@@ -78,7 +80,7 @@ use std::collections::BTreeSet;
 pub(crate) fn default_of(
     alloc: Global,
     raws: &[RawNode],
-    tables: &[UnionTable],
+    tables: &Tables,
     tree: &Value,
     id: NodeId,
     merges: &mut Merges,
@@ -96,7 +98,7 @@ pub(crate) fn default_of(
 fn known_default(
     alloc: Global,
     raws: &[RawNode],
-    tables: &[UnionTable],
+    tables: &Tables,
     tree: &Value,
     id: NodeId,
     merges: &mut Merges,
@@ -136,7 +138,7 @@ fn known_default(
 fn branch_default(
     alloc: Global,
     raws: &[RawNode],
-    tables: &[UnionTable],
+    tables: &Tables,
     table: &UnionTable,
     null: &RawNode,
     tree: &Value,
@@ -165,7 +167,7 @@ fn branch_default(
         if is_unfit(raws, null, tree, characters, id) {
             continue;
         }
-        if has(misfits, id) {
+        if is_known(raws, tables, tree, misfits, id) {
             continue;
         }
         match default_at(alloc, raws, tables, tree, id, merges, all, known)? {
@@ -181,7 +183,7 @@ fn branch_default(
 fn default_at(
     alloc: Global,
     raws: &[RawNode],
-    tables: &[UnionTable],
+    tables: &Tables,
     tree: &Value,
     id: NodeId,
     merges: &mut Merges,
@@ -213,7 +215,7 @@ fn in_branch(alloc: Global, branch: usize, datum: Datum) -> Result<Option<Datum>
 fn own_default(
     alloc: Global,
     raws: &[RawNode],
-    tables: &[UnionTable],
+    tables: &Tables,
     tree: &Value,
     node: &RawNode,
     merges: &mut Merges,
@@ -241,7 +243,7 @@ fn own_default(
 fn items_default(
     alloc: Global,
     raws: &[RawNode],
-    tables: &[UnionTable],
+    tables: &Tables,
     items: &Vec<Value>,
     node: &RawNode,
     merges: &mut Merges,
@@ -269,7 +271,7 @@ fn items_default(
 fn item_defaults(
     alloc: Global,
     raws: &[RawNode],
-    tables: &[UnionTable],
+    tables: &Tables,
     items: &Vec<Value>,
     id: NodeId,
     merges: &mut Merges,
@@ -302,7 +304,7 @@ fn item_defaults(
 fn item_default(
     alloc: Global,
     raws: &[RawNode],
-    tables: &[UnionTable],
+    tables: &Tables,
     item: &Value,
     items: &[Value],
     values: &[Datum],
@@ -327,7 +329,7 @@ fn item_default(
 fn object_default(
     alloc: Global,
     raws: &[RawNode],
-    tables: &[UnionTable],
+    tables: &Tables,
     members: &Map<String, Value>,
     node: &RawNode,
     merges: &mut Merges,
@@ -366,7 +368,7 @@ fn object_default(
 fn entry_defaults(
     alloc: Global,
     raws: &[RawNode],
-    tables: &[UnionTable],
+    tables: &Tables,
     members: &Map<String, Value>,
     id: NodeId,
     merges: &mut Merges,
@@ -395,7 +397,7 @@ fn entry_defaults(
 fn record_default(
     alloc: Global,
     raws: &[RawNode],
-    tables: &[UnionTable],
+    tables: &Tables,
     members: &Map<String, Value>,
     fields: &[RawField],
     merges: &mut Merges,
@@ -423,7 +425,7 @@ fn record_default(
 fn field_defaults(
     alloc: Global,
     raws: &[RawNode],
-    tables: &[UnionTable],
+    tables: &Tables,
     members: &Map<String, Value>,
     fields: &[RawField],
     merges: &mut Merges,

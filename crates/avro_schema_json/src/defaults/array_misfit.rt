@@ -12,7 +12,7 @@ ghost use Rattle.serde_json.specs.View.{items_view};
 use crate::defaults::gathered::Gathered;
 use crate::defaults::known::{item_part, left_at, misfits_at, next_index};
 use crate::defaults::misfit::is_misfit;
-use crate::defaults::union_table::UnionTable;
+use crate::defaults::union_table::Tables;
 use crate::raw::RawNode;
 use crate::raw_nodes::raw_at;
 use avro_schema::{Memory, NodeId};
@@ -24,7 +24,7 @@ use std::collections::BTreeSet;
 pub(crate) fn is_array_misfit(
     alloc: Global,
     raws: &[RawNode],
-    tables: &[UnionTable],
+    tables: &Tables,
     items: &Vec<Value>,
     all: &[Gathered],
     parts: &[usize],
@@ -48,7 +48,7 @@ pub(crate) fn is_array_misfit(
 fn is_one_misfit(
     alloc: Global,
     raws: &[RawNode],
-    tables: &[UnionTable],
+    tables: &Tables,
     items: &Vec<Value>,
     all: &[Gathered],
     parts: &[usize],

@@ -4,12 +4,13 @@
 use crate::defaults::distinct::Distinct;
 use crate::defaults::first_branches::first_branch;
 use crate::defaults::flat::{has_parts, is_flat};
+use crate::defaults::likes::like_of;
 use crate::defaults::merges::Merges;
 use crate::defaults::object_misfit::lacks_field;
 use crate::defaults::probes::is_refused;
 use crate::defaults::probing::probes_of;
 use crate::defaults::unfit::characters_of;
-use crate::defaults::union_table::UnionTable;
+use crate::defaults::union_table::{Tables, UnionTable};
 use crate::raw::{RawField, RawNode};
 use avro_schema::{Memory, NodeId};
 use serde_json::{Map, Value};
@@ -47,14 +48,14 @@ fn all_entered(
 }
 
 /// The branches for which JSON is looked into, from the one where their table begins, without those that its parts
-/// refuse, and how many were gone through.
+/// refuse.
 fn entered(
     alloc: Global,
     raws: &[RawNode],
     table: &UnionTable,
     tree: &Value,
     ids: &[NodeId],
-) -> Result<(Vec<NodeId>, usize), Memory> {
+) -> Result<Vec<NodeId>, Memory> {
     let mut entered: Vec<NodeId> = Vec::new(alloc);
     let start = first_branch(table, tree, characters_of(tree))?;
     let probes = probes_of(alloc, table, tree)?;
@@ -63,7 +64,32 @@ fn entered(
             entered.push(ids[i])?;
         }
     }
-    Ok((entered, ids.len().saturating_sub(start)))
+    Ok(entered)
+}
+
+/// The same, of those that are alike the first, given by its index.
+fn entered_once(
+    alloc: Global,
+    raws: &[RawNode],
+    table: &UnionTable,
+    tree: &Value,
+    ids: &[NodeId],
+    firsts: &[usize],
+) -> Result<Vec<NodeId>, Memory> {
+    let mut entered: Vec<NodeId> = Vec::new(alloc);
+    let start = first_branch(table, tree, characters_of(tree))?;
+    let probes = probes_of(alloc, table, tree)?;
+    for i in firsts {
+        match ids.get(*i) {
+            Some(id) => {
+                if *i >= start && !is_refused(&probes, *i) && may_enter(raws, tree, *id) {
+                    entered.push(*id)?;
+                }
+            }
+            None => {}
+        }
+    }
+    Ok(entered)
 }
 
 /// The branches for which JSON is looked into: where they are two or more, what one finds may be looked at again for
@@ -80,8 +106,7 @@ pub(crate) fn repeated_ids(
     if known != 0 || is_flat(tree) {
         return Ok(Vec::new(alloc));
     }
-    let (repeated, _) = entered(alloc, raws, table, tree, ids)?;
-    Ok(repeated)
+    entered(alloc, raws, table, tree, ids)
 }
 
 /// Whether JSON is looked into for the node of an id: an array for an array, an object for a map or a
@@ -95,18 +120,22 @@ fn may_enter(raws: &[RawNode], tree: &Value, id: NodeId) -> bool {
     }
 }
 
-/// The branches of a union for which JSON is looked into, and how many were gone through.
+/// The branches of a union for which JSON is looked into, the first of those that are alike, and how many were gone through.
 fn own_of_union(
     alloc: Global,
     raws: &[RawNode],
-    tables: &[UnionTable],
+    tables: &Tables,
     tree: &Value,
     id: NodeId,
     branches: &[NodeId],
 ) -> Result<(Vec<NodeId>, usize), Memory> {
-    match tables.get(id.0 as usize) {
-        Some(table) => entered(alloc, raws, table, tree, branches),
-        None => Ok((all_entered(alloc, raws, tree, branches)?, branches.len())),
+    let at = id.0 as usize;
+    match (tables.of_nodes.get(at), tables.firsts.get(at)) {
+        (Some(table), Some(firsts)) => {
+            let ids = entered_once(alloc, raws, table, tree, branches, firsts)?;
+            Ok((ids, firsts.len()))
+        }
+        _ => Ok((all_entered(alloc, raws, tree, branches)?, branches.len())),
     }
 }
 
@@ -115,7 +144,7 @@ fn own_of_union(
 fn add_own(
     alloc: Global,
     raws: &[RawNode],
-    tables: &[UnionTable],
+    tables: &Tables,
     tree: &Value,
     id: NodeId,
     own: &mut Distinct,
@@ -123,12 +152,12 @@ fn add_own(
     match raws.get(id.0 as usize) {
         Some(RawNode::Union(branches)) => {
             let (ids, walked) = own_of_union(alloc, raws, tables, tree, id, branches)?;
-            own.add_all(&ids)?;
+            own.add_all(&tables.likes, &ids)?;
             Ok(walked)
         }
         _ => {
             if may_enter(raws, tree, id) {
-                own.add(id)?;
+                own.add(like_of(&tables.likes, id))?;
             }
             Ok(1)
         }
@@ -140,7 +169,7 @@ fn add_own(
 fn own_of_each(
     alloc: Global,
     raws: &[RawNode],
-    tables: &[UnionTable],
+    tables: &Tables,
     tree: &Value,
     asked: &[NodeId],
 ) -> Result<(Vec<NodeId>, usize), Memory> {
@@ -158,12 +187,12 @@ fn own_of_each(
 pub(crate) fn own_ids(
     alloc: Global,
     raws: &[RawNode],
-    tables: &[UnionTable],
+    tables: &Tables,
     tree: &Value,
     asked: &[NodeId],
     merges: &mut Merges,
 ) -> Result<Vec<NodeId>, Memory> {
-    let Some(at) = merges.index_of(alloc, raws, asked)? else {
+    let Some(at) = merges.index_of(alloc, tables, asked)? else {
         let (own, _) = own_of_each(alloc, raws, tables, tree, asked)?;
         return Ok(own);
     };
@@ -172,7 +201,7 @@ pub(crate) fn own_ids(
         None => {}
     }
     let (own, walked) = own_of_each(alloc, raws, tables, tree, asked)?;
-    merges.walk(alloc, raws, asked, at, walked)?;
+    merges.walk(alloc, raws, tables, asked, at, walked)?;
     Ok(own)
 }
 
@@ -180,12 +209,13 @@ pub(crate) fn own_ids(
 pub(crate) fn asked_items(
     alloc: Global,
     raws: &[RawNode],
+    tables: &Tables,
     own: &[NodeId],
 ) -> Result<Vec<NodeId>, Memory> {
     let mut asked = Distinct::none(alloc);
     for id in own {
         match raws.get(id.0 as usize) {
-            Some(RawNode::Array(items)) => asked.add(*items)?,
+            Some(RawNode::Array(items)) => asked.add(like_of(&tables.likes, *items))?,
             _ => {}
         }
     }
@@ -193,11 +223,16 @@ pub(crate) fn asked_items(
 }
 
 /// The nodes that maps ask their values about.
-fn asked_values(alloc: Global, raws: &[RawNode], own: &[NodeId]) -> Result<Vec<NodeId>, Memory> {
+fn asked_values(
+    alloc: Global,
+    raws: &[RawNode],
+    tables: &Tables,
+    own: &[NodeId],
+) -> Result<Vec<NodeId>, Memory> {
     let mut asked = Distinct::none(alloc);
     for id in own {
         match raws.get(id.0 as usize) {
-            Some(RawNode::Map(values)) => asked.add(*values)?,
+            Some(RawNode::Map(values)) => asked.add(like_of(&tables.likes, *values))?,
             _ => {}
         }
     }
@@ -208,16 +243,17 @@ fn asked_values(alloc: Global, raws: &[RawNode], own: &[NodeId]) -> Result<Vec<N
 pub(crate) fn asked_members<'a>(
     alloc: Global,
     raws: &[RawNode],
+    tables: &Tables,
     members: &'a Map<String, Value>,
     own: &[NodeId],
 ) -> Result<BTreeMap<&'a str, Vec<NodeId>>, Memory> {
-    let values = asked_values(alloc, raws, own)?;
+    let values = asked_values(alloc, raws, tables, own)?;
     let mut asked = asked_of_each(alloc, members, &values)?;
     for id in own {
         match raws.get(id.0 as usize) {
             Some(RawNode::Record(record)) => {
                 if record.fields.len() == members.len() && !lacks_field(members, &record.fields) {
-                    ask_fields(&mut asked, &record.fields)?;
+                    ask_fields(&mut asked, tables, &record.fields)?;
                 }
             }
             _ => {}
@@ -251,10 +287,14 @@ fn asked_of_each<'a>(
 }
 
 /// Asks of the member of each field what the field asks.
-fn ask_fields(asked: &mut BTreeMap<&str, Vec<NodeId>>, fields: &[RawField]) -> Result<(), Memory> {
+fn ask_fields(
+    asked: &mut BTreeMap<&str, Vec<NodeId>>,
+    tables: &Tables,
+    fields: &[RawField],
+) -> Result<(), Memory> {
     for field in fields {
         match asked.get_mut(field.name.as_str()) {
-            Some(of_member) => ask(of_member, field.node)?,
+            Some(of_member) => ask(of_member, like_of(&tables.likes, field.node))?,
             None => {}
         }
     }

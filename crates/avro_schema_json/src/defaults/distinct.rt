@@ -1,3 +1,4 @@
+use crate::defaults::likes::like_of;
 use avro_schema::{Memory, NodeId};
 use std::alloc::Global;
 use std::collections::BTreeSet;
@@ -26,10 +27,10 @@ impl Distinct {
         Ok(())
     }
 
-    /// Adds nodes.
-    pub(crate) fn add_all(&mut self, ids: &[NodeId]) -> Result<(), Memory> {
+    /// Adds the nodes that stand for some nodes.
+    pub(crate) fn add_all(&mut self, likes: &[u32], ids: &[NodeId]) -> Result<(), Memory> {
         for id in ids {
-            self.add(*id)?;
+            self.add(like_of(likes, *id))?;
         }
         Ok(())
     }

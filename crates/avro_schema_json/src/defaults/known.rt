@@ -4,13 +4,16 @@
 ghost use Rattle.std.specs.Prelude.{◌≡◌, ◌+◌, ◌<◌, [], true, List, slice_get, Some, None, IfOk, IfSome};
 ghost use Rattle.avro_schema.specs.Node.{Node as SeenNode, node_at};
 ghost use Rattle.avro_schema_json.specs.inside.Misfits.{has_id, AreMisfits, IsKnown, Grows, AreItemsKnown, AreMembersKnown};
-ghost use Rattle.avro_schema_json.specs.inside.OwnDefaults.{all_without_defaults};
+ghost use Rattle.avro_schema_json.specs.inside.OwnDefaults.{own_default as own_default_by, all_without_defaults};
+ghost use Rattle.avro_schema_json.specs.inside.Tables.{AreTables};
 ghost use Rattle.avro_schema_json.specs.declared.defaults.gathered.Gathered.{Gathered as SeenGathered};
 ghost use Rattle.serde_json.specs.Data.{Data, Items, Members};
 ghost use Rattle.serde_json.specs.Find.{get_item, get_member};
 ghost use Rattle.serde_json.specs.View.{view, items_view, members_view};
 
 use crate::defaults::gathered::Gathered;
+use crate::defaults::likes::like_of;
+use crate::defaults::union_table::Tables;
 use crate::raw::RawNode;
 use avro_schema::{Memory, NodeId};
 use serde_json::{Map, Value};
@@ -22,6 +25,21 @@ pub(crate) fn has(ids: &BTreeSet<u32>, id: NodeId) -> bool
     ensures { result ≡ has_id ids.now id.0 }
 {
     ids.contains(&id.0)
+}
+
+/// Whether JSON is known not to be a default of the node of an id, by the node that stands for it.
+pub(crate) fn is_known(
+    raws: &[RawNode],
+    tables: &Tables,
+    tree: &Value,
+    known: &BTreeSet<u32>,
+    id: NodeId,
+) -> bool
+    requires tables { AreTables (all_without_defaults raws.now) tables.now }
+    requires known { AreMisfits (all_without_defaults raws.now) (view tree.now) known.now }
+    ensures { result ≡ true → own_default_by (all_without_defaults raws.now) (view tree.now) (node_at (all_without_defaults raws.now) id.0) ≡ None }
+{
+    has(known, like_of(&tables.likes, id))
 }
 
 /// What is known at an index.

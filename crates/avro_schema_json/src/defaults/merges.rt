@@ -2,6 +2,8 @@
 //! merged decides what is looked at, not what is found.
 
 use crate::defaults::distinct::Distinct;
+use crate::defaults::likes::like_of;
+use crate::defaults::union_table::Tables;
 use crate::raw::RawNode;
 use avro_schema::{Memory, NodeId};
 use std::alloc::Global;
@@ -45,7 +47,7 @@ impl Merges {
     pub(crate) fn index_of(
         &mut self,
         alloc: Global,
-        raws: &[RawNode],
+        tables: &Tables,
         asked: &[NodeId],
     ) -> Result<Option<usize>, Memory> {
         if asked.len() < FEWEST {
@@ -61,7 +63,7 @@ impl Merges {
         }
         let at = self.of_lists.len();
         self.of_lists.push(Merge {
-            all: count_of(raws, asked),
+            all: count_of(tables, asked),
             walked: 0,
             ids: None,
         })?;
@@ -92,6 +94,7 @@ impl Merges {
         &mut self,
         alloc: Global,
         raws: &[RawNode],
+        tables: &Tables,
         asked: &[NodeId],
         at: usize,
         count: usize,
@@ -101,7 +104,7 @@ impl Merges {
                 let before = merge.walked;
                 merge.walked = before.saturating_add(count);
                 if before < merge.all && merge.walked >= merge.all {
-                    merge.ids = merged(alloc, raws, asked)?;
+                    merge.ids = merged(alloc, raws, tables, asked)?;
                 }
             }
             None => {}
@@ -119,30 +122,43 @@ fn key_of(alloc: Global, asked: &[NodeId]) -> Result<Vec<u32>, Memory> {
     Ok(key)
 }
 
-/// How many branches nodes have, each counted for each node.
-fn count_of(raws: &[RawNode], asked: &[NodeId]) -> usize {
+/// How many branches nodes have that are not alike, each counted for each node.
+fn count_of(tables: &Tables, asked: &[NodeId]) -> usize {
     let mut count = 0usize;
     for id in asked {
-        count = match raws.get(id.0 as usize) {
-            Some(RawNode::Union(branches)) => count.saturating_add(branches.len()),
-            _ => count.saturating_add(1),
+        let of_node = match tables.firsts.get(id.0 as usize) {
+            Some(firsts) => firsts.len().max(1),
+            None => 1,
         };
+        count = count.saturating_add(of_node);
     }
     count
 }
 
-/// Adds a branch, if it has parts.
-fn add_branch(ids: &mut Distinct, raws: &[RawNode], id: NodeId) -> Result<(), Memory> {
+/// Adds the node that stands for a branch, if it has parts.
+fn add_branch(
+    ids: &mut Distinct,
+    raws: &[RawNode],
+    tables: &Tables,
+    id: NodeId,
+) -> Result<(), Memory> {
     match raws.get(id.0 as usize) {
-        Some(RawNode::Array(_) | RawNode::Map(_) | RawNode::Record(_)) => ids.add(id),
+        Some(RawNode::Array(_) | RawNode::Map(_) | RawNode::Record(_)) => {
+            ids.add(like_of(&tables.likes, id))
+        }
         _ => Ok(()),
     }
 }
 
 /// Adds branches that have parts.
-fn add_branches(ids: &mut Distinct, raws: &[RawNode], branches: &[NodeId]) -> Result<(), Memory> {
+fn add_branches(
+    ids: &mut Distinct,
+    raws: &[RawNode],
+    tables: &Tables,
+    branches: &[NodeId],
+) -> Result<(), Memory> {
     for id in branches {
-        add_branch(ids, raws, *id)?;
+        add_branch(ids, raws, tables, *id)?;
     }
     Ok(())
 }
@@ -152,13 +168,14 @@ fn add_branches(ids: &mut Distinct, raws: &[RawNode], branches: &[NodeId]) -> Re
 fn merged(
     alloc: Global,
     raws: &[RawNode],
+    tables: &Tables,
     asked: &[NodeId],
 ) -> Result<Option<Vec<NodeId>>, Memory> {
     let mut ids = Distinct::none(alloc);
     for id in asked {
         match raws.get(id.0 as usize) {
-            Some(RawNode::Union(branches)) => add_branches(&mut ids, raws, branches)?,
-            _ => add_branch(&mut ids, raws, *id)?,
+            Some(RawNode::Union(branches)) => add_branches(&mut ids, raws, tables, branches)?,
+            _ => add_branch(&mut ids, raws, tables, *id)?,
         }
     }
     if ids.ids.len() <= asked.len().saturating_mul(4) {

@@ -11,13 +11,14 @@ ghost use Rattle.avro_schema_json.specs.DeclaredDefaults.{default_of as default_
 ghost use Rattle.serde_json.specs.View.{view};
 
 use crate::defaults::first_branches::first_branch;
-use crate::defaults::known::has;
+use crate::defaults::known::is_known;
+use crate::defaults::likes::like_of;
 use crate::defaults::plain_defaults::{number_default, text_default};
 use crate::defaults::probes::is_refused;
 use crate::defaults::probing::probes_of;
 use crate::defaults::table_at::{no_table, table_at};
 use crate::defaults::unfit::{characters_of, is_unfit};
-use crate::defaults::union_table::UnionTable;
+use crate::defaults::union_table::{Tables, UnionTable};
 use crate::raw::RawNode;
 use crate::raw_nodes::{branches, raw_at};
 use avro_schema::{Memory, NodeId};
@@ -30,7 +31,7 @@ use std::collections::BTreeSet;
 pub(crate) fn is_misfit(
     alloc: Global,
     raws: &[RawNode],
-    tables: &[UnionTable],
+    tables: &Tables,
     tree: &Value,
     known: &BTreeSet<u32>,
     left: &[NodeId],
@@ -42,17 +43,26 @@ pub(crate) fn is_misfit(
 {
     let null = RawNode::Null;
     match branches(raw_at(&*raws, &null, id)) {
-        None => is_own_misfit(alloc, raws, &null, tree, characters_of(tree), known, id),
+        None => is_own_misfit(
+            alloc,
+            raws,
+            tables,
+            &null,
+            tree,
+            characters_of(tree),
+            known,
+            id,
+        ),
         Some(ids) => {
-            if begin_with_one_of(ids, left) {
+            if begin_with_one_of(tables, ids, left) {
                 return Ok(false);
             }
-            if are_few_misfits(raws, &null, tree, known, ids) {
+            if are_few_misfits(raws, tables, &null, tree, known, ids) {
                 return Ok(true);
             }
             let nothing = no_table(alloc);
             let table = table_at(raws, tables, &nothing, id, ids);
-            fits_no_branch(alloc, raws, table, &null, tree, known, ids)
+            fits_no_branch(alloc, raws, tables, table, &null, tree, known, ids)
         }
     }
 }
@@ -67,10 +77,10 @@ fn is_one_of(id: NodeId, few: &[NodeId]) -> bool {
     false
 }
 
-/// Whether one of the first branches is one of a few nodes.
-fn begin_with_one_of(ids: &[NodeId], few: &[NodeId]) -> bool {
+/// Whether one of a few nodes stands for one of the first branches.
+fn begin_with_one_of(tables: &Tables, ids: &[NodeId], few: &[NodeId]) -> bool {
     for i in 0..ids.len().min(16) {
-        if is_one_of(ids[i], few) {
+        if is_one_of(like_of(&tables.likes, ids[i]), few) {
             return true;
         }
     }
@@ -81,11 +91,13 @@ fn begin_with_one_of(ids: &[NodeId], few: &[NodeId]) -> bool {
 /// Going through them takes less than their table then.
 fn are_few_misfits(
     raws: &[RawNode],
+    tables: &Tables,
     null: &RawNode,
     tree: &Value,
     known: &BTreeSet<u32>,
     ids: &[NodeId],
 ) -> bool
+    requires tables { AreTables (all_without_defaults raws.now) tables.now }
     requires null { without_defaults null.now ≡ SeenNode.null }
     requires known { AreMisfits (all_without_defaults raws.now) (view tree.now) known.now }
     ensures { result ≡ true
@@ -100,7 +112,7 @@ fn are_few_misfits(
         if is_unfit(raws, null, tree, characters, id) {
             continue;
         }
-        if !has(known, id) {
+        if !is_known(raws, tables, tree, known, id) {
             return false;
         }
     }
@@ -111,12 +123,14 @@ fn are_few_misfits(
 fn fits_no_branch(
     alloc: Global,
     raws: &[RawNode],
+    tables: &Tables,
     table: &UnionTable,
     null: &RawNode,
     tree: &Value,
     known: &BTreeSet<u32>,
     ids: &[NodeId],
 ) -> Result<bool, Memory>
+    requires tables { AreTables (all_without_defaults raws.now) tables.now }
     requires table { IsTable (all_without_defaults raws.now) (ids_of ids.now) table.now }
     requires null { without_defaults null.now ≡ SeenNode.null }
     requires known { AreMisfits (all_without_defaults raws.now) (view tree.now) known.now }
@@ -131,7 +145,7 @@ fn fits_no_branch(
         if is_refused(&probes, i) {
             continue;
         }
-        if !is_own_misfit(alloc, raws, null, tree, characters, known, id)? {
+        if !is_own_misfit(alloc, raws, tables, null, tree, characters, known, id)? {
             return Ok(false);
         }
     }
@@ -143,12 +157,14 @@ fn fits_no_branch(
 fn is_own_misfit(
     alloc: Global,
     raws: &[RawNode],
+    tables: &Tables,
     null: &RawNode,
     tree: &Value,
     characters: usize,
     known: &BTreeSet<u32>,
     id: NodeId,
 ) -> Result<bool, Memory>
+    requires tables { AreTables (all_without_defaults raws.now) tables.now }
     requires null { without_defaults null.now ≡ SeenNode.null }
     requires count { characters ≡ characters_in (view tree.now) }
     requires known { AreMisfits (all_without_defaults raws.now) (view tree.now) known.now }
@@ -157,7 +173,7 @@ fn is_own_misfit(
     if is_unfit(raws, null, tree, characters, id) {
         return Ok(true);
     }
-    if has(known, id) {
+    if is_known(raws, tables, tree, known, id) {
         return Ok(true);
     }
     is_leaf_misfit(alloc, raws, null, tree, id)

@@ -16,7 +16,7 @@ use crate::defaults::gathered::Gathered;
 use crate::defaults::known::{keep_array, keep_object};
 use crate::defaults::merges::Merges;
 use crate::defaults::object_misfit::is_object_misfit;
-use crate::defaults::union_table::UnionTable;
+use crate::defaults::union_table::Tables;
 use crate::raw::RawNode;
 use avro_schema::{Memory, NodeId};
 use serde_json::{Map, Value};
@@ -29,7 +29,7 @@ use std::collections::{BTreeMap, BTreeSet};
 pub(crate) fn gather<'a>(
     alloc: Global,
     raws: &[RawNode],
-    tables: &[UnionTable],
+    tables: &Tables,
     tree: &'a Value,
     asked: &[NodeId],
     merges: &mut Merges,
@@ -55,7 +55,7 @@ pub(crate) fn gather<'a>(
 fn gather_array<'a>(
     alloc: Global,
     raws: &[RawNode],
-    tables: &[UnionTable],
+    tables: &Tables,
     items: &'a Vec<Value>,
     own: &[NodeId],
     merges: &mut Merges,
@@ -76,7 +76,7 @@ fn gather_array<'a>(
 fn gather_object<'a>(
     alloc: Global,
     raws: &[RawNode],
-    tables: &[UnionTable],
+    tables: &Tables,
     members: &'a Map<String, Value>,
     own: &[NodeId],
     merges: &mut Merges,
@@ -97,7 +97,7 @@ fn gather_object<'a>(
 fn item_parts<'a>(
     alloc: Global,
     raws: &[RawNode],
-    tables: &[UnionTable],
+    tables: &Tables,
     items: &'a Vec<Value>,
     own: &[NodeId],
     merges: &mut Merges,
@@ -111,7 +111,7 @@ fn item_parts<'a>(
     if are_leaves(items) {
         return Ok(parts);
     }
-    let asked = asked_items(alloc, raws, own)?;
+    let asked = asked_items(alloc, raws, tables, own)?;
     for item in items {
         let part = gather_item(
             alloc, raws, tables, item, items, &parts, &asked, merges, all,
@@ -126,7 +126,7 @@ fn item_parts<'a>(
 fn gather_item<'a>(
     alloc: Global,
     raws: &[RawNode],
-    tables: &[UnionTable],
+    tables: &Tables,
     item: &'a Value,
     items: &[Value],
     parts: &[usize],
@@ -150,7 +150,7 @@ fn gather_item<'a>(
 fn member_parts<'a>(
     alloc: Global,
     raws: &[RawNode],
-    tables: &[UnionTable],
+    tables: &Tables,
     members: &'a Map<String, Value>,
     own: &[NodeId],
     merges: &mut Merges,
@@ -160,7 +160,7 @@ fn member_parts<'a>(
     ensures grown { IfOk result (λ parts. Grows all.old.items all.new.items) }
     ensures known { IfOk result (λ parts. AreMembersKnown (all_without_defaults raws.now) all.new.items (members_view members.now.entries) parts) }
 {
-    let asked = asked_members(alloc, raws, members, own)?;
+    let asked = asked_members(alloc, raws, tables, members, own)?;
     let mut parts: BTreeMap<&'a str, usize> = BTreeMap::new(alloc);
     for (key, _) in members.iter() {
         let key = key.as_str();
@@ -204,7 +204,7 @@ fn add(ids: &mut BTreeSet<u32>, id: NodeId) -> Result<(), Memory>
 fn array_misfits(
     alloc: Global,
     raws: &[RawNode],
-    tables: &[UnionTable],
+    tables: &Tables,
     items: &Vec<Value>,
     all: &[Gathered],
     parts: &[usize],
@@ -227,7 +227,7 @@ fn array_misfits(
 fn object_misfits(
     alloc: Global,
     raws: &[RawNode],
-    tables: &[UnionTable],
+    tables: &Tables,
     members: &Map<String, Value>,
     all: &[Gathered],
     parts: &BTreeMap<&str, usize>,

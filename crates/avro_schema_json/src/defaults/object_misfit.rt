@@ -13,7 +13,7 @@ use crate::defaults::fields::names_fields;
 use crate::defaults::gathered::Gathered;
 use crate::defaults::known::{left_at, member_part, misfits_at};
 use crate::defaults::misfit::is_misfit;
-use crate::defaults::union_table::UnionTable;
+use crate::defaults::union_table::Tables;
 use crate::raw::{RawField, RawNode};
 use crate::raw_nodes::raw_at;
 use avro_schema::{Memory, NodeId};
@@ -25,7 +25,7 @@ use std::collections::{BTreeMap, BTreeSet};
 pub(crate) fn is_object_misfit(
     alloc: Global,
     raws: &[RawNode],
-    tables: &[UnionTable],
+    tables: &Tables,
     members: &Map<String, Value>,
     all: &[Gathered],
     parts: &BTreeMap<&str, usize>,
@@ -50,7 +50,7 @@ pub(crate) fn is_object_misfit(
 fn is_map_misfit(
     alloc: Global,
     raws: &[RawNode],
-    tables: &[UnionTable],
+    tables: &Tables,
     members: &Map<String, Value>,
     all: &[Gathered],
     parts: &BTreeMap<&str, usize>,
@@ -73,7 +73,7 @@ fn is_map_misfit(
 fn is_member_misfit(
     alloc: Global,
     raws: &[RawNode],
-    tables: &[UnionTable],
+    tables: &Tables,
     members: &Map<String, Value>,
     all: &[Gathered],
     parts: &BTreeMap<&str, usize>,
@@ -100,7 +100,7 @@ fn is_member_misfit(
 fn is_record_misfit(
     alloc: Global,
     raws: &[RawNode],
-    tables: &[UnionTable],
+    tables: &Tables,
     members: &Map<String, Value>,
     all: &[Gathered],
     parts: &BTreeMap<&str, usize>,
@@ -139,7 +139,7 @@ pub(crate) fn lacks_field(members: &Map<String, Value>, fields: &[RawField]) -> 
 fn is_field_misfit(
     alloc: Global,
     raws: &[RawNode],
-    tables: &[UnionTable],
+    tables: &Tables,
     members: &Map<String, Value>,
     all: &[Gathered],
     parts: &BTreeMap<&str, usize>,

@@ -7,7 +7,7 @@ ghost use Rattle.avro_schema_json.specs.inside.Tables.{IsTable, AreTables};
 ghost use Rattle.avro_schema_json.specs.inside.OwnDefaults.{all_without_defaults};
 
 use crate::defaults::places::no_places;
-use crate::defaults::union_table::UnionTable;
+use crate::defaults::union_table::{Tables, UnionTable};
 use crate::raw::RawNode;
 use avro_schema::NodeId;
 use std::alloc::Global;
@@ -33,7 +33,7 @@ pub(crate) fn no_table<'a>(alloc: Global) -> UnionTable<'a>
 /// The table of a union of an id.
 pub(crate) fn table_at<'a, 'b>(
     raws: &[RawNode],
-    tables: &'a [UnionTable<'b>],
+    tables: &'a Tables<'b>,
     no_table: &'a UnionTable<'b>,
     id: NodeId,
     ids: &[NodeId],
@@ -43,5 +43,5 @@ pub(crate) fn table_at<'a, 'b>(
     requires no_table { (nodes : List SeenNode) (ids : List ℕ) → IsTable nodes ids no_table.now }
     ensures { IsTable (all_without_defaults raws.now) (ids_of ids.now) result.now }
 {
-    tables.get(id.0 as usize).unwrap_or(no_table)
+    tables.of_nodes.get(id.0 as usize).unwrap_or(no_table)
 }

@@ -9,18 +9,20 @@ ghost use Rattle.avro_schema.specs.Node.{Node as SeenNode, node_at, branches_of}
 ghost use Rattle.avro_schema.specs.Seen.{ids_of, texts_of};
 ghost use Rattle.avro_schema_json.specs.DeclaredAttributes.{symbol_index};
 ghost use Rattle.avro_schema_json.specs.inside.BranchKeys.{find_word, Skips, SkipsSymbol};
-ghost use Rattle.avro_schema_json.specs.inside.Tables.{IsTable, AreTables};
+ghost use Rattle.avro_schema_json.specs.inside.Tables.{IsTable, AreUnionTables, AreTables};
+ghost use Rattle.avro_schema_json.specs.inside.Alike.{AreAlike};
 ghost use Rattle.avro_schema_json.specs.inside.Listed.{symbols_of};
 ghost use Rattle.avro_schema_json.specs.inside.OwnDefaults.{all_without_defaults, without_defaults};
 
 use crate::defaults::branch_keys::key_at;
 use crate::defaults::counts::{count_of_parts, count_of_symbols, has_object_defaults};
 use crate::defaults::first_branches::no_words;
+use crate::defaults::likes::{firsts_of, likes_of};
 use crate::defaults::parts::parts_of;
 use crate::defaults::places::places_or_none;
 use crate::defaults::record_tables::first_of_records;
 use crate::defaults::table_at::no_table;
-use crate::defaults::union_table::UnionTable;
+use crate::defaults::union_table::{Tables, UnionTable};
 use crate::raw::RawNode;
 use crate::raw_nodes::{branches, raw_at};
 use avro_schema::{Memory, NodeId};
@@ -208,13 +210,13 @@ fn steps_of(table: &UnionTable) -> usize {
 /// A table for each union among the nodes. Those of the later ones have no symbols once a million are kept, and
 /// no parts once a million are, nor has one of more than 100,000: an enum or a record of many may be a branch of
 /// many unions. It takes at most some 4 million steps to find all places, and half of them for one union.
-pub(crate) fn tables_of<'a>(
+fn union_tables_of<'a>(
     alloc: Global,
     raws: &'a [RawNode<'a>],
     null: &'a RawNode<'a>,
 ) -> Result<Vec<UnionTable<'a>>, Memory>
     requires { without_defaults null.now ≡ SeenNode.null }
-    ensures { IfOk result (λ tables. AreTables (all_without_defaults raws.now) tables.items) }
+    ensures { IfOk result (λ tables. AreUnionTables (all_without_defaults raws.now) tables.items) }
 {
     let mut tables: Vec<UnionTable<'a>> = Vec::new(alloc);
     let mut left = 1_000_000usize;
@@ -236,4 +238,51 @@ pub(crate) fn tables_of<'a>(
         }
     }
     Ok(tables)
+}
+
+/// For each node one that stands for it, or none where no default has an object in it.
+fn likes_or_none<'a>(alloc: Global, raws: &'a [RawNode<'a>]) -> Result<Vec<u32>, Memory>
+    ensures { IfOk result (λ likes. AreAlike (all_without_defaults raws.now) likes.items) }
+{
+    if has_object_defaults(raws) {
+        likes_of(alloc, raws)
+    } else {
+        Ok(Vec::new(alloc))
+    }
+}
+
+/// For each union the first of the branches that are alike.
+fn firsts_of_unions(
+    alloc: Global,
+    raws: &[RawNode],
+    likes: &[u32],
+) -> Result<Vec<Vec<usize>>, Memory> {
+    let mut firsts: Vec<Vec<usize>> = Vec::new(alloc);
+    for raw in raws {
+        let of_node = match branches(raw) {
+            Some(ids) => firsts_of(alloc, likes, ids)?,
+            None => Vec::new(alloc),
+        };
+        firsts.push(of_node)?;
+    }
+    Ok(firsts)
+}
+
+/// The tables of nodes, and the nodes that stand for them.
+pub(crate) fn tables_of<'a>(
+    alloc: Global,
+    raws: &'a [RawNode<'a>],
+    null: &'a RawNode<'a>,
+) -> Result<Tables<'a>, Memory>
+    requires { without_defaults null.now ≡ SeenNode.null }
+    ensures { IfOk result (λ tables. AreTables (all_without_defaults raws.now) tables) }
+{
+    let of_nodes = union_tables_of(alloc, raws, null)?;
+    let likes = likes_or_none(alloc, raws)?;
+    let firsts = firsts_of_unions(alloc, raws, &likes)?;
+    Ok(Tables {
+        of_nodes,
+        likes,
+        firsts,
+    })
 }

@@ -29,3 +29,14 @@ pub(crate) struct UnionTable<'a> {
     /// What the branches ask of the parts of objects.
     pub places: Places<'a>,
 }
+
+/// The tables of all nodes, and for each node one that the same JSON is a default of.
+#[derive(Drop)]
+pub(crate) struct Tables<'a> {
+    /// The table of each node, which leaves no branch out where the node is no union.
+    pub of_nodes: Vec<UnionTable<'a>>,
+    /// The index of the node that stands for each node, or none where each stands for itself.
+    pub likes: Vec<u32>,
+    /// For each node, if it is a union, the index of the first branch of each node that stands for branches.
+    pub firsts: Vec<Vec<usize>>,
+}

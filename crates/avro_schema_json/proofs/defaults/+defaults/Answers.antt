@@ -13,7 +13,7 @@ use Rattle.avro_schema_json.specs.inside.Probes.{AreProbes}
 use Rattle.avro_schema_json.proofs.ProbesSeen.{branch-refused}
 use Rattle.avro_schema_json.proofs.DefaultsSeen.{default-union, entries_end}
 use Rattle.avro_schema_json.proofs.DefaultSteps.{item_next, items_end, entry_next, fields_left, field_next, field_stop, field_missing, fields_end}
-use Rattle.avro_schema_json.proofs.MisfitsSeen.{branch-skip, branch-pass, item-at, items-read, left-first, left-next}
+use Rattle.avro_schema_json.proofs.MisfitsSeen.{branch-pass, item-at, items-read, left-first, left-next}
 use Rattle.avro_schema_json.proofs.TablesSeen.{begins_late}
 use Rattle.avro_schema_json.proofs.RawSeen.{field_item, fields_past}
 use Rattle.avro_schema_json.proofs.defaults.+defaults.Goals as goal
@@ -54,10 +54,10 @@ branch_default-loop-i-preserved-then-is_refused t c =
     (subst (λ (ps : List Probe). AreProbes nodes (ids_of ids) d ps) (sym c.deref.ensures.value) (c.in_ok-probes.ensures nodes (ids_of ids) c.requires.table)) at)
     c.loop-i.invariant
 
-pub branch_default-loop-i-preserved-then-has : goal.branch_default-loop-i-preserved-then-has
-branch_default-loop-i-preserved-then-has t c =
-    branch-skip (all_without_defaults c.args.raws.now) (view c.args.tree.now) c.args.ids.now c.loop-i.i _ c.misfits_at-misfits.result.now c.has.result _ c.loop-i-test.true
-    c.has.ensures c.if-has.true (c.misfits_at-misfits.ensures (all_without_defaults c.args.raws.now) (view c.args.tree.now) c.requires.known) c.loop-i.invariant
+pub branch_default-loop-i-preserved-then-is_known : goal.branch_default-loop-i-preserved-then-is_known
+branch_default-loop-i-preserved-then-is_known t c =
+    branch-pass (all_without_defaults c.args.raws.now) (view c.args.tree.now) c.args.ids.now c.loop-i.i _ _ c.loop-i-test.true
+    (c.is_known.ensures c.if-is_known.true) c.loop-i.invariant
 
 pub branch_default-loop-i-preserved-then-is_unfit : goal.branch_default-loop-i-preserved-then-is_unfit
 branch_default-loop-i-preserved-then-is_unfit t c =

@@ -1,7 +1,7 @@
-use Rattle.std.proofs.Common.{◌≡◌, Option, Some, None, Bor, refl, sym, ap, subst, ◌∙◌, arith}
+use Rattle.std.proofs.Common.{◌≡◌, List, Option, Some, None, Bor, refl, sym, ap, subst, ◌∙◌, arith}
 use Rattle.std.specs.Prelude.{unwrap_or, option_map}
 use Rattle.avro_schema.specs.Seen.{ids_of}
-use Rattle.avro_schema_json.specs.inside.Tables.{IsTable}
+use Rattle.avro_schema_json.specs.inside.Tables.{IsTable, AreUnionTables}
 use Rattle.avro_schema_json.specs.inside.OwnDefaults.{all_without_defaults}
 use Rattle.avro_schema_json.specs.declared.defaults.union_table.UnionTable.{UnionTable}
 use Rattle.avro_schema_json.proofs.TablesSeen.{table-there}
@@ -19,4 +19,4 @@ returns c =
     let seen = behind c.get.result c.args.no_table in
     let read = c.get.ensures.lookup.4 (omega arith) c.args.no_table.now in
     subst (λ (t : UnionTable). IsTable nodes ids t) (sym (found ∙ seen ∙ read))
-    (table-there nodes ids c.args.tables.now c.args.id.0 c.args.no_table.now (c.requires.no_table nodes ids) c.requires.tables c.requires.union)
+    (table-there nodes ids c.deref.result.now c.args.id.0 c.args.no_table.now (c.requires.no_table nodes ids) (subst (λ (ts : List UnionTable). AreUnionTables nodes ts) (sym c.deref.ensures.value) c.requires.tables.0) c.requires.union)

@@ -1,5 +1,5 @@
 use Rattle.avro_schema_json.proofs.TablesSeen.{one_more, tables_next}
-use Rattle.avro_schema_json.proofs.defaults.tables.tables_of.Goals as goal
+use Rattle.avro_schema_json.proofs.defaults.tables.union_tables_of.Goals as goal
 
 pub loop-raw-preserved : goal.loop-raw-preserved
 loop-raw-preserved c =
