@@ -1,7 +1,7 @@
 -- The same JSON is a default of a node and of the one that stands for it.
 use Rattle.std.proofs.Common.{◌≡◌, ℕ, zero, suc, Bool, true, false, ◌&&◌, List, [], ◌∷◌, Option, Some, None, option_map, option_and_then, arith, length, refl, sym, ap, ◌∙◌, Ordering, ◌+◌, ◌<◌, ◌≤◌, ◌⊎◌, inl, inr, get_or, subst, nat_eq}
 use Rattle.std.specs.Prelude.{slice_get, is_some, bytes_eq, string_bytes}
-use Rattle.std.specs.List.{list_all, list_any}
+use Rattle.std.specs.List.{list_any}
 use Rattle.std.specs.Ordering.{nat_cmp}
 use Rattle.std.specs.Option.{option_or, unwrap_or}
 use Rattle.std.specs.Cmp.Lexicographic.{slice_cmp}

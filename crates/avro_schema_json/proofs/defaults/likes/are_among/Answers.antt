@@ -1,7 +1,6 @@
-use Rattle.std.proofs.Common.{◌≡◌, ℕ, sym, ap, subst, ◌∙◌, arith}
+use Rattle.std.proofs.Common.{ℕ, sym, subst, ◌∙◌, arith}
 use Rattle.avro_schema.specs.Seen.{ids_of}
 use Rattle.avro_schema_json.specs.inside.Alike.{StandsIn}
-use Rattle.avro_schema_json.specs.inside.Misfits.{has_id}
 use Rattle.avro_schema_json.proofs.AlikeSeen.{among-step, among-all}
 use Rattle.avro_schema_json.proofs.defaults.likes.are_among.Goals as goal
 

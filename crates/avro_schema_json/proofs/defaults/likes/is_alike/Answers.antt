@@ -1,4 +1,3 @@
-use Rattle.std.proofs.Common.{arith}
 use Rattle.avro_schema_json.specs.inside.Alike.{same, arrays, maps, records}
 use Rattle.avro_schema_json.proofs.AlikeSeen.{fixeds-alike}
 use Rattle.avro_schema_json.proofs.defaults.likes.is_alike.Goals as goal

@@ -1,4 +1,4 @@
-use Rattle.std.proofs.Common.{◌≡◌, sym, ap, ◌∙◌}
+use Rattle.std.proofs.Common.{◌≡◌}
 use Rattle.avro_schema_json.specs.inside.Alike.{like, same}
 use Rattle.avro_schema_json.proofs.defaults.likes.is_like.Goals as goal
 
