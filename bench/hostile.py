@@ -404,6 +404,31 @@ def maps_by_turns(size):
     return schema.replace('"default":0', '"default":{"n":{"0":{"q":{}},' + members + "}}")
 
 
+def behind_unions(size):
+    """Recursive records of numbers, behind 900 fields of unions of eight of them, each with a default."""
+    names = ["R%d" % k for k in range(60)]
+    def record(k):
+        others = [record(j) for j in range(1, 60)] if k == 0 else names[:k + 1]
+        return {"type": "record", "name": names[k], "fields": [{"name": "n", "type": ["int", *others]}]}
+    chance = random.Random(3)
+    first = [{"name": "g%d" % k, "type": chance.sample(names[:20], 8), "default": {"n": {"n": 1}}} for k in range(900)]
+    last = {"name": "f", "type": {"type": "array", "items": names}, "default": 0}
+    schema = written({"type": "record", "name": "R", "fields": [{"name": "first", "type": record(0)}, *first, last]})
+    whole = '{"n":' * 100 + "%d" + "}" * 100
+    items = max(1, (size - len(schema) - 2) // (len(whole) + 6))
+    return schema.replace('"default":0', '"default":[' + ",".join(whole % k for k in range(items)) + "]")
+
+
+def of_themselves(size):
+    """Records that have arrays of themselves, which nothing but their names tells apart, and objects of which the first fits no record."""
+    records = [{"type": "record", "name": "R%d" % k, "fields": [{"name": "n", "type": [{"type": "array", "items": "R%d" % k}]}]}
+               for k in range(1000)]
+    schema = written({"type": "record", "name": "R", "fields": [{"name": "f", "type": records, "default": 0}]})
+    before, after = '{"n":[' * 20 + "5,", "]}" * 20
+    items = max(1, (size - len(schema) - 200) // len('{"n":[]},{"n":[{"n":[]}]},'))
+    return schema.replace('"default":0', '"default":' + before + ",".join(['{"n":[]},{"n":[{"n":[]}]}'] * items) + after)
+
+
 def two_records(k, left):
     """Two records of an enum, one of which has the symbol of how many records follow."""
     return [in_record(k, [{"name": "a", "type": one_symbol(k, left)}]),
@@ -414,6 +439,25 @@ def nested_record(k, inner):
     """A record of a record of a type."""
     within = {"type": "record", "name": "M%d" % k, "fields": [{"name": "a", "type": inner}]}
     return {"type": "record", "name": "L%d" % k, "fields": [{"name": "a", "type": within}]}
+
+
+def chain(k, depth, inner):
+    """Records in one another, this many, around a type."""
+    for step in range(depth):
+        inner = {"type": "record", "name": "C%d_%d" % (k, step), "fields": [{"name": "a", "type": inner}]}
+    return inner
+
+
+def within(depth, leaf):
+    """Objects in one another, this many, around a value."""
+    for _ in range(depth):
+        leaf = {"a": leaf}
+    return leaf
+
+
+def chains(count, depth):
+    """The same of records in one another, this many for each branch, that differ in the symbol of the innermost."""
+    return same_kinds(count, lambda k, left: chain(k, depth, one_symbol(k, left)), {"a": within(depth, "s0")})
 
 
 def by_turns(count):
@@ -518,6 +562,8 @@ KINDS = {
     "wide below": wide_below, "recursive 20": recursive(20, "null"), "recursive 200": recursive(200, "null"),
     "recursive numbers 20": recursive(20, "int"), "recursive numbers 200": recursive(200, "int"),
     "refused by one": refused_by_one, "fields twice": fields_twice, "skipped 3000": skipped(3000), "maps by turns": maps_by_turns,
+    "recursive behind unions": behind_unions, "of themselves": of_themselves,
+    "alike symbols 12 down": chains(200, 11), "alike symbols 21 down": chains(60, 20),
     "alike texts behind many": long_array(1000),
     "alike records of two": same_kinds(600, two_records, {"a": {"a": "s0"}}),
     "alike in an array": alike(800, {"a": [{"a": 1, "b": 2}]}, inside(lambda k, leaf: in_record(k, plain_fields("ab")(k, leaf)), in_array)),
