@@ -48,14 +48,14 @@ fn all_entered(
 }
 
 /// The branches for which JSON is looked into, from the one where their table begins, without those that its parts
-/// refuse.
+/// refuse, and how many were gone through.
 fn entered(
     alloc: Global,
     raws: &[RawNode],
     table: &UnionTable,
     tree: &Value,
     ids: &[NodeId],
-) -> Result<Vec<NodeId>, Memory> {
+) -> Result<(Vec<NodeId>, usize), Memory> {
     let mut entered: Vec<NodeId> = Vec::new(alloc);
     let start = first_branch(table, tree, characters_of(tree))?;
     let probes = probes_of(alloc, table, tree)?;
@@ -64,25 +64,22 @@ fn entered(
             entered.push(ids[i])?;
         }
     }
-    Ok(entered)
+    Ok((entered, ids.len().saturating_sub(start)))
 }
 
-/// The same, of those that are alike the first, given by its index.
-fn entered_once(
+/// Those of the first branches that are alike, by their indices, for which JSON is looked into.
+fn firsts_entered(
     alloc: Global,
     raws: &[RawNode],
-    table: &UnionTable,
     tree: &Value,
     ids: &[NodeId],
     firsts: &[usize],
 ) -> Result<Vec<NodeId>, Memory> {
     let mut entered: Vec<NodeId> = Vec::new(alloc);
-    let start = first_branch(table, tree, characters_of(tree))?;
-    let probes = probes_of(alloc, table, tree)?;
     for i in firsts {
         match ids.get(*i) {
             Some(id) => {
-                if *i >= start && !is_refused(&probes, *i) && may_enter(raws, tree, *id) {
+                if may_enter(raws, tree, *id) {
                     entered.push(*id)?;
                 }
             }
@@ -106,7 +103,8 @@ pub(crate) fn repeated_ids(
     if known != 0 || is_flat(tree) {
         return Ok(Vec::new(alloc));
     }
-    entered(alloc, raws, table, tree, ids)
+    let (repeated, _) = entered(alloc, raws, table, tree, ids)?;
+    Ok(repeated)
 }
 
 /// Whether JSON is looked into for the node of an id: an array for an array, an object for a map or a
@@ -120,7 +118,8 @@ fn may_enter(raws: &[RawNode], tree: &Value, id: NodeId) -> bool {
     }
 }
 
-/// The branches of a union for which JSON is looked into, the first of those that are alike, and how many were gone through.
+/// The branches of a union for which JSON is looked into, and how many were gone through. Where the union is alike to
+/// others its table is not asked: theirs may begin earlier or refuse less, and each is asked when its turn comes.
 fn own_of_union(
     alloc: Global,
     raws: &[RawNode],
@@ -130,12 +129,18 @@ fn own_of_union(
     branches: &[NodeId],
 ) -> Result<(Vec<NodeId>, usize), Memory> {
     let at = id.0 as usize;
-    match (tables.of_nodes.get(at), tables.firsts.get(at)) {
-        (Some(table), Some(firsts)) => {
-            let ids = entered_once(alloc, raws, table, tree, branches, firsts)?;
-            Ok((ids, firsts.len()))
+    match tables.firsts.get(at) {
+        Some(firsts) => {
+            if firsts.len() > 0 {
+                let ids = firsts_entered(alloc, raws, tree, branches, firsts)?;
+                return Ok((ids, firsts.len()));
+            }
         }
-        _ => Ok((all_entered(alloc, raws, tree, branches)?, branches.len())),
+        None => {}
+    }
+    match tables.of_nodes.get(at) {
+        Some(table) => entered(alloc, raws, table, tree, branches),
+        None => Ok((all_entered(alloc, raws, tree, branches)?, branches.len())),
     }
 }
 
@@ -192,7 +197,7 @@ pub(crate) fn own_ids(
     asked: &[NodeId],
     merges: &mut Merges,
 ) -> Result<Vec<NodeId>, Memory> {
-    let Some(at) = merges.index_of(alloc, tables, asked)? else {
+    let Some(at) = merges.index_of(alloc, raws, tables, asked)? else {
         let (own, _) = own_of_each(alloc, raws, tables, tree, asked)?;
         return Ok(own);
     };

@@ -7,7 +7,7 @@ use std::alloc::Global;
 use std::collections::{BTreeMap, BTreeSet};
 
 /// The most nodes and edges that are gone through, each once in each turn.
-const MOST: usize = 2_000_000;
+const MOST: usize = 1_000_000;
 
 /// The class of each node, which is the index of its first node, and the class for each key.
 #[derive(Drop)]

@@ -169,6 +169,18 @@ fn are_alike(alloc: Global, raws: &[RawNode], null: &RawNode, likes: &[u32]) -> 
     Ok(true)
 }
 
+/// The nodes that stand for others.
+pub(crate) fn shared_in(alloc: Global, likes: &[u32]) -> Result<BTreeSet<usize>, Memory> {
+    let mut shared: BTreeSet<usize> = BTreeSet::new(alloc);
+    for i in 0..likes.len() {
+        let like = likes[i] as usize;
+        if like != i {
+            shared.insert(like)?;
+        }
+    }
+    Ok(shared)
+}
+
 /// The index of the first branch of each node that stands for branches.
 pub(crate) fn firsts_of(
     alloc: Global,

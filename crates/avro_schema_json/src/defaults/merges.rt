@@ -47,6 +47,7 @@ impl Merges {
     pub(crate) fn index_of(
         &mut self,
         alloc: Global,
+        raws: &[RawNode],
         tables: &Tables,
         asked: &[NodeId],
     ) -> Result<Option<usize>, Memory> {
@@ -63,7 +64,7 @@ impl Merges {
         }
         let at = self.of_lists.len();
         self.of_lists.push(Merge {
-            all: count_of(tables, asked),
+            all: count_of(raws, tables, asked),
             walked: 0,
             ids: None,
         })?;
@@ -122,15 +123,26 @@ fn key_of(alloc: Global, asked: &[NodeId]) -> Result<Vec<u32>, Memory> {
     Ok(key)
 }
 
-/// How many branches nodes have that are not alike, each counted for each node.
-fn count_of(tables: &Tables, asked: &[NodeId]) -> usize {
+/// How many branches a node has: those that are alike once, where it is alike to others.
+fn count_of_node(raws: &[RawNode], tables: &Tables, id: NodeId) -> usize {
+    let at = id.0 as usize;
+    match (raws.get(at), tables.firsts.get(at)) {
+        (Some(RawNode::Union(branches)), Some(firsts)) => {
+            if firsts.len() > 0 {
+                firsts.len()
+            } else {
+                branches.len()
+            }
+        }
+        _ => 1,
+    }
+}
+
+/// How many branches nodes have, each counted for each node.
+fn count_of(raws: &[RawNode], tables: &Tables, asked: &[NodeId]) -> usize {
     let mut count = 0usize;
     for id in asked {
-        let of_node = match tables.firsts.get(id.0 as usize) {
-            Some(firsts) => firsts.len().max(1),
-            None => 1,
-        };
-        count = count.saturating_add(of_node);
+        count = count.saturating_add(count_of_node(raws, tables, *id));
     }
     count
 }

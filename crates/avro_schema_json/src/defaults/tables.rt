@@ -17,7 +17,7 @@ ghost use Rattle.avro_schema_json.specs.inside.OwnDefaults.{all_without_defaults
 use crate::defaults::branch_keys::key_at;
 use crate::defaults::counts::{count_of_parts, count_of_symbols, has_object_defaults};
 use crate::defaults::first_branches::no_words;
-use crate::defaults::likes::{firsts_of, likes_of};
+use crate::defaults::likes::{firsts_of, likes_of, shared_in};
 use crate::defaults::parts::parts_of;
 use crate::defaults::places::places_or_none;
 use crate::defaults::record_tables::first_of_records;
@@ -251,17 +251,18 @@ fn likes_or_none<'a>(alloc: Global, raws: &'a [RawNode<'a>]) -> Result<Vec<u32>,
     }
 }
 
-/// For each union the first of the branches that are alike.
+/// For each union that stands for others the first of the branches that are alike, and none for all other nodes.
 fn firsts_of_unions(
     alloc: Global,
     raws: &[RawNode],
     likes: &[u32],
 ) -> Result<Vec<Vec<usize>>, Memory> {
+    let shared = shared_in(alloc, likes)?;
     let mut firsts: Vec<Vec<usize>> = Vec::new(alloc);
     for raw in raws {
         let of_node = match branches(raw) {
-            Some(ids) => firsts_of(alloc, likes, ids)?,
-            None => Vec::new(alloc),
+            Some(ids) if shared.contains(&firsts.len()) => firsts_of(alloc, likes, ids)?,
+            _ => Vec::new(alloc),
         };
         firsts.push(of_node)?;
     }

@@ -37,6 +37,7 @@ pub(crate) struct Tables<'a> {
     pub of_nodes: Vec<UnionTable<'a>>,
     /// The index of the node that stands for each node, or none where each stands for itself.
     pub likes: Vec<u32>,
-    /// For each node, if it is a union, the index of the first branch of each node that stands for branches.
+    /// For each node, if it is a union that stands for others, the index of the first branch of each node that stands for
+    /// branches.
     pub firsts: Vec<Vec<usize>>,
 }
