@@ -419,6 +419,69 @@ def behind_unions(size):
     return schema.replace('"default":0', '"default":[' + ",".join(whole % k for k in range(items)) + "]")
 
 
+def record_of(name, **types):
+    """A record of fields of these types."""
+    return {"type": "record", "name": name, "fields": [{"name": key, "type": of} for key, of in types.items()]}
+
+
+def tried_again(end):
+    """Two records that have a union of themselves, and what only their arrays tell apart: whoever does not know which fits tries both at
+    each level. The names of the types end alike."""
+    mixed = in_array(0, [record_of("M" + end, x="int", y="string"), record_of("N" + end, x="string", y="int")])
+    second = record_of("S" + end, n=["null", "F" + end, "S" + end], s=in_array(0, record_of("I" + end, x="int", y="int")))
+    return record_of("F" + end, n=["null", "F" + end, second], s=mixed)
+
+
+def branches_around(end):
+    """A record of such ones with an array that the JSON below does not fit, one that fits, and one that has a map."""
+    first = record_of("A" + end, a=["null", tried_again(end), "S" + end], z=in_array(0, "int"))
+    fits = record_of("X" + end, a=["null", record_of("W" + end, n=["null", "W" + end], s=in_array(0, "I" + end))], z=in_array(0, "string"))
+    other = record_of("Y" + end, a=in_map(0, ["null", "int"]), z=in_array(0, "string"))
+    return first, fits, other
+
+
+def tried_value():
+    """The JSON, 60 objects deep."""
+    return '{"f":{"a":' + '{"n":' * 60 + "null" + ',"s":[{"x":1,"y":1}]}' * 60 + ',"z":["t"]},"g":{"x":1,"y":1}}'
+
+
+def alike_beside(size):
+    """A union of two records that are alike, of which its table leaves one out, within two records that fit by another field alone."""
+    first, fits, other = branches_around("p")
+    again = record_of("B", a=["null", "Fp", "Sp"], z=in_array(0, "int"))
+    outer = [record_of("P", f=[first, other, again, fits], g=["Mp", "Np"]), record_of("Q", f=["Ap", "Yp", "B", "Xp"], g=["null", "Ip"])]
+    schema = {"type": "record", "name": "R", "fields": [{"name": "last", "type": outer, "default": 0}]}
+    return written(schema).replace('"default":0', '"default":' + tried_value())
+
+
+def alike_reordered(size):
+    """The same of two unions that are alike, with their branches in another order, in two such records."""
+    groups = [record_of("G" + end, **dict(zip("axy", branches_around(end)))) for end in "pq"]
+    outer = [record_of("P", f=["Ap", "Yp", "Xp"], g=["Mp", "Np"]), record_of("Q", f=["Yq", "Aq", "Xq"], g=["null", "Ip"])]
+    fields = [{"name": "d%d" % k, "type": group} for k, group in enumerate(groups)] + [{"name": "last", "type": outer, "default": 0}]
+    return written({"type": "record", "name": "R", "fields": fields}).replace('"default":0', '"default":' + tried_value())
+
+
+def texts_below(size):
+    """An array of texts below 15 unions within one another, of 16 records each, which only the items tell apart."""
+    last = record_of("Z", n=["null", "Z", in_array(0, "int")])
+    union = [in_array(0, "string")]
+    for level in reversed(range(15)):
+        others = [record_of("A%d_%d" % (level, k), n="Z" if k % 2 else ["null", "Z", in_array(0, "int")]) for k in range(15)]
+        union = [*others, record_of("B%d" % level, n=union)]
+    fields = [{"name": "z", "type": last}, {"name": "last", "type": union, "default": 0}]
+    schema = written({"type": "record", "name": "R", "fields": fields})
+    items = max(1, (size - len(schema) - 7 * 15) // len('"a","b",'))
+    return schema.replace('"default":0', '"default":' + '{"n":' * 15 + "[" + ",".join(['"a","b"'] * items) + "]" + "}" * 15)
+
+
+def chain_of_records(size):
+    """A chain of 1,000 records, of which each is told apart from all others one step later, and a default that has an object."""
+    records = [{"name": "c%d" % k, "type": record_of("C%d" % k, a=["null", "C%d" % (k + 1)] if k < 999 else ["null"])} for k in reversed(range(1000))]
+    last = {"name": "last", "type": [record_of("D", a="null"), "C0"], "default": {"a": None}}
+    return written({"type": "record", "name": "R", "fields": [*records, last]})
+
+
 def of_themselves(size):
     """Records that have arrays of themselves, which nothing but their names tells apart, and objects of which the first fits no record."""
     records = [{"type": "record", "name": "R%d" % k, "fields": [{"name": "n", "type": [{"type": "array", "items": "R%d" % k}]}]}
@@ -563,6 +626,7 @@ KINDS = {
     "recursive numbers 20": recursive(20, "int"), "recursive numbers 200": recursive(200, "int"),
     "refused by one": refused_by_one, "fields twice": fields_twice, "skipped 3000": skipped(3000), "maps by turns": maps_by_turns,
     "recursive behind unions": behind_unions, "of themselves": of_themselves,
+    "alike beside": alike_beside, "alike in another order": alike_reordered, "texts below unions": texts_below, "chain of records": chain_of_records,
     "alike symbols 12 down": chains(200, 11), "alike symbols 21 down": chains(60, 20),
     "alike texts behind many": long_array(1000),
     "alike records of two": same_kinds(600, two_records, {"a": {"a": "s0"}}),
