@@ -3,8 +3,8 @@
 #
 #     bench/all.sh [PROGRAM [MEASURE..]]
 #
-# PROGRAM is crates/avro/out/avro where none is named; a MEASURE is texts, forms, verdicts, pairs, inputs, containers, pipes, walks or
-# drafts.
+# PROGRAM is crates/avro/out/avro where none is named; a MEASURE is texts, forms, verdicts, pairs, inputs, answers, containers, pipes,
+# walks or drafts.
 # Walks and drafts also take crates/avro_bench/out/avro_bench, and leave out what it would measure where it is not built. A measure that fails
 # is told on standard error, the others are run, and the status is then 1.
 set -uo pipefail
@@ -14,7 +14,7 @@ program=${1:-$here/../crates/avro/out/avro}
 bench=$here/../crates/avro_bench/out/avro_bench
 shift $(($# > 0))
 measures=("$@")
-[ $# -gt 0 ] || measures=(texts forms verdicts pairs inputs containers pipes walks drafts)
+[ $# -gt 0 ] || measures=(texts forms verdicts pairs inputs answers containers pipes walks drafts)
 if [ ! -x "$program" ]; then
     echo "all.sh: there is no program $program: run 'make program', or name one" >&2
     exit 64
@@ -58,6 +58,7 @@ measure() { # MEASURE
         verdicts) "$here/verdicts.py" measure "$program" | rows "$1" ;;
         pairs) "$here/hostile_pairs.py" measure "$program" | rows "$1" ;;
         inputs) "$here/hostile_files.py" "$program" | rows "$1" ;;
+        answers) "$here/hostile_answers.py" "$program" | rows "$1" ;;
         containers) "$here/containers.py" measure "$program" | rows "$1" ;;
         pipes) "$here/pipe.py" "$program" | rows "$1" ;;
         walks) for kind in records strings keys; do "$here/run.sh" "$kind" | rows "$1" || return 1; done ;;
