@@ -269,6 +269,11 @@ def special_pairs() -> Iterator[Pair]:
         yield left + b'"int"' + right, left + b'"long"' + right
         yield left + b'"long"' + right, left + b'"int"' + right
         yield left + record % b"" + right, left + record % b'{"name":"f","type":"int"}' + right
+    inner = record.replace(b"R", b"A", 1) % b'{"name":"a","type":["A","null"]}'
+    for levels in (123, 124):
+        default = b'{"a":' * levels + b"null" + b"}" * levels
+        deep = record % (b'{"name":"f","type":%s,"default":%s}' % (inner, default))
+        yield deep, deep
     for length in (LONGEST, LONGEST + 1):
         long = b'"int"'.ljust(length)
         yield long, b'"long"'
