@@ -4,14 +4,11 @@
 #     bench/all.sh [PROGRAM [MEASURE..]]
 #
 # PROGRAM is crates/avro/out/avro where none is named; a MEASURE is texts, forms, verdicts, pairs, inputs, answers, containers, pipes,
-# walks or drafts.
-# Walks and drafts also take crates/avro_bench/out/avro_bench, and leave out what it would measure where it is not built. A measure that fails
-# is told on standard error, the others are run, and the status is then 1.
+# walks or drafts. A measure that fails is told on standard error, the others are run, and the status is then 1.
 set -uo pipefail
 
 here=$(cd "$(dirname "$0")" && pwd)
 program=${1:-$here/../crates/avro/out/avro}
-bench=$here/../crates/avro_bench/out/avro_bench
 shift $(($# > 0))
 measures=("$@")
 [ $# -gt 0 ] || measures=(texts forms verdicts pairs inputs answers containers pipes walks drafts)
@@ -43,14 +40,6 @@ rows() { # MEASURE
     done
 }
 
-# A list of words a line, as a table of one row a line: the first line has the heads.
-lines() {
-    local words
-    while read -r words; do
-        echo "| ${words// / | } |"
-    done
-}
-
 measure() { # MEASURE
     case $1 in
         texts) "$here/hostile.py" measure "$program" | rows "$1" ;;
@@ -61,10 +50,7 @@ measure() { # MEASURE
         answers) "$here/hostile_answers.py" "$program" | rows "$1" ;;
         containers) "$here/containers.py" measure "$program" | rows "$1" ;;
         pipes) "$here/pipe.py" "$program" | rows "$1" ;;
-        walks) for kind in records strings keys; do "$here/run.sh" "$kind" | rows "$1" || return 1; done ;;
-        drafts)
-            [ -x "$bench" ] || { echo "$bench is not built: run 'rt run' in crates/avro_bench" >&2; return 1; }
-            for word in draft schema; do "$bench" "$word" | lines | rows "$1, $word" || return 1; done ;;
+        walks | drafts) "$here/reading.py" "$1" "$program" | rows "$1" ;;
         *) echo "all.sh: $1 is no measure" >&2; return 1 ;;
     esac
 }

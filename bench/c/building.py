@@ -13,8 +13,10 @@ def compile_file(name, made, *flags):
 
 
 def build_program(name, folder):
-    """Builds a program into a folder."""
-    compile_file(f"{name}.c", os.path.join(folder, name))
+    """Builds a program into a folder, and answers its path."""
+    program = os.path.join(folder, name)
+    compile_file(f"{name}.c", program)
+    return program
 
 
 def build_library(folder):

@@ -1,14 +1,9 @@
-"""Writes a file that holds one Avro datum in binary again and again, for the walkers to read.
-
-    generate.py records|strings|keys FILE [MEGABYTES]
+"""Numbers, strings and large data in Avro's binary encoding.
 
 The datum of `records` is an array of 250,000 records {a long, b int, c string}, that of `strings` an array of
-1,000,000 strings, that of `keys` a map of nulls with 1,000,000 keys: 1,000,001 nodes. Items stand in blocks of 1,000, and each fourth block has its size. The same
-words write the same bytes.
+1,000,000 strings, that of `keys` a map of nulls with 1,000,000 keys: 1,000,001 nodes. Items stand in blocks of 1,000, and
+each fourth block has its size. The same seed gives the same bytes.
 """
-
-import random
-import sys
 
 ITEMS = {"records": 250_000, "strings": 1_000_000, "keys": 1_000_000}
 BLOCK = 1_000
@@ -60,13 +55,6 @@ def array(choose, item, count):
     return b"".join(parts)
 
 
-def main(kind, path, megabytes="100"):
-    choose = random.Random(1)
-    datum = array(choose, {"records": record, "strings": string, "keys": key}[kind], ITEMS[kind])
-    with open(path, "wb") as file:
-        for _ in range(int(megabytes) * 1_000_000 // len(datum) + 1):
-            file.write(datum)
-
-
-if __name__ == "__main__":
-    main(*sys.argv[1:])
+def datum_of(choose, kind):
+    """The datum of a kind."""
+    return array(choose, {"records": record, "strings": string, "keys": key}[kind], ITEMS[kind])
