@@ -1,21 +1,35 @@
 use std::alloc::AllocError;
-use thiserror::Error;
+use std::fmt;
 
 /// Why a text is no name. Where there are several faults, it names one of them.
-#[derive(Clone, Copy, Debug, PartialEq, Eq, Hash, Error)]
+#[derive(Clone, Copy, Debug, PartialEq, Eq)]
 pub enum NameError {
     /// A part between dots is empty.
-    #[error("N1")]
     EmptyPart,
     /// A character may not stand where it does.
-    #[error("N2")]
     BadCharacter,
     /// The simple part is the name of a primitive type.
-    #[error("N3")]
     PrimitiveName,
     /// Memory ran out.
-    #[error("N4")]
     OutOfMemory,
+}
+
+impl NameError {
+    /// Its code.
+    fn code(self) -> &'static str {
+        match self {
+            NameError::EmptyPart => "N1",
+            NameError::BadCharacter => "N2",
+            NameError::PrimitiveName => "N3",
+            NameError::OutOfMemory => "N4",
+        }
+    }
+}
+
+impl fmt::Display for NameError {
+    fn fmt<W: fmt::Write>(&self, f: &mut fmt::Formatter<W>) -> fmt::Result {
+        f.write_str(self.code())
+    }
 }
 
 impl From<AllocError> for NameError {

@@ -15,7 +15,7 @@ use avro_name::FullName;
 use std::alloc::Global;
 
 /// What may occur only once among the branches of a union.
-#[derive(Clone, Copy, Debug, PartialEq, Eq, PartialOrd, Ord)]
+#[derive(Clone, Copy, PartialEq, Eq, PartialOrd, Ord)]
 pub(crate) enum Kind<'a> {
     Null,
     Boolean,

@@ -11,7 +11,7 @@ use crate::schema::{Field, Node, NodeId};
 use std::alloc::Global;
 
 /// The datum of a node whose data take no bytes.
-#[derive(Clone, Copy, Debug, PartialEq, Eq)]
+#[derive(Clone, Copy, Debug)]
 pub struct Empty {
     /// Its number of nodes.
     pub nodes: u32,

@@ -3,39 +3,53 @@ ghost use Rattle.avro_schema.specs.declared.fault.DraftError.TheVariants.{OutOfM
 
 use crate::datum::Memory;
 use std::alloc::AllocFailed;
-use thiserror::Error;
+use std::fmt;
 
 /// Why nodes are not a schema. Where there are several faults, it names one of them.
-#[derive(Clone, Copy, Debug, PartialEq, Eq, Hash, Error)]
+#[derive(Clone, Copy, Debug, PartialEq, Eq)]
 pub enum DraftError {
     /// An edge goes to no node, or to one that is neither later nor a record, an enum or a fixed.
-    #[error("S2")]
     UnknownNode,
     /// Two types have one fullname.
-    #[error("S3")]
     DuplicateName,
     /// A symbol, or a name or alias of a field, is not a name.
-    #[error("S4")]
     InvalidName,
     /// A union whose edges are good has no branch, a union as a branch, or two branches of one kind.
-    #[error("S6")]
     InvalidUnion,
     /// An enum has no symbol, a symbol twice, or a default that is not one of its symbols.
-    #[error("S7")]
     InvalidSymbols,
     /// A name or alias occurs twice among the fields of a record.
-    #[error("S8")]
     DuplicateField,
     /// A default is not a datum of its field, in a record whose edges are good.
-    #[error("S9")]
     InvalidDefault,
     /// There is no node or there are more than 4,096; or an enum has more than 1,048,576 symbols,
     /// or a fixed more bytes.
-    #[error("S12")]
     LimitExceeded,
     /// Memory ran out.
-    #[error("S13")]
     OutOfMemory,
+}
+
+impl DraftError {
+    /// Its code.
+    fn code(self) -> &'static str {
+        match self {
+            DraftError::UnknownNode => "S2",
+            DraftError::DuplicateName => "S3",
+            DraftError::InvalidName => "S4",
+            DraftError::InvalidUnion => "S6",
+            DraftError::InvalidSymbols => "S7",
+            DraftError::DuplicateField => "S8",
+            DraftError::InvalidDefault => "S9",
+            DraftError::LimitExceeded => "S12",
+            DraftError::OutOfMemory => "S13",
+        }
+    }
+}
+
+impl fmt::Display for DraftError {
+    fn fmt<W: fmt::Write>(&self, f: &mut fmt::Formatter<W>) -> fmt::Result {
+        f.write_str(self.code())
+    }
 }
 
 impl<T: Drop> From<AllocFailed<T>> for DraftError {

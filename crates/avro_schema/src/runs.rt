@@ -12,7 +12,7 @@ use crate::schema::{Field, Node, NodeId};
 use std::alloc::Global;
 
 /// Fields next to one another whose data take no bytes.
-#[derive(Clone, Copy, Debug, PartialEq, Eq)]
+#[derive(Clone, Copy, Debug)]
 pub struct EmptyFields {
     /// How many there are.
     pub fields: u32,

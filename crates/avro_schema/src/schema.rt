@@ -11,7 +11,7 @@ use crate::runs::{EmptyFields, runs_at};
 use avro_name::FullName;
 
 /// The index of a node among those of its schema; 0 is the root.
-#[derive(Clone, Copy, Debug, PartialEq, Eq, PartialOrd, Ord, Hash)]
+#[derive(Clone, Copy, Debug, PartialEq, Eq, PartialOrd, Ord)]
 pub struct NodeId(pub u32);
 
 /// A node of a schema (Avro 1.11, "Schema Declaration").

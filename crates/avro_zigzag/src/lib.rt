@@ -12,19 +12,33 @@ pub mod write;
 
 pub use read::{read_int, read_long};
 pub use shortest::starts_shortest;
-use thiserror::Error;
+use std::fmt;
 pub use write::{to_zigzag, write_long};
 
 /// Why no number can be read at the front of some bytes.
-#[derive(Clone, Copy, Debug, PartialEq, Eq, Hash, Error)]
+#[derive(Clone, Copy, Debug, PartialEq, Eq, Hash)]
 pub enum VarError {
     /// No byte is left where the number goes on.
-    #[error("Z1")]
     EndOfInput,
     /// A number is not in its shortest spelling. It is never returned: each spelling is read.
-    #[error("Z2")]
     NotShortest,
     /// The number has more than 32 bits where it is an int, or more than 64 where it is a long.
-    #[error("Z3")]
     OutOfRange,
+}
+
+impl VarError {
+    /// Its code.
+    fn code(self) -> &'static str {
+        match self {
+            VarError::EndOfInput => "Z1",
+            VarError::NotShortest => "Z2",
+            VarError::OutOfRange => "Z3",
+        }
+    }
+}
+
+impl fmt::Display for VarError {
+    fn fmt<W: fmt::Write>(&self, f: &mut fmt::Formatter<W>) -> fmt::Result {
+        f.write_str(self.code())
+    }
 }
