@@ -1,8 +1,3 @@
-ghost use Rattle.std.specs.Prelude.{IfOk};
-ghost use Rattle.avro_schema.specs.SeenSchema.{schema_nodes};
-ghost use Rattle.avro_compare.specs.inside.AliasTables.{AreAliasTables};
-ghost use Rattle.avro_compare.specs.inside.NameTables.{AreUnionTables, AreFieldTables, AreSymbolTables};
-
 use crate::alias_tables::{alias_tables, source_by_index};
 use crate::field_tables::{field_tables, source_by};
 use crate::guided::Aim;
@@ -13,12 +8,9 @@ use crate::symbol_tables::{symbol_by, symbol_tables};
 use crate::symbols::text_of;
 use crate::union_tables::{start_by, union_tables};
 use avro_schema::{Field, Memory, NodeId, Schema};
-use std::alloc::{AllocError, Global};
+use std::alloc::Global;
 use std::collections::BTreeMap;
 use std::marker::Model;
-
-/// Tables of indices, each with what it is found by.
-type Tables<At, Key> = Vec<(At, BTreeMap<Key, usize>)>;
 
 /// A writer's schema and a reader's, with tables of names, by which names are found without
 /// looking at all of them: the branches of the reader's unions, for the first match of a record,
@@ -34,10 +26,10 @@ pub struct Names<'a> {
     numbers: NameNumbers<'a>,
     // Each list rises by its nodes, and that of aliases by the indices of fields too, so that a table is found by
     // binary search.
-    unions: Tables<NodeId, (u64, u32)>,
-    fields: Tables<NodeId, &'a str>,
-    aliases: Tables<(NodeId, usize), &'a str>,
-    symbols: Tables<NodeId, &'a str>,
+    unions: Vec<(NodeId, BTreeMap<(u64, u32), usize>)>,
+    fields: Vec<(NodeId, BTreeMap<&'a str, usize>)>,
+    aliases: Vec<((NodeId, usize), BTreeMap<&'a str, usize>)>,
+    symbols: Vec<(NodeId, BTreeMap<&'a str, usize>)>,
 }
 
 impl<'a> Model for Names<'a> {
@@ -62,34 +54,6 @@ impl<'a> Model for Names<'a> {
         × AreSymbolTables (schema_nodes names.reader.now) names.symbols.items };
 }
 
-/// The tables of the reader's unions, and those of the symbols of its enums.
-fn union_and_symbol_tables<'a>(
-    alloc: Global,
-    simples: &BTreeMap<&str, u32>,
-    reader: &'a Schema,
-) -> Result<(Tables<NodeId, (u64, u32)>, Tables<NodeId, &'a str>), AllocError>
-    ensures unions { IfOk result (λ tables. AreUnionTables simples.now (schema_nodes reader.now) tables.0.items) }
-    ensures symbols { IfOk result (λ tables. AreSymbolTables (schema_nodes reader.now) tables.1.items) }
-{
-    let unions = union_tables(alloc, simples, reader)?;
-    let symbols = symbol_tables(alloc, reader)?;
-    Ok((unions, symbols))
-}
-
-/// The tables of the fields of the writer's records, and those of the aliases of the reader's fields.
-fn field_and_alias_tables<'a>(
-    alloc: Global,
-    writer: &'a Schema,
-    reader: &'a Schema,
-) -> Result<(Tables<NodeId, &'a str>, Tables<(NodeId, usize), &'a str>), AllocError>
-    ensures fields { IfOk result (λ tables. AreFieldTables (schema_nodes writer.now) tables.0.items) }
-    ensures aliases { IfOk result (λ tables. AreAliasTables (schema_nodes reader.now) tables.1.items) }
-{
-    let fields = field_tables(alloc, writer)?;
-    let aliases = alias_tables(alloc, reader)?;
-    Ok((fields, aliases))
-}
-
 impl<'a> Names<'a> {
     ghost use Rattle.std.specs.Prelude.{◌≡◌, IfOk, Some, slice_get};
     ghost use Rattle.avro_schema.specs.Node.{node_at};
@@ -110,8 +74,10 @@ impl<'a> Names<'a> {
         ensures { IfOk result (λ names. names ≡ (writer.now, reader.now)) }
     {
         let numbers = name_numbers(alloc, writer, reader)?;
-        let (unions, symbols) = union_and_symbol_tables(alloc, &numbers.table.simples, reader)?;
-        let (fields, aliases) = field_and_alias_tables(alloc, writer, reader)?;
+        let unions = union_tables(alloc, &numbers.table.simples, reader)?;
+        let fields = field_tables(alloc, writer)?;
+        let aliases = alias_tables(alloc, reader)?;
+        let symbols = symbol_tables(alloc, reader)?;
         Ok(Names {
             writer,
             reader,
