@@ -101,18 +101,25 @@ fn find_pairs(
     ensures found { IfOk result (λ o. IfSome o (λ found. AreComparisons (schema_nodes writer.now) (schema_nodes reader.now) found.items)) }
 {
     let names = Names::new(alloc, writer, reader)?;
+    find_each(alloc, writer, reader, &names, certificate)
+}
+
+/// The same by the tables of names.
+fn find_each(
+    alloc: Global,
+    writer: &Schema,
+    reader: &Schema,
+    names: &Names,
+    certificate: &Certificate,
+) -> Result<Option<Vec<Comparison>>, Memory>
+    requires { names.now ≡ (writer.now, reader.now) }
+    ensures closed { IfOk result (λ o. is_some o ≡ list_all (is_closed_at (schema_nodes writer.now) (schema_nodes reader.now) (dead_of certificate.now) (pairs_in certificate.now)) (pairs_in certificate.now)) }
+    ensures found { IfOk result (λ o. IfSome o (λ found. AreComparisons (schema_nodes writer.now) (schema_nodes reader.now) found.items)) }
+{
     let pairs = certificate.pairs();
     let mut found = Vec::new(alloc);
     for pair in pairs {
-        if !is_closed_at(
-            alloc,
-            writer,
-            reader,
-            &names,
-            certificate,
-            *pair,
-            &mut found,
-        )? {
+        if !is_closed_at(alloc, writer, reader, names, certificate, *pair, &mut found)? {
             return Ok(None);
         }
     }

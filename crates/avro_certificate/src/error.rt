@@ -2,20 +2,34 @@ ghost use Rattle.std.specs.Prelude.{◌≡◌};
 ghost use Rattle.avro_certificate.specs.declared.error.CertError.TheVariants.{OutOfMemory};
 
 use std::alloc::AllocFailed;
-use thiserror::Error;
+use std::fmt;
 
 /// Why a text is not read as a certificate.
-#[derive(Clone, Copy, Debug, PartialEq, Eq, Hash, Error)]
+#[derive(Clone, Copy, Debug, PartialEq, Eq)]
 pub enum CertError {
     /// It is no certificate's text, or longer than any.
-    #[error("G1")]
     Malformed,
     /// It has the lines of a certificate, and a number over 4,095.
-    #[error("G2")]
     NumberTooLarge,
     /// Memory ran out.
-    #[error("G3")]
     OutOfMemory,
+}
+
+impl CertError {
+    /// Its code.
+    fn code(self) -> &'static str {
+        match self {
+            CertError::Malformed => "G1",
+            CertError::NumberTooLarge => "G2",
+            CertError::OutOfMemory => "G3",
+        }
+    }
+}
+
+impl fmt::Display for CertError {
+    fn fmt<W: fmt::Write>(&self, f: &mut fmt::Formatter<W>) -> fmt::Result {
+        f.write_str(self.code())
+    }
 }
 
 impl<T: Drop> From<AllocFailed<T>> for CertError {

@@ -32,9 +32,20 @@ pub fn compare_all(
     ensures { IfOk result (λ kept. AreComparisons (schema_nodes writer.now) (schema_nodes reader.now) kept.items) }
 {
     let names = Names::new(alloc, writer, reader)?;
+    compare_each(alloc, &names, pairs)
+}
+
+/// The same by the tables of names.
+fn compare_each(
+    alloc: Global,
+    names: &Names,
+    pairs: &[(NodeId, NodeId)],
+) -> Result<Vec<Comparison>, Memory>
+    ensures { IfOk result (λ kept. AreComparisons (schema_nodes names.now.0) (schema_nodes names.now.1) kept.items) }
+{
     let mut kept = Vec::new(alloc);
     for pair in pairs {
-        let comparison = compare(alloc, &names, pair.0, pair.1)?;
+        let comparison = compare(alloc, names, pair.0, pair.1)?;
         kept.push(comparison)?;
     }
     Ok(kept)

@@ -1,24 +1,41 @@
 use std::fmt;
-use thiserror::Error;
 
 /// Why a datum does not resolve.
-#[derive(Clone, Copy, Debug, PartialEq, Eq, Hash, Error)]
+#[derive(Clone, Copy, Debug, PartialEq, Eq)]
 pub enum FaultKind {
     /// The nodes do not match.
-    #[error("NoMatch")]
     NoMatch,
     /// No branch of the reader's union matches.
-    #[error("NoBranch")]
     NoBranch,
     /// The reader's field at this index has no source in the writer's record, and no default.
-    #[error("MissingField {0}")]
     MissingField(usize),
     /// The reader's enum has no such symbol, and no default.
-    #[error("NoSymbol")]
     NoSymbol,
     /// Bytes that are read as a string are not UTF-8.
-    #[error("NotUtf8")]
     NotUtf8,
+}
+
+impl FaultKind {
+    /// Its name.
+    fn name(self) -> &'static str {
+        match self {
+            FaultKind::NoMatch => "NoMatch",
+            FaultKind::NoBranch => "NoBranch",
+            FaultKind::MissingField(_) => "MissingField",
+            FaultKind::NoSymbol => "NoSymbol",
+            FaultKind::NotUtf8 => "NotUtf8",
+        }
+    }
+}
+
+impl fmt::Display for FaultKind {
+    fn fmt<W: fmt::Write>(&self, f: &mut fmt::Formatter<W>) -> fmt::Result {
+        f.write_str(self.name())?;
+        match self {
+            FaultKind::MissingField(index) => write!(f, " {index}"),
+            _ => Ok(()),
+        }
+    }
 }
 
 /// A fault of resolution, and where it is in the writer's datum.

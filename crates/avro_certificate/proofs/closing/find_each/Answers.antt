@@ -3,7 +3,7 @@ use Rattle.avro_schema.specs.SeenSchema.{schema_nodes}
 use Rattle.avro_certificate.specs.Closed.{is_closed_at}
 use Rattle.avro_certificate.specs.SeenCertificate.{dead_of, pairs_in}
 use Rattle.avro_certificate.proofs.ClosedParts.{pairs_next}
-use Rattle.avro_certificate.proofs.closing.find_pairs.Goals as goal
+use Rattle.avro_certificate.proofs.closing.find_each.Goals as goal
 
 pub loop-pair-preserved : goal.loop-pair-preserved
 loop-pair-preserved c =

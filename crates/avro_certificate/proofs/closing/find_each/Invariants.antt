@@ -5,7 +5,7 @@ use Rattle.avro_compare.specs.Planned.{AreComparisons}
 use Rattle.avro_certificate.specs.Closed.{is_closed_at}
 use Rattle.avro_certificate.specs.SeenCertificate.{dead_of, pairs_in}
 use Rattle.avro_certificate.specs.SeenPair.{pairs_of}
-use Rattle.avro_certificate.proofs.closing.find_pairs.Given as goal
+use Rattle.avro_certificate.proofs.closing.find_each.Given as goal
 
 abbrev pub invariant-loop-pair : goal.invariant-loop-pair
 invariant-loop-pair l =
