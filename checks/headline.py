@@ -26,7 +26,7 @@ HEADLINE: Roots = (
 CONFIRMED: Roots = (("Rattle.avro_certificate.specs.Compatible", "AreCompatible"),)
 ANSWERED: Roots = (("Rattle.avro_answer.specs.JudgeAnswer", "JudgeAnswer"),)
 # The crates and their files in the order in which each rests on those before it.
-CRATES = ("name", "schema", "zigzag", "binary", "compare", "resolve", "certificate", "judge", "schema_json", "display", "answer")
+CRATES = ("name", "schema", "zigzag", "cursor", "binary", "compare", "resolve", "certificate", "judge", "schema_json", "display", "answer")
 WORD = re.compile(r"[A-Za-z_][\w\-]*")
 HEAD = re.compile(r"(?:abbrev )?(?:pub )?(?:abbrev )?(?:record |data |type )?(?:pub )?([A-Za-z_][\w\-]*)")
 USE = re.compile(r"^use (Rattle\.[\w.]+)\.\{([^}]*)\}", re.MULTILINE)

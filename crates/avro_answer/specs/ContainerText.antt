@@ -1,7 +1,7 @@
 -- The line that reports a container file as refused: a code, the place in the file, and the reason.
 use Rattle.std.specs.Prelude.{ℕ, List, [], ◌++◌, codes}
 use Rattle.avro_zigzag.specs.declared.VarError.{VarError}
-use Rattle.avro_binary.specs.declared.error.ReadError.{ReadError}
+use Rattle.avro_cursor.specs.declared.error.ReadError.{ReadError}
 use Rattle.avro_compare.specs.Seen.{fault_of}
 use Rattle.avro_certificate.specs.CertificateText.{decimal}
 use Rattle.avro_answer.specs.RefusalText.{schema_code}

@@ -2,16 +2,16 @@
 use Rattle.std.proofs.Common.{◌≡◌, ℕ, ◌+◌, ◌<◌, pos, List, [], ◌++◌, length, Result, Ok, Err, Option, Some, None, refl, sym, ap, ◌∙◌, subst, append_assoc, arith}
 use Rattle.std.specs.List.{concat}
 use Rattle.avro_zigzag.specs.Number.{SpellsLong}
-use Rattle.avro_binary.specs.Blocks.{IsInBlocks}
-use Rattle.avro_binary.specs.Fault.{ReadFault, wrong_block_size, behind}
-use Rattle.avro_binary.specs.Breaks.{HeadBreaks, BlocksBreak, head_breaks, item_fails, size_differs, later_breaks, Head, counted, sized, head_count, head_bytes, IsHead, HasSize, Left}
-use Rattle.avro_binary.specs.BlockHeads.{IsHeadOrEnd, IsBlock, IsBlockOrEnd, EndsBlock}
-use Rattle.avro_binary.specs.CursorValue.{CursorValue, Passes}
+use Rattle.avro_cursor.specs.Blocks.{IsInBlocks}
+use Rattle.avro_cursor.specs.Fault.{ReadFault, wrong_block_size, behind}
+use Rattle.avro_cursor.specs.Breaks.{HeadBreaks, BlocksBreak, head_breaks, item_fails, size_differs, later_breaks, Head, counted, sized, head_count, head_bytes, IsHead, HasSize, Left}
+use Rattle.avro_cursor.specs.BlockHeads.{IsHeadOrEnd, IsBlock, IsBlockOrEnd, EndsBlock}
+use Rattle.avro_cursor.specs.CursorValue.{CursorValue, Passes}
 use Rattle.avro_binary.specs.CursorReads.{Moves, ReportsFault, left_at, FindsRun, RunBreaks}
-use Rattle.avro_binary.specs.Elements.{Refuses}
-use Rattle.avro_binary.specs.declared.block.Block.{Block}
-use Rattle.avro_binary.specs.declared.error.ReadError.{ReadError}
-use Rattle.avro_binary.proofs.public.Behind.{behind-none, behind-append}
+use Rattle.avro_cursor.specs.Elements.{Refuses}
+use Rattle.avro_cursor.specs.declared.block.Block.{Block}
+use Rattle.avro_cursor.specs.declared.error.ReadError.{ReadError}
+use Rattle.avro_cursor.proofs.public.Behind.{behind-none, behind-append}
 use Rattle.avro_binary.proofs.RunLaws.{Kind}
 use Rattle.avro_binary.proofs.RunSteps.{moves-none, moves-passed, moves-join, report_moved}
 use Rattle.avro_binary.proofs.public.Blocks.{block_first}

@@ -1,11 +1,11 @@
 -- What the bytes of blocks begin with: a head and the items of its block, or the end.
 use Rattle.std.proofs.Common.{◌≡◌, ℕ, ◌+◌, ◌≤◌, List, [], ◌++◌, length, Option, Some, None, refl, sym, ap, ◌∙◌, subst, append_assoc, append-nil, length-append, arith}
 use Rattle.std.specs.List.{concat}
-use Rattle.avro_binary.specs.Blocks.{IsInBlocks, no_more, counted, sized}
-use Rattle.avro_binary.specs.Breaks.{Head, head_count, head_bytes, IsHead, HasSize}
-use Rattle.avro_binary.specs.BlockHeads.{IsHeadOrEnd}
-use Rattle.avro_binary.proofs.Fronts.{same_behind}
-use Rattle.avro_binary.proofs.HeadLaws.{head_part}
+use Rattle.avro_cursor.specs.Blocks.{IsInBlocks, no_more, counted, sized}
+use Rattle.avro_cursor.specs.Breaks.{Head, head_count, head_bytes, IsHead, HasSize}
+use Rattle.avro_cursor.specs.BlockHeads.{IsHeadOrEnd}
+use Rattle.avro_cursor.proofs.public.Fronts.{same_behind}
+use Rattle.avro_cursor.proofs.public.HeadLaws.{head_part}
 
 -- what is after a head, or after the end
 abbrev BehindHead : Option Head → List (List ℕ) → List ℕ → Type 0

@@ -2,13 +2,13 @@
 use Rattle.std.proofs.Common.{◌≡◌, ℕ, suc, ◌-◌, List, Ok, Err, ap, subst, arith}
 use Rattle.avro_schema.specs.Value.{Value}
 use Rattle.avro_schema.specs.Node.{Node}
-use Rattle.avro_binary.specs.CursorValue.{CursorValue, Passes, Counts}
+use Rattle.avro_cursor.specs.CursorValue.{CursorValue, Passes, Counts}
 use Rattle.avro_binary.specs.CursorReads.{ReadsNode, outside, left_node, limits_at, child_breaks}
-use Rattle.avro_binary.specs.Elements.{Refuses, Finds}
-use Rattle.avro_binary.specs.Fault.{ReadFault}
-use Rattle.avro_binary.specs.Breaks.{NodeBreaks}
+use Rattle.avro_cursor.specs.Elements.{Refuses, Finds}
+use Rattle.avro_cursor.specs.Fault.{ReadFault}
+use Rattle.avro_cursor.specs.Breaks.{NodeBreaks}
 use Rattle.avro_binary.proofs.LeafReads.{leaf_refused}
-use Rattle.avro_binary.specs.declared.error.ReadError.{ReadError}
+use Rattle.avro_cursor.specs.declared.error.ReadError.{ReadError}
 
 -- a cursor in the node that it counts, of one that counted it
 abbrev pub inside_of : CursorValue → CursorValue

@@ -5,15 +5,15 @@ use Rattle.avro_schema.specs.Value.{Value}
 use Rattle.avro_schema.specs.Node.{Node, node_at}
 use Rattle.avro_schema.specs.Empty.{IsEmptyDatum}
 use Rattle.avro_schema.specs.WellFormed.{is_schema}
-use Rattle.avro_binary.specs.Encoding.{Encodes}
-use Rattle.avro_binary.specs.Fault.{limit_exceeded}
-use Rattle.avro_binary.specs.Breaks.{BreaksWithin}
-use Rattle.avro_binary.specs.Seen.{read_fault}
-use Rattle.avro_binary.specs.CursorValue.{CursorValue}
-use Rattle.avro_binary.specs.inside.CountsAgain.{CountsAgain}
+use Rattle.avro_cursor.specs.Encoding.{Encodes}
+use Rattle.avro_cursor.specs.Fault.{limit_exceeded}
+use Rattle.avro_cursor.specs.Breaks.{BreaksWithin}
+use Rattle.avro_cursor.specs.Seen.{read_fault}
+use Rattle.avro_cursor.specs.CursorValue.{CursorValue}
+use Rattle.avro_cursor.specs.CountsAgain.{CountsAgain}
 use Rattle.avro_binary.specs.CursorReads.{FindsValue, ReadsNode, ReportsFault, limits_at}
 use Rattle.avro_binary.specs.Making.{Made}
-use Rattle.avro_binary.specs.declared.error.ReadError.{ReadError}
+use Rattle.avro_cursor.specs.declared.error.ReadError.{ReadError}
 use Rattle.avro_binary.proofs.NoFrontItems.{IsSmall}
 use Rattle.avro_binary.proofs.Plain.{Encodes-plain}
 use Rattle.avro_binary.proofs.Repeated.{limit_passed}

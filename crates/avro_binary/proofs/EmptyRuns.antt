@@ -14,14 +14,14 @@ use Rattle.avro_schema.specs.Value.{Value, Values, no_values, value, size, depth
 use Rattle.avro_schema.specs.WellFormed.{is_schema}
 use Rattle.avro_schema.specs.declared.runs.EmptyFields.{EmptyFields}
 use Rattle.avro_schema.proofs.public.Choices.{HasFewChoices-from_is_schema}
-use Rattle.avro_binary.specs.Encoding.{Encodes}
-use Rattle.avro_binary.specs.Breaks.{FieldsBreak}
-use Rattle.avro_binary.specs.Fault.{limit_exceeded}
-use Rattle.avro_binary.specs.Seen.{read_fault}
+use Rattle.avro_cursor.specs.Encoding.{Encodes}
+use Rattle.avro_cursor.specs.Breaks.{FieldsBreak}
+use Rattle.avro_cursor.specs.Fault.{limit_exceeded}
+use Rattle.avro_cursor.specs.Seen.{read_fault}
 use Rattle.avro_binary.specs.CursorReads.{ReportsFault, limits_at, child_breaks}
-use Rattle.avro_binary.specs.CursorValue.{CursorValue}
-use Rattle.avro_binary.specs.declared.error.ReadError.{ReadError}
-use Rattle.avro_binary.specs.inside.CountsAgain.{CountsAgain}
+use Rattle.avro_cursor.specs.CursorValue.{CursorValue}
+use Rattle.avro_cursor.specs.declared.error.ReadError.{ReadError}
+use Rattle.avro_cursor.specs.CountsAgain.{CountsAgain}
 use Rattle.avro_binary.specs.inside.PassesRun.{FindsEmpties, RefusesEmpties}
 use Rattle.avro_binary.proofs.NoFrontItems.{IsSmall}
 use Rattle.avro_binary.proofs.NodeSteps.{FieldsDone, field_breaks}

@@ -5,14 +5,14 @@ use Rattle.std.specs.List.{concat}
 use Rattle.avro_schema.specs.Value.{Value}
 use Rattle.avro_schema.specs.Node.{Node, node_at}
 use Rattle.avro_schema.specs.Fits.{LimitValues, is_within}
-use Rattle.avro_binary.specs.Encoding.{Encodes}
-use Rattle.avro_binary.specs.Fault.{ReadFault, wrong_block_size, limit_exceeded, behind}
-use Rattle.avro_binary.specs.Breaks.{BlocksBreak, Breaks, BreaksWithin, KeyBreaks, HeadBreaks, Head, counted, sized, head_count, HasSize}
-use Rattle.avro_binary.specs.BlockHeads.{IsHeadOrEnd, IsBlock, EndsBlock}
-use Rattle.avro_binary.specs.CursorValue.{CursorValue, Passes}
+use Rattle.avro_cursor.specs.Encoding.{Encodes}
+use Rattle.avro_cursor.specs.Fault.{ReadFault, wrong_block_size, limit_exceeded, behind}
+use Rattle.avro_cursor.specs.Breaks.{BlocksBreak, Breaks, BreaksWithin, KeyBreaks, HeadBreaks, Head, counted, sized, head_count, HasSize}
+use Rattle.avro_cursor.specs.BlockHeads.{IsHeadOrEnd, IsBlock, EndsBlock}
+use Rattle.avro_cursor.specs.CursorValue.{CursorValue, Passes}
 use Rattle.avro_binary.specs.CursorReads.{Moves, ReportsFault, outside, left_node, left_at, limits_at, FindsRun, RunBreaks}
-use Rattle.avro_binary.specs.declared.block.Block.{Block}
-use Rattle.avro_binary.specs.declared.error.ReadError.{ReadError}
+use Rattle.avro_cursor.specs.declared.block.Block.{Block}
+use Rattle.avro_cursor.specs.declared.error.ReadError.{ReadError}
 use Rattle.avro_binary.proofs.PartOrFault.{AreBytes, below_or, key_or_fault, head_or_fault}
 use Rattle.avro_binary.proofs.RunLaws.{Kind, values_kind, entries_kind}
 use Rattle.avro_binary.proofs.RunSteps.{moves-passed, moves-join, run_none, run_push, run_breaks, value_run, value_report, entry_run, key_report, entry_report}

@@ -8,16 +8,16 @@ use Rattle.avro_schema.specs.Node.{Node, node_at}
 use Rattle.avro_schema.specs.Fits.{LimitValues, is_within}
 use Rattle.avro_schema.specs.WellFormed.{is_schema}
 use Rattle.avro_schema.specs.declared.datum.Datum.{Datum}
-use Rattle.avro_binary.specs.Encoding.{Encodes}
-use Rattle.avro_binary.specs.Fault.{ReadFault, limit_exceeded, behind}
-use Rattle.avro_binary.specs.Breaks.{Breaks}
-use Rattle.avro_binary.specs.Seen.{read_fault, UnlessOutOfMemory}
+use Rattle.avro_cursor.specs.Encoding.{Encodes}
+use Rattle.avro_cursor.specs.Fault.{ReadFault, limit_exceeded, behind}
+use Rattle.avro_cursor.specs.Breaks.{Breaks}
+use Rattle.avro_cursor.specs.Seen.{read_fault, UnlessOutOfMemory}
 use Rattle.avro_binary.specs.Reading.{BuildsExactly, ReadsExactly, WalksExactly}
-use Rattle.avro_binary.specs.CursorValue.{CursorValue}
+use Rattle.avro_cursor.specs.CursorValue.{CursorValue}
 use Rattle.avro_binary.specs.CursorReads.{FindsValue, ReadsNode, IsSeenAs}
-use Rattle.avro_binary.specs.declared.error.ReadError.{ReadError}
-use Rattle.avro_binary.proofs.public.Behind.{behind-none}
-use Rattle.avro_binary.proofs.KeySteps.{as_error, unless_reported}
+use Rattle.avro_cursor.specs.declared.error.ReadError.{ReadError}
+use Rattle.avro_cursor.proofs.public.Behind.{behind-none}
+use Rattle.avro_cursor.proofs.public.KeySteps.{as_error, unless_reported}
 use Rattle.avro_binary.proofs.Front.{one_front}
 use Rattle.avro_binary.proofs.NoFront.{no_front_of_fault, no_front_within}
 use Rattle.avro_binary.proofs.OneFaults.{one_fault_lem}

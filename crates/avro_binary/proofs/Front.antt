@@ -10,9 +10,9 @@ use Rattle.avro_schema.specs.Node.{Node, node_at, field_ids}
 use Rattle.avro_schema.specs.Fits.{fits, each_fits, entries_fit, fields_fit}
 use Rattle.avro_schema.proofs.public.FitsParts.{ArrayFits-from_fits, MapFits-from_fits, UnionFits-from_fits, RecordFits-from_fits}
 use Rattle.avro_schema.proofs.public.FitsKind.{FitsKind-from_fits, null_value, boolean_value, int_value, long_value}
-use Rattle.avro_binary.specs.Encoding.{SpellsBytes, Spells, EachSpelled, EntriesSpelled, Encodes}
+use Rattle.avro_cursor.specs.Encoding.{SpellsBytes, Spells, EachSpelled, EntriesSpelled, Encodes}
 use Rattle.avro_binary.proofs.FrontBlocks.{Each, IsAlone, same_blocks}
-use Rattle.avro_binary.proofs.Fronts.{same_front, same_behind, same_from_pos}
+use Rattle.avro_cursor.proofs.public.Fronts.{same_front, same_behind, same_from_pos}
 use Rattle.avro_binary.proofs.KindOf.{kind_at, bytes_value, string_value, array_value, map_value, union_value, record_value, enum_value, fixed_value, enum-from_symbols_of, fixed-from_fixed_length}
 
 -- a length and its bytes

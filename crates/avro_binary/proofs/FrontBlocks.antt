@@ -1,10 +1,10 @@
 -- What is at the front of bytes that are cut into blocks.
 use Rattle.std.proofs.Common.{◌≡◌, ℕ, List, [], ◌∷◌, ◌++◌, length, None, refl, sym, ap, ◌∙◌, subst, append_assoc, append-nil, arith}
 use Rattle.std.specs.List.{concat}
-use Rattle.avro_binary.specs.Blocks.{IsInBlocks, no_more, counted, sized}
-use Rattle.avro_binary.specs.Breaks.{Head}
+use Rattle.avro_cursor.specs.Blocks.{IsInBlocks, no_more, counted, sized}
+use Rattle.avro_cursor.specs.Breaks.{Head}
 use Rattle.avro_binary.proofs.BlockViews.{head_at, first_block}
-use Rattle.avro_binary.proofs.Fronts.{joined_three, same_behind}
+use Rattle.avro_cursor.proofs.public.Fronts.{joined_three, same_behind}
 
 -- each item
 abbrev pub Each : (List ℕ → Type 0) → List (List ℕ) → Type 0

@@ -6,15 +6,15 @@ use Rattle.avro_name.specs.Name.{Name}
 use Rattle.avro_schema.specs.Value.{Value, size, depth, longest_blob}
 use Rattle.avro_schema.specs.Node.{Node}
 use Rattle.avro_schema.specs.Fits.{are_bytes}
-use Rattle.avro_binary.specs.Encoding.{Encodes}
-use Rattle.avro_binary.specs.Fault.{ReadFault}
-use Rattle.avro_binary.specs.Breaks.{NodeBreaks}
-use Rattle.avro_binary.specs.CursorValue.{CursorValue, Passes}
+use Rattle.avro_cursor.specs.Encoding.{Encodes}
+use Rattle.avro_cursor.specs.Fault.{ReadFault}
+use Rattle.avro_cursor.specs.Breaks.{NodeBreaks}
+use Rattle.avro_cursor.specs.CursorValue.{CursorValue, Passes}
 use Rattle.avro_binary.specs.CursorReads.{ReadsNode, outside, left_node, limits_at, child_breaks}
-use Rattle.avro_binary.specs.Elements.{Refuses, Finds, IsBoolean, IsInt, IsLong, IsBytes, IsString, IsIndex, IsFixed}
-use Rattle.avro_binary.specs.declared.error.ReadError.{ReadError}
-use Rattle.avro_binary.proofs.ElementLaws.{is_text-from_string}
-use Rattle.avro_binary.proofs.public.Ranges.{is_count-from_below, bytes-below}
+use Rattle.avro_cursor.specs.Elements.{Refuses, Finds, IsBoolean, IsInt, IsLong, IsBytes, IsString, IsIndex, IsFixed}
+use Rattle.avro_cursor.specs.declared.error.ReadError.{ReadError}
+use Rattle.avro_cursor.proofs.public.ElementLaws.{is_text-from_string}
+use Rattle.avro_cursor.proofs.public.Ranges.{is_count-from_below, bytes-below}
 
 pub are_bytes-from_ranges : (xs : List ℕ) → length xs < 2 ^ 63 → ((i : ℕ) → get_or xs i 0 < 2 ^ 8) → are_bytes xs ≡ true
 are_bytes-from_ranges xs small h = rw (is_count-from_below (length xs) small, bytes-below xs h) refl

@@ -16,11 +16,11 @@ use Rattle.avro_schema.specs.WellFormed.{is_schema}
 use Rattle.avro_schema.proofs.public.FitsParts.{is_count-below}
 use Rattle.avro_schema.proofs.public.FitsKind.{FitsKind, FitsKind-from_fits, boolean_value, int_value, long_value}
 use Rattle.avro_schema.proofs.public.Parts.{size-positive, depth-positive}
-use Rattle.avro_binary.specs.Encoding.{Spells, EachSpelled, Encodes}
-use Rattle.avro_binary.specs.Fault.{ReadFault, limit_exceeded}
-use Rattle.avro_binary.specs.Breaks.{ChildBreaks, BooleanBreaks, FixedBreaks, IndexBreaks, BranchBreaks, FieldsBreak, ItemsAreWhole, EntriesAreWhole, EntryBreaks, NodeBreaks, BreaksWithin, Breaks}
+use Rattle.avro_cursor.specs.Encoding.{Spells, EachSpelled, Encodes}
+use Rattle.avro_cursor.specs.Fault.{ReadFault, limit_exceeded}
+use Rattle.avro_cursor.specs.Breaks.{ChildBreaks, BooleanBreaks, FixedBreaks, IndexBreaks, BranchBreaks, FieldsBreak, ItemsAreWhole, EntriesAreWhole, EntryBreaks, NodeBreaks, BreaksWithin, Breaks}
 use Rattle.avro_binary.proofs.Front.{told}
-use Rattle.avro_binary.proofs.Fronts.{same_behind, same_from_pos}
+use Rattle.avro_cursor.proofs.public.Fronts.{same_behind, same_from_pos}
 use Rattle.avro_binary.proofs.KindOf.{bytes_value, string_value, array_value, map_value, union_value, record_value, enum_value, fixed_value}
 use Rattle.avro_schema.proofs.public.Choices.{HasFewChoices, HasFewChoices-from_is_schema}
 use Rattle.avro_binary.proofs.NoFrontBlocks.{behind_limit, blocks_none}

@@ -1,11 +1,11 @@
 -- Blocks that break begin with no blocks of any items.
 use Rattle.std.proofs.Common.{◌≡◌, ℕ, ◌+◌, ◌<◌, ◌≤◌, List, [], ◌∷◌, ◌++◌, length, refl, sym, ap, ◌∙◌, subst, append_assoc, append-nil, length-append, arith}
 use Rattle.std.specs.List.{concat}
-use Rattle.avro_binary.specs.Blocks.{IsInBlocks}
-use Rattle.avro_binary.specs.Fault.{ReadFault, invalid_length, limit_exceeded, behind}
-use Rattle.avro_binary.specs.Breaks.{Left, Head, head_bytes, HeadBreaks, BlocksBreak}
+use Rattle.avro_cursor.specs.Blocks.{IsInBlocks}
+use Rattle.avro_cursor.specs.Fault.{ReadFault, invalid_length, limit_exceeded, behind}
+use Rattle.avro_cursor.specs.Breaks.{Left, Head, head_bytes, HeadBreaks, BlocksBreak}
 use Rattle.avro_binary.proofs.BlockViews.{first_head, head-among, first_block}
-use Rattle.avro_binary.proofs.HeadLaws.{head_part}
+use Rattle.avro_cursor.proofs.public.HeadLaws.{head_part}
 
 -- a limit after bytes is a limit
 pub behind_limit : (f fault : ReadFault) (n : ℕ) (W : Type 0) → f ≡ behind n fault → (f ≡ limit_exceeded → W) → fault ≡ limit_exceeded → W

@@ -10,10 +10,10 @@ use Rattle.avro_schema.specs.Fits.{fits, each_fits, entries_fit, is_count, is_te
 use Rattle.avro_schema.specs.Distinct.{are_distinct}
 use Rattle.avro_schema.proofs.public.FitsParts.{is_count-below}
 use Rattle.avro_schema.proofs.public.Parts.{size-positive}
-use Rattle.avro_binary.specs.Encoding.{SpellsBytes, Spells, EachSpelled, EntriesSpelled}
-use Rattle.avro_binary.specs.Fault.{ReadFault, limit_exceeded}
-use Rattle.avro_binary.specs.Breaks.{Left, ItemsAreWhole, EntriesAreWhole, KeyBreaks, EntryBreaks, ChildBreaks}
-use Rattle.avro_binary.proofs.Fronts.{same_behind}
+use Rattle.avro_cursor.specs.Encoding.{SpellsBytes, Spells, EachSpelled, EntriesSpelled}
+use Rattle.avro_cursor.specs.Fault.{ReadFault, limit_exceeded}
+use Rattle.avro_cursor.specs.Breaks.{Left, ItemsAreWhole, EntriesAreWhole, KeyBreaks, EntryBreaks, ChildBreaks}
+use Rattle.avro_cursor.proofs.public.Fronts.{same_behind}
 use Rattle.avro_binary.proofs.Front.{told, same_bytes, same_entry}
 use Rattle.avro_binary.proofs.NoFrontBlocks.{IsCut, ItemsFollow, behind_limit}
 use Rattle.avro_binary.proofs.NoFrontParts.{content_none, not_before}

@@ -11,11 +11,11 @@ use Rattle.avro_zigzag.proofs.public.Faults.{long-excludes_fault}
 use Rattle.avro_zigzag.proofs.public.Spelling.{one_spelling_lem}
 use Rattle.avro_schema.specs.Fits.{is_int}
 use Rattle.avro_schema.specs.Distinct.{are_distinct}
-use Rattle.avro_binary.specs.Encoding.{SpellsBytes}
-use Rattle.avro_binary.specs.Fault.{ReadFault, limit_exceeded}
-use Rattle.avro_binary.specs.Breaks.{ContentBreaks, StartsWithLong, IndexBreaks}
-use Rattle.avro_binary.proofs.Fronts.{same_behind, same_from_pos}
-use Rattle.avro_binary.proofs.ElementLaws.{long_count, index_part}
+use Rattle.avro_cursor.specs.Encoding.{SpellsBytes}
+use Rattle.avro_cursor.specs.Fault.{ReadFault, limit_exceeded}
+use Rattle.avro_cursor.specs.Breaks.{ContentBreaks, StartsWithLong, IndexBreaks}
+use Rattle.avro_cursor.proofs.public.Fronts.{same_behind, same_from_pos}
+use Rattle.avro_cursor.proofs.public.ElementLaws.{long_count, index_part}
 
 -- ---- A length and its content
 

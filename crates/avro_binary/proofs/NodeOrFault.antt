@@ -6,13 +6,13 @@ use Rattle.std.specs.Option.{IfSome}
 use Rattle.avro_name.specs.Name.{Name}
 use Rattle.avro_schema.specs.Value.{Value}
 use Rattle.avro_schema.specs.Node.{Node, FieldNode, node_at, field_ids}
-use Rattle.avro_binary.specs.Fault.{ReadFault, end_of_input, invalid_number, invalid_boolean, invalid_text, unknown_index, invalid_length, wrong_block_size, duplicate_key, limit_exceeded, behind}
-use Rattle.avro_binary.specs.Breaks.{BreaksWithin, NodeBreaks, BooleanBreaks, IntBreaks, LongBreaks, BytesBreaks, StringBreaks, IndexBreaks, FixedBreaks}
-use Rattle.avro_binary.specs.Seen.{read_fault}
-use Rattle.avro_binary.specs.CursorValue.{CursorValue, Passes}
+use Rattle.avro_cursor.specs.Fault.{ReadFault, end_of_input, invalid_number, invalid_boolean, invalid_text, unknown_index, invalid_length, wrong_block_size, duplicate_key, limit_exceeded, behind}
+use Rattle.avro_cursor.specs.Breaks.{BreaksWithin, NodeBreaks, BooleanBreaks, IntBreaks, LongBreaks, BytesBreaks, StringBreaks, IndexBreaks, FixedBreaks}
+use Rattle.avro_cursor.specs.Seen.{read_fault}
+use Rattle.avro_cursor.specs.CursorValue.{CursorValue, Passes}
 use Rattle.avro_binary.specs.CursorReads.{Moves, FindsValue, ReportsFault, ReadsNode, outside, left_node, limits_at, child_breaks}
-use Rattle.avro_binary.specs.Elements.{Refuses, Finds, IsBoolean, IsInt, IsLong, IsBytes, IsString, IsFixed, IsIndex}
-use Rattle.avro_binary.specs.declared.error.ReadError.{ReadError}
+use Rattle.avro_cursor.specs.Elements.{Refuses, Finds, IsBoolean, IsInt, IsLong, IsBytes, IsString, IsFixed, IsIndex}
+use Rattle.avro_cursor.specs.declared.error.ReadError.{ReadError}
 use Rattle.avro_binary.proofs.PartOrFault.{AreBytes, front_are, rest_are, each_below, PartOrFault, int_or_fault, long_or_fault, boolean_or_fault, fixed_or_fault, content_or_fault, index_or_fault}
 use Rattle.avro_binary.proofs.LeafReads.{leaf_refused, boolean_found, int_found, long_found, bytes_found, string_found, symbol_found, fixed_found, null_found}
 use Rattle.avro_binary.proofs.NodeSteps.{branch_unread, branch_refused, union_found, FieldsDone, fields_none, fields_push, field_breaks, record_found, record_refused}

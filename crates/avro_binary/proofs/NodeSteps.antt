@@ -5,7 +5,7 @@ use Rattle.std.specs.List.{concat}
 use Rattle.std.proofs.lemmas.List.Folds.{concat-append}
 use Rattle.avro_name.specs.Name.{Name}
 use Rattle.avro_zigzag.specs.Number.{SpellsInt, SpellsLong}
-use Rattle.avro_binary.specs.Encoding.{Encodes}
+use Rattle.avro_cursor.specs.Encoding.{Encodes}
 use Rattle.avro_schema.specs.Value.{Value, size, depth, longest_blob, values_size, values_depth, values_longest_blob, values_count, entries_count, keys_of}
 use Rattle.avro_schema.specs.Node.{Node, FieldNode, node_at, field_ids}
 use Rattle.avro_schema.specs.Fits.{fields_fit, is_count}
@@ -14,19 +14,19 @@ use Rattle.avro_schema.specs.declared.schema.Field.{Field}
 use Rattle.avro_schema.specs.declared.schema.NodeId.{NodeId}
 use Rattle.std.specs.declared.alloc.Global.{Global}
 use Rattle.avro_schema.specs.Distinct.{are_distinct}
-use Rattle.avro_binary.specs.Blocks.{IsInBlocks, no_more}
-use Rattle.avro_binary.specs.Encoding.{EachSpelled}
-use Rattle.avro_binary.specs.Fault.{limit_exceeded}
-use Rattle.avro_binary.specs.Breaks.{BreaksWithin, NodeBreaks, FieldsBreak, IndexBreaks}
-use Rattle.avro_binary.specs.Seen.{read_fault}
-use Rattle.avro_binary.specs.CursorValue.{CursorValue, Enters}
-use Rattle.avro_binary.specs.Elements.{Refuses, Finds, IsIndex}
+use Rattle.avro_cursor.specs.Blocks.{IsInBlocks, no_more}
+use Rattle.avro_cursor.specs.Encoding.{EachSpelled}
+use Rattle.avro_cursor.specs.Fault.{limit_exceeded}
+use Rattle.avro_cursor.specs.Breaks.{BreaksWithin, NodeBreaks, FieldsBreak, IndexBreaks}
+use Rattle.avro_cursor.specs.Seen.{read_fault}
+use Rattle.avro_cursor.specs.CursorValue.{CursorValue, Enters}
+use Rattle.avro_cursor.specs.Elements.{Refuses, Finds, IsIndex}
 use Rattle.avro_binary.specs.CursorReads.{Moves, FindsValue, ReportsFault, ReadsNode, outside, left_node, left_at, limits_at, child_breaks}
-use Rattle.avro_binary.specs.declared.error.ReadError.{ReadError}
+use Rattle.avro_cursor.specs.declared.error.ReadError.{ReadError}
 use Rattle.avro_binary.proofs.RunLaws.{Kind, values_kind, entries_kind, values_count-from, entries_count-from, values_size-append, values_depth-append, values_blob-append, EachSpelled-append, fields_fit-push}
 use Rattle.avro_binary.proofs.RunSteps.{moves-none, moves-passed, moves-join, moves-same, report_moved, breaks_within-same}
 use Rattle.avro_binary.proofs.BlockSteps.{BlocksDone, EndRead}
-use Rattle.avro_binary.proofs.public.Ranges.{is_count-from_below}
+use Rattle.avro_cursor.proofs.public.Ranges.{is_count-from_below}
 
 -- ---- Entering and leaving
 

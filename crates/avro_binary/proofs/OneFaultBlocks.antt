@@ -2,11 +2,11 @@
 use Rattle.std.proofs.Common.{◌≡◌, ◌⊎◌, inl, inr, ℕ, ◌<◌, List, ◌++◌, length, Some, refl, sym, ap, ◌∙◌, subst, append_assoc, arith}
 use Rattle.std.proofs.lemmas.Bool.{cases_lt}
 use Rattle.std.proofs.lemmas.List.{append_cancel_left}
-use Rattle.avro_binary.specs.Fault.{ReadFault, wrong_block_size, behind}
-use Rattle.avro_binary.specs.Breaks.{Left, BreaksAfter, Head, counted, sized, head_count, head_bytes, IsHead, HasSize, HeadBreaks, BlocksBreak}
-use Rattle.avro_binary.proofs.Fronts.{same_behind}
-use Rattle.avro_binary.proofs.HeadLaws.{head_part}
-use Rattle.avro_binary.proofs.public.Behind.{same_moved}
+use Rattle.avro_cursor.specs.Fault.{ReadFault, wrong_block_size, behind}
+use Rattle.avro_cursor.specs.Breaks.{Left, BreaksAfter, Head, counted, sized, head_count, head_bytes, IsHead, HasSize, HeadBreaks, BlocksBreak}
+use Rattle.avro_cursor.proofs.public.Fronts.{same_behind}
+use Rattle.avro_cursor.proofs.public.HeadLaws.{head_part}
+use Rattle.avro_cursor.proofs.public.Behind.{same_moved}
 
 -- whole items and one that breaks tell each other
 pub record ItemsOne (are_whole : Left → ℕ → List ℕ → Left → Type 0) (item_breaks : Left → List ℕ → ReadFault → Type 0) : Type 0 where

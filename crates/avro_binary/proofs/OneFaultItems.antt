@@ -5,18 +5,18 @@ use Rattle.std.specs.List.{concat, list_any}
 use Rattle.avro_schema.specs.Value.{Values, Entries, values_size, entries_size, keys_of}
 use Rattle.avro_schema.specs.Node.{Node}
 use Rattle.avro_schema.specs.Fits.{is_text, LimitValues}
-use Rattle.avro_binary.specs.Encoding.{SpellsBytes, EachSpelled, EntriesSpelled}
-use Rattle.avro_binary.specs.Fault.{ReadFault}
-use Rattle.avro_binary.specs.Breaks.{Left, ItemsAreWhole, EntriesAreWhole, KeyBreaks, EntryBreaks, ChildBreaks}
+use Rattle.avro_cursor.specs.Encoding.{SpellsBytes, EachSpelled, EntriesSpelled}
+use Rattle.avro_cursor.specs.Fault.{ReadFault}
+use Rattle.avro_cursor.specs.Breaks.{Left, ItemsAreWhole, EntriesAreWhole, KeyBreaks, EntryBreaks, ChildBreaks}
 use Rattle.avro_binary.proofs.Front.{same_bytes, IsItem, IsEntryItem, each_told, entries_told, items_are, items_alone, items_same, entries_are, entries_alone, entries_same}
 use Rattle.avro_binary.proofs.FrontBlocks.{same_run}
-use Rattle.avro_binary.proofs.Fronts.{same_behind}
+use Rattle.avro_cursor.proofs.public.Fronts.{same_behind}
 use Rattle.avro_binary.proofs.NoFrontBlocks.{ItemsFollow, none_after}
 use Rattle.avro_binary.proofs.NoFrontItems.{NoneAt, ValuesFollow, values_follow, EntriesFollow, entries_follow, spelled_count, entries_spelled_count}
 use Rattle.avro_binary.proofs.OneFaultBlocks.{ItemsOne}
-use Rattle.avro_binary.proofs.public.Behind.{same_moved}
-use Rattle.avro_binary.proofs.ElementLaws.{string_is}
-use Rattle.avro_binary.proofs.KeySteps.{key_part}
+use Rattle.avro_cursor.proofs.public.Behind.{same_moved}
+use Rattle.avro_cursor.proofs.public.ElementLaws.{string_is}
+use Rattle.avro_cursor.proofs.public.KeySteps.{key_part}
 
 -- bytes that break as a node, where `left` nodes are left, have one fault
 abbrev pub OneAt : (ℕ → List ℕ → ReadFault → Type 0) → Type 0

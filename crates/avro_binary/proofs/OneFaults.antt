@@ -7,18 +7,18 @@ use Rattle.avro_schema.specs.Value.{Values, values_size}
 use Rattle.avro_schema.specs.Node.{Node, node_at, field_ids}
 use Rattle.avro_schema.specs.Fits.{fields_fit, LimitValues}
 use Rattle.avro_schema.specs.WellFormed.{is_schema}
-use Rattle.avro_binary.specs.Fault.{ReadFault}
-use Rattle.avro_binary.specs.Breaks.{ChildBreaks, IndexBreaks, BranchBreaks, FieldsBreak, ItemsAreWhole, EntriesAreWhole, EntryBreaks, NodeBreaks, BreaksWithin, Breaks}
+use Rattle.avro_cursor.specs.Fault.{ReadFault}
+use Rattle.avro_cursor.specs.Breaks.{ChildBreaks, IndexBreaks, BranchBreaks, FieldsBreak, ItemsAreWhole, EntriesAreWhole, EntryBreaks, NodeBreaks, BreaksWithin, Breaks}
 use Rattle.avro_schema.proofs.public.Choices.{HasFewChoices, HasFewChoices-from_is_schema}
 use Rattle.avro_binary.proofs.Front.{fields_same, fields_told}
-use Rattle.avro_binary.proofs.Fronts.{same_front, same_behind, same_from_pos}
+use Rattle.avro_cursor.proofs.public.Fronts.{same_front, same_behind, same_from_pos}
 use Rattle.avro_binary.proofs.NoFront.{none_within, fields_none}
 use Rattle.avro_binary.proofs.NoFrontItems.{NoneAt}
 use Rattle.avro_binary.proofs.NoFrontParts.{index_none}
 use Rattle.avro_binary.proofs.OneFaultBlocks.{compared, blocks_one}
 use Rattle.avro_binary.proofs.OneFaultItems.{OneAt, values_one, entries_one}
-use Rattle.avro_binary.proofs.public.Behind.{same_moved}
-use Rattle.avro_binary.proofs.ElementLaws.{int_part, long_part, boolean_part, fixed_part, content_part, index_part}
+use Rattle.avro_cursor.proofs.public.Behind.{same_moved}
+use Rattle.avro_cursor.proofs.public.ElementLaws.{int_part, long_part, boolean_part, fixed_part, content_part, index_part}
 
 -- ---- Lists that are one
 

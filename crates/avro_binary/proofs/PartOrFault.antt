@@ -10,12 +10,12 @@ use Rattle.avro_zigzag.specs.Number.{SpellsInt, SpellsLong}
 use Rattle.avro_zigzag.proofs.public.NumberOrFault.{long_stands_or_fails, int_stands_or_fails}
 use Rattle.avro_zigzag.proofs.public.Spelling.{is_long-zigzag}
 use Rattle.avro_schema.specs.Fits.{is_int, is_long}
-use Rattle.avro_binary.specs.Fault.{ReadFault, end_of_input, invalid_boolean, invalid_text, unknown_index, invalid_length, duplicate_key, limit_exceeded, behind}
-use Rattle.avro_binary.specs.Breaks.{number_fault, IntBreaks, LongBreaks, BooleanBreaks, FixedBreaks, StartsWithLong, ContentBreaks, length_breaks, negative, too_long, cut, invalid, IndexBreaks, number_breaks, unknown, KeyBreaks, string_breaks, twice, counted, sized, HeadBreaks, count_fails, count_over, size_fails, size_negative}
-use Rattle.avro_binary.specs.BlockHeads.{IsHeadOrEnd}
-use Rattle.avro_binary.specs.Elements.{IsBoolean, IsInt, IsLong, IsContent, IsString, IsFixed, IsIndex, IsKey}
-use Rattle.avro_binary.proofs.ElementLaws.{is_text-from_string}
-use Rattle.avro_binary.proofs.HeadLaws.{long-below, least_count}
+use Rattle.avro_cursor.specs.Fault.{ReadFault, end_of_input, invalid_boolean, invalid_text, unknown_index, invalid_length, duplicate_key, limit_exceeded, behind}
+use Rattle.avro_cursor.specs.Breaks.{number_fault, IntBreaks, LongBreaks, BooleanBreaks, FixedBreaks, StartsWithLong, ContentBreaks, length_breaks, negative, too_long, cut, invalid, IndexBreaks, number_breaks, unknown, KeyBreaks, string_breaks, twice, counted, sized, HeadBreaks, count_fails, count_over, size_fails, size_negative}
+use Rattle.avro_cursor.specs.BlockHeads.{IsHeadOrEnd}
+use Rattle.avro_cursor.specs.Elements.{IsBoolean, IsInt, IsLong, IsContent, IsString, IsFixed, IsIndex, IsKey}
+use Rattle.avro_cursor.proofs.public.ElementLaws.{is_text-from_string}
+use Rattle.avro_cursor.proofs.public.HeadLaws.{long-below, least_count}
 
 -- each is a byte
 abbrev pub AreBytes : List ℕ → Type 0

@@ -7,14 +7,14 @@ use Rattle.std.proofs.lemmas.List.Folds.{concat-append}
 use Rattle.std.proofs.Math.Seq.{take-append_seam, drop-append_seam}
 use Rattle.avro_schema.specs.Value.{Value}
 use Rattle.avro_schema.specs.Seen.{values_from}
-use Rattle.avro_binary.specs.Encoding.{Spells, EachSpelled}
+use Rattle.avro_cursor.specs.Encoding.{Spells, EachSpelled}
 use Rattle.avro_binary.specs.Pieces.{piece, ArePieces}
 use Rattle.avro_name.specs.Name.{Name}
 use Rattle.avro_schema.specs.Node.{Node, FieldNode, node_at, field_ids}
-use Rattle.avro_binary.specs.CursorValue.{CursorValue, Enters}
+use Rattle.avro_cursor.specs.CursorValue.{CursorValue, Enters}
 use Rattle.avro_binary.specs.CursorReads.{FindsValue, ReadsNode, outside, left_node}
 use Rattle.avro_binary.specs.inside.PassesAtOnce.{PassesAtOnce}
-use Rattle.avro_binary.specs.declared.error.ReadError.{ReadError}
+use Rattle.avro_cursor.specs.declared.error.ReadError.{ReadError}
 use Rattle.avro_binary.proofs.NodeSteps.{FieldsDone, fields_none, fields_push, record_found, entered-from, left-from}
 
 -- where some encodings begin, one after another, and where the last ends

@@ -13,8 +13,8 @@ use Rattle.avro_schema.specs.Node.{Node, node_at, symbols_of, field_ids}
 use Rattle.avro_schema.specs.Fits.{fits, each_fits, entries_fit, fields_fit, is_int, is_long, is_count, are_bytes, is_text, is_some_and, is_int_node, is_long_node, is_bytes_node, is_string_node}
 use Rattle.avro_schema.specs.WellFormed.{is_schema}
 use Rattle.avro_schema.proofs.public.FitsParts.{is_count-below, ArrayFits-from_fits, MapFits-from_fits, UnionFits-from_fits, RecordFits-from_fits}
-use Rattle.avro_binary.specs.Blocks.{IsInBlocks, no_more, counted}
-use Rattle.avro_binary.specs.Encoding.{SpellsBytes, Spells, EachSpelled, EntriesSpelled, Encodes, plain_bytes, plain_blocks, plain, plain_values, plain_entries}
+use Rattle.avro_cursor.specs.Blocks.{IsInBlocks, no_more, counted}
+use Rattle.avro_cursor.specs.Encoding.{SpellsBytes, Spells, EachSpelled, EntriesSpelled, Encodes, plain_bytes, plain_blocks, plain, plain_values, plain_entries}
 use Rattle.avro_schema.proofs.public.Choices.{HasFewChoices, HasFewChoices-from_is_schema}
 use Rattle.avro_binary.proofs.NoFrontParts.{pos-int, below-from_test}
 

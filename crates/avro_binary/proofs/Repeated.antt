@@ -11,14 +11,14 @@ use Rattle.avro_schema.specs.Node.{Node, node_at}
 use Rattle.avro_schema.specs.Fits.{fits, each_fits, LimitValues}
 use Rattle.avro_schema.specs.WellFormed.{is_schema}
 use Rattle.avro_schema.specs.Seen.{values_from}
-use Rattle.avro_binary.specs.Encoding.{Encodes, Spells, EachSpelled}
-use Rattle.avro_binary.specs.Fault.{ReadFault, end_of_input, invalid_number, invalid_boolean, invalid_text, unknown_index, invalid_length, wrong_block_size, duplicate_key, limit_exceeded}
-use Rattle.avro_binary.specs.Breaks.{Left, Breaks}
-use Rattle.avro_binary.specs.Seen.{read_fault}
-use Rattle.avro_binary.specs.CursorValue.{CursorValue}
-use Rattle.avro_binary.specs.inside.CountsAgain.{CountsAgain}
+use Rattle.avro_cursor.specs.Encoding.{Encodes, Spells, EachSpelled}
+use Rattle.avro_cursor.specs.Fault.{ReadFault, end_of_input, invalid_number, invalid_boolean, invalid_text, unknown_index, invalid_length, wrong_block_size, duplicate_key, limit_exceeded}
+use Rattle.avro_cursor.specs.Breaks.{Left, Breaks}
+use Rattle.avro_cursor.specs.Seen.{read_fault}
+use Rattle.avro_cursor.specs.CursorValue.{CursorValue}
+use Rattle.avro_cursor.specs.CountsAgain.{CountsAgain}
 use Rattle.avro_binary.specs.CursorReads.{FindsValue, FindsRun, RunBreaks, ReadsRun, ValuesRun, left_at, value_breaks}
-use Rattle.avro_binary.specs.declared.error.ReadError.{ReadError}
+use Rattle.avro_cursor.specs.declared.error.ReadError.{ReadError}
 use Rattle.avro_binary.proofs.EncodingOrFault.{encoding_or_fault_lem}
 use Rattle.avro_binary.proofs.Front.{one_front}
 use Rattle.avro_binary.proofs.NoFront.{no_front_of_fault, within-small}

@@ -10,8 +10,8 @@ use Rattle.avro_schema.specs.Distinct.{are_distinct}
 use Rattle.avro_schema.specs.Fits.{fits, LimitValues}
 use Rattle.avro_zigzag.specs.Number.{SpellsLong}
 use Rattle.avro_schema.proofs.public.RowsSchemas.{simply, one_value, two_values, array_of_long, array_of_null, map_of_int, long_or_int, long_and_string, three_symbols, record_of_itself}
-use Rattle.avro_binary.specs.Fault.{ReadFault, end_of_input, invalid_number, invalid_boolean, invalid_text, unknown_index, invalid_length, wrong_block_size, duplicate_key, limit_exceeded}
-use Rattle.avro_binary.specs.Breaks.{Left, ItemsAreWhole, EntriesAreWhole, Breaks, BreaksWithin, length_breaks, negative, too_long, cut, invalid, unknown, twice, string_breaks, key_breaks, value_breaks, counted, sized, count_fails, count_least, count_over, size_fails, size_negative, head_breaks, item_fails, size_differs, later_breaks}
+use Rattle.avro_cursor.specs.Fault.{ReadFault, end_of_input, invalid_number, invalid_boolean, invalid_text, unknown_index, invalid_length, wrong_block_size, duplicate_key, limit_exceeded}
+use Rattle.avro_cursor.specs.Breaks.{Left, ItemsAreWhole, EntriesAreWhole, Breaks, BreaksWithin, length_breaks, negative, too_long, cut, invalid, unknown, twice, string_breaks, key_breaks, value_breaks, counted, sized, count_fails, count_least, count_over, size_fails, size_negative, head_breaks, item_fails, size_differs, later_breaks}
 use Rattle.avro_binary.proofs.RunLaws.{values_run, entries_run}
 use Rattle.avro_binary.proofs.RowsNumbers.{spells, starts_with}
 

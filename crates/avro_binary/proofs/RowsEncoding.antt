@@ -5,8 +5,8 @@ use lib.Utf8.{encode}
 use Rattle.avro_schema.specs.Value.{Value, no_values, value, no_entries, entry}
 use Rattle.avro_schema.specs.Node.{root_of}
 use Rattle.avro_schema.proofs.public.RowsSchemas.{one_value, two_values, array_of_long, map_of_int, long_or_int, long_and_string}
-use Rattle.avro_binary.specs.Blocks.{IsInBlocks, no_more, counted, sized}
-use Rattle.avro_binary.specs.Encoding.{Encodes, plain}
+use Rattle.avro_cursor.specs.Blocks.{IsInBlocks, no_more, counted, sized}
+use Rattle.avro_cursor.specs.Encoding.{Encodes, plain}
 use Rattle.avro_binary.proofs.RowsNumbers.{spells}
 
 -- some data

@@ -2,7 +2,7 @@
 use Rattle.std.proofs.Common.{◌≡◌, refl, ℕ, ℤ, Bool, true, ◌&&◌, List, ◌++◌, length, ◌==◌, nat_le}
 use Rattle.std.proofs.lemmas.Bool.{and_parts, eqb-true, leb-true}
 use Rattle.avro_zigzag.specs.Number.{zigzag, are_groups, groups_value, AreGroups, is_long}
-use Rattle.avro_binary.specs.Breaks.{StartsWithLong}
+use Rattle.avro_cursor.specs.Breaks.{StartsWithLong}
 
 -- the bytes are groups of the number's zig-zag number, and not too many
 abbrev pub is_spelling : ℕ → ℤ → List ℕ → Bool

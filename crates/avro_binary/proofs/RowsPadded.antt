@@ -8,10 +8,10 @@ use Rattle.avro_schema.specs.Value.{Value, no_entries, entry}
 use Rattle.avro_schema.specs.Node.{root_of}
 use Rattle.avro_schema.specs.Fits.{LimitValues}
 use Rattle.avro_schema.proofs.public.RowsSchemas.{two_values, array_of_long, map_of_int, long_or_int, three_symbols}
-use Rattle.avro_binary.specs.Blocks.{IsInBlocks, no_more, counted, sized}
-use Rattle.avro_binary.specs.Encoding.{Encodes}
-use Rattle.avro_binary.specs.Fault.{invalid_number, wrong_block_size}
-use Rattle.avro_binary.specs.Breaks.{Breaks, number_breaks, size_differs}
+use Rattle.avro_cursor.specs.Blocks.{IsInBlocks, no_more, counted, sized}
+use Rattle.avro_cursor.specs.Encoding.{Encodes}
+use Rattle.avro_cursor.specs.Fault.{invalid_number, wrong_block_size}
+use Rattle.avro_cursor.specs.Breaks.{Breaks, number_breaks, size_differs}
 use Rattle.avro_binary.proofs.RowsNumbers.{spells}
 
 -- limits of common use

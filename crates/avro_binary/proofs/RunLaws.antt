@@ -10,9 +10,9 @@ use Rattle.avro_schema.specs.Fits.{fits, each_fits, entries_fit, fields_fit, is_
 use Rattle.avro_schema.specs.Seen.{values_from, entries_from}
 use Rattle.avro_schema.specs.Distinct.{are_distinct}
 use Rattle.avro_schema.proofs.public.Parts.{size-positive}
-use Rattle.avro_binary.specs.Encoding.{EachSpelled, EntriesSpelled}
-use Rattle.avro_binary.specs.Fault.{ReadFault}
-use Rattle.avro_binary.specs.Breaks.{Left, ItemsAreWhole, EntriesAreWhole}
+use Rattle.avro_cursor.specs.Encoding.{EachSpelled, EntriesSpelled}
+use Rattle.avro_cursor.specs.Fault.{ReadFault}
+use Rattle.avro_cursor.specs.Breaks.{Left, ItemsAreWhole, EntriesAreWhole}
 use Rattle.avro_binary.specs.CursorReads.{ValuesRun, EntriesRun, value_breaks, entry_breaks}
 
 -- ---- Values

@@ -8,15 +8,15 @@ use Rattle.avro_schema.specs.Value.{Value}
 use Rattle.avro_schema.specs.Node.{Node}
 use Rattle.avro_schema.specs.Fits.{LimitValues}
 use Rattle.avro_schema.specs.Distinct.{are_distinct}
-use Rattle.avro_binary.specs.Fault.{ReadFault, behind}
-use Rattle.avro_binary.specs.Breaks.{BreaksWithin, KeyBreaks, key_breaks, value_breaks as value_of_entry_breaks}
-use Rattle.avro_binary.specs.Seen.{read_fault}
-use Rattle.avro_binary.specs.CursorValue.{CursorValue, Passes}
-use Rattle.avro_binary.specs.Elements.{IsKey}
+use Rattle.avro_cursor.specs.Fault.{ReadFault, behind}
+use Rattle.avro_cursor.specs.Breaks.{BreaksWithin, KeyBreaks, key_breaks, value_breaks as value_of_entry_breaks}
+use Rattle.avro_cursor.specs.Seen.{read_fault}
+use Rattle.avro_cursor.specs.CursorValue.{CursorValue, Passes}
+use Rattle.avro_cursor.specs.Elements.{IsKey}
 use Rattle.avro_binary.specs.CursorReads.{Moves, FindsValue, ReportsFault, left_at, ValuesRun, EntriesRun, value_breaks, entry_breaks, FindsRun, RunBreaks}
-use Rattle.avro_binary.specs.declared.error.ReadError.{ReadError}
-use Rattle.avro_binary.proofs.ElementLaws.{is_text-from_string}
-use Rattle.avro_binary.proofs.public.Behind.{behind-add}
+use Rattle.avro_cursor.specs.declared.error.ReadError.{ReadError}
+use Rattle.avro_cursor.proofs.public.ElementLaws.{is_text-from_string}
+use Rattle.avro_cursor.proofs.public.Behind.{behind-add}
 use Rattle.avro_binary.proofs.RunLaws.{Kind}
 use Rattle.avro_binary.proofs.public.Distinct.{distinct-push}
 

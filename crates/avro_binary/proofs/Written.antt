@@ -11,7 +11,7 @@ use Rattle.avro_schema.specs.declared.datum.Datum.TheOpen.{Datum-F}
 use Rattle.avro_schema.specs.declared.datum.Datum.TheViews as view
 use Rattle.avro_schema.specs.declared.datum.Datum.TheVariants as variants
 use Rattle.avro_schema.specs.declared.datum.Datum.TheFolds.{fold-roll-Datum}
-use Rattle.avro_binary.specs.Encoding.{plain, plain_values, plain_entries}
+use Rattle.avro_cursor.specs.Encoding.{plain, plain_values, plain_entries}
 use Rattle.avro_binary.proofs.public.Blocks.{block-written}
 
 values_count-length : (ds : List Datum) → length ds ≡ values_count (values_of ds)

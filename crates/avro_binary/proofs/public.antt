@@ -1,6 +1,4 @@
-pub mod Behind
 pub mod Blocks
 pub mod Distinct
 pub mod EmptyData
-pub mod Ranges
 pub mod Zipped

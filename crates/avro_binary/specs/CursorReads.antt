@@ -9,12 +9,12 @@ use Rattle.avro_schema.specs.Fits.{each_fits, entries_fit, is_text, LimitValues}
 use Rattle.avro_schema.specs.Distinct.{are_distinct}
 use Rattle.avro_schema.specs.Seen.{value_of, values_from, entries_from}
 use Rattle.avro_schema.specs.declared.datum.Datum.{Datum}
-use Rattle.avro_binary.specs.Encoding.{Encodes, EachSpelled, EntriesSpelled}
-use Rattle.avro_binary.specs.Fault.{ReadFault, behind}
-use Rattle.avro_binary.specs.Breaks.{BreaksWithin, BreaksAfter, ChildBreaks, EntryBreaks, Left}
-use Rattle.avro_binary.specs.Seen.{read_fault}
-use Rattle.avro_binary.specs.CursorValue.{CursorValue}
-use Rattle.avro_binary.specs.declared.error.ReadError.{ReadError}
+use Rattle.avro_cursor.specs.Encoding.{Encodes, EachSpelled, EntriesSpelled}
+use Rattle.avro_cursor.specs.Fault.{ReadFault, behind}
+use Rattle.avro_cursor.specs.Breaks.{BreaksWithin, BreaksAfter, ChildBreaks, EntryBreaks, Left}
+use Rattle.avro_cursor.specs.Seen.{read_fault}
+use Rattle.avro_cursor.specs.CursorValue.{CursorValue}
+use Rattle.avro_cursor.specs.declared.error.ReadError.{ReadError}
 
 -- The cursor has passed these bytes; nothing else of it has changed but the nodes left.
 pub record Moves (before : CursorValue) (front : List ℕ) (after : CursorValue) : Type 0 where

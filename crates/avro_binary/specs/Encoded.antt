@@ -3,7 +3,7 @@ use Rattle.std.specs.Prelude.{◌≡◌, true, false, ℕ, List, ◌++◌, Resul
 use Rattle.avro_schema.specs.Value.{Value}
 use Rattle.avro_schema.specs.Node.{Node}
 use Rattle.avro_schema.specs.Fits.{fits}
-use Rattle.avro_binary.specs.Encoding.{plain}
+use Rattle.avro_cursor.specs.Encoding.{plain}
 use Rattle.avro_binary.specs.declared.encode_error.EncodeError.{EncodeError}
 use Rattle.avro_binary.specs.declared.encode_error.EncodeError.TheVariants.{DoesNotFit, OutOfMemory}
 

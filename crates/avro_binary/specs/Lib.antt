@@ -1,15 +1,6 @@
-pub mod Blocks
-pub mod Encoding
 pub mod Encoded
-pub mod Fault
-pub mod Breaks
-pub mod Seen
 pub mod Making
 pub mod Pieces
 pub mod Reading
-pub mod KeySet
-pub mod CursorValue
-pub mod Elements
-pub mod BlockHeads
 pub mod CursorReads
 pub mod inside

@@ -1,7 +1,7 @@
 -- The encodings of a record's fields, one after another at the front of bytes.
 use Rattle.std.specs.Prelude.{◌≡◌, ◌-◌, ℕ, suc, List, Some, slice_get, slice_index, take, drop}
 use Rattle.avro_schema.specs.Value.{Value}
-use Rattle.avro_binary.specs.Encoding.{Spells}
+use Rattle.avro_cursor.specs.Encoding.{Spells}
 
 -- the bytes of a field by its index: from one end to the next
 abbrev pub piece : List ℕ → List ℕ → ℕ → List ℕ

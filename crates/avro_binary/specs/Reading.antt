@@ -7,11 +7,11 @@ use Rattle.avro_schema.specs.Node.{Node}
 use Rattle.avro_schema.specs.Fits.{LimitValues, is_within}
 use Rattle.avro_schema.specs.Seen.{value_of}
 use Rattle.avro_schema.specs.declared.datum.Datum.{Datum}
-use Rattle.avro_binary.specs.Encoding.{Encodes}
-use Rattle.avro_binary.specs.Fault.{ReadFault, limit_exceeded}
-use Rattle.avro_binary.specs.Breaks.{Breaks}
-use Rattle.avro_binary.specs.Seen.{read_fault, UnlessOutOfMemory, Reports}
-use Rattle.avro_binary.specs.declared.error.ReadError.{ReadError}
+use Rattle.avro_cursor.specs.Encoding.{Encodes}
+use Rattle.avro_cursor.specs.Fault.{ReadFault, limit_exceeded}
+use Rattle.avro_cursor.specs.Breaks.{Breaks}
+use Rattle.avro_cursor.specs.Seen.{read_fault, UnlessOutOfMemory, Reports}
+use Rattle.avro_cursor.specs.declared.error.ReadError.{ReadError}
 
 -- Bytes are read exactly, where `stands` says which datum an answer stands for: as the datum whose encoding within limits
 -- they begin with, and that encoding's length, or by their first fault.

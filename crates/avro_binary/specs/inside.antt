@@ -1,3 +1,2 @@
-pub mod CountsAgain
 pub mod PassesAtOnce
 pub mod PassesRun

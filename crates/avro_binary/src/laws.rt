@@ -6,9 +6,9 @@ ghost use Rattle.avro_schema.specs.Value.{Value};
 ghost use Rattle.avro_schema.specs.Node.{Node, node_at};
 ghost use Rattle.avro_schema.specs.Fits.{fits, LimitValues, is_within};
 ghost use Rattle.avro_schema.specs.WellFormed.{is_schema};
-ghost use Rattle.avro_binary.specs.Encoding.{Encodes, plain};
-ghost use Rattle.avro_binary.specs.Fault.{ReadFault, limit_exceeded};
-ghost use Rattle.avro_binary.specs.Breaks.{Breaks};
+ghost use Rattle.avro_cursor.specs.Encoding.{Encodes, plain};
+ghost use Rattle.avro_cursor.specs.Fault.{ReadFault, limit_exceeded};
+ghost use Rattle.avro_cursor.specs.Breaks.{Breaks};
 
 /// The plain encoding of a datum that fits a schema's node is an encoding of it.
 pub fn plain_encodes()

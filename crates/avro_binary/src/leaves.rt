@@ -1,12 +1,11 @@
-ghost use Rattle.std.specs.Prelude.{◌≡◌, ◌<◌, ◌^◌, ℕ, slice_index, List, Option, length};
+ghost use Rattle.std.specs.Prelude.{◌≡◌, ℕ, List, Option, length};
 ghost use Rattle.avro_name.specs.Name.{Name};
 ghost use Rattle.avro_schema.specs.Node.{Node as SeenNode};
 ghost use Rattle.avro_binary.specs.CursorReads.{ReadsNode};
 ghost use Rattle.avro_binary.specs.Making.{Made};
 
-use crate::cursor::Cursor;
-use crate::error::ReadError;
 use crate::make::Make;
+use avro_cursor::{Cursor, ReadError, drop_content};
 use std::alloc::{AllocError, Global};
 
 /// Reads null.
@@ -132,9 +131,3 @@ pub(crate) fn read_fixed<M: Make>(
     drop_content(content);
     Ok(maker.fixed(alloc, at, content)?)
 }
-
-/// Keeps nothing of the content: the type of its parameter says that each byte is below 256.
-#[inline(always)]
-pub(crate) fn drop_content(_content: &[u8])
-    ensures { (i : ℕ) → slice_index _content.now i < 2 ^ 8 }
-{}

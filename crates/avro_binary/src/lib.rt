@@ -10,12 +10,8 @@
 //! contents are copied once.
 #![tactic(auto)]
 
-mod block;
 mod build;
-mod cursor;
 mod encode_error;
-mod error;
-mod keys;
 pub mod laws;
 mod leaves;
 mod make;
@@ -27,12 +23,9 @@ mod tree;
 mod walking;
 mod write;
 
-pub use block::Block;
+pub use avro_cursor::{Block, Cursor, Keys, ReadError};
 pub use build::Build;
-pub use cursor::Cursor;
 pub use encode_error::EncodeError;
-pub use error::ReadError;
-pub use keys::Keys;
 pub use make::Make;
 pub use nothing::Nothing;
 pub use own::Own;

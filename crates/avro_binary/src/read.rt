@@ -5,12 +5,11 @@ ghost use Rattle.avro_binary.specs.Making.{Made};
 ghost use Rattle.avro_binary.specs.Reading.{BuildsExactly, ReadsExactly};
 
 use crate::build::Build;
-use crate::cursor::Cursor;
-use crate::error::ReadError;
 use crate::make::Make;
 use crate::own::Own;
 use crate::reading::read_at;
 use crate::tree::Tree;
+use avro_cursor::{Cursor, ReadError};
 use avro_schema::{Datum, Limits, NodeId, Schema};
 use std::alloc::Global;
 

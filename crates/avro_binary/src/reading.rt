@@ -13,8 +13,6 @@ mod maps;
 mod pieces;
 mod records;
 
-use crate::cursor::Cursor;
-use crate::error::ReadError;
 use crate::leaves::{
     read_boolean, read_bytes, read_fixed, read_int, read_long, read_null, read_symbol, read_text,
 };
@@ -22,6 +20,7 @@ use crate::make::Make;
 use crate::reading::fields::read_parts;
 use crate::reading::maps::read_map;
 use crate::reading::records::read_record;
+use avro_cursor::{Cursor, ReadError};
 use avro_schema::{Field, Node, NodeId, Schema};
 use std::alloc::Global;
 

@@ -3,10 +3,9 @@ ghost use Rattle.avro_schema.specs.Node.{node_at};
 ghost use Rattle.avro_schema.specs.SeenSchema.{schema_nodes};
 ghost use Rattle.avro_binary.specs.Reading.{WalksExactly};
 
-use crate::cursor::Cursor;
-use crate::error::ReadError;
 use crate::nothing::Nothing;
 use crate::reading::read_at;
+use avro_cursor::{Cursor, ReadError};
 use avro_schema::{Limits, NodeId, Schema};
 use std::alloc::Global;
 

@@ -8,7 +8,7 @@ ghost use Rattle.avro_schema.specs.SeenSchema.{schema_nodes};
 ghost use Rattle.avro_schema.specs.Value.{Value};
 ghost use Rattle.avro_zigzag.specs.Number.{number_bytes};
 ghost use Rattle.avro_binary.specs.Encoded.{IsEncoded};
-ghost use Rattle.avro_binary.specs.Encoding.{plain, plain_bytes, plain_values, plain_entries};
+ghost use Rattle.avro_cursor.specs.Encoding.{plain, plain_bytes, plain_values, plain_entries};
 
 use crate::encode_error::EncodeError;
 use avro_schema::{Datum, Memory, NodeId, Schema, fits};

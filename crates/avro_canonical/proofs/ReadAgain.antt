@@ -25,7 +25,7 @@ use Rattle.avro_canonical.proofs.LaidGood.{good_laid}
 use Rattle.avro_canonical.proofs.LaidNames.{laid_distinct}
 use Rattle.avro_canonical.proofs.Words.{by_word, none_apart}
 use Rattle.avro_schema.specs.Value.{Value}
-use Rattle.avro_binary.specs.Encoding.{Encodes}
+use Rattle.avro_cursor.specs.Encoding.{Encodes}
 use Rattle.avro_canonical.proofs.SameEncodings.{same_encodings}
 
 mutual

@@ -3,7 +3,7 @@ use Rattle.std.proofs.Common.{◌≡◌, ℕ, true, List, [], ◌++◌, ◌↔�
 use Rattle.avro_schema.specs.Value.{Value}
 use Rattle.avro_schema.specs.Node.{Node, root_of}
 use Rattle.avro_schema.specs.WellFormed.{is_schema}
-use Rattle.avro_binary.specs.Encoding.{Encodes}
+use Rattle.avro_cursor.specs.Encoding.{Encodes}
 use Rattle.avro_canonical.specs.Canonical.{IsForm, IsCanonical}
 use Rattle.avro_schema.proofs.public.GoodNodes.{good_at}
 use Rattle.avro_canonical.proofs.FormsWellMade.{well_made}

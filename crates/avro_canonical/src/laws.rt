@@ -4,7 +4,7 @@ ghost use Rattle.std.specs.Prelude.{◌≡◌, ◌≤◌, ◌↔◌, ℕ, true, 
 ghost use Rattle.avro_schema.specs.Node.{Node, root_of};
 ghost use Rattle.avro_schema.specs.Value.{Value};
 ghost use Rattle.avro_schema.specs.WellFormed.{is_schema, max_nodes};
-ghost use Rattle.avro_binary.specs.Encoding.{Encodes};
+ghost use Rattle.avro_cursor.specs.Encoding.{Encodes};
 ghost use Rattle.avro_canonical.specs.Canonical.{IsCanonical};
 ghost use Rattle.avro_canonical.specs.CanonicalTree.{form_tree, keeps_names, nodes_in};
 ghost use Rattle.avro_schema_json.specs.DeclaredSchema.{DeclaresSchema};

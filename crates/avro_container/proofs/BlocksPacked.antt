@@ -1,7 +1,7 @@
 -- A block whose data are packed.
 use Rattle.std.proofs.Common.{◌≡◌, ℕ, pos, ◌+◌, ◌<◌, ◌≤◌, List, ◌++◌, length, take, drop, refl, sym, ap, subst, ◌∙◌, arith, append_assoc, length-append}
 use Rattle.std.proofs.lemmas.List.{take-append-drop, take_at, drop_at}
-use Rattle.avro_binary.specs.Elements.{IsLong}
+use Rattle.avro_cursor.specs.Elements.{IsLong}
 use Rattle.avro_container.specs.BlockFails.{FileLimitValues, BlockFails, DataFail, max_blocks}
 use Rattle.avro_container.specs.BlockStands.{BlockStands}
 use Rattle.avro_container.specs.Copied.{Job}

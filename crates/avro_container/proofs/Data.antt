@@ -12,10 +12,10 @@ use Rattle.avro_schema.specs.Value.{Value, Values, no_values, value, values_coun
 use Rattle.avro_schema.specs.Node.{Node, root_of}
 use Rattle.avro_schema.specs.Seen.{values_from}
 use Rattle.avro_schema.specs.Fits.{LimitValues, fits, each_fits, is_within}
-use Rattle.avro_binary.specs.Encoding.{EachSpelled, Encodes, Spells, plain_values}
-use Rattle.avro_binary.specs.Fault.{ReadFault, behind}
-use Rattle.avro_binary.specs.Breaks.{Breaks}
-use Rattle.avro_binary.specs.Seen.{read_fault}
+use Rattle.avro_cursor.specs.Encoding.{EachSpelled, Encodes, Spells, plain_values}
+use Rattle.avro_cursor.specs.Fault.{ReadFault, behind}
+use Rattle.avro_cursor.specs.Breaks.{Breaks}
+use Rattle.avro_cursor.specs.Seen.{read_fault}
 use Rattle.avro_binary.proofs.public.Zipped.{zipped-push}
 use Rattle.avro_compare.specs.Resolve.{Resolved}
 use Rattle.avro_compare.specs.Seen.{fault_of}

@@ -4,7 +4,7 @@ use Rattle.std.proofs.lemmas.List.{nil_from_length}
 use Rattle.avro_schema.specs.Fits.{LimitValues}
 use Rattle.avro_schema.specs.Node.{Node}
 use Rattle.avro_schema.specs.Value.{Value, Values, no_values}
-use Rattle.avro_binary.specs.Encoding.{plain_values}
+use Rattle.avro_cursor.specs.Encoding.{plain_values}
 use Rattle.avro_compare.specs.Resolve.{Resolved}
 use Rattle.avro_container.specs.BlockFails.{BlockReading, DataAreWhole, IsNotTooMuch}
 use Rattle.avro_container.specs.DataRead.{IsDataFault}

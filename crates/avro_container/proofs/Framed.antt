@@ -2,7 +2,7 @@
 use Rattle.std.proofs.Common.{◌≡◌, ℕ, ◌≤◌, List, [], ◌++◌, length, Some, true, refl, sym, subst, ◌∙◌, arith, append-nil}
 use Rattle.std.proofs.lemmas.List.{at_drop_all}
 use Rattle.std.proofs.lemmas.Option.{same_Some}
-use Rattle.avro_binary.specs.Fault.{ReadFault}
+use Rattle.avro_cursor.specs.Fault.{ReadFault}
 use Rattle.avro_container.specs.File.{Property}
 use Rattle.avro_container.specs.FileFault.{FileFault}
 use Rattle.avro_container.specs.HeaderFails.{MetadataStands}

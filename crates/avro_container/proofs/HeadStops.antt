@@ -5,9 +5,9 @@ use Rattle.std.proofs.lemmas.List.{length-drop, drop-drop}
 use Rattle.std.proofs.lemmas.Option.{same_Some}
 use Rattle.avro_zigzag.specs.Number.{SpellsLong}
 use Rattle.avro_zigzag.specs.declared.VarError.TheVariants.{EndOfInput}
-use Rattle.avro_binary.specs.BlockHeads.{signed_count}
-use Rattle.avro_binary.specs.Fault.{ReadFault, end_of_input, invalid_length, behind}
-use Rattle.avro_binary.specs.Breaks.{StartsWithLong, HeadBreaks, LongBreaks}
+use Rattle.avro_cursor.specs.BlockHeads.{signed_count}
+use Rattle.avro_cursor.specs.Fault.{ReadFault, end_of_input, invalid_length, behind}
+use Rattle.avro_cursor.specs.Breaks.{StartsWithLong, HeadBreaks, LongBreaks}
 use Rattle.avro_container.specs.FileFault.{FileFault, in_header, invalid_metadata}
 use Rattle.avro_container.specs.inside.HeaderParts.{PartStops, LengthBreaks, LengthWants, Stretch}
 use Rattle.avro_container.specs.inside.Filled.{GrowsBy}

@@ -1,8 +1,8 @@
 -- What stops the metadata or the marker, as a fault of the header.
 use Rattle.std.proofs.Common.{◌≡◌, ℕ, ◌+◌, ◌-◌, max, List, ◌++◌, length, take, drop, refl, sym, ap, subst, ◌∙◌, arith, take_all}
 use Rattle.std.proofs.lemmas.List.{take-append-drop, length-drop}
-use Rattle.avro_binary.specs.Fault.{ReadFault, behind}
-use Rattle.avro_binary.specs.Breaks.{all_left}
+use Rattle.avro_cursor.specs.Fault.{ReadFault, behind}
+use Rattle.avro_cursor.specs.Breaks.{all_left}
 use Rattle.avro_container.specs.File.{magic}
 use Rattle.avro_container.specs.FileFault.{FileFault, invalid_metadata, long_header, cut_header}
 use Rattle.avro_container.specs.HeaderFails.{HeaderFails, EndsIn, MetadataBreaks, PropertyWants, entry_limits}

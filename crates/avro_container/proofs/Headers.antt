@@ -5,7 +5,7 @@ use Rattle.std.specs.declared.alloc.Global.{Global}
 use Rattle.std.specs.declared.vec.Vec.{Vec}
 use Rattle.avro_zigzag.specs.Number.{number_bytes}
 use Rattle.avro_schema.specs.Value.{entries_count}
-use Rattle.avro_binary.specs.Encoding.{plain, plain_entries}
+use Rattle.avro_cursor.specs.Encoding.{plain, plain_entries}
 use Rattle.avro_binary.proofs.public.Blocks.{block-written}
 use Rattle.avro_container.specs.File.{metadata_value, property_entries}
 use Rattle.avro_container.specs.Parts.{properties_of}

@@ -11,7 +11,7 @@ use Rattle.avro_schema.specs.Value.{Value}
 use Rattle.avro_schema.specs.Node.{Node, node_at, root_of}
 use Rattle.avro_schema.specs.Fits.{fits, is_within}
 use Rattle.avro_schema.specs.WellFormed.{is_schema}
-use Rattle.avro_binary.specs.Encoding.{Encodes, Spells, plain}
+use Rattle.avro_cursor.specs.Encoding.{Encodes, Spells, plain}
 use Rattle.avro_compare.specs.Resolve.{Resolved}
 use Rattle.avro_container.specs.BlockFails.{BlockReading}
 use Rattle.avro_container.specs.inside.NoBytes.{PacksNoBytes}

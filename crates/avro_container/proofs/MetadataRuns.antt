@@ -7,13 +7,13 @@ use Rattle.avro_schema.specs.Value.{keys_of, entries_count}
 use Rattle.avro_schema.specs.Node.{Node, root_of}
 use Rattle.avro_schema.specs.Fits.{is_count, is_text, entries_fit}
 use Rattle.avro_schema.specs.Distinct.{are_distinct}
-use Rattle.avro_binary.specs.Blocks.{IsInBlocks, no_more}
-use Rattle.avro_binary.specs.Encoding.{Encodes}
-use Rattle.avro_binary.specs.Fault.{ReadFault, behind}
-use Rattle.avro_binary.specs.Breaks.{Left, all_left, Head, counted, sized, head_count, head_bytes, IsHead, HasSize, BlocksBreak, EntriesAreWhole}
-use Rattle.avro_binary.proofs.public.Behind.{behind-append, behind-none}
+use Rattle.avro_cursor.specs.Blocks.{IsInBlocks, no_more}
+use Rattle.avro_cursor.specs.Encoding.{Encodes}
+use Rattle.avro_cursor.specs.Fault.{ReadFault, behind}
+use Rattle.avro_cursor.specs.Breaks.{Left, all_left, Head, counted, sized, head_count, head_bytes, IsHead, HasSize, BlocksBreak, EntriesAreWhole}
+use Rattle.avro_cursor.proofs.public.Behind.{behind-append, behind-none}
 use Rattle.avro_binary.proofs.public.Blocks.{block_first}
-use Rattle.avro_binary.proofs.public.Ranges.{is_count-from_below}
+use Rattle.avro_cursor.proofs.public.Ranges.{is_count-from_below}
 use Rattle.avro_container.specs.File.{Property, property_entries, metadata_nodes, metadata_value}
 use Rattle.avro_container.specs.HeaderFails.{PropertyWants, entry_limits}
 use Rattle.avro_container.specs.inside.HeaderParts.{EachProperty, PropertiesRun, left_after, PropertyBreaks}

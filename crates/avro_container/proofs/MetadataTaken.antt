@@ -3,9 +3,9 @@ use Rattle.std.proofs.Common.{◌≡◌, ◌≢◌, ℕ, ◌-◌, ◌^◌, ◌<�
 use Rattle.std.specs.Prelude.{String}
 use Rattle.std.specs.BTreeSet.{BTreeSet, contains_text}
 use Rattle.std.specs.declared.alloc.Global.{Global}
-use Rattle.avro_binary.specs.Fault.{ReadFault, wrong_block_size, behind}
-use Rattle.avro_binary.specs.Breaks.{Left, all_left, Head, counted, sized, head_count, head_bytes, IsHead, HasSize, HeadBreaks, BlocksBreak}
-use Rattle.avro_binary.proofs.public.Behind.{behind-append}
+use Rattle.avro_cursor.specs.Fault.{ReadFault, wrong_block_size, behind}
+use Rattle.avro_cursor.specs.Breaks.{Left, all_left, Head, counted, sized, head_count, head_bytes, IsHead, HasSize, HeadBreaks, BlocksBreak}
+use Rattle.avro_cursor.proofs.public.Behind.{behind-append}
 use Rattle.avro_container.specs.File.{Property}
 use Rattle.avro_container.specs.FileFault.{FileFault, in_header, invalid_metadata}
 use Rattle.avro_container.specs.inside.Filled.{GrowsBy}

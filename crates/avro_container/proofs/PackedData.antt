@@ -3,7 +3,7 @@ use Rattle.std.proofs.Common.{◌≡◌, ℕ, suc, ◌+◌, ◌<◌, ◌≤◌, 
 use Rattle.std.proofs.Math.Seq.{take-add}
 use Rattle.std.proofs.lemmas.Option.{same_Some}
 use Rattle.avro_schema.specs.Value.{Value, Values, no_values, value}
-use Rattle.avro_binary.specs.Encoding.{plain, plain_values}
+use Rattle.avro_cursor.specs.Encoding.{plain, plain_values}
 use Rattle.avro_container.specs.BlockFails.{BlockReading, DataAreWhole, DataFail}
 use Rattle.avro_container.specs.inside.DataPacked.{PacksData}
 use Rattle.avro_container.specs.DataRead.{IsDataFault}

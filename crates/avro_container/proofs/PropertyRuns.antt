@@ -8,8 +8,8 @@ use Rattle.avro_schema.specs.Node.{Node}
 use Rattle.avro_schema.specs.Fits.{fits, entries_fit, is_count, is_text}
 use Rattle.avro_schema.specs.Distinct.{are_distinct}
 use Rattle.avro_schema.proofs.public.FitsParts.{is_count-below}
-use Rattle.avro_binary.specs.Encoding.{EntriesSpelled}
-use Rattle.avro_binary.specs.Breaks.{Left, EntriesAreWhole}
+use Rattle.avro_cursor.specs.Encoding.{EntriesSpelled}
+use Rattle.avro_cursor.specs.Breaks.{Left, EntriesAreWhole}
 use Rattle.avro_binary.proofs.public.Distinct.{distinct-push}
 use Rattle.avro_container.specs.File.{Property, property_entries, metadata_nodes}
 use Rattle.avro_container.specs.inside.Filled.{GrowsBy}

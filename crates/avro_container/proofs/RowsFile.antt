@@ -8,11 +8,11 @@ use Rattle.avro_zigzag.proofs.public.Spelling.{SpellsLong-number_bytes, SpellsIn
 use Rattle.avro_schema.specs.Value.{Value, Values, no_values, value, no_entries}
 use Rattle.avro_schema.specs.Node.{Node, root_of}
 use Rattle.avro_schema_json.specs.DeclaredText.{DeclaresText}
-use Rattle.avro_binary.specs.Blocks.{no_more, counted}
-use Rattle.avro_binary.specs.Encoding.{Encodes}
+use Rattle.avro_cursor.specs.Blocks.{no_more, counted}
+use Rattle.avro_cursor.specs.Encoding.{Encodes}
 use Rattle.avro_container.specs.File.{Property, HeaderValue, IsHeader, IsBlock, IsFile, metadata_nodes, metadata_value}
-use Rattle.avro_binary.specs.Fault.{end_of_input}
-use Rattle.avro_binary.specs.Breaks.{BlocksBreak, Head, all_left}
+use Rattle.avro_cursor.specs.Fault.{end_of_input}
+use Rattle.avro_cursor.specs.Breaks.{BlocksBreak, Head, all_left}
 use Rattle.avro_zigzag.specs.NumberFault.{NumberFails}
 use Rattle.avro_zigzag.specs.declared.VarError.TheVariants.{EndOfInput}
 use Rattle.avro_container.specs.FileFault.{no_magic, cut_header, long_header, invalid_count, negative, bytes_left, invalid_datum}

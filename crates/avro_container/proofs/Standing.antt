@@ -3,7 +3,7 @@ use Rattle.std.proofs.Common.{◌≡◌, ℕ, pos, ◌+◌, ◌<◌, ◌≤◌, 
 use Rattle.std.proofs.lemmas.List.{drop-drop, length-drop, length-take-le}
 use Rattle.std.proofs.Math.Seq.{take-add, take-append-add}
 use Rattle.std.proofs.lemmas.Option.{same_Some}
-use Rattle.avro_binary.specs.Breaks.{StartsWithLong}
+use Rattle.avro_cursor.specs.Breaks.{StartsWithLong}
 use Rattle.avro_container.specs.FileFault.{FileFault, in_block, limit_passed}
 use Rattle.avro_container.specs.BlockFails.{FileLimitValues, BlockBegins, BlockFails, max_blocks}
 use Rattle.avro_container.specs.BlockStands.{BlockStands, IsBlockFault}

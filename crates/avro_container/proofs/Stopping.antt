@@ -4,7 +4,7 @@ use Rattle.std.proofs.lemmas.Int.{ints}
 use Rattle.std.proofs.lemmas.Option.{same_Some, none-some}
 use Rattle.avro_zigzag.specs.NumberFault.{LongFails}
 use Rattle.avro_zigzag.specs.declared.VarError.TheVariants.{EndOfInput, OutOfRange}
-use Rattle.avro_binary.specs.Breaks.{StartsWithLong}
+use Rattle.avro_cursor.specs.Breaks.{StartsWithLong}
 use Rattle.avro_container.specs.declared.input.PartError.{PartError}
 use Rattle.avro_container.specs.FileFault.{FileFault, in_block, negative, invalid_count, cut_block}
 use Rattle.avro_container.specs.FileSeen.{part_fault}

@@ -14,10 +14,10 @@ use Rattle.avro_schema.specs.Node.{Node}
 use Rattle.avro_schema.specs.Fits.{is_count}
 use Rattle.avro_schema.specs.Distinct.{are_distinct}
 use Rattle.avro_schema.proofs.public.FitsParts.{is_count-below}
-use Rattle.avro_binary.specs.Encoding.{SpellsBytes}
-use Rattle.avro_binary.specs.Fault.{ReadFault, invalid_text, duplicate_key}
-use Rattle.avro_binary.specs.Breaks.{Left, ContentBreaks, KeyBreaks, EntryBreaks, BreaksWithin}
-use Rattle.avro_binary.proofs.public.Ranges.{is_count-from_below, bytes-below}
+use Rattle.avro_cursor.specs.Encoding.{SpellsBytes}
+use Rattle.avro_cursor.specs.Fault.{ReadFault, invalid_text, duplicate_key}
+use Rattle.avro_cursor.specs.Breaks.{Left, ContentBreaks, KeyBreaks, EntryBreaks, BreaksWithin}
+use Rattle.avro_cursor.proofs.public.Ranges.{is_count-from_below, bytes-below}
 use Rattle.avro_container.specs.File.{Property, metadata_nodes}
 use Rattle.avro_container.specs.FileFault.{FileFault, in_header, invalid_metadata}
 use Rattle.avro_container.specs.inside.Filled.{GrowsBy}

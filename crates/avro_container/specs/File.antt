@@ -4,8 +4,8 @@ use Rattle.std.specs.List.{concat}
 use Rattle.avro_schema.specs.Value.{Value, Values, Entries, no_entries, entry, values_count}
 use Rattle.avro_schema.specs.Node.{Node, root_of}
 use Rattle.avro_schema.specs.Fits.{each_fits}
-use Rattle.avro_binary.specs.Encoding.{EachSpelled, Encodes}
-use Rattle.avro_binary.specs.Elements.{IsLong}
+use Rattle.avro_cursor.specs.Encoding.{EachSpelled, Encodes}
+use Rattle.avro_cursor.specs.Elements.{IsLong}
 use Rattle.avro_schema_json.specs.DeclaredText.{DeclaresText}
 
 -- an entry of the metadata: a text as its bytes, and bytes

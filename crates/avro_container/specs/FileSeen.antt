@@ -1,7 +1,7 @@
 -- How contracts see the errors of a file.
 use Rattle.std.specs.Prelude.{ℕ, Option, Some, None, option_map}
-use Rattle.avro_binary.specs.Fault.{invalid_number}
-use Rattle.avro_binary.specs.Seen.{read_fault}
+use Rattle.avro_cursor.specs.Fault.{invalid_number}
+use Rattle.avro_cursor.specs.Seen.{read_fault}
 use Rattle.avro_compare.specs.Seen.{fault_of}
 use Rattle.avro_container.specs.declared.error.CopyError.{CopyError}
 use Rattle.avro_container.specs.declared.error.CountError.{CountError}

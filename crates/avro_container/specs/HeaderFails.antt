@@ -8,9 +8,9 @@ use Rattle.avro_schema.specs.Node.{Node, root_of}
 use Rattle.avro_schema_json.specs.declared.error.SchemaError.{SchemaError}
 use Rattle.avro_schema_json.specs.Declaration.{IsNoJson}
 use Rattle.avro_schema_json.specs.TextRefusals.{IsRefusalOf}
-use Rattle.avro_binary.specs.Encoding.{Encodes, SpellsBytes}
-use Rattle.avro_binary.specs.Fault.{ReadFault, end_of_input, behind}
-use Rattle.avro_binary.specs.Breaks.{Breaks, BreaksAfter, BlocksBreak, EntriesAreWhole, Left, all_left, StartsWithLong}
+use Rattle.avro_cursor.specs.Encoding.{Encodes, SpellsBytes}
+use Rattle.avro_cursor.specs.Fault.{ReadFault, end_of_input, behind}
+use Rattle.avro_cursor.specs.Breaks.{Breaks, BreaksAfter, BlocksBreak, EntriesAreWhole, Left, all_left, StartsWithLong}
 use Rattle.avro_container.specs.File.{Property, property, is_plain_codec, magic, metadata_nodes, metadata_value}
 use Rattle.avro_container.specs.FileFault.{HeaderFault, no_magic, invalid_metadata, no_schema, refused_schema, unknown_codec, long_header, cut_header}
 

@@ -3,7 +3,7 @@ use Rattle.std.specs.Prelude.{ℕ, pos, List, ◌++◌, length, map, String, str
 use Rattle.std.specs.declared.alloc.Global.{Global}
 use Rattle.std.specs.declared.vec.Vec.{Vec}
 use Rattle.avro_zigzag.specs.Number.{number_bytes}
-use Rattle.avro_binary.specs.Encoding.{plain}
+use Rattle.avro_cursor.specs.Encoding.{plain}
 use Rattle.avro_container.specs.File.{Property, metadata_value, magic}
 
 -- a text as its bytes, and bytes

@@ -3,7 +3,7 @@
 ghost use Rattle.std.specs.Prelude.{◌≡◌, ◌≢◌, ◌⊎◌, ◌++◌, ◌^◌, ◌<◌, pos, true, false, None, IfOk, OnOk, OnErr, Err};
 ghost use Rattle.std.specs.Result.{IfErr};
 ghost use Rattle.avro_zigzag.specs.Number.{number_bytes};
-ghost use Rattle.avro_binary.specs.Encoding.{plain, plain_bytes, plain_entries};
+ghost use Rattle.avro_cursor.specs.Encoding.{plain, plain_bytes, plain_entries};
 ghost use Rattle.avro_container.specs.File.{metadata_value, property_entries};
 ghost use Rattle.avro_container.specs.FileSeen.{file_fault};
 ghost use Rattle.avro_container.specs.Named.{IsNamed};

@@ -4,7 +4,7 @@ use Rattle.std.proofs.lemmas.List.{append-nil, take-append-drop}
 use Rattle.avro_schema.specs.Fits.{LimitValues}
 use Rattle.avro_schema.specs.Node.{Node, root_of}
 use Rattle.avro_schema.specs.Value.{Value}
-use Rattle.avro_binary.specs.Encoding.{Encodes}
+use Rattle.avro_cursor.specs.Encoding.{Encodes}
 use Rattle.avro_resolve.specs.Reading.{ReadsAs}
 use Rattle.avro_compare.specs.Resolve.{Resolved, resolve_root}
 

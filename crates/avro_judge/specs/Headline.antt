@@ -6,9 +6,9 @@ use Rattle.avro_schema.specs.Fits.{LimitValues, is_within}
 use Rattle.avro_schema.specs.Seen.{value_of}
 use Rattle.avro_schema.specs.SeenSchema.{schema_nodes}
 use Rattle.avro_schema.specs.declared.schema.Schema.{Schema}
-use Rattle.avro_binary.specs.Encoding.{Encodes}
-use Rattle.avro_binary.specs.Seen.{UnlessOutOfMemory}
-use Rattle.avro_binary.specs.declared.error.ReadError.{ReadError}
+use Rattle.avro_cursor.specs.Encoding.{Encodes}
+use Rattle.avro_cursor.specs.Seen.{UnlessOutOfMemory}
+use Rattle.avro_cursor.specs.declared.error.ReadError.{ReadError}
 use Rattle.avro_compare.specs.Fault.{ResolutionFault}
 use Rattle.avro_compare.specs.Resolve.{resolve_root}
 use Rattle.avro_compare.specs.Seen.{fault_of}

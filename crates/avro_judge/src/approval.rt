@@ -43,10 +43,10 @@ impl<'a> Approved<'a> {
     ghost use Rattle.avro_schema.specs.Node.{root_of};
     ghost use Rattle.avro_schema.specs.SeenSchema.{schema_nodes};
     ghost use Rattle.avro_schema.specs.Value.{Value};
-    ghost use Rattle.avro_binary.specs.Breaks.{Breaks};
-    ghost use Rattle.avro_binary.specs.Encoding.{Encodes};
-    ghost use Rattle.avro_binary.specs.Fault.{ReadFault};
-    ghost use Rattle.avro_binary.specs.Seen.{read_fault, UnlessOutOfMemory, Reports};
+    ghost use Rattle.avro_cursor.specs.Breaks.{Breaks};
+    ghost use Rattle.avro_cursor.specs.Encoding.{Encodes};
+    ghost use Rattle.avro_cursor.specs.Fault.{ReadFault};
+    ghost use Rattle.avro_cursor.specs.Seen.{read_fault, UnlessOutOfMemory, Reports};
     ghost use Rattle.avro_compare.specs.Planned.{AreComparisons};
     ghost use Rattle.avro_resolve.specs.Reading.{ReadsAs};
     ghost use Rattle.avro_compare.specs.Resolve.{resolve_root};

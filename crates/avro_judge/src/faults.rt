@@ -5,7 +5,7 @@ ghost use Rattle.avro_schema.specs.Fits.{fits};
 ghost use Rattle.avro_schema.specs.Node.{root_of};
 ghost use Rattle.avro_schema.specs.Seen.{value_of};
 ghost use Rattle.avro_schema.specs.SeenSchema.{schema_nodes};
-ghost use Rattle.avro_binary.specs.Encoding.{Encodes};
+ghost use Rattle.avro_cursor.specs.Encoding.{Encodes};
 ghost use Rattle.avro_compare.specs.Planned.{AreComparisons};
 ghost use Rattle.avro_compare.specs.Seen.{fault_of};
 ghost use Rattle.avro_certificate.specs.Compatible.{Errs, ErrsWith};

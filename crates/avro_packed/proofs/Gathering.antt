@@ -5,7 +5,7 @@ use Rattle.std.proofs.lemmas.List.{length-append, length-replicate}
 use Rattle.avro_schema.specs.Empty.{are_empty}
 use Rattle.avro_schema.specs.Value.{Value}
 use Rattle.avro_schema.specs.Seen.{values_from, entries_from}
-use Rattle.avro_binary.specs.Encoding.{plain, plain_bytes, plain_blocks, plain_values, plain_entries}
+use Rattle.avro_cursor.specs.Encoding.{plain, plain_bytes, plain_blocks, plain_values, plain_entries}
 use Rattle.avro_binary.proofs.public.EmptyData.{plain_values-empty}
 use Rattle.avro_packed.specs.Appended.{AreItems, AreEntries, Holds, StandsAt, branch_bytes}
 use Rattle.avro_zigzag.specs.Number.{number_bytes}

@@ -2,7 +2,7 @@
 use Rattle.std.proofs.Common.{◌≡◌, ◌++◌, ℕ, List, Option, Some, None, refl, subst}
 use Rattle.std.specs.Prelude.{Result, Ok, Err, IfOk}
 use Rattle.avro_schema.specs.Value.{Value}
-use Rattle.avro_binary.specs.Encoding.{plain}
+use Rattle.avro_cursor.specs.Encoding.{plain}
 use Rattle.avro_packed.specs.Appended.{Holds, branch_bytes}
 use Rattle.avro_packed.specs.declared.written.Written.{Written}
 use Rattle.avro_resolve.specs.IntoBranch.{in_branch}

@@ -6,7 +6,7 @@ use Rattle.std.specs.Global.{Vec}
 use Rattle.std.proofs.lemmas.List.{append-nil, length-append}
 use Rattle.avro_schema.specs.Value.{Value, values_count, entries_count}
 use Rattle.avro_schema.specs.Seen.{values_from, entries_from}
-use Rattle.avro_binary.specs.Encoding.{plain, plain_bytes, plain_blocks, plain_values, plain_entries}
+use Rattle.avro_cursor.specs.Encoding.{plain, plain_bytes, plain_blocks, plain_values, plain_entries}
 use Rattle.avro_packed.specs.Pieces.{bytes_step, bytes_of, bytes_of_all, IsPlainOf, ArePlainOf, AreEntriesOf}
 use Rattle.avro_packed.specs.declared.pieces.Pieces.{Pieces}
 use Rattle.avro_packed.specs.declared.pieces.Pieces.TheOpen.{Pieces-F}

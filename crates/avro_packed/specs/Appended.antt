@@ -3,7 +3,7 @@ use Rattle.std.specs.Prelude.{◌≡◌, ℕ, ◌+◌, List, [], ◌++◌, lengt
 use Rattle.avro_zigzag.specs.Number.{number_bytes}
 use Rattle.avro_schema.specs.Value.{Value}
 use Rattle.avro_schema.specs.Seen.{values_from, entries_from}
-use Rattle.avro_binary.specs.Encoding.{plain_values, plain_entries}
+use Rattle.avro_cursor.specs.Encoding.{plain_values, plain_entries}
 use Rattle.avro_packed.specs.declared.gathered.Gathered.{Gathered}
 use Rattle.avro_packed.specs.declared.written.Written.{Written}
 

@@ -4,7 +4,7 @@ use Rattle.std.specs.List.{concat}
 use Rattle.avro_zigzag.specs.Number.{number_bytes}
 use Rattle.avro_schema.specs.Value.{Value}
 use Rattle.avro_schema.specs.Seen.{values_from, entries_from}
-use Rattle.avro_binary.specs.Encoding.{plain, plain_values, plain_entries}
+use Rattle.avro_cursor.specs.Encoding.{plain, plain_values, plain_entries}
 use Rattle.avro_packed.specs.declared.pieces.Pieces.{Pieces}
 use Rattle.avro_packed.specs.declared.pieces.Pieces.TheOpen.{Pieces-F}
 use Rattle.avro_packed.specs.declared.pieces.Pieces.TheFolds.{fold-Pieces}

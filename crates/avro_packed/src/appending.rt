@@ -2,7 +2,7 @@
 
 ghost use Rattle.std.specs.Prelude.{◌≡◌, ◌++◌, [], ◌∷◌, List, ℕ, IfOk, OnOk, length, pos};
 ghost use Rattle.avro_zigzag.specs.Number.{number_bytes};
-ghost use Rattle.avro_binary.specs.Encoding.{plain_bytes, plain_blocks};
+ghost use Rattle.avro_cursor.specs.Encoding.{plain_bytes, plain_blocks};
 ghost use Rattle.avro_packed.specs.Appended.{Grows, Holds, branch_bytes};
 
 use crate::flatten::{append_byte, append_number};
@@ -163,7 +163,7 @@ impl Make for Appending {
     ghost use Rattle.avro_schema.specs.Node.{Node, FieldNode};
     ghost use Rattle.avro_schema.specs.Seen.{values_from, entries_from};
     ghost use Rattle.avro_schema.specs.Value.{Value};
-    ghost use Rattle.avro_binary.specs.Encoding.{plain, plain_values, plain_entries};
+    ghost use Rattle.avro_cursor.specs.Encoding.{plain, plain_values, plain_entries};
     ghost use Rattle.avro_packed.specs.Appended.{Grows, Holds, branch_bytes, AreItems, AreEntries, branch_in};
     ghost use Rattle.avro_packed.specs.inside.Outputs.{grows_none, grows_on, still_holds};
 

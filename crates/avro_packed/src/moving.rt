@@ -1,7 +1,7 @@
 //! Moving what was written.
 
 ghost use Rattle.std.specs.Prelude.{◌≡◌, ◌++◌, ◌≤◌, [], List, ℕ, true, length, IfOk, OnOk};
-ghost use Rattle.avro_binary.specs.Encoding.{plain_bytes};
+ghost use Rattle.avro_cursor.specs.Encoding.{plain_bytes};
 ghost use Rattle.avro_packed.specs.Appended.{Grows, Holds, StandsAt};
 
 use crate::flatten::append_number;

@@ -3,7 +3,7 @@
 ghost use Rattle.std.specs.Prelude.{◌≡◌, ◌++◌, [], ◌∷◌, ◌+◌, IfOk, OnOk, IfSome, length, map, pos};
 ghost use Rattle.std.specs.List.{concat};
 ghost use Rattle.avro_zigzag.specs.Number.{number_bytes};
-ghost use Rattle.avro_binary.specs.Encoding.{plain_bytes, plain_blocks};
+ghost use Rattle.avro_cursor.specs.Encoding.{plain_bytes, plain_blocks};
 ghost use Rattle.avro_packed.specs.Pieces.{bytes_of, bytes_of_all};
 
 use crate::pieces::Pieces;

@@ -13,7 +13,7 @@ use std::alloc::{AllocError, Global};
 impl Appending {
     ghost use Rattle.std.specs.Prelude.{IfOk, OnOk};
     ghost use Rattle.avro_schema.specs.Seen.{value_of};
-    ghost use Rattle.avro_binary.specs.Encoding.{plain};
+    ghost use Rattle.avro_cursor.specs.Encoding.{plain};
     ghost use Rattle.avro_zigzag.specs.Number.{number_bytes};
     ghost use Rattle.avro_packed.specs.Appended.{Grows, Holds};
 
@@ -61,7 +61,7 @@ impl Put for Appending {
     ghost use Rattle.std.specs.Prelude.{◌≡◌, ◌++◌, [], List, ℕ, None, Option};
     ghost use Rattle.avro_schema.specs.Seen.{values_from, entries_from};
     ghost use Rattle.avro_schema.specs.Value.{Value};
-    ghost use Rattle.avro_binary.specs.Encoding.{plain, plain_values, plain_entries};
+    ghost use Rattle.avro_cursor.specs.Encoding.{plain, plain_values, plain_entries};
     ghost use Rattle.avro_packed.specs.Appended.{Grows, Holds, branch_bytes, AreItems, AreEntries};
     ghost use Rattle.avro_packed.specs.inside.Outputs.{grows_none, grows_on, still_holds};
 

@@ -7,9 +7,9 @@ ghost use Rattle.avro_schema.specs.Fits.{is_within};
 ghost use Rattle.avro_schema.specs.Node.{node_at};
 ghost use Rattle.avro_schema.specs.SeenSchema.{schema_nodes};
 ghost use Rattle.avro_schema.specs.Value.{Value};
-ghost use Rattle.avro_binary.specs.Breaks.{Breaks};
-ghost use Rattle.avro_binary.specs.Encoding.{Encodes, plain};
-ghost use Rattle.avro_binary.specs.Seen.{read_fault};
+ghost use Rattle.avro_cursor.specs.Breaks.{Breaks};
+ghost use Rattle.avro_cursor.specs.Encoding.{Encodes, plain};
+ghost use Rattle.avro_cursor.specs.Seen.{read_fault};
 
 use crate::appending::Appending;
 use crate::settling::settle;

@@ -8,7 +8,7 @@ use Rattle.avro_schema.specs.Value.{Value}
 use Rattle.avro_schema.specs.Node.{Node, symbols_of}
 use Rattle.avro_schema.specs.Fits.{is_int_node, is_long_node, is_bytes_node, is_string_node}
 use Rattle.avro_schema.proofs.public.FitsKind.{FitsKind}
-use Rattle.avro_binary.specs.Encoding.{Spells, SpellsBytes, plain, plain_bytes}
+use Rattle.avro_cursor.specs.Encoding.{Spells, SpellsBytes, plain, plain_bytes}
 use Rattle.avro_compare.specs.Resolve.{bytes_as, int_as, resolve, string_as}
 use Rattle.avro_resolve.specs.Copied.{IsCopied, IsAsSpelled, BeginsShortest, begins_with_number, is_as_written}
 

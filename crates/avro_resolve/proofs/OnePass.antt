@@ -9,8 +9,8 @@ use Rattle.avro_schema.specs.Fits.{LimitValues, is_within}
 use Rattle.avro_schema.specs.declared.datum.Datum.{Datum}
 use Rattle.avro_schema.specs.declared.schema.NodeId.{NodeId}
 use Rattle.avro_binary.specs.Reading.{BuildsExactly}
-use Rattle.avro_binary.specs.Seen.{read_fault, UnlessOutOfMemory as UnlessMemory}
-use Rattle.avro_binary.specs.declared.error.ReadError.{ReadError}
+use Rattle.avro_cursor.specs.Seen.{read_fault, UnlessOutOfMemory as UnlessMemory}
+use Rattle.avro_cursor.specs.declared.error.ReadError.{ReadError}
 use Rattle.avro_resolve.specs.Ends.{turned, IsSeen}
 use Rattle.avro_resolve.specs.inside.Guided.{MadeAs, StandsAs, IsSmall}
 use Rattle.avro_resolve.specs.Reading.{ReadsAs, BuildsResolved, ReadsResolved}

@@ -9,7 +9,7 @@ use Rattle.avro_schema.specs.Fits.{fits, fields_fit}
 use Rattle.avro_schema.specs.Seen.{values_from}
 use Rattle.avro_schema.specs.declared.schema.NodeId.{NodeId}
 use Rattle.avro_schema.proofs.public.FitsKind.{FitsKind-from_fits}
-use Rattle.avro_binary.specs.Encoding.{plain}
+use Rattle.avro_cursor.specs.Encoding.{plain}
 use Rattle.avro_binary.specs.Pieces.{ArePieces, piece}
 use Rattle.avro_compare.specs.Fields.{IsField, here, later}
 use Rattle.avro_compare.specs.Resolve.{Resolved, Sourced, sourced_at, field_values, fields_at, with_sourced, both, inside, resolve, resolve_sources, record_or_missing, result_map}

@@ -4,7 +4,7 @@ use Rattle.avro_zigzag.specs.Number.{zigzag, AreGroups, IsShortest}
 use Rattle.avro_schema.specs.Node.{Node, FieldNode, node_at, field_ids}
 use Rattle.avro_schema.specs.Fits.{is_null_node, is_boolean_node, is_int_node, is_long_node, is_bytes_node, is_string_node}
 use Rattle.avro_schema.specs.declared.schema.NodeId.{NodeId}
-use Rattle.avro_binary.specs.Encoding.{plain}
+use Rattle.avro_cursor.specs.Encoding.{plain}
 use Rattle.avro_binary.specs.Pieces.{piece}
 use Rattle.avro_compare.specs.Fields.{IsField}
 use Rattle.avro_compare.specs.Pairs.{IsAim}

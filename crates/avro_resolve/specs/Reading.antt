@@ -6,10 +6,10 @@ use Rattle.avro_schema.specs.Node.{Node, root_of}
 use Rattle.avro_schema.specs.Fits.{LimitValues, is_within}
 use Rattle.avro_schema.specs.Seen.{value_of}
 use Rattle.avro_schema.specs.declared.datum.Datum.{Datum}
-use Rattle.avro_binary.specs.Encoding.{Encodes}
-use Rattle.avro_binary.specs.Fault.{ReadFault}
-use Rattle.avro_binary.specs.Breaks.{Breaks}
-use Rattle.avro_binary.specs.Seen.{read_fault}
+use Rattle.avro_cursor.specs.Encoding.{Encodes}
+use Rattle.avro_cursor.specs.Fault.{ReadFault}
+use Rattle.avro_cursor.specs.Breaks.{Breaks}
+use Rattle.avro_cursor.specs.Seen.{read_fault}
 use Rattle.avro_compare.specs.Resolve.{Resolved, resolve_root}
 use Rattle.avro_compare.specs.Seen.{fault_of}
 use Rattle.avro_resolve.specs.Seen.{UnlessOutOfMemory, AnswersAfter, BuiltAfter, IfUnread, IfUnresolved, IsUnread}

@@ -1,7 +1,7 @@
 ghost use Rattle.std.specs.Prelude.{◌≡◌, ℕ, List, [], ◌∷◌, ◌++◌, Option, IfOk, IfSome, OnOk, replicate, true, false};
 ghost use Rattle.avro_schema.specs.Seen.{values_from, entries_from, value_of};
 ghost use Rattle.avro_schema.specs.Value.{Value};
-ghost use Rattle.avro_binary.specs.Encoding.{plain};
+ghost use Rattle.avro_cursor.specs.Encoding.{plain};
 ghost use Rattle.avro_resolve.specs.IntoBranch.{in_branch};
 
 use avro_schema::Datum;

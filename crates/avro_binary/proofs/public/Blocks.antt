@@ -3,9 +3,9 @@ use Rattle.std.proofs.Common.{◌≡◌, ℕ, zero, suc, ◌<◌, pos, List, [],
 use Rattle.std.specs.Prelude.{neg_ℤ}
 use Rattle.std.specs.List.{concat}
 use Rattle.avro_zigzag.specs.Number.{SpellsLong, number_bytes}
-use Rattle.avro_binary.specs.Blocks.{IsInBlocks, counted as counted_block, sized as sized_block}
-use Rattle.avro_binary.specs.Breaks.{Head, counted, sized, head_count, head_bytes, IsHead, HasSize}
-use Rattle.avro_binary.specs.Encoding.{plain_blocks}
+use Rattle.avro_cursor.specs.Blocks.{IsInBlocks, counted as counted_block, sized as sized_block}
+use Rattle.avro_cursor.specs.Breaks.{Head, counted, sized, head_count, head_bytes, IsHead, HasSize}
+use Rattle.avro_cursor.specs.Encoding.{plain_blocks}
 
 -- a block before others
 pub block_first : (left : ℕ) (head : Head) (block later : List (List ℕ)) (rest : List ℕ) → IsHead left head → length block ≡ head_count head

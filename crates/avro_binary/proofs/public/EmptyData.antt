@@ -5,7 +5,7 @@ use Rattle.std.proofs.lemmas.Bool.{and_parts, false≢true}
 use Rattle.std.proofs.lemmas.Bool.Decides.{nat_tests}
 use Rattle.avro_schema.specs.Value.{Value, Values, no_values, value, longest_blob, values_longest_blob}
 use Rattle.avro_schema.specs.Empty.{is_empty, are_empty}
-use Rattle.avro_binary.specs.Encoding.{plain, plain_values}
+use Rattle.avro_cursor.specs.Encoding.{plain, plain_values}
 
 none-counted : (n : ℕ) → n == 0 ≡ true → n ≡ 0
 none-counted n h = grind (arith, nat_tests)

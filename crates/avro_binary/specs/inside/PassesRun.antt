@@ -7,11 +7,11 @@ use Rattle.avro_schema.specs.Runs.{StartWithEmpties}
 use Rattle.avro_schema.specs.Seen.{values_from}
 use Rattle.avro_schema.specs.Value.{Value, values_depth, values_size}
 use Rattle.avro_schema.specs.declared.runs.EmptyFields.{EmptyFields}
-use Rattle.avro_binary.specs.Breaks.{BreaksWithin}
+use Rattle.avro_cursor.specs.Breaks.{BreaksWithin}
 use Rattle.avro_binary.specs.CursorReads.{ReportsFault}
-use Rattle.avro_binary.specs.CursorValue.{CursorValue}
-use Rattle.avro_binary.specs.declared.error.ReadError.{ReadError}
-use Rattle.avro_binary.specs.inside.CountsAgain.{CountsAgain}
+use Rattle.avro_cursor.specs.CursorValue.{CursorValue}
+use Rattle.avro_cursor.specs.declared.error.ReadError.{ReadError}
+use Rattle.avro_cursor.specs.CountsAgain.{CountsAgain}
 
 -- each entry tells of the fields from its index on
 abbrev pub TellOfRuns : List Node → List ℕ → List EmptyFields → Type 0

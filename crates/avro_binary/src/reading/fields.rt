@@ -12,10 +12,9 @@ ghost use Rattle.avro_binary.specs.CursorReads.{ReadsNode, outside, left_node};
 ghost use Rattle.avro_binary.specs.Making.{Made};
 ghost use Rattle.avro_binary.specs.inside.PassesRun.{FindsEmpties, RefusesEmpties, TellOfRuns};
 
-use crate::cursor::Cursor;
-use crate::error::ReadError;
 use crate::make::Make;
 use crate::reading::read_at;
+use avro_cursor::{Cursor, ReadError};
 use avro_schema::{EmptyFields, Field, NodeId, Schema};
 use std::alloc::Global;
 

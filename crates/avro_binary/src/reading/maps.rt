@@ -7,14 +7,12 @@ ghost use Rattle.avro_schema.specs.Node.{Node as SeenNode, node_at};
 ghost use Rattle.avro_schema.specs.SeenSchema.{schema_nodes};
 ghost use Rattle.avro_schema.specs.Value.{Value};
 ghost use Rattle.avro_binary.specs.CursorReads.{ReadsNode, ReadsRun, EntriesRun, entry_breaks, outside, left_node};
-ghost use Rattle.avro_binary.specs.KeySet.{key_set};
+ghost use Rattle.avro_cursor.specs.KeySet.{key_set};
 ghost use Rattle.avro_binary.specs.Making.{Made};
 
-use crate::cursor::Cursor;
-use crate::error::ReadError;
-use crate::keys::Keys;
 use crate::make::Make;
 use crate::reading::read_at;
+use avro_cursor::{Cursor, Keys, ReadError};
 use avro_schema::{NodeId, Schema};
 use std::alloc::Global;
 

@@ -10,13 +10,12 @@ ghost use Rattle.avro_binary.specs.CursorReads.{FindsValue, outside, left_node};
 ghost use Rattle.avro_binary.specs.Pieces.{ArePieces};
 ghost use Rattle.avro_binary.specs.inside.PassesAtOnce.{PassesAtOnce};
 
-use crate::cursor::Cursor;
-use crate::error::ReadError;
 use crate::leaves::{
     read_boolean, read_bytes, read_fixed, read_int, read_long, read_null, read_symbol, read_text,
 };
 use crate::make::Make;
 use crate::nothing::Nothing;
+use avro_cursor::{Cursor, ReadError};
 use avro_schema::{Field, Node, NodeId, Schema};
 use std::alloc::{AllocError, Global};
 

@@ -10,11 +10,10 @@ ghost use Rattle.avro_binary.specs.CursorReads.{ReadsNode};
 ghost use Rattle.avro_binary.specs.Making.{Made};
 ghost use Rattle.avro_binary.specs.inside.PassesAtOnce.{PassesAtOnce};
 
-use crate::cursor::Cursor;
-use crate::error::ReadError;
 use crate::make::Make;
 use crate::reading::enter_record;
 use crate::reading::pieces::take_pieces;
+use avro_cursor::{Cursor, ReadError};
 use avro_schema::{Empty, Field, NodeId, Schema};
 use std::alloc::Global;
 

@@ -1,7 +1,7 @@
 -- What copying a block does.
 use Rattle.std.specs.Prelude.{◌≡◌, ℕ, ◌+◌, ◌<◌, ◌≤◌, List, ◌++◌, length, Option}
 use Rattle.avro_schema.specs.Value.{Values, values_count}
-use Rattle.avro_binary.specs.Encoding.{plain_values}
+use Rattle.avro_cursor.specs.Encoding.{plain_values}
 use Rattle.avro_container.specs.BlockFails.{FileLimitValues, max_blocks}
 use Rattle.avro_container.specs.Copied.{Job, IsCopiedBlock}
 use Rattle.avro_container.specs.File.{HeaderValue}

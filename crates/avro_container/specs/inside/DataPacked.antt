@@ -1,7 +1,7 @@
 -- What packing a block gives.
 use Rattle.std.specs.Prelude.{◌≡◌, ℕ, ◌≤◌, List, length}
 use Rattle.avro_schema.specs.Value.{Values, values_count}
-use Rattle.avro_binary.specs.Encoding.{plain_values}
+use Rattle.avro_cursor.specs.Encoding.{plain_values}
 use Rattle.avro_container.specs.BlockFails.{FileLimitValues, BlockReading, DataAreWhole, BlockFails}
 use Rattle.avro_container.specs.Copied.{Job, EachResolved}
 use Rattle.avro_container.specs.File.{HeaderValue}

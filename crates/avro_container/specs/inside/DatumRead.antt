@@ -4,11 +4,11 @@ use Rattle.std.specs.Option.{IfSome}
 use Rattle.avro_schema.specs.Value.{Value}
 use Rattle.avro_schema.specs.Node.{Node, root_of}
 use Rattle.avro_schema.specs.Fits.{LimitValues, is_within}
-use Rattle.avro_binary.specs.Encoding.{Encodes}
-use Rattle.avro_binary.specs.Fault.{ReadFault, end_of_input, invalid_number, invalid_boolean, invalid_text, unknown_index, invalid_length, wrong_block_size, duplicate_key, limit_exceeded, behind}
-use Rattle.avro_binary.specs.Breaks.{Breaks}
-use Rattle.avro_binary.specs.Seen.{read_fault}
-use Rattle.avro_binary.specs.declared.error.ReadError.{ReadError}
+use Rattle.avro_cursor.specs.Encoding.{Encodes}
+use Rattle.avro_cursor.specs.Fault.{ReadFault, end_of_input, invalid_number, invalid_boolean, invalid_text, unknown_index, invalid_length, wrong_block_size, duplicate_key, limit_exceeded, behind}
+use Rattle.avro_cursor.specs.Breaks.{Breaks}
+use Rattle.avro_cursor.specs.Seen.{read_fault}
+use Rattle.avro_cursor.specs.declared.error.ReadError.{ReadError}
 use Rattle.avro_compare.specs.Resolve.{Resolved}
 use Rattle.avro_compare.specs.Seen.{fault_of}
 use Rattle.avro_resolve.specs.Seen.{IfUnread, IfUnresolved}

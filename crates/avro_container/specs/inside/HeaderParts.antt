@@ -8,9 +8,9 @@ use Rattle.avro_zigzag.specs.NumberFault.{LongFails}
 use Rattle.avro_zigzag.specs.declared.VarError.TheVariants.{EndOfInput}
 use Rattle.avro_schema.specs.Fits.{are_bytes, is_text}
 use Rattle.avro_schema.specs.Distinct.{are_distinct}
-use Rattle.avro_binary.specs.Encoding.{SpellsBytes}
-use Rattle.avro_binary.specs.Fault.{ReadFault, end_of_input, invalid_length, behind}
-use Rattle.avro_binary.specs.Breaks.{LongBreaks, StartsWithLong, Left, BreaksAfter, BreaksWithin, EntryBreaks}
+use Rattle.avro_cursor.specs.Encoding.{SpellsBytes}
+use Rattle.avro_cursor.specs.Fault.{ReadFault, end_of_input, invalid_length, behind}
+use Rattle.avro_cursor.specs.Breaks.{LongBreaks, StartsWithLong, Left, BreaksAfter, BreaksWithin, EntryBreaks}
 use Rattle.avro_schema.specs.Node.{Node}
 use Rattle.avro_container.specs.File.{Property, metadata_nodes}
 use Rattle.avro_container.specs.HeaderFails.{entry_limits}

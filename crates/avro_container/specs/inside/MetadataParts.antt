@@ -6,10 +6,10 @@ use Rattle.std.specs.declared.alloc.Global.{Global}
 use Rattle.avro_zigzag.specs.Number.{SpellsLong}
 use Rattle.avro_schema.specs.Node.{Node, root_of}
 use Rattle.avro_schema.specs.Distinct.{are_distinct}
-use Rattle.avro_binary.specs.Blocks.{IsInBlocks}
-use Rattle.avro_binary.specs.Encoding.{Encodes}
-use Rattle.avro_binary.specs.Fault.{ReadFault, behind}
-use Rattle.avro_binary.specs.Breaks.{Left, all_left, Head, head_count, IsHead, HasSize, BlocksBreak, EntriesAreWhole}
+use Rattle.avro_cursor.specs.Blocks.{IsInBlocks}
+use Rattle.avro_cursor.specs.Encoding.{Encodes}
+use Rattle.avro_cursor.specs.Fault.{ReadFault, behind}
+use Rattle.avro_cursor.specs.Breaks.{Left, all_left, Head, head_count, IsHead, HasSize, BlocksBreak, EntriesAreWhole}
 use Rattle.avro_container.specs.File.{Property, metadata_nodes, metadata_value}
 use Rattle.avro_container.specs.HeaderFails.{PropertyWants, entry_limits}
 use Rattle.avro_container.specs.declared.header.properties_head.PropertiesHead.{PropertiesHead}

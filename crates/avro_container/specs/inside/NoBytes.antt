@@ -1,7 +1,7 @@
 -- Data without bytes.
 use Rattle.std.specs.Prelude.{◌≡◌, ℕ, List, [], Ok}
 use Rattle.avro_schema.specs.Value.{Value}
-use Rattle.avro_binary.specs.Encoding.{plain}
+use Rattle.avro_cursor.specs.Encoding.{plain}
 use Rattle.avro_container.specs.BlockFails.{BlockReading}
 use Rattle.avro_container.specs.inside.DatumRead.{MakesOf}
 

@@ -2,7 +2,7 @@
 
 ghost use Rattle.std.specs.Prelude.{◌≡◌, ◌≢◌, ◌+◌, ◌-◌, ◌^◌, ◌<◌, ◌≤◌, max, true, false, None, length, OnOk, OnErr, IfOk, Err, pos, take, drop, Some, ℕ, List};
 ghost use Rattle.std.specs.Result.{IfErr};
-ghost use Rattle.avro_binary.specs.Breaks.{StartsWithLong};
+ghost use Rattle.avro_cursor.specs.Breaks.{StartsWithLong};
 ghost use Rattle.avro_container.specs.FileSeen.{file_fault, part_fault};
 ghost use Rattle.avro_container.specs.inside.Filled.{GrowsBy, TakesAtMost, UnlessFailed};
 ghost use Rattle.avro_container.specs.Held.{held};

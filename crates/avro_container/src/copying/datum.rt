@@ -4,7 +4,7 @@ ghost use Rattle.std.specs.Prelude.{◌≡◌, ◌++◌, ◌<◌, ◌≤◌, Non
 ghost use Rattle.std.specs.Option.{option_copied};
 ghost use Rattle.std.specs.Result.{IfErr};
 ghost use Rattle.avro_schema.specs.SeenSchema.{schema_nodes};
-ghost use Rattle.avro_binary.specs.Encoding.{plain};
+ghost use Rattle.avro_cursor.specs.Encoding.{plain};
 ghost use Rattle.avro_container.specs.inside.DataPacked.{PacksData};
 ghost use Rattle.avro_container.specs.DataRead.{IsDataFault, resolution};
 ghost use Rattle.avro_container.specs.inside.DatumRead.{ReadsDatum};

@@ -2,7 +2,7 @@
 
 ghost use Rattle.std.specs.Prelude.{◌≡◌, ◌≢◌, ◌+◌, ◌^◌, ◌<◌, ◌≤◌, ℕ, Bool, List, max, length, take, drop, pos, IfOk, Some};
 ghost use Rattle.std.specs.Result.{IfErr};
-ghost use Rattle.avro_binary.specs.Breaks.{ContentBreaks, StartsWithLong};
+ghost use Rattle.avro_cursor.specs.Breaks.{ContentBreaks, StartsWithLong};
 ghost use Rattle.avro_container.specs.FileFault.{FileFault};
 ghost use Rattle.avro_container.specs.FileSeen.{file_fault, header_part_fault};
 ghost use Rattle.avro_container.specs.HeaderFails.{ContentWants};

@@ -2,7 +2,7 @@
 
 ghost use Rattle.std.specs.Prelude.{◌≡◌, ◌≢◌, ◌+◌, ◌^◌, ◌<◌, ◌≤◌, true, false, max, length, IfOk, Some, OnOk, Err};
 ghost use Rattle.std.specs.Result.{IfErr};
-ghost use Rattle.avro_binary.specs.Breaks.{all_left};
+ghost use Rattle.avro_cursor.specs.Breaks.{all_left};
 ghost use Rattle.avro_container.specs.FileFault.{FileFault};
 ghost use Rattle.avro_container.specs.FileSeen.{file_fault};
 ghost use Rattle.avro_container.specs.HeaderFails.{PropertyWants, entry_limits};

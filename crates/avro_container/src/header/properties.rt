@@ -5,7 +5,7 @@ ghost use Rattle.std.specs.BTreeSet.{contains_text};
 ghost use Rattle.std.specs.Str.{is_utf8};
 ghost use Rattle.std.specs.Result.{IfErr};
 ghost use Rattle.avro_schema.specs.Distinct.{are_distinct};
-ghost use Rattle.avro_binary.specs.Breaks.{KeyBreaks, Left};
+ghost use Rattle.avro_cursor.specs.Breaks.{KeyBreaks, Left};
 ghost use Rattle.avro_container.specs.FileFault.{FileFault};
 ghost use Rattle.avro_container.specs.FileSeen.{file_fault};
 ghost use Rattle.avro_container.specs.HeaderFails.{ContentWants, PropertyWants};

@@ -2,8 +2,8 @@
 
 ghost use Rattle.std.specs.Prelude.{◌≡◌, ◌+◌, ◌^◌, ◌<◌, ◌≤◌, ℕ, true, max, length, take, drop, IfOk, Some};
 ghost use Rattle.std.specs.Result.{IfErr};
-ghost use Rattle.avro_binary.specs.Breaks.{HeadBreaks, StartsWithLong};
-ghost use Rattle.avro_binary.specs.BlockHeads.{signed_count};
+ghost use Rattle.avro_cursor.specs.Breaks.{HeadBreaks, StartsWithLong};
+ghost use Rattle.avro_cursor.specs.BlockHeads.{signed_count};
 ghost use Rattle.avro_container.specs.FileFault.{FileFault};
 ghost use Rattle.avro_container.specs.FileSeen.{file_fault};
 ghost use Rattle.avro_container.specs.inside.HeaderParts.{PartStops, Refused, Takes};

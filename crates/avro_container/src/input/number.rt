@@ -3,7 +3,7 @@
 ghost use Rattle.std.specs.Prelude.{◌≡◌, ◌≢◌, ◌+◌, ◌-◌, ◌^◌, ◌<◌, ◌≤◌, max, length, take, drop, OnOk, OnErr, IfOk, Err};
 ghost use Rattle.avro_zigzag.specs.NumberFault.{LongFails};
 ghost use Rattle.avro_zigzag.specs.declared.VarError.TheVariants.{EndOfInput, OutOfRange};
-ghost use Rattle.avro_binary.specs.Breaks.{StartsWithLong};
+ghost use Rattle.avro_cursor.specs.Breaks.{StartsWithLong};
 ghost use Rattle.avro_container.specs.inside.Filled.{GrowsBy, TakesAtMost, UnlessLost};
 ghost use Rattle.avro_container.specs.Held.{held};
 

@@ -1,8 +1,8 @@
 use Rattle.std.proofs.Common.{Bool}
 use Rattle.std.proofs.lemmas.Result.{err_from_is_err_and}
 use Rattle.avro_schema.specs.Node.{Node}
-use Rattle.avro_binary.specs.Breaks.{BooleanBreaks}
-use Rattle.avro_binary.specs.Elements.{IsBoolean}
+use Rattle.avro_cursor.specs.Breaks.{BooleanBreaks}
+use Rattle.avro_cursor.specs.Elements.{IsBoolean}
 use Rattle.avro_binary.proofs.CountSteps.{inside_of, finds_inside, counted_found, counted_refused}
 use Rattle.avro_binary.proofs.LeafReads.{boolean_found}
 use Rattle.avro_binary.proofs.NodeSteps.{enter_refused}

@@ -1,6 +1,6 @@
 use Rattle.std.proofs.lemmas.Result.{err_from_is_err_and}
 use Rattle.avro_schema.specs.Node.{Node}
-use Rattle.avro_binary.specs.Breaks.{BytesBreaks}
+use Rattle.avro_cursor.specs.Breaks.{BytesBreaks}
 use Rattle.avro_binary.proofs.CountSteps.{inside_of, passes_inside, counted_found, counted_refused}
 use Rattle.avro_binary.proofs.LeafReads.{bytes_found}
 use Rattle.avro_binary.proofs.NodeSteps.{enter_refused}

@@ -3,8 +3,8 @@ use Rattle.std.proofs.lemmas.Int.{to_z-of_z}
 use Rattle.avro_schema.specs.Value.{Value}
 use Rattle.std.proofs.lemmas.Result.{err_from_is_err_and}
 use Rattle.avro_schema.specs.Node.{Node}
-use Rattle.avro_binary.specs.Breaks.{IntBreaks}
-use Rattle.avro_binary.specs.Elements.{IsInt}
+use Rattle.avro_cursor.specs.Breaks.{IntBreaks}
+use Rattle.avro_cursor.specs.Elements.{IsInt}
 use Rattle.avro_binary.proofs.CountSteps.{inside_of, finds_inside, counted_found, counted_refused}
 use Rattle.avro_binary.proofs.LeafReads.{int_found}
 use Rattle.avro_binary.proofs.NodeSteps.{enter_refused}

@@ -1,8 +1,8 @@
 use Rattle.std.proofs.Common.{ℕ, ◌<◌, length, subst, arith}
 use Rattle.std.proofs.lemmas.Result.{err_from_is_err_and}
 use Rattle.avro_schema.specs.Node.{Node}
-use Rattle.avro_binary.specs.Breaks.{IndexBreaks}
-use Rattle.avro_binary.specs.Elements.{IsIndex}
+use Rattle.avro_cursor.specs.Breaks.{IndexBreaks}
+use Rattle.avro_cursor.specs.Elements.{IsIndex}
 use Rattle.avro_binary.proofs.CountSteps.{inside_of, finds_inside, counted_found, counted_refused}
 use Rattle.avro_binary.proofs.LeafReads.{symbol_found}
 use Rattle.avro_binary.proofs.NodeSteps.{enter_refused}

@@ -10,19 +10,19 @@ use Rattle.avro_schema.specs.Node.{Node, node_at, field_ids}
 use Rattle.avro_schema.specs.Seen.{node_of, ids_of, seen_fields, texts_of}
 use Rattle.avro_schema.specs.Runs.{StartWithEmpties, ids_at}
 use Rattle.avro_schema.specs.SeenSchema.{schema_nodes}
-use Rattle.avro_binary.specs.Breaks.{IndexBreaks}
-use Rattle.avro_binary.specs.Elements.{Finds, IsIndex, Refuses}
-use Rattle.avro_binary.specs.Fault.{limit_exceeded}
-use Rattle.avro_binary.specs.Seen.{read_fault}
-use Rattle.avro_binary.specs.inside.CountsAgain.{CountsAgain}
+use Rattle.avro_cursor.specs.Breaks.{IndexBreaks}
+use Rattle.avro_cursor.specs.Elements.{Finds, IsIndex, Refuses}
+use Rattle.avro_cursor.specs.Fault.{limit_exceeded}
+use Rattle.avro_cursor.specs.Seen.{read_fault}
+use Rattle.avro_cursor.specs.CountsAgain.{CountsAgain}
 use Rattle.avro_binary.specs.Making.{Made}
-use Rattle.avro_binary.specs.CursorValue.{CursorValue}
+use Rattle.avro_cursor.specs.CursorValue.{CursorValue}
 use Rattle.avro_binary.specs.CursorReads.{ReadsNode, limits_at}
 use Rattle.avro_binary.proofs.BlockSteps.{head_read, end_read, has_size, blocks_none, head_refused, item_refused, size_refused, depth_kept, blob_kept, offset_is, block_smaller, blocks_push}
 use Rattle.avro_binary.proofs.EmptyReads.{reads_kept}
 use Rattle.avro_binary.proofs.EmptyRuns.{none_passed, run_breaks_off, run_passed}
 use Rattle.avro_binary.proofs.NodeSteps.{node_left, node_refused, enter_refused, ArrayDone, array_found, map_found, FieldsDone, fields_none, branch_refused, branch_unread, union_found, branch_at, ids-length, texts-length, null_past, fields_push, field_breaks, record_found, record_refused, ids_split, ids_next, ids_all}
-use Rattle.avro_binary.proofs.public.Ranges.{bytes-below, not-below}
+use Rattle.avro_cursor.proofs.public.Ranges.{bytes-below, not-below}
 use Rattle.avro_binary.proofs.Repeated.{others_last, same_reads}
 use Rattle.avro_binary.proofs.RunLaws.{values_kind, entries_kind}
 use Rattle.avro_binary.proofs.RunSteps.{run_none, run_push, run_breaks, value_run, value_report, entry_run, entry_report, key_report, moves-join, moves-passed}

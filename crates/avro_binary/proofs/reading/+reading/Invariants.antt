@@ -6,7 +6,7 @@ use Rattle.avro_schema.specs.Node.{node_at, field_ids}
 use Rattle.avro_schema.specs.Seen.{seen_fields}
 use Rattle.avro_schema.specs.SeenSchema.{schema_nodes}
 use Rattle.avro_binary.specs.CursorReads.{ValuesRun, EntriesRun, FindsRun}
-use Rattle.avro_binary.specs.KeySet.{key_set}
+use Rattle.avro_cursor.specs.KeySet.{key_set}
 use Rattle.avro_binary.specs.inside.PassesRun.{TellOfRuns}
 use Rattle.avro_binary.proofs.NodeSteps.{ArrayDone, MapDone, FieldsDone}
 use Rattle.avro_binary.proofs.reading.+reading.Given as goal

@@ -3,7 +3,7 @@ use Rattle.std.proofs.lemmas.Bool.Decides.{nat_tests}
 use Rattle.avro_zigzag.specs.Number.{number_bytes}
 use Rattle.avro_schema.specs.Seen.{value_of}
 use Rattle.avro_schema.proofs.public.DatumViews.{value_of-Map}
-use Rattle.avro_binary.specs.Encoding.{plain}
+use Rattle.avro_cursor.specs.Encoding.{plain}
 use Rattle.avro_binary.proofs.Written.{array-written, empty_array-written, map-written, empty_map-written, value_of-Union}
 use Rattle.avro_binary.proofs.write.+writing.Goals as goal
 use Rattle.avro_binary.proofs.write.+writing.Goals.{write_array-then-not-is_empty+in_ok-write_count+in_ok-write_items, write_array-else-not-is_empty, write_map-then-not-is_empty+in_ok-write_count+in_ok-write_entries, write_map-else-not-is_empty}

@@ -1,6 +1,6 @@
 use Rattle.std.proofs.Common.{◌≡◌, ◌++◌, length, take, drop}
 use Rattle.avro_schema.specs.Seen.{values_of, entries_of}
-use Rattle.avro_binary.specs.Encoding.{plain_values, plain_entries}
+use Rattle.avro_cursor.specs.Encoding.{plain_values, plain_entries}
 use Rattle.avro_binary.proofs.write.+writing.Given as goal
 
 -- with what is left, the output is that at the end

@@ -1,5 +1,5 @@
 use Rattle.std.proofs.Common.{◌≡◌, ◌++◌, drop}
-use Rattle.avro_binary.specs.Encoding.{plain_entries}
+use Rattle.avro_cursor.specs.Encoding.{plain_entries}
 use Rattle.avro_container.specs.File.{property_entries}
 use Rattle.avro_container.specs.Parts.{properties_of}
 use Rattle.avro_container.proofs.sink.append_properties.Given as goal

@@ -4,7 +4,7 @@ use Rattle.avro_schema.specs.Seen.{value_of}
 use Rattle.avro_schema.specs.SeenSchema.{schema_nodes}
 use Rattle.avro_schema.specs.Value.{Value}
 use Rattle.avro_schema.specs.declared.schema.Schema.{Schema}
-use Rattle.avro_binary.specs.Encoding.{Encodes}
+use Rattle.avro_cursor.specs.Encoding.{Encodes}
 use Rattle.avro_compare.specs.Fault.{ResolutionFault}
 use Rattle.avro_resolve.specs.Reading.{ReadsAs}
 use Rattle.avro_compare.specs.Resolve.{Resolved, resolve_root}

@@ -3,7 +3,7 @@ use Rattle.std.proofs.Common.{length, drop}
 use Rattle.avro_schema.specs.Node.{field_ids}
 use Rattle.avro_schema.specs.SeenSchema.{schema_nodes}
 use Rattle.avro_binary.proofs.EmptyRuns.{run_found, run_refused}
-use Rattle.avro_binary.proofs.public.Ranges.{bytes-below}
+use Rattle.avro_cursor.proofs.public.Ranges.{bytes-below}
 use Rattle.avro_binary.proofs.reading.fields.pass_run.Goals as goal
 
 pub returns-in_err-pass_empty-clause-refused : goal.returns-in_err-pass_empty-clause-refused

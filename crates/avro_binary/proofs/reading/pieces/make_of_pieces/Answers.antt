@@ -4,7 +4,7 @@ use Rattle.avro_schema.specs.Seen.{seen_fields, values_from}
 use Rattle.avro_schema.specs.SeenSchema.{schema_nodes}
 use Rattle.avro_schema.specs.Value.{Value}
 use Rattle.avro_binary.specs.CursorReads.{FindsValue}
-use Rattle.avro_binary.specs.CursorValue.{CursorValue}
+use Rattle.avro_cursor.specs.CursorValue.{CursorValue}
 use Rattle.avro_binary.specs.Pieces.{ArePieces}
 use Rattle.avro_binary.proofs.reading.pieces.make_of_pieces.Goals as goal
 

@@ -4,7 +4,7 @@ use Rattle.avro_schema.specs.Seen.{node_of, texts_of}
 use Rattle.avro_schema.specs.SeenSchema.{schema_nodes}
 use Rattle.avro_binary.proofs.NodeSteps.{null_past, texts-length}
 use Rattle.avro_binary.proofs.PieceSteps.{passed_of}
-use Rattle.avro_binary.proofs.public.Ranges.{not-below}
+use Rattle.avro_cursor.proofs.public.Ranges.{not-below}
 use Rattle.avro_binary.proofs.reading.pieces.pass_leaf.Goals as goal
 
 pub returns-then-not-has : goal.returns-then-not-has

@@ -2,7 +2,7 @@ use Rattle.std.proofs.lemmas.Result.{err_from_is_err_and}
 use Rattle.avro_schema.specs.Node.{node_at}
 use Rattle.avro_schema.specs.SeenSchema.{schema_nodes}
 use Rattle.avro_binary.proofs.EmptyReads.{empty_found, empty_refused}
-use Rattle.avro_binary.proofs.public.Ranges.{bytes-below}
+use Rattle.avro_cursor.proofs.public.Ranges.{bytes-below}
 use Rattle.avro_binary.proofs.reading.records.make_empty.Goals as goal
 
 pub returns-in_err-pass_empty-in-Some : goal.returns-in_err-pass_empty-in-Some

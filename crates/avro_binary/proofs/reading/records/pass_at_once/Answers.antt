@@ -1,7 +1,7 @@
 use Rattle.std.proofs.Common.{sym, subst}
 use Rattle.avro_schema.specs.Node.{Node, node_at}
 use Rattle.avro_schema.specs.SeenSchema.{schema_nodes}
-use Rattle.avro_binary.specs.CursorValue.{CursorValue}
+use Rattle.avro_cursor.specs.CursorValue.{CursorValue}
 use Rattle.avro_binary.specs.inside.PassesAtOnce.{PassesAtOnce}
 use Rattle.avro_binary.proofs.PieceSteps.{passes_kept}
 use Rattle.avro_binary.proofs.reading.records.pass_at_once.Goals as goal

@@ -1,7 +1,7 @@
 -- The properties so far stand one after another.
 use Rattle.std.proofs.Common.{◌≡◌, ◌+◌, ◌-◌, ◌≤◌, max, true, length, bytes_eq}
 use Rattle.avro_schema.specs.Distinct.{are_distinct}
-use Rattle.avro_binary.specs.Breaks.{Left}
+use Rattle.avro_cursor.specs.Breaks.{Left}
 use Rattle.avro_container.specs.inside.HeaderParts.{AreNames, Takes, TakesProperties}
 use Rattle.avro_container.specs.Held.{held}
 use Rattle.avro_container.specs.Parts.{properties_of}

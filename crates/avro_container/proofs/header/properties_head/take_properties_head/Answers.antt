@@ -2,8 +2,8 @@
 use Rattle.std.proofs.Common.{◌≡◌, ◌+◌, Bool, pos, true, false, take, drop, refl, subst, rules}
 use Rattle.std.specs.Prelude.{neg_ℤ}
 use Rattle.std.proofs.lemmas.Result.{err_from_is_err_and}
-use Rattle.avro_binary.specs.BlockHeads.{signed_count}
-use Rattle.avro_binary.specs.Breaks.{StartsWithLong}
+use Rattle.avro_cursor.specs.BlockHeads.{signed_count}
+use Rattle.avro_cursor.specs.Breaks.{StartsWithLong}
 use Rattle.avro_container.specs.inside.Filled.{GrowsBy}
 use Rattle.avro_container.specs.Held.{held}
 use Rattle.avro_container.proofs.Behind.{then_refused, takes_then, reports_not_failed}

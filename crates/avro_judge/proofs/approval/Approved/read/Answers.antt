@@ -1,6 +1,6 @@
 use Rattle.std.proofs.Common.{ℕ, Result, Err}
-use Rattle.avro_binary.specs.Seen.{UnlessOutOfMemory}
-use Rattle.avro_binary.specs.declared.error.ReadError.{ReadError}
+use Rattle.avro_cursor.specs.Seen.{UnlessOutOfMemory}
+use Rattle.avro_cursor.specs.declared.error.ReadError.{ReadError}
 use Rattle.avro_resolve.specs.Seen.{UnlessOutOfMemory as UnlessNoMemory}
 use Rattle.avro_resolve.specs.declared.error.ReadResolveError.{ReadResolveError}
 use Rattle.avro_judge.proofs.approval.Approved.read.Goals as goal

@@ -1,7 +1,7 @@
 use Rattle.std.proofs.Common.{List, ℕ, subst}
 use Rattle.std.specs.Prelude.{IfOk}
 use Rattle.avro_schema.specs.Seen.{values_from}
-use Rattle.avro_binary.specs.Encoding.{plain_values}
+use Rattle.avro_cursor.specs.Encoding.{plain_values}
 use Rattle.avro_packed.specs.Appended.{Holds}
 use Rattle.avro_packed.proofs.Gathering.{block_of_items}
 use Rattle.avro_packed.proofs.appending.AppendingMake.array.Goals as goal

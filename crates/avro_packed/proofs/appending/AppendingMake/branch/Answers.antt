@@ -2,7 +2,7 @@ use Rattle.std.proofs.Common.{◌≡◌, ◌++◌, ◌∙◌, List, ℕ, ℤ, w6
 use Rattle.std.specs.Prelude.{pos}
 use Rattle.std.proofs.lemmas.Int.{to_z-of_z}
 use Rattle.avro_zigzag.specs.Number.{number_bytes}
-use Rattle.avro_binary.specs.Encoding.{plain}
+use Rattle.avro_cursor.specs.Encoding.{plain}
 use Rattle.avro_packed.specs.Appended.{Holds, branch_bytes, branch_in}
 use Rattle.avro_packed.specs.inside.Outputs.{still_holds}
 use Rattle.avro_packed.proofs.appending.AppendingMake.branch.Goals as goal

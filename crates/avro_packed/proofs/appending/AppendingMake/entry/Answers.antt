@@ -1,7 +1,7 @@
 use Rattle.std.proofs.Common.{◌≡◌, ◌++◌, List, ℕ, subst, sym, rules}
 use Rattle.std.specs.Prelude.{OnOk}
 use Rattle.avro_schema.specs.Seen.{entries_from}
-use Rattle.avro_binary.specs.Encoding.{plain, plain_bytes, plain_entries}
+use Rattle.avro_cursor.specs.Encoding.{plain, plain_bytes, plain_entries}
 use Rattle.avro_packed.specs.Appended.{AreEntries, Holds}
 use Rattle.avro_packed.proofs.Gathering.{entry_gathered}
 use Rattle.avro_packed.proofs.appending.AppendingMake.entry.Goals as goal

@@ -1,7 +1,7 @@
 use Rattle.std.proofs.Common.{◌≡◌, ◌++◌, List, ℕ, subst, sym, rules}
 use Rattle.std.specs.Prelude.{OnOk}
 use Rattle.avro_schema.specs.Seen.{values_from}
-use Rattle.avro_binary.specs.Encoding.{plain, plain_values}
+use Rattle.avro_cursor.specs.Encoding.{plain, plain_values}
 use Rattle.avro_packed.specs.Appended.{AreItems, Holds}
 use Rattle.avro_packed.proofs.Gathering.{item_gathered}
 use Rattle.avro_packed.proofs.appending.AppendingMake.item.Goals as goal

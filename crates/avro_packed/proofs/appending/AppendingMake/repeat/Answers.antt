@@ -1,4 +1,4 @@
-use Rattle.avro_binary.specs.Encoding.{plain}
+use Rattle.avro_cursor.specs.Encoding.{plain}
 use Rattle.avro_packed.proofs.Gathering.{items_repeated}
 use Rattle.avro_packed.proofs.appending.AppendingMake.repeat.Goals as goal
 

@@ -2,7 +2,7 @@ use Rattle.std.proofs.Common.{[], ◌++◌, ℤ, w64, subst}
 use Rattle.std.specs.Prelude.{IfOk}
 use Rattle.std.proofs.lemmas.Int.{to_z-of_z}
 use Rattle.avro_schema.specs.Value.{Value}
-use Rattle.avro_binary.specs.Encoding.{plain}
+use Rattle.avro_cursor.specs.Encoding.{plain}
 use Rattle.avro_packed.specs.Appended.{Holds, branch_bytes}
 use Rattle.avro_packed.proofs.IntoBranches.{holds_in}
 use Rattle.avro_packed.proofs.putting.AppendingPut.long.Goals as goal

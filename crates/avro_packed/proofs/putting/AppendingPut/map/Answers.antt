@@ -2,7 +2,7 @@ use Rattle.std.proofs.Common.{List, ℕ, refl, subst, sym, ◌∙◌}
 use Rattle.std.specs.Prelude.{IfOk}
 use Rattle.avro_schema.specs.Seen.{entries_from}
 use Rattle.avro_schema.specs.Value.{Value}
-use Rattle.avro_binary.specs.Encoding.{plain_entries}
+use Rattle.avro_cursor.specs.Encoding.{plain_entries}
 use Rattle.avro_packed.specs.Appended.{Holds}
 use Rattle.avro_packed.proofs.Gathering.{block_of_entries}
 use Rattle.avro_packed.proofs.IntoBranches.{holds_in}

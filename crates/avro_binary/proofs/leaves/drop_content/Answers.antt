@@ -1,5 +1,0 @@
-use Rattle.std.proofs.Common.{arith}
-use Rattle.avro_binary.proofs.leaves.drop_content.Goals as goal
-
-pub returns : goal.returns
-returns c = λ i. omega (arith, c.type_inv._content i)

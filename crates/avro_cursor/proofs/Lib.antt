@@ -1,0 +1,3 @@
+pub mod CursorSteps
+pub mod KeySets
+pub mod public

@@ -1,0 +1,10 @@
+pub mod Blocks
+pub mod Encoding
+pub mod Fault
+pub mod Breaks
+pub mod Seen
+pub mod KeySet
+pub mod CursorValue
+pub mod CountsAgain
+pub mod Elements
+pub mod BlockHeads
