@@ -17,7 +17,7 @@ use avro_schema::{Field, Memory, Node, NodeId, Schema};
 use std::alloc::Global;
 
 /// A writer's field, and the reader's field that takes its value.
-#[derive(Clone, Copy, Debug)]
+#[derive(Clone, Copy)]
 pub(crate) struct FieldAsk {
     /// The node of the writer's field.
     pub(crate) node: NodeId,
@@ -26,7 +26,7 @@ pub(crate) struct FieldAsk {
 }
 
 /// What a pair of nodes asks of a datum that fails there, with all of the writer's fields, to build the datum from.
-#[derive(Debug, Drop)]
+#[derive(Drop)]
 pub(crate) enum Ask {
     /// Nothing: no datum fails.
     Quiet,

@@ -8,7 +8,7 @@ use avro_schema::NodeId;
 
 /// What a pair of nodes asks of a datum that fails there, as its comparison and the writer's node say it. Nothing is
 /// copied for it.
-#[derive(Clone, Copy, Debug)]
+#[derive(Clone, Copy)]
 pub(crate) enum KeptAsk<'a> {
     /// Nothing: no datum fails.
     Quiet,

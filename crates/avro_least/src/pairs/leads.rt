@@ -21,7 +21,7 @@ use std::alloc::Global;
 use std::slice;
 
 /// A pair that leads to another one, by the part at an index.
-#[derive(Clone, Copy, Debug)]
+#[derive(Clone, Copy)]
 pub(crate) struct Lead {
     /// The index of the pair.
     pub(crate) pair: u32,

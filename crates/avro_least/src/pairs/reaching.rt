@@ -24,7 +24,7 @@ use indexmap::IndexSet;
 use std::alloc::Global;
 
 /// The pairs that were reached, and the comparison of each.
-#[derive(Debug, Drop)]
+#[derive(Drop)]
 pub struct Reached {
     /// The number of each pair, in order of discovery.
     pub known: IndexSet<u64>,
@@ -168,6 +168,51 @@ pub(crate) fn ask_at_index<'a>(
     ask_of_pair(writer, reader, pair)
 }
 
+/// The pair of the roots alone, before it is compared.
+fn start(alloc: Global) -> Result<Reached, Memory>
+    ensures root { IfOk result (λ p. is_key (keys p.known) 0 ≡ true) }
+    ensures alone { IfOk result (λ p. (k : ℕ) → is_key (keys p.known) k ≡ true → is_key (0 ∷ []) k ≡ true) }
+    ensures all { IfOk result (λ p. (P : ℕ → Bool) → P 0 ≡ true → list_all P (keys p.known) ≡ true) }
+    ensures none { IfOk result (λ p. p.found.items ≡ []) }
+{
+    let mut known = IndexSet::new(alloc);
+    let mut near = 0;
+    add_all(&mut known, &[0], &mut near)?;
+    Ok(Reached {
+        known,
+        found: Vec::new(alloc),
+    })
+}
+
+/// Keeps the comparison of a pair, and adds the pairs that it leads to.
+fn keep(
+    reached: &mut Reached,
+    pair: Comparison,
+    more: &[u64],
+    near: &mut usize,
+) -> Result<(), Memory>
+    ensures kept { OnOk result ((rest : List ℕ) × (keys reached.new.known ≡ keys reached.old.known ++ rest)) }
+    ensures added { OnOk result (list_all (is_key (keys reached.new.known)) more.now ≡ true) }
+    ensures old_or_new { OnOk result ((k : ℕ) → is_key (keys reached.new.known) k ≡ true → (is_key (keys reached.old.known) k || is_key more.now k) ≡ true) }
+    ensures all { OnOk result ((P : ℕ → Bool) → list_all P (keys reached.old.known) ≡ true → list_all P more.now ≡ true → list_all P (keys reached.new.known) ≡ true) }
+    ensures found { OnOk result (reached.new.found.items ≡ reached.old.found.items ++ pair ∷ []) }
+{
+    add_all(&mut reached.known, more, near)?;
+    reached.found.push(pair)?;
+    Ok(())
+}
+
+/// The number of the pair at an index.
+fn key_at(known: &IndexSet<u64>, i: usize) -> u64
+    requires { i < length (keys known.now) }
+    ensures { slice_get (keys known.now) i ≡ Some result }
+{
+    match known.get_index(i) {
+        None => unreachable!(),
+        Some(key) => *key,
+    }
+}
+
 /// All pairs that the roots lead to. A pair whose writer's node has no data, by the table of the
 /// writer's least data, is left out.
 ///
@@ -191,26 +236,41 @@ pub fn reach(
     ensures of_keys { IfOk result (λ p. AreFound (schema_nodes writer.now) (schema_nodes reader.now) (keys p.known) p.found.items) }
     ensures found { IfOk result (λ p. AreComparisons (schema_nodes writer.now) (schema_nodes reader.now) p.found.items) }
 {
+    let names = Names::new(alloc, writer, reader)?;
+    reach_by(alloc, &names, writer, reader, table)
+}
+
+/// The same by the tables of names.
+fn reach_by(
+    alloc: Global,
+    names: &Names,
+    writer: &Schema,
+    reader: &Schema,
+    table: &[Option<Least>],
+) -> Result<Reached, Memory>
+    requires { names.now ≡ (writer.now, reader.now) }
+    ensures root { IfOk result (λ p. is_key (keys p.known) 0 ≡ true) }
+    ensures below { IfOk result (λ p. list_all (λ k. nat_lt k (length (schema_nodes writer.now) * length (schema_nodes reader.now))) (keys p.known) ≡ true) }
+    ensures closed { IfOk result (λ p. AreFollowed (steps_at (schema_nodes writer.now) (schema_nodes reader.now) (table_of table.now)) (keys p.known) (length (keys p.known))) }
+    ensures reached { IfOk result (λ p. (P : ℕ → Bool) → P 0 ≡ true
+        → ((k : ℕ) → P k ≡ true → list_all P (steps_at (schema_nodes writer.now) (schema_nodes reader.now) (table_of table.now) k) ≡ true) → list_all P (keys p.known) ≡ true) }
+    ensures stepped { IfOk result (λ p. (k : ℕ) → is_key (keys p.known) k ≡ true
+        → IsSteppedTo (steps_at (schema_nodes writer.now) (schema_nodes reader.now) (table_of table.now)) k) }
+    ensures one_each { IfOk result (λ p. length p.found.items ≡ length (keys p.known)) }
+    ensures of_keys { IfOk result (λ p. AreFound (schema_nodes writer.now) (schema_nodes reader.now) (keys p.known) p.found.items) }
+    ensures found { IfOk result (λ p. AreComparisons (schema_nodes writer.now) (schema_nodes reader.now) p.found.items) }
+{
     // The contract of these calls bounds the number of nodes, which the proof needs.
     let _ = count(writer);
     let _ = count(reader);
-    let names = Names::new(alloc, writer, reader)?;
-    let mut known = IndexSet::new(alloc);
-    let mut found = Vec::new(alloc);
+    let mut reached = start(alloc)?;
     let mut near = 0;
-    add_all(&mut known, &[0], &mut near)?;
     let mut next = 0;
-    while next < known.len() {
-        match known.get_index(next) {
-            None => unreachable!(),
-            Some(key) => {
-                let key = *key;
-                let (pair, more) = visit(alloc, &names, writer, reader, table, key)?;
-                add_all(&mut known, &more, &mut near)?;
-                found.push(pair)?;
-            }
-        }
+    while next < reached.known.len() {
+        let key = key_at(&reached.known, next);
+        let (pair, more) = visit(alloc, names, writer, reader, table, key)?;
+        keep(&mut reached, pair, &more, &mut near)?;
         next += 1;
     }
-    Ok(Reached { known, found })
+    Ok(reached)
 }
