@@ -6,7 +6,7 @@
 Each row is a command, run with each choice of closed streams, by a shell and under `strace`. Its status, what it prints on the streams
 that are open, and its files are to be those of the row; where the standard output is closed and would be written, status 4, and
 where the standard input is closed and would be read, too. `/dev/null` is to be opened three times for reading first of
-all and never closed, and no file that is opened after that may be descriptor 0, 1 or 2. A line a row, and the last line
+all and closed last of all, and no file that is opened between may be descriptor 0, 1 or 2. A line a row, and the last line
 is 'N runs, K wrong'.
 """
 
@@ -84,11 +84,12 @@ def fault_of_calls(calls):
     opened = [re.search(r"= (-?\d+)", line)[1] for line in calls[:3] if line.startswith(HELD)]
     if len(opened) != 3 or "-1" in opened:
         return f"/dev/null is not opened first: {calls[:3]}"
+    is_held = True
     for line in calls[3:]:
         call = re.match(r"(\w+)\(([^,)]*).*= (-?\d+)", line)
-        if call and call[1] in ("open", "openat", "dup", "dup2", "dup3") and call[3] in ("0", "1", "2"):
-            return line
         if call and call[1] == "close" and call[2] in opened:
+            is_held = False
+        elif call and call[1] != "close" and (call[3] in ("0", "1", "2") or not is_held):
             return line
     return None
 
