@@ -79,6 +79,7 @@ robust: $(PROGRAM) $(LIBRARY) ## runs checks/ on the proved program, and compare
 	checks/refusals.py $(PROGRAM)
 	checks/room.py $(PROGRAM)
 	checks/one_file.py $(PROGRAM)
+	checks/descriptors.py $(PROGRAM)
 	checks/stack.py $(PROGRAM)
 	checks/words.py $(PROGRAM)
 	checks/confirm.py $(PROGRAM)

@@ -245,6 +245,12 @@ def copying_rows():
     yield Row("copy one word", "copy i.avro i.avro", {source: file}, err=text, status=64)
     text = "avro: IN and OUT are one file\n"
     yield Row("copy one file", "copy i.avro ./i.avro", {source: file}, err=text, status=64)
+    files = {source: file, "r.avsc": '"long"'}
+    text = "avro: r.avsc is one of the files that are read\n"
+    yield Row("copy into reader", "copy i.avro r.avsc --reader r.avsc", files, err=text, status=64)
+    yield Row("copy into schema", "copy i.avro r.avsc", files, err="avro: r.avsc is a schema\n", status=64)
+    files = {source: file, made: "kept"}
+    yield Row("copy into other", "copy i.avro o.avro", files, "data 1 blocks 1\n", written={made: file})
     text = "avro: --sync takes 32 hexadecimal digits\n"
     yield Row("copy sync", "copy i.avro o.avro --sync 00", {source: file}, err=text, status=64, written={made: None})
 

@@ -23,8 +23,12 @@ HELP = "help"
 # What stands for the program without a command.
 NONE = ""
 
-ITEM = re.compile(r"^(?:pub(?:\(crate\))? )?fn (\w+)<'a>\(alloc: Global([^)]*)\)[^{]*\{\n(.*?)^\}", re.MULTILINE | re.DOTALL)
-WORD = r'(?:"([\w-]+)"|(\w+))'
+CONSTANT = re.compile(r"^const (\w+): [^=]*=\s(.*?);$", re.MULTILINE | re.DOTALL)
+# An argument or a command where it is written, or the name of the constant that has it.
+ARGUMENT = re.compile(r'\(\s*"([\w-]+)",\s*Takes::(\w+)(?:\("([^"]*)"\))?,\s*"[^"]*",?\s*\)|\b([A-Z_]+)\b')
+COMMAND = re.compile(r'\(\s*"(\w+)",\s*"[^"]*",\s*&(\w+),?\s*\)|\b([A-Z_]+)\b')
+# What an option takes, and the name of its value.
+TAKEN = re.compile(r'Takes::(\w+)(?:\(\w+\))? => option\(arg, id, "(\w+)"\)')
 
 
 def text_of(path):
@@ -47,56 +51,44 @@ class Usage:
 
 
 class Source:
-    """The grammar of the program's source: its functions make commands, arguments and options."""
+    """The grammar of the program's source: constants of arguments, and of commands."""
 
     def __init__(self, text):
-        self.items = {name: (re.findall(r"(\w+): &'a str", parameters), body) for name, parameters, body in ITEM.findall(text)}
-        makers = len(re.findall(r"^(?:pub(?:\(crate\))? )?fn ", text, re.MULTILINE))
-        if makers != len(self.items):
-            sys.exit(f"{GRAMMAR}: {len(self.items)} of {makers} functions can be read")
+        self.text = text
+        self.items = dict(CONSTANT.findall(text))
+        self.values = dict(TAKEN.findall(text))
+        known = len(re.findall(r"^const ", text, re.MULTILINE))
+        if known != len(self.items):
+            sys.exit(f"{GRAMMAR}: {len(self.items)} of {known} constants can be read")
 
     def usages(self):
         """Each command, by its name."""
-        program = self.items["program"][1]
-        found = {NONE: Usage(options=[("version", None)] if ".version(" in program else [])}
-        for item in re.findall(r"\.subcommand\((\w+)\(alloc\)\?\)", program):
-            body = self.items[item][1]
-            found[re.search(r'Command::new\(alloc, "(\w+)"\)', body)[1]] = self.command(body)
+        found = {NONE: Usage(options=[("version", None)] if ".version(" in self.text else [])}
+        for name, arguments in self.commands("COMMANDS"):
+            found[name] = self.command(arguments)
         return found
 
-    def command(self, body):
+    def commands(self, item):
+        """The name of each command of a constant, and that of its arguments."""
+        for name, arguments, other in COMMAND.findall(self.items[item]):
+            yield from self.commands(other) if other else [(name, arguments)]
+
+    def arguments(self, item):
+        """Each argument of a constant: its name, what it takes, and the word for that."""
+        for name, takes, word, other in ARGUMENT.findall(self.items[item]):
+            yield from self.arguments(other) if other else [(name, takes, word)]
+
+    def command(self, item):
         """The arguments in the order in which a command takes them."""
         usage = Usage()
-        named = {}
-        *lets, last = body.split(";\n")
-        for statement in lets:
-            variable = re.match(r"\s*let (\w+) = (.*)", statement, re.DOTALL)
-            if variable:
-                named[variable[1]] = self.argument(variable[2], {})
-        for taken in re.findall(r"\.arg\((.*?)\)\??\s*(?=\.arg|$)", last, re.DOTALL):
-            name, value, is_option = named.get(taken.strip()) or self.argument(taken, {})
-            if is_option:
-                usage.options.append((name, value))
+        for name, takes, word in self.arguments(item):
+            if takes in ("Word", "Words"):
+                usage.arguments.append(f"{word}..." if takes == "Words" else word)
+            elif takes == "Nothing":
+                usage.options.append((name, None))
             else:
-                usage.arguments.append(value)
+                usage.options.append((name, word if takes == "Option" else self.values[takes]))
         return usage
-
-    def argument(self, text, given):
-        """An argument: the word of an option, its value, and whether it is an option."""
-        call = re.match(r"\s*(\w+)\(alloc((?:, " + WORD + r")*)\)", text)
-        if call and call[1] in self.items:
-            parameters, body = self.items[call[1]]
-            words = [given.get(name, name) if name else text_ for text_, name in re.findall(WORD, call[2])]
-            return self.argument(body, dict(zip(parameters, words)))
-        if "Arg::new(" not in text:
-            sys.exit(f"{GRAMMAR}: an argument cannot be read: {text.strip()}")
-        option, value = (self.word(text, method, given) for method in ("long", "value_name"))
-        return option, f"{value}..." if "num_args(1..)" in text else value, option is not None
-
-    @staticmethod
-    def word(text, method, given):
-        found = re.search(rf"\.{method}\({WORD}\)", text)
-        return (found[1] or given[found[2]]) if found else None
 
 
 def usages_of_program(program):

@@ -1,4 +1,4 @@
-//! Copies of a file into itself by another name, and how the program writes its reports on files.
+//! Copies of a file into itself by another name, or into a schema, and how the program writes its reports on files.
 
 /// The sheet, and how many runs it has.
 pub(crate) const SHEET: (&str, usize) = (
@@ -46,6 +46,36 @@ holds five.avro Obj\x01\x02\x16avro.schema\n"int"\x00\m\x02\x02\n\m
 holds hard.avro Obj\x01\x02\x16avro.schema\n"int"\x00\m\x02\x02\n\m
 holds twin.avro Obj\x01\x02\x16avro.schema\n"int"\x00\m\x02\x02\n\m
 holds made.avro Obj\x01\x02\x16avro.schema\n"int"\x00\m\x02\x02\n\m
+# A schema is not replaced by a copy, whether it is read or not, and any other file is.
+file into.avsc "long"
+file other.avsc "int"
+hard into.avsc hard.avsc
+soft into.avsc soft.avsc
+run 64 copy five.avro into.avsc --reader into.avsc
+err avro: into.avsc is one of the files that are read
+run 64 copy five.avro ./into.avsc --reader into.avsc
+err avro: ./into.avsc is one of the files that are read
+run 64 copy five.avro hard.avsc --reader into.avsc
+err avro: hard.avsc is one of the files that are read
+run 64 copy five.avro soft.avsc --reader hard.avsc
+err avro: soft.avsc is one of the files that are read
+run 64 copy five.avro into.avsc
+err avro: into.avsc is a schema
+run 64 copy five.avro soft.avsc --reader other.avsc
+err avro: soft.avsc is a schema
+run 64 copy none.avro hard.avsc --reader none.avsc
+err avro: hard.avsc is a schema
+run 64 copy into.avsc ./into.avsc --reader into.avsc
+err avro: IN and OUT are one file
+run 64 copy five.avro into.avsc --sync 0
+err avro: --sync takes 32 hexadecimal digits
+holds into.avsc "long"
+file no.avsc "Foo"
+run 0 copy five.avro no.avsc --reader into.avsc
+out data 1 blocks 1
+holds no.avsc Obj\x01\x02\x16avro.schema\x0c"long"\x00\m\x02\x02\n\m
+run 4 copy five.avro inner --reader into.avsc
+err avro: inner: cannot write
 # Lines are written whole.
 file five.avro Obj\x01\x02\x16avro.schema\n"int"\x00\m\x02\x02\n\m
 file nulls.avro Obj\x01\x02\x16avro.schema\x0c"null"\x00\m\x06\x00\m
@@ -92,5 +122,5 @@ run 0 show twice.avro
 size 20000
 writes 1 0
 "##,
-    26,
+    37,
 );

@@ -6,8 +6,8 @@ use crate::number_options::{limits_in, lines_in, pairs_in};
 use crate::request::{Evidence, Explaining, History, Judging, Mode, Request};
 use avro_answer::{Form, Shown};
 use avro_judge::JudgeLimits;
-use clap::ArgMatches;
 use clap::error::ErrorKind;
+use clap::{ArgMatches, Command};
 use std::alloc::{AllocError, Global};
 
 /// The request that the words are.
@@ -16,27 +16,45 @@ pub(crate) fn request_of<'a>(
     words: &'a [String],
 ) -> Result<Request<'a>, Failure<'a>> {
     let mut command = program(alloc)?;
-    let matches = match command.try_get_matches_from_mut(words) {
-        Ok(matches) => matches,
-        Err(e) if e.kind() == ErrorKind::DisplayVersion => return Ok(Request::Version),
-        Err(e) => return Err(Failure::from(e)),
-    };
+    request_by(alloc, &mut command, words)
+}
+
+/// The request that the words are for a command.
+fn request_by<'a>(
+    alloc: Global,
+    command: &mut Command<'a>,
+    words: &'a [String],
+) -> Result<Request<'a>, Failure<'a>> {
+    match command.try_get_matches_from_mut(words) {
+        Ok(matches) => request_found(alloc, command, &matches),
+        Err(e) if e.kind() == ErrorKind::DisplayVersion => Ok(Request::Version),
+        Err(e) => Err(Failure::from(e)),
+    }
+}
+
+/// The request of words that have the form of the program's.
+fn request_found<'a>(
+    alloc: Global,
+    command: &mut Command<'_>,
+    matches: &ArgMatches<'a>,
+) -> Result<Request<'a>, Failure<'a>> {
     if let Some(history) = matches.subcommand_matches("history") {
         return history_in(alloc, history);
     }
     if let Some(check) = matches.subcommand_matches("check") {
-        return Ok(Request::Check {
-            files: words_in(alloc, check, "files")?,
-            form: form_in(check),
-        });
+        return checking_in(alloc, check);
     }
-    match request_in(&matches)? {
-        Some(request) => Ok(request),
-        None => Err(Failure::Usage(command.error(
-            ErrorKind::MissingSubcommand,
-            "a command is required",
-        )?)),
+    match request_in(matches) {
+        Ok(None) => Err(no_command(command)?),
+        Ok(Some(request)) => Ok(request),
+        Err(failure) => Err(failure),
     }
+}
+
+/// What is reported where no command is among the words.
+fn no_command<'a>(command: &mut Command<'_>) -> Result<Failure<'a>, AllocError> {
+    let error = command.error(ErrorKind::MissingSubcommand, "a command is required")?;
+    Ok(Failure::Usage(error))
 }
 
 /// What is reported of the words of a history, with the usage of its command.
@@ -58,7 +76,7 @@ fn too_few_schemas<'a>(alloc: Global) -> Result<Failure<'a>, AllocError> {
     )
 }
 
-/// The request of words that have the form of the program's.
+/// The request of words that have the form of the program's, and no list of files among them.
 fn request_in<'a>(matches: &ArgMatches<'a>) -> Result<Option<Request<'a>>, Failure<'a>> {
     if let Some(judge) = matches.subcommand_matches("judge") {
         let limits = limits_in(judge)?;
@@ -161,31 +179,54 @@ fn showing_in<'a>(show: &ArgMatches<'a>, limit: Option<u64>) -> Option<Request<'
     })
 }
 
-/// The request of the words of a history, if there are at least two files, and if certificates are those of the
-/// last schema as the reader's.
+/// The request of the words that check containers.
+fn checking_in<'a>(alloc: Global, check: &ArgMatches<'a>) -> Result<Request<'a>, Failure<'a>> {
+    let files = words_in(alloc, check, "files")?;
+    Ok(Request::Check {
+        files,
+        form: form_in(check),
+    })
+}
+
+/// The request of the words of a history, if they go together.
 fn history_in<'a>(alloc: Global, history: &ArgMatches<'a>) -> Result<Request<'a>, Failure<'a>> {
-    let mut writers = words_in(alloc, history, "files")?;
-    let last = writers.pop();
-    let Some(reader) = last else {
+    refuse_history(alloc, history)?;
+    let limits = limits_in(history)?;
+    let files = words_in(alloc, history, "files")?;
+    history_of(alloc, history, limits, files)
+}
+
+/// Refuses the words of a history of one schema, and those that ask for certificates of others than the last
+/// schema as the reader's.
+fn refuse_history<'a>(alloc: Global, history: &ArgMatches<'a>) -> Result<(), Failure<'a>> {
+    if !matches!(history.get_strs("files"), Some(files) if files.len() > 1) {
+        return Err(too_few_schemas(alloc)?);
+    }
+    let is_plain = !history.get_flag("next") && matches!(mode_in(history), Mode::Backward);
+    if is_plain || matches!(evidence_in(history), Evidence::Left) {
+        return Ok(());
+    }
+    let message = "certificates are for --mode backward without --next alone";
+    Err(history_usage(alloc, ErrorKind::ArgumentConflict, message)?)
+}
+
+/// The request of the words of a history over these files, the last of which is the reader's.
+fn history_of<'a>(
+    alloc: Global,
+    history: &ArgMatches<'a>,
+    limits: JudgeLimits,
+    mut files: Vec<&'a str>,
+) -> Result<Request<'a>, Failure<'a>> {
+    let Some(reader) = files.pop() else {
         return Err(too_few_schemas(alloc)?);
     };
-    if writers.is_empty() {
-        return Err(too_few_schemas(alloc)?);
-    }
-    let evidence = evidence_in(history);
-    let mode = mode_in(history);
-    let is_next = history.get_flag("next");
-    if !matches!(evidence, Evidence::Left) && (is_next || mode != Mode::Backward) {
-        let message = "certificates are for --mode backward without --next alone";
-        return Err(history_usage(alloc, ErrorKind::ArgumentConflict, message)?);
-    }
     Ok(Request::History(History {
-        writers,
+        writers: files,
         reader,
-        evidence,
-        mode,
-        is_next,
-        limits: limits_in(history)?,
+        evidence: evidence_in(history),
+        mode: mode_in(history),
+        is_next: history.get_flag("next"),
+        limits,
         form: form_in(history),
     }))
 }

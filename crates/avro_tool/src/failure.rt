@@ -10,7 +10,7 @@ use std::alloc::{AllocError, Global};
 use std::io;
 
 /// Why the program ends without an answer. A word is the argument that names the file.
-#[derive(Debug, Drop)]
+#[derive(Drop)]
 pub(crate) enum Failure<'a> {
     /// A schema's text was refused.
     Schema(&'a str, SchemaError),
@@ -36,9 +36,13 @@ pub(crate) enum Failure<'a> {
     NoMarker,
     /// A file was to be copied into itself, by another name.
     OneFile,
-    /// A file that an option asks for is one of those that are read.
+    /// The standard output is the file that is shown.
+    FileIsOutput,
+    /// The standard output is the file that a copy goes into.
+    CopyIsOutput,
+    /// A file that is to be written is one of those that are read.
     IsRead(&'a str),
-    /// A file that an option asks for holds a schema.
+    /// A file that is to be written holds a schema.
     IsSchema(&'a str),
     /// The word after an option is no number that it takes.
     OutOfRange(NumberOption),
@@ -104,7 +108,8 @@ impl<'a> Failure<'a> {
             Failure::CannotRead(_) | Failure::CannotWrite(_) | Failure::CannotPrint => 4,
             Failure::OutOfMemory => 5,
             Failure::Usage(_) | Failure::NotText | Failure::OneWord | Failure::NoMarker => 64,
-            Failure::OneFile | Failure::IsRead(_) | Failure::IsSchema(_) => 64,
+            Failure::OneFile | Failure::FileIsOutput | Failure::CopyIsOutput => 64,
+            Failure::IsRead(_) | Failure::IsSchema(_) => 64,
             Failure::OutOfRange(_) | Failure::NoLimit => 64,
         }
     }
@@ -143,6 +148,8 @@ impl<'a> Failure<'a> {
             Failure::OneWord => "avro: IN and OUT are one word\n",
             Failure::NoMarker => "avro: --sync takes 32 hexadecimal digits\n",
             Failure::OneFile => "avro: IN and OUT are one file\n",
+            Failure::FileIsOutput => "avro: FILE is the standard output\n",
+            Failure::CopyIsOutput => "avro: OUT is the standard output\n",
             Failure::NoLimit => "avro: --limit takes 0 to 18446744073709551615\n",
             _ => "",
         }

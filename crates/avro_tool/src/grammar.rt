@@ -7,262 +7,337 @@ use std::alloc::{AllocError, Global};
 /// The modes of a history.
 const MODES: [&str; 3] = ["backward", "forward", "full"];
 
+/// What an argument takes.
+#[derive(Clone, Copy)]
+enum Takes {
+    /// A word that must be there, of this name in the usage.
+    Word(&'static str),
+    /// Such words, one at least.
+    Words(&'static str),
+    /// A word after the option, of this name in the usage.
+    Option(&'static str),
+    /// A number after the option.
+    Number,
+    /// A number after the option, which is this one where it is not given.
+    NumberOr(&'static str),
+    /// A mode after the option.
+    Mode,
+    /// Nothing after the option.
+    Nothing,
+}
+
+/// An argument: its name, what it takes, and its help.
+type Argument = (&'static str, Takes, &'static str);
+
+/// A command: its name, what it does, and its arguments.
+type Words = (&'static str, &'static str, &'static [Argument]);
+
+const WRITER: Argument = (
+    "writer",
+    Takes::Word("WRITER"),
+    "File of the schema that data were written with",
+);
+
+const READER: Argument = (
+    "reader",
+    Takes::Word("READER"),
+    "File of the schema that they are to be read with",
+);
+
+const RESOLVED: Argument = (
+    "reader",
+    Takes::Option("SCHEMA"),
+    "File of a schema that the data are resolved for",
+);
+
+const CONTAINER: Argument = ("file", Takes::Word("FILE"), "File of the container");
+
+const SYNC: Argument = (
+    "sync",
+    Takes::Option("HEX32"),
+    "Marker after each block of the copy, in place of the container's",
+);
+
+const JSON: Argument = (
+    "json",
+    Takes::Nothing,
+    "Prints each answer as a line of JSON",
+);
+
+const MAX_PAIRS: Argument = (
+    "max-pairs",
+    Takes::NumberOr("4194304"),
+    "Greatest product of the two numbers of nodes, up to 16777216: raise N where the answer is 'undecided Pairs'",
+);
+
+const MAX_SIZE: Argument = (
+    "max-size",
+    Takes::NumberOr("4096"),
+    "Most nodes of a datum that fails, up to 1048576: raise N where the answer is 'undecided Size'",
+);
+
+const MAX_DEPTH: Argument = (
+    "max-depth",
+    Takes::NumberOr("128"),
+    "Greatest depth of a datum that fails, up to 256: raise N where the answer is 'undecided Depth'",
+);
+
+const JUDGE: [Argument; 8] = [
+    WRITER,
+    READER,
+    (
+        "certificate",
+        Takes::Option("OUT"),
+        "File that a yes writes its certificate into",
+    ),
+    (
+        "refutation",
+        Takes::Option("OUT"),
+        "File that a no writes a container of its datum into",
+    ),
+    MAX_PAIRS,
+    MAX_SIZE,
+    MAX_DEPTH,
+    JSON,
+];
+
+const EXPLAIN: [Argument; 4] = [
+    WRITER,
+    READER,
+    (
+        "max-pairs",
+        Takes::NumberOr("4194304"),
+        "Most pairs of nodes that are reached, up to 16777216: raise N where the answer is 'undecided Pairs'",
+    ),
+    JSON,
+];
+
+const CONFIRM: [Argument; 4] = [
+    WRITER,
+    READER,
+    (
+        "certificate",
+        Takes::Word("CERT"),
+        "File of the certificate",
+    ),
+    JSON,
+];
+
+const HISTORY: [Argument; 9] = [
+    (
+        "files",
+        Takes::Words("SCHEMA"),
+        "Files of the schemas, two at least; the last one is the reader's",
+    ),
+    (
+        "certificates",
+        Takes::Option("OUT"),
+        "File that a yes for each schema writes the certificates into",
+    ),
+    (
+        "confirm",
+        Takes::Option("CERT"),
+        "File of certificates that are to show it; nothing is judged",
+    ),
+    (
+        "mode",
+        Takes::Mode,
+        "Which data are to be read: the earlier schema's, the later one's, or those of both",
+    ),
+    (
+        "next",
+        Takes::Nothing,
+        "Judges each schema with the next one alone",
+    ),
+    MAX_PAIRS,
+    MAX_SIZE,
+    MAX_DEPTH,
+    JSON,
+];
+
+const SCHEMA: [Argument; 3] = [
+    ("file", Takes::Word("FILE"), "File of the schema"),
+    (
+        "canonical",
+        Takes::Nothing,
+        "Shows the canonical form in place of the number of nodes",
+    ),
+    (
+        "fingerprint",
+        Takes::Nothing,
+        "Shows the fingerprint in place of the number of nodes",
+    ),
+];
+
+const CHECK: [Argument; 2] = [
+    (
+        "files",
+        Takes::Words("FILE"),
+        "Files of the containers, each of which is checked",
+    ),
+    JSON,
+];
+
+const SHOW: [Argument; 3] = [
+    CONTAINER,
+    RESOLVED,
+    ("limit", Takes::Number, "Stops after N lines"),
+];
+
+const COPY: [Argument; 4] = [
+    ("input", Takes::Word("IN"), "File of the container"),
+    ("output", Takes::Word("OUT"), "File that the copy goes into"),
+    RESOLVED,
+    SYNC,
+];
+
+const PIPE: [Argument; 3] = [
+    RESOLVED,
+    SYNC,
+    (
+        "counts",
+        Takes::Nothing,
+        "Tells how many data and blocks there were, on the standard error",
+    ),
+];
+
+const HEADER: [Argument; 2] = [
+    CONTAINER,
+    (
+        "metadata",
+        Takes::Nothing,
+        "Shows all of the metadata in place of the schema",
+    ),
+];
+
+/// The command over a history of schemas.
+const OF_HISTORY: Words = (
+    "history",
+    "Tells whether the last schema takes all data of each earlier one",
+    &HISTORY,
+);
+
+/// The commands, in the order of the help.
+const COMMANDS: [Words; 10] = [
+    (
+        "judge",
+        "Tells whether a reader's schema takes all data of a writer's",
+        &JUDGE,
+    ),
+    (
+        "explain",
+        "Lists all faults of a reader's schema with a writer's, by names",
+        &EXPLAIN,
+    ),
+    (
+        "confirm",
+        "Tells whether a certificate shows that a reader's schema takes all data of a writer's",
+        &CONFIRM,
+    ),
+    OF_HISTORY,
+    (
+        "schema",
+        "Tells whether a text is a schema, and its number of nodes",
+        &SCHEMA,
+    ),
+    (
+        "check",
+        "Tells whether containers are valid, and how many data and blocks each has",
+        &CHECK,
+    ),
+    ("show", "Shows each datum of a container in a line", &SHOW),
+    (
+        "copy",
+        "Copies a container, with each datum in its plain encoding",
+        &COPY,
+    ),
+    (
+        "pipe",
+        "Copies a container from the standard input to the standard output",
+        &PIPE,
+    ),
+    (
+        "header",
+        "Shows the text of a container's schema, whatever its codec",
+        &HEADER,
+    ),
+];
+
 /// The commands and their arguments.
 pub(crate) fn program<'a>(alloc: Global) -> Result<Command<'a>, AllocError> {
+    let commands = all_commands(alloc)?;
     Command::new(alloc, "avro")
         .about("Checks Avro schemas and container files")
         .version(VERSION)
         .no_binary_name(true)
-        .bin_name("avro")?
         .subcommand_required(true)
-        .subcommand(judge_command(alloc)?)?
-        .subcommand(explain_command(alloc)?)?
-        .subcommand(confirm_command(alloc)?)?
-        .subcommand(history_command(alloc)?)?
-        .subcommand(schema_command(alloc)?)?
-        .subcommand(check_command(alloc)?)?
-        .subcommand(show_command(alloc)?)?
-        .subcommand(copy_command(alloc)?)?
-        .subcommand(pipe_command(alloc)?)?
-        .subcommand(header_command(alloc)?)
-}
-
-/// The command over two schemas.
-fn judge_command<'a>(alloc: Global) -> Result<Command<'a>, AllocError> {
-    let certificate = optional_file(alloc, "certificate", "OUT").help(
-        "File that a yes writes its certificate into",
-    );
-    let refutation = optional_file(alloc, "refutation", "OUT").help(
-        "File that a no writes a container of its datum into",
-    );
-    Command::new(alloc, "judge")
-        .about("Tells whether a reader's schema takes all data of a writer's")
-        .arg(writer_file(alloc))?
-        .arg(reader_file(alloc))?
-        .arg(certificate)?
-        .arg(refutation)?
-        .arg(pairs_option(alloc))?
-        .arg(size_option(alloc))?
-        .arg(depth_option(alloc))?
-        .arg(json_option(alloc))
-}
-
-/// The command that reports all faults.
-fn explain_command<'a>(alloc: Global) -> Result<Command<'a>, AllocError> {
-    let pairs = number_option(alloc, "max-pairs")
-        .default_value("4194304")
-        .help(
-            "Most pairs of nodes that are reached, up to 16777216: raise N where the answer is 'undecided Pairs'",
-        );
-    Command::new(alloc, "explain")
-        .about("Lists all faults of a reader's schema with a writer's, by names")
-        .arg(writer_file(alloc))?
-        .arg(reader_file(alloc))?
-        .arg(pairs)?
-        .arg(json_option(alloc))
-}
-
-/// The command over two schemas and a certificate.
-fn confirm_command<'a>(alloc: Global) -> Result<Command<'a>, AllocError> {
-    let certificate = named_file(alloc, "certificate", "CERT").help("File of the certificate");
-    Command::new(alloc, "confirm")
-        .about(
-            "Tells whether a certificate shows that a reader's schema takes all data of a writer's",
-        )
-        .arg(writer_file(alloc))?
-        .arg(reader_file(alloc))?
-        .arg(certificate)?
-        .arg(json_option(alloc))
-}
-
-/// The command over one schema.
-fn schema_command<'a>(alloc: Global) -> Result<Command<'a>, AllocError> {
-    let file = named_file(alloc, "file", "FILE").help("File of the schema");
-    let canonical = flag(alloc, "canonical")
-        .help("Shows the canonical form in place of the number of nodes")
-        .conflicts_with("fingerprint")?;
-    let fingerprint = flag(alloc, "fingerprint").help(
-        "Shows the fingerprint in place of the number of nodes",
-    );
-    Command::new(alloc, "schema")
-        .about("Tells whether a text is a schema, and its number of nodes")
-        .arg(file)?
-        .arg(canonical)?
-        .arg(fingerprint)
+        .bin_name("avro")?
+        .subcommands(commands)
 }
 
 /// The command over a history of schemas.
 pub(crate) fn history_command<'a>(alloc: Global) -> Result<Command<'a>, AllocError> {
-    let files = Arg::new(alloc, "files")
-        .value_name("SCHEMA")
-        .required(true)
-        .num_args(1..)
-        .action(ArgAction::Append)
-        .help("Files of the schemas, two at least; the last one is the reader's");
-    let certificates = Arg::new(alloc, "certificates")
-        .long("certificates")
-        .value_name("OUT")
-        .action(ArgAction::Set)
-        .help("File that a yes for each schema writes the certificates into")
-        .conflicts_with("confirm")?;
-    let confirm = Arg::new(alloc, "confirm")
-        .long("confirm")
-        .value_name("CERT")
-        .action(ArgAction::Set)
-        .help("File of certificates that are to show it; nothing is judged");
-    let mode = Arg::new(alloc, "mode")
-        .long("mode")
-        .value_name("MODE")
-        .action(ArgAction::Set)
-        .value_parser(MODES.as_slice())
-        .default_value("backward")
-        .help("Which data are to be read: the earlier schema's, the later one's, or those of both");
-    let next = flag(alloc, "next").help("Judges each schema with the next one alone");
-    Command::new(alloc, "history")
-        .about("Tells whether the last schema takes all data of each earlier one")
-        .arg(files)?
-        .arg(certificates)?
-        .arg(confirm)?
-        .arg(mode)?
-        .arg(next)?
-        .arg(pairs_option(alloc))?
-        .arg(size_option(alloc))?
-        .arg(depth_option(alloc))?
-        .arg(json_option(alloc))
+    command_of(alloc, &OF_HISTORY)
 }
 
-/// The command that reads a container without showing its data.
-fn check_command<'a>(alloc: Global) -> Result<Command<'a>, AllocError> {
-    let files = Arg::new(alloc, "files")
-        .value_name("FILE")
-        .required(true)
-        .num_args(1..)
-        .action(ArgAction::Append)
-        .help("Files of the containers, each of which is checked");
-    Command::new(alloc, "check")
-        .about("Tells whether containers are valid, and how many data and blocks each has")
-        .arg(files)?
-        .arg(json_option(alloc))
+/// Each command.
+fn all_commands<'a>(alloc: Global) -> Result<Vec<Command<'a>>, AllocError> {
+    let mut commands = Vec::new(alloc);
+    for words in &COMMANDS[..] {
+        commands.push(command_of(alloc, words)?)?;
+    }
+    Ok(commands)
 }
 
-/// The command that shows the data of a container.
-fn show_command<'a>(alloc: Global) -> Result<Command<'a>, AllocError> {
-    let limit = number_option(alloc, "limit").help("Stops after N lines");
-    Command::new(alloc, "show")
-        .about("Shows each datum of a container in a line")
-        .arg(named_file(alloc, "file", "FILE").help("File of the container"))?
-        .arg(reader_option(alloc))?
-        .arg(limit)
+/// The command of these words.
+fn command_of<'a>(alloc: Global, words: &Words) -> Result<Command<'a>, AllocError> {
+    let (name, about, arguments) = *words;
+    let mut args = Vec::new(alloc);
+    for argument in arguments {
+        args.push(argument_of(alloc, argument)?)?;
+    }
+    Command::new(alloc, name).about(about).args(args)
 }
 
-/// The command that copies a container.
-fn copy_command<'a>(alloc: Global) -> Result<Command<'a>, AllocError> {
-    Command::new(alloc, "copy")
-        .about("Copies a container, with each datum in its plain encoding")
-        .arg(named_file(alloc, "input", "IN").help("File of the container"))?
-        .arg(named_file(alloc, "output", "OUT").help("File that the copy goes into"))?
-        .arg(reader_option(alloc))?
-        .arg(sync_option(alloc))
+/// The argument of these words.
+fn argument_of<'a>(alloc: Global, argument: &Argument) -> Result<Arg<'a>, AllocError> {
+    let (id, takes, help) = *argument;
+    let arg = taking(Arg::new(alloc, id), id, takes).help(help);
+    match rival_of(id) {
+        Some(rival) => arg.conflicts_with(rival),
+        None => Ok(arg),
+    }
 }
 
-/// The command that copies a container from the standard input to the standard output.
-fn pipe_command<'a>(alloc: Global) -> Result<Command<'a>, AllocError> {
-    let counts = flag(alloc, "counts").help(
-        "Tells how many data and blocks there were, on the standard error",
-    );
-    Command::new(alloc, "pipe")
-        .about("Copies a container from the standard input to the standard output")
-        .arg(reader_option(alloc))?
-        .arg(sync_option(alloc))?
-        .arg(counts)
+/// The option that is not given beside this one.
+fn rival_of(id: &str) -> Option<&'static str> {
+    match id {
+        "canonical" => Some("fingerprint"),
+        "certificates" => Some("confirm"),
+        _ => None,
+    }
 }
 
-/// The command that shows what a container's header says.
-fn header_command<'a>(alloc: Global) -> Result<Command<'a>, AllocError> {
-    let metadata = flag(alloc, "metadata").help("Shows all of the metadata in place of the schema");
-    Command::new(alloc, "header")
-        .about("Shows the text of a container's schema, whatever its codec")
-        .arg(named_file(alloc, "file", "FILE").help("File of the container"))?
-        .arg(metadata)
+/// The argument, as one that takes this.
+fn taking<'a>(arg: Arg<'a>, id: &'static str, takes: Takes) -> Arg<'a> {
+    match takes {
+        Takes::Word(name) => arg.value_name(name).required(true).action(ArgAction::Set),
+        Takes::Words(name) => arg
+            .value_name(name)
+            .required(true)
+            .num_args(1..)
+            .action(ArgAction::Append),
+        Takes::Option(name) => option(arg, id, name),
+        Takes::Number => option(arg, id, "N"),
+        Takes::NumberOr(number) => option(arg, id, "N").default_value(number),
+        Takes::Mode => option(arg, id, "MODE")
+            .value_parser(MODES.as_slice())
+            .default_value("backward"),
+        Takes::Nothing => arg.long(id).action(ArgAction::SetTrue),
+    }
 }
 
-/// The option of the greatest product of the numbers of nodes.
-fn pairs_option<'a>(alloc: Global) -> Arg<'a> {
-    number_option(alloc, "max-pairs")
-        .default_value("4194304")
-        .help(
-            "Greatest product of the two numbers of nodes, up to 16777216: raise N where the answer is 'undecided Pairs'",
-        )
-}
-
-/// The option of the greatest number of nodes of a datum that refutes.
-fn size_option<'a>(alloc: Global) -> Arg<'a> {
-    number_option(alloc, "max-size").default_value("4096").help(
-        "Most nodes of a datum that fails, up to 1048576: raise N where the answer is 'undecided Size'",
-    )
-}
-
-/// The option of the greatest depth of a datum that refutes.
-fn depth_option<'a>(alloc: Global) -> Arg<'a> {
-    number_option(alloc, "max-depth").default_value("128").help(
-        "Greatest depth of a datum that fails, up to 256: raise N where the answer is 'undecided Depth'",
-    )
-}
-
-/// The option of answers as JSON.
-fn json_option<'a>(alloc: Global) -> Arg<'a> {
-    flag(alloc, "json").help("Prints each answer as a line of JSON")
-}
-
-/// An option that takes a number.
-fn number_option<'a>(alloc: Global, id: &'a str) -> Arg<'a> {
-    Arg::new(alloc, id)
-        .long(id)
-        .value_name("N")
-        .action(ArgAction::Set)
-}
-
-/// The argument for the writer's schema.
-fn writer_file<'a>(alloc: Global) -> Arg<'a> {
-    named_file(alloc, "writer", "WRITER").help("File of the schema that data were written with")
-}
-
-/// The argument for the reader's schema.
-fn reader_file<'a>(alloc: Global) -> Arg<'a> {
-    named_file(alloc, "reader", "READER").help("File of the schema that they are to be read with")
-}
-
-/// A required argument that names a file.
-fn named_file<'a>(alloc: Global, id: &'a str, name: &'a str) -> Arg<'a> {
-    Arg::new(alloc, id)
-        .value_name(name)
-        .required(true)
-        .action(ArgAction::Set)
-}
-
-/// The option of a copy's marker.
-fn sync_option<'a>(alloc: Global) -> Arg<'a> {
-    Arg::new(alloc, "sync")
-        .long("sync")
-        .value_name("HEX32")
-        .action(ArgAction::Set)
-        .help("Marker after each block of the copy, in place of the container's")
-}
-
-/// An option without a value.
-fn flag<'a>(alloc: Global, id: &'a str) -> Arg<'a> {
-    Arg::new(alloc, id).long(id).action(ArgAction::SetTrue)
-}
-
-/// The option of a reader's schema.
-fn reader_option<'a>(alloc: Global) -> Arg<'a> {
-    optional_file(alloc, "reader", "SCHEMA").help("File of a schema that the data are resolved for")
-}
-
-/// An option that names a file.
-fn optional_file<'a>(alloc: Global, id: &'a str, name: &'a str) -> Arg<'a> {
-    Arg::new(alloc, id)
-        .long(id)
-        .value_name(name)
-        .action(ArgAction::Set)
+/// The argument, as an option that takes a word of this name.
+fn option<'a>(arg: Arg<'a>, id: &'static str, name: &'static str) -> Arg<'a> {
+    arg.long(id).value_name(name).action(ArgAction::Set)
 }

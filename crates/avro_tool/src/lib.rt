@@ -23,7 +23,7 @@ use std::io::{Read, Write};
 use std::rt::Files;
 
 /// What a command found, which gives the exit status.
-#[derive(Clone, Copy, Debug, PartialEq, Eq)]
+#[derive(Clone, Copy, PartialEq, Eq)]
 enum Finding {
     Good,
     Yes,
@@ -124,35 +124,47 @@ fn answer<'a, R: Files + AllocGlobal, I: Read, O: Write, E: Write>(
     out: &mut O,
     err: &mut E,
 ) -> Result<Finding, Failure<'a>> {
-    match request_of(rt.alloc(), words)? {
-        Request::Judge(asked) => judge::judge_files(rt, &asked, out),
-        Request::Explain(asked) => explain::explain_files(rt, &asked, out),
+    let request = request_of(rt.alloc(), words)?;
+    answer_request(rt, &request, input, out, err)
+}
+
+/// Does what is asked for.
+fn answer_request<'a, R: Files + AllocGlobal, I: Read, O: Write, E: Write>(
+    rt: &R,
+    request: &Request<'a>,
+    input: &mut I,
+    out: &mut O,
+    err: &mut E,
+) -> Result<Finding, Failure<'a>> {
+    match request {
+        Request::Judge(asked) => judge::judge_files(rt, asked, out),
+        Request::Explain(asked) => explain::explain_files(rt, asked, out),
         Request::Confirm {
             writer,
             reader,
             certificate,
             form,
-        } => confirm::confirm_files(rt, writer, reader, certificate, form, out),
-        Request::History(history) => history::history_of_files(rt, &history, out),
-        Request::Schema { file, shown } => schema::show_schema(rt, file, shown, out),
-        Request::Check { files, form } => Ok(check::check_files(rt, &files, form, out, err)),
+        } => confirm::confirm_files(rt, writer, reader, certificate, *form, out),
+        Request::History(history) => history::history_of_files(rt, history, out),
+        Request::Schema { file, shown } => schema::show_schema(rt, file, *shown, out),
+        Request::Check { files, form } => Ok(check::check_files(rt, files, *form, out, err)),
         Request::Show {
             file,
             reader,
             limit,
-        } => show::show_file(rt, file, reader, limit, out),
+        } => show::show_file(rt, file, *reader, *limit, out),
         Request::Copy {
             source,
             output,
             reader,
             sync,
-        } => copy::copy_file(rt, source, output, reader, sync, out),
+        } => copy::copy_file(rt, source, output, *reader, *sync, out),
         Request::Pipe {
             reader,
             sync,
             is_counted,
-        } => pipe::pipe_streams(rt, reader, sync, is_counted, input, out, err),
-        Request::Header { file, is_metadata } => header::show_header(rt, file, is_metadata, out),
+        } => pipe::pipe_streams(rt, *reader, *sync, *is_counted, input, out, err),
+        Request::Header { file, is_metadata } => header::show_header(rt, file, *is_metadata, out),
         Request::Version => version::tell_version(rt.alloc(), out),
     }
 }

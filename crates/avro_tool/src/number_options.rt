@@ -6,7 +6,7 @@ use avro_schema::Limits;
 use clap::ArgMatches;
 
 /// An option that takes a number, and the greatest one that it takes; the least is 1.
-#[derive(Clone, Copy, Debug, PartialEq, Eq)]
+#[derive(Clone, Copy)]
 pub(crate) enum NumberOption {
     /// The greatest product of the two numbers of nodes.
     MaxPairs,

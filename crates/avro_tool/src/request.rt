@@ -4,7 +4,7 @@ use avro_answer::{Form, Shown};
 use avro_judge::JudgeLimits;
 
 /// What the words ask for.
-#[derive(Debug, Drop)]
+#[derive(Drop)]
 pub(crate) enum Request<'a> {
     /// Whether the reader's schema takes all data of the writer's.
     Judge(Judging<'a>),
@@ -61,7 +61,7 @@ pub(crate) enum Request<'a> {
 }
 
 /// Two schemas that are judged: a certificate of a yes goes into a file, and so does a refutation of a no.
-#[derive(Debug, Drop)]
+#[derive(Drop)]
 pub(crate) struct Judging<'a> {
     pub(crate) writer: &'a str,
     pub(crate) reader: &'a str,
@@ -72,7 +72,7 @@ pub(crate) struct Judging<'a> {
 }
 
 /// Two schemas whose faults are reported.
-#[derive(Clone, Copy, Debug)]
+#[derive(Clone, Copy)]
 pub(crate) struct Explaining<'a> {
     pub(crate) writer: &'a str,
     pub(crate) reader: &'a str,
@@ -81,7 +81,7 @@ pub(crate) struct Explaining<'a> {
 }
 
 /// Several schemas, of which the last is the reader's, and what is done with their certificates.
-#[derive(Debug, Drop)]
+#[derive(Drop)]
 pub(crate) struct History<'a> {
     pub(crate) writers: Vec<&'a str>,
     pub(crate) reader: &'a str,
@@ -94,7 +94,7 @@ pub(crate) struct History<'a> {
 }
 
 /// Which data are to be read in a history.
-#[derive(Clone, Copy, Debug, PartialEq, Eq)]
+#[derive(Clone, Copy)]
 pub(crate) enum Mode {
     /// The later schema reads those of the earlier one.
     Backward,
@@ -105,7 +105,7 @@ pub(crate) enum Mode {
 }
 
 /// What is done with the certificates of a history.
-#[derive(Clone, Copy, Debug)]
+#[derive(Clone, Copy)]
 pub(crate) enum Evidence<'a> {
     /// None is made.
     Left,

@@ -48,21 +48,41 @@ fn check_file<'a, R: Files + AllocGlobal, O: Write>(
 
 /// How many data and blocks a container has, each of which is read.
 fn count_data<I: Input>(alloc: Global, input: &mut I) -> Result<Counts, CopyError> {
-    let limits = FileLimits::default();
-    let header = Header::read(alloc, input, &limits)?;
-    let mut blocks = Blocks::new(alloc, &header, &limits);
-    let mut checker = Checker::new(alloc, &header, &limits);
+    let header = Header::read(alloc, input, &FileLimits::default())?;
+    count_blocks(alloc, input, &header)
+}
+
+/// How many data and blocks there are after a header, each of which is read.
+fn count_blocks<I: Input>(
+    alloc: Global,
+    input: &mut I,
+    header: &Header,
+) -> Result<Counts, CopyError> {
+    let mut blocks = Blocks::new(alloc, header, &FileLimits::default());
+    let mut checker = Checker::new(alloc, header, &FileLimits::default());
     let mut counts = Counts {
         items: 0,
         blocks: 0,
     };
     for _ in 0..u64::MAX {
-        let Some(block) = blocks.next(input)? else {
+        let Some(items) = next_count(input, &mut blocks, &mut checker)? else {
             break;
         };
-        checker.check(&block)?;
-        counts.items = counts.items.saturating_add(u64::from(block.count()));
+        counts.items = counts.items.saturating_add(u64::from(items));
         counts.blocks = counts.blocks.saturating_add(1);
     }
     Ok(counts)
+}
+
+/// How many data the next block has, each of which is read, if there is one.
+fn next_count<I: Input>(
+    input: &mut I,
+    blocks: &mut Blocks<'_>,
+    checker: &mut Checker<'_>,
+) -> Result<Option<u32>, CopyError> {
+    let Some(block) = blocks.next(input)? else {
+        return Ok(None);
+    };
+    checker.check(&block)?;
+    Ok(Some(block.count()))
 }

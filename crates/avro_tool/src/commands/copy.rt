@@ -1,11 +1,13 @@
 use crate::Finding;
 use crate::failure::Failure;
 use crate::files::container::{open_container, tell_counts};
-use crate::files::kept::is_one_file;
+use crate::files::kept::{is_one_file, is_output, refuse_read_file, refuse_schema_file};
 use crate::files::late::LateFile;
 use crate::files::schema::read_reader;
-use avro_container::{CopyError, FileLimits, WriteOutput, copy};
+use avro_container::{CopyError, Counts, FileLimits, Input, WriteOutput, copy};
+use avro_schema_json::ReaderText;
 use hex::FromHex;
+use std::alloc::Global;
 use std::io::Write;
 use std::rt::Files;
 
@@ -23,25 +25,71 @@ pub(crate) fn copy_file<'a, R: Files + AllocGlobal, O: Write>(
         return Err(Failure::OneWord);
     }
     let sync = marker_of(sync)?;
+    refuse_output(rt, input, output, reader)?;
+    let reader = read_reader(rt, reader)?;
+    let counts = copy_for(rt, input, output, reader.as_ref(), sync)?;
+    tell_counts(out, counts)
+}
+
+/// Refuses a file for the copy that is read, that the counts go into, or that holds a schema.
+fn refuse_output<'a, R: Files + AllocGlobal>(
+    rt: &R,
+    input: &'a str,
+    output: &'a str,
+    reader: Option<&'a str>,
+) -> Result<(), Failure<'a>> {
     if is_one_file(rt, input, output)? {
         return Err(Failure::OneFile);
     }
-    let reader = read_reader(rt, reader)?;
+    if is_output(rt, output)? {
+        return Err(Failure::CopyIsOutput);
+    }
+    if let Some(reader) = reader {
+        refuse_read_file(rt, Some(output), &[reader])?;
+    }
+    refuse_schema_file(rt, Some(output))
+}
+
+/// Copies the container in a file for a reader's schema, where there is one.
+fn copy_for<'a, R: Files + AllocGlobal>(
+    rt: &R,
+    input: &'a str,
+    output: &'a str,
+    reader: Option<&ReaderText>,
+    sync: Option<[u8; 16]>,
+) -> Result<Counts, Failure<'a>> {
     let mut source = open_container(rt, input)?;
+    copy_from(rt, &mut source, input, output, reader, sync)
+}
+
+/// Copies a container into a file, which is closed before the counts are told.
+fn copy_from<'a, R: Files + AllocGlobal, I: Input>(
+    rt: &R,
+    source: &mut I,
+    input: &'a str,
+    output: &'a str,
+    reader: Option<&ReaderText>,
+    sync: Option<[u8; 16]>,
+) -> Result<Counts, Failure<'a>> {
     let mut file = LateFile::new(rt, output);
-    let copied = copy(
-        rt.alloc(),
-        &mut source,
-        &mut WriteOutput::new(&mut file),
-        reader.as_ref(),
-        sync,
-        &FileLimits::default(),
-    );
-    match copied {
-        Ok(counts) => tell_counts(out, counts),
+    match copy_into(rt.alloc(), source, &mut file, reader, sync) {
+        Ok(counts) => Ok(counts),
         Err(CopyError::OutputFailed) => Err(file.failure()),
         Err(error) => Err(Failure::of_container(input, error)),
     }
+}
+
+/// Copies a container into a writer.
+pub(crate) fn copy_into<I: Input, O: Write>(
+    alloc: Global,
+    source: &mut I,
+    out: &mut O,
+    reader: Option<&ReaderText>,
+    sync: Option<[u8; 16]>,
+) -> Result<Counts, CopyError> {
+    let limits = FileLimits::default();
+    let mut output = WriteOutput::new(out);
+    copy(alloc, source, &mut output, reader, sync, &limits)
 }
 
 /// The marker of these digits, if they are given.

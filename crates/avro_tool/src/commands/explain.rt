@@ -19,22 +19,56 @@ pub(crate) fn explain_files<'a, R: Files + AllocGlobal, O: Write>(
     out: &mut O,
 ) -> Result<Finding, Failure<'a>> {
     let writer = read_schema_file(rt, asked.writer)?;
+    explain_written(rt, asked, &writer, out)
+}
+
+/// The same for a writer's schema.
+fn explain_written<'a, R: Files + AllocGlobal, O: Write>(
+    rt: &R,
+    asked: &Explaining<'a>,
+    writer: &Schema,
+    out: &mut O,
+) -> Result<Finding, Failure<'a>> {
     let reader = read_schema_file(rt, asked.reader)?;
-    match explain(rt.alloc(), &writer, &reader, asked.max_pairs as usize) {
-        Ok(found) if found.faults.is_empty() => {
-            print(out, no_fault(asked.form))?;
-            Ok(Finding::Yes)
-        }
-        Ok(found) => {
-            print_faults(rt.alloc(), &writer, &reader, &found, asked.form, out)?;
-            Ok(Finding::No)
-        }
-        Err(ExplainError::TooManyPairs) => {
-            print(out, over_pairs(asked.form))?;
-            Ok(Finding::Undecided)
-        }
+    explain_pair(rt.alloc(), asked, writer, &reader, out)
+}
+
+/// Finds all faults of two schemas, and prints them.
+fn explain_pair<'a, O: Write>(
+    alloc: Global,
+    asked: &Explaining<'a>,
+    writer: &Schema,
+    reader: &Schema,
+    out: &mut O,
+) -> Result<Finding, Failure<'a>> {
+    match explain(alloc, writer, reader, asked.max_pairs as usize) {
+        Ok(found) => tell_faults(alloc, writer, reader, &found, asked.form, out),
+        Err(ExplainError::TooManyPairs) => tell_over_pairs(asked.form, out),
         Err(ExplainError::OutOfMemory) => Err(Failure::OutOfMemory),
     }
+}
+
+/// Prints that there are more pairs than the limit.
+fn tell_over_pairs<'a, O: Write>(form: Form, out: &mut O) -> Result<Finding, Failure<'a>> {
+    print(out, over_pairs(form))?;
+    Ok(Finding::Undecided)
+}
+
+/// Prints a yes, or a no and all faults.
+fn tell_faults<'a, O: Write>(
+    alloc: Global,
+    writer: &Schema,
+    reader: &Schema,
+    found: &Explanation,
+    form: Form,
+    out: &mut O,
+) -> Result<Finding, Failure<'a>> {
+    if found.faults.is_empty() {
+        print(out, no_fault(form))?;
+        return Ok(Finding::Yes);
+    }
+    print_faults(alloc, writer, reader, found, form, out)?;
+    Ok(Finding::No)
 }
 
 /// Prints a no and all faults.

@@ -6,7 +6,7 @@ use crate::files::schema::read_schema_file;
 use crate::printing::print_bytes;
 use crate::request::{Evidence, History, Mode};
 use avro_answer::{Form, Judged, answer_confirmed, judge_json_line, judge_line};
-use avro_history::confirm_history;
+use avro_history::{HistoryCert, confirm_history};
 use avro_judge::{Certificate, Verdict};
 use avro_schema::{Memory, Schema};
 use std::alloc::{AllocError, Global};
@@ -39,30 +39,101 @@ pub(crate) fn history_of_files<'a, R: Files + AllocGlobal, O: Write>(
     history: &History<'a>,
     out: &mut O,
 ) -> Result<Finding, Failure<'a>> {
-    if let Evidence::Written(word) = history.evidence {
-        refuse_read_file(rt, Some(word), &history.writers)?;
-        refuse_read_file(rt, Some(word), &[history.reader])?;
-        refuse_schema_file(rt, Some(word))?;
-    }
-    let schemas = read_schema_files(rt, &history.writers)?;
-    let reader = read_schema_file(rt, history.reader)?;
+    refuse_evidence(rt, history)?;
+    let earlier = read_schema_files(rt, &history.writers)?;
+    history_of_earlier(rt, history, &earlier, out)
+}
+
+/// Refuses a file for the certificates that is read, or that holds a schema.
+fn refuse_evidence<'a, R: Files + AllocGlobal>(
+    rt: &R,
+    history: &History<'a>,
+) -> Result<(), Failure<'a>> {
+    let Evidence::Written(word) = history.evidence else {
+        return Ok(());
+    };
+    refuse_read_file(rt, Some(word), &history.writers)?;
+    refuse_read_file(rt, Some(word), &[history.reader])?;
+    refuse_schema_file(rt, Some(word))
+}
+
+/// The answer for the earlier schemas; the last one is read first.
+fn history_of_earlier<'a, R: Files + AllocGlobal, O: Write>(
+    rt: &R,
+    history: &History<'a>,
+    earlier: &[Schema],
+    out: &mut O,
+) -> Result<Finding, Failure<'a>> {
+    let last = read_schema_file(rt, history.reader)?;
+    history_of_schemas(rt, history, earlier, &last, out)
+}
+
+/// The answer for the earlier schemas and the last one.
+fn history_of_schemas<'a, R: Files + AllocGlobal, O: Write>(
+    rt: &R,
+    history: &History<'a>,
+    earlier: &[Schema],
+    last: &Schema,
+    out: &mut O,
+) -> Result<Finding, Failure<'a>> {
     match history.evidence {
-        Evidence::Given(word) => {
-            let certificates = read_history_file(rt, word)?;
-            let approvals = confirm_history(rt.alloc(), &schemas, &reader, &certificates)?;
-            let answer = answer_confirmed(rt.alloc(), approvals.is_some(), history.form)?;
-            print_bytes(out, &answer.text)?;
-            Ok(Finding::of_verdict(answer.status))
-        }
-        Evidence::Written(word) => {
-            let (finding, certificates) = certify_each(rt, history, &schemas, &reader, out)?;
-            if finding == Finding::Yes {
-                write_history_file(rt, certificates, word)?;
-            }
-            Ok(finding)
-        }
-        Evidence::Left => judge_each(rt.alloc(), history, &schemas, &reader, out),
+        Evidence::Given(word) => confirm_given(rt, word, history.form, earlier, last, out),
+        Evidence::Written(word) => certify_into(rt, word, history, earlier, last, out),
+        Evidence::Left => judge_each(rt.alloc(), history, earlier, last, out),
     }
+}
+
+/// Prints whether the certificates of a file confirm schemas with the last one.
+fn confirm_given<'a, R: Files + AllocGlobal, O: Write>(
+    rt: &R,
+    word: &'a str,
+    form: Form,
+    earlier: &[Schema],
+    last: &Schema,
+    out: &mut O,
+) -> Result<Finding, Failure<'a>> {
+    let certificates = read_history_file(rt, word)?;
+    let is_confirmed = are_confirmed(rt.alloc(), earlier, last, &certificates)?;
+    tell_confirmed(rt.alloc(), is_confirmed, form, out)
+}
+
+/// Whether certificates confirm schemas with the last one.
+fn are_confirmed(
+    alloc: Global,
+    earlier: &[Schema],
+    last: &Schema,
+    certificates: &HistoryCert,
+) -> Result<bool, Memory> {
+    Ok(confirm_history(alloc, earlier, last, certificates)?.is_some())
+}
+
+/// Prints whether certificates confirm schemas.
+fn tell_confirmed<'a, O: Write>(
+    alloc: Global,
+    is_confirmed: bool,
+    form: Form,
+    out: &mut O,
+) -> Result<Finding, Failure<'a>> {
+    let answer = answer_confirmed(alloc, is_confirmed, form)?;
+    print_bytes(out, &answer.text)?;
+    Ok(Finding::of_verdict(answer.status))
+}
+
+/// Judges each earlier schema with the last one, and writes the certificates into a file where all are approved.
+fn certify_into<'a, R: Files + AllocGlobal, O: Write>(
+    rt: &R,
+    word: &'a str,
+    history: &History<'a>,
+    earlier: &[Schema],
+    last: &Schema,
+    out: &mut O,
+) -> Result<Finding, Failure<'a>> {
+    let mut certificates = Vec::new(rt.alloc());
+    let finding = certify_each(rt.alloc(), history, earlier, last, &mut certificates, out)?;
+    if finding == Finding::Yes {
+        write_history_file(rt, certificates, word)?;
+    }
+    Ok(finding)
 }
 
 /// The schemas of files, in order.
@@ -142,8 +213,7 @@ fn judge_one<'a, O: Write>(
     out: &mut O,
 ) -> Result<Finding, Failure<'a>> {
     let judged = judge_as(alloc, history, line, writer, reader)?;
-    print_bytes(out, &judged.answer.text)?;
-    Ok(Finding::of_verdict(judged.answer.status))
+    tell_judged(&judged, out)
 }
 
 /// Judges a writer's schema and a reader's, and answers a line in the form that is asked for.
@@ -162,24 +232,44 @@ fn judge_as<'s>(
 }
 
 /// Judges each writer's schema once, and prints a line for each, in order. The answer has what was found
-/// of all, and the certificates of the approvals.
-fn certify_each<'a, R: AllocGlobal, O: Write>(
-    rt: &R,
+/// of all; the certificates of the approvals are kept.
+fn certify_each<'a, O: Write>(
+    alloc: Global,
     history: &History<'a>,
     writers: &[Schema],
     reader: &Schema,
+    certificates: &mut Vec<Certificate>,
     out: &mut O,
-) -> Result<(Finding, Vec<Certificate>), Failure<'a>> {
+) -> Result<Finding, Failure<'a>> {
     let mut finding = Finding::Yes;
-    let mut certificates = Vec::new(rt.alloc());
     for (file, writer) in history.writers.iter().zip(writers) {
         let line = Line { file, mode: None };
-        let judged = judge_as(rt.alloc(), history, line, writer, reader)?;
-        print_bytes(out, &judged.answer.text)?;
-        finding = finding.and(Finding::of_verdict(judged.answer.status));
-        keep_certificate(rt.alloc(), &judged.verdict, &mut certificates)?;
+        let found = certify_one(alloc, history, line, writer, reader, certificates, out)?;
+        finding = finding.and(found);
     }
-    Ok((finding, certificates))
+    Ok(finding)
+}
+
+/// Judges a writer's schema and a reader's, prints a line of it, and keeps the certificate of an approval.
+fn certify_one<'a, O: Write>(
+    alloc: Global,
+    history: &History<'a>,
+    line: Line<'_>,
+    writer: &Schema,
+    reader: &Schema,
+    certificates: &mut Vec<Certificate>,
+    out: &mut O,
+) -> Result<Finding, Failure<'a>> {
+    let judged = judge_as(alloc, history, line, writer, reader)?;
+    let finding = tell_judged(&judged, out)?;
+    keep_certificate(alloc, &judged.verdict, certificates)?;
+    Ok(finding)
+}
+
+/// Prints the line of a verdict.
+fn tell_judged<'a, O: Write>(judged: &Judged<'_>, out: &mut O) -> Result<Finding, Failure<'a>> {
+    print_bytes(out, &judged.answer.text)?;
+    Ok(Finding::of_verdict(judged.answer.status))
 }
 
 /// Keeps the certificate of a verdict that approves.
@@ -188,11 +278,14 @@ fn keep_certificate(
     verdict: &Verdict<'_>,
     certificates: &mut Vec<Certificate>,
 ) -> Result<(), Memory> {
-    if let Verdict::Approved(approved) = verdict {
-        let certificate = approved.certificate(alloc)?;
-        if certificates.push(certificate).is_err() {
-            return Err(Memory);
+    match verdict {
+        Verdict::Approved(approved) => {
+            let certificate = approved.certificate(alloc)?;
+            match certificates.push(certificate) {
+                Ok(()) => Ok(()),
+                Err(_) => Err(Memory),
+            }
         }
+        _ => Ok(()),
     }
-    Ok(())
 }

@@ -6,8 +6,9 @@ use crate::files::refutation::write_refutation_file;
 use crate::files::schema::{read_schema_file, read_text_file};
 use crate::printing::print_bytes;
 use crate::request::Judging;
-use avro_answer::judge_schemas;
+use avro_answer::{Judged, judge_schemas};
 use avro_judge::Verdict;
+use avro_schema::Schema;
 use avro_schema_json::ReaderText;
 use std::io::Write;
 use std::rt::Files;
@@ -19,17 +20,57 @@ pub(crate) fn judge_files<'a, R: Files + AllocGlobal, O: Write>(
     asked: &Judging<'a>,
     out: &mut O,
 ) -> Result<Finding, Failure<'a>> {
+    refuse_evidence(rt, asked)?;
+    let writer = read_text_file(rt, asked.writer)?;
+    judge_written(rt, asked, &writer, out)
+}
+
+/// Refuses files for the evidence that are read, or that hold a schema.
+fn refuse_evidence<'a, R: Files + AllocGlobal>(
+    rt: &R,
+    asked: &Judging<'a>,
+) -> Result<(), Failure<'a>> {
     let words = [asked.writer, asked.reader];
     refuse_read_file(rt, asked.certificate, &words)?;
     refuse_read_file(rt, asked.refutation, &words)?;
     refuse_schema_file(rt, asked.certificate)?;
-    refuse_schema_file(rt, asked.refutation)?;
-    let text = read_text_file(rt, asked.writer)?;
-    let writer = text.schema();
+    refuse_schema_file(rt, asked.refutation)
+}
+
+/// Judges a writer's schema and the reader's, which is read first.
+fn judge_written<'a, R: Files + AllocGlobal, O: Write>(
+    rt: &R,
+    asked: &Judging<'a>,
+    writer: &ReaderText,
+    out: &mut O,
+) -> Result<Finding, Failure<'a>> {
     let reader = read_schema_file(rt, asked.reader)?;
-    let judged = judge_schemas(rt.alloc(), writer, &reader, &asked.limits, asked.form)?;
+    judge_pair(rt, asked, writer, &reader, out)
+}
+
+/// Judges two schemas.
+fn judge_pair<'a, R: Files + AllocGlobal, O: Write>(
+    rt: &R,
+    asked: &Judging<'a>,
+    writer: &ReaderText,
+    reader: &Schema,
+    out: &mut O,
+) -> Result<Finding, Failure<'a>> {
+    let limits = &asked.limits;
+    let judged = judge_schemas(rt.alloc(), writer.schema(), reader, limits, asked.form)?;
+    tell_judged(rt, asked, writer, &judged, out)
+}
+
+/// Prints a verdict, and writes its evidence where a file is named for it.
+fn tell_judged<'a, R: Files + AllocGlobal, O: Write>(
+    rt: &R,
+    asked: &Judging<'a>,
+    writer: &ReaderText,
+    judged: &Judged<'_>,
+    out: &mut O,
+) -> Result<Finding, Failure<'a>> {
     print_bytes(out, &judged.answer.text)?;
-    write_evidence(rt, asked, &text, &judged.verdict)?;
+    write_evidence(rt, asked, writer, &judged.verdict)?;
     Ok(Finding::of_verdict(judged.answer.status))
 }
 

@@ -1,11 +1,14 @@
 //! A container from one stream to another.
 
 use crate::Finding;
-use crate::commands::copy::marker_of;
+use crate::commands::copy::{copy_into, marker_of};
 use crate::failure::Failure;
 use crate::files::container::{ROOM, print_counts};
+use crate::files::kept::{STANDARD_INPUT, STANDARD_OUTPUT, is_one_file};
 use crate::files::schema::read_reader;
-use avro_container::{CopyError, Counts, FileLimits, ReadInput, WriteOutput, copy};
+use avro_container::{CopyError, Counts, Input, ReadInput};
+use avro_schema_json::ReaderText;
+use std::alloc::Global;
 use std::io::{BufReader, Read, Write};
 use std::rt::Files;
 
@@ -23,6 +26,10 @@ pub(crate) fn pipe_streams<'a, R: Files + AllocGlobal, I: Read, O: Write, E: Wri
     out: &mut O,
     err: &mut E,
 ) -> Result<Finding, Failure<'a>> {
+    let sync = marker_of(sync)?;
+    if is_one_file(rt, STANDARD_INPUT, STANDARD_OUTPUT)? {
+        return Err(Failure::OneFile);
+    }
     let counts = pipe_container(rt, reader, sync, input, out)?;
     if is_counted {
         // If the standard error fails, the copy is whole all the same.
@@ -35,25 +42,37 @@ pub(crate) fn pipe_streams<'a, R: Files + AllocGlobal, I: Read, O: Write, E: Wri
 fn pipe_container<'a, R: Files + AllocGlobal, I: Read, O: Write>(
     rt: &R,
     reader: Option<&'a str>,
-    sync: Option<&'a str>,
+    sync: Option<[u8; 16]>,
     input: &mut I,
     out: &mut O,
 ) -> Result<Counts, Failure<'a>> {
-    let sync = marker_of(sync)?;
     let reader = read_reader(rt, reader)?;
-    let mut source = match BufReader::with_capacity(rt.alloc(), ROOM, input) {
-        Ok(input) => ReadInput::new(input),
-        Err(_) => return Err(Failure::OutOfMemory),
-    };
-    let copied = copy(
-        rt.alloc(),
-        &mut source,
-        &mut WriteOutput::new(out),
-        reader.as_ref(),
-        sync,
-        &FileLimits::default(),
-    );
-    match copied {
+    pipe_for(rt.alloc(), reader.as_ref(), sync, input, out)
+}
+
+/// The same for a reader's schema, where there is one.
+fn pipe_for<'a, I: Read, O: Write>(
+    alloc: Global,
+    reader: Option<&ReaderText>,
+    sync: Option<[u8; 16]>,
+    input: &mut I,
+    out: &mut O,
+) -> Result<Counts, Failure<'a>> {
+    match BufReader::with_capacity(alloc, ROOM, input) {
+        Ok(input) => pipe_from(alloc, &mut ReadInput::new(input), reader, sync, out),
+        Err(_) => Err(Failure::OutOfMemory),
+    }
+}
+
+/// The same for what is read.
+fn pipe_from<'a, I: Input, O: Write>(
+    alloc: Global,
+    input: &mut I,
+    reader: Option<&ReaderText>,
+    sync: Option<[u8; 16]>,
+    out: &mut O,
+) -> Result<Counts, Failure<'a>> {
+    match copy_into(alloc, input, out, reader, sync) {
         Ok(counts) => Ok(counts),
         Err(CopyError::OutputFailed) => Err(Failure::CannotPrint),
         Err(error) => Err(Failure::of_container(INPUT, error)),

@@ -8,6 +8,7 @@ ghost use Rattle.avro_schema.specs.SeenSchema.{schema_nodes};
 use crate::Finding;
 use crate::failure::Failure;
 use crate::files::container::{ROOM, open_container};
+use crate::files::kept::is_output;
 use crate::files::schema::read_reader;
 use avro_answer::datum_line;
 use avro_binary::{Nothing, Tree, decode};
@@ -29,22 +30,50 @@ pub(crate) fn show_file<'a, R: Files + AllocGlobal, O: Write>(
     limit: Option<u64>,
     out: &mut O,
 ) -> Result<Finding, Failure<'a>> {
+    if is_output(rt, word)? {
+        return Err(Failure::FileIsOutput);
+    }
     let reader = read_reader(rt, reader)?;
-    let mut input = open_container(rt, word)?;
-    let mut lines = match BufWriter::with_capacity(rt.alloc(), ROOM, out) {
-        Ok(lines) => lines,
-        Err(_) => return Err(Failure::OutOfMemory),
-    };
     let limit = limit.unwrap_or(u64::MAX);
-    let shown = show_data(
-        rt.alloc(),
-        &mut input,
-        word,
-        reader.as_ref(),
-        limit,
-        &mut lines,
-    );
-    match lines.flush() {
+    show_for(rt, word, reader.as_ref(), limit, out)
+}
+
+/// Prints the data of the container in a file for a reader's schema, where there is one.
+fn show_for<'a, R: Files + AllocGlobal, O: Write>(
+    rt: &R,
+    word: &'a str,
+    reader: Option<&ReaderText>,
+    limit: u64,
+    out: &mut O,
+) -> Result<Finding, Failure<'a>> {
+    let mut input = open_container(rt, word)?;
+    show_lines(rt.alloc(), &mut input, word, reader, limit, out)
+}
+
+/// Prints the data of a container, many lines at once.
+fn show_lines<'a, I: Input, O: Write>(
+    alloc: Global,
+    input: &mut I,
+    word: &'a str,
+    reader: Option<&ReaderText>,
+    limit: u64,
+    out: &mut O,
+) -> Result<Finding, Failure<'a>> {
+    match BufWriter::with_capacity(alloc, ROOM, out) {
+        Ok(mut lines) => {
+            let shown = show_data(alloc, input, word, reader, limit, &mut lines);
+            flushed(&mut lines, shown)
+        }
+        Err(_) => Err(Failure::OutOfMemory),
+    }
+}
+
+/// What was shown, if all of it was written.
+fn flushed<'a, O: Write>(
+    out: &mut O,
+    shown: Result<Finding, Failure<'a>>,
+) -> Result<Finding, Failure<'a>> {
+    match out.flush() {
         Ok(()) => shown,
         Err(_) => Err(Failure::CannotPrint),
     }
@@ -63,8 +92,21 @@ fn show_data<'a, I: Input, O: Write>(
         Ok(header) => header,
         Err(error) => return Err(Failure::of_container(word, error)),
     };
-    let plan = plan_for(alloc, &header, reader)?;
-    show_blocks(alloc, input, word, &header, &plan, limit, out)
+    show_after(alloc, input, word, &header, reader, limit, out)
+}
+
+/// Prints the data after a header.
+fn show_after<'a, I: Input, O: Write>(
+    alloc: Global,
+    input: &mut I,
+    word: &'a str,
+    header: &Header,
+    reader: Option<&ReaderText>,
+    limit: u64,
+    out: &mut O,
+) -> Result<Finding, Failure<'a>> {
+    let plan = plan_for(alloc, header, reader)?;
+    show_blocks(alloc, input, word, header, &plan, limit, out)
 }
 
 /// Prints the data of the blocks after a header, up to a number of lines. What follows is not read.

@@ -1,4 +1,5 @@
-//! Files that must not be overwritten: those that are read, and those that hold a schema.
+//! Files that must not be overwritten: those that are read, and those that hold a schema; and files that are the
+//! standard input or output.
 
 use crate::failure::Failure;
 use crate::files::schema::{MAX_TEXT, read_bytes};
@@ -7,6 +8,12 @@ use std::fs::Metadata;
 use std::os::unix::fs::MetadataExt;
 use std::rt::Files;
 use std::{fs, io};
+
+/// The file that the standard input is.
+pub(crate) const STANDARD_INPUT: &str = "/dev/stdin";
+
+/// The file that the standard output is.
+pub(crate) const STANDARD_OUTPUT: &str = "/dev/stdout";
 
 /// What is known of the file that a word names, if it is a regular file.
 fn regular_file<'a, R: Files>(rt: &R, word: &'a str) -> Result<Option<Metadata>, Failure<'a>> {
@@ -34,7 +41,12 @@ pub(crate) fn is_one_file<'a, R: Files>(
     Ok(one.ino() != 0 && one.ino() == other.ino() && one.dev() == other.dev())
 }
 
-/// Refuses a file that an option asks for if it is the same file as one that is read.
+/// Whether a word names the regular file that the standard output is.
+pub(crate) fn is_output<'a, R: Files>(rt: &R, word: &'a str) -> Result<bool, Failure<'a>> {
+    is_one_file(rt, word, STANDARD_OUTPUT)
+}
+
+/// Refuses a file that is to be written if it is the same file as one that is read.
 pub(crate) fn refuse_read_file<'a, R: Files>(
     rt: &R,
     output: Option<&'a str>,
@@ -51,7 +63,7 @@ pub(crate) fn refuse_read_file<'a, R: Files>(
     Ok(())
 }
 
-/// Refuses a file that an option asks for if its text declares a schema. A file that is not regular, or
+/// Refuses a file that is to be written if its text declares a schema. A file that is not regular, or
 /// that may not be read, is not looked at.
 pub(crate) fn refuse_schema_file<'a, R: Files + AllocGlobal>(
     rt: &R,
