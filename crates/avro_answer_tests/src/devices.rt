@@ -1,11 +1,8 @@
 //! Devices that move few bytes a call, and that fail.
 
-use crate::files::reader_of;
-use avro_container::{
-    Copier, CopyError, FileLimits, Input, Output, ReadInput, Step, WriteOutput, copy,
-};
+use avro_container::{Copier, CopyError, FileLimits, Input, Output, ReadInput, WriteOutput, copy};
 use avro_samples::{FIVE, FIVE_COPIED, LONG_OR_INT};
-use avro_schema_json::ReaderText;
+use avro_schema_json::{ReaderText, SchemaError};
 use std::alloc::Global;
 use std::io;
 use std::io::{Read, Write};
@@ -99,7 +96,7 @@ impl Write for Kept {
 /// A copy of the file of one int, whose input gives up to `size` bytes a call and where one call fails.
 fn copied(
     alloc: Global,
-    reader: Option<&ReaderText>,
+    reader: &ReaderText,
     size: usize,
     take: usize,
     failing: Failing,
@@ -114,135 +111,220 @@ fn copied(
     let limits = FileLimits::default();
     let mut input = ReadInput::new(&mut source);
     let mut output = WriteOutput::new(&mut kept);
-    let answer = copy(alloc, &mut input, &mut output, reader, None, &limits);
+    let answer = copy(alloc, &mut input, &mut output, Some(reader), None, &limits);
     (kept, answer.map(|_| ()))
+}
+
+/// Whether the copy is good and whole where the input gives up to `size` bytes a call.
+fn is_whole(alloc: Global, reader: &ReaderText, size: usize) -> bool {
+    let (kept, answer) = copied(alloc, reader, size, NEVER, Failing::Never);
+    answer.is_ok() && kept.bytes.as_slice() == FIVE_COPIED && kept.flushes == 1
+}
+
+/// The first number of bytes a call, if any, that gives another copy.
+fn wrong_size(alloc: Global) -> Result<Option<usize>, SchemaError> {
+    let reader = ReaderText::read(alloc, LONG_OR_INT.as_bytes())?;
+    for size in [1, 2, 3, 7, 59] {
+        if !is_whole(alloc, &reader, size) {
+            return Ok(Some(size));
+        }
+    }
+    Ok(None)
 }
 
 #[test]
 fn any_cut_gives_the_same_copy(rt: HostRuntime) -> Result<(), Fail> {
-    let alloc = rt.alloc();
-    let reader = reader_of(alloc, LONG_OR_INT)?;
-    for size in [1, 2, 3, 7, 59] {
-        let (kept, answer) = copied(alloc, reader.as_ref(), size, NEVER, Failing::Never);
-        assert_eq!(rt; answer, Ok(()), "{size}");
-        assert_eq!(rt; kept.bytes.as_slice(), FIVE_COPIED, "{size}");
-        assert_eq!(rt; kept.flushes, 1, "{size}");
-    }
+    assert_eq!(rt; wrong_size(rt.alloc())?, None);
     Ok(())
+}
+
+/// Whether the failure of this call is told, after the bytes of the calls before it, and nothing is called again.
+fn is_put_told(alloc: Global, reader: &ReaderText, call: usize, failing: Failing) -> bool {
+    let (kept, answer) = copied(alloc, reader, 1, NEVER, failing);
+    answer == Err(CopyError::OutputFailed)
+        && kept.bytes.len() == call
+        && kept.calls == call.saturating_add(1)
+        && FIVE_COPIED.starts_with(&kept.bytes)
+}
+
+/// Whether the failure of the flush is told, after all bytes.
+fn is_flush_told(alloc: Global, reader: &ReaderText) -> bool {
+    let (kept, answer) = copied(alloc, reader, 1, NEVER, Failing::Flush(0));
+    answer == Err(CopyError::OutputFailed)
+        && kept.bytes.as_slice() == FIVE_COPIED
+        && kept.flushes == 1
+}
+
+/// The first call, if any, whose failure is not told, or the number of calls if that of the flush is not.
+fn wrong_put(alloc: Global) -> Result<Option<usize>, SchemaError> {
+    let reader = ReaderText::read(alloc, LONG_OR_INT.as_bytes())?;
+    for call in 0..69 {
+        if !is_put_told(alloc, &reader, call, Failing::Put(call))
+            || !is_put_told(alloc, &reader, call, Failing::None(call))
+        {
+            return Ok(Some(call));
+        }
+    }
+    Ok((!is_flush_told(alloc, &reader)).then_some(69))
 }
 
 #[test]
 fn failed_puts_are_told(rt: HostRuntime) -> Result<(), Fail> {
-    let alloc = rt.alloc();
-    let reader = reader_of(alloc, LONG_OR_INT)?;
-    for call in 0..69 {
-        for failing in [Failing::Put(call), Failing::None(call)] {
-            let (kept, answer) = copied(alloc, reader.as_ref(), 1, NEVER, failing);
-            assert_eq!(rt; answer, Err(CopyError::OutputFailed), "{call}");
-            assert_eq!(rt; kept.bytes.len(), call);
-            assert_eq!(rt; kept.calls, call + 1);
-            assert!(rt; FIVE_COPIED.starts_with(&kept.bytes), "{call}");
+    assert_eq!(rt; wrong_put(rt.alloc())?, None);
+    Ok(())
+}
+
+/// Whether the failure of this call is told, after bytes of the copy, and after none in the header.
+fn is_take_told(alloc: Global, reader: &ReaderText, call: usize) -> bool {
+    let (kept, answer) = copied(alloc, reader, 1, call, Failing::Never);
+    answer == Err(CopyError::InputFailed)
+        && FIVE_COPIED.starts_with(&kept.bytes)
+        && (call >= 40 || kept.bytes.is_empty())
+}
+
+/// The first call, if any, whose failure is not told.
+fn wrong_take(alloc: Global) -> Result<Option<usize>, SchemaError> {
+    let reader = ReaderText::read(alloc, LONG_OR_INT.as_bytes())?;
+    for call in 0..60 {
+        if !is_take_told(alloc, &reader, call) {
+            return Ok(Some(call));
         }
     }
-    let (kept, answer) = copied(alloc, reader.as_ref(), 1, NEVER, Failing::Flush(0));
-    assert_eq!(rt; answer, Err(CopyError::OutputFailed));
-    assert_eq!(rt; kept.bytes.as_slice(), FIVE_COPIED);
-    assert_eq!(rt; kept.flushes, 1);
-    Ok(())
+    Ok(None)
 }
 
 #[test]
 fn failed_takes_are_told(rt: HostRuntime) -> Result<(), Fail> {
-    let alloc = rt.alloc();
-    let reader = reader_of(alloc, LONG_OR_INT)?;
-    for call in 0..60 {
-        let (kept, answer) = copied(alloc, reader.as_ref(), 1, call, Failing::Never);
-        assert_eq!(rt; answer, Err(CopyError::InputFailed), "{call}");
-        assert!(rt; FIVE_COPIED.starts_with(&kept.bytes), "{call}");
-        assert!(rt; call >= 40 || kept.bytes.is_empty(), "{call}");
-    }
+    assert_eq!(rt; wrong_take(rt.alloc())?, None);
     Ok(())
+}
+
+/// Whether of five calls this one alone fails, and the reader is called five times.
+fn is_take_one_call(failing: usize) -> bool {
+    let mut source = Source {
+        rest: FIVE,
+        size: 1,
+        calls: 0,
+        failing,
+    };
+    let mut input = ReadInput::new(&mut source);
+    for call in 0..5 {
+        if input.take(&mut [0; 4]).is_err() != (call == failing) {
+            return false;
+        }
+    }
+    source.calls == 5
+}
+
+/// The first failing call, if any, that is not one call.
+fn wrong_single_take() -> Option<usize> {
+    for failing in 0..5 {
+        if !is_take_one_call(failing) {
+            return Some(failing);
+        }
+    }
+    None
 }
 
 #[test]
-fn a_failed_take_is_one_call(rt: HostRuntime) -> Result<(), Fail> {
-    for failing in 0..5 {
-        let mut source = Source {
-            rest: FIVE,
-            size: 1,
-            calls: 0,
-            failing,
-        };
-        let mut input = ReadInput::new(&mut source);
-        for call in 0..5 {
-            let answer = input.take(&mut [0; 4]);
-            assert_eq!(rt; answer.is_err(), call == failing, "{call} of {failing}");
+fn a_failed_take_is_one_call(rt: HostRuntime) {
+    assert_eq!(rt; wrong_single_take(), None);
+}
+
+/// Whether of five puts this one alone fails, and the writer is called five times.
+fn is_put_one_call(alloc: Global, failing: usize) -> bool {
+    let mut kept = Kept::new(alloc, Failing::Put(failing));
+    let mut output = WriteOutput::new(&mut kept);
+    for call in 0..5 {
+        if output.put(FIVE).is_err() != (call == failing) {
+            return false;
         }
-        assert_eq!(rt; source.calls, 5);
     }
-    Ok(())
+    kept.calls == 5 && kept.bytes.len() == 4
+}
+
+/// Whether of five flushes this one alone fails, and the writer is flushed five times.
+fn is_flush_one_call(alloc: Global, failing: usize) -> bool {
+    let mut kept = Kept::new(alloc, Failing::Flush(failing));
+    let mut output = WriteOutput::new(&mut kept);
+    for call in 0..5 {
+        if output.flush().is_err() != (call == failing) {
+            return false;
+        }
+    }
+    kept.flushes == 5 && kept.calls == 0
+}
+
+/// The first failing call, if any, that is not one call.
+fn wrong_single_put(alloc: Global) -> Option<usize> {
+    for failing in 0..5 {
+        if !is_put_one_call(alloc, failing) || !is_flush_one_call(alloc, failing) {
+            return Some(failing);
+        }
+    }
+    None
 }
 
 #[test]
-fn a_failed_put_or_flush_is_one_call(rt: HostRuntime) -> Result<(), Fail> {
-    for failing in 0..5 {
-        let mut kept = Kept::new(rt.alloc(), Failing::Put(failing));
-        let mut output = WriteOutput::new(&mut kept);
-        for call in 0..5 {
-            let answer = output.put(FIVE);
-            assert_eq!(rt; answer.is_err(), call == failing, "{call} of {failing}");
-        }
-        assert_eq!(rt; kept.calls, 5);
-        assert_eq!(rt; kept.bytes.len(), 4);
-        let mut kept = Kept::new(rt.alloc(), Failing::Flush(failing));
-        let mut output = WriteOutput::new(&mut kept);
-        for call in 0..5 {
-            let answer = output.flush();
-            assert_eq!(rt; answer.is_err(), call == failing, "{call} of {failing}");
-        }
-        assert_eq!(rt; kept.flushes, 5);
-        assert_eq!(rt; kept.calls, 0);
-    }
-    Ok(())
+fn a_failed_put_or_flush_is_one_call(rt: HostRuntime) {
+    assert_eq!(rt; wrong_single_put(rt.alloc()), None);
 }
 
-/// Steps up to an error, and one step more.
-fn failed_steps<I: Input, O: Output>(
+/// Whether steps fail so in the end, and one more has failed before.
+fn stays_failed<I: Input, O: Output>(
     copier: &mut Copier<'_>,
     input: &mut I,
     output: &mut O,
-) -> (Result<Step, CopyError>, Result<Step, CopyError>) {
+    wanted: &CopyError,
+) -> bool {
     for _ in 0..4 {
-        let step = copier.step(input, output);
-        if step.is_err() {
-            return (step, copier.step(input, output));
+        if let Err(error) = copier.step(input, output) {
+            return error == *wanted && is_failed_before(copier, input, output);
         }
     }
-    (Ok(Step::End), copier.step(input, output))
+    false
+}
+
+/// Whether a step has failed before.
+fn is_failed_before<I: Input, O: Output>(
+    copier: &mut Copier<'_>,
+    input: &mut I,
+    output: &mut O,
+) -> bool {
+    match copier.step(input, output) {
+        Ok(_) => false,
+        Err(error) => error == CopyError::FailedBefore,
+    }
+}
+
+/// Whether a copier stays failed at devices of which one fails in one call.
+fn is_failed(alloc: Global, take: usize, failing: Failing, wanted: &CopyError) -> bool {
+    let mut input = ReadInput::new(Source {
+        rest: FIVE,
+        size: 1,
+        calls: 0,
+        failing: take,
+    });
+    let mut output = WriteOutput::new(Kept::new(alloc, failing));
+    let mut copier = Copier::new(alloc, None, None, &FileLimits::default());
+    stays_failed(&mut copier, &mut input, &mut output, wanted)
+}
+
+/// The first call, if any, after whose failure a copier does not stay failed.
+fn wrong_failed(alloc: Global) -> Option<usize> {
+    for call in 0..60 {
+        let put = call.min(58);
+        if !is_failed(alloc, call, Failing::Never, &CopyError::InputFailed)
+            || !is_failed(alloc, NEVER, Failing::Put(put), &CopyError::OutputFailed)
+            || !is_failed(alloc, NEVER, Failing::None(put), &CopyError::OutputFailed)
+        {
+            return Some(call);
+        }
+    }
+    None
 }
 
 #[test]
-fn a_copier_stays_failed(rt: HostRuntime) -> Result<(), Fail> {
-    let alloc = rt.alloc();
-    let limits = FileLimits::default();
-    for call in 0..60 {
-        for (take, failing, wanted) in [
-            (call, Failing::Never, CopyError::InputFailed),
-            (NEVER, Failing::Put(call.min(58)), CopyError::OutputFailed),
-            (NEVER, Failing::None(call.min(58)), CopyError::OutputFailed),
-        ] {
-            let mut input = ReadInput::new(Source {
-                rest: FIVE,
-                size: 1,
-                calls: 0,
-                failing: take,
-            });
-            let mut output = WriteOutput::new(Kept::new(alloc, failing));
-            let mut copier = Copier::new(alloc, None, None, &limits);
-            let (first, second) = failed_steps(&mut copier, &mut input, &mut output);
-            assert_eq!(rt; first, Err(wanted), "{call}");
-            assert_eq!(rt; second, Err(CopyError::FailedBefore), "{call}");
-        }
-    }
-    Ok(())
+fn a_copier_stays_failed(rt: HostRuntime) {
+    assert_eq!(rt; wrong_failed(rt.alloc()), None);
 }

@@ -1,11 +1,13 @@
-//! Data without bytes: what is read, checked and copied of them.
+//! Data without bytes: what is read, checked and copied of them at the limit of a block.
 
-use crate::files::{answer_text, copy_all, reader_of, schema_of_copy};
-use avro_binary::Nothing;
-use avro_container::{Blocks, Checker, CopyError, Counts, FileLimits, Header, ReadInput};
+use crate::files::{NONE as NO_BLOCK, copy_all, is_answer, read_all, reader_of, with_block};
+use avro_container::{
+    Block, Blocks, Checker, CopyError, Counts, FileLimits, Header, Input, ReadInput,
+};
 use avro_samples::file_of;
 use avro_schema::Limits;
-use std::alloc::Global;
+use avro_schema_json::ReaderText;
+use std::alloc::{AllocError, Global};
 use std::test::Fail;
 
 const NULL: &str = r#""null""#;
@@ -28,7 +30,16 @@ const LIMIT: u32 = 6;
 
 /// A schema, the reader's or none, two blocks without their markers, what reading them returns, and
 /// what copying them does.
-const ROWS: [(&str, &str, (&[u8], &[u8]), &str, &str); 9] = [
+type Row = (
+    &'static str,
+    &'static str,
+    (&'static [u8], &'static [u8]),
+    &'static str,
+    &'static str,
+);
+
+/// Rows at that limit.
+const ROWS: [Row; 9] = [
     (
         NONE,
         "",
@@ -96,128 +107,74 @@ const ROWS: [(&str, &str, (&[u8], &[u8]), &str, &str); 9] = [
     ),
 ];
 
-/// Checks the data of a file, each block by one checker and by itself.
+/// Checks a block by a checker and by itself, and counts its data.
+fn check_block(checker: &mut Checker<'_>, block: &Block<'_>) -> Result<u64, CopyError> {
+    checker.check(block)?;
+    block.check()?;
+    Ok(u64::from(block.count()))
+}
+
+/// Checks all blocks, each by one checker and by itself.
+fn check_blocks<I: Input>(
+    input: &mut I,
+    blocks: &mut Blocks<'_>,
+    checker: &mut Checker<'_>,
+) -> Result<Counts, CopyError> {
+    let mut counts = NO_BLOCK;
+    for _ in 0..100 {
+        let Some(block) = blocks.next(input)? else {
+            break;
+        };
+        counts = with_block(counts, check_block(checker, &block)?);
+    }
+    Ok(counts)
+}
+
+/// Checks the data of a file.
 fn check_all(alloc: Global, file: &[u8], limits: &FileLimits) -> Result<Counts, CopyError> {
     let mut input = ReadInput::new(file);
     let header = Header::read(alloc, &mut input, limits)?;
     let mut blocks = Blocks::new(alloc, &header, limits);
     let mut checker = Checker::new(alloc, &header, limits);
-    let mut counts = Counts {
-        items: 0,
-        blocks: 0,
-    };
-    for _ in 0..100 {
-        let Some(block) = blocks.next(&mut input)? else {
-            break;
-        };
-        checker.check(&block)?;
-        block.check()?;
-        counts.items = counts.items.saturating_add(u64::from(block.count()));
-        counts.blocks = counts.blocks.saturating_add(1);
-    }
-    Ok(counts)
+    check_blocks(&mut input, &mut blocks, &mut checker)
 }
 
-/// Reads the data of a file for a reader.
-fn read_all(alloc: Global, file: &[u8], reader: &str, limits: &FileLimits) -> Result<String, Fail> {
-    let reader = reader_of(alloc, reader)?;
-    let mut input = ReadInput::new(file);
-    let header = Header::read(alloc, &mut input, limits)?;
-    let mut blocks = Blocks::new(alloc, &header, limits);
-    let mut counts = Counts {
-        items: 0,
-        blocks: 0,
-    };
-    for _ in 0..100 {
-        let Some(block) = blocks.next(&mut input)? else {
-            break;
-        };
-        match block.read(reader.as_ref(), &mut Nothing) {
-            Ok(data) => counts.items = counts.items.saturating_add(data.len() as u64),
-            Err(error) => return Ok(answer_text(alloc, Err(error))?),
+/// Whether a file is read and copied as a row says, and checked so where it has no reader.
+fn is_row(
+    alloc: Global,
+    file: &[u8],
+    reader: Option<&ReaderText>,
+    limits: &FileLimits,
+    row: &Row,
+) -> Result<bool, AllocError> {
+    let is_read = is_answer(alloc, read_all(alloc, file, reader, limits), row.3)?;
+    let is_copied = is_answer(alloc, copy_all(alloc, file, reader, limits), row.4)?;
+    let is_checked = reader.is_some() || is_answer(alloc, check_all(alloc, file, limits), row.3)?;
+    Ok(is_read && is_copied && is_checked)
+}
+
+/// The same for the text of the reader's schema.
+fn is_row_for(alloc: Global, file: &[u8], limits: &FileLimits, row: &Row) -> Result<bool, Fail> {
+    let reader = reader_of(alloc, row.1)?;
+    Ok(is_row(alloc, file, reader.as_ref(), limits, row)?)
+}
+
+/// The number of the first row, if any, of which something else is said.
+fn wrong_row(alloc: Global, rows: &[Row]) -> Result<Option<usize>, Fail> {
+    let limits = FileLimits::new(4_194_304, LIMIT, 1_048_576, Limits::default()).ok_or(
+        "no limits",
+    )?;
+    for (number, row) in rows.iter().enumerate() {
+        let file = file_of(alloc, row.0, &[row.2.0, row.2.1])?;
+        if !is_row_for(alloc, &file, &limits, row)? {
+            return Ok(Some(number));
         }
-        counts.blocks = counts.blocks.saturating_add(1);
     }
-    Ok(answer_text(alloc, Ok(counts))?)
+    Ok(None)
 }
 
 #[test]
 fn data_without_bytes_are_read_and_copied(rt: HostRuntime) -> Result<(), Fail> {
-    let alloc = rt.alloc();
-    let Some(limits) = FileLimits::new(4_194_304, LIMIT, 1_048_576, Limits::default()) else {
-        return Err(Fail::new("limits"));
-    };
-    for (text, reader, (first, second), read, copied) in ROWS {
-        let file = file_of(alloc, text, &[first, second])?;
-        let answer = read_all(alloc, &file, reader, &limits)?;
-        assert_eq!(rt; answer.as_str(), read, "{text} {first:?} {second:?}");
-        if reader.is_empty() {
-            let answer = answer_text(alloc, check_all(alloc, &file, &limits))?;
-            assert_eq!(rt; answer.as_str(), read, "{text} {first:?} {second:?}");
-        }
-        let reader = reader_of(alloc, reader)?;
-        let (_, answer) = copy_all(alloc, &file, reader.as_ref(), &limits);
-        let answer = answer_text(alloc, answer)?;
-        assert_eq!(rt; answer.as_str(), copied, "{text} {first:?} {second:?}");
-    }
-    Ok(())
-}
-
-/// Three blocks without their markers.
-type Blocks3 = [&'static [u8]; 3];
-
-/// A schema, the reader's or none, three blocks, and their copies.
-const COPIES: [(&str, &str, Blocks3, Blocks3); 5] = [
-    (
-        NULL,
-        r#"["null","int"]"#,
-        [b"\x06\x00", b"\x06\x00", b"\x06\x00"],
-        [
-            b"\x06\x06\x00\x00\x00",
-            b"\x06\x06\x00\x00\x00",
-            b"\x06\x06\x00\x00\x00",
-        ],
-    ),
-    (
-        TWO_NULLS,
-        ONE_NULL,
-        [b"\x86\x00\x80\x00", b"\x06\x00", b"\x00\x00"],
-        [b"\x06\x00", b"\x06\x00", b"\x00\x00"],
-    ),
-    (
-        TWO_NULLS,
-        "",
-        [b"\x00\x00", b"\x06\x00", b"\x02\x00"],
-        [b"\x00\x00", b"\x06\x00", b"\x02\x00"],
-    ),
-    (
-        NONE,
-        FIVE,
-        [b"\x02\x00", b"\x00\x00", b"\x06\x00"],
-        [b"\x02\x02\x0a", b"\x00\x00", b"\x06\x06\x0a\x0a\x0a"],
-    ),
-    (
-        NONE,
-        TEXT,
-        [b"\x04\x00", b"\x02\x00", b"\x04\x00"],
-        [
-            b"\x04\x0c\x04ab\x04ab",
-            b"\x02\x06\x04ab",
-            b"\x04\x0c\x04ab\x04ab",
-        ],
-    ),
-];
-
-#[test]
-fn a_datum_without_bytes_is_kept_from_block_to_block(rt: HostRuntime) -> Result<(), Fail> {
-    let alloc = rt.alloc();
-    for (text, reader, blocks, copies) in COPIES {
-        let file = file_of(alloc, text, &blocks)?;
-        let wanted = file_of(alloc, schema_of_copy(text, reader), &copies)?;
-        let reader = reader_of(alloc, reader)?;
-        let (out, answer) = copy_all(alloc, &file, reader.as_ref(), &FileLimits::default());
-        assert!(rt; answer.is_ok(), "{text}");
-        assert_eq!(rt; out.as_slice(), wanted.as_slice(), "{text}");
-    }
+    assert_eq!(rt; wrong_row(rt.alloc(), &ROWS[..])?, None);
     Ok(())
 }

@@ -1,6 +1,6 @@
 //! Verdicts at the limits of judging, and beyond them.
 
-use avro_answer::{Form, judge_schemas, judge_text};
+use avro_answer::{Answer, Form, Refusal, judge_schemas, judge_text};
 use avro_judge::JudgeLimits;
 use avro_schema::{Draft, Limits, Node, Schema};
 use avro_schema_json::read_schema;
@@ -16,32 +16,27 @@ const FIXED_AND_INT: &str =
 const FIXED_AND_STRING: &str =
     r#"{"type":"record","name":"R","fields":[{"name":"f","type":{"type":"fixed","name":"F","size":2}},{"name":"x","type":"string"}]}"#;
 
-/// A text of these bytes.
-fn text_of(alloc: Global, bytes: &[u8]) -> Result<String, Fail> {
-    match str::from_utf8(bytes) {
-        Ok(text) => Ok(String::from_str(alloc, text)?),
-        Err(_) => Err(Fail::new("an answer is no text")),
+/// Whether this is answered.
+fn is_text(answer: &Result<Answer, Refusal>, text: &str) -> bool {
+    match answer {
+        Ok(answer) => answer.text.as_slice() == text.as_bytes(),
+        Err(_) => false,
     }
 }
 
-/// The verdict of two schemas' texts, at limits of data without contents.
-fn verdict_without_contents(alloc: Global, writer: &str, reader: &str) -> Result<String, Fail> {
+/// Whether this is the verdict of a fixed and an int for one and a string, at limits of data without contents.
+fn is_without_contents(alloc: Global, text: &str) -> Result<bool, Fail> {
     let limits = Limits::new(128, 1_048_576, 1).ok_or("limits")?;
     let limits = JudgeLimits::new(4_194_304, 4096, limits).ok_or("limits of judging")?;
-    let (writer, reader) = (writer.as_bytes(), reader.as_bytes());
-    match judge_text(alloc, writer, reader, &limits, Form::Text) {
-        Ok(answer) => text_of(alloc, &answer.text),
-        Err(_) => Err(Fail::new("a text is refused")),
-    }
+    let (writer, reader) = (FIXED_AND_INT.as_bytes(), FIXED_AND_STRING.as_bytes());
+    let answer = judge_text(alloc, writer, reader, &limits, Form::Text);
+    Ok(is_text(&answer, text))
 }
 
 #[test]
 fn contents_have_no_limit(rt: HostRuntime) -> Result<(), Fail> {
-    let found = verdict_without_contents(rt.alloc(), FIXED_AND_INT, FIXED_AND_STRING)?;
-    assert_eq!(rt;
-        found.as_str(),
-        "no\nfault NoMatch at /1\nnodes 3\ndatum {\"f\":\"\\u0000\\u0000\",\"x\":0}\n"
-    );
+    let text = "no\nfault NoMatch at /1\nnodes 3\ndatum {\"f\":\"\\u0000\\u0000\",\"x\":0}\n";
+    assert!(rt; is_without_contents(rt.alloc(), text)?);
     Ok(())
 }
 
@@ -54,17 +49,46 @@ fn two_nodes(alloc: Global) -> Result<Schema, Fail> {
     Ok(draft.finish()?)
 }
 
-/// Limits of judging data of one node, at a limit of pairs.
-fn limits_of(pairs: u32) -> Result<JudgeLimits, Fail> {
-    Ok(JudgeLimits::new(pairs, 1, Limits::default()).ok_or("limits of judging")?)
+/// Limits of pairs in judging data of one node, and the verdict of a writer of two nodes for an int.
+const PAIRS: [(u32, &str); 2] = [(1, "undecided Pairs\n"), (2, "yes\n")];
+
+/// Whether this is the verdict of two schemas at a limit of pairs.
+fn is_verdict(
+    alloc: Global,
+    writer: &Schema,
+    reader: &Schema,
+    row: &(u32, &str),
+) -> Result<bool, Fail> {
+    let limits = JudgeLimits::new(row.0, 1, Limits::default()).ok_or("limits of judging")?;
+    let judged = judge_schemas(alloc, writer, reader, &limits, Form::Text)?;
+    Ok(judged.answer.text.as_slice() == row.1.as_bytes())
 }
 
-/// The verdict of a writer's schema for an int at a limit of pairs.
-fn verdict_for_int(alloc: Global, writer: &Schema, pairs: u32) -> Result<String, Fail> {
+/// The text of the first row, if any, that is not the verdict of a writer of two nodes.
+fn wrong_verdict(
+    alloc: Global,
+    reader: &Schema,
+    rows: &[(u32, &'static str)],
+) -> Result<Option<&'static str>, Fail> {
+    let writer = two_nodes(alloc)?;
+    for row in rows {
+        if !is_verdict(alloc, &writer, reader, row)? {
+            return Ok(Some(row.1));
+        }
+    }
+    Ok(None)
+}
+
+/// The same for an int.
+fn wrong_verdict_for_int(alloc: Global) -> Result<Option<&'static str>, Fail> {
     let reader = read_schema(alloc, INT.as_bytes())?;
-    let limits = limits_of(pairs)?;
-    let judged = judge_schemas(alloc, writer, &reader, &limits, Form::Text)?;
-    text_of(alloc, &judged.answer.text)
+    wrong_verdict(alloc, &reader, &PAIRS[..])
+}
+
+#[test]
+fn pairs_have_a_limit(rt: HostRuntime) -> Result<(), Fail> {
+    assert_eq!(rt; wrong_verdict_for_int(rt.alloc())?, None);
+    Ok(())
 }
 
 /// Numbers of pairs and sizes, and whether they are limits of judging data of at most 3 nodes.
@@ -75,18 +99,24 @@ const RANGES: [(u32, u32, bool); 4] = [
     (1, 4, false),
 ];
 
+/// The first row, if any, that is wrong.
+fn wrong_range(limits: Limits, rows: &[(u32, u32, bool)]) -> Option<(u32, u32)> {
+    for (pairs, size, good) in rows {
+        if JudgeLimits::new(*pairs, *size, limits).is_some() != *good {
+            return Some((*pairs, *size));
+        }
+    }
+    None
+}
+
 #[test]
 fn limits_of_judging_have_ranges(rt: HostRuntime) -> Result<(), Fail> {
     let limits = Limits::new(1, 3, 1).ok_or("limits")?;
-    for (pairs, size, good) in RANGES {
-        assert_eq!(rt; JudgeLimits::new(pairs, size, limits).is_some(), good);
-    }
-    let limits = JudgeLimits::default();
-    let found = (limits.pairs(), limits.size(), limits.limits().depth());
-    assert_eq!(rt; found, (4_194_304, 4096, 128));
-    let writer = two_nodes(rt.alloc())?;
-    for (pairs, text) in [(1, "undecided Pairs\n"), (2, "yes\n")] {
-        assert_eq!(rt; verdict_for_int(rt.alloc(), &writer, pairs)?.as_str(), text);
-    }
+    let default = JudgeLimits::default();
+    let default = (default.pairs(), default.size(), default.limits().depth());
+    assert_eq!(rt;
+        (wrong_range(limits, &RANGES[..]), default),
+        (None, (4_194_304, 4096, 128))
+    );
     Ok(())
 }

@@ -9,8 +9,6 @@ mod certificates;
 #[cfg(test)]
 mod confirming;
 #[cfg(test)]
-mod copying;
-#[cfg(test)]
 mod devices;
 #[cfg(test)]
 mod empty;

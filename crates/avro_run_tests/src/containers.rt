@@ -10,7 +10,7 @@ file empty.avro
 file short.avro Obj\x01\x00
 file name.avro Obj\x01\x02\x02\xff
 file refused.avsc "Foo"
-folder folder
+folder file_folder
 run 0 check header.avro
 out data 0 blocks 0
 run 0 check nulls.avro
@@ -25,12 +25,12 @@ run 3 check name.avro
 err avro: name.avro: C2: B4 at 6
 run 4 check none.avro
 err avro: none.avro: cannot read
-run 4 check folder
-err avro: folder: cannot read
+run 4 check file_folder
+err avro: file_folder: cannot read
 run 4 show none.avro
 err avro: none.avro: cannot read
-run 4 show folder
-err avro: folder: cannot read
+run 4 show file_folder
+err avro: file_folder: cannot read
 run 4 show none.avro --reader none.avsc
 err avro: none.avsc: cannot read
 run 3 show none.avro --reader refused.avsc

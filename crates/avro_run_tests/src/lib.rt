@@ -12,6 +12,10 @@ mod certificate_files;
 #[cfg(test)]
 mod certificate_texts;
 #[cfg(test)]
+mod checked_blocks;
+#[cfg(test)]
+mod checked_headers;
+#[cfg(test)]
 mod containers;
 #[cfg(test)]
 mod defaults;
@@ -41,6 +45,8 @@ mod modes;
 mod one_file;
 #[cfg(test)]
 mod piped;
+#[cfg(test)]
+mod plain_copies;
 #[cfg(test)]
 mod program;
 #[cfg(test)]

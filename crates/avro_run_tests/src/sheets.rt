@@ -2,10 +2,11 @@
 
 use crate::runs::check_sheet;
 use crate::{
-    all_faults, canonical_forms, certificate_files, certificate_texts, containers, defaults,
-    explained, histories, json_faults, json_verdicts, judged, judged_ties, kept_files,
-    limit_options, many_checks, modes, one_file, piped, program, program_copies, refutations,
-    schema_command, schema_texts, shown_headers, shown_limits, words, written_files,
+    all_faults, canonical_forms, certificate_files, certificate_texts, checked_blocks,
+    checked_headers, containers, defaults, explained, histories, json_faults, json_verdicts,
+    judged, judged_ties, kept_files, limit_options, many_checks, modes, one_file, piped,
+    plain_copies, program, program_copies, refutations, schema_command, schema_texts,
+    shown_headers, shown_limits, words, written_files,
 };
 use std::test::Fail;
 
@@ -64,8 +65,11 @@ fn verdicts_are_told(rt: HostRuntime) -> Result<(), Fail> {
 }
 
 /// The sheets of container files, and how many runs they have.
-const FILES: [(&str, usize); 9] = [
+const FILES: [(&str, usize); 12] = [
     containers::SHEET,
+    checked_headers::SHEET,
+    checked_blocks::SHEET,
+    plain_copies::SHEET,
     program_copies::SHEET,
     one_file::SHEET,
     many_checks::SHEET,

@@ -85,7 +85,11 @@ fn fault(line: &str, sheet: &Sheet) -> Fail {
 /// # Errors
 ///
 /// A line does not hold, a run wrote what no line tells, the number of runs is another one, or memory ran out.
-pub(crate) fn check_sheet<R: Files + AllocGlobal>(rt: &R, lines: &str, runs: usize) -> Result<(), Fail> {
+pub(crate) fn check_sheet<R: Files + AllocGlobal>(
+    rt: &R,
+    lines: &str,
+    runs: usize,
+) -> Result<(), Fail> {
     let mut sheet = Sheet::new(rt.alloc());
     for line in lines.lines() {
         let (word, text) = halves(line);

@@ -1,7 +1,7 @@
 //! Steps that run the program.
 
-use crate::runs::escapes::{halves, text_of};
 use crate::runs::devices::{Given, Kept};
+use crate::runs::escapes::{halves, text_of};
 use avro_tool::run;
 use std::alloc::{AllocError, Global};
 use std::rt::Files;
