@@ -2,7 +2,7 @@
 
 use avro_judge::{CertError, Certificate, check_refutation};
 use avro_resolve::{Fault, FaultKind};
-use avro_schema::{Datum, Schema};
+use avro_schema::{Datum, Memory, Schema};
 use avro_schema_json::read_schema;
 use std::alloc::{AllocError, Global};
 use std::test::Fail;
@@ -30,7 +30,7 @@ pub(crate) fn is_written(
     alloc: Global,
     certificate: &Certificate,
     text: &str,
-) -> Result<bool, AllocError> {
+) -> Result<bool, Memory> {
     Ok(certificate.write(alloc)?.as_slice() == text.as_bytes())
 }
 

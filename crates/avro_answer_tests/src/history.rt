@@ -1,8 +1,9 @@
 //! Texts of histories.
 
 use avro_history::{HistoryCert, confirm_history};
+use avro_schema::Memory;
 use avro_schema_json::read_schema;
-use std::alloc::{AllocError, Global};
+use std::alloc::Global;
 use std::test::Fail;
 
 /// The certificates of an int and of a long for a union of a long and a string.
@@ -17,7 +18,7 @@ const TEXTS: [&str; 3] = [
 ];
 
 /// Whether a history is written as this text.
-fn is_written(alloc: Global, history: &HistoryCert, text: &str) -> Result<bool, AllocError> {
+fn is_written(alloc: Global, history: &HistoryCert, text: &str) -> Result<bool, Memory> {
     Ok(history.write(alloc)?.as_slice() == text.as_bytes())
 }
 

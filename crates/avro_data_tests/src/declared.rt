@@ -74,29 +74,32 @@ const DOUBLED: &str = r#"{"type":"record","name":"A","fields":[{"name":"n","type
         {"name":"d","type":"C"}]}},
     {"name":"e","type":"B"},{"name":"f","type":["null","C"]},{"name":"g","type":"boolean"}]}"#;
 
-/// A datum of this size without bytes.
-const fn of(nodes: u32, depth: u32) -> Option<Empty> {
-    Some(Empty { nodes, depth })
-}
-
-/// The datum without bytes of each of its nodes, and of numbers that no node has.
-const EMPTIES: [Option<Empty>; 10] = [
+/// The nodes and levels of the datum without bytes of each of its nodes, and of numbers that no node has.
+const EMPTIES: [Option<(u32, u32)>; 10] = [
     None,
-    of(1, 1),
-    of(7, 3),
-    of(3, 2),
-    of(1, 1),
+    Some((1, 1)),
+    Some((7, 3)),
+    Some((3, 2)),
+    Some((1, 1)),
     None,
-    of(1, 1),
+    Some((1, 1)),
     None,
     None,
     None,
 ];
 
+/// The nodes and levels of the datum without bytes of a node.
+fn empty_of(schema: &Schema, id: u32) -> Option<(u32, u32)> {
+    match schema.empty(NodeId(id)) {
+        Some(Empty { nodes, depth }) => Some((nodes, depth)),
+        None => None,
+    }
+}
+
 /// The first node, if any, of which something else is known.
 fn wrong_node(schema: &Schema) -> Option<u32> {
     for (id, wanted) in (0u32..).zip(EMPTIES) {
-        if schema.empty(NodeId(id)) != wanted {
+        if empty_of(schema, id) != wanted {
             return Some(id);
         }
     }

@@ -27,7 +27,7 @@ const LONGS: [(i64, &[u8]); 11] = [
 fn wrong_long(rows: &[(i64, &[u8])]) -> Option<i64> {
     for (value, bytes) in rows {
         let (written, len) = write_long(*value);
-        if written[..len] != **bytes || read_long(bytes) != Ok((*value, bytes.len())) {
+        if &written[..len] != *bytes || read_long(bytes) != Ok((*value, bytes.len())) {
             return Some(*value);
         }
     }

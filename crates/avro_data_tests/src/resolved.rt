@@ -81,7 +81,8 @@ type Row = (
 );
 
 /// What of a row is looked at once its schemas are read, and the limits.
-struct Within<'a> {
+#[derive(Clone, Copy)]
+struct Wanted<'a> {
     limits: &'a Limits,
     bytes: &'a [u8],
     answer: &'a str,
@@ -191,7 +192,7 @@ fn answer_text(
 fn is_answered(
     alloc: Global,
     plan: &PlanRef<'_>,
-    row: &Within<'_>,
+    row: &Wanted<'_>,
     room: &mut Appending,
     out: &mut Vec<u8>,
 ) -> Result<bool, AllocError> {
@@ -204,7 +205,7 @@ fn is_answered(
 fn is_appended_in(
     alloc: Global,
     plan: &PlanRef<'_>,
-    row: &Within<'_>,
+    row: &Wanted<'_>,
     room: &mut Appending,
 ) -> Result<bool, AllocError> {
     let mut out = Vec::new(alloc);
@@ -219,7 +220,7 @@ fn is_appended(
     alloc: Global,
     writer: &Schema,
     reader: &Schema,
-    row: &Within<'_>,
+    row: &Wanted<'_>,
 ) -> Result<bool, Fail> {
     let plan = Plan::reached(alloc, writer, reader)?;
     let mut room = Appending::new(alloc);
@@ -231,7 +232,7 @@ fn is_appended_for(
     alloc: Global,
     writer: &Schema,
     reader: &str,
-    row: &Within<'_>,
+    row: &Wanted<'_>,
 ) -> Result<bool, Fail> {
     let reader = read_schema(alloc, reader.as_bytes())?;
     is_appended(alloc, writer, &reader, row)
@@ -240,7 +241,7 @@ fn is_appended_for(
 /// The answer of the first row, if any, of which something else is answered or appended.
 fn wrong_row(alloc: Global, limits: &Limits, rows: &[Row]) -> Result<Option<&'static str>, Fail> {
     for (writer, reader, bytes, answer, plain) in rows {
-        let row = Within {
+        let row = Wanted {
             limits,
             bytes,
             answer,

@@ -26,7 +26,7 @@ enum Leaf {
 }
 
 /// The datum.
-fn leaf(alloc: Global, leaf: Leaf) -> Result<Datum, AllocError> {
+fn datum_of(alloc: Global, leaf: Leaf) -> Result<Datum, AllocError> {
     Ok(match leaf {
         Leaf::Bytes(bytes) => Datum::Bytes(Vec::from_slice(alloc, bytes)?),
         Leaf::Text(text) => Datum::Str(String::from_str(alloc, text)?),
@@ -47,8 +47,8 @@ const LEAVES: [Leaf; 5] = [
 
 /// The number of the first, if any, that has more than one node.
 fn wrong_leaf(alloc: Global, leaves: &[Leaf]) -> Result<Option<usize>, AllocError> {
-    for (number, it) in leaves.iter().enumerate() {
-        if !is_one_node(&leaf(alloc, *it)?) {
+    for (number, leaf) in leaves.iter().enumerate() {
+        if !is_one_node(&datum_of(alloc, *leaf)?) {
             return Ok(Some(number));
         }
     }
@@ -66,12 +66,12 @@ fn leaves_are_one_node(rt: HostRuntime) -> Result<(), Fail> {
 }
 
 /// How many nodes a datum has, on how many levels.
-fn measure(datum: &Datum) -> (usize, usize) {
+fn measure(datum: &Datum) -> (u64, u64) {
     (size(datum), depth(datum))
 }
 
 /// The measure of a map of two ints.
-fn of_map(alloc: Global) -> Result<(usize, usize), AllocError> {
+fn of_map(alloc: Global) -> Result<(u64, u64), AllocError> {
     let map = map_of(alloc, &["a", "b"], Plain::Int(1))?;
     Ok(measure(&map))
 }
@@ -85,13 +85,13 @@ fn two_ints(alloc: Global) -> Result<Datum, AllocError> {
 }
 
 /// The measure of it.
-fn of_array(alloc: Global) -> Result<(usize, usize), AllocError> {
+fn of_array(alloc: Global) -> Result<(u64, u64), AllocError> {
     let array = two_ints(alloc)?;
     Ok(measure(&array))
 }
 
 /// The measure of it as a branch.
-fn of_union(alloc: Global) -> Result<(usize, usize), AllocError> {
+fn of_union(alloc: Global) -> Result<(u64, u64), AllocError> {
     let union = Datum::Union(0, Box::new(alloc, two_ints(alloc)?)?);
     Ok(measure(&union))
 }

@@ -9,4 +9,4 @@ mod told;
 
 pub(crate) use devices::Given;
 pub(crate) use sheets::check_sheet;
-pub(crate) use steps::outcome_from;
+pub(crate) use steps::{Outcome, outcome_from};

@@ -10,6 +10,14 @@ use crate::{
 };
 use std::test::Fail;
 
+/// Takes the steps of sheets, one after another.
+fn check_sheets(rt: &HostRuntime, sheets: &[(&str, usize)]) -> Result<(), Fail> {
+    for (lines, runs) in sheets {
+        check_sheet(rt, lines, *runs)?;
+    }
+    Ok(())
+}
+
 /// The sheets of words, files and options, and how many runs they have.
 const COMMANDS: [(&str, usize); 7] = [
     program::SHEET,
@@ -23,10 +31,7 @@ const COMMANDS: [(&str, usize); 7] = [
 
 #[test]
 fn commands_are_told(rt: HostRuntime) -> Result<(), Fail> {
-    for (lines, runs) in COMMANDS {
-        check_sheet(&rt, lines, runs)?;
-    }
-    Ok(())
+    check_sheets(&rt, &COMMANDS[..])
 }
 
 /// The sheets of schemas and of all faults of two, and how many runs they have.
@@ -40,10 +45,7 @@ const SCHEMAS: [(&str, usize); 5] = [
 
 #[test]
 fn schemas_are_told(rt: HostRuntime) -> Result<(), Fail> {
-    for (lines, runs) in SCHEMAS {
-        check_sheet(&rt, lines, runs)?;
-    }
-    Ok(())
+    check_sheets(&rt, &SCHEMAS[..])
 }
 
 /// The sheets of verdicts, certificates and histories, and how many runs they have.
@@ -58,10 +60,7 @@ const VERDICTS: [(&str, usize); 6] = [
 
 #[test]
 fn verdicts_are_told(rt: HostRuntime) -> Result<(), Fail> {
-    for (lines, runs) in VERDICTS {
-        check_sheet(&rt, lines, runs)?;
-    }
-    Ok(())
+    check_sheets(&rt, &VERDICTS[..])
 }
 
 /// The sheets of container files, and how many runs they have.
@@ -82,8 +81,5 @@ const FILES: [(&str, usize); 12] = [
 
 #[test]
 fn containers_are_told(rt: HostRuntime) -> Result<(), Fail> {
-    for (lines, runs) in FILES {
-        check_sheet(&rt, lines, runs)?;
-    }
-    Ok(())
+    check_sheets(&rt, &FILES[..])
 }
