@@ -30,7 +30,7 @@ pub const FIVE_COPIED: &[u8] =
 /// # Errors
 ///
 /// Memory ran out.
-pub fn file_with(alloc: Global, metadata: &[u8], blocks: &[&[u8]]) -> Result<Vec<u8>, AllocError> {
+fn file_with(alloc: Global, metadata: &[u8], blocks: &[&[u8]]) -> Result<Vec<u8>, AllocError> {
     let mut file = Vec::new(alloc);
     file.extend_from_slice(b"Obj\x01")?;
     file.extend_from_slice(metadata)?;

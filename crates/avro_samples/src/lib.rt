@@ -4,7 +4,5 @@
 mod containers;
 mod texts;
 
-pub use containers::{
-    FIVE, FIVE_COPIED, LONG_OR_INT, MARK, NULL_HEADER, NULLS, file_of, file_with,
-};
+pub use containers::{FIVE, FIVE_COPIED, LONG_OR_INT, MARK, NULL_HEADER, NULLS, file_of};
 pub use texts::{Text, built};
