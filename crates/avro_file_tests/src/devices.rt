@@ -1,9 +1,9 @@
 //! Devices that move few bytes a call, and that fail.
 
 use crate::files::reader_of;
-use avro_container::{
-    Copier, CopyError, FileLimits, Input, Output, ReadInput, Step, WriteOutput, copy,
-};
+use avro_container::{CopyError, FileLimits};
+use avro_copy::{Copier, Step, copy};
+use avro_device::{Input, Output, ReadInput, WriteOutput};
 use avro_samples::{FIVE, FIVE_COPIED, LONG_OR_INT};
 use avro_schema_json::ReaderText;
 use std::alloc::Global;

@@ -2,7 +2,9 @@
 
 use crate::files::{answer_text, copy_all, reader_of, schema_of_copy};
 use avro_binary::Nothing;
-use avro_container::{Blocks, Checker, CopyError, Counts, FileLimits, Header, ReadInput};
+use avro_container::{Blocks, Checker, CopyError, FileLimits, Header};
+use avro_copy::Counts;
+use avro_device::ReadInput;
 use avro_samples::file_of;
 use avro_schema::Limits;
 use std::alloc::Global;

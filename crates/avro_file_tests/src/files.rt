@@ -1,7 +1,9 @@
 //! What reading and copying a container file returns.
 
 use avro_binary::Nothing;
-use avro_container::{Blocks, CopyError, Counts, FileLimits, Header, ReadInput, WriteOutput, copy};
+use avro_container::{Blocks, CopyError, FileLimits, Header};
+use avro_copy::{Counts, copy};
+use avro_device::{ReadInput, WriteOutput};
 use avro_schema_json::{ReaderText, SchemaError};
 use std::alloc::{AllocError, Global};
 use std::test::Fail;

@@ -2,7 +2,9 @@
 
 use crate::devices::{Failing, Kept};
 use crate::files::reader_of;
-use avro_container::{Copier, CopyError, FileLimits, ReadInput, Sink, Step, WriteOutput, copy};
+use avro_container::{CopyError, FileLimits};
+use avro_copy::{Copier, Sink, Step, copy};
+use avro_device::{ReadInput, WriteOutput};
 use avro_samples::{FIVE, FIVE_COPIED, LONG_OR_INT, MARK, NULLS};
 use avro_schema::Limits;
 use std::alloc::Global;

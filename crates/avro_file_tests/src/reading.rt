@@ -2,7 +2,8 @@
 
 use crate::files::{answer_of, reader_of};
 use avro_binary::Tree;
-use avro_container::{Blocks, CopyError, FileLimits, Header, ReadInput};
+use avro_container::{Blocks, CopyError, FileLimits, Header};
+use avro_device::ReadInput;
 use avro_samples::{FIVE, LONG_OR_INT, MARK, NULL_HEADER, file_of};
 use avro_schema::Datum;
 use std::test::Fail;

@@ -5,7 +5,9 @@ use crate::commands::copy::marker_of;
 use crate::failure::Failure;
 use crate::files::container::{ROOM, print_counts};
 use crate::files::schema::read_reader;
-use avro_container::{CopyError, Counts, FileLimits, ReadInput, WriteOutput, copy};
+use avro_container::{CopyError, FileLimits};
+use avro_copy::{Counts, copy};
+use avro_device::{ReadInput, WriteOutput};
 use std::io::{BufReader, Read, Write};
 use std::rt::Files;
 
