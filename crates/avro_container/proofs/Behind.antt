@@ -11,7 +11,7 @@ use Rattle.avro_container.specs.declared.input.PartError.{PartError}
 use Rattle.avro_container.specs.declared.error.CopyError.{CopyError}
 use Rattle.avro_container.specs.FileFault.{FileFault, in_header, invalid_metadata}
 use Rattle.avro_container.specs.FileSeen.{file_fault, header_part_fault}
-use Rattle.avro_container.specs.inside.Filled.{GrowsBy, TakesAtMost, UnlessDevice}
+use Rattle.avro_container.specs.Filled.{GrowsBy, TakesAtMost, UnlessDevice}
 use Rattle.avro_container.specs.Named.{IsNamed}
 use Rattle.avro_container.specs.HeaderFails.{ContentWants}
 use Rattle.avro_container.specs.inside.HeaderParts.{Takes, Refused, PartStops, LengthBreaks, LengthWants, ContentFrom}

@@ -5,7 +5,7 @@ use Rattle.std.proofs.lemmas.Option.{same_Some, none-some}
 use Rattle.avro_container.specs.declared.input.PartError.{PartError}
 use Rattle.avro_container.specs.FileFault.{FileFault, in_block, cut_block, other_marker}
 use Rattle.avro_container.specs.FileSeen.{part_fault}
-use Rattle.avro_container.specs.inside.Filled.{GrowsBy, UnlessDevice}
+use Rattle.avro_container.specs.Filled.{GrowsBy, UnlessDevice}
 use Rattle.avro_container.specs.BlockFails.{FileLimitValues, BlockBegins, BlockFails, max_blocks}
 use Rattle.avro_container.specs.BlockStands.{IsBlockFault}
 use Rattle.avro_container.proofs.Cut.{grown-behind}

@@ -6,7 +6,7 @@ use Rattle.avro_zigzag.specs.NumberFault.{NumberFails, LongFails}
 use Rattle.avro_zigzag.specs.declared.VarError.TheVariants.{EndOfInput, NotShortest, OutOfRange}
 use Rattle.avro_zigzag.specs.declared.VarError.{VarError}
 use Rattle.avro_zigzag.proofs.public.Faults.{groups-longer}
-use Rattle.avro_container.specs.inside.Filled.{GrowsBy}
+use Rattle.avro_container.specs.Filled.{GrowsBy}
 
 pub cut-short : (bytes : List ℕ) → LongFails bytes EndOfInput → length bytes < 10
 cut-short bytes (NumberFails.ends go short) = short
@@ -27,10 +27,6 @@ not_short bytes e is fails = clash (long_fault bytes e fails)
 pub cut-longer : (v : ℤ) (bytes more number rest : List ℕ) → LongFails bytes EndOfInput → SpellsLong v number → bytes ++ more ≡ number ++ rest
     → length bytes < length number
 cut-longer v bytes more number rest (NumberFails.ends go short) spelled e = groups-longer bytes number rest more go spelled.groups (sym e)
-
-pub no_bytes : (xs : List ℕ) → length xs ≤ 0 → xs ≡ []
-no_bytes [] h = refl
-no_bytes (x ∷ xs) h = absurd (omega (arith, h))
 
 -- what stands after an offset goes on in what has grown
 pub grown-behind : {I : Type 0} (gives : I → List ℕ → I → Type 0) (a b : I) (old new : List ℕ) (at : ℕ) (p : GrowsBy gives a b old new) → at ≤ length old

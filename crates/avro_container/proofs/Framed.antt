@@ -7,7 +7,7 @@ use Rattle.avro_container.specs.File.{Property}
 use Rattle.avro_container.specs.FileFault.{FileFault}
 use Rattle.avro_container.specs.HeaderFails.{MetadataStands}
 use Rattle.avro_container.specs.HeaderTaken.{TakesMetadata, is_of_frame}
-use Rattle.avro_container.specs.inside.Filled.{GrowsBy}
+use Rattle.avro_container.specs.Filled.{GrowsBy}
 use Rattle.avro_container.specs.inside.HeaderEnds.{FrameStands, MarkerStops}
 use Rattle.avro_container.specs.inside.HeaderParts.{PartStops}
 use Rattle.avro_container.proofs.HeaderEnds.{all_taken}

@@ -10,7 +10,7 @@ use Rattle.avro_cursor.specs.Fault.{ReadFault, end_of_input, invalid_length, beh
 use Rattle.avro_cursor.specs.Breaks.{StartsWithLong, HeadBreaks, LongBreaks}
 use Rattle.avro_container.specs.FileFault.{FileFault, in_header, invalid_metadata}
 use Rattle.avro_container.specs.inside.HeaderParts.{PartStops, LengthBreaks, LengthWants, Stretch}
-use Rattle.avro_container.specs.inside.Filled.{GrowsBy}
+use Rattle.avro_container.specs.Filled.{GrowsBy}
 use Rattle.avro_container.specs.inside.MetadataParts.{TakesHead}
 use Rattle.avro_container.specs.declared.header.properties_head.PropertiesHead.{PropertiesHead}
 use Rattle.avro_container.proofs.PropertyRuns.{stretch_join, stretch_grown}

@@ -7,7 +7,7 @@ use Rattle.avro_schema.specs.Node.{Node}
 use Rattle.avro_container.specs.File.{Property, property, is_plain_codec, IsHeader, magic}
 use Rattle.avro_container.specs.FileFault.{FileFault, in_header, no_magic, no_schema, refused_schema, unknown_codec, long_header, cut_header}
 use Rattle.avro_container.specs.FileSeen.{file_fault, header_part_fault}
-use Rattle.avro_container.specs.inside.Filled.{GrowsBy}
+use Rattle.avro_container.specs.Filled.{GrowsBy}
 use Rattle.avro_container.specs.inside.HeaderEnds.{BeginsHeader, MarkerStops, FrameStands, SaySchema, IsNoSchema, SayNone}
 use Rattle.avro_container.specs.HeaderFails.{HeaderFails, EndsIn, MetadataStands, IsWholeWithin}
 use Rattle.avro_container.specs.HeaderTaken.{IsHeaderFault, TakesHeaderFault}

@@ -1,12 +1,10 @@
 -- The count and the size of a block, after which the buffer may grow.
-use Rattle.std.proofs.Common.{◌≡◌, ◌≢◌, ◌⊎◌, ℕ, ℤ, pos, ◌+◌, ◌<◌, ◌≤◌, List, ◌++◌, length, take, drop, Some, Result, Ok, Err, sym, ap, subst, ◌∙◌, arith, append_assoc, length-append}
+use Rattle.std.proofs.Common.{◌≡◌, ◌⊎◌, ℕ, ℤ, pos, ◌+◌, ◌<◌, ◌≤◌, List, ◌++◌, length, take, drop, Some, sym, ap, subst, ◌∙◌, arith, append_assoc, length-append}
 use Rattle.std.proofs.lemmas.List.{drop-drop}
-use Rattle.std.proofs.lemmas.Option.{same_Some, none-some}
+use Rattle.std.proofs.lemmas.Option.{same_Some}
 use Rattle.avro_cursor.specs.Breaks.{StartsWithLong}
-use Rattle.avro_container.specs.declared.error.CopyError.{CopyError}
 use Rattle.avro_container.specs.FileFault.{FileFault, in_block, limit_passed}
-use Rattle.avro_container.specs.FileSeen.{file_fault}
-use Rattle.avro_container.specs.inside.Filled.{GrowsBy}
+use Rattle.avro_container.specs.Filled.{GrowsBy}
 use Rattle.avro_container.specs.BlockFails.{FileLimitValues, BlockBegins, BlockFails, max_blocks}
 use Rattle.avro_container.specs.BlockStands.{IsBlockFault}
 use Rattle.avro_container.proofs.Cut.{grown-behind}
@@ -36,16 +34,6 @@ pub grown-longer : {I : Type 0} (gives : I → List ℕ → I → Type 0) (a b :
 grown-longer gives a b old new p =
     let long : length new ≡ length old + length p.bytes = ap length p.grown ∙ length-append old p.bytes in
     omega (arith, long)
-
-pub err_inj : (T : Type 0) (e d : CopyError) → ◌≡◌ {A = Result T CopyError} (Err e) (Err d) → e ≡ d
-err_inj T e d q = cc
-
-pub ok_err : (T : Type 0) (x : T) (e : CopyError) → ◌≡◌ {A = Result T CopyError} (Ok x) (Err e) → ⊥
-ok_err T x e q = cc
-
--- an error that reports a fault is not that the input failed
-pub not_failed : (T : Type 0) (e : CopyError) (f : FileFault) → file_fault e ≡ Some f → ◌≢◌ {A = Result T CopyError} (Err e) (Err CopyError.InputFailed)
-not_failed T e f is q = none-some f (sym (ap file_fault (err_inj T e CopyError.InputFailed q)) ∙ is)
 
 -- too many data, or too many bytes of them
 pub head_large : (limits : FileLimitValues) (sync : List ℕ) (number : ℕ) (ended : Type 0) (bytes : List ℕ) (f : FileFault) (count size : ℕ) (rest : List ℕ)

@@ -6,8 +6,6 @@ pub mod Heads
 pub mod Bodies
 pub mod Standing
 pub mod Places
-pub mod Data
-pub mod Headers
 pub mod Behind
 pub mod PropertyRuns
 pub mod Taken
@@ -18,13 +16,5 @@ pub mod MetadataTaken
 pub mod HeaderStops
 pub mod HeaderEnds
 pub mod Framed
-pub mod BlocksCopied
-pub mod BlocksPacked
-pub mod CopySteps
-pub mod HeadersCopied
-pub mod EmptyData
-pub mod KnownEmpty
-pub mod PackedData
-pub mod StepLaws
-pub mod Stepping
 mod RowsFile
+pub mod public

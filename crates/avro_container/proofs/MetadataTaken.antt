@@ -8,7 +8,7 @@ use Rattle.avro_cursor.specs.Breaks.{Left, all_left, Head, counted, sized, head_
 use Rattle.avro_cursor.proofs.public.Behind.{behind-append}
 use Rattle.avro_container.specs.File.{Property}
 use Rattle.avro_container.specs.FileFault.{FileFault, in_header, invalid_metadata}
-use Rattle.avro_container.specs.inside.Filled.{GrowsBy}
+use Rattle.avro_container.specs.Filled.{GrowsBy}
 use Rattle.avro_container.specs.HeaderFails.{PropertyWants, entry_limits}
 use Rattle.avro_container.specs.inside.HeaderParts.{Stretch, AreNames, names_of, left_after, PropertyBreaks, RunStops, PartStops, TakesProperties}
 use Rattle.avro_container.specs.inside.MetadataParts.{Blocks, BlockRun, MetadataRun, MetadataSoFar, MetadataEnds, TakesHead, metadata_left}

@@ -6,7 +6,7 @@ use Rattle.avro_schema.specs.Node.{Node, node_at}
 use Rattle.avro_schema.specs.Fits.{LimitValues}
 use Rattle.avro_cursor.specs.Fault.{ReadFault, end_of_input, invalid_number, invalid_boolean, invalid_text, unknown_index, invalid_length, wrong_block_size, duplicate_key, limit_exceeded, behind}
 use Rattle.avro_cursor.specs.Breaks.{number_fault, IntBreaks, LongBreaks, BooleanBreaks, FixedBreaks, ContentBreaks, IndexBreaks, KeyBreaks, EntryBreaks, HeadBreaks, BlocksBreak, BreaksAfter, BranchBreaks, ChildBreaks, Left, head_bytes, NodeBreaks, BreaksWithin, Breaks, ItemsAreWhole, EntriesAreWhole, all_left}
-use Rattle.avro_container.specs.inside.DatumRead.{place_in}
+use Rattle.avro_container.specs.DatumRead.{place_in}
 
 -- the faults of a part are among its bytes
 abbrev AreInside : (List ℕ → ReadFault → Type 0) → Type 0

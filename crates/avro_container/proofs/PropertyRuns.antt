@@ -12,7 +12,7 @@ use Rattle.avro_cursor.specs.Encoding.{EntriesSpelled}
 use Rattle.avro_cursor.specs.Breaks.{Left, EntriesAreWhole}
 use Rattle.avro_binary.proofs.public.Distinct.{distinct-push}
 use Rattle.avro_container.specs.File.{Property, property_entries, metadata_nodes}
-use Rattle.avro_container.specs.inside.Filled.{GrowsBy}
+use Rattle.avro_container.specs.Filled.{GrowsBy}
 use Rattle.avro_container.specs.HeaderFails.{entry_limits}
 use Rattle.avro_container.specs.inside.HeaderParts.{Stretch, names_of, IsProperty, EachProperty, PropertiesRun, left_after}
 use Rattle.avro_container.proofs.Cut.{grown-behind}

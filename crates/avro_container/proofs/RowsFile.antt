@@ -19,7 +19,7 @@ use Rattle.avro_container.specs.FileFault.{no_magic, cut_header, long_header, in
 use Rattle.avro_container.specs.BlockFails.{BlockReading, CountFails, DataAreWhole, DataFail, BlockFails}
 use Rattle.avro_container.specs.HeaderFails.{HeaderFails, EndsIn, ContentWants, PropertyWants, entry_limits}
 use Rattle.avro_container.specs.Copied.{Job, into, IsCopied}
-use Rattle.avro_container.proofs.Data.{whole-none}
+use Rattle.avro_container.proofs.public.Data.{whole-none}
 
 -- the marker 00 01 .. 0f
 abbrev marker : List ℕ

@@ -20,7 +20,7 @@ use Rattle.avro_cursor.specs.Breaks.{Left, ContentBreaks, KeyBreaks, EntryBreaks
 use Rattle.avro_cursor.proofs.public.Ranges.{is_count-from_below, bytes-below}
 use Rattle.avro_container.specs.File.{Property, metadata_nodes}
 use Rattle.avro_container.specs.FileFault.{FileFault, in_header, invalid_metadata}
-use Rattle.avro_container.specs.inside.Filled.{GrowsBy}
+use Rattle.avro_container.specs.Filled.{GrowsBy}
 use Rattle.avro_container.specs.HeaderFails.{ContentWants, PropertyWants}
 use Rattle.avro_container.specs.inside.HeaderParts.{Stretch, ContentFrom, AreNames, NameStands, names_of, left_after, PropertyBreaks, RunStops, PartStops, TakesName, TakesProperty, TakesProperties}
 use Rattle.avro_container.proofs.Behind.{stops-whole, stops-as}

@@ -4,87 +4,162 @@ use avro_schema::Memory;
 use avro_schema_json::SchemaError;
 use avro_zigzag::VarError;
 use std::alloc::{AllocError, AllocFailed};
-use thiserror::Error;
+use std::fmt;
 
 /// Why a block's count or size is not a number of data or of bytes.
-#[derive(Clone, Copy, Debug, PartialEq, Eq, Hash, Error)]
+#[derive(Clone, Copy, Debug, PartialEq, Eq)]
 pub enum CountError {
     /// It is not a valid long.
-    #[error("{0}")]
     Invalid(VarError),
     /// It is negative.
-    #[error("negative")]
     Negative,
 }
 
 /// Where a limit is passed. Blocks and data are counted from 0.
-#[derive(Clone, Copy, Debug, PartialEq, Eq, Hash, Error)]
+#[derive(Clone, Copy, Debug, PartialEq, Eq)]
 pub enum LimitPlace {
     /// In the header.
-    #[error("C9")]
     Header,
     /// In a block, or by its copy.
-    #[error("C9 block {0}")]
     Block(u64),
     /// In a datum of a block.
-    #[error("C9 block {0} datum {1}")]
     Datum(u64, u32),
 }
 
 /// Why a file is not read or copied (Avro 1.11, "Object Container Files"). Blocks and data are counted from 0.
-#[derive(Debug, PartialEq, Eq, Drop, Error)]
+#[derive(Debug, PartialEq, Eq, Drop)]
 pub enum CopyError {
     /// The file does not begin with the four bytes of the magic.
-    #[error("C1")]
     NoMagic,
     /// The metadata is not a map of bytes; the offset is from the file's first byte.
-    #[error("C2: {0}")]
     InvalidMetadata(ReadError),
     /// The metadata has no `avro.schema`.
-    #[error("C3")]
     NoSchema,
     /// `avro.schema` is not a schema.
-    #[error("C4: {0}")]
     InvalidSchema(SchemaError),
     /// `avro.codec` is not `null`.
-    #[error("C5")]
     UnknownCodec,
     /// A block's count or size is not a number of data or of bytes.
-    #[error("C6 block {0}: {1}")]
     InvalidCount(u64, CountError),
     /// A block has bytes left after its data.
-    #[error("C7 block {0}")]
     BytesLeft(u64),
     /// The marker after a block differs from the header's.
-    #[error("C8 block {0}")]
     WrongMarker(u64),
     /// A limit is passed.
-    #[error("{0}")]
     LimitExceeded(LimitPlace),
     /// A datum of a block is not validly encoded; the offset is from the block's first byte of data.
-    #[error("C10 block {0} datum {1}: {2}")]
     InvalidDatum(u64, u32, ReadError),
     /// A datum of a block does not resolve.
-    #[error("C11 block {0} datum {1}: {2}")]
     UnresolvedDatum(u64, u32, Fault),
     /// The input failed in this call.
-    #[error("cannot read")]
     InputFailed,
     /// The output failed in this call, or took none of the bytes.
-    #[error("cannot write")]
     OutputFailed,
     /// Memory ran out.
-    #[error("out of memory")]
     OutOfMemory,
     /// An earlier call failed.
-    #[error("C15")]
     FailedBefore,
     /// The input ends in the header.
-    #[error("C16")]
     CutHeader,
     /// The input ends in a block.
-    #[error("C16 block {0}")]
     CutBlock(u64),
+}
+
+impl CopyError {
+    /// Its code, or what failed.
+    fn code(&self) -> &'static str {
+        match self {
+            CopyError::NoMagic => "C1",
+            CopyError::InvalidMetadata(_) => "C2",
+            CopyError::NoSchema => "C3",
+            CopyError::InvalidSchema(_) => "C4",
+            CopyError::UnknownCodec => "C5",
+            CopyError::InvalidCount(_, _) => "C6",
+            CopyError::BytesLeft(_) => "C7",
+            CopyError::WrongMarker(_) => "C8",
+            CopyError::LimitExceeded(_) => "C9",
+            CopyError::InvalidDatum(_, _, _) => "C10",
+            CopyError::UnresolvedDatum(_, _, _) => "C11",
+            CopyError::InputFailed => "cannot read",
+            CopyError::OutputFailed => "cannot write",
+            CopyError::OutOfMemory => "out of memory",
+            CopyError::FailedBefore => "C15",
+            CopyError::CutHeader => "C16",
+            CopyError::CutBlock(_) => "C16",
+        }
+    }
+
+    /// The block, or the datum, that it is of; else the header.
+    fn place(&self) -> LimitPlace {
+        match self {
+            CopyError::InvalidCount(block, _) => LimitPlace::Block(*block),
+            CopyError::BytesLeft(block) => LimitPlace::Block(*block),
+            CopyError::WrongMarker(block) => LimitPlace::Block(*block),
+            CopyError::CutBlock(block) => LimitPlace::Block(*block),
+            CopyError::LimitExceeded(place) => *place,
+            CopyError::InvalidDatum(block, datum, _) => LimitPlace::Datum(*block, *datum),
+            CopyError::UnresolvedDatum(block, datum, _) => LimitPlace::Datum(*block, *datum),
+            _ => LimitPlace::Header,
+        }
+    }
+
+    /// Writes what is wrong there, if more is known than the code.
+    fn write_reason<W: fmt::Write>(&self, f: &mut fmt::Formatter<W>) -> fmt::Result {
+        match self {
+            CopyError::InvalidMetadata(error) => write_behind(": ", error, f),
+            CopyError::InvalidSchema(error) => write_behind(": ", error, f),
+            CopyError::InvalidCount(_, error) => write_behind(": ", error, f),
+            CopyError::InvalidDatum(_, _, error) => write_behind(": ", error, f),
+            CopyError::UnresolvedDatum(_, _, fault) => write_behind(": ", fault, f),
+            _ => Ok(()),
+        }
+    }
+}
+
+impl fmt::Display for CountError {
+    fn fmt<W: fmt::Write>(&self, f: &mut fmt::Formatter<W>) -> fmt::Result {
+        match self {
+            CountError::Invalid(error) => fmt::Display::fmt(error, f),
+            CountError::Negative => f.write_str("negative"),
+        }
+    }
+}
+
+impl fmt::Display for LimitPlace {
+    fn fmt<W: fmt::Write>(&self, f: &mut fmt::Formatter<W>) -> fmt::Result {
+        f.write_str("C9")?;
+        write_place(*self, f)
+    }
+}
+
+impl fmt::Display for CopyError {
+    fn fmt<W: fmt::Write>(&self, f: &mut fmt::Formatter<W>) -> fmt::Result {
+        f.write_str(self.code())?;
+        write_place(self.place(), f)?;
+        self.write_reason(f)
+    }
+}
+
+/// Writes a block, or a datum of one.
+fn write_place<W: fmt::Write>(place: LimitPlace, f: &mut fmt::Formatter<W>) -> fmt::Result {
+    match place {
+        LimitPlace::Header => Ok(()),
+        LimitPlace::Block(block) => write_behind(" block ", &block, f),
+        LimitPlace::Datum(block, datum) => {
+            write_behind(" block ", &block, f)?;
+            write_behind(" datum ", &datum, f)
+        }
+    }
+}
+
+/// Writes a value behind a word.
+fn write_behind<W: fmt::Write, T: fmt::Display>(
+    word: &str,
+    value: &T,
+    f: &mut fmt::Formatter<W>,
+) -> fmt::Result {
+    f.write_str(word)?;
+    fmt::Display::fmt(value, f)
 }
 
 impl From<AllocError> for CopyError {

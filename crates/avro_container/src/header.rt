@@ -7,7 +7,7 @@ ghost use Rattle.avro_container.specs.FileSeen.{file_fault};
 ghost use Rattle.avro_container.specs.HeaderTaken.{TakesHeader, TakesHeaderFault, header_value, IsHeaderFault};
 ghost use Rattle.avro_container.specs.Named.{IsNamed};
 ghost use Rattle.avro_container.specs.File.{IsHeader};
-ghost use Rattle.avro_container.specs.inside.Filled.{GrowsBy, TakesAtMost, UnlessFailed};
+ghost use Rattle.avro_container.specs.Filled.{GrowsBy, TakesAtMost, UnlessFailed};
 ghost use Rattle.avro_container.specs.Held.{held};
 
 mod content;
@@ -17,13 +17,13 @@ mod properties;
 mod properties_head;
 pub(crate) mod schema_and_codec;
 
-use crate::device::Input;
 use crate::error::CopyError;
 use crate::header::frame::{Frame, take_frame};
 use crate::header::schema_and_codec::schema_of;
 use crate::input::Reach;
 use crate::input::buffer::Buffer;
 use crate::limits::FileLimits;
+use avro_device::Input;
 use avro_schema::Schema;
 use std::alloc::Global;
 
@@ -92,7 +92,7 @@ impl Header {
 ///
 /// `NoMagic`, `InvalidMetadata`, `LimitExceeded`, `CutHeader`, `NoSchema`, `UnknownCodec`, `InvalidSchema`; `InputFailed`,
 /// `OutOfMemory`.
-pub(crate) fn take_header<I: Input>(
+pub fn take_header<I: Input>(
     alloc: Global,
     input: &mut I,
     buffer: &mut Buffer,

@@ -1,14 +1,14 @@
 //! Taking from an input until a part of a file is there.
 
 ghost use Rattle.std.specs.Prelude.{◌≡◌, ◌≢◌, ◌+◌, ◌-◌, ◌^◌, ◌<◌, ◌≤◌, max, length, OnOk, OnErr, Err};
-ghost use Rattle.avro_container.specs.inside.Filled.{GrowsBy, TakesAtMost, UnlessLost};
+ghost use Rattle.avro_container.specs.Filled.{GrowsBy, TakesAtMost, UnlessLost};
 ghost use Rattle.avro_container.specs.Held.{held};
 
 pub(crate) mod buffer;
 pub(crate) mod number;
 
-use crate::device::Input;
 use crate::input::buffer::{Buffer, GROWTH, TakeError};
+use avro_device::Input;
 
 /// Why a part of a file is not taken whole.
 #[derive(Clone, Copy, Debug, PartialEq, Eq)]
@@ -27,9 +27,11 @@ pub(crate) enum PartError {
 
 /// How far an input is taken: no further than `limit` bytes in all, and `ahead` bytes beyond what is asked for.
 #[derive(Clone, Copy, Debug)]
-pub(crate) struct Reach {
-    pub(crate) limit: usize,
-    pub(crate) ahead: usize,
+pub struct Reach {
+    /// The most bytes in all.
+    pub limit: usize,
+    /// How many bytes beyond.
+    pub ahead: usize,
 }
 
 /// Takes until a number of bytes is held.

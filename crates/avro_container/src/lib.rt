@@ -1,31 +1,27 @@
 //! Object container files (Avro 1.11, "Object Container Files").
 //!
 //! A file is read part by part: [`Header::read`] takes its header, [`Blocks::next`] a block, and [`Block::read`] reads the
-//! data of a block. A [`Sink`] puts a header and blocks. [`copy`] takes a whole file and puts its copy, and a [`Copier`] does
-//! the same a part a step. They take from an [`Input`] and put into an [`Output`].
+//! data of a block. They take from an `Input` of `avro_device`. Whoever keeps a [`Buffer`] of what was taken, and may take
+//! ahead, calls [`take_header`] and [`take_block`].
 #![tactic(auto)]
 
 mod block;
-mod copying;
-mod device;
 mod error;
 mod header;
 mod input;
-pub mod laws;
 mod limits;
-mod sink;
 
 pub use block::Block;
 pub use block::blocks::Blocks;
 pub use block::checker::Checker;
-pub use copying::copier::Copier;
-pub use copying::{Counts, Step, copy};
-pub use device::read_input::ReadInput;
-pub use device::write_output::WriteOutput;
-pub use device::{DeviceFault, Input, Output};
+pub use block::datum::datum_error;
+pub use block::frame::take_block;
+pub use block::head::BlockHead;
 pub use error::{CopyError, CountError, LimitPlace};
-pub use header::Header;
+pub use header::frame::MAGIC;
 pub use header::metadata::read_metadata;
 pub use header::schema_and_codec::schema_text;
+pub use header::{Header, take_header};
+pub use input::Reach;
+pub use input::buffer::Buffer;
 pub use limits::FileLimits;
-pub use sink::Sink;

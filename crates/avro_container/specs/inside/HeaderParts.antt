@@ -15,7 +15,7 @@ use Rattle.avro_schema.specs.Node.{Node}
 use Rattle.avro_container.specs.File.{Property, metadata_nodes}
 use Rattle.avro_container.specs.HeaderFails.{entry_limits}
 use Rattle.avro_container.specs.FileFault.{FileFault, in_header, invalid_metadata, long_header, cut_header}
-use Rattle.avro_container.specs.inside.Filled.{GrowsBy, TakesAtMost}
+use Rattle.avro_container.specs.Filled.{GrowsBy, TakesAtMost}
 use Rattle.avro_container.specs.Named.{IsNamed}
 use Rattle.avro_container.specs.declared.error.CopyError.{CopyError}
 

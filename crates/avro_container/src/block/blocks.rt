@@ -10,12 +10,12 @@ ghost use Rattle.avro_container.specs.Named.{IsNamed};
 
 use crate::block::Block;
 use crate::block::frame::take_block;
-use crate::device::Input;
 use crate::error::CopyError;
 use crate::header::Header;
 use crate::input::Reach;
 use crate::input::buffer::Buffer;
 use crate::limits::FileLimits;
+use avro_device::Input;
 use std::alloc::Global;
 
 /// The blocks of a file after its header, taken one by one (Avro 1.11, "Object Container Files").

@@ -28,7 +28,7 @@ impl<'a> Model for Checker<'a> {
     ghost use Rattle.avro_container.specs.declared.header.Header.{Header};
     ghost use Rattle.avro_container.specs.BlockFails.{FileLimitValues};
     ghost use Rattle.avro_container.specs.DataRead.{reading};
-    ghost use Rattle.avro_container.specs.inside.NoBytes.{HasNoBytes};
+    ghost use Rattle.avro_container.specs.NoBytes.{HasNoBytes};
 
     ghost Value = { Header × FileLimitValues };
 

@@ -7,11 +7,11 @@ ghost use Rattle.avro_schema.specs.SeenSchema.{schema_nodes};
 ghost use Rattle.avro_schema.specs.Value.{Values};
 ghost use Rattle.avro_cursor.specs.Fault.{behind};
 ghost use Rattle.avro_cursor.specs.Seen.{read_fault};
-ghost use Rattle.avro_container.specs.inside.DatumRead.{FitsBehind, PlaceFits, error_fault, ReadsDatum};
+ghost use Rattle.avro_container.specs.DatumRead.{FitsBehind, PlaceFits, error_fault, ReadsDatum};
 ghost use Rattle.avro_container.specs.FileSeen.{file_fault};
 ghost use Rattle.avro_container.specs.DataRead.{resolution, IsDataFault, reading};
 ghost use Rattle.avro_container.specs.BlockFails.{DataAreWhole};
-ghost use Rattle.avro_container.specs.inside.NoBytes.{HasNoBytes};
+ghost use Rattle.avro_container.specs.NoBytes.{HasNoBytes};
 ghost use Rattle.avro_container.specs.FileFault.{FileFault};
 
 use crate::error::{CopyError, LimitPlace};
@@ -58,12 +58,7 @@ fn moved(error: ReadError, start: usize) -> ReadError
 }
 
 /// The error of a file for a datum that is not read and begins after `start` bytes of its block's data.
-pub(crate) fn datum_error(
-    number: u64,
-    datum: u32,
-    start: usize,
-    error: ReadResolveError,
-) -> CopyError
+pub fn datum_error(number: u64, datum: u32, start: usize, error: ReadResolveError) -> CopyError
     requires fits { PlaceFits start error }
     ensures fault { file_fault result ≡ error_fault number datum start error }
     ensures memory { file_fault result ≡ None → result ≡ CopyError.OutOfMemory }

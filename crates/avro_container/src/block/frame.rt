@@ -6,16 +6,16 @@ ghost use Rattle.avro_container.specs.BlockFails.{BlockBegins, FileLimitValues, 
 ghost use Rattle.avro_container.specs.BlockStands.{IsBlockFault, BlockStands};
 ghost use Rattle.avro_container.specs.FileFault.{FileFault};
 ghost use Rattle.avro_container.specs.FileSeen.{file_fault};
-ghost use Rattle.avro_container.specs.inside.Filled.{GrowsBy, TakesAtMost, UnlessFailed};
+ghost use Rattle.avro_container.specs.Filled.{GrowsBy, TakesAtMost, UnlessFailed};
 ghost use Rattle.avro_container.specs.Held.{held};
 ghost use Rattle.avro_container.specs.Named.{IsNamed};
 
 use crate::block::head::{BlockHead, begins_block, block_error, take_head};
-use crate::device::Input;
 use crate::error::{CopyError, LimitPlace};
 use crate::input::buffer::Buffer;
 use crate::input::{Reach, fill};
 use crate::limits::FileLimits;
+use avro_device::Input;
 
 /// Whether some bytes are the marker.
 fn is_marker(bytes: &[u8], sync: &[u8; 16]) -> bool
@@ -76,7 +76,7 @@ const MAX_BLOCKS: u64 = 4_294_967_296;
 /// # Errors
 ///
 /// `LimitExceeded`, `InvalidCount`, `CutBlock`, `WrongMarker`; `InputFailed`, `OutOfMemory`.
-pub(crate) fn take_block<I: Input>(
+pub fn take_block<I: Input>(
     input: &mut I,
     buffer: &mut Buffer,
     number: u64,

@@ -4,19 +4,19 @@ ghost use Rattle.std.specs.Prelude.{◌≡◌, ◌≢◌, ◌+◌, ◌-◌, ◌^
 ghost use Rattle.std.specs.Result.{IfErr};
 ghost use Rattle.avro_cursor.specs.Breaks.{StartsWithLong};
 ghost use Rattle.avro_container.specs.FileSeen.{file_fault, part_fault};
-ghost use Rattle.avro_container.specs.inside.Filled.{GrowsBy, TakesAtMost, UnlessFailed};
+ghost use Rattle.avro_container.specs.Filled.{GrowsBy, TakesAtMost, UnlessFailed};
 ghost use Rattle.avro_container.specs.Held.{held};
 ghost use Rattle.avro_container.specs.Named.{IsNamed};
 ghost use Rattle.avro_container.specs.BlockStands.{CountStops, IsBlockFault};
 ghost use Rattle.avro_container.specs.FileFault.{FileFault};
 ghost use Rattle.avro_container.specs.BlockFails.{BlockBegins, max_blocks};
 
-use crate::device::Input;
 use crate::error::{CopyError, CountError, LimitPlace};
 use crate::input::buffer::Buffer;
 use crate::input::number::take_long;
 use crate::input::{PartError, Reach, fill};
 use crate::limits::FileLimits;
+use avro_device::Input;
 use avro_zigzag::VarError;
 
 /// Whether there is a byte of another block; if not, the input has reported its end.
@@ -117,10 +117,13 @@ pub(crate) fn take_count<I: Input>(
 
 /// How many data a block has, where among its bytes they begin, and how many bytes they are.
 #[derive(Clone, Copy, Debug)]
-pub(crate) struct BlockHead {
-    pub(crate) count: u32,
-    pub(crate) start: usize,
-    pub(crate) size: usize,
+pub struct BlockHead {
+    /// The number of its data.
+    pub count: u32,
+    /// Where its data begin.
+    pub start: usize,
+    /// The number of their bytes.
+    pub size: usize,
 }
 
 /// Takes the count and the size of a block.

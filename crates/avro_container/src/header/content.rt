@@ -10,12 +10,12 @@ ghost use Rattle.avro_container.specs.inside.HeaderParts.{ContentFrom, LengthBre
 ghost use Rattle.avro_container.specs.Held.{held};
 ghost use Rattle.avro_container.specs.Named.{IsNamed};
 
-use crate::device::Input;
 use crate::error::{CopyError, LimitPlace};
 use crate::input::buffer::Buffer;
 use crate::input::number::take_long;
 use crate::input::{PartError, Reach, fill};
 use avro_binary::ReadError;
+use avro_device::Input;
 
 /// The error of a part of the metadata that is not taken, with its number at `offset`.
 pub(crate) fn metadata_error(error: PartError, offset: usize) -> CopyError

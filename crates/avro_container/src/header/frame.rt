@@ -12,16 +12,16 @@ ghost use Rattle.avro_container.specs.Held.{held};
 ghost use Rattle.avro_container.specs.Named.{IsNamed};
 ghost use Rattle.avro_container.specs.Parts.{properties_of};
 
-use crate::device::Input;
 use crate::error::{CopyError, LimitPlace};
 use crate::header::content::metadata_error;
 use crate::header::metadata::take_metadata;
 use crate::input::buffer::Buffer;
 use crate::input::{PartError, Reach, fill};
+use avro_device::Input;
 use std::alloc::Global;
 
 /// The first bytes of a file.
-pub(crate) const MAGIC: [u8; 4] = [0x4f, 0x62, 0x6a, 1];
+pub const MAGIC: [u8; 4] = [0x4f, 0x62, 0x6a, 1];
 
 /// Whether some bytes are the magic.
 fn is_magic(bytes: &[u8]) -> bool

@@ -13,7 +13,6 @@ ghost use Rattle.avro_container.specs.Parts.{properties_of};
 ghost use Rattle.avro_container.specs.HeaderTaken.{IsOfFrame, TakesHeaderFault, TakesMetadata};
 ghost use Rattle.avro_container.specs.Named.{IsNamed};
 
-use crate::device::Input;
 use crate::error::CopyError;
 use crate::header::frame::{Frame, take_frame};
 use crate::header::properties::{Properties, take_properties};
@@ -22,6 +21,7 @@ use crate::input::Reach;
 use crate::input::buffer::Buffer;
 use crate::limits::FileLimits;
 use avro_binary::ReadError;
+use avro_device::Input;
 use std::alloc::Global;
 use std::collections::BTreeSet;
 

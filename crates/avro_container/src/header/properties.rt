@@ -13,12 +13,12 @@ ghost use Rattle.avro_container.specs.inside.HeaderParts.{AreNames, PartStops, P
 ghost use Rattle.avro_container.specs.Held.{held};
 ghost use Rattle.avro_container.specs.Parts.{properties_of};
 
-use crate::device::Input;
 use crate::error::CopyError;
 use crate::header::content::take_content;
 use crate::input::Reach;
 use crate::input::buffer::Buffer;
 use avro_binary::ReadError;
+use avro_device::Input;
 use std::alloc::{AllocError, Global};
 use std::collections::BTreeSet;
 

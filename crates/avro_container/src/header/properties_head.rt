@@ -10,13 +10,13 @@ ghost use Rattle.avro_container.specs.inside.HeaderParts.{PartStops, Refused, Ta
 ghost use Rattle.avro_container.specs.inside.MetadataParts.{TakesHead};
 ghost use Rattle.avro_container.specs.Held.{held};
 
-use crate::device::Input;
 use crate::error::CopyError;
 use crate::header::content::{metadata_error, take_length};
 use crate::input::Reach;
 use crate::input::buffer::Buffer;
 use crate::input::number::take_long;
 use avro_binary::ReadError;
+use avro_device::Input;
 
 /// How many properties a block of the metadata has, where they begin, and the size that it gives them, if any, with its offset.
 /// Without properties it ends the metadata.

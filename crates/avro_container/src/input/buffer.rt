@@ -1,9 +1,9 @@
 //! Bytes that were taken from an input and are not used yet.
 
 ghost use Rattle.std.specs.Prelude.{◌≡◌, ◌≢◌, ◌+◌, ◌^◌, ◌<◌, ◌≤◌, [], length, drop, IfOk, OnOk, OnErr, Err};
-ghost use Rattle.avro_container.specs.inside.Filled.{GrowsBy, TakesAtMost};
+ghost use Rattle.avro_container.specs.Filled.{GrowsBy, TakesAtMost};
 
-use crate::device::Input;
+use avro_device::Input;
 use std::alloc::{AllocError, Global};
 
 /// The most bytes that a buffer grows by ahead of what has arrived.
@@ -32,7 +32,7 @@ impl From<AllocError> for TakeError {
 ///
 /// The room stays when bytes are passed, and is filled again: a take writes zeros only where there was no room before.
 #[derive(Drop)]
-pub(crate) struct Buffer {
+pub struct Buffer {
     room: Vec<u8>,
     start: usize,
     end: usize,
@@ -44,7 +44,7 @@ impl Buffer {
     ghost use Rattle.avro_container.specs.Held.{held, free};
 
     /// An empty buffer.
-    pub(crate) fn new(alloc: Global) -> Buffer
+    pub fn new(alloc: Global) -> Buffer
         ensures { held result ≡ [] }
     {
         Buffer {
@@ -55,21 +55,21 @@ impl Buffer {
     }
 
     /// The bytes that it holds.
-    pub(crate) fn bytes(&self) -> &[u8]
+    pub fn bytes(&self) -> &[u8]
         ensures { result.now ≡ held self.now }
     {
         &self.room[self.start..self.end]
     }
 
     /// How many bytes it holds.
-    pub(crate) fn len(&self) -> usize
+    pub fn len(&self) -> usize
         ensures { result ≡ length (held self.now) }
     {
         self.end - self.start
     }
 
     /// Drops a number of bytes at the front.
-    pub(crate) fn pass(&mut self, count: usize)
+    pub fn pass(&mut self, count: usize)
         requires { count ≤ length (held self.old) }
         ensures { held self.new ≡ drop count (held self.old) }
     {

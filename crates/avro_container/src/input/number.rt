@@ -4,12 +4,12 @@ ghost use Rattle.std.specs.Prelude.{◌≡◌, ◌≢◌, ◌+◌, ◌-◌, ◌^
 ghost use Rattle.avro_zigzag.specs.NumberFault.{LongFails};
 ghost use Rattle.avro_zigzag.specs.declared.VarError.TheVariants.{EndOfInput, OutOfRange};
 ghost use Rattle.avro_cursor.specs.Breaks.{StartsWithLong};
-ghost use Rattle.avro_container.specs.inside.Filled.{GrowsBy, TakesAtMost, UnlessLost};
+ghost use Rattle.avro_container.specs.Filled.{GrowsBy, TakesAtMost, UnlessLost};
 ghost use Rattle.avro_container.specs.Held.{held};
 
-use crate::device::Input;
 use crate::input::buffer::Buffer;
 use crate::input::{PartError, Reach, fill};
+use avro_device::Input;
 use avro_zigzag::{VarError, read_long};
 
 /// Takes the long that begins after a number of bytes, and returns it with its length in bytes.

@@ -4,7 +4,9 @@ ghost use Rattle.avro_container.specs.Parts.{header_part, block_part, properties
 use crate::failure::Failure;
 use avro_binary::append_plain;
 use avro_canonical::fingerprint;
-use avro_container::{CopyError, Output, Sink, WriteOutput};
+use avro_container::CopyError;
+use avro_copy::Sink;
+use avro_device::{Output, WriteOutput};
 use avro_schema::Datum;
 use avro_schema_json::ReaderText;
 use std::alloc::{AllocError, Global};

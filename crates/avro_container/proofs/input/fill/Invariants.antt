@@ -1,6 +1,6 @@
 -- What was taken is held, no more than may be.
 use Rattle.std.proofs.Common.{◌≡◌, ◌-◌, ◌≤◌, max, length}
-use Rattle.avro_container.specs.inside.Filled.{GrowsBy}
+use Rattle.avro_container.specs.Filled.{GrowsBy}
 use Rattle.avro_container.specs.Held.{held}
 use Rattle.avro_container.proofs.input.fill.Given as goal
 

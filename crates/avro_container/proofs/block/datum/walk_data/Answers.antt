@@ -9,10 +9,10 @@ use Rattle.avro_schema.specs.SeenSchema.{schema_nodes}
 use Rattle.avro_resolve.specs.declared.error.ReadResolveError.{ReadResolveError}
 use Rattle.avro_container.specs.BlockFails.{BlockReading, DataAreWhole}
 use Rattle.avro_container.specs.DataRead.{reading, resolution}
-use Rattle.avro_container.specs.inside.DatumRead.{MakesOf, ReadsDatum}
-use Rattle.avro_container.specs.inside.NoBytes.{IsMadeOfNone}
-use Rattle.avro_container.proofs.Data.{data_left, datum_fails, datum_place, same_said, walk-more, whole-none}
-use Rattle.avro_container.proofs.EmptyData.{made_of_none, walk-rest}
+use Rattle.avro_container.specs.DatumRead.{MakesOf, ReadsDatum}
+use Rattle.avro_container.specs.NoBytes.{IsMadeOfNone}
+use Rattle.avro_container.proofs.public.Data.{data_left, datum_fails, datum_place, same_said, walk-more, whole-none}
+use Rattle.avro_container.proofs.public.EmptyData.{made_of_none, walk-rest}
 use Rattle.avro_container.proofs.block.datum.walk_data.Goals as goal
 
 -- a datum is walked over, and a datum is refused

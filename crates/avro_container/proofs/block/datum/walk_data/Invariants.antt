@@ -5,7 +5,7 @@ use Rattle.avro_schema.specs.SeenSchema.{schema_nodes}
 use Rattle.avro_schema.specs.Value.{Values}
 use Rattle.avro_container.specs.BlockFails.{BlockReading, DataAreWhole}
 use Rattle.avro_container.specs.DataRead.{reading}
-use Rattle.avro_container.specs.inside.NoBytes.{HasNoBytes}
+use Rattle.avro_container.specs.NoBytes.{HasNoBytes}
 use Rattle.avro_container.proofs.block.datum.walk_data.Given as goal
 
 abbrev pub invariant-loop-datum : goal.invariant-loop-datum

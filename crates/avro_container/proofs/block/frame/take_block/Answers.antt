@@ -2,10 +2,10 @@
 use Rattle.std.proofs.Common.{Err, ap, sym, ◌∙◌, arith, rules}
 use Rattle.std.proofs.lemmas.Option.{none-some}
 use Rattle.std.proofs.lemmas.Result.{err_from_is_err_and}
-use Rattle.avro_container.specs.inside.Filled.{GrowsBy}
+use Rattle.avro_container.specs.Filled.{GrowsBy}
 use Rattle.avro_container.specs.Held.{held}
 use Rattle.avro_container.proofs.Taking.{GrowsBy-chain, TakesAtMost-later}
-use Rattle.avro_container.proofs.Heads.{err_inj, ok_err}
+use Rattle.avro_container.proofs.public.Small.{err_inj, ok_err}
 use Rattle.avro_container.proofs.Bodies.{begins-grown}
 use Rattle.avro_container.proofs.Standing.{block_stands, too_many}
 use Rattle.avro_container.proofs.block.frame.take_block.Goals as goal

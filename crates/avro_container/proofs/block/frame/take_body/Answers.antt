@@ -1,10 +1,10 @@
 -- Why the data of a block are not taken.
 use Rattle.std.proofs.Common.{◌≡◌, ◌+◌, ◌≤◌, Err, length, take, drop, ap, sym, ◌∙◌, arith}
 use Rattle.std.proofs.lemmas.Bool.{false≢true}
-use Rattle.avro_container.specs.inside.Filled.{GrowsBy}
+use Rattle.avro_container.specs.Filled.{GrowsBy}
 use Rattle.avro_container.specs.Held.{held}
 use Rattle.avro_container.proofs.Taking.{unless_failed}
-use Rattle.avro_container.proofs.Heads.{err_inj}
+use Rattle.avro_container.proofs.public.Small.{err_inj}
 use Rattle.avro_container.proofs.Bodies.{begins-grown, body_stops, marker_fails}
 use Rattle.avro_container.proofs.block.frame.take_body.Goals as goal
 

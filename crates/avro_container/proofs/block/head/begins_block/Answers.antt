@@ -1,7 +1,7 @@
 -- Why it is not known whether a block begins.
 use Rattle.std.proofs.Common.{Err, ap}
 use Rattle.avro_container.proofs.Taking.{unless_failed}
-use Rattle.avro_container.proofs.Heads.{err_inj}
+use Rattle.avro_container.proofs.public.Small.{err_inj}
 use Rattle.avro_container.proofs.block.head.begins_block.Goals as goal
 
 pub returns-in-Err-clause-taken : goal.returns-in-Err-clause-taken

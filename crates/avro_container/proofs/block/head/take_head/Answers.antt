@@ -1,11 +1,12 @@
 -- A count and a size, the second after the first.
 use Rattle.std.proofs.Common.{◌+◌, pos, inl, inr, Err, take, drop, ap, sym, ◌∙◌, arith, rules}
 use Rattle.std.proofs.lemmas.Result.{err_from_is_err_and}
-use Rattle.avro_container.specs.inside.Filled.{GrowsBy}
+use Rattle.avro_container.specs.Filled.{GrowsBy}
 use Rattle.avro_container.specs.Held.{held}
 use Rattle.avro_container.proofs.Taking.{GrowsBy-chain, TakesAtMost-later, TakesAtMost-from_grown}
 use Rattle.avro_container.proofs.Stopping.{count_fault_first, size_fault_next}
-use Rattle.avro_container.proofs.Heads.{starts-grown, head_begins, grown-longer, err_inj, ok_err, not_failed, head_large}
+use Rattle.avro_container.proofs.Heads.{starts-grown, head_begins, grown-longer, head_large}
+use Rattle.avro_container.proofs.public.Small.{err_inj, ok_err, not_failed}
 use Rattle.avro_container.proofs.block.head.take_head.Goals as goal
 
 pub returns-in_err-count-clause-taken : goal.returns-in_err-count-clause-taken

@@ -1,7 +1,7 @@
 -- A content after its length, and why it is not taken.
 use Rattle.std.proofs.Common.{Err, ap, sym, ◌∙◌, arith}
 use Rattle.std.proofs.lemmas.Result.{err_from_is_err_and}
-use Rattle.avro_container.specs.inside.Filled.{GrowsBy}
+use Rattle.avro_container.specs.Filled.{GrowsBy}
 use Rattle.avro_container.specs.Held.{held}
 use Rattle.avro_container.proofs.Behind.{part_refused, then_refused, takes_then, length_first, content_from, content_stops, content_starts, reports_not_failed}
 use Rattle.avro_container.proofs.Taking.{unless_failed}

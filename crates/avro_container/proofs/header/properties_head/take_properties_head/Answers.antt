@@ -4,7 +4,7 @@ use Rattle.std.specs.Prelude.{neg_ℤ}
 use Rattle.std.proofs.lemmas.Result.{err_from_is_err_and}
 use Rattle.avro_cursor.specs.BlockHeads.{signed_count}
 use Rattle.avro_cursor.specs.Breaks.{StartsWithLong}
-use Rattle.avro_container.specs.inside.Filled.{GrowsBy}
+use Rattle.avro_container.specs.Filled.{GrowsBy}
 use Rattle.avro_container.specs.Held.{held}
 use Rattle.avro_container.proofs.Behind.{then_refused, takes_then, reports_not_failed}
 use Rattle.avro_container.proofs.PropertyRuns.{stretch_grown}

@@ -1,7 +1,7 @@
 -- A number that stands there begins no later than it did.
 use Rattle.std.proofs.Common.{◌≡◌, ◌+◌, ◌-◌, ◌≤◌, ℕ, ℤ, List, ◌++◌, max, length, drop}
 use Rattle.avro_zigzag.specs.Number.{SpellsLong}
-use Rattle.avro_container.specs.inside.Filled.{GrowsBy}
+use Rattle.avro_container.specs.Filled.{GrowsBy}
 use Rattle.avro_container.specs.Held.{held}
 use Rattle.avro_container.proofs.input.number.take_long.Given as goal
 

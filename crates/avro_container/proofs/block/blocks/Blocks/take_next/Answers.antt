@@ -3,10 +3,9 @@ use Rattle.std.proofs.Common.{◌≡◌, ◌++◌, List, ℕ, [], length, ap, su
 use Rattle.std.proofs.lemmas.List.{length-drop}
 use Rattle.std.proofs.lemmas.Result.{err_from_is_err_and}
 use Rattle.avro_container.specs.BlockStands.{IsBlockFault}
-use Rattle.avro_container.specs.inside.Filled.{GrowsBy}
+use Rattle.avro_container.specs.Filled.{GrowsBy}
 use Rattle.avro_container.specs.Held.{held}
-use Rattle.avro_container.proofs.Cut.{no_bytes}
-use Rattle.avro_container.proofs.Heads.{not_failed}
+use Rattle.avro_container.proofs.public.Small.{no_bytes, not_failed}
 use Rattle.avro_container.proofs.block.blocks.Blocks.take_next.Goals as goal
 
 pub returns-in_err-take_block-clause-refused : goal.returns-in_err-take_block-clause-refused

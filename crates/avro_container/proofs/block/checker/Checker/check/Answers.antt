@@ -6,7 +6,7 @@ use Rattle.avro_schema.specs.Value.{Values}
 use Rattle.avro_container.specs.BlockFails.{BlockReading, DataAreWhole, FileLimitValues}
 use Rattle.avro_container.specs.DataRead.{IsDataFault, reading}
 use Rattle.avro_container.specs.declared.header.Header.{Header}
-use Rattle.avro_container.proofs.EmptyData.{empty-left, empty-whole}
+use Rattle.avro_container.proofs.public.EmptyData.{empty-left, empty-whole}
 use Rattle.avro_container.proofs.block.checker.Checker.check.Goals as goal
 
 abbrev read_by : Header × FileLimitValues → BlockReading

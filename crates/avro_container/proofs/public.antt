@@ -1,0 +1,3 @@
+pub mod Small
+pub mod Data
+pub mod EmptyData

@@ -1,0 +1,10 @@
+pub mod Headers
+pub mod PackedData
+pub mod EmptyPacked
+pub mod KnownEmpty
+pub mod BlocksPacked
+pub mod BlocksCopied
+pub mod HeadersCopied
+pub mod Stepping
+pub mod StepLaws
+pub mod CopySteps

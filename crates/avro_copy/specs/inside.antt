@@ -1,0 +1,4 @@
+-- What only proofs and private contracts need.
+pub mod BlockCopied
+pub mod DataPacked
+pub mod HeaderCopied

@@ -1,0 +1,30 @@
+-- What packing a block gives.
+use Rattle.std.specs.Prelude.{◌≡◌, ℕ, ◌≤◌, List, length}
+use Rattle.avro_schema.specs.Value.{Values, values_count}
+use Rattle.avro_cursor.specs.Encoding.{plain_values}
+use Rattle.avro_container.specs.BlockFails.{FileLimitValues, BlockReading, DataAreWhole, BlockFails}
+use Rattle.avro_container.specs.Copied.{Job, EachResolved}
+use Rattle.avro_container.specs.File.{HeaderValue}
+use Rattle.avro_container.specs.FileFault.{FileFault, in_block, BlockFault}
+use Rattle.avro_copy.specs.Steps.{IsBlockWithin, reading_of}
+
+-- `count` data stand whole as `body`, and `packed` are the plain encodings of what is made of them
+pub record PacksData (r : BlockReading) (count : ℕ) (body packed : List ℕ) : Type 0 where
+  pub made : Values
+  pub whole : DataAreWhole r count body made
+  pub packed_are : packed ≡ plain_values made
+
+-- the bytes are a block of `count` data within the limits, and `packed` are the plain encodings of what is made of them
+pub record PacksBlock (job : Job) (limits : FileLimitValues) (h : HeaderValue) (count : ℕ) (bytes packed : List ℕ) : Type 0 where
+  pub values : Values
+  pub made : Values
+  pub is_block : IsBlockWithin limits h values bytes
+  pub counted : values_count values ≡ count
+  pub resolved : EachResolved (job.resolve h.nodes) values made
+  pub packed_are : packed ≡ plain_values made
+  pub small : length (plain_values made) ≤ limits.block
+
+-- the fault is one of this block, which is copied
+abbrev pub IsCopyFault : Job → FileLimitValues → HeaderValue → ℕ → Type 0 → List ℕ → FileFault → Type 0
+IsCopyFault job limits h number ended bytes f =
+    (g : BlockFault) × (f ≡ in_block number g) × BlockFails (reading_of job limits h) number ended bytes g

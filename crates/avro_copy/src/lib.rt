@@ -1,0 +1,13 @@
+//! Copies of object container files (Avro 1.11, "Object Container Files").
+//!
+//! A [`Sink`] puts a header and blocks. [`copy`] takes a whole file and puts its copy, and a [`Copier`] does the same a part
+//! a step.
+#![tactic(auto)]
+
+mod copying;
+pub mod laws;
+mod sink;
+
+pub use copying::copier::Copier;
+pub use copying::{Counts, Step, copy};
+pub use sink::Sink;

@@ -1,0 +1,2 @@
+pub mod PutFront
+pub mod inside

@@ -1,0 +1,2 @@
+-- What only proofs and private contracts need.
+pub mod DeviceLaws
