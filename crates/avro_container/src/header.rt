@@ -36,7 +36,7 @@ pub struct Header {
 }
 
 impl Header {
-    ghost use Rattle.std.specs.Prelude.{◌≡◌};
+    ghost use Rattle.std.specs.Prelude.{◌≡◌, length};
 
     /// The schema of the file's data.
     pub fn schema(&self) -> &Schema
@@ -54,7 +54,8 @@ impl Header {
 
     /// The marker after the header and each block.
     pub fn sync(&self) -> &[u8; 16]
-        ensures { result.now ≡ self.now.sync }
+        ensures marker { result.now ≡ self.now.sync }
+        ensures length { length result.now ≡ 16 }
     {
         &self.sync
     }

@@ -87,11 +87,11 @@ impl<'a> Opened<'a> {
         ensures of_reader { option_map (λ p. schema_nodes p.1) result ≡ option_map (λ r. schema_nodes r.1) self.now.1 }
     {
         match &self.target {
-            Some(target) => Some(
-                target
-                    .table
-                    .plan(self.header.schema(), target.reader.schema()),
-            ),
+            Some(target) => {
+                let writer = self.header.schema();
+                let reader = target.reader.schema();
+                Some(target.table.plan(writer, reader))
+            }
             None => None,
         }
     }

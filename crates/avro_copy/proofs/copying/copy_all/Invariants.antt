@@ -4,11 +4,11 @@ use Rattle.avro_copy.specs.CopierSeen.{job_in, limits_in, stored_of}
 use Rattle.avro_copy.proofs.CopySteps.{HasRun, steps_left}
 use Rattle.avro_copy.proofs.copying.copy_all.Given as goal
 
-abbrev pub invariant-loop-copier : goal.invariant-loop-copier
-invariant-loop-copier g l =
+abbrev pub invariant-loop-count : goal.invariant-loop-count
+invariant-loop-count g l =
     HasRun g.I.Input.gives g.O.Output.keeps l.initial.input l.input l.initial.output l.output (job_in l.initial.copier) (limits_in l.initial.copier)
     l.copier l.counts.items l.counts.blocks
     × (g.I.Input.failures l.input ≡ g.I.Input.failures l.initial.input) × (g.O.Output.failures l.output ≡ g.O.Output.failures l.initial.output)
 
-abbrev pub decreases-loop-copier : goal.decreases-loop-copier
-decreases-loop-copier g l = steps_left (stored_of l.copier)
+abbrev pub decreases-loop-count : goal.decreases-loop-count
+decreases-loop-count g l = steps_left (stored_of l.copier)

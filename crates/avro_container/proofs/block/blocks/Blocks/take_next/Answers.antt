@@ -23,7 +23,7 @@ returns-in_err-take_block-clause-refused g c =
     )) in
     let all : new ≡ grown.bytes = grown.grown ∙ ap (λ b. b ++ grown.bytes) none in
     let fault = subst (λ (sync : List ℕ). IsBlockFault c.args.self.now.limits sync c.args.self.now.number (g.I.Input.ended c.take_block.new.input) new f)
-    c.sync.ensures (c.in_err-take_block.ensures.refused f is) in
+    c.sync.ensures.marker (c.in_err-take_block.ensures.refused f is) in
     record {
       bytes = grown.bytes;
       taken = grown.taken;

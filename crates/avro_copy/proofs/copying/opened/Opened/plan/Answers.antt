@@ -10,4 +10,6 @@ plan-requires c =
     let target = c.in-Some.target in
     let kept : IsTableOf nodes (schema_nodes target.reader.now.1) target.table =
     subst (λ o. IfSome o (λ t. IsTableOf nodes (schema_nodes t.reader.now.1) t.table)) c.in-Some.is c.self.invariant in
-    subst (λ s. IsTableOf nodes (schema_nodes s) target.table) (sym c.schema.ensures.schema) kept
+    let read : IsTableOf nodes (schema_nodes c.schema-reader.result.now) target.table =
+    subst (λ s. IsTableOf nodes (schema_nodes s) target.table) (sym c.schema-reader.ensures.schema) kept in
+    subst (λ s. IsTableOf (schema_nodes s) (schema_nodes c.schema-reader.result.now) target.table) (sym c.schema-writer.ensures) read
