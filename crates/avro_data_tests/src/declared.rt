@@ -147,12 +147,7 @@ fn wrong_run(runs: &[EmptyFields]) -> Option<u32> {
         return Some(9);
     }
     for (run, count) in runs.iter().zip(COUNTS) {
-        let wanted = EmptyFields {
-            fields: count,
-            nodes: count,
-            depth: u32::from(count > 0),
-        };
-        if *run != wanted {
+        if (run.fields, run.nodes, run.depth) != (count, count, u32::from(count > 0)) {
             return Some(count);
         }
     }
