@@ -82,8 +82,7 @@ fn is_five_over_limit(alloc: Global, out: &mut Vec<u8>, reader: &ReaderText) -> 
 fn is_front_kept(alloc: Global, reader: &ReaderText, front: usize) -> Result<bool, Fail> {
     let mut out = Vec::new(alloc);
     let is_over = is_five_over_limit(alloc, &mut out, reader)?;
-    let (header, _) = FIVE_COPIED.split_at(front);
-    Ok(is_over && out.as_slice() == header)
+    Ok(is_over && out.len() == front && FIVE_COPIED.starts_with(out.as_slice()))
 }
 
 /// The same for a long or an int.
