@@ -38,7 +38,7 @@ files: ## builds the program without any proof, and checks, shows and copies FIL
 	printf '%s\n' copy {} copy.avro --reader reader.avsc > "$$cases/copy.args" && \
 	cd crates/avro && rt try --cases "$$cases" --data reader.avsc=$(abspath $(FILE_READER))
 
-program: ## proves and builds the program and the crates below it, and says where it is (an hour or more)
+program: ## proves and builds the program and the crates below it, and says where it is (two processor hours)
 	@cd crates/avro && rt run -- schema $(abspath examples/int.avsc)
 	@echo "the program is $(abspath $(PROGRAM))"
 
@@ -63,7 +63,7 @@ install: $(PROGRAM) ## installs the proved program, its man page and its complet
 quick: words ## runs all tests without any proof (thirteen minutes of processor time)
 	@for crate in $(TESTS); do echo "== $$crate"; (cd crates/$$crate && rt try --test) || exit 1; done
 
-test: ## the gate: each proof, test, program and must-fail edit, from scratch (two to five processor hours)
+test: ## the gate: each proof, test, program and must-fail edit, from scratch (three and a half processor hours)
 	rt ci
 
 check: ## checks one crate, CRATE=avro_name (1 to 3 minutes per thousand lines; after an edit 5 to 60 seconds)
