@@ -49,22 +49,22 @@ holds made.avro Obj\x01\x02\x16avro.schema\n"int"\x00\m\x02\x02\n\m
 # A schema is not replaced by a copy, whether it is read or not, and any other file is.
 file into.avsc "long"
 file other.avsc "int"
-hard into.avsc hard.avsc
-soft into.avsc soft.avsc
+hard into.avsc hard_into.avsc
+soft into.avsc soft_into.avsc
 run 64 copy five.avro into.avsc --reader into.avsc
 err avro: into.avsc is one of the files that are read
 run 64 copy five.avro ./into.avsc --reader into.avsc
 err avro: ./into.avsc is one of the files that are read
-run 64 copy five.avro hard.avsc --reader into.avsc
-err avro: hard.avsc is one of the files that are read
-run 64 copy five.avro soft.avsc --reader hard.avsc
-err avro: soft.avsc is one of the files that are read
+run 64 copy five.avro hard_into.avsc --reader into.avsc
+err avro: hard_into.avsc is one of the files that are read
+run 64 copy five.avro soft_into.avsc --reader hard_into.avsc
+err avro: soft_into.avsc is one of the files that are read
 run 64 copy five.avro into.avsc
 err avro: into.avsc is a schema
-run 64 copy five.avro soft.avsc --reader other.avsc
-err avro: soft.avsc is a schema
-run 64 copy none.avro hard.avsc --reader none.avsc
-err avro: hard.avsc is a schema
+run 64 copy five.avro soft_into.avsc --reader other.avsc
+err avro: soft_into.avsc is a schema
+run 64 copy none.avro hard_into.avsc --reader none.avsc
+err avro: hard_into.avsc is a schema
 run 64 copy into.avsc ./into.avsc --reader into.avsc
 err avro: IN and OUT are one file
 run 64 copy five.avro into.avsc --sync 0
