@@ -70,10 +70,10 @@ err avro: IN and OUT are one file
 run 64 copy five.avro into.avsc --sync 0
 err avro: --sync takes 32 hexadecimal digits
 holds into.avsc "long"
-file no.avsc "Foo"
-run 0 copy five.avro no.avsc --reader into.avsc
+file undefined.avsc "Foo"
+run 0 copy five.avro undefined.avsc --reader into.avsc
 out data 1 blocks 1
-holds no.avsc Obj\x01\x02\x16avro.schema\x0c"long"\x00\m\x02\x02\n\m
+holds undefined.avsc Obj\x01\x02\x16avro.schema\x0c"long"\x00\m\x02\x02\n\m
 run 4 copy five.avro inner --reader into.avsc
 err avro: inner: cannot write
 # Lines are written whole.
