@@ -1,11 +1,11 @@
 """Numbers, strings and large data in Avro's binary encoding.
 
 The datum of `records` is an array of 250,000 records {a long, b int, c string}, that of `strings` an array of
-1,000,000 strings, that of `keys` a map of nulls with 1,000,000 keys: 1,000,001 nodes. Items stand in blocks of 1,000, and
+1,000,000 strings, that of `keys` a map of nulls with 900,000 keys, as many as a block may hold. Items stand in blocks of 1,000, and
 each fourth block has its size. The same seed gives the same bytes.
 """
 
-ITEMS = {"records": 250_000, "strings": 1_000_000, "keys": 1_000_000}
+ITEMS = {"records": 250_000, "strings": 1_000_000, "keys": 900_000}
 BLOCK = 1_000
 LETTERS = "abcdefghijklmnopqrstuvwxyz0123456789 _-."
 WIDE = "éüß€漢字😀"
