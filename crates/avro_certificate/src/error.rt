@@ -2,6 +2,7 @@ ghost use Rattle.std.specs.Prelude.{◌≡◌};
 ghost use Rattle.avro_certificate.specs.declared.error.CertError.TheVariants.{OutOfMemory};
 
 use std::alloc::AllocFailed;
+use std::error::Error;
 use std::fmt;
 
 /// Why a text is not read as a certificate.
@@ -31,6 +32,8 @@ impl fmt::Display for CertError {
         f.write_str(self.code())
     }
 }
+
+impl Error for CertError {}
 
 impl<T: Drop> From<AllocFailed<T>> for CertError {
     ghost from_gives = { λ _ e. e ≡ OutOfMemory };

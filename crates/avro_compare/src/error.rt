@@ -1,3 +1,4 @@
+use std::error::Error;
 use std::fmt;
 
 /// Why a datum does not resolve.
@@ -37,6 +38,8 @@ impl fmt::Display for FaultKind {
         }
     }
 }
+
+impl Error for FaultKind {}
 
 /// A fault of resolution, and where it is in the writer's datum.
 #[derive(Debug, PartialEq, Eq, Drop)]

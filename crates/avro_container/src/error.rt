@@ -4,6 +4,7 @@ use avro_schema::Memory;
 use avro_schema_json::SchemaError;
 use avro_zigzag::VarError;
 use std::alloc::{AllocError, AllocFailed};
+use std::error::Error;
 use std::fmt;
 
 /// Why a block's count or size is not a number of data or of bytes.
@@ -125,12 +126,16 @@ impl fmt::Display for CountError {
     }
 }
 
+impl Error for CountError {}
+
 impl fmt::Display for LimitPlace {
     fn fmt<W: fmt::Write>(&self, f: &mut fmt::Formatter<W>) -> fmt::Result {
         f.write_str("C9")?;
         write_place(*self, f)
     }
 }
+
+impl Error for LimitPlace {}
 
 impl fmt::Display for CopyError {
     fn fmt<W: fmt::Write>(&self, f: &mut fmt::Formatter<W>) -> fmt::Result {
@@ -139,6 +144,8 @@ impl fmt::Display for CopyError {
         self.write_reason(f)
     }
 }
+
+impl Error for CopyError {}
 
 /// Writes a block, or a datum of one.
 fn write_place<W: fmt::Write>(place: LimitPlace, f: &mut fmt::Formatter<W>) -> fmt::Result {

@@ -3,6 +3,7 @@ ghost use Rattle.avro_explain.specs.declared.error.ExplainError.TheVariants.{Out
 
 use avro_schema::Memory;
 use std::alloc::AllocFailed;
+use std::error::Error;
 use std::fmt;
 
 /// Why the faults of two schemas are not reported.
@@ -29,6 +30,8 @@ impl fmt::Display for ExplainError {
         f.write_str(self.text())
     }
 }
+
+impl Error for ExplainError {}
 
 impl<T: Drop> From<AllocFailed<T>> for ExplainError {
     ghost from_gives = { λ _ e. e ≡ OutOfMemory };

@@ -1,4 +1,5 @@
 use std::alloc::AllocError;
+use std::error::Error;
 use std::fmt;
 
 /// Why a text is no name. Where there are several faults, it names one of them.
@@ -31,6 +32,8 @@ impl fmt::Display for NameError {
         f.write_str(self.code())
     }
 }
+
+impl Error for NameError {}
 
 impl From<AllocError> for NameError {
     ghost use Rattle.std.specs.Prelude.{◌≡◌};

@@ -1,9 +1,10 @@
-ghost use Rattle.std.specs.Prelude.{◌≡◌, true, IfOk, IfErr};
+ghost use Rattle.std.specs.Prelude.{◌≡◌, ◌++◌, true, IfOk, IfErr};
 ghost use Rattle.std.proofs.Common.{rules};
+ghost use Rattle.std.specs.Hash as fed;
 ghost use Rattle.std.specs.Ordering.{nat_cmp, on, then_cmp, as_partial_cmp};
 ghost use Rattle.std.specs.Cmp.{partial_order_from_own_ties};
 ghost use Rattle.std.specs.Cmp.Lexicographic.{slice_cmp};
-ghost use Rattle.std.specs.Cmp.Rules.{comparing};
+ghost use Rattle.std.specs.Cmp.Rules.{comparing, hashing};
 ghost use Rattle.avro_name.specs.Name.{is_dotted_name, is_simple_name, same_name, split_name};
 
 use crate::check::{check_dotted_name, is_primitive_word};
@@ -11,6 +12,7 @@ use crate::error::NameError;
 use crate::namespace::Namespace;
 use std::alloc::{AllocError, Global};
 use std::cmp::Ordering;
+use std::hash::{Hash, Hasher};
 use std::marker::Model;
 
 /// A fullname: a namespace, and a simple name that is not that of a primitive type. Names are compared by
@@ -157,5 +159,16 @@ impl Ord for FullName {
             Ordering::Equal => self.namespace().cmp(other.namespace()),
             unequal => unequal,
         }
+    }
+}
+
+impl Hash for FullName {
+    ghost hash_input = { λ n. fed.str n.simple ++ fed.str n.namespace };
+
+    ghost respects_eq = { Prim.search (hashing, rules) };
+
+    fn hash<H: Hasher>(&self, state: &mut H) {
+        self.simple().hash(state);
+        self.namespace().hash(state);
     }
 }

@@ -4,6 +4,7 @@ ghost use Rattle.avro_schema.specs.Seen.{value_of, values_of, entries_of, node_o
 ghost use Rattle.avro_schema.specs.Value.{size as value_size, values_size, entries_size, depth as value_depth, values_depth, entries_depth};
 
 use std::alloc::{AllocError, AllocFailed, Global};
+use std::error::Error;
 use std::fmt;
 
 /// Memory ran out.
@@ -15,6 +16,8 @@ impl fmt::Display for Memory {
         f.write_str("out of memory")
     }
 }
+
+impl Error for Memory {}
 
 impl From<AllocError> for Memory {
     fn from(_error: AllocError) -> Memory {

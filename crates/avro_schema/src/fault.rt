@@ -3,6 +3,7 @@ ghost use Rattle.avro_schema.specs.declared.fault.DraftError.TheVariants.{OutOfM
 
 use crate::datum::Memory;
 use std::alloc::AllocFailed;
+use std::error::Error;
 use std::fmt;
 
 /// Why nodes are not a schema. Where there are several faults, it names one of them.
@@ -51,6 +52,8 @@ impl fmt::Display for DraftError {
         f.write_str(self.code())
     }
 }
+
+impl Error for DraftError {}
 
 impl<T: Drop> From<AllocFailed<T>> for DraftError {
     ghost from_gives = { λ _ e. e ≡ OutOfMemory };

@@ -12,6 +12,7 @@ pub mod write;
 
 pub use read::{read_int, read_long};
 pub use shortest::starts_shortest;
+use std::error::Error;
 use std::fmt;
 pub use write::{to_zigzag, write_long};
 
@@ -42,3 +43,5 @@ impl fmt::Display for VarError {
         f.write_str(self.code())
     }
 }
+
+impl Error for VarError {}
