@@ -13,6 +13,8 @@ import sys
 import tempfile
 import time
 
+import hostile_sets
+
 SIZES = [131072, 262144, 524288, 1048576]
 SECONDS = 60
 MEMORY = 4 << 30
@@ -631,6 +633,7 @@ KINDS = {
     "alike texts behind many": long_array(1000),
     "alike records of two": same_kinds(600, two_records, {"a": {"a": "s0"}}),
     "alike in an array": alike(800, {"a": [{"a": 1, "b": 2}]}, inside(lambda k, leaf: in_record(k, plain_fields("ab")(k, leaf)), in_array)),
+    **hostile_sets.KINDS,
 }
 
 

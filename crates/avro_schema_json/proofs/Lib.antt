@@ -16,14 +16,15 @@ mod RowsLimits
 pub mod ReadSeen
 mod KnownFound
 pub mod MadeSound
-pub mod AlikeSeen
-pub mod MisfitsSeen
-pub mod BelowSeen
-pub mod PlacesSeen
-pub mod ProbesSeen
-pub mod ListedSeen
 pub mod DefaultsFit
 pub mod RepeatsSeen
-pub mod TablesSeen
-pub mod RecordsSeen
-pub mod PartsBelow
+pub mod NodesSeen
+pub mod MarksSeen
+pub mod WalkSeen
+pub mod RowsSeen
+pub mod KindsSeen
+pub mod ParentsSeen
+pub mod SymbolsSeen
+pub mod CoversSeen
+pub mod CountsSeen
+pub mod LeavesSeen

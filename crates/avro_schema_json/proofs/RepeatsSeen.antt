@@ -1,16 +1,17 @@
 -- A union in which a branch occurs twice, and a record that has two fields of one name, is a fault of the nodes with their defaults.
-use Rattle.std.proofs.Common.{◌≡◌, ℕ, zero, suc, ◌+◌, ◌<◌, Bool, true, false, not, ◌&&◌, ◌||◌, cond, List, [], ◌∷◌, ◌++◌, length, map, filter_map, Option, Some, None, get_or, ◌⊎◌, inl, inr, refl, sym, ap, subst, ◌∙◌, arith, nat_lt}
+use Rattle.std.proofs.Common.{◌≡◌, ℕ, zero, suc, ◌+◌, ◌<◌, ◌≤◌, Bool, true, false, not, ◌&&◌, ◌||◌, cond, List, [], ◌∷◌, ◌++◌, length, map, filter_map, Option, Some, None, get_or, ◌⊎◌, inl, inr, refl, sym, ap, subst, ◌∙◌, arith, nat_lt}
 use Rattle.std.specs.Prelude.{slice_get, is_some, bytes_eq, flat_map}
-use Rattle.std.specs.List.{list_all, list_any, cons_option}
+use Rattle.std.specs.List.{list_all, list_any, cons_option, AllByRecursion, IsDistinct}
 use Rattle.std.specs.Ordering.{nat_cmp}
 use Rattle.std.specs.BTreeSet.{BTreeSet, contains}
 use Rattle.std.proofs.lemmas.Bool.{and_parts, or_parts, false≢true, not-true, false_from_ne_true}
 use Rattle.std.proofs.lemmas.Bool.Decides.{Decides-eqb}
 use Rattle.std.proofs.lemmas.List.{length-map}
+use Rattle.std.proofs.lemmas.Option.{slice_get_within}
 use Rattle.std.proofs.lemmas.Slice.Eq.{bytes_eq-Decides}
 use denote.Ref.{Bor}
 use Rattle.std.specs.BTreeMap.{BTreeMap}
-use Rattle.avro_schema_json.specs.inside.BranchKeys.{find_word}
+use Rattle.avro_schema_json.specs.inside.Parents.{label_of}
 use Rattle.avro_name.proofs.public.Names.{same_name-self}
 use Rattle.avro_schema.specs.Distinct.{are_distinct}
 use Rattle.avro_schema.specs.Faulty.{invalid_union, duplicate_field, breaks, has_fields_rule, IsThere}
@@ -22,9 +23,11 @@ use Rattle.avro_schema.specs.WellFormed.{field_names, is_edge, is_union, BranchK
 use Rattle.avro_schema.proofs.public.NodeFaults.{broken-there}
 use Rattle.avro_schema_json.specs.Declares.{RawField, RawNode}
 use Rattle.avro_schema_json.specs.DeclaredSchema.{field_without_default, node_without_defaults, completed_field, completed_node}
-use Rattle.avro_schema_json.specs.inside.OwnDefaults.{without_defaults, all_without_defaults}
+use Rattle.avro_schema_json.specs.inside.OwnDefaults.{without_defaults, all_without_defaults, fields_seen}
+use Rattle.avro_schema_json.specs.declared.raw.RawField.{RawField as KeptField}
 use Rattle.avro_schema_json.specs.declared.raw.RawNode.{RawNode as KeptNode}
-use Rattle.avro_schema_json.specs.inside.Repeats.{kind_code, code_by, Repeats, SomeRepeats, RepeatsName, RecordRepeatsName, SomeRepeatsName}
+use Rattle.avro_schema_json.specs.inside.Repeats.{kind_code, code_by, Repeats, SomeRepeats, RepeatsName, RecordRepeatsName, SomeRepeatsName, AreFieldsDistinct}
+use Rattle.avro_schema_json.proofs.NodesSeen.{node_here, as_many}
 
 -- ---- one code, one kind
 
@@ -174,15 +177,6 @@ repeat-next nodes ids old new i id code below is added are = λ m there.
       | inr same ↦ (i, (get_or ids i id).0, omega arith, id_at ids i id below, sym is ∙ sym same)
     ]
 
-pub node_here : (raws : List KeptNode) (i : ℕ) (raw : KeptNode) → i < length raws → node_at (all_without_defaults raws) i ≡ without_defaults (get_or raws i raw)
-node_here [] i raw below = absurd (omega (arith, below))
-node_here (x ∷ raws) zero raw below = refl
-node_here (x ∷ raws) (suc i) raw below = node_here raws i raw (omega (arith, below))
-
-as_many : (raws : List KeptNode) → length (all_without_defaults raws) ≡ length raws
-as_many [] = refl
-as_many (x ∷ raws) = ap suc (as_many raws)
-
 pub some-repeats : (raws : List KeptNode) (i : ℕ) (raw : KeptNode) (ids : List ℕ) → i < length raws → raw ≡ get_or raws i raw
     → Some ids ≡ branches_of (without_defaults raw) → list_all (is_edge (all_without_defaults raws) i) ids ≡ true → Repeats (all_without_defaults raws) ids
     → SomeRepeats (all_without_defaults raws)
@@ -258,13 +252,13 @@ repeated_field-there nodes raws some =
 -- each name is that of a field before this one
 abbrev pub AreFieldNames : List FieldNode → BTreeMap (Bor (List ℕ)) ℕ → ℕ → Type 0
 AreFieldNames fields names i =
-    (word : List ℕ) (j : ℕ) → find_word names word ≡ Some j → (f : FieldNode) × (j < i) × (slice_get fields j ≡ Some f) × (word ≡ f.name)
+    (word : List ℕ) (j : ℕ) → label_of names word ≡ Some j → (f : FieldNode) × (j < i) × (slice_get fields j ≡ Some f) × (word ≡ f.name)
 
 pub names-next : (fields : List FieldNode) (old new : BTreeMap (Bor (List ℕ)) ℕ) (i : ℕ) (f : FieldNode) (name : List ℕ) → slice_get fields i ≡ Some f → name ≡ f.name
-    → ((word : List ℕ) → find_word new word ≡ cond (bytes_eq name word) (Some i) (find_word old word)) → AreFieldNames fields old i → AreFieldNames fields new (i + 1)
+    → ((word : List ℕ) → label_of new word ≡ cond (bytes_eq name word) (Some i) (label_of old word)) → AreFieldNames fields old i → AreFieldNames fields new (i + 1)
 names-next fields old new i f name at is put are = λ word j found. by_word word j found (bytes_eq name word) refl
   where
-    by_word : (word : List ℕ) (j : ℕ) → find_word new word ≡ Some j → (b : Bool) → bytes_eq name word ≡ b
+    by_word : (word : List ℕ) (j : ℕ) → label_of new word ≡ Some j → (b : Bool) → bytes_eq name word ≡ b
         → (g : FieldNode) × (j < i + 1) × (slice_get fields j ≡ Some g) × (word ≡ g.name)
     by_word word j found false h =
         let before = rw h at (sym (put word) ∙ found) in
@@ -277,15 +271,80 @@ names-next fields old new i f name at is put are = λ word j found. by_word word
         (f, omega (arith, same), subst (λ (k : ℕ). slice_get fields k ≡ Some f) same at, sym text ∙ is)
 
 pub name-found : (fields : List FieldNode) (names : BTreeMap (Bor (List ℕ)) ℕ) (i : ℕ) (f : FieldNode) (word : List ℕ) → slice_get fields i ≡ Some f → word ≡ f.name
-    → is_some (find_word names word) ≡ true → AreFieldNames fields names i → RepeatsName fields
-name-found fields names i f word at is there are = by_found (find_word names word) refl there
+    → is_some (label_of names word) ≡ true → AreFieldNames fields names i → RepeatsName fields
+name-found fields names i f word at is there are = by_found (label_of names word) refl there
   where
-    by_found : (o : Option ℕ) → find_word names word ≡ o → is_some o ≡ true → RepeatsName fields
+    by_found : (o : Option ℕ) → label_of names word ≡ o → is_some o ≡ true → RepeatsName fields
     by_found None e t = absurd (false≢true t)
     by_found (Some j) e t = let was = are word j e in (i, j, f, was.0, was.1, at, was.2, sym is ∙ was.3)
+
+-- each name before one is kept, and no two of them are the same
+abbrev pub AreApart : List FieldNode → BTreeMap (Bor (List ℕ)) ℕ → ℕ → Type 0
+AreApart fields names i =
+    ((j : ℕ) (f : FieldNode) → j < i → slice_get fields j ≡ Some f → is_some (label_of names f.name) ≡ true)
+    × ((j k : ℕ) (f g : FieldNode) → j < k → k < i → slice_get fields j ≡ Some f → slice_get fields k ≡ Some g → bytes_eq f.name g.name ≡ false)
+
+one_field : (fields : List FieldNode) (i j : ℕ) (f g : FieldNode) → slice_get fields i ≡ Some f → slice_get fields j ≡ Some g → j ≡ i → f ≡ g
+one_field fields i j f g at there same =
+    let here : slice_get fields i ≡ Some g = subst (λ (k : ℕ). slice_get fields k ≡ Some g) same there in
+    cc
+
+pub apart-next : (fields : List FieldNode) (old new : BTreeMap (Bor (List ℕ)) ℕ) (i : ℕ) (f : FieldNode) (name : List ℕ) → slice_get fields i ≡ Some f → name ≡ f.name
+    → is_some (label_of old name) ≡ false → ((word : List ℕ) → label_of new word ≡ cond (bytes_eq name word) (Some i) (label_of old word))
+    → AreApart fields old i → AreApart fields new (i + 1)
+apart-next fields old new i f name at is fresh put are = (kept, apart)
+  where
+    before : (j : ℕ) (g : FieldNode) → j < i + 1 → slice_get fields j ≡ Some g → bytes_eq name g.name ≡ false → j < i
+    before j g below there other = earlier (nat_lt j i) refl
+      where
+        earlier : (b : Bool) → nat_lt j i ≡ b → j < i
+        earlier true h = grind (arith, h)
+        earlier false h =
+            let same : j ≡ i = grind (arith, h, below) in
+            let field : f ≡ g = one_field fields i j f g at there same in
+            absurd (false≢true (sym other ∙ (bytes_eq-Decides name g.name).1 (is ∙ ap (λ (k : FieldNode). k.name) field)))
+
+    kept : (j : ℕ) (g : FieldNode) → j < i + 1 → slice_get fields j ≡ Some g → is_some (label_of new g.name) ≡ true
+    kept j g below there = by (bytes_eq name g.name) refl
+      where
+        by : (b : Bool) → bytes_eq name g.name ≡ b → is_some (label_of new g.name) ≡ true
+        by true h = ap is_some (rw h at (put g.name))
+        by false h = ap is_some (rw h at (put g.name)) ∙ are.0 j g (before j g below there h) there
+
+    apart : (j k : ℕ) (g h : FieldNode) → j < k → k < i + 1 → slice_get fields j ≡ Some g → slice_get fields k ≡ Some h → bytes_eq g.name h.name ≡ false
+    apart j k g h above below there here = by (nat_lt k i) refl
+      where
+        by : (b : Bool) → nat_lt k i ≡ b → bytes_eq g.name h.name ≡ false
+        by true e = are.1 j k g h above (grind (arith, e)) there here
+        by false e =
+            let same : k ≡ i = grind (arith, e, below) in
+            let field : f ≡ h = one_field fields i k f h at here same in
+            false_from_ne_true (bytes_eq g.name h.name) (λ equal.
+            let one : g.name ≡ h.name = (bytes_eq-Decides g.name h.name).0 equal in
+            let word : g.name ≡ name = one ∙ ap (λ (x : FieldNode). x.name) (sym field) ∙ sym is in
+            false≢true (sym fresh ∙ sym (ap (λ w. is_some (label_of old w)) word) ∙ are.0 j g (omega (arith, above, same)) there))
+
+pub all-apart : (fields : List FieldNode)
+    → ((j k : ℕ) (f g : FieldNode) → j < k → slice_get fields j ≡ Some f → slice_get fields k ≡ Some g → bytes_eq f.name g.name ≡ false) → AreFieldsDistinct fields
+unfolding IsDistinct
+all-apart [] apart = tt
+all-apart (f ∷ fields) apart = (first fields (λ k g here. apart 0 (suc k) f g (omega arith) refl here), all-apart fields (λ j k g h below there here. apart (suc j) (suc k) g h (omega (arith, below)) there here))
+  where
+    first : (gs : List FieldNode) → ((k : ℕ) (g : FieldNode) → slice_get gs k ≡ Some g → bytes_eq f.name g.name ≡ false)
+        → AllByRecursion (λ (n : List ℕ). bytes_eq f.name n ≡ false) (map (λ (g : FieldNode). g.name) gs)
+    first [] other = tt
+    first (g ∷ gs) other = (other 0 g refl, first gs (λ k h at. other (suc k) h at))
 
 pub some-names : (raws : List KeptNode) (i : ℕ) (raw : KeptNode) → i < length raws → raw ≡ get_or raws i raw → RecordRepeatsName (without_defaults raw)
     → SomeRepeatsName (all_without_defaults raws)
 some-names raws i raw below at repeats =
     let here : node_at (all_without_defaults raws) i ≡ without_defaults raw = node_here raws i raw below ∙ ap without_defaults (sym at) in
     (i, omega (arith, as_many raws, below), subst RecordRepeatsName (sym here) repeats)
+
+-- an index of a field is below the number of fields
+pub within_fields : (fs : List KeptField) (k : ℕ) (g : FieldNode) (i : ℕ) → length fs ≤ i → slice_get (fields_seen fs) k ≡ Some g → k < i
+within_fields fs k g i past at = omega (arith, past, count fs, slice_get_within (fields_seen fs) k g at)
+  where
+    count : (fs : List KeptField) → length (fields_seen fs) ≡ length fs
+    count [] = refl
+    count (f ∷ fs) = ap suc (count fs)

@@ -1,6 +1,6 @@
 //! Nodes with their defaults.
 
-ghost use Rattle.std.specs.Prelude.{◌≡◌, ◌⊎◌, ◌<◌, true, [], None, length, map, option_map, IfOk, IfErr, OnOk, Contains};
+ghost use Rattle.std.specs.Prelude.{◌≡◌, ◌⊎◌, ◌<◌, true, [], None, length, map, option_map, IfOk, IfErr, IfSome, OnOk, Contains};
 ghost use Rattle.std.specs.List.{list_all};
 ghost use Rattle.std.specs.Vec.Iter.{into_iter_items};
 ghost use Rattle.avro_schema.specs.Seen.{value_of, node_of, seen_fields};
@@ -10,20 +10,20 @@ ghost use Rattle.avro_schema.specs.declared.fault.DraftError.TheVariants.{LimitE
 ghost use Rattle.avro_schema_json.specs.DeclaredAttributes.{unless};
 ghost use Rattle.avro_schema_json.specs.DeclaredFaults.{refusals_of_nodes, or_else};
 ghost use Rattle.avro_schema_json.specs.DeclaredSchema.{field_default, is_default_read, are_defaults_read, are_all_defaults_read, completed_nodes};
+ghost use Rattle.avro_schema_json.specs.inside.Repeats.{AreNamesDistinct};
 ghost use Rattle.avro_schema_json.specs.inside.Tables.{AreTables};
 ghost use Rattle.avro_schema_json.specs.inside.OwnDefaults.{all_without_defaults};
 ghost use Rattle.avro_schema_json.specs.inside.SeenDefaults.{data_seen, lists_seen, defaults_of_node as node_defaults_by, first_or, others_of, fields_with_defaults, node_with_defaults, nodes_with_defaults};
 ghost use Rattle.avro_schema_json.specs.inside.SeenRaw.{raw_field_of, raw_fields_of, raw_record_of, raw_node_of, raw_nodes_of};
 ghost use Rattle.avro_schema_json.specs.declared.error.SchemaError.TheVariants.{InvalidDefault, OutOfMemory};
 
-use crate::defaults::default_of;
-use crate::defaults::merges::Merges;
-use crate::defaults::tables::tables_of;
-use crate::defaults::union_table::Tables;
+use crate::defaults::tables::{Tables, tables_of};
+use crate::defaults::{default_of, unmarked_default};
 use crate::error::SchemaError;
 use crate::raw::{RawEnum, RawField, RawNode, RawRecord};
 use crate::repeats::{has_repeated_branch, has_repeated_field};
 use avro_schema::{Datum, Draft, DraftError, Field, Memory, Node, RecordNode, Schema};
+use serde_json::Value;
 use std::alloc::Global;
 use std::vec::IntoIter;
 
@@ -45,15 +45,17 @@ struct Defaults {
 fn default_of_field(
     alloc: Global,
     raws: &[RawNode],
-    tables: &Tables,
+    tables: &Option<Tables<'_>>,
     field: &RawField,
-    merges: &mut Merges,
 ) -> Result<Option<Datum>, Memory>
-    requires tables { AreTables (all_without_defaults raws.now) tables.now }
+    requires tables { IfSome tables.now (AreTables (all_without_defaults raws.now)) }
     ensures { IfOk result (λ datum. option_map value_of datum ≡ field_default (all_without_defaults raws.now) (raw_field_of field.now)) }
 {
     match field.default {
-        Some(tree) => default_of(alloc, raws, tables, tree, field.node, merges),
+        Some(tree) => match tables {
+            Some(tables) => default_of(alloc, raws, tables, tree, field.node),
+            None => unmarked_default(alloc, raws, tree, field.node),
+        },
         None => Ok(None),
     }
 }
@@ -62,18 +64,17 @@ fn default_of_field(
 fn defaults_of_fields(
     alloc: Global,
     raws: &[RawNode],
-    tables: &Tables,
+    tables: &Option<Tables<'_>>,
     fields: &[RawField],
-    merges: &mut Merges,
 ) -> Result<NodeDefaults, Memory>
-    requires tables { AreTables (all_without_defaults raws.now) tables.now }
+    requires tables { IfSome tables.now (AreTables (all_without_defaults raws.now)) }
     ensures data { IfOk result (λ defaults. data_seen defaults.of_fields.items ≡ map (field_default (all_without_defaults raws.now)) (raw_fields_of fields.now)) }
     ensures read { IfOk result (λ defaults. defaults.are_read ≡ list_all (is_default_read (all_without_defaults raws.now)) (raw_fields_of fields.now)) }
 {
     let mut of_fields: Vec<Option<Datum>> = Vec::new(alloc);
     let mut are_read = true;
     for field in fields {
-        let default = default_of_field(alloc, raws, tables, field, merges)?;
+        let default = default_of_field(alloc, raws, tables, field)?;
         are_read = are_read && (default.is_some() || !field.default.is_some());
         of_fields.push(default)?;
     }
@@ -87,16 +88,15 @@ fn defaults_of_fields(
 fn defaults_of_node(
     alloc: Global,
     raws: &[RawNode],
-    tables: &Tables,
+    tables: &Option<Tables<'_>>,
     raw: &RawNode,
-    merges: &mut Merges,
 ) -> Result<NodeDefaults, Memory>
-    requires tables { AreTables (all_without_defaults raws.now) tables.now }
+    requires tables { IfSome tables.now (AreTables (all_without_defaults raws.now)) }
     ensures data { IfOk result (λ defaults. data_seen defaults.of_fields.items ≡ node_defaults_by (all_without_defaults raws.now) (raw_node_of raw.now)) }
     ensures read { IfOk result (λ defaults. defaults.are_read ≡ are_defaults_read (all_without_defaults raws.now) (raw_node_of raw.now)) }
 {
     match raw {
-        RawNode::Record(record) => defaults_of_fields(alloc, raws, tables, &record.fields, merges),
+        RawNode::Record(record) => defaults_of_fields(alloc, raws, tables, &record.fields),
         _ => Ok(NodeDefaults {
             of_fields: Vec::new(alloc),
             are_read: true,
@@ -104,25 +104,80 @@ fn defaults_of_node(
     }
 }
 
-/// The defaults of all nodes.
-fn defaults_of_nodes(alloc: Global, raws: &[RawNode]) -> Result<Defaults, Memory>
+/// Whether tables help to read JSON: a text, or what has parts.
+fn needs_tables(tree: &Value) -> bool {
+    match tree {
+        Value::String(_) => true,
+        Value::Array(items) => items.len() > 0,
+        Value::Object(members) => members.len() > 0,
+        _ => false,
+    }
+}
+
+/// Whether they help to read a default of a record.
+fn has_such_default(fields: &[RawField]) -> bool {
+    for field in fields {
+        match field.default {
+            Some(tree) => {
+                if needs_tables(tree) {
+                    return true;
+                }
+            }
+            None => {}
+        }
+    }
+    false
+}
+
+/// The tables of nodes, if they help to read a default.
+fn tables_for<'a>(alloc: Global, raws: &'a [RawNode<'_>]) -> Result<Option<Tables<'a>>, Memory>
+    requires distinct { AreNamesDistinct (all_without_defaults raws.now) }
+    ensures { IfOk result (λ tables. IfSome tables (AreTables (all_without_defaults raws.now))) }
+{
+    for raw in raws {
+        match raw {
+            RawNode::Record(record) => {
+                if has_such_default(&record.fields) {
+                    return Ok(Some(tables_of(alloc, raws)?));
+                }
+            }
+            _ => {}
+        }
+    }
+    Ok(None)
+}
+
+/// The defaults of all nodes, by the tables.
+fn defaults_by_tables(
+    alloc: Global,
+    raws: &[RawNode],
+    tables: &Option<Tables<'_>>,
+) -> Result<Defaults, Memory>
+    requires tables { IfSome tables.now (AreTables (all_without_defaults raws.now)) }
     ensures data { IfOk result (λ defaults. lists_seen defaults.of_nodes.items ≡ map (node_defaults_by (all_without_defaults raws.now)) (raw_nodes_of raws.now)) }
     ensures read { IfOk result (λ defaults. defaults.are_read ≡ are_all_defaults_read (raw_nodes_of raws.now)) }
 {
-    let null = RawNode::Null;
-    let tables = tables_of(alloc, raws, &null)?;
-    let mut merges = Merges::none(alloc);
     let mut of_nodes: Vec<Vec<Option<Datum>>> = Vec::new(alloc);
     let mut are_read = true;
     for raw in raws {
         let NodeDefaults {
             of_fields,
             are_read: are_these_read,
-        } = defaults_of_node(alloc, raws, &tables, raw, &mut merges)?;
+        } = defaults_of_node(alloc, raws, tables, raw)?;
         are_read = are_read && are_these_read;
         of_nodes.push(of_fields)?;
     }
     Ok(Defaults { of_nodes, are_read })
+}
+
+/// The defaults of all nodes.
+fn defaults_of_nodes(alloc: Global, raws: &[RawNode]) -> Result<Defaults, Memory>
+    requires distinct { AreNamesDistinct (all_without_defaults raws.now) }
+    ensures data { IfOk result (λ defaults. lists_seen defaults.of_nodes.items ≡ map (node_defaults_by (all_without_defaults raws.now)) (raw_nodes_of raws.now)) }
+    ensures read { IfOk result (λ defaults. defaults.are_read ≡ are_all_defaults_read (raw_nodes_of raws.now)) }
+{
+    let tables = tables_for(alloc, raws)?;
+    defaults_by_tables(alloc, raws, &tables)
 }
 
 /// The next default, or none where the list ends.

@@ -1,176 +1,149 @@
 //! Defaults of fields.
 
-ghost use Rattle.std.specs.Prelude.{◌≡◌, true, length, Some, option_map, IfOk};
-ghost use Rattle.avro_schema.specs.Node.{Node as SeenNode, node_at};
+ghost use Rattle.std.specs.Prelude.{◌≡◌, List, length, Some, option_map, IfOk, OnOk};
+ghost use Rattle.avro_schema.specs.Node.{Node as SeenNode, node_at, branches_of};
 ghost use Rattle.avro_schema.specs.Seen.{value_of, values_of, entries_of, ids_of};
 ghost use Rattle.avro_schema.specs.Value.{Value as SeenValue};
 ghost use Rattle.avro_schema_json.specs.DeclaredDefaults.{default_of as default_by, each_default, entries_default as each_entry, default_under, fields_default as each_field, object_default as default_of_object, items_default as default_of_items, member_keys, first_fit};
-ghost use Rattle.avro_schema_json.specs.inside.Tables.{IsTable, AreTables};
-ghost use Rattle.avro_schema_json.specs.inside.Misfits.{IsKnown, AreItemsRead};
 ghost use Rattle.avro_schema_json.specs.inside.OwnDefaults.{own_default as own_default_by, default_of_fields, without_defaults, all_without_defaults, fields_seen};
+ghost use Rattle.avro_schema_json.specs.inside.Tables.{AreTables};
+ghost use Rattle.avro_schema_json.specs.inside.Walk.{AreFirsts, IsKnown, nodes_of};
 ghost use Rattle.serde_json.specs.Data.{Data};
 ghost use Rattle.serde_json.specs.View.{view, items_view, members_view};
 
-mod array_misfit;
-pub(crate) mod asked_before;
-mod asks;
-mod before;
-mod below;
-mod branch_keys;
-mod classes;
-mod counts;
-pub(crate) mod distinct;
+mod edges;
 mod fields;
-mod first_branches;
-mod flat;
-pub(crate) mod gathered;
-mod known;
-mod likes;
-mod listed;
-pub(crate) mod merges;
-mod misfit;
-mod misfits;
-mod object_misfit;
-mod part_counts;
-mod part_starts;
+mod kinds;
+mod leaves;
+mod marks;
+mod parents;
 mod parts;
-pub(crate) mod place;
-mod place_asks;
-mod places;
 mod plain_defaults;
-pub(crate) mod probe;
-mod probes;
-mod probing;
-mod record_tables;
-mod same;
-mod sized;
-mod table_at;
+mod rows;
+mod sets;
+mod steps;
 pub(crate) mod tables;
-mod unfit;
-pub(crate) mod union_table;
+mod walk;
 
-use crate::defaults::asks::repeated_ids;
-use crate::defaults::before::value_before;
 use crate::defaults::fields::names_fields;
-use crate::defaults::first_branches::first_branch;
-use crate::defaults::gathered::Gathered;
-use crate::defaults::known::{
-    is_known, misfits_at, next_index, nothing_gathered, part_of_array, part_of_object,
-};
-use crate::defaults::merges::Merges;
-use crate::defaults::misfits::gather;
+use crate::defaults::marks::mark_tree;
+use crate::defaults::parts::{Mark, no_marks};
 use crate::defaults::plain_defaults::{
     boolean_default, null_default, number_default, text_default,
 };
-use crate::defaults::probes::is_refused;
-use crate::defaults::probing::probes_of;
-use crate::defaults::table_at::{no_table, table_at};
-use crate::defaults::unfit::{characters_of, is_unfit};
-use crate::defaults::union_table::{Tables, UnionTable};
+use crate::defaults::tables::Tables;
+use crate::defaults::walk::{Firsts, Walk, first_branch, is_ruled_out, item_mark, member_mark};
 use crate::raw::{RawField, RawNode};
-use crate::raw_nodes::{branches, raw_at};
+use crate::raw_nodes::{branches_at, raw_at};
 use crate::texts::copy_of_text;
 use avro_schema::{Datum, Memory, NodeId};
 use serde_json::{Map, Value};
 use std::alloc::Global;
-use std::collections::BTreeSet;
+use std::collections::BTreeMap;
 
 /// The default that JSON gives for the node of an id, or nothing where there is none. A union
-/// takes it as one of the first branch that it fits. What is merged for one default is there for the next.
+/// takes it as one of the first branch that it fits. By the tables it is found first which nodes each part of it may be
+/// a default of.
 pub(crate) fn default_of(
     alloc: Global,
     raws: &[RawNode],
     tables: &Tables,
     tree: &Value,
     id: NodeId,
-    merges: &mut Merges,
 ) -> Result<Option<Datum>, Memory>
     requires tables { AreTables (all_without_defaults raws.now) tables.now }
     ensures { IfOk result (λ datum. option_map value_of datum ≡ default_by (all_without_defaults raws.now) (view tree.now) (node_at (all_without_defaults raws.now) id.0)) }
 {
-    let nothing: Vec<Gathered> = Vec::new(alloc);
-    known_default(alloc, raws, tables, tree, id, merges, &nothing, 0)
+    let mut marks = no_marks(alloc);
+    let mark = mark_tree(alloc, tables, tree, &mut marks)?;
+    let walk = Walk {
+        raws,
+        last: tables.last,
+        marks: &marks,
+    };
+    root_default(alloc, &walk, tree, id, Some(mark))
 }
 
-/// The default that JSON gives for the node of an id, by what is known of the JSON. Where nothing
-/// is, and more than one branch of a union may look into it, it is gathered first.
+/// The same where no tables are made.
+pub(crate) fn unmarked_default(
+    alloc: Global,
+    raws: &[RawNode],
+    tree: &Value,
+    id: NodeId,
+) -> Result<Option<Datum>, Memory>
+    ensures { IfOk result (λ datum. option_map value_of datum ≡ default_by (all_without_defaults raws.now) (view tree.now) (node_at (all_without_defaults raws.now) id.0)) }
+{
+    let marks = no_marks(alloc);
+    let walk = Walk {
+        raws,
+        last: 0,
+        marks: &marks,
+    };
+    root_default(alloc, &walk, tree, id, None)
+}
+
+/// The same by a mark. No first branch was looked for yet.
+fn root_default(
+    alloc: Global,
+    walk: &Walk,
+    tree: &Value,
+    id: NodeId,
+    mark: Option<Mark>,
+) -> Result<Option<Datum>, Memory>
+    requires known { IsKnown walk.now (view tree.now) mark }
+    ensures { IfOk result (λ datum. option_map value_of datum ≡ default_by (nodes_of walk.now) (view tree.now) (node_at (nodes_of walk.now) id.0)) }
+{
+    let mut firsts: Firsts = BTreeMap::new(alloc);
+    known_default(alloc, walk, tree, id, mark, &mut firsts)
+}
+
+/// The default that JSON gives for the node of an id.
 #[cycle(defaults)]
 fn known_default(
     alloc: Global,
-    raws: &[RawNode],
-    tables: &Tables,
+    walk: &Walk,
     tree: &Value,
     id: NodeId,
-    merges: &mut Merges,
-    all: &[Gathered],
-    known: usize,
+    mark: Option<Mark>,
+    firsts: &mut Firsts,
 ) -> Result<Option<Datum>, Memory>
-    requires tables { AreTables (all_without_defaults raws.now) tables.now }
-    requires known { IsKnown (all_without_defaults raws.now) all.now (view tree.now) known }
-    ensures { IfOk result (λ datum. option_map value_of datum ≡ default_by (all_without_defaults raws.now) (view tree.now) (node_at (all_without_defaults raws.now) id.0)) }
+    requires known { IsKnown walk.now (view tree.now) mark }
+    requires firsts { AreFirsts walk.now firsts.old }
+    ensures firsts { OnOk result (AreFirsts walk.now firsts.new) }
+    ensures default { IfOk result (λ datum. option_map value_of datum ≡ default_by (nodes_of walk.now) (view tree.now) (node_at (nodes_of walk.now) id.0)) }
 {
-    let null = RawNode::Null;
-    let node = raw_at(&*raws, &null, id);
-    match branches(node) {
-        None => own_default(alloc, raws, tables, tree, node, merges, all, known),
-        Some(ids) => {
-            let nothing = no_table(alloc);
-            let table = table_at(raws, &*tables, &nothing, id, ids);
-            let repeated = repeated_ids(alloc, raws, table, tree, ids, known)?;
-            if repeated.len() < 2 {
-                return branch_default(
-                    alloc, raws, tables, table, &null, tree, ids, merges, all, known,
-                );
-            }
-            let mut gathered = nothing_gathered(alloc)?;
-            let known = gather(alloc, raws, tables, tree, &repeated, merges, &mut gathered)?;
-            branch_default(
-                alloc, raws, tables, table, &null, tree, ids, merges, &gathered, known,
-            )
-        }
+    match branches_at(walk.raws, id) {
+        Some(ids) => branch_default(alloc, walk, tree, id, ids, mark, firsts),
+        None => default_at(alloc, walk, tree, id, mark, firsts),
     }
 }
 
-/// The default that JSON gives for the first of some branches that it fits. Those that are known
-/// not to fit are not tried, nor those that it does not fit by its kind; the table tells where to
-/// begin.
+/// The default that JSON gives for the first of the branches of a union that it fits. Those that its set has not are
+/// passed over.
 #[cycle(defaults)]
 fn branch_default(
     alloc: Global,
-    raws: &[RawNode],
-    tables: &Tables,
-    table: &UnionTable,
-    null: &RawNode,
+    walk: &Walk,
     tree: &Value,
+    union: NodeId,
     ids: &[NodeId],
-    merges: &mut Merges,
-    all: &[Gathered],
-    known: usize,
+    mark: Option<Mark>,
+    firsts: &mut Firsts,
 ) -> Result<Option<Datum>, Memory>
-    requires tables { AreTables (all_without_defaults raws.now) tables.now }
-    requires table { IsTable (all_without_defaults raws.now) (ids_of ids.now) table.now }
-    requires null { without_defaults null.now ≡ SeenNode.null }
-    requires known { IsKnown (all_without_defaults raws.now) all.now (view tree.now) known }
-    ensures { IfOk result (λ datum. option_map value_of datum
-        ≡ first_fit (all_without_defaults raws.now) (own_default_by (all_without_defaults raws.now) (view tree.now)) 0 (ids_of ids.now)) }
+    requires known { IsKnown walk.now (view tree.now) mark }
+    requires firsts { AreFirsts walk.now firsts.old }
+    requires branches { branches_of (node_at (nodes_of walk.now) union.0) ≡ Some (ids_of ids.now) }
+    ensures firsts { OnOk result (AreFirsts walk.now firsts.new) }
+    ensures default { IfOk result (λ datum. option_map value_of datum
+        ≡ first_fit (nodes_of walk.now) (own_default_by (nodes_of walk.now) (view tree.now)) 0 (ids_of ids.now)) }
 {
-    let characters = characters_of(tree);
-    let start = first_branch(table, tree, characters)?;
-    let nothing: BTreeSet<u32> = BTreeSet::new(alloc);
-    let misfits = misfits_at(&*all, &nothing, known);
-    let probes = probes_of(alloc, table, tree)?;
+    let start = first_branch(walk, mark, union, ids, firsts)?;
     for i in start..ids.len() {
         let id = ids[i];
-        if is_refused(&probes, i) {
+        if is_ruled_out(walk, mark, id) {
             continue;
         }
-        if is_unfit(raws, null, tree, characters, id) {
-            continue;
-        }
-        if is_known(raws, tables, tree, misfits, id) {
-            continue;
-        }
-        match default_at(alloc, raws, tables, tree, id, merges, all, known)? {
+        match default_at(alloc, walk, tree, id, mark, firsts)? {
             Some(datum) => return in_branch(alloc, i, datum),
             None => {}
         }
@@ -182,21 +155,31 @@ fn branch_default(
 #[cycle(defaults)]
 fn default_at(
     alloc: Global,
-    raws: &[RawNode],
-    tables: &Tables,
+    walk: &Walk,
     tree: &Value,
     id: NodeId,
-    merges: &mut Merges,
-    all: &[Gathered],
-    known: usize,
+    mark: Option<Mark>,
+    firsts: &mut Firsts,
 ) -> Result<Option<Datum>, Memory>
-    requires tables { AreTables (all_without_defaults raws.now) tables.now }
-    requires known { IsKnown (all_without_defaults raws.now) all.now (view tree.now) known }
-    ensures { IfOk result (λ datum. option_map value_of datum ≡ own_default_by (all_without_defaults raws.now) (view tree.now) (node_at (all_without_defaults raws.now) id.0)) }
+    requires known { IsKnown walk.now (view tree.now) mark }
+    requires firsts { AreFirsts walk.now firsts.old }
+    ensures firsts { OnOk result (AreFirsts walk.now firsts.new) }
+    ensures default { IfOk result (λ datum. option_map value_of datum ≡ own_default_by (nodes_of walk.now) (view tree.now) (node_at (nodes_of walk.now) id.0)) }
 {
-    let null = RawNode::Null;
-    let node = raw_at(&*raws, &null, id);
-    own_default(alloc, raws, tables, tree, node, merges, all, known)
+    match raw_at(walk.raws, id) {
+        Some(node) => own_default(alloc, walk, tree, node, mark, firsts),
+        None => Ok(missing_default(tree)),
+    }
+}
+
+/// The default that JSON gives for null, which a node that is missing counts as.
+fn missing_default(tree: &Value) -> Option<Datum>
+    ensures { (nodes : List SeenNode) → option_map value_of result ≡ own_default_by nodes (view tree.now) SeenNode.null }
+{
+    match tree {
+        Value::Null => Some(Datum::Null),
+        _ => None,
+    }
 }
 
 /// A datum as one of a union, of this branch. A branch past the range of numbers would exceed any
@@ -214,27 +197,24 @@ fn in_branch(alloc: Global, branch: usize, datum: Datum) -> Result<Option<Datum>
 #[cycle(defaults)]
 fn own_default(
     alloc: Global,
-    raws: &[RawNode],
-    tables: &Tables,
+    walk: &Walk,
     tree: &Value,
     node: &RawNode,
-    merges: &mut Merges,
-    all: &[Gathered],
-    known: usize,
+    mark: Option<Mark>,
+    firsts: &mut Firsts,
 ) -> Result<Option<Datum>, Memory>
-    requires tables { AreTables (all_without_defaults raws.now) tables.now }
-    requires known { IsKnown (all_without_defaults raws.now) all.now (view tree.now) known }
-    ensures { IfOk result (λ datum. option_map value_of datum ≡ own_default_by (all_without_defaults raws.now) (view tree.now) (without_defaults node.now)) }
+    requires known { IsKnown walk.now (view tree.now) mark }
+    requires firsts { AreFirsts walk.now firsts.old }
+    ensures firsts { OnOk result (AreFirsts walk.now firsts.new) }
+    ensures default { IfOk result (λ datum. option_map value_of datum ≡ own_default_by (nodes_of walk.now) (view tree.now) (without_defaults node.now)) }
 {
     match tree {
         Value::Null => Ok(null_default(node)),
         Value::Bool(value) => Ok(boolean_default(*value, node)),
         Value::Number(number) => Ok(number_default(*number, node)),
         Value::String(text) => text_default(alloc, text.as_str(), node),
-        Value::Array(items) => items_default(alloc, raws, tables, items, node, merges, all, known),
-        Value::Object(members) => object_default(
-            alloc, raws, tables, members, node, merges, all, known,
-        ),
+        Value::Array(items) => items_default(alloc, walk, items, node, mark, firsts),
+        Value::Object(members) => object_default(alloc, walk, members, node, mark, firsts),
     }
 }
 
@@ -242,23 +222,20 @@ fn own_default(
 #[cycle(defaults)]
 fn items_default(
     alloc: Global,
-    raws: &[RawNode],
-    tables: &Tables,
+    walk: &Walk,
     items: &Vec<Value>,
     node: &RawNode,
-    merges: &mut Merges,
-    all: &[Gathered],
-    known: usize,
+    mark: Option<Mark>,
+    firsts: &mut Firsts,
 ) -> Result<Option<Datum>, Memory>
-    requires tables { AreTables (all_without_defaults raws.now) tables.now }
-    requires known { IsKnown (all_without_defaults raws.now) all.now (Data.array (items_view items.now.items)) known }
-    ensures { IfOk result (λ datum. option_map value_of datum
-        ≡ default_of_items (all_without_defaults raws.now) (λ m. each_default (all_without_defaults raws.now) (items_view items.now.items) m) (without_defaults node.now)) }
+    requires known { IsKnown walk.now (Data.array (items_view items.now.items)) mark }
+    requires firsts { AreFirsts walk.now firsts.old }
+    ensures firsts { OnOk result (AreFirsts walk.now firsts.new) }
+    ensures default { IfOk result (λ datum. option_map value_of datum
+        ≡ default_of_items (nodes_of walk.now) (λ m. each_default (nodes_of walk.now) (items_view items.now.items) m) (without_defaults node.now)) }
 {
     match node {
-        RawNode::Array(id) => match item_defaults(
-            alloc, raws, tables, items, *id, merges, all, known,
-        )? {
+        RawNode::Array(id) => match item_defaults(alloc, walk, items, *id, mark, firsts)? {
             Some(values) => Ok(Some(Datum::Array(values))),
             None => Ok(None),
         },
@@ -270,95 +247,54 @@ fn items_default(
 #[cycle(defaults)]
 fn item_defaults(
     alloc: Global,
-    raws: &[RawNode],
-    tables: &Tables,
+    walk: &Walk,
     items: &Vec<Value>,
     id: NodeId,
-    merges: &mut Merges,
-    all: &[Gathered],
-    known: usize,
+    mark: Option<Mark>,
+    firsts: &mut Firsts,
 ) -> Result<Option<Vec<Datum>>, Memory>
-    requires tables { AreTables (all_without_defaults raws.now) tables.now }
-    requires known { IsKnown (all_without_defaults raws.now) all.now (Data.array (items_view items.now.items)) known }
-    ensures { IfOk result (λ values. option_map (λ vs. values_of vs.items) values
-        ≡ each_default (all_without_defaults raws.now) (items_view items.now.items) (node_at (all_without_defaults raws.now) id.0)) }
+    requires known { IsKnown walk.now (Data.array (items_view items.now.items)) mark }
+    requires firsts { AreFirsts walk.now firsts.old }
+    ensures firsts { OnOk result (AreFirsts walk.now firsts.new) }
+    ensures default { IfOk result (λ values. option_map (λ vs. values_of vs.items) values
+        ≡ each_default (nodes_of walk.now) (items_view items.now.items) (node_at (nodes_of walk.now) id.0)) }
 {
     let mut values: Vec<Datum> = Vec::new(alloc);
-    let mut index = 0usize;
     for item in items {
-        let part = part_of_array(raws, items, item, all, known, index);
-        let Some(value) = item_default(
-            alloc, raws, tables, item, items, &values, id, merges, all, part,
-        )?
-        else {
+        let part = item_mark(walk, items, item, values.len(), mark);
+        let Some(value) = known_default(alloc, walk, item, id, part, firsts)? else {
             return Ok(None);
         };
         values.push(value)?;
-        index = next_index(index)?;
     }
     Ok(Some(values))
-}
-
-/// The default that the item after some gives, which is that of the last of them if it is the same.
-#[cycle(defaults)]
-fn item_default(
-    alloc: Global,
-    raws: &[RawNode],
-    tables: &Tables,
-    item: &Value,
-    items: &[Value],
-    values: &[Datum],
-    id: NodeId,
-    merges: &mut Merges,
-    all: &[Gathered],
-    known: usize,
-) -> Result<Option<Datum>, Memory>
-    requires tables { AreTables (all_without_defaults raws.now) tables.now }
-    requires known { IsKnown (all_without_defaults raws.now) all.now (view item.now) known }
-    requires values { AreItemsRead (all_without_defaults raws.now) (node_at (all_without_defaults raws.now) id.0) (items_view items.now) values.now }
-    ensures { IfOk result (λ datum. option_map value_of datum ≡ default_by (all_without_defaults raws.now) (view item.now) (node_at (all_without_defaults raws.now) id.0)) }
-{
-    match value_before(items, values, item)? {
-        Some(value) => Ok(Some(value)),
-        None => known_default(alloc, raws, tables, item, id, merges, all, known),
-    }
 }
 
 /// The default that an object gives.
 #[cycle(defaults)]
 fn object_default(
     alloc: Global,
-    raws: &[RawNode],
-    tables: &Tables,
+    walk: &Walk,
     members: &Map<String, Value>,
     node: &RawNode,
-    merges: &mut Merges,
-    all: &[Gathered],
-    known: usize,
+    mark: Option<Mark>,
+    firsts: &mut Firsts,
 ) -> Result<Option<Datum>, Memory>
-    requires tables { AreTables (all_without_defaults raws.now) tables.now }
-    requires known { IsKnown (all_without_defaults raws.now) all.now (Data.object (members_view members.now.entries)) known }
-    ensures { IfOk result (λ datum. option_map value_of datum
-        ≡ default_of_object (all_without_defaults raws.now) (λ m. each_entry (all_without_defaults raws.now) (members_view members.now.entries) m)
-        (λ key. default_under (all_without_defaults raws.now) key (members_view members.now.entries)) (member_keys (members_view members.now.entries)) (without_defaults node.now)) }
+    requires known { IsKnown walk.now (Data.object (members_view members.now.entries)) mark }
+    requires firsts { AreFirsts walk.now firsts.old }
+    ensures firsts { OnOk result (AreFirsts walk.now firsts.new) }
+    ensures default { IfOk result (λ datum. option_map value_of datum
+        ≡ default_of_object (nodes_of walk.now) (λ m. each_entry (nodes_of walk.now) (members_view members.now.entries) m)
+        (λ key. default_under (nodes_of walk.now) key (members_view members.now.entries)) (member_keys (members_view members.now.entries)) (without_defaults node.now)) }
 {
     match node {
-        RawNode::Map(id) => match entry_defaults(
-            alloc, raws, tables, members, *id, merges, all, known,
-        )? {
+        RawNode::Map(id) => match entry_defaults(alloc, walk, members, *id, mark, firsts)? {
             Some(entries) => Ok(Some(Datum::Map(entries))),
             None => Ok(None),
         },
-        RawNode::Record(record) => record_default(
-            alloc,
-            raws,
-            tables,
-            members,
-            &record.fields,
-            merges,
-            all,
-            known,
-        ),
+        RawNode::Record(record) => {
+            record_default(alloc, walk, members, &record.fields, mark, firsts)
+        }
         _ => Ok(None),
     }
 }
@@ -367,24 +303,23 @@ fn object_default(
 #[cycle(defaults)]
 fn entry_defaults(
     alloc: Global,
-    raws: &[RawNode],
-    tables: &Tables,
+    walk: &Walk,
     members: &Map<String, Value>,
     id: NodeId,
-    merges: &mut Merges,
-    all: &[Gathered],
-    known: usize,
+    mark: Option<Mark>,
+    firsts: &mut Firsts,
 ) -> Result<Option<Vec<(String, Datum)>>, Memory>
-    requires tables { AreTables (all_without_defaults raws.now) tables.now }
-    requires known { IsKnown (all_without_defaults raws.now) all.now (Data.object (members_view members.now.entries)) known }
-    ensures { IfOk result (λ entries. option_map (λ es. entries_of es.items) entries
-        ≡ each_entry (all_without_defaults raws.now) (members_view members.now.entries) (node_at (all_without_defaults raws.now) id.0)) }
+    requires known { IsKnown walk.now (Data.object (members_view members.now.entries)) mark }
+    requires firsts { AreFirsts walk.now firsts.old }
+    ensures firsts { OnOk result (AreFirsts walk.now firsts.new) }
+    ensures default { IfOk result (λ entries. option_map (λ es. entries_of es.items) entries
+        ≡ each_entry (nodes_of walk.now) (members_view members.now.entries) (node_at (nodes_of walk.now) id.0)) }
 {
     let mut entries: Vec<(String, Datum)> = Vec::new(alloc);
     for (key, tree) in members.iter() {
         let name = key.as_str();
-        let part = part_of_object(raws, members, tree, all, known, name);
-        let Some(value) = known_default(alloc, raws, tables, tree, id, merges, all, part)? else {
+        let part = member_mark(walk, members, tree, name, mark);
+        let Some(value) = known_default(alloc, walk, tree, id, part, firsts)? else {
             return Ok(None);
         };
         entries.push((copy_of_text(alloc, name)?, value))?;
@@ -396,21 +331,19 @@ fn entry_defaults(
 #[cycle(defaults)]
 fn record_default(
     alloc: Global,
-    raws: &[RawNode],
-    tables: &Tables,
+    walk: &Walk,
     members: &Map<String, Value>,
     fields: &[RawField],
-    merges: &mut Merges,
-    all: &[Gathered],
-    known: usize,
+    mark: Option<Mark>,
+    firsts: &mut Firsts,
 ) -> Result<Option<Datum>, Memory>
-    requires tables { AreTables (all_without_defaults raws.now) tables.now }
-    requires known { IsKnown (all_without_defaults raws.now) all.now (Data.object (members_view members.now.entries)) known }
-    ensures { IfOk result (λ datum. option_map value_of datum
-        ≡ default_of_fields (all_without_defaults raws.now) (members_view members.now.entries) (fields_seen fields.now)) }
+    requires known { IsKnown walk.now (Data.object (members_view members.now.entries)) mark }
+    requires firsts { AreFirsts walk.now firsts.old }
+    ensures firsts { OnOk result (AreFirsts walk.now firsts.new) }
+    ensures default { IfOk result (λ datum. option_map value_of datum
+        ≡ default_of_fields (nodes_of walk.now) (members_view members.now.entries) (fields_seen fields.now)) }
 {
-    let Some(values) = field_defaults(alloc, raws, tables, members, fields, merges, all, known)?
-    else {
+    let Some(values) = field_defaults(alloc, walk, members, fields, mark, firsts)? else {
         return Ok(None);
     };
     if names_fields(alloc, members, fields)? {
@@ -424,18 +357,17 @@ fn record_default(
 #[cycle(defaults)]
 fn field_defaults(
     alloc: Global,
-    raws: &[RawNode],
-    tables: &Tables,
+    walk: &Walk,
     members: &Map<String, Value>,
     fields: &[RawField],
-    merges: &mut Merges,
-    all: &[Gathered],
-    known: usize,
+    mark: Option<Mark>,
+    firsts: &mut Firsts,
 ) -> Result<Option<Vec<Datum>>, Memory>
-    requires tables { AreTables (all_without_defaults raws.now) tables.now }
-    requires known { IsKnown (all_without_defaults raws.now) all.now (Data.object (members_view members.now.entries)) known }
-    ensures { IfOk result (λ values. option_map (λ vs. values_of vs.items) values
-        ≡ each_field (all_without_defaults raws.now) (λ key. default_under (all_without_defaults raws.now) key (members_view members.now.entries)) (fields_seen fields.now)) }
+    requires known { IsKnown walk.now (Data.object (members_view members.now.entries)) mark }
+    requires firsts { AreFirsts walk.now firsts.old }
+    ensures firsts { OnOk result (AreFirsts walk.now firsts.new) }
+    ensures default { IfOk result (λ values. option_map (λ vs. values_of vs.items) values
+        ≡ each_field (nodes_of walk.now) (λ key. default_under (nodes_of walk.now) key (members_view members.now.entries)) (fields_seen fields.now)) }
 {
     let mut values: Vec<Datum> = Vec::new(alloc);
     for field in fields {
@@ -443,9 +375,8 @@ fn field_defaults(
         let Some(tree) = members.get(name) else {
             return Ok(None);
         };
-        let part = part_of_object(raws, members, tree, all, known, name);
-        let Some(value) = known_default(alloc, raws, tables, tree, field.node, merges, all, part)?
-        else {
+        let part = member_mark(walk, members, tree, name, mark);
+        let Some(value) = known_default(alloc, walk, tree, field.node, part, firsts)? else {
             return Ok(None);
         };
         values.push(value)?;

@@ -2,24 +2,19 @@
 
 ghost use Rattle.std.specs.Prelude.{◌≡◌, is_some, option_map};
 ghost use Rattle.std.specs.List.{list_all};
-ghost use Rattle.avro_schema.specs.Node.{Node as SeenNode, node_at, node_name, branches_of as branches_in};
+ghost use Rattle.avro_schema.specs.Node.{node_at, node_name, branches_of as branches_in};
 ghost use Rattle.avro_schema.specs.Seen.{ids_of};
 ghost use Rattle.avro_schema.specs.WellFormed.{is_edge as is_good_edge};
-ghost use Rattle.avro_schema_json.specs.inside.OwnDefaults.{without_defaults, all_without_defaults};
+ghost use Rattle.avro_schema_json.specs.inside.OwnDefaults.{without_defaults, all_without_defaults, node_or_null};
 
 use crate::raw::RawNode;
 use avro_schema::NodeId;
 
-/// The node of an id, or the given node, that of null, where there is none.
-pub(crate) fn raw_at<'a>(
-    raws: &'a [RawNode<'a>],
-    null: &'a RawNode<'a>,
-    id: NodeId,
-) -> &'a RawNode<'a>
-    requires { without_defaults null.now ≡ SeenNode.null }
-    ensures { without_defaults result.now ≡ node_at (all_without_defaults raws.now) id.0 }
+/// The node of an id, if there is one. Elsewhere it counts as null.
+pub(crate) fn raw_at<'a, 'b>(raws: &'a [RawNode<'b>], id: NodeId) -> Option<&'a RawNode<'b>>
+    ensures { node_or_null result ≡ node_at (all_without_defaults raws.now) id.0 }
 {
-    raws.get(id.0 as usize).unwrap_or(null)
+    raws.get(id.0 as usize)
 }
 
 /// The branches of a union.
@@ -29,6 +24,16 @@ pub(crate) fn branches<'a>(node: &'a RawNode<'_>) -> Option<&'a [NodeId]>
     match node {
         RawNode::Union(ids) => Some(ids),
         _ => None,
+    }
+}
+
+/// The branches of the union of an id.
+pub(crate) fn branches_at<'a>(raws: &'a [RawNode<'_>], id: NodeId) -> Option<&'a [NodeId]>
+    ensures { option_map (λ ids. ids_of ids.now) result ≡ branches_in (node_at (all_without_defaults raws.now) id.0) }
+{
+    match raw_at(raws, id) {
+        Some(node) => branches(node),
+        None => None,
     }
 }
 
@@ -42,6 +47,16 @@ fn has_name(raw: &RawNode) -> bool
     )
 }
 
+/// Whether the node of an id is one of these.
+fn is_named(raws: &[RawNode], id: NodeId) -> bool
+    ensures { result ≡ is_some (node_name (node_at (all_without_defaults raws.now) id.0)) }
+{
+    match raw_at(raws, id) {
+        Some(raw) => has_name(raw),
+        None => false,
+    }
+}
+
 /// Whether an edge stays among the nodes, and goes to a later one or to a record, an enum or a fixed.
 fn is_edge(raws: &[RawNode], from: usize, to: NodeId) -> bool
     ensures { result ≡ is_good_edge (all_without_defaults raws.now) from to.0 }
@@ -50,8 +65,7 @@ fn is_edge(raws: &[RawNode], from: usize, to: NodeId) -> bool
     if index >= raws.len() {
         return false;
     }
-    let null = RawNode::Null;
-    from < index || has_name(raw_at(&*raws, &null, to))
+    from < index || is_named(raws, to)
 }
 
 /// Whether the edges of a union are good.

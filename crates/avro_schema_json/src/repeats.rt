@@ -2,12 +2,13 @@
 //! default is read, since each value of a default could be tried for many branches of one kind, or read for each of the
 //! fields.
 
-ghost use Rattle.std.specs.Prelude.{◌≡◌, ◌⊎◌, ℕ, true, IfOk, OnOk};
+ghost use Rattle.std.specs.Prelude.{◌≡◌, ◌⊎◌, ℕ, false, true, IfOk, OnOk};
 ghost use Rattle.std.specs.Ordering.{nat_cmp};
 ghost use Rattle.std.specs.BTreeSet.{contains};
 ghost use Rattle.avro_schema.specs.Seen.{ids_of};
-ghost use Rattle.avro_schema_json.specs.inside.OwnDefaults.{all_without_defaults, fields_seen};
-ghost use Rattle.avro_schema_json.specs.inside.Repeats.{code_by, Repeats, SomeRepeats, RepeatsName, SomeRepeatsName};
+ghost use Rattle.avro_schema.specs.WellFormed.{branch_kind};
+ghost use Rattle.avro_schema_json.specs.inside.OwnDefaults.{all_without_defaults, fields_seen, without_defaults};
+ghost use Rattle.avro_schema_json.specs.inside.Repeats.{AreFieldsDistinct, AreNamesDistinct, HasDistinctNames, RecordRepeatsName, Repeats, RepeatsName, SomeRepeats, SomeRepeatsName, code_by, kind_code};
 
 use crate::raw::{RawField, RawNode};
 use crate::raw_nodes::{are_edges, branches, raw_at};
@@ -19,8 +20,17 @@ use std::collections::{BTreeMap, BTreeSet};
 fn code_of(raws: &[RawNode], branch: NodeId) -> u64
     ensures { result ≡ code_by (all_without_defaults raws.now) branch.0 }
 {
-    let null = RawNode::Null;
-    match raw_at(&*raws, &null, branch) {
+    match raw_at(raws, branch) {
+        Some(raw) => code_of_node(raw, branch),
+        None => 0,
+    }
+}
+
+/// The code of a branch by its node.
+fn code_of_node(raw: &RawNode, branch: NodeId) -> u64
+    ensures { result ≡ kind_code branch.0 (branch_kind (without_defaults raw.now)) }
+{
+    match raw {
         RawNode::Null => 0,
         RawNode::Boolean => 2,
         RawNode::Int => 4,
@@ -78,7 +88,8 @@ pub(crate) fn has_repeated_branch(alloc: Global, raws: &[RawNode]) -> Result<boo
 
 /// Whether two fields have one name.
 fn repeats_name(alloc: Global, fields: &[RawField]) -> Result<bool, Memory>
-    ensures { IfOk result (λ answer. answer ≡ true → RepeatsName (fields_seen fields.now)) }
+    ensures found { IfOk result (λ answer. answer ≡ true → RepeatsName (fields_seen fields.now)) }
+    ensures distinct { IfOk result (λ answer. answer ≡ false → AreFieldsDistinct (fields_seen fields.now)) }
 {
     let mut names: BTreeMap<&str, usize> = BTreeMap::new(alloc);
     for i in 0..fields.len() {
@@ -91,18 +102,25 @@ fn repeats_name(alloc: Global, fields: &[RawField]) -> Result<bool, Memory>
     Ok(false)
 }
 
+/// Whether a node is a record with two fields of one name.
+fn repeats_field(alloc: Global, raw: &RawNode) -> Result<bool, Memory>
+    ensures found { IfOk result (λ answer. answer ≡ true → RecordRepeatsName (without_defaults raw.now)) }
+    ensures distinct { IfOk result (λ answer. answer ≡ false → HasDistinctNames (without_defaults raw.now)) }
+{
+    match raw {
+        RawNode::Record(record) => repeats_name(alloc, &record.fields),
+        _ => Ok(false),
+    }
+}
+
 /// Whether one of the records has two fields of one name.
 pub(crate) fn has_repeated_field(alloc: Global, raws: &[RawNode]) -> Result<bool, Memory>
-    ensures { IfOk result (λ answer. answer ≡ true → SomeRepeatsName (all_without_defaults raws.now)) }
+    ensures found { IfOk result (λ answer. answer ≡ true → SomeRepeatsName (all_without_defaults raws.now)) }
+    ensures distinct { IfOk result (λ answer. answer ≡ false → AreNamesDistinct (all_without_defaults raws.now)) }
 {
     for i in 0..raws.len() {
-        match &raws[i] {
-            RawNode::Record(record) => {
-                if repeats_name(alloc, &record.fields)? {
-                    return Ok(true);
-                }
-            }
-            _ => {}
+        if repeats_field(alloc, &raws[i])? {
+            return Ok(true);
         }
     }
     Ok(false)

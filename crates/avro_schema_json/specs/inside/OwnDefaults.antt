@@ -1,5 +1,6 @@
 -- The default that JSON is for a node itself, where no branch of a union is taken.
-use Rattle.std.specs.Prelude.{List, Option, option_and_then, map}
+use Rattle.std.specs.Prelude.{List, Option, Some, None, option_and_then, map}
+use denote.Ref.{Bor}
 use Rattle.avro_schema.specs.Value.{Value}
 use Rattle.avro_schema.specs.Node.{Node, FieldNode}
 use Rattle.serde_json.specs.Data.{Data, Members}
@@ -23,6 +24,11 @@ without_defaults raw = node_without_defaults (raw_node_of raw)
 
 abbrev pub all_without_defaults : List RawNode → List Node
 all_without_defaults raws = nodes_without_defaults (raw_nodes_of raws)
+
+-- the node that is found, or null
+abbrev pub node_or_null : Option (Bor RawNode) → Node
+node_or_null None = Node.null
+node_or_null (Some raw) = without_defaults raw.now
 
 -- the fields of a record without their defaults, of the program
 abbrev pub fields_seen : List RawField → List FieldNode

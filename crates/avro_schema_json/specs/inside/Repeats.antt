@@ -1,6 +1,6 @@
 -- Unions in which a branch occurs twice, and records that have two fields of one name.
-use Rattle.std.specs.Prelude.{◌≡◌, ℕ, ◌+◌, ◌*◌, ◌<◌, true, List, length, Option, Some, None, slice_get}
-use Rattle.std.specs.List.{list_all}
+use Rattle.std.specs.Prelude.{◌≡◌, ℕ, ◌+◌, ◌*◌, ◌<◌, true, List, length, map, Option, Some, None, slice_get, bytes_eq}
+use Rattle.std.specs.List.{list_all, IsDistinct}
 use Rattle.avro_schema.specs.Node.{Node, FieldNode, node_at, branches_of}
 use Rattle.avro_schema.specs.WellFormed.{BranchKind, unnamed, named, branch_kind, is_edge}
 
@@ -34,3 +34,14 @@ RecordRepeatsName _ = ⊥
 
 abbrev pub SomeRepeatsName : List Node → Type 0
 SomeRepeatsName nodes = (m : ℕ) × (m < length nodes) × RecordRepeatsName (node_at nodes m)
+
+-- no two fields have one name, and so in each record
+abbrev pub AreFieldsDistinct : List FieldNode → Type 0
+AreFieldsDistinct fields = IsDistinct bytes_eq (map (λ (f : FieldNode). f.name) fields)
+
+abbrev pub HasDistinctNames : Node → Type 0
+HasDistinctNames (Node.record_of name aliases fields) = AreFieldsDistinct fields
+HasDistinctNames _ = Unit
+
+abbrev pub AreNamesDistinct : List Node → Type 0
+AreNamesDistinct nodes = (m : ℕ) → HasDistinctNames (node_at nodes m)

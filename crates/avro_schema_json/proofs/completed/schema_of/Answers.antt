@@ -73,7 +73,7 @@ returns-then-branch-clause-refused c =
 
 pub returns-then-branch-2-clause-refused : goal.returns-then-branch-2-clause-refused
 returns-then-branch-2-clause-refused c =
-    let repeats = c.in_ok-has_repeated_field.ensures c.if-branch-2.true in
+    let repeats = c.in_ok-has_repeated_field.ensures.found c.if-branch-2.true in
     let raws = raw_nodes_of c.args.raws.items in
     inr (of_fault raws duplicate_field (repeated_field-there (nodes_without_defaults raws) raws
     (subst (λ (ns : List KeptNode). SomeRepeatsName (all_without_defaults ns)) c.deref-2.ensures.value repeats)))

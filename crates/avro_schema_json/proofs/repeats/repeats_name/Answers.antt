@@ -1,22 +1,22 @@
-use Rattle.std.proofs.Common.{refl, sym, ap, ◌∙◌}
+use Rattle.std.proofs.Common.{List, ℕ, refl, sym, ap, ◌∙◌}
 use Rattle.std.specs.Prelude.{slice_get, string_bytes}
 use Rattle.std.proofs.lemmas.Map.Text.{btree_map_updates_str}
 use Rattle.avro_schema_json.specs.inside.OwnDefaults.{fields_seen}
 use Rattle.avro_schema_json.specs.declared.raw.RawField.{RawField}
 use Rattle.avro_schema_json.proofs.DefaultSteps.{field_at-found}
 use Rattle.avro_schema_json.proofs.RawSeen.{field_item}
-use Rattle.avro_schema_json.proofs.RepeatsSeen.{name-found, names-next}
+use Rattle.avro_schema_json.proofs.RepeatsSeen.{name-found, names-next, apart-next, all-apart, within_fields}
 use Rattle.avro_schema_json.proofs.repeats.repeats_name.Goals as goal
 
-pub returns-then-contains_key : goal.returns-then-contains_key
-returns-then-contains_key c = λ holds.
+pub returns-then-contains_key-clause-found : goal.returns-then-contains_key-clause-found
+returns-then-contains_key-clause-found c = λ holds.
     let fs = c.args.fields.now in
     let fields = fields_seen fs in
     let i = c.loop-i.i in
     let f = c.index-fields-i.result in
     let name = c.as_str-name.result.now in
     let found = field_at-found fields i name f.node.0 (slice_get fields i) refl (field_item fs i f name c.loop-i-test.true c.index-fields-i.is (c.as_str-name.ensures.value ∙ ap (λ (g : RawField). string_bytes g.name) (sym c.index-fields-i.is))) in
-    name-found fields c.loop-i.names i found.0 name found.1.at (sym found.1.named) (sym c.contains_key.ensures ∙ c.if-contains_key.true) c.loop-i.invariant
+    name-found fields c.loop-i.names i found.0 name found.1.at (sym found.1.named) (sym c.contains_key.ensures ∙ c.if-contains_key.true) c.loop-i.invariant.0
 
 pub loop-i-preserved : goal.loop-i-preserved
 loop-i-preserved c =
@@ -26,5 +26,12 @@ loop-i-preserved c =
     let f = c.index-fields-i.result in
     let name = c.as_str-name.result.now in
     let found = field_at-found fields l.i name f.node.0 (slice_get fields l.i) refl (field_item fs l.i f name c.loop-i-test.true c.index-fields-i.is (c.as_str-name.ensures.value ∙ ap (λ (g : RawField). string_bytes g.name) (sym c.index-fields-i.is))) in
-    names-next fields l.names c.insert.new.self l.i found.0 name found.1.at (sym found.1.named)
-    (λ word. btree_map_updates_str name l.names c.insert.new.self _ c.in_ok-insert.ensures.updates word) l.invariant
+    let put = λ (word : List ℕ). btree_map_updates_str name l.names c.insert.new.self _ c.in_ok-insert.ensures.updates word in (
+      names-next fields l.names c.insert.new.self l.i found.0 name found.1.at (sym found.1.named) put l.invariant.0,
+      apart-next fields l.names c.insert.new.self l.i found.0 name found.1.at (sym found.1.named) (sym c.contains_key.ensures ∙ c.if-contains_key.false) put l.invariant.1,
+    )
+
+pub returns-clause-distinct : goal.returns-clause-distinct
+returns-clause-distinct c = λ answer.
+    all-apart (fields_seen c.args.fields.now)
+    (λ j k f g above there here. c.loop-i.invariant.1.1 j k f g above (within_fields c.args.fields.now k g c.loop-i.i c.loop-i-test.false here) there here)

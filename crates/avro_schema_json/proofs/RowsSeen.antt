@@ -1,0 +1,98 @@
+-- Rows of bits, word by word.
+use Rattle.std.proofs.Common.{◌≡◌, ◌≢◌, ℕ, ◌+◌, ◌/◌, ◌%◌, ◌^◌, ◌*◌, ◌<◌, Bool, true, false, ◌==◌, List, length, get_or, set, refl, ◌∙◌, arith}
+use Rattle.std.specs.Prelude.{nat_lt}
+use Rattle.std.specs.Int.{bit_at}
+use Rattle.std.specs.Int.RustNames.{bit_or}
+use lib.Bits.{bit_and}
+use Rattle.std.proofs.lemmas.List.{get_or-set_same, get_or-set_other}
+use Rattle.std.proofs.lemmas.Nat.Bits.{bit_at_or, bit_at_and, bit_at-lt, bit_at_set_same, bit_at-zero}
+use mir.Syntax.{w64}
+use Rattle.std.proofs.lemmas.Bool.Decides.{Decides-eqb}
+use Rattle.avro_schema_json.specs.inside.Rows.{has_place, IsWithin}
+
+one : (a : ℕ) → (a == 1) ≡ true → a ≡ 1
+one a h = (Decides-eqb a 1).0 h
+
+is_one : (a : ℕ) → a ≡ 1 → (a == 1) ≡ true
+is_one a h = (Decides-eqb a 1).1 h
+
+-- a bit that is in a word is in one with more bits
+or-left : (a b i : ℕ) → (bit_at a i == 1) ≡ true → (bit_at (bit_or a b) i == 1) ≡ true
+or-left a b i h =
+    let there = one (bit_at a i) h in
+    let below = bit_at-lt b i in
+    is_one (bit_at (bit_or a b) i) (bit_at_or a b i ∙ omega (arith, there, below))
+
+or-right : (a b i : ℕ) → (bit_at b i == 1) ≡ true → (bit_at (bit_or a b) i == 1) ≡ true
+or-right a b i h =
+    let there = one (bit_at b i) h in
+    let below = bit_at-lt a i in
+    is_one (bit_at (bit_or a b) i) (bit_at_or a b i ∙ omega (arith, there, below))
+
+and-both : (a b i : ℕ) → (bit_at a i == 1) ≡ true → (bit_at b i == 1) ≡ true → (bit_at (bit_and a b) i == 1) ≡ true
+and-both a b i h k =
+    let here = one (bit_at a i) h in
+    let there = one (bit_at b i) k in
+    is_one (bit_at (bit_and a b) i) (bit_at_and a b i ∙ omega (arith, here, there))
+
+-- rows by their words
+pub within-words : (row other : List ℕ) → ((k i : ℕ) → k < 64 → (bit_at (get_or row k 0) i == 1) ≡ true → (bit_at (get_or other k 0) i == 1) ≡ true) → IsWithin row other
+within-words row other words p = by (nat_lt (p / 64) 64) refl
+  where
+    by : (b : Bool) → nat_lt (p / 64) 64 ≡ b → has_place row p ≡ true → has_place other p ≡ true
+    by true h = rw h (λ there. words (p / 64) (p % 64) (grind (arith, h)) there)
+    by false h = rw h (λ there. refl)
+
+pub or-within : (row old other : List ℕ) → ((k : ℕ) → k < 64 → get_or row k 0 ≡ bit_or (get_or old k 0) (get_or other k 0)) → IsWithin old row × IsWithin other row
+or-within row old other words = (
+  within-words old row (λ k i below there. rw (words k below) (or-left (get_or old k 0) (get_or other k 0) i there)),
+  within-words other row (λ k i below there. rw (words k below) (or-right (get_or old k 0) (get_or other k 0) i there)),
+)
+
+pub and-within : (row old other : List ℕ) → ((k : ℕ) → k < 64 → get_or row k 0 ≡ bit_and (get_or old k 0) (get_or other k 0))
+    → (p : ℕ) → has_place old p ≡ true → has_place other p ≡ true → has_place row p ≡ true
+and-within row old other words p = by (nat_lt (p / 64) 64) refl
+  where
+    by : (b : Bool) → nat_lt (p / 64) 64 ≡ b → has_place old p ≡ true → has_place other p ≡ true → has_place row p ≡ true
+    by true h = rw h (λ here there. rw (words (p / 64) (grind (arith, h))) (and-both (get_or old (p / 64) 0) (get_or other (p / 64) 0) (p % 64) here there))
+    by false h = rw h (λ here there. refl)
+
+-- bits of one word more
+pub put-within : (row : List ℕ) (w bits : ℕ) → w < length row → IsWithin row (set row w (bit_or (get_or row w 0) bits))
+put-within row w bits below = within-words row _ (λ k i inside there. by k i there (k == w) refl)
+  where
+    by : (k i : ℕ) → (bit_at (get_or row k 0) i == 1) ≡ true → (b : Bool) → (k == w) ≡ b
+        → (bit_at (get_or (set row w (bit_or (get_or row w 0) bits)) k 0) i == 1) ≡ true
+    by k i there true h =
+        let same : k ≡ w = (Decides-eqb k w).0 h in
+        rw (same, get_or-set_same row w (bit_or (get_or row w 0) bits) 0 below) (or-left (get_or row w 0) bits i (rw (← same) there))
+    by k i there false h =
+        let other : k ≢ w = λ e. grind (arith, h, e) in
+        rw (get_or-set_other row w k (bit_or (get_or row w 0) bits) 0 other) there
+
+pub put-added : (row : List ℕ) (w bits p : ℕ) → w < length row → p / 64 ≡ w → bit_at bits (p % 64) ≡ 1 → has_place (set row w (bit_or (get_or row w 0) bits)) p ≡ true
+put-added row w bits p below here there = by (nat_lt (p / 64) 64) refl
+  where
+    by : (b : Bool) → nat_lt (p / 64) 64 ≡ b → has_place (set row w (bit_or (get_or row w 0) bits)) p ≡ true
+    by false h = rw h refl
+    by true h =
+        rw (h, here, get_or-set_same row w (bit_or (get_or row w 0) bits) 0 below)
+        (or-right (get_or row w 0) bits (p % 64) (is_one (bit_at bits (p % 64)) there))
+
+-- the bit of a place itself
+pub bit-itself : (k : ℕ) → k < 64 → bit_at (1 * 2 ^ k % 18446744073709551616) k ≡ 1
+bit-itself k below =
+    let bit = 1 * 2 ^ k % 18446744073709551616 in
+    let whole : bit_at (bit_or 0 bit) k ≡ 1 = bit_at_set_same w64 0 k (omega (arith, below)) in
+    let sum = bit_at_or 0 bit k in
+    let zero = bit_at-zero k in
+    let few = bit_at-lt bit k in
+    omega (arith, whole, sum, zero, few)
+
+-- a place that a row has is a bit of its word
+pub bit-there : (row : List ℕ) (p w : ℕ) → p / 64 ≡ w → w < 64 → has_place row p ≡ true → bit_at (get_or row w 0) (p % 64) ≡ 1
+bit-there row p w here below there = by (nat_lt (p / 64) 64) refl there
+  where
+    by : (b : Bool) → nat_lt (p / 64) 64 ≡ b → has_place row p ≡ true → bit_at (get_or row w 0) (p % 64) ≡ 1
+    by true h t = let g : (bit_at (get_or row (p / 64) 0) (p % 64) == 1) ≡ true = rw h at t in rw (← here) (one (bit_at (get_or row (p / 64) 0) (p % 64)) g)
+    by false h t = absurd (grind (arith, h, here, below))

@@ -1,0 +1,198 @@
+-- What the marks say, as the walk goes down.
+use Rattle.std.proofs.Common.{◌≡◌, ◌≢◌, ℕ, zero, suc, ◌+◌, ◌<◌, Bool, true, false, ◌==◌, cond, List, [], ◌∷◌, length, drop, Option, Some, None, get_or, refl, sym, ap, subst, ◌∙◌, arith, Ordering}
+use Rattle.std.specs.Prelude.{is_some, slice_get, String, string_bytes}
+use Rattle.std.specs.declared.alloc.Global.{Global}
+use Rattle.std.specs.List.{AllByRecursion}
+use Rattle.std.specs.List.Sorted.{IsStrictlySortedBy}
+use Rattle.std.specs.Map.{keys_of}
+use Rattle.std.specs.String.{string_cmp}
+use Rattle.std.specs.Cmp.Lexicographic.{slice_cmp}
+use Rattle.std.specs.Ordering.{nat_cmp, is_eq}
+use Rattle.std.specs.BTreeMap.{BTreeMap}
+use Rattle.std.proofs.lemmas.Bool.{false≢true}
+use Rattle.std.proofs.lemmas.Bool.Decides.{Decides-eqb}
+use Rattle.avro_schema.specs.Node.{Node, node_at, branches_of}
+use Rattle.avro_schema.specs.Seen.{ids_of}
+use Rattle.avro_schema.specs.Value.{Value}
+use Rattle.avro_schema.specs.declared.schema.NodeId.{NodeId}
+use Rattle.serde_json.specs.Data.{Data, Items, Members}
+use Rattle.serde_json.specs.Find.{get_item, get_member}
+use Rattle.serde_json.specs.View.{view, members_view}
+use Rattle.serde_json.specs.declared.value.Value.{Value as Tree}
+use Rattle.serde_json.proofs.Views.{Entry, member_here, member_later}
+use Rattle.avro_schema_json.specs.DeclaredDefaults.{first_fit}
+use Rattle.avro_schema_json.specs.inside.Covers.{place_of, Covers}
+use Rattle.avro_schema_json.specs.inside.Kinds.{pair_cmp}
+use Rattle.avro_schema_json.specs.inside.Marks.{IsSetOf, IsMarked, plain, whole, mark_of}
+use Rattle.avro_schema_json.specs.inside.OwnDefaults.{own_default}
+use Rattle.avro_schema_json.specs.inside.Rows.{has_place}
+use Rattle.avro_schema_json.specs.inside.Sets.{row_at}
+use Rattle.avro_schema_json.specs.inside.Walk.{nodes_of, IsKnown, FitsNoneBefore, HasNoneBefore, first_of, AreFirsts, parts_at, parts_found}
+use Rattle.avro_schema_json.specs.declared.defaults.parts.Mark.{Mark}
+use Rattle.avro_schema_json.specs.declared.defaults.parts.Parts.{Parts}
+use Rattle.avro_schema_json.specs.declared.defaults.walk.Walk.{Walk}
+use Rattle.avro_schema_json.proofs.DefaultsSeen.{branch_next}
+use Rattle.avro_schema_json.proofs.KindsSeen.{same_pair}
+use Rattle.avro_schema_json.proofs.MarksSeen.{none-some, marked-set}
+
+-- ---- parts
+
+one : {A : Type 0} (x y : A) → Some x ≡ Some y → x ≡ y
+one x y e = cc
+
+pub known-item : (walk : Walk) (ds : Items) (j : ℕ) (e : Data) (mark : Option Mark) (g : Parts) → IsKnown walk (Data.array ds) mark → get_item j ds ≡ Some e
+    → Some g ≡ parts_found walk.marks.now mark → IsKnown walk e (slice_get g.items.items j)
+known-item walk ds j e None g known at found = absurd (none-some g (sym found))
+known-item walk ds j e (Some m) g (plain set none) at found = absurd (none-some g (ap (parts_at walk.marks.now) (sym none) ∙ sym found))
+known-item walk ds j e (Some m) g (whole i h set is there items members) at found = by (slice_get g.items.items j) refl
+  where
+    same : h ≡ g
+    same = one h g (sym there ∙ ap (parts_at walk.marks.now) (sym is) ∙ sym found)
+
+    by : (o : Option Mark) → slice_get g.items.items j ≡ o → IsKnown walk e o
+    by None here = tt
+    by (Some p) here = items j e p at (subst (λ (k : Parts). slice_get k.items.items j ≡ Some p) (sym same) here)
+
+pub known-member : (walk : Walk) (ms : Members) (key : List ℕ) (e : Data) (mark : Option Mark) (g : Parts) → IsKnown walk (Data.object ms) mark
+    → get_member key ms ≡ Some e → Some g ≡ parts_found walk.marks.now mark → IsKnown walk e (mark_of g.members key)
+known-member walk ms key e None g known at found = absurd (none-some g (sym found))
+known-member walk ms key e (Some m) g (plain set none) at found = absurd (none-some g (ap (parts_at walk.marks.now) (sym none) ∙ sym found))
+known-member walk ms key e (Some m) g (whole i h set is there items members) at found = by (mark_of g.members key) refl
+  where
+    same : h ≡ g
+    same = one h g (sym there ∙ ap (parts_at walk.marks.now) (sym is) ∙ sym found)
+
+    by : (o : Option Mark) → mark_of g.members key ≡ o → IsKnown walk e o
+    by None here = tt
+    by (Some p) here = members key e p at (subst (λ (k : Parts). mark_of k.members key ≡ Some p) (sym same) here)
+
+-- ---- branches
+
+-- the JSON is no default of a node that its set has not
+unfit : (nodes : List Node) (last : ℕ) (d : Data) (row : List ℕ) (id : ℕ) → Covers nodes last d row → has_place row (place_of last id) ≡ false
+    → own_default nodes d (node_at nodes id) ≡ None
+unfit nodes last d row id covers not = by (own_default nodes d (node_at nodes id)) refl
+  where
+    by : (o : Option Value) → own_default nodes d (node_at nodes id) ≡ o → own_default nodes d (node_at nodes id) ≡ None
+    by None e = e
+    by (Some v) e = absurd (false≢true (sym not ∙ covers id (ap is_some e)))
+
+known-set : (walk : Walk) (d : Data) (mark : Option Mark) (m : Mark) → mark ≡ Some m → IsKnown walk d mark
+    → IsSetOf (nodes_of walk) walk.last walk.marks.now.memo.sets d m.set
+known-set walk d None m is known = absurd (none-some m is)
+known-set walk d (Some n) m is known =
+    let same : n ≡ m = one n m is in
+    subst (λ (k : Mark). IsSetOf (nodes_of walk) walk.last walk.marks.now.memo.sets d k.set) same (marked-set (nodes_of walk) walk.last walk.marks.now d n known)
+
+pub not-fit : (walk : Walk) (d : Data) (mark : Option Mark) (m : Mark) (row : List ℕ) (id : ℕ) → mark ≡ Some m
+    → ((words : List ℕ) → row_at walk.marks.now.memo.sets m.set ≡ Some words → row ≡ words) → has_place row (place_of walk.last id) ≡ false
+    → IsKnown walk d mark → own_default (nodes_of walk) d (node_at (nodes_of walk) id) ≡ None
+not-fit walk d mark m row id is read not known =
+    let set = known-set walk d mark m is known in
+    unfit (nodes_of walk) walk.last d set.0 id set.2 (subst (λ (r : List ℕ). has_place r (place_of walk.last id) ≡ false) (read set.0 set.1) not)
+
+pub none-before : (walk : Walk) (d : Data) (mark : Option Mark) (m : Mark) (ids : List ℕ) (first : ℕ) → mark ≡ Some m
+    → ((row : List ℕ) → row_at walk.marks.now.memo.sets m.set ≡ Some row → HasNoneBefore walk.last row ids first)
+    → IsKnown walk d mark → FitsNoneBefore (nodes_of walk) d ids first
+none-before walk d mark m ids first is none known = λ j id below at.
+    let set = known-set walk d mark m is known in unfit (nodes_of walk) walk.last d set.0 id set.2 (none set.0 set.1 j id below at)
+
+id-at : (ids : List NodeId) (i : ℕ) (x : NodeId) (id : ℕ) → slice_get (ids_of ids) i ≡ Some id → (get_or ids i x).0 ≡ id
+id-at [] i x id at = absurd (none-some id at)
+id-at (y ∷ ids) zero x id at = one y.0 id at
+id-at (y ∷ ids) (suc i) x id at = id-at ids i x id at
+
+pub none-next : (last : ℕ) (row : List ℕ) (ids : List NodeId) (i : ℕ) (x : NodeId) → HasNoneBefore last row (ids_of ids) i
+    → has_place row (place_of last (get_or ids i x).0) ≡ false → HasNoneBefore last row (ids_of ids) (i + 1)
+none-next last row ids i x before not = λ j id below at. by j id below at (j == i) refl
+  where
+    by : (j id : ℕ) → j < i + 1 → slice_get (ids_of ids) j ≡ Some id → (b : Bool) → (j == i) ≡ b → has_place row (place_of last id) ≡ false
+    by j id below at true e =
+        let same : j ≡ i = (Decides-eqb j i).0 e in
+        let here : slice_get (ids_of ids) i ≡ Some id = subst (λ (k : ℕ). slice_get (ids_of ids) k ≡ Some id) same at in
+        subst (λ (k : ℕ). has_place row (place_of last k) ≡ false) (id-at ids i x id here) not
+    by j id below at false e =
+        let other : j ≢ i = λ same. grind (arith, e, same) in
+        before j id (omega (arith, below, other)) at
+
+-- ---- first branches as they were found
+
+pub one-more : (walk : Walk) (old new : BTreeMap (ℕ × ℕ) ℕ) (u s k : ℕ) (ids : List ℕ) → AreFirsts walk old
+    → branches_of (node_at (nodes_of walk) u) ≡ Some ids
+    → ((row : List ℕ) → row_at walk.marks.now.memo.sets s ≡ Some row → HasNoneBefore walk.last row ids k)
+    → ((q : ℕ × ℕ) → first_of new q.0 q.1 ≡ cond (is_eq (pair_cmp (u, s) q)) (Some k) (first_of old q.0 q.1))
+    → AreFirsts walk new
+one-more walk old new u s k ids before has this put = λ v t n others row found other at. by v t n others row found other at (is_eq (pair_cmp (u, s) (v, t))) refl
+  where
+    by : (v t n : ℕ) (others row : List ℕ) → first_of new v t ≡ Some n → branches_of (node_at (nodes_of walk) v) ≡ Some others
+        → row_at walk.marks.now.memo.sets t ≡ Some row → (b : Bool) → is_eq (pair_cmp (u, s) (v, t)) ≡ b → HasNoneBefore walk.last row others n
+    by v t n others row found other at false e = before v t n others row (rw e at (sym (put (v, t)) ∙ found)) other at
+    by v t n others row found other at true e =
+        let pair : (u, s) ≡ (v, t) = same_pair (u, s) (v, t) e in
+        let now : Some k ≡ Some n = rw e at (sym (put (v, t)) ∙ found) in
+        let first : k ≡ n = one k n now in
+        let branches : ids ≡ others = one ids others (sym has ∙ ap (λ x. branches_of (node_at (nodes_of walk) x)) (ap (λ (q : ℕ × ℕ). q.0) pair) ∙ other) in
+        subst (λ (x : ℕ). HasNoneBefore walk.last row others x) first
+        (subst (λ (ys : List ℕ). HasNoneBefore walk.last row ys k) branches
+        (this row (ap (λ (q : ℕ × ℕ). row_at walk.marks.now.memo.sets q.1) pair ∙ at)))
+
+-- ---- branches in turn
+
+pub same-again : {A : Type 0} (xs : List A) (i : ℕ) (x : A) → get_or xs i x ≡ get_or xs i (get_or xs i x)
+same-again [] i x = refl
+same-again (y ∷ ys) zero x = refl
+same-again (y ∷ ys) (suc i) x = same-again ys i x
+
+-- a branch that the JSON does not fit
+pub branch-pass : (nodes : List Node) (d : Data) (ids : List NodeId) (i : ℕ) (id : NodeId) (all : Option Value) → i < length ids
+    → own_default nodes d (node_at nodes (get_or ids i id).0) ≡ None
+    → first_fit nodes (own_default nodes d) i (ids_of (drop i ids)) ≡ all → first_fit nodes (own_default nodes d) (i + 1) (ids_of (drop (i + 1) ids)) ≡ all
+branch-pass nodes d ids i id all below none left =
+    branch_next nodes d ids i (get_or ids i id) all below (same-again ids i id) left none
+
+from_start : (nodes : List Node) (d : Data) (ids : List NodeId) (start k : ℕ) → FitsNoneBefore nodes d (ids_of ids) start
+    → first_fit nodes (own_default nodes d) (start + k) (ids_of (drop start ids)) ≡ first_fit nodes (own_default nodes d) k (ids_of ids)
+from_start nodes d [] zero k none = refl
+from_start nodes d (x ∷ ids) zero k none =
+    let number : 0 + k ≡ k = omega arith in
+    ap (λ p. first_fit nodes (own_default nodes d) p (ids_of (x ∷ ids))) number
+from_start nodes d [] (suc start) k none = refl
+from_start nodes d (x ∷ ids) (suc start) k none =
+    let number : suc start + k ≡ start + suc k = omega arith in
+    let first : own_default nodes d (node_at nodes x.0) ≡ None = none zero x.0 (omega arith) refl in
+    let rest = from_start nodes d ids start (suc k) (λ j id below at. none (suc j) id (omega (arith, below)) at) in
+    rw first (ap (λ p. first_fit nodes (own_default nodes d) p (ids_of (drop start ids))) number ∙ rest)
+
+-- the branches before the first that may fit are passed over
+pub begins_late : (nodes : List Node) (d : Data) (ids : List NodeId) (start : ℕ) → FitsNoneBefore nodes d (ids_of ids) start
+    → first_fit nodes (own_default nodes d) start (ids_of (drop start ids)) ≡ first_fit nodes (own_default nodes d) 0 (ids_of ids)
+begins_late nodes d ids start none =
+    let number : start ≡ start + 0 = omega arith in
+    ap (λ p. first_fit nodes (own_default nodes d) p (ids_of (drop start ids))) number ∙ from_start nodes d ids start 0 none
+
+-- ---- members in the order of their keys
+
+-- the members that are left are in order, and each is found among all
+abbrev pub AreLeft : List Entry → List Entry → Type 0
+AreLeft all left =
+    IsStrictlySortedBy string_cmp (keys_of left) × ((key : List ℕ) (d : Data) → get_member key (members_view left) ≡ Some d → get_member key (members_view all) ≡ Some d)
+
+no_earlier : (name : List ℕ) (k : String Global) (es : List Entry) → name ≡ string_bytes k → AllByRecursion (λ y. string_cmp k y ≡ Ordering.Less) (keys_of es)
+    → get_member name (members_view es) ≡ None
+no_earlier name k [] same above = refl
+no_earlier name k (e ∷ es) same above =
+    let less : slice_cmp nat_cmp name (string_bytes e.0) ≡ Ordering.Less = rw same above.0 in
+    rw less (no_earlier name k es same above.1)
+
+pub left-first : (all left rest : List Entry) (key : String Global) (x : Tree) → left ≡ (key, x) ∷ rest → AreLeft all left
+    → get_member (string_bytes key) (members_view all) ≡ Some (view x)
+left-first all left rest key x step inv =
+    inv.1 (string_bytes key) (view x) (ap (λ (es : List Entry). get_member (string_bytes key) (members_view es)) step ∙ member_here (string_bytes key) (key, x) rest refl)
+
+left-tail : (all rest : List Entry) (e : Entry) → AreLeft all (e ∷ rest) → AreLeft all rest
+unfolding IsStrictlySortedBy
+left-tail all rest e inv =
+    (inv.0.1, λ key d found. inv.1 key d (member_later key e rest (λ same. none-some d (sym (no_earlier key e.0 rest same inv.0.0) ∙ found)) ∙ found))
+
+pub left-next : (all left rest : List Entry) (e : Entry) → left ≡ e ∷ rest → AreLeft all left → AreLeft all rest
+left-next all left rest e step inv = left-tail all rest e (subst (λ (es : List Entry). AreLeft all es) step inv)

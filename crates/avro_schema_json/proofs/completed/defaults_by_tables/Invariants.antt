@@ -1,0 +1,14 @@
+use Rattle.std.proofs.Common.{◌≡◌, ◌++◌, ◌&&◌, map, drop}
+use Rattle.std.specs.List.{list_all}
+use Rattle.avro_schema_json.specs.DeclaredSchema.{are_defaults_read, are_all_defaults_read}
+use Rattle.avro_schema_json.specs.inside.OwnDefaults.{all_without_defaults}
+use Rattle.avro_schema_json.specs.inside.SeenDefaults.{lists_seen, defaults_of_node}
+use Rattle.avro_schema_json.specs.inside.SeenRaw.{raw_nodes_of}
+use Rattle.avro_schema_json.proofs.completed.defaults_by_tables.Given as goal
+
+abbrev pub invariant-loop-raw : goal.invariant-loop-raw
+invariant-loop-raw l =
+    let nodes = all_without_defaults l.raws in
+    let left = raw_nodes_of (drop l.raw-index l.raws) in
+    (lists_seen l.of_nodes.items ++ map (defaults_of_node nodes) left ≡ map (defaults_of_node nodes) (raw_nodes_of l.raws))
+    × ((l.are_read && list_all (are_defaults_read nodes) left) ≡ are_all_defaults_read (raw_nodes_of l.raws))

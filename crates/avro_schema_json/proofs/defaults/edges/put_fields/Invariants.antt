@@ -1,0 +1,12 @@
+use Rattle.std.proofs.Common.{◌≡◌, ℕ, ◌<◌, Some}
+use Rattle.std.specs.Prelude.{slice_get}
+use Rattle.avro_schema.specs.Node.{FieldNode}
+use Rattle.avro_schema_json.specs.inside.OwnDefaults.{all_without_defaults, fields_seen}
+use Rattle.avro_schema_json.specs.inside.Parents.{IsField, KeepsLabels, KeepsParents}
+use Rattle.avro_schema_json.proofs.defaults.edges.put_fields.Given as goal
+
+abbrev pub invariant-loop-field : goal.invariant-loop-field
+invariant-loop-field l =
+    KeepsParents l.initial.parents.items l.parents.items × KeepsLabels l.initial.labels l.labels
+    × ((k : ℕ) (f : FieldNode) → k < l.field-index → slice_get (fields_seen l.fields) k ≡ Some f
+    → IsField (all_without_defaults l.raws) l.last l.labels l.parents.items f l.parent)

@@ -1,6 +1,0 @@
-use Rattle.std.proofs.Common.{refl}
-use Rattle.avro_schema_json.specs.inside.Misfits.{nothing}
-use Rattle.avro_schema_json.proofs.defaults.known.member_part.Goals as goal
-
-pub returns-in-None : goal.returns-in-None
-returns-in-None c = λ nodes all ms e good here. nothing refl

@@ -1,0 +1,10 @@
+use Rattle.std.proofs.Common.{◌≡◌, ℕ, ◌*◌, ◌+◌, ◌<◌, true}
+use Rattle.std.specs.Int.{bit_at}
+use Rattle.avro_schema_json.specs.inside.Rows.{has_place, IsWithin}
+use Rattle.avro_schema_json.specs.inside.Parents.{has_few, few_of}
+use Rattle.avro_schema_json.proofs.defaults.parents.put_word.Given as goal
+
+abbrev pub invariant-loop-i : goal.invariant-loop-i
+invariant-loop-i l =
+    IsWithin l.initial.found.words l.found.words
+    × ((k p : ℕ) → k < l.i → bit_at l.bits k ≡ 1 → has_few (few_of l.parents (l.word * 64 + k) l.label) p → has_place l.found.words p ≡ true)

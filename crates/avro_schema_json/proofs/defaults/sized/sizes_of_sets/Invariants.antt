@@ -1,6 +1,0 @@
-use Rattle.avro_schema_json.specs.inside.OwnDefaults.{all_without_defaults}
-use Rattle.avro_schema_json.proofs.ListedSeen.{SizedTo}
-use Rattle.avro_schema_json.proofs.defaults.sized.sizes_of_sets.Given as goal
-
-abbrev pub invariant-loop-i : goal.invariant-loop-i
-invariant-loop-i l = SizedTo (all_without_defaults l.raws) l.sets l.sizes l.i

@@ -1,0 +1,15 @@
+use Rattle.std.proofs.Common.{◌≡◌, ℕ, Bool, true, false, not, refl, sym, subst, ◌∙◌}
+use Rattle.std.proofs.lemmas.Bool.{false≢true}
+use Rattle.avro_schema_json.specs.inside.Rows.{has_place}
+use Rattle.avro_schema_json.proofs.WalkSeen.{not-fit}
+use Rattle.avro_schema_json.proofs.defaults.walk.is_ruled_out.Goals as goal
+
+is-false : (b : Bool) → not b ≡ true → b ≡ false
+is-false true h = absurd (false≢true h)
+is-false false h = refl
+
+pub returns-in-Some : goal.returns-in-Some
+returns-in-Some c = λ out d known.
+    let words = c.row_of.result.now.words in
+    not-fit c.args.walk.now d c.args.mark c.in-Some.mark words c.args.id.0 c.in-Some.is c.row_of.ensures
+    (subst (λ (p : ℕ). has_place words p ≡ false) c.place_of.ensures (sym c.has.ensures ∙ is-false c.has.result out)) known

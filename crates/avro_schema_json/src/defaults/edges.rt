@@ -1,0 +1,210 @@
+//! Each node as a parent of its parts, and each enum as one of its symbols.
+
+ghost use Rattle.std.specs.Prelude.{◌≡◌, ◌<◌, ◌+◌, ℕ, List, length, is_some, true, Some, IfOk, OnOk};
+ghost use Rattle.avro_schema.specs.Seen.{ids_of, texts_of};
+ghost use Rattle.avro_schema_json.specs.DeclaredAttributes.{symbol_index};
+ghost use Rattle.avro_schema_json.specs.inside.Covers.{own_ids};
+ghost use Rattle.avro_schema_json.specs.inside.OwnDefaults.{all_without_defaults, fields_seen, without_defaults};
+ghost use Rattle.avro_schema_json.specs.inside.Parents.{AreFields, AreParents, HasParts, IsParent, KeepsLabels, KeepsParents, few_of, has_few, label_of as label_by};
+ghost use Rattle.avro_schema_json.specs.inside.Symbols.{AreSymbols, HasSymbol, HasSymbols};
+
+use crate::defaults::parents::{ITEMS, Parents, VALUES, put_under};
+use crate::defaults::rows::place_of;
+use crate::raw::{RawField, RawNode};
+use crate::raw_nodes::branches_at;
+use avro_schema::{Memory, NodeId};
+use std::alloc::Global;
+use std::collections::BTreeMap;
+
+/// The labels of the names of fields and of symbols.
+pub(crate) type Labels<'a> = BTreeMap<&'a str, u32>;
+
+/// The label of a word, if there is one.
+pub(crate) fn label_of(labels: &Labels<'_>, name: &str) -> Option<u32>
+    ensures { result ≡ label_by labels.now name.now }
+{
+    labels.get(name).copied()
+}
+
+/// The label of a word, which is a new one if there is none.
+fn put_label<'a>(labels: &mut Labels<'a>, word: &'a str) -> Result<u32, Memory>
+    ensures kept { OnOk result (KeepsLabels labels.old labels.new) }
+    ensures found { IfOk result (λ label. label_by labels.new word.now ≡ Some label) }
+{
+    match labels.get(word) {
+        Some(label) => return Ok(*label),
+        None => {}
+    }
+    let Ok(count) = u32::try_from(labels.len()) else {
+        return Err(Memory);
+    };
+    let Some(label) = count.checked_add(VALUES + 1) else {
+        return Err(Memory);
+    };
+    labels.insert(word, label)?;
+    Ok(label)
+}
+
+/// No parents of so many places.
+fn no_parents(alloc: Global, count: usize) -> Result<Vec<Parents>, Memory>
+    ensures { IfOk result (λ parents. length parents.items ≡ count) }
+{
+    let mut parents: Vec<Parents> = Vec::new(alloc);
+    for _ in 0..count {
+        parents.push(BTreeMap::new(alloc))?;
+    }
+    Ok(parents)
+}
+
+/// Adds a parent of a place.
+fn put_parent(
+    alloc: Global,
+    parents: &mut Vec<Parents>,
+    place: usize,
+    label: u32,
+    parent: u32,
+) -> Result<(), Memory>
+    requires { place < length parents.old.items }
+    ensures kept { OnOk result (KeepsParents parents.old.items parents.new.items) }
+    ensures added { OnOk result (has_few (few_of parents.new.items place label) parent) }
+{
+    put_under(alloc, &mut parents[place], label, parent)?;
+    Ok(())
+}
+
+/// Adds a parent of nodes.
+fn put_parts(
+    alloc: Global,
+    last: u32,
+    parents: &mut Vec<Parents>,
+    ids: &[NodeId],
+    label: u32,
+    parent: u32,
+) -> Result<(), Memory>
+    requires { last < length parents.old.items }
+    ensures kept { OnOk result (KeepsParents parents.old.items parents.new.items) }
+    ensures added { OnOk result (HasParts last (ids_of ids.now) parents.new.items label parent) }
+{
+    for id in ids {
+        let place = place_of(last, id.0 as usize) as usize;
+        put_parent(alloc, parents, place, label, parent)?;
+    }
+    Ok(())
+}
+
+/// Adds a parent of a node, or of the branches of a union.
+fn put_part(
+    alloc: Global,
+    raws: &[RawNode],
+    last: u32,
+    parents: &mut Vec<Parents>,
+    part: NodeId,
+    label: u32,
+    parent: u32,
+) -> Result<(), Memory>
+    requires { last < length parents.old.items }
+    ensures kept { OnOk result (KeepsParents parents.old.items parents.new.items) }
+    ensures added { OnOk result (HasParts last (own_ids (all_without_defaults raws.now) part.0) parents.new.items label parent) }
+{
+    match branches_at(&*raws, part) {
+        Some(ids) => put_parts(alloc, last, parents, ids, label, parent),
+        None => put_parts(alloc, last, parents, &[part], label, parent),
+    }
+}
+
+/// Adds a record as a parent of its fields.
+fn put_fields<'a>(
+    alloc: Global,
+    raws: &[RawNode],
+    last: u32,
+    parents: &mut Vec<Parents>,
+    labels: &mut Labels<'a>,
+    fields: &'a [RawField<'_>],
+    parent: u32,
+) -> Result<(), Memory>
+    requires { last < length parents.old.items }
+    ensures kept { OnOk result (KeepsParents parents.old.items parents.new.items) }
+    ensures labels { OnOk result (KeepsLabels labels.old labels.new) }
+    ensures added { OnOk result (AreFields (all_without_defaults raws.now) last labels.new parents.new.items (fields_seen fields.now) parent) }
+{
+    for field in fields {
+        let label = put_label(labels, field.name.as_str())?;
+        put_part(alloc, raws, last, parents, field.node, label, parent)?;
+    }
+    Ok(())
+}
+
+/// Adds an enum as a parent of texts, the symbols.
+fn put_symbols<'a>(
+    alloc: Global,
+    last: u32,
+    parents: &mut Vec<Parents>,
+    labels: &mut Labels<'a>,
+    words: &'a [String],
+    parent: u32,
+) -> Result<(), Memory>
+    requires { last + 1 < length parents.old.items }
+    ensures kept { OnOk result (KeepsParents parents.old.items parents.new.items) }
+    ensures labels { OnOk result (KeepsLabels labels.old labels.new) }
+    ensures added { OnOk result ((word : List ℕ) → is_some (symbol_index word (texts_of words.now)) ≡ true → HasSymbol labels.new parents.new.items last parent word) }
+{
+    for word in words {
+        let label = put_label(labels, word.as_str())?;
+        put_parent(alloc, parents, last as usize + 1, label, parent)?;
+    }
+    Ok(())
+}
+
+/// Adds a node as a parent of its parts.
+fn put_node<'a>(
+    alloc: Global,
+    raws: &[RawNode],
+    last: u32,
+    parents: &mut Vec<Parents>,
+    labels: &mut Labels<'a>,
+    raw: &'a RawNode<'_>,
+    parent: u32,
+) -> Result<(), Memory>
+    requires { last + 1 < length parents.old.items }
+    ensures kept { OnOk result (KeepsParents parents.old.items parents.new.items) }
+    ensures labels { OnOk result (KeepsLabels labels.old labels.new) }
+    ensures added { OnOk result (IsParent (all_without_defaults raws.now) last labels.new parents.new.items (without_defaults raw.now) parent) }
+    ensures symbols { OnOk result (HasSymbols labels.new parents.new.items last parent (without_defaults raw.now)) }
+{
+    match raw {
+        RawNode::Array(items) => put_part(alloc, raws, last, parents, *items, ITEMS, parent),
+        RawNode::Map(values) => put_part(alloc, raws, last, parents, *values, VALUES, parent),
+        RawNode::Record(record) => {
+            put_fields(alloc, raws, last, parents, labels, &record.fields, parent)
+        }
+        RawNode::Enum(of_enum) => {
+            put_symbols(alloc, last, parents, labels, &of_enum.node.symbols, parent)
+        }
+        _ => Ok(()),
+    }
+}
+
+/// The parents of all nodes, and the labels.
+pub(crate) fn parents_of<'a>(
+    alloc: Global,
+    raws: &'a [RawNode<'_>],
+    last: u32,
+    labels: &mut Labels<'a>,
+) -> Result<Vec<Parents>, Memory>
+    ensures parents { IfOk result (λ parents. AreParents (all_without_defaults raws.now) last labels.new parents.items) }
+    ensures symbols { IfOk result (λ parents. AreSymbols (all_without_defaults raws.now) last labels.new parents.items) }
+{
+    let mut parents = no_parents(alloc, last as usize + 2)?;
+    for i in 0..raws.len() {
+        put_node(
+            alloc,
+            raws,
+            last,
+            &mut parents,
+            labels,
+            &raws[i],
+            place_of(last, i),
+        )?;
+    }
+    Ok(parents)
+}
