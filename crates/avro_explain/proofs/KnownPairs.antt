@@ -4,7 +4,8 @@ use Rattle.std.proofs.lemmas.Bool.{false≢true, true≢false}
 use Rattle.std.specs.List.{list_any}
 use Rattle.avro_certificate.specs.Closed.{same_pair, is_among_pairs}
 use Rattle.avro_explain.specs.Places.{pair_of, pairs_of}
-use Rattle.avro_explain.specs.inside.Walks.{key_of, keys_of, with_place}
+use Rattle.avro_explain.specs.Search.{with_place}
+use Rattle.avro_explain.specs.inside.Walks.{key_of, keys_of}
 use Rattle.avro_explain.specs.declared.found.Place.{Place}
 
 pub known_there : (eq : (ℕ × ℕ) → (ℕ × ℕ) → Bool) → ((p q : Place) → eq (key_of p) (key_of q) ≡ same_pair (pair_of p) (pair_of q)) → (places : List Place) (p : Place)

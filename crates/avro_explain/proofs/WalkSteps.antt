@@ -13,7 +13,8 @@ use Rattle.avro_certificate.specs.Evidence.{IsReached, roots, child}
 use Rattle.avro_certificate.proofs.public.Tests.{or_cases, or_from_left, or_from_right, same_pair-true, and_left, and_right, not_true, or_left, or_right}
 use Rattle.avro_compare.specs.Leads.{leads_at, lead_pair}
 use Rattle.avro_explain.specs.Places.{pair_of, pairs_of, came, round_of, AreReached, AreTooMany, IsFoundBy, findings_at, findings_from}
-use Rattle.avro_explain.specs.inside.Walks.{IsWalk, with_place, led_from, with_lead, with_leads, roots_place}
+use Rattle.avro_explain.specs.Search.{roots_place, with_place, led_from, with_lead, with_leads, leads_of_place, places_after}
+use Rattle.avro_explain.specs.inside.Walks.{IsWalk}
 use Rattle.avro_explain.specs.declared.found.Finding.{Finding}
 use Rattle.avro_compare.specs.declared.lead.Lead.{Lead}
 use Rattle.avro_explain.specs.declared.found.Place.{Place}
@@ -310,6 +311,18 @@ module _ (writer reader : List Node) (dead : List ℕ) where
             let found = place_of new c (all_found places leads_here c
             (subst (λ (ps : List Pair). is_among_pairs ps c ≡ true) (sym (lead_children writer reader q.w.0 q.r.0 (node_at writer q.w.0) (node_at reader q.r.0))) of_q) live) in
             record { index = found.index; place = found.place; there = found.there; is = found.is; early = omega (arith, all.early found.index found.place found.there, same) }
+
+  -- the places of the search, when one more was gone through
+  pub searched_more : (at : ℕ) (places new : List Place) (q : Place) → places ≡ places_after writer reader dead at → slice_get places at ≡ Some q
+      → new ≡ with_leads dead at places (leads_at writer reader q.w.0 q.r.0) → new ≡ places_after writer reader dead (at + 1)
+  searched_more at places new q is here added =
+      added
+      ∙ ap (λ (o : Option Place). with_leads dead at places (leads_of_place writer reader o)) (sym here)
+      ∙ ap (λ (ps : List Place). with_leads dead at ps (leads_of_place writer reader (slice_get ps at))) is
+      ∙ ap (λ (k : ℕ). places_after writer reader dead k) (one_more at)
+    where
+      one_more : (k : ℕ) → suc k ≡ k + 1
+      one_more k = omega arith
 
   -- the roots' place alone
   pub walk_start : IsWalk writer reader dead 0 0 (roots_place (is_among dead 0))

@@ -1,5 +1,5 @@
 -- The ways that steps from pair to pair are in each of two schemas.
-use Rattle.std.proofs.Common.{◌≡◌, ◌<◌, ◌∙◌, ℕ, zero, suc, ◌+◌, List, [], ◌∷◌, ◌++◌, Option, Some, None, length, refl, sym, ap, subst, arith}
+use Rattle.std.proofs.Common.{◌≡◌, ◌<◌, ◌∙◌, ℕ, zero, suc, ◌+◌, List, [], ◌∷◌, ◌++◌, Option, Some, None, length, refl, sym, ap, subst, append_assoc, append-nil, arith}
 use Rattle.std.proofs.lemmas.List.{reverse-append, length-map}
 use Rattle.std.proofs.lemmas.List.Quantifiers.{position-Some}
 use Rattle.std.specs.Prelude.{slice_get, unwrap_or, option_and_then, reverse, bytes_eq}
@@ -10,8 +10,7 @@ use Rattle.avro_compare.proofs.public.NodeKinds.{union_of_branches}
 use Rattle.avro_certificate.proofs.public.Shapes.{first_match_within}
 use Rattle.avro_compare.specs.Leads.{lead_by, branch_leads, choice_leads, field_lead, field_leads, leads_inside, leads_of}
 use Rattle.avro_explain.specs.Places.{ArePlaced, IsLed, came}
-use Rattle.avro_explain.specs.Ways.{step_from, follow}
-use Rattle.avro_explain.specs.inside.Walks.{writer_steps, reader_steps}
+use Rattle.avro_explain.specs.Ways.{step_from, follow, writer_steps, reader_steps, IsWayTo}
 use Rattle.avro_compare.specs.declared.lead.Lead.{Lead}
 use Rattle.avro_explain.specs.declared.found.PathStep.{PathStep}
 use Rattle.avro_explain.specs.declared.found.Place.{Place}
@@ -178,17 +177,39 @@ turned_reader Step.Items done = reverse-append done (PathStep.Items ∷ [])
 turned_reader Step.Values done = reverse-append done (PathStep.Values ∷ [])
 turned_reader (Step.Field a b) done = reverse-append done (PathStep.Field b ∷ [])
 
--- the steps so far, the last first, lead from a place to the one that was asked for
-pub record IsWayFrom (writer reader : List Node) (places : List Place) (here : ℕ) (p : Place) (in_writer in_reader : List PathStep) : Type 0 where
+-- the steps so far, the last first, lead from a place to the one that was asked for, and any two ways to that place go on by them
+pub record IsWayFrom (writer reader : List Node) (places : List Place) (at here : ℕ) (p : Place) (in_writer in_reader : List PathStep) : Type 0 where
   pub place : Place
   pub there : slice_get places here ≡ Some place
   pub writer_way : follow writer place.w.0 (reverse in_writer) ≡ Some p.w.0
   pub reader_way : follow reader place.r.0 (reverse in_reader) ≡ Some p.r.0
+  pub goes_on : (ws rs : List PathStep) → IsWayTo places here ws rs → IsWayTo places at (ws ++ reverse in_writer) (rs ++ reverse in_reader)
 
-pub way_more : (writer reader : List Node) (places : List Place) (here : ℕ) (p : Place) (ws rs : List PathStep) (from : ℕ × Step)
-    → IsWayFrom writer reader places here p ws rs → ArePlaced writer reader places → ((q : Place) → slice_get places here ≡ Some q → q.from ≡ Some from)
-    → IsWayFrom writer reader places from.0 p (ws ++ writer_steps from.1) (rs ++ reader_steps from.1)
-way_more writer reader places here p ws rs from way placed is =
+-- no steps yet
+way_begun : (writer reader : List Node) (places : List Place) (at : ℕ) (p : Place) → slice_get places at ≡ Some p → IsWayFrom writer reader places at at p [] []
+way_begun writer reader places at p got = record {
+  place = p;
+  there = got;
+  writer_way = refl;
+  reader_way = refl;
+  goes_on = λ ws rs way. subst (λ (steps : List PathStep). IsWayTo places at steps (rs ++ [])) (sym (append-nil ws))
+      (subst (λ (steps : List PathStep). IsWayTo places at ws steps) (sym (append-nil rs)) way);
+}
+
+pub way_none : (writer reader : List Node) (places : List Place) (at : ℕ) (p : Place) (in_writer in_reader : List PathStep) → slice_get places at ≡ Some p
+    → in_writer ≡ [] → in_reader ≡ [] → IsWayFrom writer reader places at at p in_writer in_reader
+way_none writer reader places at p in_writer in_reader got w r =
+    subst (λ (steps : List PathStep). IsWayFrom writer reader places at at p steps in_reader) (sym w)
+    (subst (λ (steps : List PathStep). IsWayFrom writer reader places at at p [] steps) (sym r) (way_begun writer reader places at p got))
+
+-- a way, a step behind it, and the steps that follow
+turned_behind : (way ones done turned : List PathStep) → turned ≡ ones ++ reverse done → way ++ turned ≡ (way ++ ones) ++ reverse done
+turned_behind way ones done turned e = ap (λ (steps : List PathStep). way ++ steps) e ∙ sym (append_assoc way ones (reverse done))
+
+way_more : (writer reader : List Node) (places : List Place) (at here : ℕ) (p : Place) (ws rs : List PathStep) (from : ℕ × Step)
+    → IsWayFrom writer reader places at here p ws rs → ArePlaced writer reader places → ((q : Place) → slice_get places here ≡ Some q → q.from ≡ Some from)
+    → IsWayFrom writer reader places at from.0 p (ws ++ writer_steps from.1) (rs ++ reader_steps from.1)
+way_more writer reader places at here p ws rs from way placed is =
     let q = way.place in
     let led : IsLed writer reader places here q from = subst (λ (o : Option (ℕ × Step)). came writer reader places here q o) (is q way.there) (placed here q way.there) in
     let before : Place = led.place in
@@ -198,25 +219,36 @@ way_more writer reader places here p ws rs from way placed is =
       there = led.there;
       writer_way = ap (follow writer before.w.0) (turned_writer from.1 ws) ∙ follow_more writer before.w.0 q.w.0 p.w.0 (writer_steps from.1) (reverse ws) step.in_writer way.writer_way;
       reader_way = ap (follow reader before.r.0) (turned_reader from.1 rs) ∙ follow_more reader before.r.0 q.r.0 p.r.0 (reader_steps from.1) (reverse rs) step.in_reader way.reader_way;
+      goes_on = λ front_ws front_rs before_way.
+          subst (λ (steps : List PathStep). IsWayTo places at steps (front_rs ++ reverse (rs ++ reader_steps from.1)))
+          (sym (turned_behind front_ws (writer_steps from.1) ws (reverse (ws ++ writer_steps from.1)) (turned_writer from.1 ws)))
+          (subst (λ (steps : List PathStep). IsWayTo places at ((front_ws ++ writer_steps from.1) ++ reverse ws) steps)
+          (sym (turned_behind front_rs (reader_steps from.1) rs (reverse (rs ++ reader_steps from.1)) (turned_reader from.1 rs)))
+          (way.goes_on (front_ws ++ writer_steps from.1) (front_rs ++ reader_steps from.1)
+          (IsWayTo.steps here q from front_ws front_rs (front_ws ++ writer_steps from.1) (front_rs ++ reader_steps from.1) way.there (is q way.there) led.before before_way refl refl)));
     }
 
 -- the place that no other leads to is that of the roots
-pub way_whole : (writer reader : List Node) (places : List Place) (here : ℕ) (p : Place) (ws rs : List PathStep)
-    → IsWayFrom writer reader places here p ws rs → ArePlaced writer reader places
+pub way_whole : (writer reader : List Node) (places : List Place) (at here : ℕ) (p : Place) (ws rs : List PathStep)
+    → IsWayFrom writer reader places at here p ws rs → ArePlaced writer reader places
     → ((q : Place) → slice_get places here ≡ Some q → (from : ℕ × Step) → q.from ≡ Some from → from.0 < here → ⊥)
-    → (follow writer 0 (reverse ws) ≡ Some p.w.0) × (follow reader 0 (reverse rs) ≡ Some p.r.0)
-way_whole writer reader places here p ws rs way placed none = chosen way.place.from refl (placed here way.place way.there)
+    → (follow writer 0 (reverse ws) ≡ Some p.w.0) × (follow reader 0 (reverse rs) ≡ Some p.r.0) × IsWayTo places at (reverse ws) (reverse rs)
+way_whole writer reader places at here p ws rs way placed none = chosen way.place.from refl (placed here way.place way.there)
   where
     chosen : (o : Option (ℕ × Step)) → way.place.from ≡ o → came writer reader places here way.place o
-        → (follow writer 0 (reverse ws) ≡ Some p.w.0) × (follow reader 0 (reverse rs) ≡ Some p.r.0)
-    chosen None e roots =
-        (subst (λ (i : ℕ). follow writer i (reverse ws) ≡ Some p.w.0) roots.0 way.writer_way, subst (λ (i : ℕ). follow reader i (reverse rs) ≡ Some p.r.0) roots.1 way.reader_way)
+        → (follow writer 0 (reverse ws) ≡ Some p.w.0) × (follow reader 0 (reverse rs) ≡ Some p.r.0) × IsWayTo places at (reverse ws) (reverse rs)
+    chosen None e roots = (
+      subst (λ (i : ℕ). follow writer i (reverse ws) ≡ Some p.w.0) roots.0 way.writer_way,
+      subst (λ (i : ℕ). follow reader i (reverse rs) ≡ Some p.r.0) roots.1 way.reader_way,
+      way.goes_on [] [] (IsWayTo.starts here way.place way.there e),
+    )
     chosen (Some from) e led = absurd (none way.place way.there from e led.before)
 
 -- one step more
-pub way_next : (writer reader : List Node) (places : List Place) (here : ℕ) (p : Place) (ws rs new_ws new_rs : List PathStep) (from : ℕ × Step)
-    → IsWayFrom writer reader places here p ws rs → ArePlaced writer reader places → ((q : Place) → slice_get places here ≡ Some q → q.from ≡ Some from)
-    → new_ws ≡ ws ++ writer_steps from.1 → new_rs ≡ rs ++ reader_steps from.1 → IsWayFrom writer reader places from.0 p new_ws new_rs
-way_next writer reader places here p ws rs new_ws new_rs from way placed is w r =
-    subst (λ (steps : List PathStep). IsWayFrom writer reader places from.0 p steps new_rs) (sym w)
-    (subst (λ (steps : List PathStep). IsWayFrom writer reader places from.0 p (ws ++ writer_steps from.1) steps) (sym r) (way_more writer reader places here p ws rs from way placed is))
+pub way_next : (writer reader : List Node) (places : List Place) (at here : ℕ) (p : Place) (ws rs new_ws new_rs : List PathStep) (from : ℕ × Step)
+    → IsWayFrom writer reader places at here p ws rs → ArePlaced writer reader places → ((q : Place) → slice_get places here ≡ Some q → q.from ≡ Some from)
+    → new_ws ≡ ws ++ writer_steps from.1 → new_rs ≡ rs ++ reader_steps from.1 → IsWayFrom writer reader places at from.0 p new_ws new_rs
+way_next writer reader places at here p ws rs new_ws new_rs from way placed is w r =
+    subst (λ (steps : List PathStep). IsWayFrom writer reader places at from.0 p steps new_rs) (sym w)
+    (subst (λ (steps : List PathStep). IsWayFrom writer reader places at from.0 p (ws ++ writer_steps from.1) steps) (sym r)
+    (way_more writer reader places at here p ws rs from way placed is))

@@ -10,7 +10,8 @@ ghost use Rattle.avro_certificate.specs.Compatible.{AreCompatible};
 ghost use Rattle.avro_certificate.specs.Evidence.{IsGreatestDead};
 ghost use Rattle.avro_compare.specs.Leads.{leads_at};
 ghost use Rattle.avro_explain.specs.Places.{marked, pairs_of, ArePlaced, AreByBreadth, AreFollowed, AreReached, AreTooMany, AreFaults, findings, findings_at};
-ghost use Rattle.avro_explain.specs.inside.Walks.{IsWalk, keys_of, roots_place, with_place, with_lead, with_leads};
+ghost use Rattle.avro_explain.specs.Search.{AreSearched, roots_place, with_place, with_lead, with_leads};
+ghost use Rattle.avro_explain.specs.inside.Walks.{IsWalk, keys_of};
 ghost use Rattle.avro_explain.specs.declared.error.ExplainError.TheVariants.{TooManyPairs};
 ghost use Rattle.avro_explain.specs.declared.found.Place.{Place};
 
@@ -53,6 +54,8 @@ pub fn explain(
     ensures placed { IfOk result (λ e. ArePlaced (schema_nodes writer.now) (schema_nodes reader.now) e.places.items) }
     ensures breadth { IfOk result (λ e. AreByBreadth e.places.items) }
     ensures followed { IfOk result (λ e. AreFollowed (schema_nodes writer.now) (schema_nodes reader.now) (marked e.dead.items) e.places.items (length e.places.items)) }
+    // They are those of the search by breadth, in its order, and each has the step by which that finds it.
+    ensures searched { IfOk result (λ e. AreSearched (schema_nodes writer.now) (schema_nodes reader.now) (marked e.dead.items) e.places.items) }
     // The faults are exactly those of the places.
     ensures faults { IfOk result (λ e. AreFaults (schema_nodes writer.now) (schema_nodes reader.now) e.places.items e.faults.items) }
     // There is none exactly where no datum fails.
@@ -80,6 +83,7 @@ fn explore(
     max_pairs: usize,
 ) -> Result<Walk, ExplainError>
     ensures walked { IfOk result (λ walk. IsWalk (schema_nodes names.now.0) (schema_nodes names.now.1) (marked dead.now) (length walk.places.items) (length walk.places.items) walk.places.items) }
+    ensures searched { IfOk result (λ walk. AreSearched (schema_nodes names.now.0) (schema_nodes names.now.1) (marked dead.now) walk.places.items) }
     ensures limit { IfOk result (λ walk. length walk.places.items ≤ max_pairs) }
     ensures faults { IfOk result (λ walk. AreFaults (schema_nodes names.now.0) (schema_nodes names.now.1) walk.places.items walk.faults.items) }
     ensures above { IfErr result (λ e. e ≡ TooManyPairs → (pairs : List Pair) × AreTooMany (schema_nodes names.now.0) (schema_nodes names.now.1) (marked dead.now) max_pairs pairs) }

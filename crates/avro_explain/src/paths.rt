@@ -4,8 +4,7 @@ ghost use Rattle.std.specs.Prelude.{◌≡◌, ◌<◌, ◌++◌, ℕ, List, Som
 ghost use Rattle.std.specs.Option.{IfSome};
 ghost use Rattle.avro_schema.specs.Node.{Node};
 ghost use Rattle.avro_explain.specs.Places.{ArePlaced};
-ghost use Rattle.avro_explain.specs.Ways.{IsWay};
-ghost use Rattle.avro_explain.specs.inside.Walks.{writer_steps, reader_steps};
+ghost use Rattle.avro_explain.specs.Ways.{IsWay, IsWayTo, writer_steps, reader_steps};
 ghost use Rattle.avro_explain.specs.declared.found.Place.{Place};
 ghost use Rattle.avro_compare.specs.declared.lead.Step.{Step as SeenStep};
 
@@ -33,6 +32,9 @@ pub fn way_to(alloc: Global, places: &[Place], at: usize) -> Result<Way, Memory>
         → IsWay writer way.writer.items p.w.0) }
     ensures reader { IfOk result (λ way. (writer reader : List Node) (p : Place) → ArePlaced writer reader places.now → slice_get places.now at ≡ Some p
         → IsWay reader way.reader.items p.r.0) }
+    // Both are, step by step, those of the places between.
+    ensures ways { IfOk result (λ way. (writer reader : List Node) (p : Place) → ArePlaced writer reader places.now → slice_get places.now at ≡ Some p
+        → IsWayTo places.now at way.writer.items way.reader.items) }
 {
     let mut way = Way {
         writer: Vec::new(alloc),

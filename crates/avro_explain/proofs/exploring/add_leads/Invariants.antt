@@ -1,7 +1,8 @@
 use Rattle.std.proofs.Common.{◌≡◌, drop}
 use Rattle.indexmap.specs.IndexSet.{keys}
 use Rattle.avro_explain.specs.Places.{marked}
-use Rattle.avro_explain.specs.inside.Walks.{keys_of, with_leads}
+use Rattle.avro_explain.specs.Search.{with_leads}
+use Rattle.avro_explain.specs.inside.Walks.{keys_of}
 use Rattle.avro_explain.proofs.exploring.add_leads.Given as goal
 
 abbrev pub invariant-loop-lead : goal.invariant-loop-lead

@@ -4,7 +4,7 @@ use Rattle.avro_explain.specs.Places.{marked}
 use Rattle.avro_explain.specs.inside.Walks.{IsWalk}
 use Rattle.avro_compare.specs.Leads.{leads_at}
 use Rattle.avro_explain.specs.declared.found.Place.{Place}
-use Rattle.avro_explain.proofs.WalkSteps.{walk_start, walk_visit, too_many, extended, findings_more, get_there}
+use Rattle.avro_explain.proofs.WalkSteps.{walk_start, walk_visit, searched_more, too_many, extended, findings_more, get_there}
 use Rattle.avro_explain.proofs.exploring.explore.Goals as goal
 
 one_more : (n : ℕ) → suc n ≡ n + 1
@@ -28,6 +28,7 @@ loop-next-init c =
       omega (arith, c.if-len-max_pairs.false, c.len.ensures),
       subst (λ (ps : List Place). IsWalk writer reader dead 0 0 ps) (sym c.in_ok-walk.ensures.places) (walk_start writer reader dead),
       c.in_ok-walk.ensures.faults,
+      c.in_ok-walk.ensures.places,
     )
 
 pub returns-then-len-max_pairs-2-clause-above : goal.returns-then-len-max_pairs-2-clause-above
@@ -64,4 +65,5 @@ loop-next-preserved c =
           (walk_visit writer reader dead next here.0 places c.loop-next.invariant.2 here.1)),
       findings_more writer reader places new more.0 next here.0 c.loop-next.walk.faults.items c.visit.new.walk.faults.items (visited.0 ∙ more.1) here.1
           c.loop-next.invariant.3 visited.1,
+      searched_more writer reader dead next places new here.0 c.loop-next.invariant.4 here.1 visited.0,
     )

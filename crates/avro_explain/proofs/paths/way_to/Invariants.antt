@@ -8,7 +8,7 @@ use Rattle.avro_explain.proofs.paths.way_to.Given as goal
 
 abbrev pub invariant-loop-before : goal.invariant-loop-before
 invariant-loop-before l = (writer reader : List Node) (p : Place) → ArePlaced writer reader l.places → slice_get l.places l.at ≡ Some p
-    → IsWayFrom writer reader l.places l.here p l.way.writer.items l.way.reader.items
+    → IsWayFrom writer reader l.places l.at l.here p l.way.writer.items l.way.reader.items
 
 abbrev pub decreases-loop-before : goal.decreases-loop-before
 decreases-loop-before l = l.here
