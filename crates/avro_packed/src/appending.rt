@@ -1,6 +1,6 @@
 //! The maker that appends the plain encoding of what is read.
 
-ghost use Rattle.std.specs.Prelude.{◌≡◌, ◌++◌, [], ◌∷◌, List, ℕ, IfOk, OnOk, length, pos};
+ghost use Rattle.std.specs.Prelude.{◌≡◌, ◌++◌, [], ◌∷◌, List, ℕ, IfOk, OnOk, OnErr, length, pos};
 ghost use Rattle.avro_zigzag.specs.Number.{number_bytes};
 ghost use Rattle.avro_cursor.specs.Encoding.{plain_bytes, plain_blocks};
 ghost use Rattle.avro_packed.specs.Appended.{Grows, Holds, branch_bytes};
@@ -58,11 +58,19 @@ impl Appending {
     ///
     /// # Errors
     ///
-    /// Memory ran out.
+    /// Memory ran out; they are as they were.
     pub fn append(&self, written: &Written, to: &mut Vec<u8>) -> Result<(), AllocError>
-        ensures { (bytes : List ℕ) → Holds self.now written.now bytes → OnOk result (to.new.items ≡ to.old.items ++ bytes) }
+        ensures appended { (bytes : List ℕ) → Holds self.now written.now bytes → OnOk result (to.new.items ≡ to.old.items ++ bytes) }
+        ensures unchanged { OnErr result (to.new.items ≡ to.old.items) }
     {
-        append_written(&self.out, written, to)
+        let end = to.len();
+        match append_written(&self.out, written, to) {
+            Ok(()) => Ok(()),
+            Err(_) => {
+                to.truncate(end);
+                Err(AllocError)
+            }
+        }
     }
 
     /// Keeps the room of what was written for later.

@@ -12,7 +12,8 @@ use std::alloc::{AllocError, Global};
 /// Appends the bytes of an output between two offsets to other bytes.
 #[inline(always)]
 fn append_range(out: &[u8], start: usize, end: usize, to: &mut Vec<u8>) -> Result<(), AllocError>
-    ensures { (bytes : List ℕ) → StandsAt out.now start end bytes → OnOk result (to.new.items ≡ to.old.items ++ bytes) }
+    ensures appended { (bytes : List ℕ) → StandsAt out.now start end bytes → OnOk result (to.new.items ≡ to.old.items ++ bytes) }
+    ensures kept { Grows to.old.items to.new.items }
 {
     if start > end || end > out.len() {
         return Ok(());
@@ -22,14 +23,15 @@ fn append_range(out: &[u8], start: usize, end: usize, to: &mut Vec<u8>) -> Resul
     to.extend_from_slice(bytes)
 }
 
-/// Appends to other bytes what was written.
+/// Appends to other bytes what was written; if memory runs out, a part of it.
 #[inline(always)]
 pub(crate) fn append_written(
     out: &[u8],
     written: &Written,
     to: &mut Vec<u8>,
 ) -> Result<(), AllocError>
-    ensures { (bytes : List ℕ) → Holds out.now written.now bytes → OnOk result (to.new.items ≡ to.old.items ++ bytes) }
+    ensures appended { (bytes : List ℕ) → Holds out.now written.now bytes → OnOk result (to.new.items ≡ to.old.items ++ bytes) }
+    ensures kept { Grows to.old.items to.new.items }
 {
     match written {
         Written::Range(start, end) => append_range(out, *start, *end, to),
@@ -37,10 +39,11 @@ pub(crate) fn append_written(
     }
 }
 
-/// Appends to other bytes those of an output and of a room.
+/// Appends to other bytes those of an output and of a room; if memory runs out, a part of them.
 #[inline(always)]
 fn append_apart(out: &[u8], apart: &Apart, to: &mut Vec<u8>) -> Result<(), AllocError>
-    ensures { (front : List ℕ) → StandsAt out.now apart.now.start apart.now.end front → OnOk result (to.new.items ≡ to.old.items ++ front ++ apart.now.more.items) }
+    ensures appended { (front : List ℕ) → StandsAt out.now apart.now.start apart.now.end front → OnOk result (to.new.items ≡ to.old.items ++ front ++ apart.now.more.items) }
+    ensures kept { Grows to.old.items to.new.items }
 {
     append_range(out, apart.start, apart.end, to)?;
     to.extend_from_slice(&apart.more)

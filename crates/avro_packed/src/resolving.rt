@@ -1,6 +1,6 @@
 //! Reading a datum for a reader, and appending its plain encoding.
 
-ghost use Rattle.std.specs.Prelude.{◌≡◌, ◌++◌, ℕ, Ok, Err, IfOk};
+ghost use Rattle.std.specs.Prelude.{◌≡◌, ◌++◌, ℕ, Ok, Err, IfOk, OnErr};
 ghost use Rattle.std.specs.Option.{IfSome};
 ghost use Rattle.avro_schema.specs.Node.{root_of};
 ghost use Rattle.avro_schema.specs.SeenSchema.{schema_nodes};
@@ -24,7 +24,7 @@ use std::alloc::Global;
 ///
 /// # Errors
 ///
-/// Those of [`avro_resolve::PlanRef::read`].
+/// Those of [`avro_resolve::PlanRef::read`]; the output is as it was.
 pub fn append_resolved(
     alloc: Global,
     plan: &PlanRef<'_>,
@@ -35,6 +35,7 @@ pub fn append_resolved(
 ) -> Result<usize, ReadResolveError>
     ensures found { IfOk result (λ len. (u : Value) × (out.new.items ≡ out.old.items ++ plain u)
         × ReadsAs (schema_nodes plan.now.0) (schema_nodes plan.now.1) limits.now bytes.now len (Ok u)) }
+    ensures unchanged { OnErr result (out.new.items ≡ out.old.items) }
     ensures faulty { IfUnresolved result (λ f. (len : ℕ) × ReadsAs (schema_nodes plan.now.0) (schema_nodes plan.now.1) limits.now bytes.now len (Err (fault_of f))) }
     ensures refused { IfUnread result (λ e. IfSome (read_fault e) (Breaks (schema_nodes plan.now.0) limits.now (root_of (schema_nodes plan.now.0)) bytes.now)) }
 {

@@ -10,5 +10,5 @@ returns-in_ok-append_apart-in-Apart c = λ bytes holds.
     let here = subst (λ (r : Apart). StandsAt out r.start r.end apart.0) (sym c.deref-in-Apart-2.ensures) apart.1 in
     let empty : c.deref_mut-in-Apart.result.now.more.items ≡ [] =
     ap (λ (r : Apart). r.more.items) c.deref_mut-in-Apart.ensures.value ∙ c.in_ok-all-in-Apart.ensures in
-    c.in_ok-append_apart-in-Apart.ensures apart.0 here ∙ ap (λ (l : List ℕ). (l ++ apart.0) ++ c.deref-in-Apart-2.result.now.more.items) empty
+    c.in_ok-append_apart-in-Apart.ensures.appended apart.0 here ∙ ap (λ (l : List ℕ). (l ++ apart.0) ++ c.deref-in-Apart-2.result.now.more.items) empty
     ∙ ap (λ (r : Apart). apart.0 ++ r.more.items) c.deref-in-Apart-2.ensures ∙ sym apart.2

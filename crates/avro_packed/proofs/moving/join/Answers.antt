@@ -35,7 +35,7 @@ returns-in_ok-append_apart-in-Apart-second c = λ a b first second.
     let empty : c.deref_mut-in-Apart-second.result.now.more.items ≡ [] =
     ap (λ (r : Apart). r.more.items) c.deref_mut-in-Apart-second.ensures.value ∙ c.in_ok-all-in-Apart-second.ensures in
     let all : c.append_apart.new.to.items ≡ b =
-    c.in_ok-append_apart-in-Apart-second.ensures back.0 here ∙ ap (λ (l : List ℕ). (l ++ back.0) ++ c.deref-in-Apart-second.result.now.more.items) empty
+    c.in_ok-append_apart-in-Apart-second.ensures.appended back.0 here ∙ ap (λ (l : List ℕ). (l ++ back.0) ++ c.deref-in-Apart-second.result.now.more.items) empty
     ∙ ap (λ (r : Apart). back.0 ++ r.more.items) c.deref-in-Apart-second.ensures ∙ sym back.2 in
     let start : c.deref_mut-in-Apart-second-3.result.now.start ≡ c.in-Range.start = search rules in
     let more : c.deref_mut-in-Apart-second-3.result.now.more.items ≡ c.append_apart.new.to.items = search rules in
