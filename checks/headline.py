@@ -120,12 +120,27 @@ def rank(file: Path) -> tuple[int, str]:
     return (CRATES.index(crate), file.stem)
 
 
+def kit_rows(found: list[tuple[Path, str]]) -> list[str]:
+    """A row for each file of the kit's crates that these definitions name something of, but for `std`."""
+    named: dict[str, set[str]] = {}
+    for file, own in found:
+        module = read(file)
+        for word in set(WORD.findall("\n".join(module.lines[own]))) & set(module.imports):
+            home, name = module.imports[word]
+            crate = home.split(".")[1]
+            if crate != "std" and not crate.startswith("avro_"):
+                named.setdefault(f"{crate}/specs/{home.rpartition('.')[2]}.antt", set()).add(name)
+    shown = {file: ", ".join(f"`{name}`" for name in sorted(names)) for file, names in named.items()}
+    return [f"| the kit's `{file}` | | {shown[file]} |" for file in sorted(shown)]
+
+
 def table(roots: Roots, known: Roots = ()) -> str:
-    """The table of what the roots reach besides what is known, a row a file in the order of reading, and a last row of
-    sums."""
+    """The table of what the roots reach besides what is known, a row a file in the order of reading, then the kit's
+    files, and a last row of sums, without those."""
     names: dict[Path, list[str]] = {}
     before = set(reached(known))
-    for file, name in (found for found in reached(roots) if found not in before):
+    besides = [found for found in reached(roots) if found not in before]
+    for file, name in besides:
         names.setdefault(file, []).append(name)
     rows, total = [], [0, 0]
     for file in sorted(names, key=rank):
@@ -134,6 +149,7 @@ def table(roots: Roots, known: Roots = ()) -> str:
         total = [total[0] + len(order), total[1] + count]
         shown = ", ".join(f"`{name}`" for name in order)
         rows.append(f"| `{file.relative_to(ROOT / 'crates')}` | {count} | {shown} |")
+    rows += kit_rows(besides)
     rows.append(f"| {len(names)} files | {total[1]} | {total[0]} definitions |")
     return "\n".join(["| File | Lines | Definitions |", "|---|---|---|", *rows])
 

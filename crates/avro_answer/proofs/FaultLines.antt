@@ -1,8 +1,6 @@
 -- The lines of faults, one after another, and the places of the faults of two schemas.
-use Rattle.std.proofs.Common.{◌≡◌, ◌∙◌, ◌<◌, ◌≤◌, ◌+◌, ℕ, suc, List, [], ◌∷◌, ◌++◌, drop, get_or, Option, Result, Ok, Err, length, sym, ap, subst, arith, append_assoc, append-nil}
+use Rattle.std.proofs.Common.{◌≡◌, ◌∙◌, ◌<◌, ◌≤◌, ◌+◌, ℕ, suc, List, [], ◌∷◌, ◌++◌, drop, get_or, Result, Ok, Err, length, sym, ap, subst, arith, append_assoc, append-nil}
 use Rattle.std.proofs.lemmas.List.{drop_more}
-use Rattle.std.proofs.KnownBytes.{Appends-trans}
-use Rattle.std.specs.Io.KnownBytes.{Appends}
 use Rattle.std.specs.List.{AllByRecursion, AllZip, concat}
 use Rattle.std.specs.Prelude.{OnOk}
 use Rattle.avro_schema.specs.Node.{Node, node_at}
@@ -48,7 +46,7 @@ module _ (writer reader : List Node) (places : List Place) where
   left_all faults text have = record { placed = have; whole = λ after added. added }
 
   -- one is left no more
-  left_more : (faults left rest : List Finding) (fault : Finding) (before old new : List ℕ) → left ≡ fault ∷ rest
+  pub left_more : (faults left rest : List Finding) (fault : Finding) (before old new : List ℕ) → left ≡ fault ∷ rest
       → (fault.place < length places → IsLineAdded writer reader places fault old new)
       → AreLeft writer reader places faults left before old → AreLeft writer reader places faults rest before new
   left_more faults left rest fault before old new is line have =
@@ -67,14 +65,15 @@ module _ (writer reader : List Node) (places : List Place) where
   }
 
   -- the same where a part of what was kept is put then
-  module _ (first then last : Option (List ℕ)) (faults left rest : List Finding) (fault : Finding) (before old mid new : List ℕ) where
+  module _ {O : Type 0} (keeps : O → List ℕ → O → Type 0) (chain : (s t u : O) (front back : List ℕ) → keeps s front t → keeps t back u → keeps s (front ++ back) u)
+      (first then last : O) (faults left rest : List Finding) (fault : Finding) (before old mid new : List ℕ) where
     pub put_more : left ≡ fault ∷ rest → (fault.place < length places → IsLineAdded writer reader places fault old mid)
-        → (piece : List ℕ) × Appends then last piece × (mid ≡ piece ++ new)
-        → (put : List ℕ) × Appends first then put × AreLeft writer reader places faults left before (put ++ old)
-        → (put : List ℕ) × Appends first last put × AreLeft writer reader places faults rest before (put ++ new)
+        → (piece : List ℕ) × keeps then piece last × (mid ≡ piece ++ new)
+        → (put : List ℕ) × keeps first put then × AreLeft writer reader places faults left before (put ++ old)
+        → (put : List ℕ) × keeps first put last × AreLeft writer reader places faults rest before (put ++ new)
     put_more is line (piece, appended, cut) (put, stood, have) = (
       put ++ piece,
-      Appends-trans first then last put piece stood appended,
+      chain first then last put piece stood appended,
       subst (AreLeft writer reader places faults rest before) (ap (λ t. put ++ t) cut ∙ sym (append_assoc put piece new))
           (left_more faults left rest fault before (put ++ old) (put ++ mid) is (λ h. behind fault put old mid (line h)) have),
     )
@@ -87,18 +86,19 @@ module _ (writer reader : List Node) (places : List Place) where
       let more = lines_of faults between after added in
       (line.line ∷ more.0, (line.is, more.1), more.2 ∙ ap (λ t. t ++ concat more.0) line.added ∙ append_assoc before line.line (concat more.0))
 
-  told : (faults : List Finding) (text : List ℕ) → AreLinesAdded writer reader places faults (no_line (length faults)) text → AreFaultLines writer reader places faults text
+  pub told : (faults : List Finding) (text : List ℕ) → AreLinesAdded writer reader places faults (no_line (length faults)) text → AreFaultLines writer reader places faults text
   told faults text added =
       let more = lines_of faults (no_line (length faults)) text added in
       record { lines = more.0; each = more.1; written = more.2 }
 
   -- all lines are put, and what was kept of them
-  pub put_all : (first then last : Option (List ℕ)) (faults : List Finding) (begun rest whole : List ℕ) → begun ≡ no_line (length faults) → whole ≡ rest
-      → (put : List ℕ) × Appends first then put × AreLinesAdded writer reader places faults begun (put ++ rest) → Appends then last whole
-      → (text : List ℕ) × AreFaultLines writer reader places faults text × Appends first last text
-  put_all first then last faults begun rest whole is same (put, stood, added) appended = (
+  pub put_all : {O : Type 0} (keeps : O → List ℕ → O → Type 0) (chain : (s t u : O) (front back : List ℕ) → keeps s front t → keeps t back u → keeps s (front ++ back) u)
+      (first then last : O) (faults : List Finding) (begun rest whole : List ℕ) → begun ≡ no_line (length faults) → whole ≡ rest
+      → (put : List ℕ) × keeps first put then × AreLinesAdded writer reader places faults begun (put ++ rest) → keeps then whole last
+      → (text : List ℕ) × AreFaultLines writer reader places faults text × keeps first text last
+  put_all keeps chain first then last faults begun rest whole is same (put, stood, added) appended = (
     put ++ whole,
     told faults (put ++ whole) (subst (λ b. AreLinesAdded writer reader places faults b (put ++ whole)) is
         (subst (λ r. AreLinesAdded writer reader places faults begun (put ++ r)) (sym same) added)),
-    Appends-trans first then last put whole stood appended,
+    chain first then last put whole stood appended,
   )

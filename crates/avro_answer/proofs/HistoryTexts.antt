@@ -6,15 +6,14 @@ use Rattle.std.proofs.lemmas.Bool.{eqb-true, eqb-false}
 use Rattle.std.specs.Prelude.{◌==◌}
 use Rattle.std.specs.List.{AllZip, AllByRecursion}
 use Rattle.avro_schema.specs.Node.{Node}
-use Rattle.avro_schema_json.specs.Declaration.{max_text}
-use Rattle.avro_schema_json.specs.DeclaredText.{DeclaresText}
 use Rattle.avro_schema_json.specs.declared.error.SchemaError.{SchemaError}
 use Rattle.avro_answer.specs.HistoryAnswer.{cut_texts, IsFirstRefused, RefusesHistory, AllHaveSchemas}
+use Rattle.avro_answer.specs.ReadText.{IsReadAs}
 use Rattle.avro_answer.specs.RefusalText.{HasCode, HasSchema, RefusesOne}
 use Rattle.avro_answer.specs.inside.Read.{RefusesReader}
 use Rattle.avro_answer.specs.declared.refusal.Refusal.{Refusal}
 
-have_schemas : (texts : List (List ℕ)) (schemas : List (List Node)) → AllZip DeclaresText texts schemas → AllByRecursion HasSchema texts
+have_schemas : (texts : List (List ℕ)) (schemas : List (List Node)) → AllZip IsReadAs texts schemas → AllByRecursion HasSchema texts
 have_schemas [] [] h = tt
 have_schemas [] (s ∷ schemas) h = absurd h
 have_schemas (t ∷ texts) [] h = absurd h
@@ -29,7 +28,7 @@ one_among P (y ∷ before) x after h = one_among P before x after h.1
 pub record ReadSoFar (texts lengths rest : List ℕ) (i : ℕ) (schemas : List (List Node)) : Type 0 where
   pub passed : List (List ℕ)
   pub whole : cut_texts texts lengths ≡ passed ++ cut_texts rest (drop i lengths)
-  pub declared : AllZip DeclaresText passed schemas
+  pub declared : AllZip IsReadAs passed schemas
 
 pub read_none : (texts lengths : List ℕ) → ReadSoFar texts lengths texts 0 []
 read_none texts lengths = record { passed = []; whole = refl; declared = tt }
@@ -45,11 +44,11 @@ module _ (texts lengths rest : List ℕ) (i : ℕ) (schemas : List (List Node)) 
     parted : cut_texts texts lengths ≡ before.passed ++ (front ∷ cut_texts back (drop (i + 1) lengths))
     parted = before.whole ∙ ap (λ l. before.passed ++ l) ahead
 
-    pub read_one : (nodes : List Node) → DeclaresText front nodes → ReadSoFar texts lengths back (i + 1) (schemas ++ (nodes ∷ []))
+    pub read_one : (nodes : List Node) → IsReadAs front nodes → ReadSoFar texts lengths back (i + 1) (schemas ++ (nodes ∷ []))
     read_one nodes declares = record {
       passed = before.passed ++ (front ∷ []);
       whole = parted ∙ sym (append_assoc before.passed (front ∷ []) (cut_texts back (drop (i + 1) lengths)));
-      declared = all_zipped_more DeclaresText before.passed schemas front nodes before.declared declares;
+      declared = all_zipped_more IsReadAs before.passed schemas front nodes before.declared declares;
     }
 
     is_first : (after : List (List ℕ)) → cut_texts back (drop (i + 1) lengths) ≡ after → (e : SchemaError) → HasCode front e → IsFirstRefused (cut_texts texts lengths) after e
@@ -84,12 +83,10 @@ module _ (texts lengths rest : List ℕ) (i : ℕ) (schemas : List (List Node)) 
     one_refused false e r reader writer =
         let differ : i + 1 ≡ length lengths → ⊥ = eqb-false (i + 1) (length lengths) (sym e) in other_refused (omega (arith, differ, here)) r (writer refl)
 
-    pub has_schema : AllHaveSchemas (cut_texts texts lengths) → HasSchema front × (length front ≤ max_text)
-    has_schema h =
-        one_among (λ text. HasSchema text × (length text ≤ max_text)) before.passed front (cut_texts back (drop (i + 1) lengths))
-        (subst AllHaveSchemas parted h)
+    pub has_schema : AllHaveSchemas (cut_texts texts lengths) → HasSchema front
+    has_schema h = one_among HasSchema before.passed front (cut_texts back (drop (i + 1) lengths)) (subst AllHaveSchemas parted h)
 
-  pub all_read : length lengths ≤ i → AllZip DeclaresText (cut_texts texts lengths) schemas
+  pub all_read : length lengths ≤ i → AllZip IsReadAs (cut_texts texts lengths) schemas
   all_read past =
-      subst (λ l. AllZip DeclaresText l schemas)
+      subst (λ l. AllZip IsReadAs l schemas)
       (sym (before.whole ∙ ap (λ l. before.passed ++ cut_texts rest l) (drop_all i lengths past) ∙ append-nil before.passed)) before.declared

@@ -27,8 +27,8 @@ pub yes_compatible : (writer reader text : List ℕ) (limits : JudgeLimitValues)
     → IsYes text status → (written read : List Node) → DeclaresText writer written → DeclaresText reader read → AreCompatible written read
 yes_compatible writer reader text limits status answer is_yes written read g h =
     are_compatible answer.written answer.read written read
-    (one_text writer answer.written written answer.declares_written g)
-    (one_text reader answer.read read answer.declares_read h)
+    (one_text writer answer.written written answer.declares_written.1 g)
+    (one_text reader answer.read read answer.declares_read.1 h)
     (answer.answered.yes.0 is_yes).1
 
 pub confirmed_compatible : ((tree : Data) (nodes : List Node) → DeclaresSchema tree nodes → is_schema nodes ≡ true)
@@ -36,7 +36,7 @@ pub confirmed_compatible : ((tree : Data) (nodes : List Node) → DeclaresSchema
     → IsConfirmed text status → (written read : List Node) → DeclaresText writer written → DeclaresText reader read → AreCompatible written read
 confirmed_compatible sound writer reader certificate text status answer confirmed written read g h =
     are_compatible answer.written answer.read written read
-    (one_text writer answer.written written answer.declares_written g)
-    (one_text reader answer.read read answer.declares_read h)
+    (one_text writer answer.written written answer.declares_written.1 g)
+    (one_text reader answer.read read answer.declares_read.1 h)
     (closed_compatible answer.written answer.read answer.dead answer.pairs
-    (sound answer.declares_read.0 answer.read answer.declares_read.2) (answer.answered.confirmed.0 confirmed))
+    (sound answer.declares_read.1.0 answer.read answer.declares_read.1.2) (answer.answered.confirmed.0 confirmed))

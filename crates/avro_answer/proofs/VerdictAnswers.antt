@@ -111,7 +111,10 @@ module _ (writer reader : Schema) (limits : JudgeLimitValues) where
   status_answered v status same right = let s = in_text v (verdict_text (schema_nodes writer) v) status refl same right in record {
     yes = (λ h. s.yes.0 (by_known (λ y. y) (λ n. absurd (omega (arith, h, n))) (λ u. absurd (omega (arith, h, u.1.1))) s.known), λ h. (s.yes.1 h).1);
     no = λ h. ((s.no h).0, (s.no h).1, (s.no h).2);
-    undecided = λ h. by_known (λ y. absurd (omega (arith, h, y.1))) (λ n. absurd (omega (arith, h, n))) (λ u. (u.0, (s.undecided u.0).0 u.1)) s.known;
+    undecided = (
+      λ h. by_known (λ y. absurd (omega (arith, h, y.1))) (λ n. absurd (omega (arith, h, n))) (λ u. (u.0, (s.undecided u.0).0 u.1)) s.known,
+      λ passed. ((s.undecided passed.0).1 passed.1).1,
+    );
     known = by_known (λ y. inl y.1) (λ n. inr (inl n)) (λ u. inr (inr u.1.1)) s.known;
   }
 

@@ -1,11 +1,12 @@
 -- What `avro confirm` answers of three texts: the bytes that it prints, and its exit status.
-use Rattle.std.specs.Prelude.{◌≡◌, ◌↔◌, ℕ, true, false, List, codes}
+use Rattle.std.specs.Prelude.{◌≡◌, ◌≢◌, ◌↔◌, ℕ, true, false, List, codes}
 use Rattle.avro_schema.specs.Node.{Node}
-use Rattle.avro_schema_json.specs.DeclaredText.{DeclaresText}
 use Rattle.avro_compare.specs.Children.{Pair}
 use Rattle.avro_certificate.specs.Closed.{is_closed}
 use Rattle.avro_certificate.specs.CertificateText.{CertText, are_small}
 use Rattle.avro_certificate.specs.CertificateRead.{Refuses}
+use Rattle.avro_certificate.specs.declared.error.CertError.{CertError}
+use Rattle.avro_answer.specs.ReadText.{IsReadAs}
 use Rattle.avro_answer.specs.RefusalText.{HasCode, HasSchema}
 use Rattle.avro_answer.specs.declared.refusal.Refusal.{Refusal}
 
@@ -25,15 +26,17 @@ pub record SetsStatus (writer reader : List Node) (dead : List ℕ) (pairs : Lis
   pub confirmed : (status ≡ 0) ↔ (is_closed writer reader dead pairs ≡ true)
   pub refused : (status ≡ 1) ↔ (is_closed writer reader dead pairs ≡ false)
 
--- What is answered of three texts: two declare schemas, the third is a certificate's, and it is the answer of those.
+-- What is answered of three texts: two declare schemas and are not too long, the third is a certificate's of numbers that a
+-- schema's nodes can have, and it is the answer of those.
 pub record ConfirmAnswer (writer reader certificate text : List ℕ) (status : ℕ) : Type 0 where
   pub written : List Node
   pub read : List Node
   pub dead : List ℕ
   pub pairs : List Pair
-  pub declares_written : DeclaresText writer written
-  pub declares_read : DeclaresText reader read
+  pub declares_written : IsReadAs writer written
+  pub declares_read : IsReadAs reader read
   pub certifies : CertText dead pairs certificate
+  pub small : are_small dead pairs ≡ true
   pub answered : SetsAnswer written read dead pairs text status
 
 -- What the status says of three texts, in each form of the answer.
@@ -42,18 +45,19 @@ pub record ConfirmStatus (writer reader certificate : List ℕ) (status : ℕ) :
   pub read : List Node
   pub dead : List ℕ
   pub pairs : List Pair
-  pub declares_written : DeclaresText writer written
-  pub declares_read : DeclaresText reader read
+  pub declares_written : IsReadAs writer written
+  pub declares_read : IsReadAs reader read
   pub certifies : CertText dead pairs certificate
+  pub small : are_small dead pairs ≡ true
   pub answered : SetsStatus written read dead pairs status
 
 -- the text is a certificate's, of numbers that a schema's nodes can have
 abbrev pub HasCertificate : List ℕ → Type 0
 HasCertificate text = (dead : List ℕ) × (pairs : List Pair) × CertText dead pairs text × (are_small dead pairs ≡ true)
 
--- What a refusal says of three texts: the first that is refused is this one.
+-- What a refusal says of three texts: the first that is refused is this one. Memory that runs out says nothing.
 abbrev pub RefusesOneOf : List ℕ → List ℕ → List ℕ → Refusal → Type 0
 RefusesOneOf writer reader certificate (Refusal.Writer e) = HasCode writer e
 RefusesOneOf writer reader certificate (Refusal.Reader e) = HasSchema writer × HasCode reader e
-RefusesOneOf writer reader certificate (Refusal.Certificate e) = HasSchema writer × HasSchema reader × Refuses e certificate
+RefusesOneOf writer reader certificate (Refusal.Certificate e) = HasSchema writer × HasSchema reader × (e ≢ CertError.OutOfMemory) × Refuses e certificate
 RefusesOneOf writer reader certificate Refusal.OutOfMemory = Unit {0}

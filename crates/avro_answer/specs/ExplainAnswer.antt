@@ -1,13 +1,14 @@
 -- What `avro explain` answers of two texts: its verdict, and its exit status.
-use Rattle.std.specs.Prelude.{◌≡◌, ◌↔◌, ℕ, ◌⊎◌, List, codes}
+use Rattle.std.specs.Prelude.{◌≡◌, ◌↔◌, ℕ, ◌⊎◌, List, codes, length}
 use Rattle.avro_schema.specs.Node.{Node}
-use Rattle.avro_schema_json.specs.DeclaredText.{DeclaresText}
 use Rattle.avro_compare.specs.Children.{Pair}
 use Rattle.avro_certificate.specs.Compatible.{AreCompatible}
 use Rattle.avro_certificate.specs.Evidence.{IsGreatestDead}
-use Rattle.avro_explain.specs.Places.{pairs_of, AreByBreadth, AreFaults, ArePlaced, AreReached, AreTooMany}
+use Rattle.avro_explain.specs.Places.{pairs_of, AreByBreadth, AreFaults, AreFollowed, ArePlaced, AreReached, AreTooMany}
+use Rattle.avro_explain.specs.Search.{AreSearched}
 use Rattle.avro_explain.specs.declared.found.Finding.{Finding}
 use Rattle.avro_explain.specs.declared.found.Place.{Place}
+use Rattle.avro_answer.specs.ReadText.{IsReadAs}
 use Rattle.avro_answer.specs.FaultLine.{AreFaultLines}
 use Rattle.avro_answer.specs.JudgeAnswer.{IsYes}
 
@@ -18,8 +19,8 @@ IsOverPairs text status = (text ≡ codes "undecided Pairs\n") × (status ≡ 2)
 abbrev pub IsOverLimit : List Node → List Node → ℕ → Type 0
 IsOverLimit writer reader limit = (dead : List ℕ) × (pairs : List Pair) × IsGreatestDead writer dead × AreTooMany writer reader dead limit pairs
 
--- The text of a no: the pairs of nodes that the roots lead to, each once and by breadth, but for the writer's nodes that no
--- datum has; exactly their faults; and a line for each of these, in order.
+-- The text of a no: the pairs of nodes that the roots lead to, each once, in the order and by the steps of a search by
+-- breadth, but for the writer's nodes that no datum has; exactly their faults; and a line for each of these, in order.
 pub record AreAllFaults (writer reader : List Node) (text : List ℕ) : Type 0 where
   pub dead : List ℕ
   pub greatest : IsGreatestDead writer dead
@@ -27,6 +28,8 @@ pub record AreAllFaults (writer reader : List Node) (text : List ℕ) : Type 0 w
   pub reached : AreReached writer reader dead (pairs_of places)
   pub placed : ArePlaced writer reader places
   pub breadth : AreByBreadth places
+  pub followed : AreFollowed writer reader dead places (length places)
+  pub searched : AreSearched writer reader dead places
   pub faults : List Finding
   pub exact : AreFaults writer reader places faults
   pub told : AreFaultLines writer reader places faults text
@@ -51,18 +54,18 @@ pub record FaultsStatus (writer reader : List Node) (limit status : ℕ) : Type 
   pub undecided : (status ≡ 2) ↔ IsOverLimit writer reader limit
   pub known : (status ≡ 0) ⊎ (status ≡ 1) ⊎ (status ≡ 2)
 
--- What is answered of two texts: both declare schemas, and it is the answer of those.
+-- What is answered of two texts: both declare schemas and are not too long, and it is the answer of those.
 pub record ExplainAnswer (writer reader : List ℕ) (limit : ℕ) (text : List ℕ) (status : ℕ) : Type 0 where
   pub written : List Node
   pub read : List Node
-  pub declares_written : DeclaresText writer written
-  pub declares_read : DeclaresText reader read
+  pub declares_written : IsReadAs writer written
+  pub declares_read : IsReadAs reader read
   pub answered : FaultsAnswer written read limit text status
 
 -- The same of the status alone, in each form of the answer.
 pub record ExplainStatus (writer reader : List ℕ) (limit status : ℕ) : Type 0 where
   pub written : List Node
   pub read : List Node
-  pub declares_written : DeclaresText writer written
-  pub declares_read : DeclaresText reader read
+  pub declares_written : IsReadAs writer written
+  pub declares_read : IsReadAs reader read
   pub answered : FaultsStatus written read limit status

@@ -3,7 +3,7 @@ use Rattle.std.specs.Prelude.{◌≡◌, ℕ, List, [], ◌++◌, Option, Some, 
 use Rattle.std.specs.List.{AllZip, concat}
 use Rattle.avro_schema.specs.Node.{Node, symbols_of}
 use Rattle.avro_explain.specs.Places.{ArePlaced}
-use Rattle.avro_explain.specs.Ways.{IsWay}
+use Rattle.avro_explain.specs.Ways.{IsWay, IsWayTo}
 use Rattle.avro_explain.specs.declared.found.Detail.{Detail}
 use Rattle.avro_explain.specs.declared.found.Finding.{Finding}
 use Rattle.avro_explain.specs.declared.found.PathStep.{PathStep}
@@ -65,7 +65,7 @@ fault_line writer reader place d writer_way reader_way =
     line_of d (unwrap_or (missing_of writer reader place d) []) (place_text writer writer_way) (type_text 256 writer place.w.0)
     (place_text reader reader_way) (type_text 256 reader place.r.0)
 
--- the line of a fault, by ways that lead to the nodes of its place
+-- the line of a fault, by the two ways to its place, which lead to the nodes of the place
 pub record IsFaultLine (writer reader : List Node) (places : List Place) (fault : Finding) (line : List ℕ) : Type 0 where
   pub place : Place
   pub there : slice_get places fault.place ≡ Some place
@@ -73,6 +73,7 @@ pub record IsFaultLine (writer reader : List Node) (places : List Place) (fault 
   pub reader_way : List PathStep
   pub leads_writer : ArePlaced writer reader places → IsWay writer writer_way place.w.0
   pub leads_reader : ArePlaced writer reader places → IsWay reader reader_way place.r.0
+  pub way : ArePlaced writer reader places → IsWayTo places fault.place writer_way reader_way
   pub written : line ≡ fault_line writer reader place fault.detail writer_way reader_way
 
 -- this line added to a text

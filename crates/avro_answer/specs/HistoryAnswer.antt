@@ -1,10 +1,8 @@
 -- What `avro history` answers: a line of two schemas, with its status; and all lines of several texts, with the status.
-use Rattle.std.specs.Prelude.{◌≡◌, ◌↔◌, ℕ, ◌<◌, ◌≤◌, ◌==◌, if◌then◌else◌, ◌⊎◌, List, [], ◌∷◌, ◌++◌, length, get_or, take, drop, codes}
+use Rattle.std.specs.Prelude.{◌≡◌, ◌↔◌, ℕ, ◌<◌, ◌==◌, if◌then◌else◌, ◌⊎◌, List, [], ◌∷◌, ◌++◌, length, get_or, take, drop, codes}
 use Rattle.std.specs.List.{AllZip, AllByRecursion, list_any, concat}
 use Rattle.avro_schema.specs.Value.{Value}
 use Rattle.avro_schema.specs.Node.{Node}
-use Rattle.avro_schema_json.specs.Declaration.{max_text}
-use Rattle.avro_schema_json.specs.DeclaredText.{DeclaresText}
 use Rattle.avro_schema_json.specs.declared.error.SchemaError.{SchemaError}
 use Rattle.avro_compare.specs.Fault.{ResolutionFault}
 use Rattle.avro_certificate.specs.Compatible.{AreCompatible}
@@ -14,6 +12,7 @@ use Rattle.avro_judge.specs.JudgeRanges.{JudgeLimitValues}
 use Rattle.avro_judge.specs.declared.verdict.Cause.{Cause}
 use Rattle.avro_answer.specs.Texts.{cause_text}
 use Rattle.avro_answer.specs.JudgeAnswer.{StatusAnswer}
+use Rattle.avro_answer.specs.ReadText.{IsReadAs}
 use Rattle.avro_answer.specs.RefusalText.{HasCode, HasSchema}
 use Rattle.avro_answer.specs.declared.refusal.Refusal.{Refusal}
 
@@ -66,18 +65,18 @@ pub record SchemasStatus (schemas : List (List Node)) (limits : JudgeLimitValues
   pub none : schemas ≡ [] → status ≡ 0
   pub lines : (writers : List (List Node)) (reader : List Node) → schemas ≡ writers ++ (reader ∷ []) → LinesStatus writers reader limits status
 
--- What is answered of several texts: each declares a schema, and it is the answer of those.
+-- What is answered of several texts: each declares a schema and is not too long, and it is the answer of those.
 pub record HistoryAnswer (texts : List (List ℕ)) (limits : JudgeLimitValues) (text : List ℕ) (status : ℕ) : Type 0 where
   pub schemas : List (List Node)
-  pub declared : AllZip DeclaresText texts schemas
+  pub declared : AllZip IsReadAs texts schemas
   pub answered : SchemasHistory schemas limits text status
 
 pub record HistoryStatus (texts : List (List ℕ)) (limits : JudgeLimitValues) (status : ℕ) : Type 0 where
   pub schemas : List (List Node)
-  pub declared : AllZip DeclaresText texts schemas
+  pub declared : AllZip IsReadAs texts schemas
   pub answered : SchemasStatus schemas limits status
 
--- The first text that declares no schema has the code; the texts after it are given.
+-- The first text that is too long or declares no schema has the code; the texts after it are given.
 pub record IsFirstRefused (texts after : List (List ℕ)) (e : SchemaError) : Type 0 where
   pub before : List (List ℕ)
   pub refused : List ℕ
@@ -93,6 +92,6 @@ RefusesHistory texts (Refusal.Reader e) = IsFirstRefused texts [] e
 RefusesHistory texts (Refusal.Certificate e) = ⊥
 RefusesHistory texts Refusal.OutOfMemory = Unit {0}
 
--- each text declares a schema, and none is longer than a text may be
+-- each text declares a schema and is not too long
 abbrev pub AllHaveSchemas : List (List ℕ) → Type 0
-AllHaveSchemas texts = AllByRecursion (λ text. HasSchema text × (length text ≤ max_text)) texts
+AllHaveSchemas texts = AllByRecursion HasSchema texts

@@ -2,7 +2,6 @@
 use Rattle.std.specs.Prelude.{◌≡◌, ◌↔◌, ℕ, ◌⊎◌, List, ◌++◌, codes}
 use Rattle.avro_schema.specs.Value.{Value, size}
 use Rattle.avro_schema.specs.Node.{Node, root_of}
-use Rattle.avro_schema_json.specs.DeclaredText.{DeclaresText}
 use Rattle.avro_display.specs.DisplayTree.{display_text}
 use Rattle.avro_compare.specs.Fault.{ResolutionFault}
 use Rattle.avro_certificate.specs.Compatible.{AreCompatible}
@@ -10,6 +9,7 @@ use Rattle.avro_certificate.specs.CertificateText.{decimal}
 use Rattle.avro_judge.specs.Headline.{Refutes, InPairs, IsPassed}
 use Rattle.avro_judge.specs.JudgeRanges.{JudgeLimitValues}
 use Rattle.avro_judge.specs.declared.verdict.Cause.{Cause}
+use Rattle.avro_answer.specs.ReadText.{IsReadAs}
 use Rattle.avro_answer.specs.Texts.{fault_text, cause_text}
 
 abbrev pub IsYes : List ℕ → ℕ → Type 0
@@ -47,21 +47,21 @@ pub record SchemasAnswer (writer reader : List Node) (limits : JudgeLimitValues)
 pub record StatusAnswer (writer reader : List Node) (limits : JudgeLimitValues) (status : ℕ) : Type 0 where
   pub yes : (status ≡ 0) ↔ (InPairs writer reader limits × AreCompatible writer reader)
   pub no : status ≡ 1 → (v : Value) × (fault : ResolutionFault) × Refutes writer reader limits v fault
-  pub undecided : status ≡ 2 → (cause : Cause) × IsPassed writer reader limits cause
+  pub undecided : (status ≡ 2) ↔ ((cause : Cause) × IsPassed writer reader limits cause)
   pub known : (status ≡ 0) ⊎ (status ≡ 1) ⊎ (status ≡ 2)
 
--- What is answered of two texts: both declare schemas, and it is the answer of those.
+-- What is answered of two texts: both declare schemas and are not too long, and it is the answer of those.
 pub record JudgeAnswer (writer reader : List ℕ) (limits : JudgeLimitValues) (text : List ℕ) (status : ℕ) : Type 0 where
   pub written : List Node
   pub read : List Node
-  pub declares_written : DeclaresText writer written
-  pub declares_read : DeclaresText reader read
+  pub declares_written : IsReadAs writer written
+  pub declares_read : IsReadAs reader read
   pub answered : SchemasAnswer written read limits text status
 
--- What the status says of two texts, in each form of the answer: both declare schemas, and it is the status of those.
+-- What the status says of two texts, in each form of the answer: both are such texts, and it is the status of their schemas.
 pub record JudgeStatus (writer reader : List ℕ) (limits : JudgeLimitValues) (status : ℕ) : Type 0 where
   pub written : List Node
   pub read : List Node
-  pub declares_written : DeclaresText writer written
-  pub declares_read : DeclaresText reader read
+  pub declares_written : IsReadAs writer written
+  pub declares_read : IsReadAs reader read
   pub answered : StatusAnswer written read limits status

@@ -1,4 +1,5 @@
 pub mod Texts
+pub mod ReadText
 pub mod JudgeAnswer
 pub mod HistoryAnswer
 pub mod ConfirmAnswer
@@ -7,5 +8,4 @@ pub mod PlaceText
 pub mod FaultLine
 pub mod SchemaAnswer
 pub mod RefusalText
-pub mod ContainerText
 pub mod inside

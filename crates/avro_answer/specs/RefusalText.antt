@@ -4,9 +4,9 @@ use Rattle.avro_schema.specs.Node.{Node}
 use Rattle.serde_json.specs.Data.{Data}
 use Rattle.avro_schema_json.specs.Declaration.{max_text, HasTree, IsNoJson}
 use Rattle.avro_schema_json.specs.DeclaredFaults.{HasFault}
-use Rattle.avro_schema_json.specs.DeclaredText.{DeclaresText}
 use Rattle.avro_schema_json.specs.declared.error.SchemaError.{SchemaError}
 use Rattle.avro_certificate.specs.declared.error.CertError.{CertError}
+use Rattle.avro_answer.specs.ReadText.{IsReadAs}
 use Rattle.avro_answer.specs.declared.refusal.Refusal.{Refusal}
 
 -- the code of a refusal
@@ -34,20 +34,20 @@ certificate_code CertError.OutOfMemory = codes "G3"
 abbrev pub refusal_text : List ℕ → List ℕ → List ℕ
 refusal_text word code = codes "avro: " ++ word ++ codes ": " ++ code ++ codes "\n"
 
--- The code is one that the text has: it is no JSON, it is too long, or its tree has the fault.
+-- The code is one that the text has: it is too long, whatever it holds; or else it is no JSON, or its tree has the fault.
 abbrev pub HasCode : List ℕ → SchemaError → Type 0
 HasCode text e =
-    ((e ≡ SchemaError.NotJson) × IsNoJson text)
-    ⊎ ((e ≡ SchemaError.LimitExceeded) × (max_text < length text))
-    ⊎ ((tree : Data) × HasTree text tree × HasFault tree e)
+    ((max_text < length text) × (e ≡ SchemaError.LimitExceeded))
+    ⊎ ((length text ≤ max_text) × (e ≡ SchemaError.NotJson) × IsNoJson text)
+    ⊎ ((length text ≤ max_text) × (tree : Data) × HasTree text tree × HasFault tree e)
 
--- the text declares a schema
+-- the text is not too long, and declares a schema
 abbrev pub HasSchema : List ℕ → Type 0
-HasSchema text = (nodes : List Node) × DeclaresText text nodes
+HasSchema text = (nodes : List Node) × IsReadAs text nodes
 
--- so does each of both, and neither is longer than a text may be
+-- so does each of both
 abbrev pub HaveSchemas : List ℕ → List ℕ → Type 0
-HaveSchemas writer reader = HasSchema writer × (length writer ≤ max_text) × HasSchema reader × (length reader ≤ max_text)
+HaveSchemas writer reader = HasSchema writer × HasSchema reader
 
 -- What a refusal says of the text of one schema.
 abbrev pub RefusesOne : List ℕ → Refusal → Type 0

@@ -1,11 +1,13 @@
-ghost use Rattle.std.specs.Prelude.{◌≡◌, true, false, codes, IfOk};
+ghost use Rattle.std.specs.Prelude.{◌≡◌, ◌<◌, true, false, length, codes, IfOk, IsErrOf};
 ghost use Rattle.std.specs.Result.{IfErr};
 ghost use Rattle.avro_schema.specs.SeenSchema.{schema_nodes};
+ghost use Rattle.avro_schema_json.specs.Declaration.{max_text};
+ghost use Rattle.avro_schema_json.specs.declared.error.SchemaError.{SchemaError};
 ghost use Rattle.avro_certificate.specs.SeenCertificate.{dead_of, pairs_in};
 ghost use Rattle.avro_answer.specs.ConfirmAnswer.{SetsAnswer, SetsStatus, ConfirmAnswer, ConfirmStatus, HasCertificate, RefusesOneOf};
 ghost use Rattle.avro_answer.specs.RefusalText.{HaveSchemas};
 ghost use Rattle.avro_answer.specs.declared.form.Form.{Form};
-ghost use Rattle.avro_answer.specs.declared.refusal.Refusal.TheVariants.{OutOfMemory};
+ghost use Rattle.avro_answer.specs.declared.refusal.Refusal.TheVariants.{Writer, OutOfMemory};
 
 use crate::answer::Answer;
 use crate::form::Form;
@@ -81,6 +83,7 @@ pub fn confirm_text(
 ) -> Result<Answer, Refusal>
     ensures answered { IfOk result (λ a. form ≡ Form.Text → ConfirmAnswer writer.now reader.now certificate.now a.text.items a.status) }
     ensures status { IfOk result (λ a. ConfirmStatus writer.now reader.now certificate.now a.status) }
+    ensures too_long { max_text < length writer.now → IsErrOf result (Writer SchemaError.LimitExceeded) }
     ensures refused { IfErr result (RefusesOneOf writer.now reader.now certificate.now) }
     ensures complete { HaveSchemas writer.now reader.now → HasCertificate certificate.now → IfErr result (λ e. e ≡ OutOfMemory) }
 {

@@ -1,21 +1,21 @@
 //! All faults of two schemas, by names.
 
-ghost use Rattle.std.specs.Prelude.{◌≡◌, codes, IfOk};
+ghost use Rattle.std.specs.Prelude.{◌≡◌, ◌<◌, length, codes, IfOk, IsErrOf};
 ghost use Rattle.std.specs.Result.{IfErr};
 ghost use Rattle.avro_schema.specs.SeenSchema.{schema_nodes};
-ghost use Rattle.avro_explain.specs.Places.{AreFaults};
+ghost use Rattle.avro_schema_json.specs.Declaration.{max_text};
+ghost use Rattle.avro_schema_json.specs.declared.error.SchemaError.{SchemaError};
 ghost use Rattle.avro_answer.specs.ExplainAnswer.{FaultsAnswer, FaultsStatus, ExplainAnswer, ExplainStatus};
-ghost use Rattle.avro_answer.specs.FaultLine.{AreFaultLines};
 ghost use Rattle.avro_answer.specs.RefusalText.{RefusesPair, HaveSchemas};
 ghost use Rattle.avro_answer.specs.declared.form.Form.{Form};
-ghost use Rattle.avro_answer.specs.declared.refusal.Refusal.TheVariants.{OutOfMemory};
+ghost use Rattle.avro_answer.specs.declared.refusal.Refusal.TheVariants.{Writer, OutOfMemory};
 
 use crate::answer::Answer;
-use crate::fault_lines::put_faults;
+use crate::fault_lines::faults_text;
 use crate::form::Form;
 use crate::reading::{read_reader, read_writer};
 use crate::refusal::Refusal;
-use avro_explain::{ExplainError, Explanation, explain};
+use avro_explain::{ExplainError, explain};
 use avro_schema::{Memory, Schema};
 use std::alloc::Global;
 
@@ -33,6 +33,7 @@ pub fn explain_text(
 ) -> Result<Answer, Refusal>
     ensures answered { IfOk result (λ a. form ≡ Form.Text → ExplainAnswer writer.now reader.now max_pairs a.text.items a.status) }
     ensures status { IfOk result (λ a. ExplainStatus writer.now reader.now max_pairs a.status) }
+    ensures too_long { max_text < length writer.now → IsErrOf result (Writer SchemaError.LimitExceeded) }
     ensures refused { IfErr result (RefusesPair writer.now reader.now) }
     ensures complete { HaveSchemas writer.now reader.now → IfErr result (λ e. e ≡ OutOfMemory) }
 {
@@ -86,23 +87,5 @@ pub fn over_pairs(form: Form) -> &'static str
     match form {
         Form::Text => "undecided Pairs\n",
         Form::Json => "{\"verdict\":\"undecided\",\"cause\":\"Pairs\"}\n",
-    }
-}
-
-/// The text of all faults.
-fn faults_text(
-    alloc: Global,
-    writer: &Schema,
-    reader: &Schema,
-    found: &Explanation,
-    form: Form,
-) -> Result<Vec<u8>, Memory>
-    ensures { form ≡ Form.Text → AreFaults (schema_nodes writer.now) (schema_nodes reader.now) found.now.places.items found.now.faults.items
-        → IfOk result (λ text. AreFaultLines (schema_nodes writer.now) (schema_nodes reader.now) found.now.places.items found.now.faults.items text.items) }
-{
-    let mut text: Vec<u8> = Vec::new(alloc);
-    match put_faults(&mut text, alloc, writer, reader, found, form) {
-        Ok(()) => Ok(text),
-        Err(_) => Err(Memory),
     }
 }

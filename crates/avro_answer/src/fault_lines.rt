@@ -1,20 +1,19 @@
 //! The lines of all faults of two schemas, by names.
 
-ghost use Rattle.std.specs.Prelude.{◌≡◌, ◌<◌, ◌++◌, ℕ, List, [], length, string_bytes, IfOk, OnOk};
-ghost use Rattle.std.specs.Io.KnownBytes.{Appends};
+ghost use Rattle.std.specs.Prelude.{◌≡◌, ◌≢◌, ◌<◌, ◌⊎◌, ◌++◌, ℕ, List, [], length, string_bytes, IfOk, OnOk, IsErrOf};
 ghost use Rattle.avro_schema.specs.SeenSchema.{schema_nodes};
 ghost use Rattle.avro_explain.specs.Places.{AreFaults};
 ghost use Rattle.avro_answer.specs.FaultLine.{AreFaultLines, IsLineAdded, no_line};
 ghost use Rattle.avro_answer.specs.inside.FaultsAdded.{HavePlaces, AreLinesAdded};
 ghost use Rattle.avro_answer.specs.declared.form.Form.{Form};
+ghost use Rattle.avro_answer.specs.declared.fault_lines.PutError.{PutError};
 
 use crate::form::Form;
 use crate::named_fault::name_fault;
+use avro_device::{DeviceFault, Output, put_all};
 use avro_explain::{Explanation, Finding, Place};
 use avro_schema::{Memory, Schema};
 use std::alloc::{AllocError, Global};
-use std::io;
-use std::io::Write;
 
 /// A text that is longer is put in several pieces.
 const PIECE: usize = 1_048_576;
@@ -22,36 +21,48 @@ const PIECE: usize = 1_048_576;
 /// Why the faults were not put.
 #[derive(Clone, Copy, Debug, PartialEq, Eq)]
 pub enum PutError {
-    /// The writer failed.
+    /// The output failed, or took none of the bytes.
     CannotWrite,
     /// Memory ran out.
     OutOfMemory,
 }
 
 impl From<Memory> for PutError {
+    ghost use Rattle.avro_answer.specs.declared.fault_lines.PutError.TheVariants.{OutOfMemory};
+
+    ghost from_gives = { λ _ error. error ≡ OutOfMemory };
+
     fn from(_error: Memory) -> PutError {
         PutError::OutOfMemory
     }
 }
 
 impl From<AllocError> for PutError {
+    ghost use Rattle.avro_answer.specs.declared.fault_lines.PutError.TheVariants.{OutOfMemory};
+
+    ghost from_gives = { λ _ error. error ≡ OutOfMemory };
+
     fn from(_error: AllocError) -> PutError {
         PutError::OutOfMemory
     }
 }
 
-impl From<io::Error> for PutError {
-    fn from(_error: io::Error) -> PutError {
+impl From<DeviceFault> for PutError {
+    ghost use Rattle.avro_answer.specs.declared.fault_lines.PutError.TheVariants.{CannotWrite};
+
+    ghost from_gives = { λ _ error. error ≡ CannotWrite };
+
+    fn from(_error: DeviceFault) -> PutError {
         PutError::CannotWrite
     }
 }
 
-/// Puts a no and all faults that were found, of which there are some, by names into a writer.
+/// Puts a no and all faults that were found, of which there are some, by names into an output.
 ///
 /// # Errors
 ///
-/// The writer failed, after some of the text or none; memory ran out.
-pub fn put_faults<O: Write>(
+/// The output failed, or took none of the bytes; memory ran out. Some of the text was put, or none.
+pub fn put_faults<O: Output>(
     out: &mut O,
     alloc: Global,
     writer: &Schema,
@@ -59,8 +70,11 @@ pub fn put_faults<O: Write>(
     found: &Explanation,
     form: Form,
 ) -> Result<(), PutError>
-    ensures { form ≡ Form.Text → AreFaults (schema_nodes writer.now) (schema_nodes reader.now) found.now.places.items found.now.faults.items → OnOk result ((text : List ℕ)
-        × AreFaultLines (schema_nodes writer.now) (schema_nodes reader.now) found.now.places.items found.now.faults.items text × Appends (O.contents out.old) (O.contents out.new) text) }
+    ensures put { form ≡ Form.Text → AreFaults (schema_nodes writer.now) (schema_nodes reader.now) found.now.places.items found.now.faults.items → OnOk result ((text : List ℕ)
+        × AreFaultLines (schema_nodes writer.now) (schema_nodes reader.now) found.now.places.items found.now.faults.items text × O.keeps out.old text out.new) }
+    ensures works { OnOk result (O.failures out.new ≡ O.failures out.old) }
+    ensures fails { IsErrOf result PutError.CannotWrite → (O.failures out.new ≢ O.failures out.old) ⊎ O.stuck out.new }
+    ensures memory { IsErrOf result PutError.OutOfMemory → O.failures out.new ≡ O.failures out.old }
 {
     let mut text = begin_faults(alloc, found.faults.len(), form)?;
     put_lines(&mut *out, &mut text, alloc, writer, reader, found, form)?;
@@ -68,8 +82,47 @@ pub fn put_faults<O: Write>(
     put_text(out, text.as_str())
 }
 
+/// The text that `put_faults` puts.
+pub(crate) fn faults_text(
+    alloc: Global,
+    writer: &Schema,
+    reader: &Schema,
+    found: &Explanation,
+    form: Form,
+) -> Result<Vec<u8>, Memory>
+    ensures { form ≡ Form.Text → AreFaults (schema_nodes writer.now) (schema_nodes reader.now) found.now.places.items found.now.faults.items
+        → IfOk result (λ text. AreFaultLines (schema_nodes writer.now) (schema_nodes reader.now) found.now.places.items found.now.faults.items text.items) }
+{
+    let mut text = begin_faults(alloc, found.faults.len(), form)?;
+    append_faults(&mut text, alloc, writer, reader, found, form)?;
+    text.push_str(end_of_faults(form))?;
+    Ok(text.into_bytes())
+}
+
+/// Appends all faults by names.
+fn append_faults(
+    text: &mut String,
+    alloc: Global,
+    writer: &Schema,
+    reader: &Schema,
+    found: &Explanation,
+    form: Form,
+) -> Result<(), Memory>
+    ensures { form ≡ Form.Text → HavePlaces found.now.places.items found.now.faults.items → OnOk result (AreLinesAdded (schema_nodes writer.now)
+        (schema_nodes reader.now) found.now.places.items found.now.faults.items (string_bytes text.old) (string_bytes text.new)) }
+{
+    let mut is_first = true;
+    for fault in &found.faults {
+        append_fault(
+            &mut *text, alloc, writer, reader, found, *fault, form, is_first,
+        )?;
+        is_first = false;
+    }
+    Ok(())
+}
+
 /// Puts all faults by names, but for what is left in the text.
-fn put_lines<O: Write>(
+fn put_lines<O: Output>(
     out: &mut O,
     text: &mut String,
     alloc: Global,
@@ -78,8 +131,11 @@ fn put_lines<O: Write>(
     found: &Explanation,
     form: Form,
 ) -> Result<(), PutError>
-    ensures { form ≡ Form.Text → HavePlaces found.now.places.items found.now.faults.items → OnOk result ((put : List ℕ) × Appends (O.contents out.old) (O.contents out.new) put
+    ensures put { form ≡ Form.Text → HavePlaces found.now.places.items found.now.faults.items → OnOk result ((put : List ℕ) × O.keeps out.old put out.new
         × AreLinesAdded (schema_nodes writer.now) (schema_nodes reader.now) found.now.places.items found.now.faults.items (string_bytes text.old) (put ++ string_bytes text.new)) }
+    ensures works { OnOk result (O.failures out.new ≡ O.failures out.old) }
+    ensures fails { IsErrOf result PutError.CannotWrite → (O.failures out.new ≢ O.failures out.old) ⊎ O.stuck out.new }
+    ensures memory { IsErrOf result PutError.OutOfMemory → O.failures out.new ≡ O.failures out.old }
 {
     let mut is_first = true;
     for fault in &found.faults {
@@ -93,8 +149,11 @@ fn put_lines<O: Write>(
 }
 
 /// Puts a text that is long and clears it, and nothing of one that is short.
-fn put_piece<O: Write>(out: &mut O, text: &mut String) -> Result<(), PutError>
-    ensures { OnOk result ((put : List ℕ) × Appends (O.contents out.old) (O.contents out.new) put × (string_bytes text.old ≡ put ++ string_bytes text.new)) }
+fn put_piece<O: Output>(out: &mut O, text: &mut String) -> Result<(), PutError>
+    ensures put { OnOk result ((put : List ℕ) × O.keeps out.old put out.new × (string_bytes text.old ≡ put ++ string_bytes text.new)) }
+    ensures works { OnOk result (O.failures out.new ≡ O.failures out.old) }
+    ensures fails { IsErrOf result PutError.CannotWrite → (O.failures out.new ≢ O.failures out.old) ⊎ O.stuck out.new }
+    ensures memory { IsErrOf result PutError.OutOfMemory → O.failures out.new ≡ O.failures out.old }
 {
     if text.len() <= PIECE {
         return Ok(());
@@ -104,11 +163,14 @@ fn put_piece<O: Write>(out: &mut O, text: &mut String) -> Result<(), PutError>
     Ok(())
 }
 
-/// Puts a text by one write, if the writer takes it whole.
-fn put_text<O: Write>(out: &mut O, text: &str) -> Result<(), PutError>
-    ensures { OnOk result (Appends (O.contents out.old) (O.contents out.new) text.now) }
+/// Puts a text by one call, if the output takes it whole.
+fn put_text<O: Output>(out: &mut O, text: &str) -> Result<(), PutError>
+    ensures put { OnOk result (O.keeps out.old text.now out.new) }
+    ensures works { OnOk result (O.failures out.new ≡ O.failures out.old) }
+    ensures fails { IsErrOf result PutError.CannotWrite → (O.failures out.new ≢ O.failures out.old) ⊎ O.stuck out.new }
+    ensures memory { IsErrOf result PutError.OutOfMemory → O.failures out.new ≡ O.failures out.old }
 {
-    out.write_all(text.as_bytes())?;
+    put_all(&mut *out, text.as_bytes())?;
     out.flush()?;
     Ok(())
 }

@@ -9,7 +9,11 @@ use avro_compare::{Fault, FaultKind};
 use std::alloc::AllocError;
 
 /// Appends a fault: its kind, and the way to it.
-pub(crate) fn append_fault(text: &mut Vec<u8>, fault: &Fault) -> Result<(), AllocError>
+///
+/// # Errors
+///
+/// Memory ran out.
+pub fn append_fault(text: &mut Vec<u8>, fault: &Fault) -> Result<(), AllocError>
     ensures { OnOk result (text.new.items ≡ text.old.items ++ fault_text (fault_of fault.now)) }
 {
     append_kind(text, fault.kind)?;

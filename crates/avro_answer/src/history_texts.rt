@@ -1,12 +1,11 @@
 //! Reading the texts of a history.
 
-ghost use Rattle.std.specs.Prelude.{◌≡◌, ◌≤◌, true, false, length, take, drop, map, IfOk};
+ghost use Rattle.std.specs.Prelude.{◌≡◌, true, false, take, drop, map, IfOk};
 ghost use Rattle.std.specs.Result.{IfErr};
 ghost use Rattle.std.specs.List.{AllZip};
 ghost use Rattle.avro_schema.specs.SeenSchema.{schema_nodes};
-ghost use Rattle.avro_schema_json.specs.Declaration.{max_text};
-ghost use Rattle.avro_schema_json.specs.DeclaredText.{DeclaresText};
 ghost use Rattle.avro_answer.specs.HistoryAnswer.{cut_texts, RefusesHistory, AllHaveSchemas};
+ghost use Rattle.avro_answer.specs.ReadText.{IsReadAs};
 ghost use Rattle.avro_answer.specs.RefusalText.{HasSchema, RefusesOne};
 ghost use Rattle.avro_answer.specs.inside.Read.{RefusesReader};
 ghost use Rattle.avro_answer.specs.declared.refusal.Refusal.TheVariants.{OutOfMemory};
@@ -22,7 +21,7 @@ pub(crate) fn read_texts(
     texts: &[u8],
     lengths: &[usize],
 ) -> Result<Vec<Schema>, Refusal>
-    ensures found { IfOk result (λ schemas. AllZip DeclaresText (cut_texts texts.now lengths.now) (map schema_nodes schemas.items)) }
+    ensures found { IfOk result (λ schemas. AllZip IsReadAs (cut_texts texts.now lengths.now) (map schema_nodes schemas.items)) }
     ensures refused { IfErr result (RefusesHistory (cut_texts texts.now lengths.now)) }
     ensures complete { AllHaveSchemas (cut_texts texts.now lengths.now) → IfErr result (λ e. e ≡ OutOfMemory) }
 {
@@ -47,10 +46,10 @@ fn cut(texts: &[u8], length: usize) -> (&[u8], &[u8])
 
 /// The schema of a text: the last one is the reader's, another is a writer's.
 fn read_text(alloc: Global, text: &[u8], is_last: bool) -> Result<Schema, Refusal>
-    ensures found { IfOk result (λ schema. DeclaresText text.now (schema_nodes schema)) }
+    ensures found { IfOk result (λ schema. IsReadAs text.now (schema_nodes schema)) }
     ensures last { is_last ≡ true → IfErr result (RefusesReader text.now) }
     ensures other { is_last ≡ false → IfErr result (RefusesOne text.now) }
-    ensures complete { HasSchema text.now → length text.now ≤ max_text → IfErr result (λ e. e ≡ OutOfMemory) }
+    ensures complete { HasSchema text.now → IfErr result (λ e. e ≡ OutOfMemory) }
 {
     if is_last {
         read_reader(alloc, text)

@@ -6,7 +6,6 @@
 
 mod answer;
 mod confirming;
-mod containers;
 mod datum_lines;
 mod explaining;
 mod fault_lines;
@@ -30,15 +29,13 @@ mod verdicts;
 
 pub use answer::Answer;
 pub use confirming::{answer_confirmed, confirm_schemas, confirm_text};
-pub use containers::{
-    ContainerCode, ContainerPlace, ContainerReason, ContainerRefusal, container_refusal,
-};
 pub use datum_lines::datum_line;
 pub use explaining::{explain_text, no_fault, over_pairs};
 pub use fault_lines::{PutError, put_faults};
+pub use faults::append_fault;
 pub use form::Form;
 pub use history::{history_text, judge_json_line, judge_line};
 pub use json_answers::counts_line;
 pub use judging::{Judged, judge_schemas, judge_text};
-pub use refusal::{Refusal, certificate_refusal, schema_refusal};
+pub use refusal::{Refusal, certificate_refusal, schema_code, schema_refusal};
 pub use schemas::{Shown, schema_text, show_schema};

@@ -91,7 +91,7 @@ fn refusal_line(alloc: Global, word: &str, code: &str) -> Result<Vec<u8>, AllocE
 }
 
 /// The code of a schema's refusal.
-pub(crate) fn schema_code(error: SchemaError) -> &'static str
+pub fn schema_code(error: SchemaError) -> &'static str
     ensures { result.now ≡ code_of_schema error }
 {
     match error {

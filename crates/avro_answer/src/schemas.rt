@@ -1,9 +1,12 @@
-ghost use Rattle.std.specs.Prelude.{◌≡◌, ◌++◌, length, codes, IfOk};
+ghost use Rattle.std.specs.Prelude.{◌≡◌, ◌<◌, ◌++◌, length, codes, IfOk, IsErrOf};
 ghost use Rattle.std.specs.Result.{IfErr};
 ghost use Rattle.avro_schema.specs.SeenSchema.{schema_nodes};
+ghost use Rattle.avro_schema_json.specs.Declaration.{max_text};
+ghost use Rattle.avro_schema_json.specs.declared.error.SchemaError.{SchemaError};
 ghost use Rattle.avro_certificate.specs.CertificateText.{decimal};
 ghost use Rattle.avro_answer.specs.SchemaAnswer.{NodesAnswer, SchemaAnswer};
 ghost use Rattle.avro_answer.specs.RefusalText.{RefusesOne};
+ghost use Rattle.avro_answer.specs.declared.refusal.Refusal.TheVariants.{Writer};
 
 use crate::reading::read_writer;
 use crate::refusal::Refusal;
@@ -72,6 +75,7 @@ fn line_of(alloc: Global, bytes: &[u8]) -> Result<Vec<u8>, Memory>
 /// The text is refused; memory ran out.
 pub fn schema_text(alloc: Global, text: &[u8], shown: Shown) -> Result<Vec<u8>, Refusal>
     ensures answered { IfOk result (λ answer. SchemaAnswer shown text.now answer.items) }
+    ensures too_long { max_text < length text.now → IsErrOf result (Writer SchemaError.LimitExceeded) }
     ensures refused { IfErr result (RefusesOne text.now) }
 {
     let schema = read_writer(alloc, text)?;

@@ -5,16 +5,16 @@ use Rattle.avro_answer.specs.FaultLine.{no_line}
 use Rattle.avro_answer.proofs.FaultLines.{on_ok, placed, put_all}
 use Rattle.avro_answer.proofs.fault_lines.put_faults.Goals as goal
 
-pub returns : goal.returns
-returns g c = λ is_text exact.
+pub returns-clause-put : goal.returns-clause-put
+returns-clause-put g c = λ is_text exact.
     let writer = schema_nodes c.args.writer.now in
     let reader = schema_nodes c.args.reader.now in
     let places = c.args.found.now.places.items in
     let faults = c.args.found.now.faults.items in
     let kept : List ℕ = string_bytes c.put_lines.new.text in
-    on_ok (put_all writer reader places (g.O.Write.contents c.args.out.now) (g.O.Write.contents c.put_lines.new.out) (g.O.Write.contents c.put_text.new.out) faults
+    on_ok (put_all writer reader places g.O.Output.keeps g.met.O.Output.chain c.args.out.now c.put_lines.new.out c.put_text.new.out faults
     (string_bytes c.in_ok-text.text) kept c.as_str.result.now
     (c.in_ok-text.ensures is_text ∙ ap no_line (c.len.ensures ∙ c.args.found.now.faults.ok.0))
     (c.as_str.ensures.value ∙ (c.in_ok-push_str.ensures.bytes ∙ (ap (λ (e : List ℕ). kept ++ e) (c.end_of_faults.ensures is_text) ∙ append-nil kept)))
-    (c.in_ok-put_lines.ensures is_text (placed writer reader places faults exact)))
-    c.put_text.result c.put_text.ensures
+    (c.in_ok-put_lines.ensures.put is_text (placed writer reader places faults exact)))
+    c.put_text.result c.put_text.ensures.put

@@ -32,11 +32,9 @@ returns-in_err-schema-clause-refused c =
 pub returns-in_err-schema-clause-complete : goal.returns-in_err-schema-clause-complete
 returns-in_err-schema-clause-complete c =
     let p = err_from_is_err_and c.from_residual.result c.from_residual.ensures.1 in
-    λ all. rw (p.1, p.2) (
-    let h = has_schema c.args.texts.now c.args.lengths.now c.loop-index.rest.now c.loop-index.index (map schema_nodes c.loop-index.schemas.items) c.loop-index.invariant
-    c.cut.result.0.now c.cut.result.1.now c.loop-index-test.true c.cut.ensures.front c.cut.ensures.back all in
-    c.in_err-schema.ensures.complete h.0 h.1
-    )
+    λ all. rw (p.1, p.2) (c.in_err-schema.ensures.complete
+    (has_schema c.args.texts.now c.args.lengths.now c.loop-index.rest.now c.loop-index.index (map schema_nodes c.loop-index.schemas.items) c.loop-index.invariant
+    c.cut.result.0.now c.cut.result.1.now c.loop-index-test.true c.cut.ensures.front c.cut.ensures.back all))
 
 pub returns-clause-found : goal.returns-clause-found
 returns-clause-found c =

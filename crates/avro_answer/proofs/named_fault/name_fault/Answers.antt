@@ -16,6 +16,7 @@ returns-clause-named c =
       reader_way = c.in_ok-way.way.reader.items;
       leads_writer = λ placed. c.in_ok-way.ensures.writer writer reader c.in-Some.place placed there;
       leads_reader = λ placed. c.in_ok-way.ensures.reader writer reader c.in-Some.place placed there;
+      way = λ placed. c.in_ok-way.ensures.ways writer reader c.in-Some.place placed there;
       detail = refl;
       missing = c.missing_name.ensures;
       writer_at = c.in_ok-name_place.ensures.at ∙ ap (λ (steps : List PathStep). place_text writer steps) c.deref.ensures.value;
