@@ -1,5 +1,5 @@
 -- What a call tells its caller.
-use Rattle.std.specs.Prelude.{ℕ, List, [], codes}
+use Rattle.std.specs.Prelude.{◌≢◌, ℕ, List, [], codes}
 use Rattle.avro_answer.specs.RefusalText.{schema_code, certificate_code, refusal_text}
 use Rattle.avro_answer.specs.declared.refusal.Refusal.{Refusal}
 use Rattle.avro_c.specs.Room.{IsPut}
@@ -17,8 +17,9 @@ refusal_line (Refusal.Reader e) = refusal_text (codes "reader") (schema_code e)
 refusal_line (Refusal.Certificate e) = refusal_text (codes "certificate") (certificate_code e)
 refusal_line Refusal.OutOfMemory = []
 
--- a refusal that says what is true of the texts, by its line
+-- a refusal that says what is true of the texts, and is not that memory ran out, by its line
 pub record IsRefused (says : Refusal → Type 0) (before after : List ℕ) (wanted : ℕ) : Type 0 where
   pub refusal : Refusal
+  pub of_texts : refusal ≢ Refusal.OutOfMemory
   pub said : says refusal
   pub put : IsPut (refusal_line refusal) before after wanted

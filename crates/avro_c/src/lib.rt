@@ -41,7 +41,8 @@ pub extern "C" fn avro_judge_text(
     ensures answered { result ≤ 2 → IsTold (JudgeAnswer writer.now reader.now (asked_limits limits.now.pairs limits.now.size limits.now.depth)) out.old out.new wanted.new result }
     ensures refused { result ≡ 3 → IsRefused (RefusesPair writer.now reader.now) out.old out.new wanted.new }
     ensures nothing { 3 < result → IsUntouched out.old out.new wanted.new }
-    ensures usage { AreJudgeLimits (asked_limits limits.now.pairs limits.now.size limits.now.depth) → result ≡ 64 → ⊥ }
+    ensures known { (result ≤ 3) ⊎ (result ≡ 5) ⊎ (result ≡ 64) }
+    ensures usage { (result ≡ 64) ↔ (AreJudgeLimits (asked_limits limits.now.pairs limits.now.size limits.now.depth) → ⊥) }
     ensures complete { AreJudgeLimits (asked_limits limits.now.pairs limits.now.size limits.now.depth) → HaveSchemas writer.now reader.now → (result ≤ 2) ⊎ (result ≡ 5) }
 {
     let Some(limits) = limits_of(limits) else {
@@ -67,7 +68,8 @@ pub extern "C" fn avro_explain_text(
     ensures answered { result ≤ 2 → IsTold (ExplainAnswer writer.now reader.now (asked_or max_pairs 4194304)) out.old out.new wanted.new result }
     ensures refused { result ≡ 3 → IsRefused (RefusesPair writer.now reader.now) out.old out.new wanted.new }
     ensures nothing { 3 < result → IsUntouched out.old out.new wanted.new }
-    ensures usage { asked_or max_pairs 4194304 ≤ 16777216 → result ≡ 64 → ⊥ }
+    ensures known { (result ≤ 3) ⊎ (result ≡ 5) ⊎ (result ≡ 64) }
+    ensures usage { (result ≡ 64) ↔ (16777216 < asked_or max_pairs 4194304) }
     ensures complete { asked_or max_pairs 4194304 ≤ 16777216 → HaveSchemas writer.now reader.now → (result ≤ 2) ⊎ (result ≡ 5) }
 {
     let Some(pairs) = pairs_of(max_pairs) else {
@@ -89,10 +91,11 @@ pub extern "C" fn avro_confirm_text(
     out: &mut [u8],
     wanted: &mut usize,
 ) -> u32
-    ensures answered { result ≤ 2 → IsTold (ConfirmAnswer writer.now reader.now certificate.now) out.old out.new wanted.new result }
+    ensures answered { result ≤ 1 → IsTold (ConfirmAnswer writer.now reader.now certificate.now) out.old out.new wanted.new result }
     ensures refused { result ≡ 3 → IsRefused (RefusesOneOf writer.now reader.now certificate.now) out.old out.new wanted.new }
     ensures nothing { 3 < result → IsUntouched out.old out.new wanted.new }
-    ensures complete { HaveSchemas writer.now reader.now → HasCertificate certificate.now → (result ≤ 2) ⊎ (result ≡ 5) }
+    ensures known { (result ≤ 1) ⊎ (result ≡ 3) ⊎ (result ≡ 5) }
+    ensures complete { HaveSchemas writer.now reader.now → HasCertificate certificate.now → (result ≤ 1) ⊎ (result ≡ 5) }
 {
     match confirm_text(alloc, writer, reader, certificate, Form::Text) {
         Ok(answer) => tell(&answer, out, wanted),
@@ -114,6 +117,7 @@ pub extern "C" fn avro_history_text(
     ensures answered { result ≤ 2 → IsTold (HistoryAnswer (cut_texts texts.now lengths.now) (asked_limits limits.now.pairs limits.now.size limits.now.depth)) out.old out.new wanted.new result }
     ensures refused { result ≡ 3 → IsRefused (RefusesHistory (cut_texts texts.now lengths.now)) out.old out.new wanted.new }
     ensures nothing { 3 < result → IsUntouched out.old out.new wanted.new }
+    ensures known { (result ≤ 3) ⊎ (result ≡ 5) ⊎ (result ≡ 64) }
     ensures usage { (result ≡ 64) ↔ (AreLengthsOf lengths.now texts.now × AreJudgeLimits (asked_limits limits.now.pairs limits.now.size limits.now.depth) → ⊥) }
     ensures complete { AreLengthsOf lengths.now texts.now → AreJudgeLimits (asked_limits limits.now.pairs limits.now.size limits.now.depth) → AllHaveSchemas (cut_texts texts.now lengths.now) → (result ≤ 2) ⊎ (result ≡ 5) }
 {

@@ -8,6 +8,9 @@ returns-in-Ok-clause-refused c = λ refused. absurd (omega (arith, refused, c.te
 pub returns-in-Ok-clause-nothing : goal.returns-in-Ok-clause-nothing
 returns-in-Ok-clause-nothing c = λ nothing. absurd (omega (arith, nothing, c.tell.ensures.status, history_status (c.in-Ok.ensures.answered refl)))
 
+pub returns-in-Ok-clause-known : goal.returns-in-Ok-clause-known
+returns-in-Ok-clause-known c = inl (omega (arith, c.tell.ensures.status, history_status (c.in-Ok.ensures.answered refl)))
+
 pub returns-in-Ok-clause-usage : goal.returns-in-Ok-clause-usage
 returns-in-Ok-clause-usage c =
     (λ usage. absurd (omega (arith, usage, c.tell.ensures.status, history_status (c.in-Ok.ensures.answered refl))), λ unasked. search rules)
