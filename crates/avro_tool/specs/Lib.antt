@@ -1,0 +1,2 @@
+pub mod ContainerText
+pub mod FailureText

@@ -1,6 +1,13 @@
-use crate::container_failure::container_failure;
+ghost use Rattle.std.specs.Prelude.{◌≡◌, ◌≢◌, IfOk};
+ghost use Rattle.avro_certificate.specs.declared.error.CertError.{CertError};
+ghost use Rattle.avro_schema_json.specs.declared.error.SchemaError.{SchemaError};
+ghost use Rattle.avro_tool.specs.FailureText.{exit_status, IsRefusal};
+ghost use Rattle.avro_container.specs.declared.error.CopyError.{CopyError};
+ghost use Rattle.avro_tool.specs.declared.failure.Failure.TheVariants.{Schema, Certificate, Container, CannotRead, CannotWrite, OutOfMemory};
+
+use crate::container_line::container_line;
 use crate::number_options::NumberOption;
-use avro_answer::{ContainerRefusal, certificate_refusal, container_refusal, schema_refusal};
+use avro_answer::{certificate_refusal, schema_refusal};
 use avro_container::CopyError;
 use avro_judge::CertError;
 use avro_schema::Memory;
@@ -17,7 +24,7 @@ pub(crate) enum Failure<'a> {
     /// A certificate's text was refused.
     Certificate(&'a str, CertError),
     /// A container was refused.
-    Container(&'a str, ContainerRefusal),
+    Container(&'a str, CopyError),
     /// A file could not be opened or read.
     CannotRead(&'a str),
     /// A file could not be created or written.
@@ -79,7 +86,10 @@ impl<'a> Failure<'a> {
     }
 
     /// The failure of reading a schema's text.
-    pub(crate) fn of_schema(word: &'a str, error: SchemaError) -> Failure<'a> {
+    pub(crate) fn of_schema(word: &'a str, error: SchemaError) -> Failure<'a>
+        ensures memory { error ≡ SchemaError.OutOfMemory → result ≡ OutOfMemory }
+        ensures refused { error ≢ SchemaError.OutOfMemory → result ≡ Schema word.exit error }
+    {
         if error == SchemaError::OutOfMemory {
             Failure::OutOfMemory
         } else {
@@ -88,7 +98,10 @@ impl<'a> Failure<'a> {
     }
 
     /// The failure of reading a certificate's text.
-    pub(crate) fn of_certificate(word: &'a str, error: CertError) -> Failure<'a> {
+    pub(crate) fn of_certificate(word: &'a str, error: CertError) -> Failure<'a>
+        ensures memory { error ≡ CertError.OutOfMemory → result ≡ OutOfMemory }
+        ensures refused { error ≢ CertError.OutOfMemory → result ≡ Certificate word.exit error }
+    {
         if error == CertError::OutOfMemory {
             Failure::OutOfMemory
         } else {
@@ -97,12 +110,24 @@ impl<'a> Failure<'a> {
     }
 
     /// The failure of reading or writing a container.
-    pub(crate) fn of_container(word: &'a str, error: CopyError) -> Failure<'a> {
-        container_failure(word, error)
+    pub(crate) fn of_container(word: &'a str, error: CopyError) -> Failure<'a>
+        ensures read { error ≡ CopyError.InputFailed → result ≡ CannotRead word.exit }
+        ensures written { error ≡ CopyError.OutputFailed → result ≡ CannotWrite word.exit }
+        ensures memory { error ≡ CopyError.OutOfMemory → result ≡ OutOfMemory }
+        ensures refused { error ≢ CopyError.InputFailed → error ≢ CopyError.OutputFailed → error ≢ CopyError.OutOfMemory → result ≡ Container word.exit error }
+    {
+        match error {
+            CopyError::InputFailed => Failure::CannotRead(word),
+            CopyError::OutputFailed => Failure::CannotWrite(word),
+            CopyError::OutOfMemory => Failure::OutOfMemory,
+            refused => Failure::Container(word, refused),
+        }
     }
 
     /// The exit status.
-    pub(crate) fn status(&self) -> u8 {
+    pub(crate) fn status(&self) -> u8
+        ensures { result ≡ exit_status self.now }
+    {
         match self {
             Failure::Schema(..) | Failure::Certificate(..) | Failure::Container(..) => 3,
             Failure::CannotRead(_) | Failure::CannotWrite(_) | Failure::CannotPrint => 4,
@@ -115,11 +140,13 @@ impl<'a> Failure<'a> {
     }
 
     /// The line of the failure, or the text of usage.
-    pub(crate) fn line(&self, alloc: Global) -> Result<Vec<u8>, AllocError> {
+    pub(crate) fn line(&self, alloc: Global) -> Result<Vec<u8>, AllocError>
+        ensures { IfOk result (λ line. IsRefusal self.now line.items) }
+    {
         match self {
             Failure::Schema(word, error) => schema_refusal(alloc, word, *error),
             Failure::Certificate(word, error) => certificate_refusal(alloc, word, *error),
-            Failure::Container(word, refusal) => container_refusal(alloc, word, refusal),
+            Failure::Container(word, error) => container_line(alloc, word, error),
             other => Ok(other.other_line(alloc)?.into_bytes()),
         }
     }

@@ -3,7 +3,7 @@
 
 mod command_line;
 mod commands;
-mod container_failure;
+mod container_line;
 mod failure;
 mod files;
 mod grammar;

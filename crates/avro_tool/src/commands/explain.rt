@@ -6,6 +6,7 @@ use crate::files::schema::read_schema_file;
 use crate::printing::print;
 use crate::request::Explaining;
 use avro_answer::{Form, PutError, no_fault, over_pairs, put_faults};
+use avro_device::WriteOutput;
 use avro_explain::{ExplainError, Explanation, explain};
 use avro_schema::Schema;
 use std::alloc::Global;
@@ -80,7 +81,8 @@ fn print_faults<'a, O: Write>(
     form: Form,
     out: &mut O,
 ) -> Result<(), Failure<'a>> {
-    match put_faults(out, alloc, writer, reader, found, form) {
+    let mut output = WriteOutput::new(out);
+    match put_faults(&mut output, alloc, writer, reader, found, form) {
         Ok(()) => Ok(()),
         Err(PutError::CannotWrite) => Err(Failure::CannotPrint),
         Err(PutError::OutOfMemory) => Err(Failure::OutOfMemory),

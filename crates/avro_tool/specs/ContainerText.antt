@@ -1,0 +1,86 @@
+-- The line that reports a container file as refused: a code, the place in the file, and the reason.
+use Rattle.std.specs.Prelude.{ℕ, List, [], ◌++◌, codes}
+use Rattle.avro_zigzag.specs.declared.VarError.{VarError}
+use Rattle.avro_cursor.specs.declared.error.ReadError.{ReadError}
+use Rattle.avro_compare.specs.Seen.{fault_of}
+use Rattle.avro_certificate.specs.CertificateText.{decimal}
+use Rattle.avro_answer.specs.RefusalText.{schema_code}
+use Rattle.avro_answer.specs.Texts.{fault_text}
+use Rattle.avro_container.specs.declared.error.CopyError.{CopyError}
+use Rattle.avro_container.specs.declared.error.CountError.{CountError}
+use Rattle.avro_container.specs.declared.error.LimitPlace.{LimitPlace}
+
+-- the code; devices that fail and want of memory are no fault of a file, and have none
+abbrev pub container_code : CopyError → List ℕ
+container_code CopyError.NoMagic = codes "C1"
+container_code (CopyError.InvalidMetadata e) = codes "C2"
+container_code CopyError.NoSchema = codes "C3"
+container_code (CopyError.InvalidSchema e) = codes "C4"
+container_code CopyError.UnknownCodec = codes "C5"
+container_code (CopyError.InvalidCount block e) = codes "C6"
+container_code (CopyError.BytesLeft block) = codes "C7"
+container_code (CopyError.WrongMarker block) = codes "C8"
+container_code (CopyError.LimitExceeded place) = codes "C9"
+container_code (CopyError.InvalidDatum block datum e) = codes "C10"
+container_code (CopyError.UnresolvedDatum block datum fault) = codes "C11"
+container_code CopyError.FailedBefore = codes "C15"
+container_code CopyError.CutHeader = codes "C16"
+container_code (CopyError.CutBlock block) = codes "C16"
+container_code _ = []
+
+-- a block, or a datum of a block; nothing outside the blocks; both are counted from 0
+abbrev pub block_text : ℕ → List ℕ
+block_text block = codes " block " ++ decimal block
+
+abbrev pub datum_text : ℕ → ℕ → List ℕ
+datum_text block datum = codes " block " ++ decimal block ++ codes " datum " ++ decimal datum
+
+abbrev pub limit_text : LimitPlace → List ℕ
+limit_text LimitPlace.Header = []
+limit_text (LimitPlace.Block block) = block_text block
+limit_text (LimitPlace.Datum block datum) = datum_text block datum
+
+abbrev pub place_text : CopyError → List ℕ
+place_text (CopyError.InvalidCount block e) = block_text block
+place_text (CopyError.BytesLeft block) = block_text block
+place_text (CopyError.WrongMarker block) = block_text block
+place_text (CopyError.LimitExceeded place) = limit_text place
+place_text (CopyError.InvalidDatum block datum e) = datum_text block datum
+place_text (CopyError.UnresolvedDatum block datum fault) = datum_text block datum
+place_text (CopyError.CutBlock block) = block_text block
+place_text _ = []
+
+-- why bytes cannot be read, with the offset of the part that fails
+abbrev pub reading_text : ReadError → List ℕ
+reading_text (ReadError.EndOfInput place) = codes "B1 at " ++ decimal place
+reading_text (ReadError.InvalidNumber place) = codes "B2 at " ++ decimal place
+reading_text (ReadError.InvalidBoolean place) = codes "B3 at " ++ decimal place
+reading_text (ReadError.InvalidText place) = codes "B4 at " ++ decimal place
+reading_text (ReadError.UnknownIndex place) = codes "B5 at " ++ decimal place
+reading_text (ReadError.InvalidLength place) = codes "B6 at " ++ decimal place
+reading_text (ReadError.WrongBlockSize place) = codes "B7 at " ++ decimal place
+reading_text (ReadError.DuplicateKey place) = codes "B8 at " ++ decimal place
+reading_text ReadError.LimitExceeded = codes "B9"
+reading_text ReadError.OutOfMemory = codes "B10"
+
+abbrev pub number_text : VarError → List ℕ
+number_text VarError.EndOfInput = codes "Z1"
+number_text VarError.NotShortest = codes "Z2"
+number_text VarError.OutOfRange = codes "Z3"
+
+abbrev pub count_text : CountError → List ℕ
+count_text (CountError.Invalid e) = number_text e
+count_text CountError.Negative = codes "negative"
+
+-- the reason, after a colon, where there is one
+abbrev pub reason_text : CopyError → List ℕ
+reason_text (CopyError.InvalidMetadata e) = codes ": " ++ reading_text e
+reason_text (CopyError.InvalidSchema e) = codes ": " ++ schema_code e
+reason_text (CopyError.InvalidCount block e) = codes ": " ++ count_text e
+reason_text (CopyError.InvalidDatum block datum e) = codes ": " ++ reading_text e
+reason_text (CopyError.UnresolvedDatum block datum fault) = codes ": " ++ fault_text (fault_of fault)
+reason_text _ = []
+
+-- the line, by the word that names the file
+abbrev pub container_text : List ℕ → CopyError → List ℕ
+container_text word e = codes "avro: " ++ word ++ codes ": " ++ container_code e ++ place_text e ++ reason_text e ++ codes "\n"

@@ -1,0 +1,161 @@
+//! The line of a container file that is refused.
+
+ghost use Rattle.std.specs.Prelude.{◌≡◌, ◌++◌, OnOk, IfOk};
+ghost use Rattle.avro_certificate.specs.CertificateText.{decimal};
+ghost use Rattle.avro_tool.specs.ContainerText.{container_code as code_of_container, block_text, datum_text, limit_text, place_text, reading_text, number_text, reason_text, container_text};
+
+use avro_answer::{append_fault, schema_code};
+use avro_binary::ReadError;
+use avro_certificate::append_decimal;
+use avro_container::{CopyError, CountError, LimitPlace};
+use avro_zigzag::VarError;
+use std::alloc::{AllocError, Global};
+
+/// The line that reports a container as refused, by the word that names its file.
+pub(crate) fn container_line(
+    alloc: Global,
+    word: &str,
+    error: &CopyError,
+) -> Result<Vec<u8>, AllocError>
+    ensures { IfOk result (λ line. line.items ≡ container_text word.now error.now) }
+{
+    let mut line = Vec::new(alloc);
+    line.extend_from_slice(b"avro: ")?;
+    line.extend_from_slice(word.as_bytes())?;
+    line.extend_from_slice(b": ")?;
+    line.extend_from_slice(container_code(error).as_bytes())?;
+    append_place(&mut line, error)?;
+    append_reason(&mut line, error)?;
+    line.push(b'\n')?;
+    Ok(line)
+}
+
+/// The code of a container's error, where it is a fault of the file.
+fn container_code(error: &CopyError) -> &'static str
+    ensures { result.now ≡ code_of_container error.now }
+{
+    match error {
+        CopyError::NoMagic => "C1",
+        CopyError::InvalidMetadata(_) => "C2",
+        CopyError::NoSchema => "C3",
+        CopyError::InvalidSchema(_) => "C4",
+        CopyError::UnknownCodec => "C5",
+        CopyError::InvalidCount(_, _) => "C6",
+        CopyError::BytesLeft(_) => "C7",
+        CopyError::WrongMarker(_) => "C8",
+        CopyError::LimitExceeded(_) => "C9",
+        CopyError::InvalidDatum(_, _, _) => "C10",
+        CopyError::UnresolvedDatum(_, _, _) => "C11",
+        CopyError::InputFailed | CopyError::OutputFailed | CopyError::OutOfMemory => "",
+        CopyError::FailedBefore => "C15",
+        CopyError::CutHeader | CopyError::CutBlock(_) => "C16",
+    }
+}
+
+/// Appends the place of an error, where it is in a block.
+fn append_place(text: &mut Vec<u8>, error: &CopyError) -> Result<(), AllocError>
+    ensures { OnOk result (text.new.items ≡ text.old.items ++ place_text error.now) }
+{
+    match error {
+        CopyError::InvalidCount(block, _)
+        | CopyError::BytesLeft(block)
+        | CopyError::WrongMarker(block)
+        | CopyError::CutBlock(block) => append_block(text, *block),
+        CopyError::LimitExceeded(place) => append_limit(text, *place),
+        CopyError::InvalidDatum(block, datum, _) | CopyError::UnresolvedDatum(block, datum, _) => {
+            append_datum(text, *block, *datum)
+        }
+        _ => Ok(()),
+    }
+}
+
+/// Appends where a limit is passed.
+fn append_limit(text: &mut Vec<u8>, place: LimitPlace) -> Result<(), AllocError>
+    ensures { OnOk result (text.new.items ≡ text.old.items ++ limit_text place) }
+{
+    match place {
+        LimitPlace::Header => Ok(()),
+        LimitPlace::Block(block) => append_block(text, block),
+        LimitPlace::Datum(block, datum) => append_datum(text, block, datum),
+    }
+}
+
+/// Appends the number of a block.
+fn append_block(text: &mut Vec<u8>, block: u64) -> Result<(), AllocError>
+    ensures { OnOk result (text.new.items ≡ text.old.items ++ block_text block) }
+{
+    text.extend_from_slice(b" block ")?;
+    append_decimal(text, block)
+}
+
+/// Appends the numbers of a block and of a datum in it.
+fn append_datum(text: &mut Vec<u8>, block: u64, datum: u32) -> Result<(), AllocError>
+    ensures { OnOk result (text.new.items ≡ text.old.items ++ datum_text block datum) }
+{
+    append_block(text, block)?;
+    text.extend_from_slice(b" datum ")?;
+    append_decimal(text, u64::from(datum))
+}
+
+/// Appends what is told of an error besides, after a colon.
+fn append_reason(text: &mut Vec<u8>, error: &CopyError) -> Result<(), AllocError>
+    ensures { OnOk result (text.new.items ≡ text.old.items ++ reason_text error.now) }
+{
+    match error {
+        CopyError::InvalidMetadata(error) | CopyError::InvalidDatum(_, _, error) => {
+            text.extend_from_slice(b": ")?;
+            append_reading(text, *error)
+        }
+        CopyError::InvalidSchema(error) => {
+            text.extend_from_slice(b": ")?;
+            text.extend_from_slice(schema_code(*error).as_bytes())
+        }
+        CopyError::InvalidCount(_, CountError::Invalid(error)) => {
+            text.extend_from_slice(b": ")?;
+            text.extend_from_slice(number_code(*error).as_bytes())
+        }
+        CopyError::InvalidCount(_, CountError::Negative) => text.extend_from_slice(b": negative"),
+        CopyError::UnresolvedDatum(_, _, fault) => {
+            text.extend_from_slice(b": ")?;
+            append_fault(text, fault)
+        }
+        _ => Ok(()),
+    }
+}
+
+/// Appends why bytes cannot be read.
+fn append_reading(text: &mut Vec<u8>, error: ReadError) -> Result<(), AllocError>
+    ensures { OnOk result (text.new.items ≡ text.old.items ++ reading_text error) }
+{
+    match error {
+        ReadError::EndOfInput { place } => append_at(text, b"B1 at ", place),
+        ReadError::InvalidNumber { place } => append_at(text, b"B2 at ", place),
+        ReadError::InvalidBoolean { place } => append_at(text, b"B3 at ", place),
+        ReadError::InvalidText { place } => append_at(text, b"B4 at ", place),
+        ReadError::UnknownIndex { place } => append_at(text, b"B5 at ", place),
+        ReadError::InvalidLength { place } => append_at(text, b"B6 at ", place),
+        ReadError::WrongBlockSize { place } => append_at(text, b"B7 at ", place),
+        ReadError::DuplicateKey { place } => append_at(text, b"B8 at ", place),
+        ReadError::LimitExceeded => text.extend_from_slice(b"B9"),
+        ReadError::OutOfMemory => text.extend_from_slice(b"B10"),
+    }
+}
+
+/// Appends words and an offset.
+fn append_at(text: &mut Vec<u8>, words: &[u8], place: usize) -> Result<(), AllocError>
+    ensures { OnOk result (text.new.items ≡ text.old.items ++ (words.now ++ decimal place)) }
+{
+    text.extend_from_slice(words)?;
+    append_decimal(text, place as u64)
+}
+
+/// The code of a number that cannot be read.
+fn number_code(error: VarError) -> &'static str
+    ensures { result.now ≡ number_text error }
+{
+    match error {
+        VarError::EndOfInput => "Z1",
+        VarError::NotShortest => "Z2",
+        VarError::OutOfRange => "Z3",
+    }
+}
