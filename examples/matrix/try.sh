@@ -1,0 +1,100 @@
+#!/usr/bin/env bash
+# Tries matrix.py on the schemas of examples/: what it prints, by look.py in headless Chromium, and its statuses. Then
+# it spoils the page and the script in several ways, and each must be found.
+#
+#     try.sh [PROGRAM]
+#
+# PROGRAM is $AVRO where it is not given, and else avro on the PATH; CHROMIUM names the browser, else chromium. The last
+# line says how much was tried; the status is 0 where all went as it must.
+set -euo pipefail
+
+here=$(cd "$(dirname "${BASH_SOURCE[0]}")" && pwd)
+AVRO=$(realpath "$(command -v "${1:-${AVRO:-avro}}")")
+export AVRO
+work=$(mktemp -d)
+trap 'rm -rf "$work"' EXIT
+cd "$work"
+mkdir '<i>'
+cp "$here"/../{order,payment}-*.avsc .
+cp order-2.avsc '<i>/a & b.avsc'
+schemas=(order-1.avsc order-2.avsc order-3.avsc payment-1.avsc payment-2.avsc '<i>/a & b.avsc')
+tried=0 wrong=0
+
+# Runs words, which must end with a status and put a line, or nothing, on standard error.
+expect() { # STATUS LINE WORDS..
+  local status=$1 line=$2 found=0
+  shift 2
+  "$@" > out 2> said || found=$?
+  tried=$((tried + 1))
+  if [ "$found" != "$status" ] || [ "$(head -n 1 said)" != "$line" ]; then
+    wrong=$((wrong + 1))
+    printf 'WRONG, status %s for %s: %s\n' "$found" "$status" "$*"
+    cat said
+  fi
+}
+
+try_statuses() {
+  echo '"double"' > double.avsc
+  expect 3 'avro: double.avsc: S10' "$here/matrix.py" order-1.avsc double.avsc
+  expect 4 'avro: nowhere.avsc: cannot read' "$here/matrix.py" order-1.avsc nowhere.avsc
+  expect 4 'matrix: nowhere: no such program' env AVRO=nowhere "$here/matrix.py" order-1.avsc order-2.avsc
+  expect 64 "$(sed -n '2s/^"""//p' "$here/matrix.py")" "$here/matrix.py" order-1.avsc
+  expect 64 "$(sed -n '2s/^"""//p' "$here/matrix.py")" "$here/matrix.py" --help
+}
+
+try_page() {
+  expect 0 '' "$here/matrix.py" "${schemas[@]}"
+  mv out matrix.html
+  tried=$((tried + 1))
+  if grep -q -E 'https?:|<script|<link|<img|url\(|<i>' matrix.html; then
+    wrong=$((wrong + 1))
+    echo 'WRONG, the page has a script, fetches something or takes a name for HTML'
+  fi
+  expect 0 '' "$here/look.py" matrix.html "${schemas[@]}"
+  tail -n 1 out
+}
+
+# Each edit of the page, by sed, must be found by look.py.
+try_planted_pages() {
+  local edit
+  while IFS= read -r edit; do
+    sed -E -e "$edit" matrix.html > spoiled.html
+    ! cmp -s matrix.html spoiled.html || { wrong=$((wrong + 1)); echo "WRONG, no edit: $edit"; }
+    expect 1 '' "$here/look.py" spoiled.html "${schemas[@]}"
+  done << 'END'
+0,/class="no"/s//class="yes"/
+0,/class="yes">yes/s//class="no">yes/
+0,/class="yes">yes/s//class="yes">undecided Pairs/
+0,/<li>.*MissingField.*/s/<li>.*<\/li><li>/<li>/
+0,/NoMatch/s//NotUtf8/
+0,/href="#[0-9]-/s//href="#9-/
+s/max-width: 60rem/min-width: 60rem/
+s/--text: #f0f6fc/--text: #4c1a1c/
+s/prefers-color-scheme: dark/prefers-color-scheme: none/
+END
+}
+
+# Each edit of the script, by sed, must make another page.
+try_planted_scripts() {
+  local edit
+  while IFS= read -r edit; do
+    sed -E -e "$edit" "$here/matrix.py" > spoiled.py
+    python3 spoiled.py "${schemas[@]}" > spoiled.html
+    expect 1 '' "$here/look.py" spoiled.html "${schemas[@]}"
+  done << 'END'
+s/explain\(writer, reader\) if/explain(reader, writer) if/
+s/setdefault\("".join\(map\(item, answer\["faults"\]\)\), \[\]\)/setdefault(answer["faults"][0]["fault"], [])/
+s/map\(item, answer\["faults"\]\)/map(item, answer["faults"][:5])/
+END
+}
+
+try_statuses
+if command -v "${CHROMIUM:-chromium}" > said; then
+  try_page
+  try_planted_pages
+  try_planted_scripts
+else
+  echo 'not tried: the page (there is no Chromium)'
+fi
+echo "$tried tries, $wrong wrong"
+[ "$wrong" = 0 ]
