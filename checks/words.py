@@ -3,10 +3,13 @@
 
     words.py              the program's words are those of crates/avro_tool/src/grammar.rt
     words.py PROGRAM      also those of the usage texts of a program that was built
+    words.py --codes      prints the section CODES of the man page, made from docs/COMMANDS.md
 
-Each command's arguments, and its options in their order, are to be the same in the man page's synopsis; its options in the man page's sections,
-and its options and the commands in the completions. The bash completion is run, the other two are read. Each difference has a line, and the
-last line is 'N commands, M options, K differences'.
+Each command's arguments, and its options in their order, are to be the same in the man page's synopsis; its options in
+the man page's sections, and its options and the commands in the completions. What a command does is to have the same
+words in the man page and the completions. The bash completion is run, the other two are read. The codes in the man page
+are to be those of docs/COMMANDS.md. Each difference has a line, and the last line is 'N commands, M options, L codes, K
+differences'.
 """
 
 import os
@@ -17,6 +20,7 @@ import sys
 ROOT = os.path.join(os.path.dirname(os.path.abspath(__file__)), "..")
 GRAMMAR = "crates/avro_tool/src/grammar.rt"
 MAN = "man/avro.1"
+COMMANDS = "docs/COMMANDS.md"
 BASH, ZSH, FISH = (f"completions/avro.{shell}" for shell in ("bash", "zsh", "fish"))
 # The words that the parser of command lines adds.
 HELP = "help"
@@ -177,14 +181,67 @@ def words_of_fish():
     return commands, options
 
 
-def compare(what, wanted, found):
+def deeds_of_man(text):
+    """What each command does: the first line of its section, as the completions have it."""
+    lines = re.findall(r"^\.SS (\w+)\n(.*)$", text, re.MULTILINE)
+    return {name: line[:1].lower() + line[1:].rstrip(".,:;") for name, line in lines if name.islower()}
+
+
+def deeds_of_completions():
+    """The same of the completions of zsh and of fish, without that of `help`."""
+    zsh = dict(re.findall(r'^        "(\w+):(.*)"$', text_of(ZSH), re.MULTILINE))
+    fish = dict(re.findall(r"__fish_use_subcommand -a (\w+) -d '(.*)'$", text_of(FISH), re.MULTILINE))
+    return [{name: deed for name, deed in deeds.items() if name != HELP} for deeds in (zsh, fish)]
+
+
+def tables_of_codes(text):
+    """Each table whose first column is a code or a fault: its title, what its last column begins with, and its rows."""
+    for title, body in re.findall(r"^## (.*)\n((?:(?!## ).*\n)*)", text, re.MULTILINE):
+        head = re.search(r"^\| (?:Code|Fault) \| (.*) \|$", body, re.MULTILINE)
+        if head:
+            yield title, head[1], re.findall(r"^\| `?([A-Z]\w*(?: N)?)`? \| (.*) \|$", body[head.end() :], re.MULTILINE)
+
+
+def section_of_codes(text):
+    """The section CODES of the man page, for the tables of docs/COMMANDS.md."""
+    lines = [".SH CODES"]
+    for title, head, rows in tables_of_codes(text):
+        lines += [f".SS {title}", f"{head}:"]
+        for code, words in rows:
+            lines += [".TP", f".B {code}", re.sub(r"`([^`]*)`", r"\\fB\1\\fR", words).replace("-", "\\-")]
+    return "\n".join(lines) + "\n"
+
+
+def codes_of(section):
+    """The words for each code of a section CODES."""
+    return dict(re.findall(r"^\.TP\n\.B (.*)\n(.*)$", section, re.MULTILINE))
+
+
+def compare_codes(man):
+    """Compares the man page's section with the one that is made from docs/COMMANDS.md."""
+    made = section_of_codes(text_of(COMMANDS))
+    found = re.search(r"^\.SH CODES\n(?:(?!\.SH ).*\n)*", man, re.MULTILINE)
+    section = found[0] if found else ""
+    wanted, differences = codes_of(made), 0
+    for code, words in {**codes_of(section), **wanted}.items():
+        one, other = wanted.get(code, "nothing"), codes_of(section).get(code, "nothing")
+        if one != other:
+            differences += 1
+            print(f"{MAN}: {code}: {other}, and {COMMANDS} has {one}")
+    if differences == 0 and section != made:
+        differences = 1
+        print(f"{MAN}: the section CODES is not what --codes prints")
+    return len(wanted), differences
+
+
+def compare(what, wanted, found, of="the program"):
     """Tells each key whose value differs, and answers how many there are."""
     differences = 0
     for name in [*wanted, *(it for it in found if it not in wanted)]:
         one, other = wanted.get(name, "nothing"), found.get(name, "nothing")
         if one != other:
             differences += 1
-            print(f"{what}: avro {name}: {other}, and the program has {one}")
+            print(f"{what}: avro {name}: {other}, and {of} has {one}")
     return differences
 
 
@@ -196,6 +253,9 @@ def compare_completion(what, usages, commands, options):
 
 
 def main(words):
+    if words == ["--codes"]:
+        print(section_of_codes(text_of(COMMANDS)), end="")
+        return 0
     if len(words) > 1 or any(word.startswith("-") for word in words):
         sys.exit(__doc__)
     usages = Source(text_of(GRAMMAR)).usages()
@@ -207,11 +267,15 @@ def main(words):
     differences += compare_completion(BASH, usages, *words_of_bash([name for name in usages if name != NONE]))
     differences += compare_completion(ZSH, usages, *words_of_zsh())
     differences += compare_completion(FISH, usages, *words_of_fish())
+    for shell, deeds in zip((ZSH, FISH), deeds_of_completions()):
+        differences += compare(MAN, deeds, deeds_of_man(man), of=shell)
+    codes, wrong = compare_codes(man)
+    differences += wrong
     if words:
         printed = usages_of_program(os.path.abspath(words[0]))
         differences += compare(words[0], lines, {name: usage.line() for name, usage in printed.items()})
     options = sum(len(usage.options) for usage in usages.values())
-    print(f"{len(usages) - 1} commands, {options} options, {differences} differences")
+    print(f"{len(usages) - 1} commands, {options} options, {codes} codes, {differences} differences")
     return 1 if differences else 0
 
 

@@ -1,45 +1,61 @@
 #!/usr/bin/env bash
-# Makes a Debian package of a program that was built elsewhere, with its man page and completions:
+# Makes a Debian package of the program, with its man page and completions, in the current folder:
 #
-#     packaging/deb/build.sh PROGRAM VERSION OUT.deb
+#     packaging/deb/build.sh VERSION [NAME]
 #
-# PROGRAM is crates/avro/out/avro, as 'make program' leaves it. The package puts it at /usr/bin/avro, where python3-avro has a program
-# of the same name: the two conflict. MAINTAINER names who makes the package, as 'Name <address>'.
+# The program is crates/avro/out/avro, as 'make program' leaves it, or PROGRAM. The package puts it at /usr/bin/avro,
+# where python3-avro has a program of the same name: the two conflict. With NAME, such as avro-judge, the program, its
+# man page and its completions have that name instead, and nothing conflicts. MAINTAINER names who makes the package, as
+# 'Name <address>'.
 set -euo pipefail
 
-if [ $# != 3 ] || [ ! -x "$1" ]; then
-    sed -n '2,7s/^# \{0,1\}//p' "$0" >&2
+top=$(cd "$(dirname "$0")/../.." && pwd)
+program=${PROGRAM:-$top/crates/avro/out/avro}
+version=${1-} name=${2:-avro}
+if [ $# -lt 1 ] || [ $# -gt 2 ] || ! [[ $version =~ ^[0-9][0-9A-Za-z.+~-]*$ && $name =~ ^[a-z][a-z0-9-]*$ ]]; then
+    sed -n '2,9s/^# \{0,1\}//p' "$0" >&2
     exit 64
 fi
-program=$1 version=$2 out=$3
-top=$(cd "$(dirname "$0")/../.." && pwd)
+if [ ! -x "$program" ]; then
+    echo "build.sh: $program: no such program: 'make program' makes it" >&2
+    exit 4
+fi
+architecture=$(dpkg --print-architecture)
 root=$(mktemp -d)
 trap 'rm -rf "$root"' EXIT
 chmod 755 "$root"
 
-install -D -m 755 "$program" "$root/usr/bin/avro"
+# Puts a file in which the program has its name: each word avro but that of a file's name, or before a fault's colon.
+put_named() { # FILE PATH [SPELLING]
+    local spelling=${3:-$name}
+    sed -E "s/(^|[^.[:alnum:]_])avro($|[^[:alnum:]_.:])/\1$spelling\2/g" "$top/$1" \
+        | install -D -m 644 /dev/stdin "$root/$2"
+}
+
+install -D -m 755 "$program" "$root/usr/bin/$name"
 if file -b "$program" | grep -q '^ELF'; then
-    strip --strip-unneeded "$root/usr/bin/avro"
+    strip --strip-unneeded "$root/usr/bin/$name"
 fi
 depends='libc6 (>= 2.34)'
 if objdump -p "$program" 2>/dev/null | grep -q 'NEEDED *libgcc_s'; then
     depends+=', libgcc-s1'
 fi
-gzip -9nc "$top/man/avro.1" | install -D -m 644 /dev/stdin "$root/usr/share/man/man1/avro.1.gz"
-install -D -m 644 "$top/completions/avro.bash" "$root/usr/share/bash-completion/completions/avro"
-install -D -m 644 "$top/completions/avro.zsh" "$root/usr/share/zsh/vendor-completions/_avro"
-install -D -m 644 "$top/completions/avro.fish" "$root/usr/share/fish/vendor_completions.d/avro.fish"
-gzip -9nc "$top/CHANGELOG.md" | install -D -m 644 /dev/stdin "$root/usr/share/doc/avro-judge/changelog.gz"
+put_named man/avro.1 "usr/share/man/man1/$name.1" "${name//-/\\\\-}"
+put_named completions/avro.bash "usr/share/bash-completion/completions/$name"
+put_named completions/avro.zsh "usr/share/zsh/vendor-completions/_$name"
+put_named completions/avro.fish "usr/share/fish/vendor_completions.d/$name.fish"
+install -D -m 644 "$top/CHANGELOG.md" "$root/usr/share/doc/avro-judge/changelog"
+gzip -9n "$root/usr/share/man/man1/$name.1" "$root/usr/share/doc/avro-judge/changelog"
 
 mkdir "$root/DEBIAN"
 cat > "$root/DEBIAN/control" <<END
 Package: avro-judge
 Version: $version
-Architecture: $(dpkg --print-architecture)
+Architecture: $architecture
 Maintainer: ${MAINTAINER:-avro developers <none@example.org>}
 Installed-Size: $(du -ks --exclude=DEBIAN "$root" | cut -f 1)
 Depends: $depends
-Conflicts: python3-avro
+$([ "$name" != avro ] || echo 'Conflicts: python3-avro')
 Section: utils
 Priority: optional
 Description: proved judge of Avro schema compatibility
@@ -47,4 +63,5 @@ Description: proved judge of Avro schema compatibility
  the old one: yes with a certificate, no with a smallest datum that fails, or
  undecided. It also checks and shows container files, and copies them.
 END
-dpkg-deb --root-owner-group --build "$root" "$out"
+sed -i '/^$/d' "$root/DEBIAN/control"
+dpkg-deb --root-owner-group --build "$root" "avro-judge_${version}_$architecture.deb"
