@@ -84,13 +84,15 @@ robust: $(PROGRAM) $(LIBRARY) ## runs checks/ on the proved program, and compare
 	checks/words.py $(PROGRAM)
 	checks/confirm.py $(PROGRAM)
 	checks/explain.py $(PROGRAM)
+	checks/tamed.py $(PROGRAM)
 	checks/bindings.py $(PROGRAM) $(LIBRARY)
 	$(if $(OLD),checks/compare.py $(OLD) $(PROGRAM))
 
-words: ## tests the words of the man page and completions, and the table of the headline (a second)
+words: ## tests the words and codes of the man page and completions, and the table of the headline (a second)
 	checks/words.py
 	checks/headline.py
 
 clean: ## removes what checks and builds have left (seconds)
 	rm -rf crates/*/out bindings/out
-	rm -rf bench/__pycache__ bench/*/__pycache__ bindings/python/__pycache__ checks/__pycache__ examples/__pycache__
+	rm -rf bench/__pycache__ bench/*/__pycache__ bindings/python/__pycache__ checks/__pycache__
+	rm -rf examples/__pycache__ examples/*/__pycache__
