@@ -1,7 +1,7 @@
 -- What is left behind the end that an output had.
-use Rattle.std.proofs.Common.{◌≡◌, ℕ, List, ◌++◌, length, take, sym, ap, subst, ◌∙◌, append_assoc, length-append, arith, Bool, true, false, if◌then◌else◌}
+use Rattle.std.proofs.Common.{◌≡◌, ℕ, List, ◌++◌, length, take, drop, sym, ap, subst, ◌∙◌, append_assoc, length-append, arith, Bool, true, false, if◌then◌else◌}
 use Rattle.std.specs.Prelude.{Result, Ok, Err, OnOk, OnErr}
-use Rattle.std.proofs.lemmas.List.{take_at}
+use Rattle.std.proofs.lemmas.List.{take_at, take-append-drop}
 use Rattle.avro_packed.specs.Appended.{Grows, StandsAt}
 
 -- what it had
@@ -31,3 +31,10 @@ kept_by (Err e) old out new bytes kept left same = subst (λ (l : List ℕ). Gro
 pub kept_behind : (b : Bool) (old mid new bytes more : List ℕ) → mid ≡ old ++ bytes → new ≡ (if b then mid ++ more else mid) → Grows old new
 kept_behind true old mid new bytes more left added = grows_by old new (bytes ++ more) (added ∙ ap (λ (l : List ℕ). l ++ more) left ∙ append_assoc old bytes more)
 kept_behind false old mid new bytes more left added = grows_by old new bytes (added ∙ left)
+
+-- what an output began with, it begins with still where nothing of it was taken away
+pub grows_taken : (front old new : List ℕ) → Grows front old → take (length old) new ≡ old → Grows front new
+grows_taken front old new kept same = record {
+  more = kept.more ++ drop (length old) new;
+  grown = sym (take-append-drop (length old) new) ∙ ap (λ (l : List ℕ). l ++ drop (length old) new) (same ∙ kept.grown) ∙ append_assoc front kept.more (drop (length old) new);
+}

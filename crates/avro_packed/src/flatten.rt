@@ -2,6 +2,7 @@
 
 ghost use Rattle.std.specs.Prelude.{◌≡◌, ◌++◌, [], ◌∷◌, List, ℕ, length, take, OnOk, OnErr};
 ghost use Rattle.avro_zigzag.specs.Number.{AreLeastGroups, number_bytes};
+ghost use Rattle.avro_packed.specs.Appended.{Grows};
 ghost use Rattle.avro_packed.specs.Pieces.{bytes_of, bytes_of_all};
 
 use crate::pieces::Pieces;
@@ -66,9 +67,11 @@ fn append_each(parts: &[Pieces], out: &mut Vec<u8>) -> Result<(), AllocError>
 
 /// Appends a byte.
 #[inline(always)]
+#[tactic(auto, using(crate::proofs::Left::grows_taken))]
 pub(crate) fn append_byte(byte: u8, out: &mut Vec<u8>) -> Result<(), AllocError>
     ensures appended { OnOk result (out.new.items ≡ out.old.items ++ byte ∷ []) }
     ensures kept { take (length out.old.items) out.new.items ≡ out.old.items }
+    ensures stays { (front : List ℕ) → Grows front out.old.items → Grows front out.new.items }
 {
     out.push(byte)?;
     Ok(())
@@ -76,9 +79,11 @@ pub(crate) fn append_byte(byte: u8, out: &mut Vec<u8>) -> Result<(), AllocError>
 
 /// Appends a number in its shortest spelling.
 #[inline(always)]
+#[tactic(auto, using(crate::proofs::Left::grows_taken))]
 pub(crate) fn append_number(number: i64, out: &mut Vec<u8>) -> Result<(), AllocError>
     ensures appended { OnOk result (out.new.items ≡ out.old.items ++ number_bytes number) }
     ensures kept { take (length out.old.items) out.new.items ≡ out.old.items }
+    ensures stays { (front : List ℕ) → Grows front out.old.items → Grows front out.new.items }
 {
     let folded = to_zigzag(number);
     if folded < 128 {
