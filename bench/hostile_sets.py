@@ -88,6 +88,20 @@ def members(count, number):
     return text
 
 
+def many_defaults(size, branches=60):
+    """Records without fields, records of a union of many of these, and as many short defaults of the last of them as fit."""
+    choice = random.Random(1)
+    names = WORDS[:max(size // 1049, branches)]
+    unions = max(size // 1398, 1)
+    fields = [{"name": f"r{k}", "type": record(name)} for k, name in enumerate(names)]
+    fields += [{"name": f"p{k}", "type": record(f"Of{k}", a=choice.sample(names, branches))} for k in range(unions)]
+    left = size - len(written({"type": "record", "name": "Root", "fields": fields}))
+    while left > 80:
+        fields.append({"name": f"d{len(fields)}", "type": f"Of{unions - 1}", "default": {"a": {}}})
+        left -= len(written(fields[-1])) + 1
+    return written({"type": "record", "name": "Root", "fields": fields})
+
+
 def symbols_twice(size, number=60):
     """As many symbols as fit, each in two of some enums, and a default of half of them; 3,900 other nodes make the sets long."""
     choice = random.Random(2)
@@ -109,5 +123,5 @@ KINDS = {
     "classes 500 by 20": classes(500, 20, 900), "classes 1300 by 20": classes(1300, 20, 900), "classes 1700 by 20": classes(1700, 20, 900),
     "classes 1900 by 30": classes(1900, 30, 600), "classes 1500 by 60": classes(1500, 60, 500), "classes 1000 by 100": classes(1000, 100, 300),
     "members 2000 x 2": members(2000, 2), "members 1000 x 6": members(1000, 6), "members 300 x 20": members(300, 20),
-    "symbols twice": symbols_twice,
+    "symbols twice": symbols_twice, "many defaults": many_defaults,
 }

@@ -27,7 +27,7 @@ tried=0 wrong=0
 
 # Makes a repository with the tools, and goes there.
 repository() { # NAME
-  cd "$(mktemp -d "$work/$1.XXX")"
+  cd "$(mktemp -d "$work/$1.XXXXXX")"
   git init -q
   mkdir tools
   cp "$script" tools/avro-breaking
