@@ -1,6 +1,7 @@
 pub mod File
 pub mod Copied
 pub mod FileFault
+pub mod ErrorText
 pub mod HeaderFails
 pub mod BlockFails
 pub mod FileRanges

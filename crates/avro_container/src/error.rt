@@ -67,8 +67,13 @@ pub enum CopyError {
 }
 
 impl CopyError {
+    ghost use Rattle.std.specs.Prelude.{◌≡◌};
+    ghost use Rattle.avro_container.specs.ErrorText.{error_code, place_of};
+
     /// Its code, or what failed.
-    fn code(&self) -> &'static str {
+    pub fn code(&self) -> &'static str
+        ensures { result.now ≡ error_code self.now }
+    {
         match self {
             CopyError::NoMagic => "C1",
             CopyError::InvalidMetadata(_) => "C2",
@@ -91,7 +96,9 @@ impl CopyError {
     }
 
     /// The block, or the datum, that it is of; else the header.
-    fn place(&self) -> LimitPlace {
+    pub fn place(&self) -> LimitPlace
+        ensures { result ≡ place_of self.now }
+    {
         match self {
             CopyError::InvalidCount(block, _) => LimitPlace::Block(*block),
             CopyError::BytesLeft(block) => LimitPlace::Block(*block),

@@ -9,24 +9,7 @@ use Rattle.avro_answer.specs.Texts.{fault_text}
 use Rattle.avro_container.specs.declared.error.CopyError.{CopyError}
 use Rattle.avro_container.specs.declared.error.CountError.{CountError}
 use Rattle.avro_container.specs.declared.error.LimitPlace.{LimitPlace}
-
--- the code; devices that fail and want of memory are no fault of a file, and have none
-abbrev pub container_code : CopyError → List ℕ
-container_code CopyError.NoMagic = codes "C1"
-container_code (CopyError.InvalidMetadata e) = codes "C2"
-container_code CopyError.NoSchema = codes "C3"
-container_code (CopyError.InvalidSchema e) = codes "C4"
-container_code CopyError.UnknownCodec = codes "C5"
-container_code (CopyError.InvalidCount block e) = codes "C6"
-container_code (CopyError.BytesLeft block) = codes "C7"
-container_code (CopyError.WrongMarker block) = codes "C8"
-container_code (CopyError.LimitExceeded place) = codes "C9"
-container_code (CopyError.InvalidDatum block datum e) = codes "C10"
-container_code (CopyError.UnresolvedDatum block datum fault) = codes "C11"
-container_code CopyError.FailedBefore = codes "C15"
-container_code CopyError.CutHeader = codes "C16"
-container_code (CopyError.CutBlock block) = codes "C16"
-container_code _ = []
+use Rattle.avro_container.specs.ErrorText.{error_code, place_of}
 
 -- a block, or a datum of a block; nothing outside the blocks; both are counted from 0
 abbrev pub block_text : ℕ → List ℕ
@@ -35,20 +18,10 @@ block_text block = codes " block " ++ decimal block
 abbrev pub datum_text : ℕ → ℕ → List ℕ
 datum_text block datum = codes " block " ++ decimal block ++ codes " datum " ++ decimal datum
 
-abbrev pub limit_text : LimitPlace → List ℕ
-limit_text LimitPlace.Header = []
-limit_text (LimitPlace.Block block) = block_text block
-limit_text (LimitPlace.Datum block datum) = datum_text block datum
-
-abbrev pub place_text : CopyError → List ℕ
-place_text (CopyError.InvalidCount block e) = block_text block
-place_text (CopyError.BytesLeft block) = block_text block
-place_text (CopyError.WrongMarker block) = block_text block
-place_text (CopyError.LimitExceeded place) = limit_text place
-place_text (CopyError.InvalidDatum block datum e) = datum_text block datum
-place_text (CopyError.UnresolvedDatum block datum fault) = datum_text block datum
-place_text (CopyError.CutBlock block) = block_text block
-place_text _ = []
+abbrev pub place_text : LimitPlace → List ℕ
+place_text LimitPlace.Header = []
+place_text (LimitPlace.Block block) = block_text block
+place_text (LimitPlace.Datum block datum) = datum_text block datum
 
 -- why bytes cannot be read, with the offset of the part that fails
 abbrev pub reading_text : ReadError → List ℕ
@@ -83,4 +56,4 @@ reason_text _ = []
 
 -- the line, by the word that names the file
 abbrev pub container_text : List ℕ → CopyError → List ℕ
-container_text word e = codes "avro: " ++ word ++ codes ": " ++ container_code e ++ place_text e ++ reason_text e ++ codes "\n"
+container_text word e = codes "avro: " ++ word ++ codes ": " ++ error_code e ++ place_text (place_of e) ++ reason_text e ++ codes "\n"

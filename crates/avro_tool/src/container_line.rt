@@ -2,7 +2,7 @@
 
 ghost use Rattle.std.specs.Prelude.{◌≡◌, ◌++◌, OnOk, IfOk};
 ghost use Rattle.avro_certificate.specs.CertificateText.{decimal};
-ghost use Rattle.avro_tool.specs.ContainerText.{container_code as code_of_container, block_text, datum_text, limit_text, place_text, reading_text, number_text, reason_text, container_text};
+ghost use Rattle.avro_tool.specs.ContainerText.{block_text, datum_text, place_text, reading_text, number_text, reason_text, container_text};
 
 use avro_answer::{append_fault, schema_code};
 use avro_binary::ReadError;
@@ -23,55 +23,16 @@ pub(crate) fn container_line(
     line.extend_from_slice(b"avro: ")?;
     line.extend_from_slice(word.as_bytes())?;
     line.extend_from_slice(b": ")?;
-    line.extend_from_slice(container_code(error).as_bytes())?;
-    append_place(&mut line, error)?;
+    line.extend_from_slice(error.code().as_bytes())?;
+    append_place(&mut line, error.place())?;
     append_reason(&mut line, error)?;
     line.push(b'\n')?;
     Ok(line)
 }
 
-/// The code of a container's error, where it is a fault of the file.
-fn container_code(error: &CopyError) -> &'static str
-    ensures { result.now ≡ code_of_container error.now }
-{
-    match error {
-        CopyError::NoMagic => "C1",
-        CopyError::InvalidMetadata(_) => "C2",
-        CopyError::NoSchema => "C3",
-        CopyError::InvalidSchema(_) => "C4",
-        CopyError::UnknownCodec => "C5",
-        CopyError::InvalidCount(_, _) => "C6",
-        CopyError::BytesLeft(_) => "C7",
-        CopyError::WrongMarker(_) => "C8",
-        CopyError::LimitExceeded(_) => "C9",
-        CopyError::InvalidDatum(_, _, _) => "C10",
-        CopyError::UnresolvedDatum(_, _, _) => "C11",
-        CopyError::InputFailed | CopyError::OutputFailed | CopyError::OutOfMemory => "",
-        CopyError::FailedBefore => "C15",
-        CopyError::CutHeader | CopyError::CutBlock(_) => "C16",
-    }
-}
-
 /// Appends the place of an error, where it is in a block.
-fn append_place(text: &mut Vec<u8>, error: &CopyError) -> Result<(), AllocError>
-    ensures { OnOk result (text.new.items ≡ text.old.items ++ place_text error.now) }
-{
-    match error {
-        CopyError::InvalidCount(block, _)
-        | CopyError::BytesLeft(block)
-        | CopyError::WrongMarker(block)
-        | CopyError::CutBlock(block) => append_block(text, *block),
-        CopyError::LimitExceeded(place) => append_limit(text, *place),
-        CopyError::InvalidDatum(block, datum, _) | CopyError::UnresolvedDatum(block, datum, _) => {
-            append_datum(text, *block, *datum)
-        }
-        _ => Ok(()),
-    }
-}
-
-/// Appends where a limit is passed.
-fn append_limit(text: &mut Vec<u8>, place: LimitPlace) -> Result<(), AllocError>
-    ensures { OnOk result (text.new.items ≡ text.old.items ++ limit_text place) }
+fn append_place(text: &mut Vec<u8>, place: LimitPlace) -> Result<(), AllocError>
+    ensures { OnOk result (text.new.items ≡ text.old.items ++ place_text place) }
 {
     match place {
         LimitPlace::Header => Ok(()),
