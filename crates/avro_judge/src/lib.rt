@@ -1,8 +1,8 @@
-//! Verdicts on pairs of schemas: whether a reader's schema reads everything that was written under a
+//! Verdicts on pairs of schemas: whether a reader's schema reads everything that was written with a
 //! writer's schema.
 //!
-//! [`judge`] approves, refutes with a least datum that fails, or says why it is undecided. An
-//! [`Approved`] reads bytes with no fault of resolution.
+//! [`judge`] approves, refutes with a smallest datum that fails, or says why it is undecided. An
+//! [`Approved`] reads bytes without a fault of resolution.
 #![tactic(auto)]
 
 mod approval;
