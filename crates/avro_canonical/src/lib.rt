@@ -1,7 +1,8 @@
 //! The canonical form of a schema and its fingerprint (Avro 1.11, "Parsing Canonical Form for
 //! Schemas", "Schema Fingerprints").
 //!
-//! [`canonical`] makes the form, [`fingerprint`] the SHA-256 of its bytes, and [`fingerprint_text`] the digits of that.
+//! [`canonical`] returns the form, [`fingerprint`] the SHA-256 of its bytes, and [`fingerprint_text`] that in
+//! hexadecimal digits.
 #![tactic(auto)]
 
 mod digest;

@@ -1,7 +1,7 @@
 //! Copies of object container files (Avro 1.11, "Object Container Files").
 //!
-//! A [`Sink`] puts a header and blocks. [`copy`] takes a whole file and puts its copy, and a [`Copier`] does the same a part
-//! a step.
+//! A [`Sink`] puts a header and blocks. [`copy`] takes a whole file and puts its copy; a [`Copier`] does the same one part
+//! per step.
 #![tactic(auto)]
 
 mod copying;

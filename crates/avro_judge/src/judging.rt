@@ -19,8 +19,8 @@ use std::alloc::Global;
 ///
 /// Up to the pair limit, the two schemas are approved if and only if they are compatible. Otherwise the
 /// result is a smallest datum that fails, within the size and depth limits, or the limit that no such
-/// datum is within. Among the smallest data it is the one of least depth, then of the first branch,
-/// symbol or field; this choice is tested, not proved.
+/// datum is within. Among the smallest data it is the shallowest, then the one of the first branch,
+/// symbol or field, as tests show.
 ///
 /// # Errors
 ///
