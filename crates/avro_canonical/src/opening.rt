@@ -9,7 +9,7 @@ use avro_name::FullName;
 use avro_schema::{Field, Memory, Node, NodeId};
 use std::alloc::Global;
 
-/// Writes the start of the first of some fields, and queues its node and the other fields.
+/// Writes the start of the first of some fields, and pushes its node and the other fields.
 pub(crate) fn open_fields<'a>(
     out: &mut String,
     parts: &mut Vec<Part<'a>>,
@@ -31,7 +31,7 @@ pub(crate) fn open_fields<'a>(
     }
 }
 
-/// Queues the first of some branches and the others.
+/// Pushes the first of some branches and the others.
 pub(crate) fn open_branches<'a>(
     parts: &mut Vec<Part<'a>>,
     branches: &'a [NodeId],
@@ -47,7 +47,7 @@ pub(crate) fn open_branches<'a>(
     }
 }
 
-/// Queues the node of the items or values, and the end of the array or map.
+/// Pushes the node of the items or values, and the end of the array or map.
 fn open_part<'a>(parts: &mut Vec<Part<'a>>, id: NodeId) -> Result<(), Memory>
     ensures { OnOk result (pendings_of parts.new.items ≡ of_node id.0 ∷ end ∷ pendings_of parts.old.items) }
 {
@@ -55,7 +55,7 @@ fn open_part<'a>(parts: &mut Vec<Part<'a>>, id: NodeId) -> Result<(), Memory>
     put_part(parts, Part::Node(id))
 }
 
-/// Writes the start of a record's definition, and queues its fields.
+/// Writes the start of a record's definition, and pushes its fields.
 fn open_record<'a>(
     out: &mut String,
     parts: &mut Vec<Part<'a>>,
@@ -71,7 +71,7 @@ fn open_record<'a>(
     open_fields(out, parts, fields)
 }
 
-/// Writes the start of a node's form, and queues its parts.
+/// Writes the start of a node's form, and pushes its parts.
 pub(crate) fn open_node<'a>(
     alloc: Global,
     out: &mut String,

@@ -4,7 +4,7 @@ ghost use Rattle.avro_canonical.specs.inside.Pending.{pending_of, pendings_of};
 use crate::part::Part;
 use avro_schema::Memory;
 
-/// Queues a part before the others.
+/// Pushes a part, which is then the next one.
 pub(crate) fn put_part<'a>(parts: &mut Vec<Part<'a>>, part: Part<'a>) -> Result<(), Memory>
     ensures { OnOk result (pendings_of parts.new.items ≡ pending_of part.entry ∷ pendings_of parts.old.items) }
 {

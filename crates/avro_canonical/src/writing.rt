@@ -35,7 +35,7 @@ fn write_node<'a>(
     }
 }
 
-/// Writes a comma and queues the next branch, or writes the end of the union.
+/// Writes a comma and pushes the next branch, or writes the end of the union.
 fn next_branch<'a>(
     out: &mut String,
     parts: &mut Vec<Part<'a>>,
@@ -67,7 +67,7 @@ fn next_field<'a>(
     open_fields(out, parts, fields)
 }
 
-/// Writes the start of a part, and queues the rest.
+/// Writes the start of a part, and pushes the rest.
 pub(crate) fn write_part<'a>(
     alloc: Global,
     schema: &'a Schema,
